@@ -1,0 +1,4 @@
+pub mod Event
+pub mod Values
+pub mod Process
+pub mod Node

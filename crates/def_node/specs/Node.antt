@@ -1,0 +1,180 @@
+-- The node: all processes, and what one step of one of them does to the others (own). It knows nothing of sessions.
+use Rattle.std.specs.Prelude.{ℕ, zero, suc, ◌+◌, ◌-◌, ◌==◌, nat_le, nat_lt, Bool, true, false, ◌&&◌, if◌then◌else◌, List, [], ◌∷◌, ◌++◌, length, map, replicate, slice_get, slice_set, Option, Some, None, option_to_list}
+use Rattle.std.specs.Option.{option_map, unwrap_or}
+use Rattle.def_term.specs.Tree.{Tree}
+use Rattle.def_term.specs.Order.{same}
+use Rattle.def_term.specs.Names.{word}
+use Rattle.def_script.specs.Program.{Function, Entry, entry_mfa, Program}
+use Rattle.def_node.specs.Event.{Event, sent, received, spawning, spawned, exited, linked, unlinked, getting_linked, getting_unlinked}
+use Rattle.def_node.specs.Process.{Process, Act, act, waits, continues, sends, links_to, unlinks_from, spawns, exits}
+
+-- the processes from pid 100 on; none where one has exited
+pub record World : Type 0 where
+  pub slots : List (Option Process)
+
+-- what a pick of a process gives: the processes afterwards and the events in order; or nothing
+pub data Move : Type 0 where
+  moved : World → List Event → Move
+  idle : World → Move
+
+-- the place of a living process
+abbrev pub place_in : Option (Option Process) → ℕ → Option ℕ
+place_in None i = None
+place_in (Some None) i = None
+place_in (Some (Some q)) i = Some i
+
+abbrev pub living : World → ℕ → Option ℕ
+living w n = if nat_le 100 n then place_in (slice_get w.slots (n - 100)) (n - 100) else None
+
+-- the process at this place changed, if it lives
+abbrev pub changed : List (Option Process) → ℕ → (Process → Process) → List (Option Process)
+changed [] i f = []
+changed (s ∷ ss) zero f = option_map f s ∷ ss
+changed (s ∷ ss) (suc i) f = s ∷ changed ss i f
+
+abbrev pub change_at : World → ℕ → (Process → Process) → World
+change_at w i f = record w { slots = changed w.slots i f }
+
+abbrev pub put_at : World → ℕ → Process → World
+put_at w i q = change_at w i (λ _. q)
+
+-- ---- messages
+
+abbrev pub with_message : Tree → Process → Process
+with_message t q = record q { mailbox = q.mailbox ++ t ∷ [] }
+
+-- a send to a living process gives send, and in the same step the receive event; a send to any other pid gives only the send to a non-existing process
+abbrev pub delivered_to : World → ℕ → ℕ → Tree → Option ℕ → Move
+delivered_to w n m t None = moved w (sent n t m false ∷ [])
+delivered_to w n m t (Some i) = moved (change_at w i (with_message t)) (sent n t m true ∷ received m n t ∷ [])
+
+abbrev pub delivered : World → ℕ → ℕ → Tree → Move
+delivered w n m t = delivered_to w n m t (living w m)
+
+-- ---- links and signals
+
+abbrev pub is_linked : Process → ℕ → Bool
+is_linked q m = nat_le 100 m && unwrap_or (slice_get q.links (m - 100)) false
+
+abbrev pub with_link : ℕ → Bool → Process → Process
+with_link m b q = record q { links = slice_set q.links (m - 100) b }
+
+-- the oldest signal is taken, so a later one is dropped
+abbrev pub first_signal : Option Tree → Tree → Option Tree
+first_signal None r = Some r
+first_signal (Some s) r = Some s
+
+abbrev pub with_signal : Tree → Process → Process
+with_signal r q = record q { signal = first_signal q.signal r }
+
+-- the process n, which is q at the place i, links to m, which lives at the place j or nowhere
+abbrev pub linked_to : World → ℕ → ℕ → Process → ℕ → Option ℕ → Move
+linked_to w i n q m None = moved (put_at w i (with_signal (word "noproc") q)) (linked n m ∷ [])
+linked_to w i n q m (Some j) = moved (change_at (put_at w i (with_link m true q)) j (with_link n true)) (linked n m ∷ getting_linked m n ∷ [])
+
+-- a link to itself gives no event; one that is there already gives link alone
+abbrev pub link_made : World → ℕ → ℕ → Process → ℕ → Move
+link_made w i n q m =
+    if n == m then moved (put_at w i q) [] else
+    if is_linked q m then moved (put_at w i q) (linked n m ∷ []) else
+    linked_to w i n q m (living w m)
+
+abbrev pub unlinked_from : World → ℕ → ℕ → Process → ℕ → Option ℕ → Move
+unlinked_from w i n q m None = moved (put_at w i (with_link m false q)) (unlinked n m ∷ getting_unlinked m n ∷ [])
+unlinked_from w i n q m (Some j) = moved (change_at (put_at w i (with_link m false q)) j (with_link n false)) (unlinked n m ∷ getting_unlinked m n ∷ [])
+
+-- unlink gives unlink, then getting_unlinked where a link was
+abbrev pub link_removed : World → ℕ → ℕ → Process → ℕ → Move
+link_removed w i n q m =
+    if n == m then moved (put_at w i q) [] else
+    if is_linked q m then unlinked_from w i n q m (living w m) else
+    moved (put_at w i q) (unlinked n m ∷ [])
+
+-- ---- the end of a process
+
+-- each linked partner loses the link, and gets the exit signal unless the reason is `normal`
+abbrev pub parted : ℕ → Tree → Process → Process
+parted n r q = if same r (word "normal") then with_link n false q else with_signal r (with_link n false q)
+
+abbrev pub partners_told : ℕ → Tree → List Bool → List (Option Process) → List (Option Process)
+partners_told n r [] ss = ss
+partners_told n r (b ∷ bs) [] = []
+partners_told n r (b ∷ bs) (s ∷ ss) = (if b then option_map (parted n r) s else s) ∷ partners_told n r bs ss
+
+-- the pids of the partners, from this one on, by rising pid
+abbrev pub partner_pids : ℕ → List Bool → List ℕ
+partner_pids m [] = []
+partner_pids m (true ∷ bs) = m ∷ partner_pids (suc m) bs
+partner_pids m (false ∷ bs) = partner_pids (suc m) bs
+
+-- an exit gives exit, then for each linked partner by rising pid getting_unlinked
+abbrev pub ended : World → ℕ → ℕ → List Bool → Tree → Option Event → Move
+ended w i n partners r before =
+    moved (record { slots = partners_told n r partners (slice_set w.slots i None) })
+    (option_to_list before ++ exited n r ∷ map (λ m. getting_unlinked m n) (partner_pids 100 partners))
+
+-- ---- spawning
+
+-- a process that has made no step yet
+abbrev pub fresh : Entry → Process
+fresh e = record { entry = Some e; frames = []; mailbox = []; signal = None; links = replicate 64 false }
+
+-- the pid that a spawn would give: pids are numbered in the order of spawns, and at most 64 processes are started in a run
+abbrev pub next_pid : World → Option ℕ
+next_pid w = if nat_lt (length w.slots) 64 then Some (100 + length w.slots) else None
+
+-- a spawn gives the events spawn, then spawned
+abbrev pub started : World → ℕ → ℕ → Process → ℕ → Entry → Move
+started w i n q child e =
+    moved (record { slots = (put_at w i q).slots ++ Some (fresh e) ∷ [] })
+    (spawning n child (entry_mfa e) e.args ∷ spawned child n (entry_mfa e) e.args ∷ [])
+
+-- ---- one step
+
+-- the act of the process n, at the place i
+abbrev pub acted : World → ℕ → ℕ → Act → Move
+acted w i n (waits q) = idle (put_at w i q)
+acted w i n (continues q e) = moved (put_at w i q) (option_to_list e)
+acted w i n (sends q m t) = delivered (put_at w i q) n m t
+acted w i n (links_to q m) = link_made w i n q m
+acted w i n (unlinks_from q m) = link_removed w i n q m
+acted w i n (spawns q child e) = started w i n q child e
+acted w i n (exits partners r before) = ended w i n partners r before
+
+abbrev pub stepped_at : List Function → World → ℕ → ℕ → Option (Option Process) → Move
+stepped_at ks w i n None = idle w
+stepped_at ks w i n (Some None) = idle w
+stepped_at ks w i n (Some (Some q)) = acted w i n (act ks n (next_pid w) q)
+
+-- the next step of the process n; a pick is idle where the process was never started, has exited, or waits
+abbrev pub next_of : List Function → World → ℕ → Move
+next_of ks w n = if nat_le 100 n then stepped_at ks w (n - 100) n (slice_get w.slots (n - 100)) else idle w
+
+-- initial processes have the pids from 100 on, in the order of their forms
+abbrev pub opening_world : List Entry → World
+opening_world es = record { slots = map (λ e. Some (fresh e)) es }
+
+-- ---- picks
+
+-- the processes, and how many commands of the control list were taken
+pub record State : Type 0 where
+  pub world : World
+  pub taken : ℕ
+
+-- what a pick gives: events, the number of the next command (from 1), or nothing
+pub data Next : Type 0 where
+  gives_events : State → List Event → Next
+  gives_command : State → ℕ → Next
+  gives_nothing : State → Next
+
+abbrev pub of_move : State → Move → Next
+of_move s (moved w es) = gives_events (record s { world = w }) es
+of_move s (idle w) = gives_nothing (record s { world = w })
+
+-- pick 0 is the control list, pick n the process n
+abbrev pub next : Program → State → ℕ → Next
+next p s zero = if nat_lt s.taken (length p.commands) then gives_command (record s { taken = suc s.taken }) (suc s.taken) else gives_nothing s
+next p s (suc n) = of_move s (next_of p.functions s.world (suc n))
+
+abbrev pub opening_state : Program → State
+opening_state p = record { world = opening_world p.entries; taken = 0 }

@@ -1,0 +1,69 @@
+-- The values of variables, and what a template stands for (own).
+use Rattle.std.specs.Prelude.{nat_le, Bool, true, ◌&&◌, if◌then◌else◌, List, [], ◌∷◌, ℕ, Option, Some, None}
+use Rattle.std.specs.Option.{unwrap_or}
+use Rattle.std.specs.Str.{bytes_eq}
+use Rattle.def_term.specs.Tree.{Tree, int, atom, pid, tuple, list, Trees, none, more, depth, size}
+use Rattle.def_term.specs.Names.{Name}
+use Rattle.def_script.specs.Program.{is_variable}
+
+-- each variable once, the oldest first
+abbrev pub Env : Type 0
+Env = List (Name × Tree)
+
+abbrev pub found : Env → Name → Option Tree
+found [] x = None
+found (e ∷ env) x = if bytes_eq e.0 x then Some e.1 else found env x
+
+-- the value of an atom that is a bound variable
+abbrev pub value_of : Env → Name → Option Tree
+value_of env a = if is_variable a then found env a else None
+
+-- a step that binds a bound variable replaces its value
+abbrev pub bound : Env → Name → Tree → Env
+bound [] x t = (x, t) ∷ []
+bound (e ∷ env) x t = if bytes_eq e.0 x then (e.0, t) ∷ env else e ∷ bound env x t
+
+-- a target that is none throws the value away
+abbrev pub bound_to : Option Name → Tree → Env → Env
+bound_to None t env = env
+bound_to (Some x) t env = bound env x t
+
+abbrev pub bound_all : Env → List Name → List Tree → Env
+bound_all env [] ts = env
+bound_all env (x ∷ xs) [] = env
+bound_all env (x ∷ xs) (t ∷ ts) = bound_all (bound env x t) xs ts
+
+-- each variable of a template stands for its value
+abbrev mutual
+  pub built : Env → Tree → Tree
+  built env (int z) = int z
+  built env (atom a) = unwrap_or (value_of env a) (atom a)
+  built env (pid n) = pid n
+  built env (tuple ts) = tuple (all_built env ts)
+  built env (list ts) = list (all_built env ts)
+
+  pub all_built : Env → Trees → Trees
+  all_built env none = none
+  all_built env (more t ts) = more (built env t) (all_built env ts)
+
+-- whether a built term is within the limits: size 65,536 and depth 32
+abbrev pub fits : Tree → Bool
+fits t = nat_le (size t) 65536 && nat_le (depth t) 32
+
+-- the built term, where it is within the limits
+abbrev pub fitting : Tree → Option Tree
+fitting t = if fits t then Some t else None
+
+abbrev pub all_fit : List Tree → Bool
+all_fit [] = true
+all_fit (t ∷ ts) = fits t && all_fit ts
+
+abbrev pub fitting_all : List Tree → Option (List Tree)
+fitting_all ts = if all_fit ts then Some ts else None
+
+abbrev pub pid_in : Tree → Option ℕ
+pid_in (int z) = None
+pid_in (atom a) = None
+pid_in (pid n) = Some n
+pid_in (tuple ts) = None
+pid_in (list ts) = None

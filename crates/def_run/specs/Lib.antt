@@ -1,0 +1,5 @@
+pub mod Run
+pub mod View
+pub mod Listing
+pub mod Picks
+pub mod Round

@@ -1,0 +1,124 @@
+-- A session's messages as a function of what it sees, the replies, what each move adds, and the text of an output (own).
+use Rattle.std.specs.Prelude.{ℕ, zero, suc, ◌==◌, List, [], ◌∷◌, ◌++◌, Option, Some, None, option_to_list, filter, map, length, take, slice_get, flat_map, codes, decimal}
+use Rattle.std.specs.List.{join_with_byte}
+use Rattle.def_term.specs.Tree.{Tree}
+use Rattle.def_term.specs.Names.{Name}
+use Rattle.def_term.specs.Text.{w, atom_text}
+use Rattle.def_script.specs.Program.{Command, create, session_of, Program}
+use Rattle.def_node.specs.Event.{Event}
+use Rattle.def_session.specs.State.{Opening, Session, absent_session}
+use Rattle.def_session.specs.Session.{event_told}
+use Rattle.def_session.specs.Commands.{command_done}
+use Rattle.def_run.specs.Run.{Item, happened, commanded, opening, events, moves, turn_of, place_after, start}
+use Rattle.def_run.specs.View.{is_own, View, view}
+
+-- ---- one session
+
+abbrev pub messages_from : Opening → Session → List Item → List Tree
+messages_from o s [] = []
+messages_from o s (happened e ∷ items) = option_to_list (event_told s e).1 ++ messages_from o (event_told s e).0 items
+messages_from o s (commanded c ∷ items) = messages_from o (command_done o s c).0 items
+
+abbrev pub state_after : Opening → Session → List Item → Session
+state_after o s [] = s
+state_after o s (happened e ∷ items) = state_after o (event_told s e).0 items
+state_after o s (commanded c ∷ items) = state_after o (command_done o s c).0 items
+
+abbrev pub messages_of : View → List Tree
+messages_of v = messages_from v.opening (absent_session v.opening) v.items
+
+abbrev pub state_of : View → Session
+state_of v = state_after v.opening (absent_session v.opening) v.items
+
+-- the messages of the session s
+abbrev pub messages : Name → Program → List ℕ → List Tree
+messages s p picks = messages_of (view s p picks)
+
+-- ---- replies
+
+-- the reply of each command, by its own session's fold over what came before it
+abbrev pub replies_from : Opening → List Item → List Item → List Tree
+replies_from o past [] = []
+replies_from o past (happened e ∷ items) = replies_from o (past ++ happened e ∷ []) items
+replies_from o past (commanded c ∷ items) =
+    (command_done o (state_after o (absent_session o) (filter (is_own (session_of c)) past)) c).1
+    ∷ replies_from o (past ++ commanded c ∷ []) items
+
+abbrev pub replies : Program → List ℕ → List Tree
+replies p picks = replies_from (opening p) [] (events p picks)
+
+-- ---- what each move adds
+
+-- a message of the session of this number, at this index in its listing
+pub record Told : Type 0 where
+  pub session : ℕ
+  pub index : ℕ
+  pub message : Tree
+
+-- the sessions of the control list with their tracers, by rising number
+abbrev pub creations : List Command → List (Name × Name)
+creations [] = []
+creations (create s t ∷ cs) = (s, t) ∷ creations cs
+creations (_ ∷ cs) = creations cs
+
+-- what an event adds to the session s of number n, after what was shown before
+abbrev pub told : Opening → ℕ → Name → List Item → Event → List Told
+told o n s past e =
+    let own : List Item = filter (is_own s) past in
+    map (λ m. record { session = n; index = length (messages_from o (absent_session o) own); message = m }) (option_to_list (event_told (state_after o (absent_session o) own) e).1)
+
+abbrev pub told_by_all : Opening → ℕ → List (Name × Name) → List Item → Event → List Told
+told_by_all o n [] past e = []
+told_by_all o n (s ∷ ss) past e = told o n s.0 past e ++ told_by_all o (suc n) ss past e
+
+abbrev pub answers_from : Opening → List (Name × Name) → List Item → List Item → List Told
+answers_from o ss past [] = []
+answers_from o ss past (happened e ∷ items) = told_by_all o 1 ss past e ++ answers_from o ss (past ++ happened e ∷ []) items
+answers_from o ss past (commanded c ∷ items) = answers_from o ss (past ++ commanded c ∷ []) items
+
+abbrev pub shown_by : Program → List ℕ → Option ℕ → List Item
+shown_by p before None = []
+shown_by p before (Some pick) = (turn_of p.functions (place_after p.functions (start p) before) pick).shown
+
+-- the messages that the move k adds, by order of its events, and for one event by rising session number
+abbrev pub answer : Program → List ℕ → ℕ → List Told
+answer p picks k =
+    let journal : List ℕ = moves p picks in
+    let before : List ℕ = take k journal in
+    answers_from (opening p) (creations p.commands) (events p before) (shown_by p before (slice_get journal k))
+
+-- what is told to the session of this number
+abbrev pub for_session : ℕ → List Told → List Tree
+for_session n xs = map (λ x. x.message) (filter (λ x. x.session == n) xs)
+
+-- ---- text
+
+abbrev pub line_of : Tree → List ℕ
+line_of t = w t ++ 10 ∷ []
+
+-- each term's text with a line feed
+abbrev pub lines_of : List Tree → List ℕ
+lines_of ts = flat_map line_of ts
+
+-- == session NAME tracer TRACER
+abbrev pub header_line : Name → Name → List ℕ
+header_line name tracer = codes "== session " ++ atom_text name ++ codes " tracer " ++ atom_text tracer ++ 10 ∷ []
+
+-- the header of a session and its messages
+abbrev pub listing_text : Name → Name → List Tree → List ℕ
+listing_text name tracer ms = header_line name tracer ++ lines_of ms
+
+abbrev pub listings_text : (Name → List Tree) → List (Name × Name) → List ℕ
+listings_text ms [] = []
+listings_text ms (s ∷ ss) = listing_text s.0 s.1 (ms s.0) ++ listings_text ms ss
+
+-- the picks, separated by single spaces
+abbrev pub picks_text : List ℕ → List ℕ
+picks_text picks = join_with_byte 32 (map decimal picks)
+
+-- the output of an accepted script: each session's listing, the replies, and the journal
+abbrev pub program_output : Program → List ℕ → List ℕ
+program_output p picks =
+    listings_text (λ s. messages s p picks) (creations p.commands)
+    ++ codes "== replies\n" ++ lines_of (replies p picks)
+    ++ codes "== journal\n" ++ picks_text (moves p picks) ++ 10 ∷ []

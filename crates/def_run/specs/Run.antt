@@ -1,0 +1,77 @@
+-- A run of a program by a list of picks: what moved, and what it shows in order (own).
+-- Stands on the node. It knows nothing of what sessions do with it.
+use Rattle.std.specs.Prelude.{ℕ, zero, suc, Bool, true, false, if◌then◌else◌, List, [], ◌∷◌, ◌++◌, map, length}
+use Rattle.def_script.specs.Program.{Function, mfa_of, Command, Program}
+use Rattle.def_node.specs.Event.{Event}
+use Rattle.def_node.specs.Node.{World, Move, moved, idle, next_of, opening_world}
+use Rattle.def_session.specs.State.{Opening}
+
+-- what a run shows: an event, or a command in its place
+pub data Item : Type 0 where
+  happened : Event → Item
+  commanded : Command → Item
+
+-- where a run stands: the processes, the commands that are not yet taken, and how many moves the journal has room for
+pub record Place : Type 0 where
+  pub world : World
+  pub commands : List Command
+  pub room : ℕ
+
+-- what one pick does: whether it moved, what it shows, and the place afterwards
+pub record Turn : Type 0 where
+  pub moved : Bool
+  pub shown : List Item
+  pub after : Place
+
+-- an idle pick changes nothing, and shows nothing
+abbrev pub stays : Place → Turn
+stays p = record { moved = false; shown = []; after = p }
+
+abbrev pub takes_command : Place → ℕ → List Command → Turn
+takes_command p room [] = stays p
+takes_command p room (c ∷ cs) = record { moved = true; shown = commanded c ∷ []; after = record { world = p.world; commands = cs; room = room } }
+
+abbrev pub goes_to : Place → ℕ → Move → Turn
+goes_to p room (idle w) = stays p
+goes_to p room (moved w es) = record { moved = true; shown = map happened es; after = record { world = w; commands = p.commands; room = room } }
+
+-- pick 0 is the control list, pick n the process n
+abbrev pub turn_in : List Function → Place → ℕ → ℕ → Turn
+turn_in ks p room zero = takes_command p room p.commands
+turn_in ks p room (suc n) = goes_to p room (next_of ks p.world (suc n))
+
+-- with no room left every pick is passed over
+abbrev pub turn_with : List Function → Place → ℕ → ℕ → Turn
+turn_with ks p zero pick = stays p
+turn_with ks p (suc room) pick = turn_in ks p room pick
+
+abbrev pub turn_of : List Function → Place → ℕ → Turn
+turn_of ks p pick = turn_with ks p p.room pick
+
+abbrev pub shown_from : List Function → Place → List ℕ → List Item
+shown_from ks p [] = []
+shown_from ks p (pick ∷ picks) = let t : Turn = turn_of ks p pick in t.shown ++ shown_from ks t.after picks
+
+abbrev pub moves_from : List Function → Place → List ℕ → List ℕ
+moves_from ks p [] = []
+moves_from ks p (pick ∷ picks) = let t : Turn = turn_of ks p pick in (if t.moved then pick ∷ [] else []) ++ moves_from ks t.after picks
+
+abbrev pub place_after : List Function → Place → List ℕ → Place
+place_after ks p [] = p
+place_after ks p (pick ∷ picks) = let t : Turn = turn_of ks p pick in place_after ks t.after picks
+
+-- at most 65,536 picks move
+abbrev pub start : Program → Place
+start p = record { world = opening_world p.entries; commands = p.commands; room = 65536 }
+
+-- the events of the moves in order, with each command taken in its place
+abbrev pub events : Program → List ℕ → List Item
+events p picks = shown_from p.functions (start p) picks
+
+-- the picks that moved
+abbrev pub moves : Program → List ℕ → List ℕ
+moves p picks = moves_from p.functions (start p) picks
+
+-- the functions with their visibility, and the number of initial processes
+abbrev pub opening : Program → Opening
+opening p = record { functions = map (λ k. (mfa_of k, k.exported)) p.functions; processes = length p.entries }

@@ -1,0 +1,2 @@
+//! Run.
+#![tactic(auto)]

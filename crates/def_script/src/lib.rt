@@ -1,0 +1,2 @@
+//! Program.
+#![tactic(auto)]

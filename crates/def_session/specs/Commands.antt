@@ -1,0 +1,130 @@
+-- What one command does to its session, and its reply (module `trace`: session_create/3, session_destroy/1, process/4, function/4, send/3, recv/3).
+use Rattle.std.specs.Prelude.{ℕ, Bool, true, false, ◌&&◌, if◌then◌else◌, List, [], ◌∷◌, length, filter, Option, Some, None, Ok, Err, pos}
+use Rattle.std.specs.Option.{option_and_then, option_map, unwrap_or}
+use Rattle.def_term.specs.Tree.{Tree, int, atom, pid, tuple, list, none, more}
+use Rattle.def_term.specs.Order.{same}
+use Rattle.def_term.specs.Names.{Name, Mfa, word}
+use Rattle.def_term.specs.Alive.{Alive, is_alive, living_count}
+use Rattle.def_script.specs.Program.{Command, create, destroy, set_processes, set_function, set_send, set_receive}
+use Rattle.def_spec.specs.Flags.{Flags, joined, without, flags_named}
+use Rattle.def_spec.specs.Expressions.{for_calls, for_sends, for_receives}
+use Rattle.def_spec.specs.Reading.{SpecFault, badarg, unsupported, Reads}
+use Rattle.def_session.specs.Settings.{Covered, Setting, Covering, setting_of, covered_of, options_of, has_among}
+use Rattle.def_session.specs.State.{Phase, absent, live, destroyed, Session, Opening, unset, flags_at, with_flags}
+
+-- the session afterwards, and the reply
+abbrev pub Done : Type 0
+Done = Session × Tree
+
+abbrev pub number : ℕ → Tree
+number n = int (pos n)
+
+-- a command so answered changes nothing
+abbrev pub refused : Session → Done
+refused s = (s, word "badarg")
+
+abbrev pub fault_term : SpecFault → Tree
+fault_term badarg = word "badarg"
+fault_term (unsupported s) = tuple (more (word "unsupported") (more (atom s) none))
+
+-- ---- flags of processes
+
+pub data Procs : Type 0 where
+  one_process : ℕ → Procs
+  existing : Procs
+  new_processes : Procs
+  all_processes : Procs
+
+abbrev pub procs_of : Tree → Option Procs
+procs_of (pid n) = Some (one_process n)
+procs_of t =
+    if same t (word "existing") then Some existing else
+    if same t (word "new") then Some new_processes else
+    if same t (word "all") then Some all_processes else None
+
+-- whether it sets: How is `true` or `false`
+abbrev pub how_of : Tree → Option Bool
+how_of t = if same t (word "true") then Some true else if same t (word "false") then Some false else None
+
+abbrev pub flags_of : Tree → Option Flags
+flags_of (list ts) = flags_named ts
+flags_of _ = None
+
+abbrev pub changed_flags : Bool → Flags → Flags → Flags
+changed_flags on f old = if on then joined old f else without old f
+
+-- the flags of each living process changed
+abbrev pub all_changed : Bool → Flags → Alive → List Flags → List Flags
+all_changed on f alive [] = []
+all_changed on f [] (g ∷ gs) = g ∷ gs
+all_changed on f (b ∷ bs) (g ∷ gs) = (if b then changed_flags on f g else g) ∷ all_changed on f bs gs
+
+abbrev pub existing_changed : Bool → Flags → Session → Session
+existing_changed on f s = record s { flags = all_changed on f s.alive s.flags }
+
+abbrev pub new_changed : Bool → Flags → Session → Session
+new_changed on f s = record s { for_new = changed_flags on f s.for_new }
+
+-- replies the count of processes: 1 for a living pid, the living ones for `existing` and `all`, 0 for `new` (own)
+abbrev pub flags_set : Session → Procs → Bool → Flags → Done
+flags_set s (one_process n) on f = if is_alive s.alive n then (with_flags s n (changed_flags on f (flags_at s n)), number 1) else refused s
+flags_set s existing on f = (existing_changed on f s, number (living_count s.alive))
+flags_set s new_processes on f = (new_changed on f s, number 0)
+flags_set s all_processes on f = (existing_changed on f (new_changed on f s), number (living_count s.alive))
+
+abbrev pub flags_set_if : Session → Option Procs → Option Bool → Option Flags → Done
+flags_set_if s (Some procs) (Some on) (Some f) = flags_set s procs on f
+flags_set_if s _ _ _ = refused s
+
+-- ---- settings
+
+-- the number of matching functions
+abbrev pub matching_count : Opening → Covering → ℕ
+matching_count o k = length (filter (λ f. has_among k f.0 f.1) o.functions)
+
+abbrev pub function_set : Opening → Session → Covered → Bool → Reads Setting → Done
+function_set o s covered local (Err e) = (s, fault_term e)
+function_set o s covered local (Ok setting) =
+    let k : Covering = record { covered = covered; setting = setting; local = local } in
+    (record s { functions = k ∷ s.functions }, number (matching_count o k))
+
+-- faults of the other arguments come before the specification's
+abbrev pub function_set_if : Opening → Session → Option Covered → Option Bool → Tree → Done
+function_set_if o s (Some covered) (Some local) spec = function_set o s covered local (setting_of for_calls spec)
+function_set_if o s _ _ spec = refused s
+
+abbrev pub send_set : Session → Reads Setting → Done
+send_set s (Err e) = (s, fault_term e)
+send_set s (Ok setting) = (record s { sending = setting }, number 1)
+
+abbrev pub receive_set : Session → Reads Setting → Done
+receive_set s (Err e) = (s, fault_term e)
+receive_set s (Ok setting) = (record s { receiving = setting }, number 1)
+
+-- ---- one command
+
+abbrev pub done_live : Opening → Session → Command → Done
+done_live o s (create name tracer) = refused s
+done_live o s (destroy name) = (unset destroyed s.alive, word "true")
+done_live o s (set_processes name procs how flags) = flags_set_if s (procs_of procs) (how_of how) (flags_of flags)
+done_live o s (set_function name mfa spec options) = function_set_if o s (covered_of mfa) (options_of options) spec
+done_live o s (set_send name spec) = send_set s (setting_of for_sends spec)
+done_live o s (set_receive name spec) = receive_set s (setting_of for_receives spec)
+
+-- only the creation of an absent session is possible
+abbrev pub done_absent : Session → Command → Done
+done_absent s (create name tracer) = (record s { phase = live }, tuple (more (word "session") (more (atom name) none)))
+done_absent s _ = refused s
+
+-- any other command on a destroyed session replies `badarg`
+abbrev pub done_destroyed : Session → Command → Done
+done_destroyed s (destroy name) = (s, word "false")
+done_destroyed s _ = refused s
+
+abbrev pub done_in : Phase → Opening → Session → Command → Done
+done_in absent o s c = done_absent s c
+done_in live o s c = done_live o s c
+done_in destroyed o s c = done_destroyed s c
+
+abbrev pub command_done : Opening → Session → Command → Done
+command_done o s c = done_in s.phase o s c

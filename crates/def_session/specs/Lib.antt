@@ -1,0 +1,5 @@
+pub mod Settings
+pub mod State
+pub mod Messages
+pub mod Session
+pub mod Commands

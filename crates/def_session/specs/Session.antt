@@ -1,0 +1,124 @@
+-- What one session makes of an event: inheritance, whether it is evaluated, the effects, at most one message, marks (module `trace`).
+-- It knows no other session, and nothing of how the events came about.
+use Rattle.std.specs.Prelude.{ℕ, ◌-◌, ◌==◌, Bool, true, false, not, ◌&&◌, if◌then◌else◌, List, [], ◌∷◌, filter, Option, Some, None, slice_set}
+use Rattle.std.specs.List.{list_any}
+use Rattle.def_term.specs.Tree.{Tree, pid}
+use Rattle.def_term.specs.Names.{Mfa, word}
+use Rattle.def_term.specs.Alive.{with_alive}
+use Rattle.def_spec.specs.Flags.{Flag, Flags, no_flags, only, joined, without, send_flag, receive_flag, call_flag, procs_flag, silent_flag, arity_flag, after_spawn, after_link}
+use Rattle.def_spec.specs.Expressions.{Context, Effect, gives_message, traces_return, traces_exception, silences, changes}
+use Rattle.def_spec.specs.Outcome.{Outcome, no_match, matched, outcome_of}
+use Rattle.def_node.specs.Event.{Event, sent, received, called, returned, spawning, spawned, exited, linked, unlinked, getting_linked, getting_unlinked}
+use Rattle.def_session.specs.Settings.{Setting, off, plain, by, setting_for}
+use Rattle.def_session.specs.State.{Phase, absent, live, destroyed, Session, flags_at, with_flags, alive_after}
+use Rattle.def_session.specs.Messages.{elements_of, process_of, last_message, decided}
+
+-- ---- inheritance
+
+abbrev pub with_both : Session → (giver taker : ℕ) → Flags × Flags → Session
+with_both s giver taker pair = with_flags (with_flags s giver pair.0) taker pair.1
+
+-- before the spawned event the child gets the flags for new processes and those that it inherits; before the getting_linked event the partner gets those that it inherits
+abbrev pub inherited : Session → Event → Session
+inherited s (spawned child parent f args) = with_both (record s { alive = with_alive s.alive child true }) parent child (after_spawn (flags_at s parent) s.for_new)
+inherited s (getting_linked p linker) = with_both s linker p (after_link (flags_at s linker) (flags_at s p))
+inherited s _ = s
+
+-- ---- what is evaluated
+
+abbrev pub effects_in : Outcome → Option (List Effect)
+effects_in no_match = None
+effects_in (matched es) = Some es
+
+-- without a specification there are no effects; no clause, no message
+abbrev pub evaluated_by : Setting → Context → Option (List Effect)
+evaluated_by off c = None
+evaluated_by plain c = Some []
+evaluated_by (by s) c = effects_in (outcome_of s c)
+
+abbrev pub context : Session → ℕ → List Tree → Option Mfa → Context
+context s me ts caller = record { matched_list = ts; me = me; caller_mfa = caller; alive = s.alive }
+
+abbrev pub is_marked : Session → ℕ → ℕ → Bool
+is_marked s p depth = list_any (λ m. m.0 == p && m.1 == depth) s.marks
+
+abbrev pub where_set : Session → ℕ → Flag → Option (List Effect) → Option (List Effect)
+where_set s p f r = if flags_at s p f then r else None
+
+-- the effects, or none where the event gives no message. The list that is matched: a call's arguments, [Receiver,Msg] for a send, [Node,Sender,Msg] for a receive
+abbrev pub evaluated : Session → Event → Option (List Effect)
+evaluated s (sent p t to alive) = where_set s p send_flag (evaluated_by s.sending (context s p (pid to ∷ t ∷ []) None))
+evaluated s (received p sender t) = where_set s p receive_flag (evaluated_by s.receiving (context s p (word "nonode@nohost" ∷ pid sender ∷ t ∷ []) None))
+evaluated s (called p c) = where_set s p call_flag (evaluated_by (setting_for s.functions c) (context s p c.args c.caller))
+evaluated s (returned p f t depth) = if is_marked s p depth then where_set s p call_flag (Some []) else None
+evaluated s (spawning p child f args) = where_set s p procs_flag (Some [])
+evaluated s (spawned p parent f args) = where_set s p procs_flag (Some [])
+evaluated s (exited p r) = where_set s p procs_flag (Some [])
+evaluated s (linked p q) = where_set s p procs_flag (Some [])
+evaluated s (unlinked p q) = where_set s p procs_flag (Some [])
+evaluated s (getting_linked p q) = where_set s p procs_flag (Some [])
+evaluated s (getting_unlinked p q) = where_set s p procs_flag (Some [])
+
+-- ---- effects
+
+abbrev pub affected : ℕ → Session → Effect → Session
+affected p s (gives_message t) = s
+affected p s traces_return = s
+affected p s traces_exception = s
+affected p s (silences b) = with_flags s p (if b then joined (flags_at s p) (only silent_flag) else without (flags_at s p) (only silent_flag))
+affected p s (changes n cleared set) = with_flags s n (joined (without (flags_at s n) cleared) set)
+
+-- in order
+abbrev pub all_affected : ℕ → Session → List Effect → Session
+all_affected p s [] = s
+all_affected p s (e ∷ es) = all_affected p (affected p s e) es
+
+-- until exceptions exist, exception_trace acts as return_trace (own)
+abbrev pub marks_frame : List Effect → Bool
+marks_frame [] = false
+marks_frame (traces_return ∷ es) = true
+marks_frame (traces_exception ∷ es) = true
+marks_frame (_ ∷ es) = marks_frame es
+
+-- ---- the message
+
+-- `silent` inhibits call and return_from messages alone
+abbrev pub is_silenced : Session → Event → Bool
+is_silenced s (called p c) = flags_at s p silent_flag
+is_silenced s (returned p f t depth) = flags_at s p silent_flag
+is_silenced s _ = false
+
+-- decided after the effects; `silent` and `arity` are read after them too (own)
+abbrev pub message_after : Session → Event → List Effect → Option Tree
+message_after s e es = if is_silenced s e then None else decided (last_message es) (elements_of (flags_at s (process_of e) arity_flag) e)
+
+-- ---- marks, and the end of a process
+
+-- a call marks its frame, a return removes the mark; after an exit the process's flags and marks are gone
+abbrev pub finished : Session → Event → List Effect → Session
+finished s (called p c) es = if marks_frame es then record s { marks = (p, c.depth) ∷ s.marks } else s
+finished s (returned p f t depth) es = record s { marks = filter (λ m. not (m.0 == p && m.1 == depth)) s.marks }
+finished s (exited p r) es = record s { alive = with_alive s.alive p false; flags = slice_set s.flags (p - 100) no_flags; marks = filter (λ m. not (m.0 == p)) s.marks }
+finished s _ es = s
+
+-- ---- one event
+
+-- the session afterwards, and its message
+abbrev pub Told : Type 0
+Told = Session × Option Tree
+
+abbrev pub told_by_effects : Session → Event → List Effect → Told
+told_by_effects s e es = let t : Session = all_affected (process_of e) s es in (finished t e es, message_after t e es)
+
+abbrev pub told_for : Session → Event → Option (List Effect) → Told
+told_for s e None = (finished s e [], None)
+told_for s e (Some es) = told_by_effects s e es
+
+-- absent or destroyed, an event changes the living pids alone and gives no message
+abbrev pub told_in : Phase → Session → Event → Told
+told_in absent s e = (record s { alive = alive_after s.alive e }, None)
+told_in destroyed s e = (record s { alive = alive_after s.alive e }, None)
+told_in live s e = let t : Session = inherited s e in told_for t e (evaluated t e)
+
+abbrev pub event_told : Session → Event → Told
+event_told s e = told_in s.phase s e

@@ -1,0 +1,76 @@
+-- What a session's commands set: function settings, send and receive settings (trace:function/4, trace:send/3, trace:recv/3).
+-- Stands on specifications and on the names of functions.
+use Rattle.std.specs.Prelude.{ℕ, nat_le, Bool, true, false, ◌&&◌, ◌||◌, if◌then◌else◌, List, [], ◌∷◌, Option, Some, None, pos, Ok}
+use Rattle.std.specs.Str.{bytes_eq}
+use Rattle.def_term.specs.Tree.{Tree, int, atom, tuple, list, none, more}
+use Rattle.def_term.specs.Order.{same}
+use Rattle.def_term.specs.Names.{Name, Mfa, same_mfa, word}
+use Rattle.def_node.specs.Event.{Call}
+use Rattle.def_spec.specs.Expressions.{Dialect}
+use Rattle.def_spec.specs.Outcome.{Spec}
+use Rattle.def_spec.specs.Reading.{Reads, then_read, is_wildcard, spec_of}
+
+-- the functions that a command is about
+pub data Covered : Type 0 where
+  one : Mfa → Covered
+  any_arity : (module_name function_name : Name) → Covered
+  whole_module : (module_name : Name) → Covered
+  every : Covered
+
+-- disabled, without a specification, or with one
+pub data Setting : Type 0 where
+  off : Setting
+  plain : Setting
+  by : Spec → Setting
+
+-- a function command that was accepted
+pub record Covering : Type 0 where
+  pub covered : Covered
+  pub setting : Setting
+  pub local : Bool
+
+-- `true` or `[]` is no specification, `false` disables
+abbrev pub setting_of : Dialect → Tree → Reads Setting
+setting_of d t =
+    if same t (word "true") || same t (list none) then Ok plain else
+    if same t (word "false") then Ok off else
+    then_read (spec_of d t) (λ s. Ok (by s))
+
+abbrev pub with_arity : Name → Name → Tree → Option Covered
+with_arity m f (int (pos n)) = if nat_le n 255 then Some (one (record { module_name = m; function_name = f; arity = n })) else None
+with_arity m f (atom s) = if is_wildcard s then Some (any_arity m f) else None
+with_arity m f _ = None
+
+abbrev pub covered_by : Tree → Tree → Tree → Option Covered
+covered_by (atom m) (atom f) a =
+    if is_wildcard m then (if is_wildcard f && same a (word "_") then Some every else None) else
+    if is_wildcard f then (if same a (word "_") then Some (whole_module m) else None) else
+    with_arity m f a
+covered_by _ _ _ = None
+
+-- {M,F,A}, {M,F,'_'}, {M,'_','_'} or {'_','_','_'}, with A from 0 to 255
+abbrev pub covered_of : Tree → Option Covered
+covered_of (tuple (more m (more f (more a none)))) = covered_by m f a
+covered_of _ = None
+
+-- whether local: [] or [global], or [local]
+abbrev pub options_of : Tree → Option Bool
+options_of t =
+    if same t (list none) || same t (list (more (word "global") none)) then Some false else
+    if same t (list (more (word "local") none)) then Some true else None
+
+abbrev pub is_covered : Covered → Mfa → Bool
+is_covered (one a) f = same_mfa a f
+is_covered (any_arity m g) f = bytes_eq m f.module_name && bytes_eq g f.function_name
+is_covered (whole_module m) f = bytes_eq m f.module_name
+is_covered every f = true
+
+-- the function is among the matching ones of a command: exported ones alone, if it is global
+abbrev pub has_among : Covering → Mfa → Bool → Bool
+has_among k f exported = is_covered k.covered f && (k.local || exported)
+
+-- the last command that covers the function wins, whichever kind it is (own). It concerns every call if it is local, and else the calls that name the module
+abbrev pub setting_for : List Covering → Call → Setting
+setting_for [] c = off
+setting_for (k ∷ ks) c =
+    if has_among k c.mfa c.exported then (if k.local || c.named then k.setting else off) else setting_for ks c

@@ -1,0 +1,53 @@
+-- The state of one session.
+use Rattle.std.specs.Prelude.{ℕ, ◌-◌, ◌+◌, Bool, true, false, List, [], ◌++◌, replicate, slice_get, slice_set}
+use Rattle.std.specs.Option.{unwrap_or}
+use Rattle.def_term.specs.Alive.{Alive, with_alive}
+use Rattle.def_term.specs.Names.{Mfa}
+use Rattle.def_spec.specs.Flags.{Flags, no_flags}
+use Rattle.def_session.specs.Settings.{Covering, Setting, plain}
+use Rattle.def_node.specs.Event.{Event, spawned, exited}
+
+pub data Phase : Type 0 where
+  absent live destroyed : Phase
+
+pub record Session : Type 0 where
+  pub phase : Phase
+  pub alive : Alive
+  -- of the processes 100 to 163
+  pub flags : List Flags
+  pub for_new : Flags
+  -- accepted function commands, the newest first
+  pub functions : List Covering
+  pub sending : Setting
+  pub receiving : Setting
+  -- the frames that are marked, by process and depth
+  pub marks : List (ℕ × ℕ)
+
+-- what every session knows of the program: the functions with their visibility, and how many processes it begins with
+pub record Opening : Type 0 where
+  pub functions : List (Mfa × Bool)
+  pub processes : ℕ
+
+-- the first of the pids from 100 on live
+abbrev pub alive_at_start : ℕ → Alive
+alive_at_start n = replicate n true ++ replicate (64 - n) false
+
+-- a session without settings: no flags, no function settings, send and receive `true` (own)
+abbrev pub unset : Phase → Alive → Session
+unset phase alive = record { phase = phase; alive = alive; flags = replicate 64 no_flags; for_new = no_flags; functions = []; sending = plain; receiving = plain; marks = [] }
+
+-- before the session is created
+abbrev pub absent_session : Opening → Session
+absent_session o = unset absent (alive_at_start o.processes)
+
+abbrev pub flags_at : Session → ℕ → Flags
+flags_at s n = unwrap_or (slice_get s.flags (n - 100)) no_flags
+
+abbrev pub with_flags : Session → ℕ → Flags → Session
+with_flags s n f = record s { flags = slice_set s.flags (n - 100) f }
+
+-- who lives after an event
+abbrev pub alive_after : Alive → Event → Alive
+alive_after alive (spawned p parent f args) = with_alive alive p true
+alive_after alive (exited p r) = with_alive alive p false
+alive_after alive _ = alive

@@ -1,0 +1,84 @@
+-- The ten flags of processes in a session (trace:process/4), and sets of them.
+-- Stands on terms.
+use Rattle.std.specs.Prelude.{ℕ, ◌==◌, Bool, true, false, not, ◌&&◌, ◌||◌, if◌then◌else◌, List, [], ◌∷◌, Option, Some, None}
+use Rattle.std.specs.Option.{option_map}
+use Rattle.def_term.specs.Tree.{Tree, Trees, none, more}
+use Rattle.def_term.specs.Order.{same}
+use Rattle.def_term.specs.Names.{word}
+
+pub data Flag : Type 0 where
+  send_flag receive_flag call_flag procs_flag silent_flag arity_flag set_on_spawn set_on_first_spawn set_on_link set_on_first_link : Flag
+
+abbrev pub number_of : Flag → ℕ
+number_of send_flag = 0
+number_of receive_flag = 1
+number_of call_flag = 2
+number_of procs_flag = 3
+number_of silent_flag = 4
+number_of arity_flag = 5
+number_of set_on_spawn = 6
+number_of set_on_first_spawn = 7
+number_of set_on_link = 8
+number_of set_on_first_link = 9
+
+-- a set of flags
+abbrev pub Flags : Type 0
+Flags = Flag → Bool
+
+abbrev pub no_flags : Flags
+no_flags f = false
+
+abbrev pub only : Flag → Flags
+only f g = number_of f == number_of g
+
+abbrev pub joined : Flags → Flags → Flags
+joined f g x = f x || g x
+
+abbrev pub without : Flags → Flags → Flags
+without f g x = f x && not (g x)
+
+-- all flags of the second are in the first
+abbrev pub has_all : Flags → Flags → Bool
+has_all f g =
+    let has : Flag → Bool = λ x. f x || not (g x) in
+    has send_flag && (has receive_flag && (has call_flag && (has procs_flag && (has silent_flag && (has arity_flag && (has set_on_spawn && (has set_on_first_spawn && (has set_on_link && has set_on_first_link))))))))
+
+abbrev pub flags_by_name : List (Tree × Flag)
+flags_by_name =
+    (word "send", send_flag) ∷ (word "receive", receive_flag) ∷ (word "call", call_flag) ∷ (word "procs", procs_flag) ∷ (word "silent", silent_flag) ∷ (word "arity", arity_flag)
+    ∷ (word "set_on_spawn", set_on_spawn) ∷ (word "set_on_first_spawn", set_on_first_spawn) ∷ (word "set_on_link", set_on_link) ∷ (word "set_on_first_link", set_on_first_link) ∷ []
+
+abbrev pub named_in : List (Tree × Flag) → Tree → Option Flag
+named_in [] t = None
+named_in (e ∷ es) t = if same t e.0 then Some e.1 else named_in es t
+
+-- the flag that a term names
+abbrev pub flag_named : Tree → Option Flag
+flag_named t = named_in flags_by_name t
+
+-- one more flag, where there is one
+abbrev pub and_flag : Option Flag → Option Flags → Option Flags
+and_flag None fs = None
+and_flag (Some f) fs = option_map (joined (only f)) fs
+
+-- the flags that the elements of a list name; none where one is no flag
+abbrev pub flags_named : Trees → Option Flags
+flags_named none = Some no_flags
+flags_named (more t ts) = and_flag (flag_named t) (flags_named ts)
+
+-- ---- inheritance
+
+-- what a process with these flags gives to a child or a linked process, and what it keeps (the flags `set_on_spawn` and `set_on_first_spawn`, `set_on_link` and `set_on_first_link`).
+-- With the first alone it gives all, that one too; with the second all but that one, which it loses; with both all but both, which it loses (own)
+abbrev pub given_and_kept : (always first : Flag) → Flags → Flags × Flags
+given_and_kept always first f =
+    let rest : Flags = without f (joined (only always) (only first)) in
+    if f first then (rest, rest) else (if f always then f else no_flags, f)
+
+-- the new flags of parent and child
+abbrev pub after_spawn : (parent child : Flags) → Flags × Flags
+after_spawn parent child = let pair : Flags × Flags = given_and_kept set_on_spawn set_on_first_spawn parent in (pair.1, joined child pair.0)
+
+-- the new flags of the linking process and its partner
+abbrev pub after_link : (linker partner : Flags) → Flags × Flags
+after_link linker partner = let pair : Flags × Flags = given_and_kept set_on_link set_on_first_link linker in (pair.1, joined partner pair.0)

@@ -1,0 +1,197 @@
+-- The functions of conditions and bodies ("Match Specifications in Erlang", "Functions Allowed in All Types of Match Specifications"), and the value of one on values.
+-- Stands on terms and their order. None is a fault.
+use Rattle.std.specs.Prelude.{ℕ, zero, suc, ◌-◌, ◌^◌, Bool, true, false, not, ◌&&◌, ◌||◌, if◌then◌else◌, List, [], ◌∷◌, Option, Some, None, ℤ, pos, negsuc, ◌+ℤ◌, ◌-ℤ◌, ◌*ℤ◌, neg_ℤ, int_le, int_div, int_rem}
+use Rattle.std.specs.Int.{w64, int_bit_and, int_bit_or, int_bit_xor}
+use Rattle.std.specs.Ordering.{is_gt, is_ge, is_lt, is_le}
+use Rattle.def_term.specs.Tree.{Tree, int, atom, pid, tuple, list, Trees, none, more, of_elements, count}
+use Rattle.def_term.specs.Order.{tree_cmp, same}
+use Rattle.def_term.specs.Names.{word}
+
+pub data Func : Type 0 where
+  is_atom is_integer is_list is_tuple is_pid is_number is_boolean : Func
+  -- there are no such terms here
+  is_float is_port is_reference is_map is_binary is_bitstring is_function : Func
+  head tail length size tuple_size element : Func
+  absolute add subtract multiply divide remainder : Func
+  bit_and bit_or bit_xor bit_not : Func
+  greater greater_or_equal less less_or_equal equal exactly_equal not_equal exactly_not_equal : Func
+  own_pid own_node : Func
+  -- all arguments of these are evaluated
+  all_of one_of just_one_of is_false : Func
+
+abbrev pub truth : Bool → Tree
+truth true = word "true"
+truth false = word "false"
+
+abbrev pub is_true : Tree → Bool
+is_true t = same t (word "true")
+
+-- a function of so many arguments; with another number it is a fault
+abbrev pub on_one : (Tree → Option Tree) → List Tree → Option Tree
+on_one f [] = None
+on_one f (t ∷ []) = f t
+on_one f (t ∷ u ∷ us) = None
+
+abbrev pub on_two : (Tree → Tree → Option Tree) → List Tree → Option Tree
+on_two f [] = None
+on_two f (t ∷ []) = None
+on_two f (t ∷ u ∷ []) = f t u
+on_two f (t ∷ u ∷ v ∷ vs) = None
+
+abbrev pub tests : (Tree → Bool) → List Tree → Option Tree
+tests p ts = on_one (λ t. Some (truth (p t))) ts
+
+abbrev pub compares : (Tree → Tree → Bool) → List Tree → Option Tree
+compares p ts = on_two (λ t u. Some (truth (p t u))) ts
+
+-- ---- the kinds of terms
+
+abbrev pub atom_test : Tree → Bool
+atom_test (atom a) = true
+atom_test _ = false
+
+abbrev pub integer_test : Tree → Bool
+integer_test (int z) = true
+integer_test _ = false
+
+abbrev pub list_test : Tree → Bool
+list_test (list ts) = true
+list_test _ = false
+
+abbrev pub tuple_test : Tree → Bool
+tuple_test (tuple ts) = true
+tuple_test _ = false
+
+abbrev pub pid_test : Tree → Bool
+pid_test (pid n) = true
+pid_test _ = false
+
+abbrev pub boolean_test : Tree → Bool
+boolean_test t = same t (word "true") || same t (word "false")
+
+-- ---- integers
+
+-- a whole number, which is a fault outside signed 64 bits (own)
+abbrev pub fitting : ℤ → Option Tree
+fitting z = if int_le (negsuc (2 ^ 63 - 1)) z && int_le z (pos (2 ^ 63 - 1)) then Some (int z) else None
+
+abbrev pub of_integer : (ℤ → ℤ) → Tree → Option Tree
+of_integer f (int a) = fitting (f a)
+of_integer f _ = None
+
+abbrev pub of_integers : (ℤ → ℤ → Option Tree) → Tree → Tree → Option Tree
+of_integers f (int a) (int b) = f a b
+of_integers f _ _ = None
+
+abbrev pub magnitude : ℤ → ℤ
+magnitude (pos n) = pos n
+magnitude (negsuc n) = pos (suc n)
+
+-- toward zero; divisor 0 is a fault
+abbrev pub quotient : ℤ → ℤ → Option Tree
+quotient a (pos zero) = None
+quotient a b = fitting (int_div a b)
+
+-- with the dividend's sign; divisor 0 is a fault
+abbrev pub rest_of : ℤ → ℤ → Option Tree
+rest_of a (pos zero) = None
+rest_of a b = fitting (int_rem a b)
+
+abbrev pub whole : (ℤ → ℤ → ℤ) → List Tree → Option Tree
+whole f ts = on_two (of_integers (λ a b. fitting (f a b))) ts
+
+-- ---- lists and tuples
+
+abbrev pub head_of : Tree → Option Tree
+head_of (list (more t ts)) = Some t
+head_of _ = None
+
+abbrev pub tail_of : Tree → Option Tree
+tail_of (list (more t ts)) = Some (list ts)
+tail_of _ = None
+
+abbrev pub length_of : Tree → Option Tree
+length_of (list ts) = Some (int (pos (count ts)))
+length_of _ = None
+
+abbrev pub tuple_size_of : Tree → Option Tree
+tuple_size_of (tuple ts) = Some (int (pos (count ts)))
+tuple_size_of _ = None
+
+abbrev pub nth : Trees → ℕ → Option Tree
+nth none n = None
+nth (more t ts) zero = Some t
+nth (more t ts) (suc n) = nth ts n
+
+-- the element of a tuple with this number, from 1
+abbrev pub element_of : Tree → Tree → Option Tree
+element_of (int (pos (suc n))) (tuple ts) = nth ts n
+element_of _ _ = None
+
+-- ---- logic, where anything but `true` counts as not true (own)
+
+abbrev pub all_true : List Tree → Bool
+all_true [] = true
+all_true (t ∷ ts) = is_true t && all_true ts
+
+abbrev pub some_true : List Tree → Bool
+some_true [] = false
+some_true (t ∷ ts) = is_true t || some_true ts
+
+-- `true` where one is `true` and the other `false`
+abbrev pub differ : Tree → Tree → Bool
+differ t u = (same t (word "true") && same u (word "false")) || (same t (word "false") && same u (word "true"))
+
+-- nonode@nohost, also of a pid; any other argument is a fault
+abbrev pub node_of : List Tree → Option Tree
+node_of [] = Some (word "nonode@nohost")
+node_of (pid n ∷ []) = Some (word "nonode@nohost")
+node_of (_ ∷ ts) = None
+
+-- the value of one function on values
+abbrev pub apply : Func → List Tree → ℕ → Option Tree
+apply is_atom ts me = tests atom_test ts
+apply is_integer ts me = tests integer_test ts
+apply is_list ts me = tests list_test ts
+apply is_tuple ts me = tests tuple_test ts
+apply is_pid ts me = tests pid_test ts
+apply is_number ts me = tests integer_test ts
+apply is_boolean ts me = tests boolean_test ts
+apply is_float ts me = tests (λ t. false) ts
+apply is_port ts me = tests (λ t. false) ts
+apply is_reference ts me = tests (λ t. false) ts
+apply is_map ts me = tests (λ t. false) ts
+apply is_binary ts me = tests (λ t. false) ts
+apply is_bitstring ts me = tests (λ t. false) ts
+apply is_function ts me = tests (λ t. false) ts
+apply head ts me = on_one head_of ts
+apply tail ts me = on_one tail_of ts
+apply length ts me = on_one length_of ts
+apply size ts me = on_one tuple_size_of ts
+apply tuple_size ts me = on_one tuple_size_of ts
+apply element ts me = on_two element_of ts
+apply absolute ts me = on_one (of_integer magnitude) ts
+apply add ts me = whole (λ a b. a +ℤ b) ts
+apply subtract ts me = whole (λ a b. a -ℤ b) ts
+apply multiply ts me = whole (λ a b. a *ℤ b) ts
+apply divide ts me = on_two (of_integers quotient) ts
+apply remainder ts me = on_two (of_integers rest_of) ts
+apply bit_and ts me = whole (int_bit_and w64) ts
+apply bit_or ts me = whole (int_bit_or w64) ts
+apply bit_xor ts me = whole (int_bit_xor w64) ts
+apply bit_not ts me = on_one (of_integer (λ a. neg_ℤ a -ℤ pos 1)) ts
+apply greater ts me = compares (λ t u. is_gt (tree_cmp t u)) ts
+apply greater_or_equal ts me = compares (λ t u. is_ge (tree_cmp t u)) ts
+apply less ts me = compares (λ t u. is_lt (tree_cmp t u)) ts
+apply less_or_equal ts me = compares (λ t u. is_le (tree_cmp t u)) ts
+apply equal ts me = compares same ts
+apply exactly_equal ts me = compares same ts
+apply not_equal ts me = compares (λ t u. not (same t u)) ts
+apply exactly_not_equal ts me = compares (λ t u. not (same t u)) ts
+apply own_pid [] me = Some (pid me)
+apply own_pid (t ∷ ts) me = None
+apply own_node ts me = node_of ts
+apply all_of ts me = Some (truth (all_true ts))
+apply one_of ts me = Some (truth (some_true ts))
+apply just_one_of ts me = compares differ ts
+apply is_false ts me = tests (λ t. same t (word "false")) ts

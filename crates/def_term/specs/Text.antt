@@ -1,0 +1,66 @@
+-- The written text of a tree.
+use Rattle.std.specs.Prelude.{ℕ, List, [], ◌∷◌, ◌++◌, Bool, true, false, ◌&&◌, ◌||◌, not, cond, nat_le, ◌==◌, codes, decimal, flat_map}
+use Rattle.std.specs.Fmt.{signed_decimal}
+use Rattle.std.specs.Str.{bytes_eq}
+use Rattle.def_term.specs.Tree.{Tree, int, atom, pid, tuple, list, Trees, none, more}
+
+abbrev pub is_lower : ℕ → Bool
+is_lower b = nat_le 97 b && nat_le b 122
+
+abbrev pub is_upper : ℕ → Bool
+is_upper b = nat_le 65 b && nat_le b 90
+
+abbrev pub is_digit : ℕ → Bool
+is_digit b = nat_le 48 b && nat_le b 57
+
+-- what may follow the first letter of a bare atom: letters, digits, `_` and `@`
+abbrev pub is_name_byte : ℕ → Bool
+is_name_byte b = is_lower b || is_upper b || is_digit b || (b == 95) || (b == 64)
+
+abbrev pub are_name_bytes : List ℕ → Bool
+are_name_bytes [] = true
+are_name_bytes (b ∷ bs) = is_name_byte b && are_name_bytes bs
+
+abbrev pub is_among : List (List ℕ) → List ℕ → Bool
+is_among [] s = false
+is_among (w ∷ ws) s = bytes_eq s w || is_among ws s
+
+abbrev pub reserved_words : List (List ℕ)
+reserved_words =
+    codes "after" ∷ codes "and" ∷ codes "andalso" ∷ codes "band" ∷ codes "begin" ∷ codes "bnot" ∷ codes "bor" ∷ codes "bsl" ∷ codes "bsr" ∷ codes "bxor" ∷ codes "case" ∷ codes "catch" ∷ codes "cond" ∷ codes "div" ∷ codes "end"
+    ∷ codes "fun" ∷ codes "if" ∷ codes "let" ∷ codes "not" ∷ codes "of" ∷ codes "or" ∷ codes "orelse" ∷ codes "receive" ∷ codes "rem" ∷ codes "try" ∷ codes "when" ∷ codes "xor" ∷ []
+
+-- a letter, and then a run of name bytes
+abbrev pub is_name : List ℕ → Bool
+is_name [] = false
+is_name (b ∷ bs) = is_lower b && are_name_bytes bs
+
+unfoldable pub is_written_bare : List ℕ → Bool
+is_written_bare s = is_name s && not (is_among (codes "maybe" ∷ codes "else" ∷ reserved_words) s)
+
+-- a quote and a backslash have a backslash before them
+abbrev pub escaped : ℕ → List ℕ
+escaped b = cond ((b == 39) || (b == 92)) (92 ∷ b ∷ []) (b ∷ [])
+
+abbrev pub atom_text : List ℕ → List ℕ
+atom_text s = cond (is_written_bare s) s (39 ∷ flat_map escaped s ++ 39 ∷ [])
+
+abbrev pub pid_text : ℕ → List ℕ
+pid_text n = codes "<0." ++ decimal n ++ codes ".0>"
+
+abbrev mutual
+  pub w : Tree → List ℕ
+  w (int n) = signed_decimal n
+  w (atom s) = atom_text s
+  w (pid n) = pid_text n
+  w (tuple ts) = 123 ∷ (joined ts ++ 125 ∷ [])
+  w (list ts) = 91 ∷ (joined ts ++ 93 ∷ [])
+
+  -- the texts with a comma between any two
+  pub joined : Trees → List ℕ
+  joined none = []
+  joined (more t ts) = w t ++ each_after_comma ts
+
+  pub each_after_comma : Trees → List ℕ
+  each_after_comma none = []
+  each_after_comma (more t ts) = 44 ∷ (w t ++ each_after_comma ts)

@@ -1,0 +1,35 @@
+-- What the code's events and commands stand for.
+use Rattle.std.specs.Prelude.{map}
+use Rattle.std.specs.Option.{option_map}
+use Rattle.tn_term.specs.Views.{tree_of, mfa_seen}
+use Rattle.def_script.specs.Program as program
+use Rattle.def_node.specs.Event as event
+use Rattle.tn_flags.specs.declared.event.Event.{Event}
+use Rattle.tn_flags.specs.declared.event.Event.TheVariants.{Sent, Received, Called, Returned, Spawn, Spawned, Exited, Linked, Unlinked, GettingLinked, GettingUnlinked}
+use Rattle.tn_flags.specs.declared.event.Call.{Call}
+use Rattle.tn_flags.specs.declared.command.Command.{Command}
+use Rattle.tn_flags.specs.declared.command.Command.TheVariants.{SessionCreate, SessionDestroy, Process, Function, Send, Recv}
+
+abbrev pub call_of : {A : Type 0} → Call A → event.Call
+call_of c = record { mfa = mfa_seen c.mfa; args = map tree_of c.args.items; named = c.named; exported = c.exported; caller = option_map mfa_seen c.caller; depth = c.depth }
+
+abbrev pub event_of : {A : Type 0} → Event A → event.Event
+event_of (Sent p t to alive) = event.sent p (tree_of t) to alive
+event_of (Received p sender t) = event.received p sender (tree_of t)
+event_of (Called p c) = event.called p (call_of c)
+event_of (Returned p f t depth) = event.returned p (mfa_seen f) (tree_of t) depth
+event_of (Spawn p child f args) = event.spawning p child (mfa_seen f) (map tree_of args.items)
+event_of (Spawned p parent f args) = event.spawned p parent (mfa_seen f) (map tree_of args.items)
+event_of (Exited p t) = event.exited p (tree_of t)
+event_of (Linked p q) = event.linked p q
+event_of (Unlinked p q) = event.unlinked p q
+event_of (GettingLinked p q) = event.getting_linked p q
+event_of (GettingUnlinked p q) = event.getting_unlinked p q
+
+abbrev pub command_of : {A : Type 0} → Command A → program.Command
+command_of (SessionCreate s tracer) = program.create s tracer
+command_of (SessionDestroy s) = program.destroy s
+command_of (Process s procs how flags) = program.set_processes s (tree_of procs) (tree_of how) (tree_of flags)
+command_of (Function s mfa spec options) = program.set_function s (tree_of mfa) (tree_of spec) (tree_of options)
+command_of (Send s spec) = program.set_send s (tree_of spec)
+command_of (Recv s spec) = program.set_receive s (tree_of spec)

@@ -1,0 +1,58 @@
+// A name of at most 255 characters.
+ghost use Rattle.std.specs.Prelude.{◌≡◌, ℕ, MatchOption, IfOk, List, IsTrue, ◌↔◌};
+ghost use Rattle.def_term.specs.Atoms.{IsAtomText};
+
+use std::alloc::{AllocError, Allocator};
+use std::marker::Model;
+
+#[derive(Drop)]
+pub struct Atom<A: Allocator> {
+    text: String<A>,
+}
+
+impl<A: Allocator> Model for Atom<A> {
+    ghost use Rattle.std.specs.Prelude.{List, ℕ, string_bytes};
+    ghost use Rattle.def_term.specs.Atoms.{IsAtomText};
+
+    ghost Value = { List ℕ };
+
+    ghost view = { λ a. string_bytes a.text };
+
+    ghost invariant = { λ a. IsAtomText (string_bytes a.text) };
+}
+
+fn is_atom_text(text: &str) -> bool
+    ensures { IsTrue result ↔ IsAtomText text.now }
+{
+    text.len() <= 255 && text.bytes().all(|b| 32 <= b && b <= 126)
+}
+
+impl<A: Allocator> Atom<A> {
+    /// None where the text has other characters than 32 to 126, or more than 255.
+    pub fn new(alloc: A, text: &str) -> Result<Option<Atom<A>>, AllocError>
+        ensures { IfOk result (λ o. MatchOption o (¬ IsAtomText text.now) (λ a. (a ≡ text.now) × IsAtomText text.now)) }
+    {
+        if is_atom_text(text) {
+            Ok(Some(Atom {
+                text: String::from_str(alloc, text)?,
+            }))
+        } else {
+            Ok(None)
+        }
+    }
+
+    pub fn text(&self) -> &str
+        ensures text { result.now ≡ self.now }
+        ensures valid { IsAtomText self.now }
+    {
+        self.text.as_str()
+    }
+
+    pub fn copy_into<B: Allocator>(&self, b: B) -> Result<Atom<B>, AllocError>
+        ensures { IfOk result (λ a. a ≡ self.now) }
+    {
+        Ok(Atom {
+            text: String::from_str(b, self.text.as_str())?,
+        })
+    }
+}
