@@ -1,0 +1,10 @@
+pub mod Tokens
+pub mod Grammar
+pub mod Limits
+pub mod Faults
+pub mod Spelling
+pub mod Reading
+pub mod Scan
+pub mod Writable
+pub mod Scripts
+pub mod ScriptReading

@@ -1,0 +1,149 @@
+-- Reading one term as a fold over the tokens, with a stack that has a frame for each tuple or list that is open.
+-- Stands on tokens, limits and refusals. Laws say that it reads what the grammar derives.
+use Rattle.std.specs.Prelude.{ℕ, ◌+◌, List, [], ◌∷◌, ◌++◌, length, Result, Ok, Err, Bool, true, false, cond, nat_lt, nat_le}
+use Rattle.def_term.specs.Tree.{Tree, int, atom, pid, tuple, list, Trees, of_elements, depth}
+use Rattle.def_text.specs.Tokens as text
+use Rattle.def_text.specs.Tokens.{Token}
+use Rattle.def_text.specs.Grammar.{of_codes}
+use Rattle.def_text.specs.Limits.{sizes_ok}
+use Rattle.def_text.specs.Faults.{Kind, misplaced, too_deep, too_large, Refusal}
+
+-- the brackets of a tuple, and those of a list
+pub data Bracket : Type 0 where
+  brace : Bracket
+  bracket : Bracket
+
+-- the tuple or list of these elements
+abbrev pub node : Bracket → Trees → Tree
+node brace us = tuple us
+node bracket us = list us
+
+-- the bracket that opens it
+abbrev pub opening : Bracket → Token
+opening brace = text.open_brace
+opening bracket = text.open_bracket
+
+-- the bracket that closes it
+abbrev pub closing : Bracket → Token
+closing brace = text.close_brace
+closing bracket = text.close_bracket
+
+-- a tuple has at most 255 elements, a list 4,096
+abbrev pub most : Bracket → ℕ
+most brace = 255
+most bracket = 4096
+
+-- what a token does: it is a term, opens or closes a bracket, separates terms, or has no place in a term
+pub data Sort : Type 0 where
+  leaf : Tree → Sort
+  opens : Bracket → Sort
+  closes : Bracket → Sort
+  separates : Sort
+  nothing : Sort
+
+-- by cases on the token
+abbrev pub sort : Token → Sort
+sort text.open_brace = opens brace
+sort text.open_bracket = opens bracket
+sort text.close_brace = closes brace
+sort text.close_bracket = closes bracket
+sort text.comma = separates
+sort text.stop = nothing
+sort (text.integer n) = leaf (int n)
+sort (text.atom s) = leaf (atom s)
+sort (text.characters s) = leaf (list (of_codes s))
+sort (text.pid n) = leaf (pid n)
+sort text.bad = nothing
+
+-- the place of the next token: behind an opening bracket, where a term must come, or behind a term
+pub data Place : Type 0 where
+  first : Place
+  next : Place
+  behind : Place
+
+-- the elements so far of a tuple or list that is open
+pub data Frame : Type 0 where
+  frame : Bracket → List Tree → Frame
+
+-- within the open tuples and lists, the innermost first; or at the term's end
+pub data State : Type 0 where
+  inside : Place → List Frame → State
+  done : Tree → State
+
+-- nothing is read yet
+abbrev pub start : State
+start = inside next []
+
+-- a term stands where one may stand
+abbrev pub put : Tree → List Frame → State
+put t [] = done t
+put t (frame b f ∷ fs) = inside behind (frame b (f ++ t ∷ []) ∷ fs)
+
+-- a term that is one token: refused too deep before too large
+abbrev pub leaf_at : ℕ → Bool → Tree → List Frame → Result State Kind
+leaf_at limit sized t fs = cond (nat_le (length fs + depth t) limit) (cond (sizes_ok sized t) (Ok (put t fs)) (Err too_large)) (Err too_deep)
+
+-- an opening bracket: refused where it would open one level more than the limit
+abbrev pub open_at : ℕ → Bracket → List Frame → Result State Kind
+open_at limit b fs = cond (nat_lt (length fs) limit) (Ok (inside first (frame b [] ∷ fs))) (Err too_deep)
+
+-- a closing bracket: it must be of the kind that is open
+abbrev pub close_top : Bracket → List Frame → Result State Kind
+close_top b [] = Err misplaced
+close_top brace (frame brace f ∷ fs) = Ok (put (tuple (of_elements f)) fs)
+close_top brace (frame bracket f ∷ fs) = Err misplaced
+close_top bracket (frame brace f ∷ fs) = Err misplaced
+close_top bracket (frame bracket f ∷ fs) = Ok (put (list (of_elements f)) fs)
+
+-- there may be one more element behind so many
+abbrev pub has_room : Bool → Bracket → ℕ → Bool
+has_room false b n = true
+has_room true b n = nat_lt n (most b)
+
+-- a comma: refused behind the last element that there may be
+abbrev pub comma_at : Bool → List Frame → Result State Kind
+comma_at sized [] = Err misplaced
+comma_at sized (frame b f ∷ fs) = cond (has_room sized b (length f)) (Ok (inside next (frame b f ∷ fs))) (Err too_large)
+
+-- by cases on the place and on what the token does
+abbrev pub act : ℕ → Bool → State → Sort → Result State Kind
+act limit sized (done t) k = Err misplaced
+act limit sized (inside first fs) (leaf t) = leaf_at limit sized t fs
+act limit sized (inside first fs) (opens b) = open_at limit b fs
+act limit sized (inside first fs) (closes b) = close_top b fs
+act limit sized (inside first fs) separates = Err misplaced
+act limit sized (inside first fs) nothing = Err misplaced
+act limit sized (inside next fs) (leaf t) = leaf_at limit sized t fs
+act limit sized (inside next fs) (opens b) = open_at limit b fs
+act limit sized (inside next fs) (closes b) = Err misplaced
+act limit sized (inside next fs) separates = Err misplaced
+act limit sized (inside next fs) nothing = Err misplaced
+act limit sized (inside behind fs) (leaf t) = Err misplaced
+act limit sized (inside behind fs) (opens b) = Err misplaced
+act limit sized (inside behind fs) (closes b) = close_top b fs
+act limit sized (inside behind fs) separates = comma_at sized fs
+act limit sized (inside behind fs) nothing = Err misplaced
+
+-- one token
+abbrev pub step : ℕ → Bool → State → Token → Result State Kind
+step limit sized s x = act limit sized s (sort x)
+
+-- goes on, or is refused at the first of these tokens
+abbrev pub after_step : Result State Kind → (State → Result State Refusal) → List Token → Result State Refusal
+after_step (Ok s) go ts = go s
+after_step (Err k) go ts = Err (k, ts)
+
+-- one token after the other
+abbrev pub run : ℕ → Bool → State → List Token → Result State Refusal
+run limit sized s [] = Ok s
+run limit sized s (x ∷ xs) = after_step (step limit sized s x) (λ s'. run limit sized s' xs) (x ∷ xs)
+
+-- where the tokens end before the term does, the refusal has none left
+abbrev pub finish : Result State Refusal → Result Tree Refusal
+finish (Err r) = Err r
+finish (Ok (done t)) = Ok t
+finish (Ok (inside p fs)) = Err (misplaced, [])
+
+-- the term that the tokens derive, or the refusal
+abbrev pub read : ℕ → Bool → List Token → Result Tree Refusal
+read limit sized ts = finish (run limit sized start ts)

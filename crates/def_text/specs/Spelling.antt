@@ -1,0 +1,38 @@
+-- Which term a text spells, and how a text that spells none is refused.
+-- Stands on the tokens, the grammar, the limits and the first fault.
+use Rattle.std.specs.Prelude.{◌≡◌, ℕ, ◌≤◌, List, [], ◌∷◌, ◌++◌, length, map, true}
+use Rattle.def_term.specs.Tree.{Tree}
+use Rattle.def_text.specs.Tokens.{Token, Spanned, Tokens}
+use Rattle.def_text.specs.Grammar.{Derives}
+use Rattle.def_text.specs.Limits.{DEPTH, Fits}
+use Rattle.def_text.specs.Faults.{Kind, IsFirstFault}
+
+-- a text has at most 1,048,576 bytes (own)
+abbrev pub LENGTH : ℕ
+LENGTH = 1048576
+
+-- the tokens without their offsets
+abbrev pub tokens_of : List Spanned → List Token
+tokens_of xs = map (λ x. x.token) xs
+
+-- the tokens of the bytes derive the term within the limits
+pub record Spells (bytes : List ℕ) (t : Tree) : Type 0 where
+  pub short : length bytes ≤ LENGTH
+  pub tokens : List Spanned
+  pub are : Tokens bytes tokens
+  pub derives : Derives (tokens_of tokens) t
+  pub fits : Fits DEPTH true t
+
+-- the offset of the first byte of the first of these tokens, or the text's length where none is left
+abbrev pub place : ℕ → List Spanned → ℕ
+place end [] = end
+place end (x ∷ xs) = x.from
+
+-- refused so at that offset, that of the first byte of the refused token
+pub record Refused (bytes : List ℕ) (kind : Kind) (at : ℕ) : Type 0 where
+  pub short : length bytes ≤ LENGTH
+  pub front : List Spanned
+  pub rest : List Spanned
+  pub are : Tokens bytes (front ++ rest)
+  pub first : IsFirstFault DEPTH (tokens_of (front ++ rest)) (kind, tokens_of rest)
+  pub offset : at ≡ place (length bytes) rest
