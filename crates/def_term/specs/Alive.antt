@@ -1,5 +1,5 @@
 -- Which of the pids 100 to 163 live: those of the processes that one run may start (own).
-use Rattle.std.specs.Prelude.{ℕ, ◌-◌, nat_le, Bool, true, false, ◌&&◌, List, [], ◌∷◌, slice_get, slice_set, suc, if◌then◌else◌}
+use Rattle.std.specs.Prelude.{ℕ, ◌-◌, nat_le, Bool, false, ◌&&◌, List, count_by, slice_get, slice_set}
 use Rattle.std.specs.Option.{unwrap_or}
 
 -- for each of the pids from 100 on, whether it lives
@@ -14,5 +14,4 @@ with_alive alive n b = slice_set alive (n - 100) b
 
 -- how many live
 abbrev pub living_count : Alive → ℕ
-living_count [] = 0
-living_count (b ∷ bs) = if b then suc (living_count bs) else living_count bs
+living_count alive = count_by (λ b. b) alive

@@ -7,6 +7,9 @@ use Rattle.def_node.specs.Event as event
 use Rattle.tn_flags.specs.declared.event.Event.{Event}
 use Rattle.tn_flags.specs.declared.event.Event.TheVariants.{Sent, Received, Called, Returned, Spawn, Spawned, Exited, Linked, Unlinked, GettingLinked, GettingUnlinked}
 use Rattle.tn_flags.specs.declared.event.Call.{Call}
+use Rattle.def_spec.specs.Flags as flag
+use Rattle.def_spec.specs.Flags.{send_flag, receive_flag, call_flag, procs_flag, silent_flag, arity_flag, set_on_spawn, set_on_first_spawn, set_on_link, set_on_first_link}
+use Rattle.tn_flags.specs.declared.flags.Flags.{Flags}
 use Rattle.tn_flags.specs.declared.command.Command.{Command}
 use Rattle.tn_flags.specs.declared.command.Command.TheVariants.{SessionCreate, SessionDestroy, Process, Function, Send, Recv}
 
@@ -33,3 +36,16 @@ command_of (Process s procs how flags) = program.set_processes s (tree_of procs)
 command_of (Function s mfa spec options) = program.set_function s (tree_of mfa) (tree_of spec) (tree_of options)
 command_of (Send s spec) = program.set_send s (tree_of spec)
 command_of (Recv s spec) = program.set_receive s (tree_of spec)
+
+-- whether a flag is in a set
+abbrev pub flags_of : Flags → flag.Flags
+flags_of s send_flag = s.send
+flags_of s receive_flag = s.receive
+flags_of s call_flag = s.call
+flags_of s procs_flag = s.procs
+flags_of s silent_flag = s.silent
+flags_of s arity_flag = s.arity
+flags_of s set_on_spawn = s.set_on_spawn
+flags_of s set_on_first_spawn = s.set_on_first_spawn
+flags_of s set_on_link = s.set_on_link
+flags_of s set_on_first_link = s.set_on_first_link

@@ -1,10 +1,14 @@
-//! What passes between the node, the control list and the sessions: events and commands.
+//! What passes between the node, the control list and the sessions: events and commands; and the flags
+//! of processes.
 //!
-//! Stands on tn_term.
+//! Stands on tn_term and on the definitions. Promises that `Flags` is a set of ten, and that
+//! `inherit_spawn` and `inherit_link` are the rules of inheritance.
 #![tactic(auto)]
 
 mod command;
 mod event;
+mod flags;
 
 pub use command::Command;
 pub use event::{Call, Event};
+pub use flags::{Flags, flag_of, inherit_link, inherit_spawn};

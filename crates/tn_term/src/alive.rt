@@ -1,5 +1,5 @@
 // Which processes live.
-ghost use Rattle.std.specs.Prelude.{◌≡◌, ◌≤◌, ◌+◌, true, false, replicate};
+ghost use Rattle.std.specs.Prelude.{◌≡◌, ◌≤◌, ◌-◌, ◌++◌, true, false, replicate, slice_get, unwrap_or};
 ghost use Rattle.def_term.specs.Alive.{is_alive, with_alive, living_count};
 ghost use Rattle.tn_term.specs.Views.{alive_of};
 
@@ -16,6 +16,18 @@ pub struct Alive {
 }
 
 impl Alive {
+    /// The processes of the first pids from 100 on live, as many as there are.
+    pub fn first(count: usize) -> Alive
+        requires { count ≤ 64 }
+        ensures { alive_of result ≡ replicate count true ++ replicate (64 - count) false }
+    {
+        let mut alive = Alive::none();
+        for place in 0..count {
+            alive.slots[place] = true;
+        }
+        alive
+    }
+
     /// No process lives.
     pub fn none() -> Alive
         ensures { alive_of result ≡ replicate 64 false }
@@ -34,21 +46,44 @@ impl Alive {
         place < self.slots.len() && self.slots[place]
     }
 
-    /// The process with this pid lives from now on.
+    /// Whether the process at this place lives; the place of pid 100 is 0.
+    pub fn has_place(&self, place: usize) -> bool
+        ensures { result ≡ unwrap_or (slice_get (alive_of self.now) place) false }
+    {
+        match self.slots.get(place) {
+            Some(lives) => *lives,
+            None => false,
+        }
+    }
+
+    /// The process with this pid lives from now on, where it is one of 100 to 163.
     pub fn add(&mut self, pid: u32)
-        requires low { 100 ≤ pid }
-        requires high { pid ≤ 163 }
         ensures { alive_of self.new ≡ with_alive (alive_of self.old) pid true }
     {
-        self.slots[(pid - FIRST_PID) as usize] = true;
+        self.put(pid, true);
     }
 
     /// The process with this pid lives no longer.
     pub fn remove(&mut self, pid: u32)
-        requires low { 100 ≤ pid }
-        requires high { pid ≤ 163 }
         ensures { alive_of self.new ≡ with_alive (alive_of self.old) pid false }
     {
-        self.slots[(pid - FIRST_PID) as usize] = false;
+        self.put(pid, false);
+    }
+
+    /// How many processes live.
+    pub fn count(&self) -> u8
+        ensures { result ≡ living_count (alive_of self.now) }
+    {
+        let living = self.slots.iter().filter(|lives| **lives).count();
+        living as u8
+    }
+
+    fn put(&mut self, pid: u32, lives: bool)
+        ensures { alive_of self.new ≡ with_alive (alive_of self.old) pid lives }
+    {
+        let place = pid.saturating_sub(FIRST_PID) as usize;
+        if place < self.slots.len() {
+            self.slots[place] = lives;
+        }
     }
 }

@@ -16,4 +16,4 @@ mod term;
 pub use alive::{Alive, FIRST_PID, PROCESSES};
 pub use atom::Atom;
 pub use mfa::Mfa;
-pub use term::Term;
+pub use term::{Term, copy_terms};

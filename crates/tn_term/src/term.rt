@@ -1,6 +1,7 @@
 // A term.
 ghost use Rattle.std.specs.Prelude.{◌≡◌, ◌↔◌, IfOk, IsTrue, map};
-ghost use Rattle.def_term.specs.Order.{tree_cmp};
+ghost use Rattle.def_term.specs.Tree.{atom};
+ghost use Rattle.def_term.specs.Order.{tree_cmp, same};
 ghost use Rattle.tn_term.specs.Views.{tree_of};
 
 use crate::atom::Atom;
@@ -45,13 +46,14 @@ fn copy_term<A: Allocator, B: Allocator + Copy>(term: &Term<A>, b: B) -> Result<
         Term::Int(n) => Ok(Term::Int(*n)),
         Term::Atom(a) => Ok(Term::Atom(a.copy_into(b)?)),
         Term::Pid(n) => Ok(Term::Pid(*n)),
-        Term::Tuple(v) => Ok(Term::Tuple(copy_all(v, b)?)),
-        Term::List(v) => Ok(Term::List(copy_all(v, b)?)),
+        Term::Tuple(v) => Ok(Term::Tuple(copy_terms(v, b)?)),
+        Term::List(v) => Ok(Term::List(copy_terms(v, b)?)),
     }
 }
 
+/// Copies of terms in another allocator, in order.
 #[cycle(copy)]
-fn copy_all<A: Allocator, B: Allocator + Copy>(
+pub fn copy_terms<A: Allocator, B: Allocator + Copy>(
     items: &Vec<Term<A>, A>,
     b: B,
 ) -> Result<Vec<Term<B>, B>, AllocError>
@@ -62,4 +64,16 @@ fn copy_all<A: Allocator, B: Allocator + Copy>(
         copies.push(copy_term(item, b)?)?;
     }
     Ok(copies)
+}
+
+impl<A: Allocator> Term<A> {
+    /// Whether it is the atom of this text.
+    pub fn is_word(&self, text: &str) -> bool
+        ensures { result ≡ same (tree_of self.now) (atom text.now) }
+    {
+        match self {
+            Term::Atom(name) => name.text() == text,
+            _ => false,
+        }
+    }
 }

@@ -1,0 +1,81 @@
+-- Tokens by their kinds, and where they stand in a text.
+use Rattle.std.proofs.Common.{◌≡◌, ◌≢◌, ℕ, ◌+◌, ◌-◌, ◌≤◌, List, [], ◌∷◌, length, take, drop, true, false, Result, refl, ap, sym, ◌∙◌, subst, arith}
+use Rattle.std.proofs.lemmas.Bool.{and_parts, and_from}
+use Rattle.std.proofs.lemmas.Bool.Decides.{nat_tests}
+use Rattle.std.proofs.lemmas.List.{drop-drop, take_at}
+use Rattle.def_term.specs.Tree.{atom}
+use Rattle.def_term.specs.Text.{is_lower, is_name, is_name_byte, are_name_bytes}
+use Rattle.def_text.specs.Tokens as text
+use Rattle.def_text.specs.Tokens.{open_brace, close_brace, open_bracket, close_bracket, comma, stop, integer, characters, pid, bad, gap_len, all_are, is_printable, IsBare, IsQuoted, IsToken, Stands}
+use Rattle.def_text.specs.Scan.{IsOf}
+use Rattle.def_text.specs.Reading.{Frame, inside, next, leaf_at, step}
+use Rattle.def_text.specs.Faults.{Kind}
+use Rattle.tn_text.specs.declared.lexer.Token.{Token}
+use Rattle.tn_text.specs.declared.stack.Progress.{Progress}
+use Rattle.tn_text.specs.declared.stack.StepError.{StepError}
+use Rattle.tn_text.specs.declared.stack.StepError.TheVariants.{OutOfMemory, Misplaced, TooDeep, TooLarge}
+use Rattle.tn_text.specs.declared.fault.TextFault.{TextFault}
+use Rattle.tn_text.specs.Kinds.{kind_of}
+use Rattle.tn_text.specs.Lexing.{Stood}
+use Rattle.tn_text.specs.Stack.{Steps, IsErrorOf, IsFaultOf, fault_of}
+
+lower_printable : (b : ℕ) → is_lower b ≡ true → is_printable b ≡ true
+lower_printable b h = grind (arith, nat_tests)
+
+name_byte_printable : (b : ℕ) → is_name_byte b ≡ true → is_printable b ≡ true
+name_byte_printable b h = grind (arith, nat_tests)
+
+names_printable : (s : List ℕ) → are_name_bytes s ≡ true → all_are is_printable s ≡ true
+names_printable [] h = refl
+names_printable (b ∷ s) h = let p = and_parts (is_name_byte b) (are_name_bytes s) h in and_from (is_printable b) (all_are is_printable s) (name_byte_printable b p.0) (names_printable s p.1)
+
+bare_printable : (s : List ℕ) → is_name s ≡ true → all_are is_printable s ≡ true
+bare_printable [] h = absurd (cc)
+bare_printable (b ∷ s) h = let p = and_parts (is_lower b) (are_name_bytes s) h in and_from (is_printable b) (all_are is_printable s) (lower_printable b p.0) (names_printable s p.1)
+
+pub enters_bare : {A : Type 0} (r : Result (Progress A) StepError) (u rest s : List ℕ) (t : text.Token) (fs : List Frame)
+    → (all_are is_printable u ≡ true → Steps r (leaf_at 32 true (atom u) fs)) → t ≡ text.atom s → IsBare u rest s → Steps r (step 32 true (inside next fs) t)
+enters_bare r u rest s t fs h e b =
+    subst (λ x. Steps r (step 32 true (inside next fs) x)) (sym e)
+    (subst (λ x. Steps r (leaf_at 32 true (atom x) fs)) b.text (h (subst (λ x. all_are is_printable x ≡ true) (sym b.text) (bare_printable s b.name))))
+
+pub enters_quoted : {A : Type 0} (r : Result (Progress A) StepError) (u s : List ℕ) (t : text.Token) (fs : List Frame)
+    → ((s : List ℕ) → IsQuoted 39 u s → Steps r (leaf_at 32 true (atom s) fs)) → t ≡ text.atom s → IsQuoted 39 u s → Steps r (step 32 true (inside next fs) t)
+enters_quoted r u s t fs h e q = subst (λ x. Steps r (step 32 true (inside next fs) x)) (sym e) (h s q)
+
+good_token : (t : text.Token) (u rest : List ℕ) → Stands u rest t → (t ≢ bad) → IsToken u rest t
+good_token bad u rest h g = absurd (g refl)
+good_token open_brace u rest h g = h
+good_token close_brace u rest h g = h
+good_token open_bracket u rest h g = h
+good_token close_bracket u rest h g = h
+good_token comma u rest h g = h
+good_token stop u rest h g = h
+good_token (integer n) u rest h g = h
+good_token (text.atom s) u rest h g = h
+good_token (characters s) u rest h g = h
+good_token (pid n) u rest h g = h
+
+-- the bytes of the token
+pub span_is : (bytes : List ℕ) (at : ℕ) (v : Token) (s : Stood bytes at v) → take (v.to - v.from) (drop v.from bytes) ≡ s.token
+span_is bytes at v s =
+    let gap = gap_len false (drop at bytes) in
+    let from : v.from ≡ at + gap = s.from ∙ s.next.from in
+    let to : v.to ≡ s.spanned.from + length s.token = s.to ∙ s.next.to in
+    let long : length s.token ≡ v.to - v.from = let a = s.from in omega (arith, a, to) in
+    ap (λ x. take (v.to - v.from) x) (ap (λ n. drop n bytes) from ∙ sym (drop-drop gap at bytes) ∙ s.next.split) ∙ take_at s.token (drop v.to bytes) (v.to - v.from) long
+
+pub span_token : (bytes : List ℕ) (at : ℕ) (v : Token) (s : Stood bytes at v) → IsToken (take (v.to - v.from) (drop v.from bytes)) (drop v.to bytes) s.spanned.token
+span_token bytes at v s = subst (λ u. IsToken u (drop v.to bytes) s.spanned.token) (sym (span_is bytes at v s)) (good_token s.spanned.token s.token (drop v.to bytes) s.next.stands s.good)
+
+pub span_kind : (bytes : List ℕ) (at : ℕ) (v : Token) (s : Stood bytes at v) → IsOf (kind_of v.kind) (take (v.to - v.from) (drop v.from bytes)) (drop v.to bytes) s.spanned.token
+span_kind bytes at v s = subst (λ u. IsOf (kind_of v.kind) u (drop v.to bytes) s.spanned.token) (sym (span_is bytes at v s)) s.kind
+
+pub span_ordered : (bytes : List ℕ) (at : ℕ) (v : Token) (s : Stood bytes at v) → v.from ≤ v.to
+span_ordered bytes at v s = let a = s.from in let b = s.to in let d = s.next.to in omega (arith, a, b, d)
+
+pub refused_at : {S : Type 0} (e : StepError) (f : TextFault) (from : ℕ) (r : Result S Kind) → f ≡ fault_of e from → IsErrorOf e r → IsFaultOf f from r
+refused_at OutOfMemory f from r is h = subst (λ x. IsFaultOf x from r) (sym is) tt
+refused_at Misplaced f from r is h = subst (λ x. IsFaultOf x from r) (sym is) (refl, h)
+refused_at TooDeep f from r is h = subst (λ x. IsFaultOf x from r) (sym is) (refl, h)
+refused_at TooLarge f from r is h = subst (λ x. IsFaultOf x from r) (sym is) (refl, h)

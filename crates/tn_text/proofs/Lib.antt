@@ -1,0 +1,9 @@
+pub mod Reserved
+pub mod Listing
+pub mod Numbers
+pub mod Content
+pub mod Frames
+pub mod Leaves
+pub mod Entering
+pub mod Reading
+pub mod Scripts

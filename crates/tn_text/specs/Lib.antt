@@ -1,0 +1,7 @@
+pub mod Kinds
+pub mod Lexing
+pub mod Values
+pub mod Stack
+pub mod Answers
+pub mod Writes
+pub mod Watch

@@ -1,0 +1,28 @@
+//! The text of terms, read and written.
+//!
+//! Stands on `def_text` (tokens, grammar, limits, refusals) and `tn_term`. Promises: `tokens` gives
+//! exactly the tokens of a text; `read_term` and `read_terms` answer what the text spells, or its
+//! refusal with its place; `write_term` appends the one written text of a term; a `Watched` reader or
+//! writer remembers whether a call of it failed.
+#![tactic(auto)]
+
+mod fault;
+mod leaf;
+mod lexer;
+mod name;
+mod reader;
+mod scan;
+mod stack;
+mod value;
+mod watched;
+mod write;
+
+pub use fault::TextFault;
+pub use lexer::{Token, tokens};
+pub use reader::{read_term, read_terms};
+pub use scan::Kind;
+pub use watched::Watched;
+pub use write::write_term;
+
+#[cfg(test)]
+mod tests;

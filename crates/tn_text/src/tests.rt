@@ -1,0 +1,208 @@
+// Texts of the limits, of comments and strings, and what is written back.
+use crate::{Kind, TextFault, Watched, read_term, read_terms, tokens, write_term};
+use std::alloc::{AllocError, Allocator};
+use std::io::{Read, Write};
+use std::test::Fail;
+
+// the number of the refusal and its place
+fn number(fault: TextFault) -> (u8, usize) {
+    match fault {
+        TextFault::TooLong => (1, 0),
+        TextFault::Token { at } => (2, at),
+        TextFault::TooDeep { at } => (3, at),
+        TextFault::TooLarge { at } => (4, at),
+        TextFault::OutOfMemory => (99, 0),
+    }
+}
+
+// the same, or 0 where a term is read
+fn refusal<A: Allocator + Copy>(alloc: A, text: &[u8]) -> (u8, usize) {
+    match read_term(alloc, text) {
+        Ok(_) => (0, 0),
+        Err(fault) => number(fault),
+    }
+}
+
+fn script_refusal<A: Allocator + Copy>(alloc: A, text: &[u8]) -> (u8, usize) {
+    match read_terms(alloc, text) {
+        Ok(_) => (0, 0),
+        Err(fault) => number(fault),
+    }
+}
+
+// `open`, that many of `item` with a comma between any two, `close`
+fn many<A: Allocator + Copy>(
+    alloc: A,
+    open: &[u8],
+    item: &[u8],
+    count: usize,
+    close: &[u8],
+) -> Result<Vec<u8, A>, AllocError> {
+    let mut text = Vec::new(alloc);
+    text.extend_from_slice(open)?;
+    for i in 0..count {
+        if i > 0 {
+            text.push(b',')?;
+        }
+        text.extend_from_slice(item)?;
+    }
+    text.extend_from_slice(close)?;
+    Ok(text)
+}
+
+fn repeated<A: Allocator + Copy>(
+    alloc: A,
+    open: &[u8],
+    byte: u8,
+    count: usize,
+    close: &[u8],
+) -> Result<Vec<u8, A>, AllocError> {
+    let mut text = Vec::new(alloc);
+    text.extend_from_slice(open)?;
+    for _ in 0..count {
+        text.push(byte)?;
+    }
+    text.extend_from_slice(close)?;
+    Ok(text)
+}
+
+#[test]
+fn terms_are_read_and_written(rt: HostRuntime) -> Result<(), Fail> {
+    let alloc = rt.alloc();
+    let mut out = Vec::new(alloc);
+    write_term(&read_term(alloc, b"\"hi\" % a string")?, &mut out)?;
+    assert_eq!(rt; out.as_slice(), b"[104,105]".as_slice());
+    out.clear();
+    write_term(
+        &read_term(
+            alloc,
+            b"{'receive', 'a b',\t'it\\'s', maybe, -9223372036854775808, <0.104.0>, []}",
+        )?,
+        &mut out,
+    )?;
+    assert_eq!(rt;
+        out.as_slice(),
+        b"{'receive','a b','it\\'s','maybe',-9223372036854775808,<0.104.0>,[]}".as_slice()
+    );
+    Ok(())
+}
+
+#[test]
+fn short_texts(rt: HostRuntime) -> Result<(), Fail> {
+    let alloc = rt.alloc();
+    assert_eq!(rt; refusal(alloc, b"-9223372036854775809"), (4, 0));
+    assert_eq!(rt; refusal(alloc, b"<0.4294967295.0>"), (0, 0));
+    assert_eq!(rt; refusal(alloc, b"<0.4294967296.0>"), (4, 0));
+    assert_eq!(rt; refusal(alloc, b"<0.007.0>"), (2, 0));
+    assert_eq!(rt; refusal(alloc, b"a. "), (2, 1));
+    assert_eq!(rt; refusal(alloc, b"% nothing"), (2, 9));
+    assert_eq!(rt; script_refusal(alloc, b"{control,["), (2, 10));
+    assert_eq!(rt; script_refusal(alloc, b"{control,[]}"), (2, 12));
+    assert_eq!(rt; script_refusal(alloc, b"{a b}."), (2, 3));
+    assert_eq!(rt; script_refusal(alloc, b"X."), (2, 0));
+    assert_eq!(rt; script_refusal(alloc, b"1.5."), (2, 1));
+    Ok(())
+}
+
+#[test]
+fn limits(rt: HostRuntime) -> Result<(), Fail> {
+    let alloc = rt.alloc();
+    assert_eq!(rt;
+        refusal(alloc, many(alloc, b"[", b"0", 4096, b"]")?.as_slice()),
+        (0, 0)
+    );
+    assert_eq!(rt;
+        refusal(alloc, many(alloc, b"[", b"0", 4097, b"]")?.as_slice()),
+        (4, 8192)
+    );
+    assert_eq!(rt;
+        refusal(alloc, many(alloc, b"{", b"0", 255, b"}")?.as_slice()),
+        (0, 0)
+    );
+    assert_eq!(rt;
+        refusal(alloc, many(alloc, b"{", b"0", 256, b"}")?.as_slice()),
+        (4, 510)
+    );
+    assert_eq!(rt;
+        refusal(alloc, repeated(alloc, b"\"", b'a', 4096, b"\"")?.as_slice()),
+        (0, 0)
+    );
+    assert_eq!(rt;
+        refusal(alloc, repeated(alloc, b"\"", b'a', 4097, b"\"")?.as_slice()),
+        (4, 0)
+    );
+    assert_eq!(rt;
+        refusal(alloc, repeated(alloc, b"", b'a', 255, b"")?.as_slice()),
+        (0, 0)
+    );
+    assert_eq!(rt;
+        refusal(alloc, repeated(alloc, b"", b'a', 256, b"")?.as_slice()),
+        (4, 0)
+    );
+    let closed = repeated(alloc, b"", b']', 32, b"")?;
+    assert_eq!(rt;
+        refusal(
+            alloc,
+            repeated(alloc, b"", b'[', 32, closed.as_slice())?.as_slice()
+        ),
+        (0, 0)
+    );
+    assert_eq!(rt;
+        refusal(
+            alloc,
+            repeated(alloc, b"", b'[', 33, closed.as_slice())?.as_slice()
+        ),
+        (3, 32)
+    );
+    assert_eq!(rt;
+        script_refusal(
+            alloc,
+            repeated(alloc, b"", b' ', 1_048_576, b"")?.as_slice()
+        ),
+        (0, 0)
+    );
+    assert_eq!(rt;
+        script_refusal(
+            alloc,
+            repeated(alloc, b"", b' ', 1_048_577, b"")?.as_slice()
+        ),
+        (1, 0)
+    );
+    Ok(())
+}
+
+#[test]
+fn tokens_and_scripts(rt: HostRuntime) -> Result<(), Fail> {
+    let alloc = rt.alloc();
+    let found = tokens(alloc, b" % no token\n-07 'it\\'s'. % end")?;
+    assert_eq!(rt; found.len(), 3);
+    assert_eq!(rt;
+        (found[0].kind, found[0].from, found[0].to),
+        (Kind::Integer, 12, 15)
+    );
+    assert_eq!(rt;
+        (found[2].kind, found[2].from, found[2].to),
+        (Kind::Stop, 23, 24)
+    );
+    let terms = read_terms(alloc, b"{process,m,go,[]}. % one\n[1,\"a\"].")?;
+    assert_eq!(rt; terms.len(), 2);
+    let mut out = Vec::new(alloc);
+    write_term(&terms[1], &mut out)?;
+    assert_eq!(rt; out.as_slice(), b"[1,[97]]".as_slice());
+    Ok(())
+}
+
+#[test]
+fn watched_ends(rt: HostRuntime) -> Result<(), Fail> {
+    let mut reader = Watched::of(b"abc".as_slice());
+    let mut bytes = [0u8; 2];
+    assert_eq!(rt; reader.read(&mut bytes)?, 2);
+    assert_eq!(rt; bytes, [b'a', b'b']);
+    assert!(rt; !reader.failed());
+    let mut writer = Watched::of(Vec::new(rt.alloc()));
+    assert_eq!(rt; writer.write(b"xy")?, 2);
+    writer.flush()?;
+    assert!(rt; !writer.failed());
+    assert_eq!(rt; writer.into_inner().as_slice(), b"xy".as_slice());
+    Ok(())
+}

@@ -1,0 +1,126 @@
+// Writing terms.
+ghost use Rattle.std.specs.Prelude.{◌≡◌, ◌++◌, ◌∷◌, [], OnOk, OnErr, flat_map, codes, decimal};
+ghost use Rattle.std.specs.Fmt.{signed_decimal};
+ghost use Rattle.def_term.specs.Text.{w, joined, atom_text, pid_text, escaped};
+ghost use Rattle.tn_term.specs.Views.{tree_of, trees_of};
+ghost use Rattle.tn_text.specs.Writes.{Grows};
+
+use crate::name::is_bare;
+use itoa::Buffer;
+use std::alloc::{AllocError, Allocator};
+use tn_term::Term;
+
+/// Appends the one written text of a term, as `~w` of `io_lib` writes it: no blanks, strings as lists,
+/// atoms quoted where they need it; `maybe` and `else` are quoted too (own). After an `Err` the vector
+/// is as it was.
+pub fn write_term<A: Allocator, B: Allocator>(
+    term: &Term<A>,
+    out: &mut Vec<u8, B>,
+) -> Result<(), AllocError>
+    ensures ok { OnOk result (out.new.items ≡ out.old.items ++ w (tree_of term.now)) }
+    ensures err { OnErr result (out.new.items ≡ out.old.items) }
+{
+    let len = out.len();
+    let done = put(term, out);
+    if done.is_err() {
+        out.truncate(len);
+    }
+    done
+}
+
+#[cycle(put)]
+fn put<A: Allocator, B: Allocator>(term: &Term<A>, out: &mut Vec<u8, B>) -> Result<(), AllocError>
+    ensures ok { OnOk result (out.new.items ≡ out.old.items ++ w (tree_of term.now)) }
+    ensures grows { Grows out.old.items out.new.items }
+{
+    match term {
+        Term::Int(n) => put_integer(*n, out),
+        Term::Atom(a) => put_atom(a.text(), out),
+        Term::Pid(n) => put_pid(*n, out),
+        Term::Tuple(v) => {
+            out.push(b'{')?;
+            put_all(v, out)?;
+            out.push(b'}')?;
+            Ok(())
+        }
+        Term::List(v) => {
+            out.push(b'[')?;
+            put_all(v, out)?;
+            out.push(b']')?;
+            Ok(())
+        }
+    }
+}
+
+#[cycle(put)]
+fn put_all<A: Allocator, B: Allocator>(
+    items: &Vec<Term<A>, A>,
+    out: &mut Vec<u8, B>,
+) -> Result<(), AllocError>
+    ensures ok { OnOk result (out.new.items ≡ out.old.items ++ joined (trees_of items.now.items)) }
+    ensures grows { Grows out.old.items out.new.items }
+{
+    if items.is_empty() {
+        return Ok(());
+    }
+    put(&items[0], out)?;
+    for i in 1..items.len() {
+        out.push(b',')?;
+        put(&items[i], out)?;
+    }
+    Ok(())
+}
+
+fn put_integer<B: Allocator>(n: i64, out: &mut Vec<u8, B>) -> Result<(), AllocError>
+    ensures ok { OnOk result (out.new.items ≡ out.old.items ++ signed_decimal n) }
+    ensures grows { Grows out.old.items out.new.items }
+{
+    let mut buffer = Buffer::new();
+    out.extend_from_slice(buffer.format(n).as_bytes())
+}
+
+fn put_pid<B: Allocator>(n: u32, out: &mut Vec<u8, B>) -> Result<(), AllocError>
+    ensures ok { OnOk result (out.new.items ≡ out.old.items ++ pid_text n) }
+    ensures grows { Grows out.old.items out.new.items }
+{
+    let mut buffer = Buffer::new();
+    out.extend_from_slice(b"<0.")?;
+    out.extend_from_slice(buffer.format(n).as_bytes())?;
+    out.extend_from_slice(b".0>")
+}
+
+fn put_atom<B: Allocator>(text: &str, out: &mut Vec<u8, B>) -> Result<(), AllocError>
+    ensures ok { OnOk result (out.new.items ≡ out.old.items ++ atom_text text.now) }
+    ensures grows { Grows out.old.items out.new.items }
+{
+    if is_bare(text) {
+        return out.extend_from_slice(text.as_bytes());
+    }
+    out.push(b'\'')?;
+    put_escaped(text.as_bytes(), out)?;
+    out.push(b'\'')?;
+    Ok(())
+}
+
+fn put_escaped<B: Allocator>(bytes: &[u8], out: &mut Vec<u8, B>) -> Result<(), AllocError>
+    ensures ok { OnOk result (out.new.items ≡ out.old.items ++ flat_map escaped bytes.now) }
+    ensures grows { Grows out.old.items out.new.items }
+{
+    for b in bytes {
+        put_byte(*b, out)?;
+    }
+    Ok(())
+}
+
+fn put_byte<B: Allocator>(b: u8, out: &mut Vec<u8, B>) -> Result<(), AllocError>
+    ensures ok { OnOk result (out.new.items ≡ out.old.items ++ escaped b) }
+    ensures grows { Grows out.old.items out.new.items }
+{
+    if b == b'\'' || b == b'\\' {
+        out.push(b'\\')?;
+        out.push(b)?;
+        return Ok(());
+    }
+    out.push(b)?;
+    Ok(())
+}
