@@ -2,3 +2,4 @@ pub mod Event
 pub mod Values
 pub mod Process
 pub mod Node
+pub mod Limits

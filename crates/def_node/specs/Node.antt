@@ -56,6 +56,15 @@ delivered w n m t = delivered_to w n m t (living w m)
 abbrev pub is_linked : Process → ℕ → Bool
 is_linked q m = nat_le 100 m && unwrap_or (slice_get q.links (m - 100)) false
 
+-- whether the process at this place is linked to m
+abbrev pub linked_in : Option (Option Process) → ℕ → Bool
+linked_in None m = false
+linked_in (Some None) m = false
+linked_in (Some (Some q)) m = is_linked q m
+
+abbrev pub linked_at : World → ℕ → ℕ → Bool
+linked_at w i m = linked_in (slice_get w.slots i) m
+
 abbrev pub with_link : ℕ → Bool → Process → Process
 with_link m b q = record q { links = slice_set q.links (m - 100) b }
 
@@ -67,28 +76,28 @@ first_signal (Some s) r = Some s
 abbrev pub with_signal : Tree → Process → Process
 with_signal r q = record q { signal = first_signal q.signal r }
 
--- the process n, which is q at the place i, links to m, which lives at the place j or nowhere
-abbrev pub linked_to : World → ℕ → ℕ → Process → ℕ → Option ℕ → Move
-linked_to w i n q m None = moved (put_at w i (with_signal (word "noproc") q)) (linked n m ∷ [])
-linked_to w i n q m (Some j) = moved (change_at (put_at w i (with_link m true q)) j (with_link n true)) (linked n m ∷ getting_linked m n ∷ [])
+-- the process n, at the place i, links to m, which lives at the place j or nowhere
+abbrev pub linked_to : World → ℕ → ℕ → ℕ → Option ℕ → Move
+linked_to w i n m None = moved (change_at w i (with_signal (word "noproc"))) (linked n m ∷ [])
+linked_to w i n m (Some j) = moved (change_at (change_at w i (with_link m true)) j (with_link n true)) (linked n m ∷ getting_linked m n ∷ [])
 
 -- a link to itself gives no event; one that is there already gives link alone
-abbrev pub link_made : World → ℕ → ℕ → Process → ℕ → Move
-link_made w i n q m =
-    if n == m then moved (put_at w i q) [] else
-    if is_linked q m then moved (put_at w i q) (linked n m ∷ []) else
-    linked_to w i n q m (living w m)
+abbrev pub link_made : World → ℕ → ℕ → ℕ → Move
+link_made w i n m =
+    if n == m then moved w [] else
+    if linked_at w i m then moved w (linked n m ∷ []) else
+    linked_to w i n m (living w m)
 
-abbrev pub unlinked_from : World → ℕ → ℕ → Process → ℕ → Option ℕ → Move
-unlinked_from w i n q m None = moved (put_at w i (with_link m false q)) (unlinked n m ∷ getting_unlinked m n ∷ [])
-unlinked_from w i n q m (Some j) = moved (change_at (put_at w i (with_link m false q)) j (with_link n false)) (unlinked n m ∷ getting_unlinked m n ∷ [])
+abbrev pub unlinked_from : World → ℕ → ℕ → ℕ → Option ℕ → Move
+unlinked_from w i n m None = moved (change_at w i (with_link m false)) (unlinked n m ∷ getting_unlinked m n ∷ [])
+unlinked_from w i n m (Some j) = moved (change_at (change_at w i (with_link m false)) j (with_link n false)) (unlinked n m ∷ getting_unlinked m n ∷ [])
 
 -- unlink gives unlink, then getting_unlinked where a link was
-abbrev pub link_removed : World → ℕ → ℕ → Process → ℕ → Move
-link_removed w i n q m =
-    if n == m then moved (put_at w i q) [] else
-    if is_linked q m then unlinked_from w i n q m (living w m) else
-    moved (put_at w i q) (unlinked n m ∷ [])
+abbrev pub link_removed : World → ℕ → ℕ → ℕ → Move
+link_removed w i n m =
+    if n == m then moved w [] else
+    if linked_at w i m then unlinked_from w i n m (living w m) else
+    moved w (unlinked n m ∷ [])
 
 -- ---- the end of a process
 
@@ -124,21 +133,21 @@ abbrev pub next_pid : World → Option ℕ
 next_pid w = if nat_lt (length w.slots) 64 then Some (100 + length w.slots) else None
 
 -- a spawn gives the events spawn, then spawned
-abbrev pub started : World → ℕ → ℕ → Process → ℕ → Entry → Move
-started w i n q child e =
-    moved (record { slots = (put_at w i q).slots ++ Some (fresh e) ∷ [] })
+abbrev pub started : World → ℕ → ℕ → Entry → Move
+started w n child e =
+    moved (record { slots = w.slots ++ Some (fresh e) ∷ [] })
     (spawning n child (entry_mfa e) e.args ∷ spawned child n (entry_mfa e) e.args ∷ [])
 
 -- ---- one step
 
--- the act of the process n, at the place i
+-- the act of the process n, at the place i: first the process is what the act leaves of it, and then comes what else the act does
 abbrev pub acted : World → ℕ → ℕ → Act → Move
 acted w i n (waits q) = idle (put_at w i q)
 acted w i n (continues q e) = moved (put_at w i q) (option_to_list e)
 acted w i n (sends q m t) = delivered (put_at w i q) n m t
-acted w i n (links_to q m) = link_made w i n q m
-acted w i n (unlinks_from q m) = link_removed w i n q m
-acted w i n (spawns q child e) = started w i n q child e
+acted w i n (links_to q m) = link_made (put_at w i q) i n m
+acted w i n (unlinks_from q m) = link_removed (put_at w i q) i n m
+acted w i n (spawns q child e) = started (put_at w i q) n child e
 acted w i n (exits partners r before) = ended w i n partners r before
 
 abbrev pub stepped_at : List Function → World → ℕ → ℕ → Option (Option Process) → Move

@@ -1,4 +1,41 @@
-//! What the node is: processes with frames, mailboxes, links and signals, and the events of each step.
+//! What the node is: events, templates, one process, all processes, and one pick.
 //!
-//! Stands on def_term and def_script. It knows nothing of sessions.
+//! Stands on terms and on programs. What a process does by itself is one definition (`Process`), what
+//! that does to the other processes another (`Node`). Promises, as laws, that a pick which gives nothing
+//! changes nothing, that the limits of 64 processes and 64 frames are kept, that no pid is used again,
+//! that a pick of the control list changes no process, and that events are about processes of the run.
+//! All else is definition, for every crate above.
 #![tactic(auto)]
+
+ghost use Rattle.std.specs.Prelude.{◌≡◌, ◌≤◌, ℕ, List, length};
+ghost use Rattle.def_script.specs.Program.{Function, Entry, Program};
+ghost use Rattle.def_node.specs.Node.{World, State, next, next_of, opening_world};
+ghost use Rattle.def_node.specs.Limits.{IsStill, NothingChanges, IsWithin, IsAfter, world_after, state_after, AllKnown, events_in};
+
+/// A pick that gives nothing leaves all processes, and the place in the control list, as they were.
+pub fn idle_changes_nothing()
+    ensures processes { (ks : List Function) → (w : World) → (n : ℕ) → IsStill w (next_of ks w n) }
+    ensures state { (p : Program) → (s : State) → (n : ℕ) → NothingChanges s (next p s n) }
+{}
+
+/// At most 64 processes are started, and each has at most 64 frames and links to those alone.
+pub fn limits_are_kept()
+    ensures opening { (es : List Entry) → length es ≤ 64 → IsWithin (opening_world es) }
+    ensures step { (ks : List Function) → (w : World) → (n : ℕ) → IsWithin w → IsWithin (world_after (next_of ks w n)) }
+{}
+
+/// The number of processes that were started never falls, and one that has exited never comes back.
+pub fn no_pid_is_used_again()
+    ensures { (ks : List Function) → (w : World) → (n : ℕ) → IsWithin w → IsAfter w.slots (world_after (next_of ks w n)).slots }
+{}
+
+/// A pick of the control list changes no process.
+pub fn control_changes_no_process()
+    ensures { (p : Program) → (s : State) → (state_after (next p s 0)).world ≡ s.world }
+{}
+
+/// Each event is about a process with one of the pids 100 to 163; so is the parent of a spawned process,
+/// the one that linked itself, and a partner that exited.
+pub fn events_are_of_the_run()
+    ensures { (ks : List Function) → (w : World) → (n : ℕ) → IsWithin w → AllKnown (events_in (next_of ks w n)) }
+{}

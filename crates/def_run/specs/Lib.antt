@@ -3,3 +3,4 @@ pub mod View
 pub mod Listing
 pub mod Picks
 pub mod Round
+pub mod Laws

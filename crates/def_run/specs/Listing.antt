@@ -1,5 +1,5 @@
 -- A session's messages as a function of what it sees, the replies, what each move adds, and the text of an output (own).
-use Rattle.std.specs.Prelude.{ℕ, zero, suc, ◌==◌, List, [], ◌∷◌, ◌++◌, Option, Some, None, option_to_list, filter, map, length, take, slice_get, flat_map, codes, decimal}
+use Rattle.std.specs.Prelude.{ℕ, suc, ◌==◌, List, [], ◌∷◌, ◌++◌, Option, Some, None, option_to_list, filter, map, length, take, slice_get, flat_map, codes, decimal}
 use Rattle.std.specs.List.{join_with_byte}
 use Rattle.def_term.specs.Tree.{Tree}
 use Rattle.def_term.specs.Names.{Name}

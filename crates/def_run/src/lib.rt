@@ -1,2 +1,67 @@
-//! Run.
+//! What a run of a program shows, what each session sees of it, and the texts of its output.
+//!
+//! Stands on def_term, def_script, def_node, def_spec and def_session. Promises, as laws: an idle pick
+//! leaves no trace, and any other is its process's step or the next command; a round goes on until a pass
+//! moves nothing or the limit is reached; a journal replays to itself and has at most 65,536 moves; a session's listing is a
+//! function of its view, and the view isn't changed by another session's commands; nothing follows a
+//! destruction; and each move adds exactly its answer, so that the answers together are the listings.
 #![tactic(auto)]
+
+ghost use Rattle.def_run.specs.Laws.{IdleShowsNothing, IdleIsNotJournaled, IdleChangesNoOutput, JournalShowsTheSame, JournalMovesAgain, JournalGivesTheOutput, JournalIsBounded, RunsGrow, ListingGoesByTheView, StrikingLeavesTheView, SessionsAreIsolated, DestroyedListingStays, DestroyedStays, MoveAddsItsAnswer, AnswerIsNumbered, AnswersAreListings, PickIsItsStep, PickTakesACommand, FullJournalStays, RoundMoves, RoundIsShort, RoundIsInOrder, RoundRests};
+
+/// A pick that moves nothing, put anywhere among the picks, leaves no trace in what is shown, in the
+/// journal or in the output.
+pub fn idle_picks_leave_no_trace()
+    ensures shown { IdleShowsNothing }
+    ensures moved { IdleIsNotJournaled }
+    ensures output { IdleChangesNoOutput }
+{}
+
+/// The picks that moved, taken again, all move and show the same; at most 65,536 picks move; and later
+/// picks only add to the journal.
+pub fn a_journal_replays()
+    ensures shown { JournalShowsTheSame }
+    ensures moved { JournalMovesAgain }
+    ensures output { JournalGivesTheOutput }
+    ensures bounded { JournalIsBounded }
+    ensures grows { RunsGrow }
+{}
+
+/// A listing is a function of the session's view. To strike another session's commands, and the picks
+/// that took them, leaves the view and so the listing, where the run did not meet the limit.
+pub fn sessions_are_isolated()
+    ensures view { ListingGoesByTheView }
+    ensures struck { StrikingLeavesTheView }
+    ensures isolated { SessionsAreIsolated }
+{}
+
+/// A destroyed session's messages stay as they are, whatever follows, and it stays destroyed.
+pub fn nothing_follows_destruction()
+    ensures listing { DestroyedListingStays }
+    ensures stays { DestroyedStays }
+{}
+
+/// Each move adds to each listing exactly its answer, numbered on; the answers of all moves are the
+/// listings.
+pub fn answers_are_listings()
+    ensures adds { MoveAddsItsAnswer }
+    ensures numbered { AnswerIsNumbered }
+    ensures all { AnswersAreListings }
+{}
+
+/// While fewer than 65,536 picks have moved, a pick of a process moves exactly where the process does, and
+/// shows the events of its step; a pick 0 takes the next command. After that every pick is passed over.
+pub fn a_pick_is_a_step()
+    ensures step { PickIsItsStep }
+    ensures command { PickTakesACommand }
+    ensures full { FullJournalStays }
+{}
+
+/// A round is the first of the picks 0, 100, 101, .., 163 again and again that move, at most the limit's
+/// number of them; where there are fewer, one more pass moves nothing.
+pub fn a_round_goes_on_until_nothing_moves()
+    ensures moves { RoundMoves }
+    ensures short { RoundIsShort }
+    ensures in_order { RoundIsInOrder }
+    ensures rests { RoundRests }
+{}

@@ -1,9 +1,8 @@
 -- What one command does to its session, and its reply (module `trace`: session_create/3, session_destroy/1, process/4, function/4, send/3, recv/3).
-use Rattle.std.specs.Prelude.{ℕ, Bool, true, false, ◌&&◌, if◌then◌else◌, List, [], ◌∷◌, length, filter, Option, Some, None, Ok, Err, pos}
-use Rattle.std.specs.Option.{option_and_then, option_map, unwrap_or}
+use Rattle.std.specs.Prelude.{ℕ, Bool, true, false, if◌then◌else◌, List, [], ◌∷◌, length, filter, Option, Some, None, Ok, Err, pos}
 use Rattle.def_term.specs.Tree.{Tree, int, atom, pid, tuple, list, none, more}
 use Rattle.def_term.specs.Order.{same}
-use Rattle.def_term.specs.Names.{Name, Mfa, word}
+use Rattle.def_term.specs.Names.{word}
 use Rattle.def_term.specs.Alive.{Alive, is_alive, living_count}
 use Rattle.def_script.specs.Program.{Command, create, destroy, set_processes, set_function, set_send, set_receive}
 use Rattle.def_spec.specs.Flags.{Flags, joined, without, flags_named}

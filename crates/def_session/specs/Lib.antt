@@ -3,3 +3,4 @@ pub mod State
 pub mod Messages
 pub mod Session
 pub mod Commands
+pub mod Laws

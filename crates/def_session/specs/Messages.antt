@@ -1,6 +1,6 @@
 -- The message of each event, and how effects decide it (module `trace`, "trace messages"; "Match Specifications in Erlang", "Functions Allowed Only for Tracing").
 use Rattle.std.specs.Prelude.{ℕ, Bool, true, false, if◌then◌else◌, List, [], ◌∷◌, Option, Some, None}
-use Rattle.def_term.specs.Tree.{Tree, atom, pid, tuple, list, Trees, none, more, of_elements}
+use Rattle.def_term.specs.Tree.{Tree, atom, pid, tuple, list, of_elements}
 use Rattle.def_term.specs.Order.{same}
 use Rattle.def_term.specs.Names.{Mfa, word, mfa_term}
 use Rattle.def_spec.specs.Expressions.{Effect, gives_message}

@@ -1,6 +1,6 @@
 -- What a session's commands set: function settings, send and receive settings (trace:function/4, trace:send/3, trace:recv/3).
 -- Stands on specifications and on the names of functions.
-use Rattle.std.specs.Prelude.{ℕ, nat_le, Bool, true, false, ◌&&◌, ◌||◌, if◌then◌else◌, List, [], ◌∷◌, Option, Some, None, pos, Ok}
+use Rattle.std.specs.Prelude.{nat_le, Bool, true, false, ◌&&◌, ◌||◌, if◌then◌else◌, List, [], ◌∷◌, Option, Some, None, pos, Ok}
 use Rattle.std.specs.Str.{bytes_eq}
 use Rattle.def_term.specs.Tree.{Tree, int, atom, tuple, list, none, more}
 use Rattle.def_term.specs.Order.{same}

@@ -1,5 +1,5 @@
 -- The state of one session.
-use Rattle.std.specs.Prelude.{ℕ, ◌-◌, ◌+◌, Bool, true, false, List, [], ◌++◌, replicate, slice_get, slice_set}
+use Rattle.std.specs.Prelude.{ℕ, ◌-◌, Bool, true, false, List, [], ◌++◌, replicate, slice_get, slice_set}
 use Rattle.std.specs.Option.{unwrap_or}
 use Rattle.def_term.specs.Alive.{Alive, with_alive}
 use Rattle.def_term.specs.Names.{Mfa}

@@ -1,5 +1,58 @@
 //! What a trace session is: its state, what it makes of each event of the node, and what each of its own
 //! commands does and replies.
 //!
-//! Stands on def_term, def_script, def_node and def_spec.
+//! Stands on def_term, def_script, def_node and def_spec. Promises, as laws: of the function commands
+//! the newest that covers a function decides, and `false` removes; a message is its event's, told by a
+//! live session of a process that has the flag that the event needs; a return ends its mark, and an exit
+//! the process's flags and marks; a destroyed session tells nothing, and nothing brings it back.
 #![tactic(auto)]
+
+ghost use Rattle.def_session.specs.Laws.{NewestSettingWins, FalseRemoves, NoSetting, FunctionCommandIsNewest, MessageIsOfItsEvent, DestructionTakesAll, EventAfterDestruction, CommandAfterDestruction, DestroyedAgain, ReturnEndsTheMark, ExitEndsTheFlags, ExitEndsTheMarks, ExitEndsTheLife, CreationMakesLive, CommandBeforeCreation, EventBeforeCreation, LifeGoesByEvents, EventKeepsThePhase};
+
+/// The newest function command that has a function among its own decides its setting, whichever kind it
+/// is: an older one never shows through, and `false` removes. An accepted command is the newest
+/// (`trace:function/4`).
+pub fn newest_setting_wins()
+    ensures wins { NewestSettingWins }
+    ensures removes { FalseRemoves }
+    ensures none { NoSetting }
+    ensures newest { FunctionCommandIsNewest }
+{}
+
+/// A message is told by a live session alone, of a process that has the flag that the event needs, and it
+/// is that event's message, plain or with one more element ("trace messages").
+pub fn message_is_of_its_event()
+    ensures { MessageIsOfItsEvent }
+{}
+
+/// A destruction takes all settings away. Afterwards an event gives no message, a command changes
+/// nothing, and a second destruction replies `false` (`trace:session_destroy/1`).
+pub fn nothing_follows_destruction()
+    ensures destruction { DestructionTakesAll }
+    ensures event { EventAfterDestruction }
+    ensures command { CommandAfterDestruction }
+    ensures again { DestroyedAgain }
+{}
+
+/// After a return its frame has no mark. After a process's exit its flags and marks are gone, and it no
+/// longer lives.
+pub fn ends_take_marks_and_flags()
+    ensures returned { ReturnEndsTheMark }
+    ensures flags { ExitEndsTheFlags }
+    ensures marks { ExitEndsTheMarks }
+    ensures life { ExitEndsTheLife }
+{}
+
+/// Before its creation a session is told nothing, and every command but the creation is refused, which
+/// makes it live (`trace:session_create/3`).
+pub fn nothing_precedes_creation()
+    ensures creation { CreationMakesLive }
+    ensures command { CommandBeforeCreation }
+    ensures event { EventBeforeCreation }
+{}
+
+/// In each phase a session knows which processes live, and no event changes its phase.
+pub fn a_session_knows_who_lives()
+    ensures life { LifeGoesByEvents }
+    ensures phase { EventKeepsThePhase }
+{}

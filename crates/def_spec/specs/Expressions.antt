@@ -2,7 +2,7 @@
 -- Stands on bindings, on functions of values and on flags. Values don't use effects.
 use Rattle.std.specs.Prelude.{ℕ, Bool, true, false, if◌then◌else◌, List, [], ◌∷◌, ◌++◌, Option, Some, None}
 use Rattle.std.specs.Option.{option_and_then, option_map}
-use Rattle.def_term.specs.Tree.{Tree, pid, tuple, list, Trees, of_elements}
+use Rattle.def_term.specs.Tree.{Tree, pid, tuple, list, of_elements}
 use Rattle.def_term.specs.Order.{same}
 use Rattle.def_term.specs.Names.{Mfa, word, mfa_term}
 use Rattle.def_term.specs.Alive.{Alive, is_alive}

@@ -1,10 +1,10 @@
 -- The ten flags of processes in a session (trace:process/4), and sets of them.
 -- Stands on terms.
-use Rattle.std.specs.Prelude.{ℕ, ◌==◌, Bool, true, false, not, ◌&&◌, ◌||◌, if◌then◌else◌, List, [], ◌∷◌, Option, Some, None}
+use Rattle.std.specs.Prelude.{ℕ, ◌==◌, Bool, false, not, ◌&&◌, ◌||◌, if◌then◌else◌, List, [], ◌∷◌, Option, Some, None, codes}
 use Rattle.std.specs.Option.{option_map}
-use Rattle.def_term.specs.Tree.{Tree, Trees, none, more}
-use Rattle.def_term.specs.Order.{same}
-use Rattle.def_term.specs.Names.{word}
+use Rattle.std.specs.Str.{bytes_eq}
+use Rattle.def_term.specs.Tree.{Tree, atom, Trees, none, more}
+use Rattle.def_term.specs.Names.{Name}
 
 pub data Flag : Type 0 where
   send_flag receive_flag call_flag procs_flag silent_flag arity_flag set_on_spawn set_on_first_spawn set_on_link set_on_first_link : Flag
@@ -43,18 +43,20 @@ has_all f g =
     let has : Flag → Bool = λ x. f x || not (g x) in
     has send_flag && (has receive_flag && (has call_flag && (has procs_flag && (has silent_flag && (has arity_flag && (has set_on_spawn && (has set_on_first_spawn && (has set_on_link && has set_on_first_link))))))))
 
-abbrev pub flags_by_name : List (Tree × Flag)
+-- the flags by their names
+abbrev pub flags_by_name : List (Name × Flag)
 flags_by_name =
-    (word "send", send_flag) ∷ (word "receive", receive_flag) ∷ (word "call", call_flag) ∷ (word "procs", procs_flag) ∷ (word "silent", silent_flag) ∷ (word "arity", arity_flag)
-    ∷ (word "set_on_spawn", set_on_spawn) ∷ (word "set_on_first_spawn", set_on_first_spawn) ∷ (word "set_on_link", set_on_link) ∷ (word "set_on_first_link", set_on_first_link) ∷ []
+    (codes "send", send_flag) ∷ (codes "receive", receive_flag) ∷ (codes "call", call_flag) ∷ (codes "procs", procs_flag) ∷ (codes "silent", silent_flag) ∷ (codes "arity", arity_flag)
+    ∷ (codes "set_on_spawn", set_on_spawn) ∷ (codes "set_on_first_spawn", set_on_first_spawn) ∷ (codes "set_on_link", set_on_link) ∷ (codes "set_on_first_link", set_on_first_link) ∷ []
 
-abbrev pub named_in : List (Tree × Flag) → Tree → Option Flag
-named_in [] t = None
-named_in (e ∷ es) t = if same t e.0 then Some e.1 else named_in es t
+abbrev pub named_in : List (Name × Flag) → Name → Option Flag
+named_in [] s = None
+named_in (e ∷ es) s = if bytes_eq s e.0 then Some e.1 else named_in es s
 
 -- the flag that a term names
 abbrev pub flag_named : Tree → Option Flag
-flag_named t = named_in flags_by_name t
+flag_named (atom s) = named_in flags_by_name s
+flag_named _ = None
 
 -- one more flag, where there is one
 abbrev pub and_flag : Option Flag → Option Flags → Option Flags

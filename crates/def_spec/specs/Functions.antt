@@ -3,7 +3,7 @@
 use Rattle.std.specs.Prelude.{ℕ, zero, suc, ◌-◌, ◌^◌, Bool, true, false, not, ◌&&◌, ◌||◌, if◌then◌else◌, List, [], ◌∷◌, Option, Some, None, ℤ, pos, negsuc, ◌+ℤ◌, ◌-ℤ◌, ◌*ℤ◌, neg_ℤ, int_le, int_div, int_rem}
 use Rattle.std.specs.Int.{w64, int_bit_and, int_bit_or, int_bit_xor}
 use Rattle.std.specs.Ordering.{is_gt, is_ge, is_lt, is_le}
-use Rattle.def_term.specs.Tree.{Tree, int, atom, pid, tuple, list, Trees, none, more, of_elements, count}
+use Rattle.def_term.specs.Tree.{Tree, int, atom, pid, tuple, list, Trees, none, more, count}
 use Rattle.def_term.specs.Order.{tree_cmp, same}
 use Rattle.def_term.specs.Names.{word}
 

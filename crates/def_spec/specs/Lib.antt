@@ -4,3 +4,4 @@ pub mod Functions
 pub mod Expressions
 pub mod Outcome
 pub mod Reading
+pub mod Laws

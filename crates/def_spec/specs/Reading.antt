@@ -1,6 +1,6 @@
 -- How a term is read as a specification: the clauses that it spells, or the first fault ("Match Specifications in Erlang", "Grammar").
 -- Which fault is the first is this project's own: clauses in order; of a clause its shape, then head, conditions and body, left to right; of an expression first itself, then its arguments.
-use Rattle.std.specs.Prelude.{ℕ, suc, ◌+◌, ◌*◌, ◌-◌, ◌==◌, nat_le, Bool, true, false, not, ◌&&◌, ◌||◌, if◌then◌else◌, List, [], ◌∷◌, length, Option, Some, None, Result, Ok, Err, codes}
+use Rattle.std.specs.Prelude.{ℕ, ◌+◌, ◌*◌, ◌-◌, ◌==◌, nat_le, Bool, true, false, not, ◌&&◌, if◌then◌else◌, List, [], ◌∷◌, length, Option, Some, None, Result, Ok, Err, codes}
 use Rattle.std.specs.Str.{bytes_eq}
 use Rattle.def_term.specs.Tree.{Tree, int, atom, pid, tuple, list, Trees, none, more, count}
 use Rattle.def_term.specs.Names.{Name}
@@ -223,7 +223,7 @@ module _ (d : Dialect) (place : Place) (head : Pattern) where
 abbrev pub clause_of_parts : Dialect → Tree → Trees → Trees → Reads Clause
 clause_of_parts d h cs bs =
     then_read (head_of h) (λ head. then_read (exprs_of d in_condition head cs) (λ conditions. then_read (exprs_of d in_body head bs) (λ body.
-        Ok (record { head = head; conditions = conditions; body = body }))))
+    Ok (record { head = head; conditions = conditions; body = body }))))
 
 -- {Head,Conditions,Body}
 abbrev pub clause_of : Dialect → Tree → Reads Clause

@@ -1,5 +1,60 @@
 //! What a match specification is and what it shows: flags, heads and matching, expressions with their
 //! values and effects, the outcome, and how a term is read as a specification.
 //!
-//! Stands on def_term.
+//! Stands on def_term. Promises, as laws: the walk over a head finds the one binding, where there is one
+//! and only there; the computed outcome is that of the least-numbered clause that fires; a body's value
+//! is a term, and effects change no value; a specification that is read is sound, and a fault is the first
+//! one; and inheritance gives what the manual says in each case of the two flags.
 #![tactic(auto)]
+
+ghost use Rattle.def_spec.specs.Laws.{WalkIsMatching, BindingIsUnique, WalkMissesNone, OutcomeIsComputed, OutcomeIsUnique, BodiesHaveValues, EffectsChangeNoValue, ReadSpecsAreSound, FirstFaultyClause, HeadFaultFirst, ConditionFaultNext, BodyFaultLast, FirstFaultyExpression, UnsupportedFirst, SpawnInherits, LinkInherits, VariablesAreNumbered};
+
+/// The walk over a head finds the one binding, and none exactly where there is none ("Match
+/// Specifications in Erlang", "Grammar").
+pub fn matching_is_the_one_binding()
+    ensures walk { WalkIsMatching }
+    ensures unique { BindingIsUnique }
+    ensures none { WalkMissesNone }
+{}
+
+/// The computed outcome is that of the least-numbered clause that fires, and no other is ("Match
+/// Specifications in Erlang").
+pub fn outcome_is_of_the_first_clause()
+    ensures computed { OutcomeIsComputed }
+    ensures unique { OutcomeIsUnique }
+{}
+
+/// In a body each expression whose variables the head binds has a term as its value, and no effect
+/// changes a value.
+pub fn bodies_have_values()
+    ensures values { BodiesHaveValues }
+    ensures alone { EffectsChangeNoValue }
+{}
+
+/// A specification that is read has the dialect that it is read for, at least one clause, no variable that
+/// its head doesn't bind, and only calls that are allowed where they stand, with a number of arguments
+/// that fits; and its variables are numbered from 0 to 999.
+pub fn read_specifications_are_sound()
+    ensures sound { ReadSpecsAreSound }
+    ensures numbered { VariablesAreNumbered }
+{}
+
+/// The fault that is answered is the first: of the clauses in order; of a clause the head's, then that of
+/// the conditions, then that of the body; of expressions the first one's; and an unsupported name before
+/// anything else of its call.
+pub fn the_first_fault_is_answered()
+    ensures clauses { FirstFaultyClause }
+    ensures head { HeadFaultFirst }
+    ensures conditions { ConditionFaultNext }
+    ensures body { BodyFaultLast }
+    ensures expressions { FirstFaultyExpression }
+    ensures names { UnsupportedFirst }
+{}
+
+/// What a spawn and a link give to the other process, and what the giving one keeps, in the four cases of
+/// the two flags (`trace:process/4`: `set_on_spawn` and `set_on_first_spawn`, `set_on_link` and
+/// `set_on_first_link`).
+pub fn flags_are_inherited()
+    ensures spawn { SpawnInherits }
+    ensures link { LinkInherits }
+{}

@@ -1,4 +1,8 @@
 // The commands of the control list.
+ghost use Rattle.std.specs.Prelude.{◌≡◌};
+ghost use Rattle.def_script.specs.Program.{session_of};
+ghost use Rattle.tn_flags.specs.Views.{command_of};
+
 use std::alloc::Allocator;
 use tn_term::{Atom, Term};
 
@@ -33,4 +37,20 @@ pub enum Command<A: Allocator> {
         session: Atom<A>,
         specification: Term<A>,
     },
+}
+
+impl<A: Allocator> Command<A> {
+    /// The name of the session that the command is to.
+    pub fn session(&self) -> &Atom<A>
+        ensures { result.now ≡ session_of (command_of self.now) }
+    {
+        match self {
+            Command::SessionCreate { session, .. } => session,
+            Command::SessionDestroy { session } => session,
+            Command::Process { session, .. } => session,
+            Command::Function { session, .. } => session,
+            Command::Send { session, .. } => session,
+            Command::Recv { session, .. } => session,
+        }
+    }
 }

@@ -1,0 +1,91 @@
+-- What keeps within the limits of the node (own).
+use Rattle.std.specs.Prelude.{ℕ, ◌≡◌, ◌≤◌, Bool, List, [], ◌∷◌, length, Option, Some, None}
+use Rattle.def_node.specs.Node.{World, Move, moved, idle, State, Next, gives_events, gives_command, gives_nothing}
+use Rattle.def_node.specs.Event.{Event, sent, received, called, returned, spawning, spawned, exited, linked, unlinked, getting_linked, getting_unlinked}
+use Rattle.def_node.specs.Process.{Process, Act, waits, continues, sends, links_to, unlinks_from, spawns, exits}
+
+-- what a process is after its own act: it has the links that it had, and at most so many frames
+abbrev pub IsOwn : ℕ → List Bool → Process → Type 0
+IsOwn most ls q = (q.links ≡ ls) × (length q.frames ≤ most)
+
+-- an act of a process with these links changes its own frames alone, a spawn gives the given pid, and an exit tells the partners that the process has
+abbrev pub IsOwnAct : ℕ → List Bool → Option ℕ → Act → Type 0
+IsOwnAct most ls child (waits q) = IsOwn most ls q
+IsOwnAct most ls child (continues q e) = IsOwn most ls q
+IsOwnAct most ls child (sends q m t) = IsOwn most ls q
+IsOwnAct most ls child (links_to q m) = IsOwn most ls q
+IsOwnAct most ls child (unlinks_from q m) = IsOwn most ls q
+IsOwnAct most ls child (spawns q c e) = IsOwn most ls q × (child ≡ Some c)
+IsOwnAct most ls child (exits partners r before) = partners ≡ ls
+
+-- ---- the processes
+
+-- a process with at most 64 frames, which knows of each of the 64 pids whether it is linked to it
+abbrev pub IsSmall : Process → Type 0
+IsSmall q = (length q.frames ≤ 64) × (length q.links ≡ 64)
+
+abbrev pub AllSmall : List (Option Process) → Type 0
+AllSmall [] = Unit {0}
+AllSmall (None ∷ ss) = AllSmall ss
+AllSmall (Some q ∷ ss) = IsSmall q × AllSmall ss
+
+-- at most 64 processes were started, each of them small
+abbrev pub IsWithin : World → Type 0
+IsWithin w = (length w.slots ≤ 64) × AllSmall w.slots
+
+-- no place is given up, and one where a process has exited stays empty, so no pid is used again
+abbrev pub IsAfter : List (Option Process) → List (Option Process) → Type 0
+IsAfter [] vs = Unit {0}
+IsAfter (s ∷ ss) [] = ⊥
+IsAfter (None ∷ ss) (v ∷ vs) = (v ≡ None) × IsAfter ss vs
+IsAfter (Some q ∷ ss) (v ∷ vs) = IsAfter ss vs
+
+-- what a pick came to, as processes
+abbrev pub world_after : Move → World
+world_after (moved v es) = v
+world_after (idle v) = v
+
+-- where a pick comes to nothing, the processes are as they were
+abbrev pub IsStill : World → Move → Type 0
+IsStill w (moved v es) = Unit {0}
+IsStill w (idle v) = v ≡ w
+
+-- the state after a pick
+abbrev pub state_after : Next → State
+state_after (gives_events t es) = t
+state_after (gives_command t k) = t
+state_after (gives_nothing t) = t
+
+-- where a pick gives nothing, the state is as it was
+abbrev pub NothingChanges : State → Next → Type 0
+NothingChanges s (gives_events t es) = Unit {0}
+NothingChanges s (gives_command t k) = Unit {0}
+NothingChanges s (gives_nothing t) = t ≡ s
+
+-- ---- the events
+
+-- one of the pids that a run gives
+abbrev pub IsKnown : ℕ → Type 0
+IsKnown n = (100 ≤ n) × (n ≤ 163)
+
+-- an event is about a process of the run; so are the parent of a spawned one, the one that linked, and a partner
+abbrev pub IsKnownEvent : Event → Type 0
+IsKnownEvent (sent p t to alive) = IsKnown p
+IsKnownEvent (received p sender t) = IsKnown p
+IsKnownEvent (called p c) = IsKnown p
+IsKnownEvent (returned p f t depth) = IsKnown p
+IsKnownEvent (spawning p child f args) = IsKnown p × IsKnown child
+IsKnownEvent (spawned p parent f args) = IsKnown p × IsKnown parent
+IsKnownEvent (exited p r) = IsKnown p
+IsKnownEvent (linked p other) = IsKnown p
+IsKnownEvent (unlinked p other) = IsKnown p
+IsKnownEvent (getting_linked p other) = IsKnown p × IsKnown other
+IsKnownEvent (getting_unlinked p other) = IsKnown p × IsKnown other
+
+abbrev pub AllKnown : List Event → Type 0
+AllKnown [] = Unit {0}
+AllKnown (e ∷ es) = IsKnownEvent e × AllKnown es
+
+abbrev pub events_in : Move → List Event
+events_in (moved v es) = es
+events_in (idle v) = []

@@ -1,0 +1,40 @@
+-- The laws of runs and of isolation.
+use Rattle.std.proofs.Common.{ℕ, List, [], ◌∷◌, ◌++◌, ap}
+use Rattle.std.specs.Prelude.{codes, filter}
+use Rattle.def_script.specs.Program.{Program}
+use Rattle.def_run.specs.Run.{Item, opening, start, place_after, moves_from}
+use Rattle.def_run.specs.Listing.{messages_of, messages_from, replies_from, listing_text, listings_text, lines_of, picks_text, creations}
+use Rattle.def_session.specs.State.{absent_session}
+use Rattle.def_run.specs.View.{is_own}
+use Rattle.def_run.specs.Laws.{IdleShowsNothing, IdleIsNotJournaled, IdleChangesNoOutput, JournalGivesTheOutput, RunsGrow, ListingGoesByTheView, SessionsAreIsolated}
+use Rattle.def_run.proofs.Appends.{moves-append}
+use Rattle.def_run.proofs.Replay.{idle-shown, idle-moves, events_again, journal_again}
+use Rattle.def_run.proofs.Striking.{struck_view}
+
+-- the output of what was shown and what moved
+abbrev output_of : Program → List Item → List ℕ → List ℕ
+output_of p items journal =
+    listings_text (λ s. messages_from (opening p) (absent_session (opening p)) (filter (is_own s) items)) (creations p.commands)
+    ++ codes "== replies\n" ++ lines_of (replies_from (opening p) [] items)
+    ++ codes "== journal\n" ++ picks_text journal ++ 10 ∷ []
+
+pub idle_shown : IdleShowsNothing
+idle_shown p before pick after h = idle-shown p.functions (start p) before pick after h
+
+pub idle_moved : IdleIsNotJournaled
+idle_moved p before pick after h = idle-moves p.functions (start p) before pick after h
+
+pub idle_output : IdleChangesNoOutput
+idle_output p before pick after h = λ i. output_of p (idle_shown p before pick after h i) (idle_moved p before pick after h i)
+
+pub journal_output : JournalGivesTheOutput
+journal_output p picks = λ i. output_of p (events_again p picks i) (journal_again p picks i)
+
+pub runs_grow : RunsGrow
+runs_grow p picks more = (moves_from p.functions (place_after p.functions (start p) picks) more, moves-append p.functions (start p) picks more)
+
+pub by_the_view : ListingGoesByTheView
+by_the_view s tracer p q picks others h = (ap messages_of h, ap (λ v. listing_text s tracer (messages_of v)) h)
+
+pub isolated : SessionsAreIsolated
+isolated s r p picks apart h = ap messages_of (struck_view s r p picks apart h)

@@ -1,0 +1,5 @@
+use Rattle.def_run.proofs.Destroyed.{destroyed_listing, destroyed_stays}
+use Rattle.def_run.proofs.nothing_follows_destruction.Goals as goal
+
+pub returns : goal.returns
+returns c = record { listing = destroyed_listing; stays = destroyed_stays }

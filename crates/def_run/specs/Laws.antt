@@ -1,0 +1,165 @@
+-- What is promised of runs, views and listings.
+use Rattle.std.specs.Prelude.{◌≡◌, ℕ, zero, suc, ◌+◌, min, ◌<◌, ◌≤◌, ◌==◌, Bool, true, false, List, [], ◌∷◌, ◌++◌, length, map, take, filter, slice_get, Some}
+use Rattle.std.specs.Str.{bytes_eq}
+use Rattle.def_term.specs.Tree.{Tree}
+use Rattle.def_term.specs.Names.{Name}
+use Rattle.def_script.specs.Program.{Command, Program}
+use Rattle.def_session.specs.State.{destroyed}
+use Rattle.def_node.specs.Node.{Move, moved, idle, next_of}
+use Rattle.def_run.specs.Run.{Turn, happened, commanded, start, turn_of, place_after, events, moves}
+use Rattle.def_run.specs.Round.{pass, round}
+use Rattle.def_run.specs.View.{view, strike_program, strike_picks}
+use Rattle.def_run.specs.Listing.{messages, state_of, creations, Told, answer, for_session, listing_text, program_output}
+
+-- ---- runs
+
+-- after these picks the pick moves nothing
+abbrev pub IsIdleAfter : Program → List ℕ → ℕ → Type 0
+IsIdleAfter p picks pick = (turn_of p.functions (place_after p.functions (start p) picks) pick).moved ≡ false
+
+-- an idle pick, put anywhere, leaves no trace: not in what is shown, not in the journal, and so not in the output
+abbrev pub IdleShowsNothing : Type 0
+IdleShowsNothing = (p : Program) (before : List ℕ) (pick : ℕ) (after : List ℕ) → IsIdleAfter p before pick → events p (before ++ pick ∷ after) ≡ events p (before ++ after)
+
+abbrev pub IdleIsNotJournaled : Type 0
+IdleIsNotJournaled = (p : Program) (before : List ℕ) (pick : ℕ) (after : List ℕ) → IsIdleAfter p before pick → moves p (before ++ pick ∷ after) ≡ moves p (before ++ after)
+
+abbrev pub IdleChangesNoOutput : Type 0
+IdleChangesNoOutput = (p : Program) (before : List ℕ) (pick : ℕ) (after : List ℕ) → IsIdleAfter p before pick → program_output p (before ++ pick ∷ after) ≡ program_output p (before ++ after)
+
+-- the picks that moved, taken again, show the same, all move, and give the same output
+abbrev pub JournalShowsTheSame : Type 0
+JournalShowsTheSame = (p : Program) (picks : List ℕ) → events p (moves p picks) ≡ events p picks
+
+abbrev pub JournalMovesAgain : Type 0
+JournalMovesAgain = (p : Program) (picks : List ℕ) → moves p (moves p picks) ≡ moves p picks
+
+abbrev pub JournalGivesTheOutput : Type 0
+JournalGivesTheOutput = (p : Program) (picks : List ℕ) → program_output p (moves p picks) ≡ program_output p picks
+
+abbrev pub JournalIsBounded : Type 0
+JournalIsBounded = (p : Program) (picks : List ℕ) → length (moves p picks) ≤ 65536
+
+-- more picks add to what is shown and to the journal, and change nothing in them
+abbrev pub RunsGrow : Type 0
+RunsGrow = (p : Program) (picks more : List ℕ) → (rest : List ℕ) × (moves p (picks ++ more) ≡ moves p picks ++ rest)
+
+-- ---- isolation
+
+-- a listing is a function of the session's view
+abbrev pub ListingGoesByTheView : Type 0
+ListingGoesByTheView =
+    (s tracer : Name) (p q : Program) (picks others : List ℕ) → view s p picks ≡ view s q others →
+    (messages s p picks ≡ messages s q others) × (listing_text s tracer (messages s p picks) ≡ listing_text s tracer (messages s q others))
+
+-- without the commands of another session r, and the picks that took them, the view is the same, where the run did not meet the limit
+abbrev pub StrikingLeavesTheView : Type 0
+StrikingLeavesTheView =
+    (s r : Name) (p : Program) (picks : List ℕ) → bytes_eq r s ≡ false → length (moves p picks) < 65536 →
+    view s (strike_program r p) (strike_picks r picks p.commands) ≡ view s p picks
+
+-- and so the listing
+abbrev pub SessionsAreIsolated : Type 0
+SessionsAreIsolated =
+    (s r : Name) (p : Program) (picks : List ℕ) → bytes_eq r s ≡ false → length (moves p picks) < 65536 →
+    messages s (strike_program r p) (strike_picks r picks p.commands) ≡ messages s p picks
+
+-- ---- destruction
+
+-- the session of this name was destroyed in the run
+abbrev pub IsDestroyedAfter : Name → Program → List ℕ → Type 0
+IsDestroyedAfter s p picks = (state_of (view s p picks)).phase ≡ destroyed
+
+-- its messages stay as they are, whatever follows
+abbrev pub DestroyedListingStays : Type 0
+DestroyedListingStays = (s : Name) (p : Program) (picks more : List ℕ) → IsDestroyedAfter s p picks → messages s p (picks ++ more) ≡ messages s p picks
+
+-- and it stays destroyed
+abbrev pub DestroyedStays : Type 0
+DestroyedStays = (s : Name) (p : Program) (picks more : List ℕ) → IsDestroyedAfter s p picks → IsDestroyedAfter s p (picks ++ more)
+
+-- ---- answers
+
+-- the session s has this number, counted from 0, in the control list
+abbrev pub IsCreation : Program → ℕ → Name → Name → Type 0
+IsCreation p n s tracer = slice_get (creations p.commands) n ≡ Some (s, tracer)
+
+abbrev pub is_for : ℕ → Told → Bool
+is_for n x = x.session == n
+
+-- these messages of the session of a number, numbered from i
+abbrev pub numbered : ℕ → ℕ → List Tree → List Told
+numbered n i [] = []
+numbered n i (m ∷ ms) = record { session = n; index = i; message = m } ∷ numbered n (suc i) ms
+
+-- the answers of the first k moves
+abbrev pub answers : Program → List ℕ → ℕ → List Told
+answers p picks zero = []
+answers p picks (suc k) = answers p picks k ++ answer p picks k
+
+-- a move adds to each listing exactly its answer for that session
+abbrev pub MoveAddsItsAnswer : Type 0
+MoveAddsItsAnswer =
+    (p : Program) (picks : List ℕ) (n : ℕ) (s tracer : Name) (k : ℕ) → IsCreation p n s tracer →
+    messages s p (take (suc k) (moves p picks)) ≡ messages s p (take k (moves p picks)) ++ for_session (suc n) (answer p picks k)
+
+-- and its items are numbered on from what the listing had before
+abbrev pub AnswerIsNumbered : Type 0
+AnswerIsNumbered =
+    (p : Program) (picks : List ℕ) (n : ℕ) (s tracer : Name) (k : ℕ) → IsCreation p n s tracer →
+    filter (is_for (suc n)) (answer p picks k) ≡ numbered (suc n) (length (messages s p (take k (moves p picks)))) (for_session (suc n) (answer p picks k))
+
+-- taken together, the answers of all moves are the listings, each message at its index
+abbrev pub AnswersAreListings : Type 0
+AnswersAreListings =
+    (p : Program) (picks : List ℕ) (n : ℕ) (s tracer : Name) → IsCreation p n s tracer →
+    filter (is_for (suc n)) (answers p picks (length (moves p picks))) ≡ numbered (suc n) 0 (messages s p picks)
+
+-- ---- what a pick does
+
+abbrev pub IsStep : Move → Turn → Type 0
+IsStep (moved w es) t = (t.moved ≡ true) × (t.shown ≡ map happened es) × (t.after.world ≡ w)
+IsStep (idle w) t = t.moved ≡ false
+
+abbrev pub Takes : List Command → Turn → Type 0
+Takes [] t = t.moved ≡ false
+Takes (c ∷ cs) t = (t.moved ≡ true) × (t.shown ≡ commanded c ∷ []) × (t.after.commands ≡ cs)
+
+-- while fewer than 65,536 picks have moved, a pick of a process moves exactly where the process does, and shows the events of its step
+abbrev pub PickIsItsStep : Type 0
+PickIsItsStep =
+    (p : Program) (picks : List ℕ) (n : ℕ) → length (moves p picks) < 65536 →
+    IsStep (next_of p.functions (place_after p.functions (start p) picks).world (suc n)) (turn_of p.functions (place_after p.functions (start p) picks) (suc n))
+
+-- and a pick 0 takes the next command
+abbrev pub PickTakesACommand : Type 0
+PickTakesACommand =
+    (p : Program) (picks : List ℕ) → length (moves p picks) < 65536 →
+    Takes (place_after p.functions (start p) picks).commands (turn_of p.functions (place_after p.functions (start p) picks) 0)
+
+-- with 65,536 moves every pick is passed over
+abbrev pub FullJournalStays : Type 0
+FullJournalStays = (p : Program) (picks : List ℕ) (pick : ℕ) → length (moves p picks) ≡ 65536 → IsIdleAfter p picks pick
+
+-- ---- rounds
+
+-- some picks again and again, n times
+abbrev pub repeated : List ℕ → ℕ → List ℕ
+repeated picks zero = []
+repeated picks (suc n) = picks ++ repeated picks n
+
+-- every pick of a round moves
+abbrev pub RoundMoves : Type 0
+RoundMoves = (p : Program) (limit : ℕ) → moves p (round p limit) ≡ round p limit
+
+-- it has at most the limit's picks
+abbrev pub RoundIsShort : Type 0
+RoundIsShort = (p : Program) (limit : ℕ) → length (round p limit) ≤ min limit 65536
+
+-- they are the first that move of the picks 0, 100, 101, .., 163 again and again
+abbrev pub RoundIsInOrder : Type 0
+RoundIsInOrder = (p : Program) (limit : ℕ) → round p limit ≡ take (min limit 65536) (moves p (repeated pass (min limit 65536 + 1)))
+
+-- and where it has fewer, one more pass moves nothing
+abbrev pub RoundRests : Type 0
+RoundRests = (p : Program) (limit : ℕ) → length (round p limit) < min limit 65536 → moves p (round p limit ++ pass) ≡ round p limit

@@ -1,0 +1,5 @@
+pub mod Settings
+pub mod Destroyed
+pub mod Messages
+pub mod Ends
+pub mod Life

@@ -1,0 +1,110 @@
+-- Before a creation; who lives; and the phase.
+use Rattle.std.proofs.Common.{◌≡◌, ℕ, List, [], ◌∷◌, Bool, true, false, if◌then◌else◌, refl, ap, ◌∙◌, Option, Some, None}
+use Rattle.def_term.specs.Alive.{Alive, with_alive}
+use Rattle.def_script.specs.Program.{Command, create}
+use Rattle.def_node.specs.Event.{Event, called, returned, spawned, exited, getting_linked}
+use Rattle.def_spec.specs.Expressions.{Effect, gives_message, traces_return, traces_exception, silences, changes}
+use Rattle.def_session.specs.State.{Phase, absent, live, destroyed, Session, alive_after}
+use Rattle.def_session.specs.Session.{inherited, evaluated, affected, all_affected, marks_frame, finished, told_for, told_in}
+use Rattle.def_session.specs.Commands.{refused, done_absent, done_in}
+use Rattle.def_session.specs.Messages.{process_of}
+use Rattle.def_session.specs.Laws.{is_creation, CreationMakesLive, CommandBeforeCreation, EventBeforeCreation, LifeGoesByEvents, EventKeepsThePhase}
+
+pub creation_makes_live : CreationMakesLive
+creation_makes_live o s name tracer h = ap (λ p. done_in p o s (create name tracer)) h
+
+refused_absent : (s : Session) (c : Command) → is_creation c ≡ false → done_absent s c ≡ refused s
+refused_absent s (create name tracer) e = cc
+refused_absent s _ e = refl
+
+pub command_before_creation : CommandBeforeCreation
+command_before_creation o s c h e = ap (λ p. done_in p o s c) h ∙ refused_absent s c e
+
+pub event_before_creation : EventBeforeCreation
+event_before_creation s e h = ap (λ p. told_in p s e) h
+
+-- ---- what effects leave
+
+affected_alive : (p : ℕ) (s : Session) (e : Effect) → (affected p s e).alive ≡ s.alive
+affected_alive p s (gives_message t) = refl
+affected_alive p s traces_return = refl
+affected_alive p s traces_exception = refl
+affected_alive p s (silences b) = refl
+affected_alive p s (changes n cleared set) = refl
+
+affected_phase : (p : ℕ) (s : Session) (e : Effect) → (affected p s e).phase ≡ s.phase
+affected_phase p s (gives_message t) = refl
+affected_phase p s traces_return = refl
+affected_phase p s traces_exception = refl
+affected_phase p s (silences b) = refl
+affected_phase p s (changes n cleared set) = refl
+
+all_alive : (p : ℕ) (s : Session) (es : List Effect) → (all_affected p s es).alive ≡ s.alive
+all_alive p s [] = refl
+all_alive p s (e ∷ es) = all_alive p (affected p s e) es ∙ affected_alive p s e
+
+all_phase : (p : ℕ) (s : Session) (es : List Effect) → (all_affected p s es).phase ≡ s.phase
+all_phase p s [] = refl
+all_phase p s (e ∷ es) = all_phase p (affected p s e) es ∙ affected_phase p s e
+
+-- ---- who lives at the end of an event
+
+abbrev after_end : Alive → Event → Alive
+after_end alive (exited p r) = with_alive alive p false
+after_end alive _ = alive
+
+marked_alive : (b : Bool) (s : Session) (m : ℕ × ℕ) → (if b then record s { marks = m ∷ s.marks } else s).alive ≡ s.alive
+marked_alive true s m = refl
+marked_alive false s m = refl
+
+marked_phase : (b : Bool) (s : Session) (m : ℕ × ℕ) → (if b then record s { marks = m ∷ s.marks } else s).phase ≡ s.phase
+marked_phase true s m = refl
+marked_phase false s m = refl
+
+finished_alive : (s : Session) (e : Event) (es : List Effect) → (finished s e es).alive ≡ after_end s.alive e
+finished_alive s (called p c) es = marked_alive (marks_frame es) s (p, c.depth)
+finished_alive s (returned p f t depth) es = refl
+finished_alive s (exited p r) es = refl
+finished_alive s _ es = refl
+
+finished_phase : (s : Session) (e : Event) (es : List Effect) → (finished s e es).phase ≡ s.phase
+finished_phase s (called p c) es = marked_phase (marks_frame es) s (p, c.depth)
+finished_phase s (returned p f t depth) es = refl
+finished_phase s (exited p r) es = refl
+finished_phase s _ es = refl
+
+told_alive : (s : Session) (e : Event) (r : Option (List Effect)) → (told_for s e r).0.alive ≡ after_end s.alive e
+told_alive s e None = finished_alive s e []
+told_alive s e (Some es) = finished_alive (all_affected (process_of e) s es) e es ∙ ap (λ a. after_end a e) (all_alive (process_of e) s es)
+
+told_phase : (s : Session) (e : Event) (r : Option (List Effect)) → (told_for s e r).0.phase ≡ s.phase
+told_phase s e None = finished_phase s e []
+told_phase s e (Some es) = finished_phase (all_affected (process_of e) s es) e es ∙ all_phase (process_of e) s es
+
+-- a process lives from the spawned event on
+life_at : (s : Session) (e : Event) → after_end (inherited s e).alive e ≡ alive_after s.alive e
+life_at s (spawned p parent f args) = refl
+life_at s (getting_linked p q) = refl
+life_at s (exited p r) = refl
+life_at s _ = refl
+
+phase_at : (s : Session) (e : Event) → (inherited s e).phase ≡ s.phase
+phase_at s (spawned p parent f args) = refl
+phase_at s (getting_linked p q) = refl
+phase_at s _ = refl
+
+alive_in : (p : Phase) (s : Session) (e : Event) → (told_in p s e).0.alive ≡ alive_after s.alive e
+alive_in absent s e = refl
+alive_in destroyed s e = refl
+alive_in live s e = told_alive (inherited s e) e (evaluated (inherited s e) e) ∙ life_at s e
+
+phase_in : (p : Phase) (s : Session) (e : Event) → (told_in p s e).0.phase ≡ s.phase
+phase_in absent s e = refl
+phase_in destroyed s e = refl
+phase_in live s e = told_phase (inherited s e) e (evaluated (inherited s e) e) ∙ phase_at s e
+
+pub life_goes_by_events : LifeGoesByEvents
+life_goes_by_events s e = alive_in s.phase s e
+
+pub event_keeps_the_phase : EventKeepsThePhase
+event_keeps_the_phase s e = phase_in s.phase s e

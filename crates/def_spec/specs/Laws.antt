@@ -1,0 +1,241 @@
+-- What is promised of specifications and flags.
+use Rattle.std.specs.Prelude.{◌≡◌, ◌↔◌, ◌≤◌, ℕ, suc, nat_le, true, false, not, ◌&&◌, ◌||◌, List, [], ◌∷◌, length, Some, None, is_some, Ok, Err}
+use Rattle.std.specs.Bool.{⊤}
+use Rattle.def_term.specs.Tree.{Tree, atom, tuple, list, Trees, none, more}
+use Rattle.def_term.specs.Text.{is_among}
+use Rattle.def_term.specs.Names.{Name}
+use Rattle.def_spec.specs.Flags.{Flag, Flags, only, set_on_spawn, set_on_first_spawn, set_on_link, set_on_first_link, after_spawn, after_link}
+use Rattle.def_spec.specs.Matching.{Pattern, Bindings, Matches, bindings_of, occurs}
+use Rattle.def_spec.specs.Functions as fn
+use Rattle.def_spec.specs.Functions.{Func}
+use Rattle.def_spec.specs.Expressions.{Dialect, Action, message, return_trace, exception_trace, silent, enable_trace, disable_trace, caller, Expr, bound_to, whole_list, all_bound, constant, tuple_of, list_of, call, and_also, or_else, perform, Exprs, no_exprs, and_expr, Context, Place, in_condition, in_body, value, values}
+use Rattle.def_spec.specs.Outcome.{Clause, Spec, Outcome, IsOutcome, outcome_of}
+use Rattle.def_spec.specs.Reading.{SpecFault, unsupported, Called, a_function, an_and_also, an_or_else, an_action, has_action, any_number, unsupported_names, expr_of, exprs_of, head_of, clause_of, spec_of}
+
+-- ---- matching
+
+-- the walk finds b exactly where b is the binding
+abbrev pub WalkIsMatching : Type 0
+WalkIsMatching = (p : Pattern) (t : Tree) (b : Bindings) → (bindings_of p t ≡ Some b) ↔ Matches p t b
+
+-- there is one at most
+abbrev pub BindingIsUnique : Type 0
+BindingIsUnique = (p : Pattern) (t : Tree) (b c : Bindings) → Matches p t b → Matches p t c → b ≡ c
+
+-- the walk finds none exactly where there is none
+abbrev pub WalkMissesNone : Type 0
+WalkMissesNone = (p : Pattern) (t : Tree) → (bindings_of p t ≡ None) ↔ ((b : Bindings) → ¬ Matches p t b)
+
+-- ---- outcomes
+
+abbrev pub OutcomeIsComputed : Type 0
+OutcomeIsComputed = (s : Spec) (c : Context) → IsOutcome s c (outcome_of s c)
+
+abbrev pub OutcomeIsUnique : Type 0
+OutcomeIsUnique = (s : Spec) (c : Context) (o : Outcome) → IsOutcome s c o → o ≡ outcome_of s c
+
+-- ---- values
+
+-- the head binds each variable of the expression
+abbrev mutual
+  pub IsCovered : Pattern → Expr → Type 0
+  IsCovered p (bound_to n) = occurs n p ≡ true
+  IsCovered p whole_list = ⊤
+  IsCovered p all_bound = ⊤
+  IsCovered p (constant t) = ⊤
+  IsCovered p (tuple_of es) = AreCovered p es
+  IsCovered p (list_of es) = AreCovered p es
+  IsCovered p (call f es) = AreCovered p es
+  IsCovered p (and_also es) = AreCovered p es
+  IsCovered p (or_else es) = AreCovered p es
+  IsCovered p (perform a es) = AreCovered p es
+
+  pub AreCovered : Pattern → Exprs → Type 0
+  AreCovered p no_exprs = ⊤
+  AreCovered p (and_expr e es) = IsCovered p e × AreCovered p es
+
+-- in a body each expression has a term as its value
+abbrev pub BodiesHaveValues : Type 0
+BodiesHaveValues =
+    (d : Dialect) (head : Pattern) (t : Tree) (b : Bindings) (c : Context) (e : Expr) → Matches head t b → IsCovered head e →
+    is_some (value d in_body b c e) ≡ true
+
+-- each expression has the value that it has alone
+abbrev pub EachValue : Dialect → Place → Bindings → Context → Exprs → List Tree → Type 0
+EachValue d place b c no_exprs [] = ⊤
+EachValue d place b c no_exprs (t ∷ ts) = ⊥
+EachValue d place b c (and_expr e es) [] = ⊥
+EachValue d place b c (and_expr e es) (t ∷ ts) = (value d place b c e ≡ Some t) × EachValue d place b c es ts
+
+-- the values of several expressions are the values of each by itself: what was evaluated before, and the effects that it had, change none
+abbrev pub EffectsChangeNoValue : Type 0
+EffectsChangeNoValue = (d : Dialect) (place : Place) (b : Bindings) (c : Context) (es : Exprs) (ts : List Tree) → (values d place b c es ≡ Some ts) ↔ EachValue d place b c es ts
+
+-- ---- reading
+
+abbrev pub count_of : Exprs → ℕ
+count_of no_exprs = 0
+count_of (and_expr e es) = suc (count_of es)
+
+-- the least and the greatest number of arguments
+abbrev pub numbers_of_function : Func → ℕ × ℕ
+numbers_of_function fn.own_pid = (0, 0)
+numbers_of_function fn.own_node = (0, 1)
+numbers_of_function fn.element = (2, 2)
+numbers_of_function fn.add = (2, 2)
+numbers_of_function fn.subtract = (2, 2)
+numbers_of_function fn.multiply = (2, 2)
+numbers_of_function fn.divide = (2, 2)
+numbers_of_function fn.remainder = (2, 2)
+numbers_of_function fn.bit_and = (2, 2)
+numbers_of_function fn.bit_or = (2, 2)
+numbers_of_function fn.bit_xor = (2, 2)
+numbers_of_function fn.greater = (2, 2)
+numbers_of_function fn.greater_or_equal = (2, 2)
+numbers_of_function fn.less = (2, 2)
+numbers_of_function fn.less_or_equal = (2, 2)
+numbers_of_function fn.equal = (2, 2)
+numbers_of_function fn.exactly_equal = (2, 2)
+numbers_of_function fn.not_equal = (2, 2)
+numbers_of_function fn.exactly_not_equal = (2, 2)
+numbers_of_function fn.just_one_of = (2, 2)
+numbers_of_function fn.all_of = (1, any_number)
+numbers_of_function fn.one_of = (1, any_number)
+numbers_of_function _ = (1, 1)
+
+abbrev pub numbers_of_action : Action → ℕ × ℕ
+numbers_of_action message = (1, 1)
+numbers_of_action return_trace = (0, 0)
+numbers_of_action exception_trace = (0, 0)
+numbers_of_action silent = (1, 1)
+numbers_of_action enable_trace = (1, 2)
+numbers_of_action disable_trace = (1, 2)
+numbers_of_action caller = (0, 0)
+
+abbrev pub numbers_of : Called → ℕ × ℕ
+numbers_of (a_function f) = numbers_of_function f
+numbers_of an_and_also = (1, any_number)
+numbers_of an_or_else = (1, any_number)
+numbers_of (an_action a) = numbers_of_action a
+
+-- a call with a number of arguments that fits, and in a place where it is allowed: no action stands in a condition, nor one that the dialect lacks
+abbrev pub IsAllowed : Dialect → Place → Called → Type 0
+IsAllowed d in_condition (an_action a) = ⊥
+IsAllowed d in_body (an_action a) = has_action d a ≡ true
+IsAllowed d place (a_function f) = ⊤
+IsAllowed d place an_and_also = ⊤
+IsAllowed d place an_or_else = ⊤
+
+pub record IsFitting (d : Dialect) (place : Place) (f : Called) (n : ℕ) : Type 0 where
+  pub least : nat_le (numbers_of f).0 n ≡ true
+  pub most : nat_le n (numbers_of f).1 ≡ true
+  pub allowed : IsAllowed d place f
+
+abbrev mutual
+  pub AllCallsFit : Dialect → Place → Expr → Type 0
+  AllCallsFit d place (bound_to n) = ⊤
+  AllCallsFit d place whole_list = ⊤
+  AllCallsFit d place all_bound = ⊤
+  AllCallsFit d place (constant t) = ⊤
+  AllCallsFit d place (tuple_of es) = CallsOfAllFit d place es
+  AllCallsFit d place (list_of es) = CallsOfAllFit d place es
+  AllCallsFit d place (call f es) = IsFitting d place (a_function f) (count_of es) × CallsOfAllFit d place es
+  AllCallsFit d place (and_also es) = IsFitting d place an_and_also (count_of es) × CallsOfAllFit d place es
+  AllCallsFit d place (or_else es) = IsFitting d place an_or_else (count_of es) × CallsOfAllFit d place es
+  AllCallsFit d place (perform a es) = IsFitting d place (an_action a) (count_of es) × CallsOfAllFit d place es
+
+  pub CallsOfAllFit : Dialect → Place → Exprs → Type 0
+  CallsOfAllFit d place no_exprs = ⊤
+  CallsOfAllFit d place (and_expr e es) = AllCallsFit d place e × CallsOfAllFit d place es
+
+pub record IsSoundClause (d : Dialect) (k : Clause) : Type 0 where
+  pub conditions_covered : AreCovered k.head k.conditions
+  pub conditions_fit : CallsOfAllFit d in_condition k.conditions
+  pub body_covered : AreCovered k.head k.body
+  pub body_fits : CallsOfAllFit d in_body k.body
+
+abbrev pub AreSoundClauses : Dialect → List Clause → Type 0
+AreSoundClauses d [] = ⊤
+AreSoundClauses d (k ∷ ks) = IsSoundClause d k × AreSoundClauses d ks
+
+pub record IsSound (d : Dialect) (s : Spec) : Type 0 where
+  pub dialect : s.dialect ≡ d
+  pub nonempty : nat_le 1 (length s.clauses) ≡ true
+  pub clauses : AreSoundClauses d s.clauses
+
+-- a specification that is read has its dialect, clauses, variables that the heads bind, and calls that fit
+abbrev pub ReadSpecsAreSound : Type 0
+ReadSpecsAreSound = (d : Dialect) (t : Tree) (s : Spec) → spec_of d t ≡ Ok s → IsSound d s
+
+-- ---- the first fault
+
+abbrev pub trees_before : List Tree → Trees → Trees
+trees_before [] ts = ts
+trees_before (u ∷ us) ts = more u (trees_before us ts)
+
+abbrev pub AreRead : Dialect → List Tree → Type 0
+AreRead d [] = ⊤
+AreRead d (t ∷ ts) = ((k : Clause) × (clause_of d t ≡ Ok k)) × AreRead d ts
+
+-- the fault is that of the first clause that has one, whatever follows
+abbrev pub FirstFaultyClause : Type 0
+FirstFaultyClause =
+    (d : Dialect) (before : List Tree) (t : Tree) (after : Trees) (e : SpecFault) → AreRead d before → clause_of d t ≡ Err e →
+    spec_of d (list (trees_before before (more t after))) ≡ Err e
+
+-- of a clause the head's comes first, then that of the conditions, then that of the body
+abbrev pub HeadFaultFirst : Type 0
+HeadFaultFirst = (d : Dialect) (h : Tree) (cs bs : Trees) (e : SpecFault) → head_of h ≡ Err e → clause_of d (tuple (more h (more (list cs) (more (list bs) none)))) ≡ Err e
+
+abbrev pub ConditionFaultNext : Type 0
+ConditionFaultNext =
+    (d : Dialect) (h : Tree) (p : Pattern) (cs bs : Trees) (e : SpecFault) → head_of h ≡ Ok p → exprs_of d in_condition p cs ≡ Err e →
+    clause_of d (tuple (more h (more (list cs) (more (list bs) none)))) ≡ Err e
+
+abbrev pub BodyFaultLast : Type 0
+BodyFaultLast =
+    (d : Dialect) (h : Tree) (p : Pattern) (cs bs : Trees) (es : Exprs) (e : SpecFault) → head_of h ≡ Ok p → exprs_of d in_condition p cs ≡ Ok es → exprs_of d in_body p bs ≡ Err e →
+    clause_of d (tuple (more h (more (list cs) (more (list bs) none)))) ≡ Err e
+
+-- of several expressions the first fault
+abbrev pub FirstFaultyExpression : Type 0
+FirstFaultyExpression =
+    (d : Dialect) (place : Place) (p : Pattern) (t : Tree) (ts : Trees) (e : SpecFault) → expr_of d place p t ≡ Err e → exprs_of d place p (more t ts) ≡ Err e
+
+-- an unsupported name is a fault of its own, whatever its arguments
+abbrev pub UnsupportedFirst : Type 0
+UnsupportedFirst = (d : Dialect) (place : Place) (p : Pattern) (s : Name) (ts : Trees) → is_among unsupported_names s ≡ true → expr_of d place p (tuple (more (atom s) ts)) ≡ Err (unsupported s)
+
+-- ---- inheritance
+
+-- what a giving process keeps and what the other has afterwards, in the four cases of the two flags
+pub record Inherits (always first : Flag) (after : Flags → Flags → Flags × Flags) : Type 0 where
+  -- without either nothing is given
+  pub neither : (giver taker : Flags) → giver always ≡ false → giver first ≡ false → (x : Flag) →
+      ((after giver taker).0 x ≡ giver x) × ((after giver taker).1 x ≡ taker x)
+  -- with the first all are given, that one too, and none is lost
+  pub always_alone : (giver taker : Flags) → giver always ≡ true → giver first ≡ false → (x : Flag) →
+      ((after giver taker).0 x ≡ giver x) × ((after giver taker).1 x ≡ (taker x || giver x))
+  -- with the second all but that one are given, and that one is lost
+  pub first_alone : (giver taker : Flags) → giver always ≡ false → giver first ≡ true → (x : Flag) →
+      ((after giver taker).0 x ≡ (giver x && not (only first x))) × ((after giver taker).1 x ≡ (taker x || (giver x && not (only first x))))
+  -- with both all but both are given, and both are lost
+  pub both : (giver taker : Flags) → giver always ≡ true → giver first ≡ true → (x : Flag) →
+      ((after giver taker).0 x ≡ (giver x && not (only always x || only first x)))
+      × ((after giver taker).1 x ≡ (taker x || (giver x && not (only always x || only first x))))
+
+abbrev pub SpawnInherits : Type 0
+SpawnInherits = Inherits set_on_spawn set_on_first_spawn after_spawn
+
+abbrev pub LinkInherits : Type 0
+LinkInherits = Inherits set_on_link set_on_first_link after_link
+
+-- ---- variables
+
+abbrev pub AreNumbered : List Clause → Type 0
+AreNumbered [] = ⊤
+AreNumbered (k ∷ ks) = ((n : ℕ) → occurs n k.head ≡ true → n ≤ 999) × AreNumbered ks
+
+-- the variables of a specification that is read are numbered from 0 to 999
+abbrev pub VariablesAreNumbered : Type 0
+VariablesAreNumbered = (d : Dialect) (t : Tree) (s : Spec) → spec_of d t ≡ Ok s → AreNumbered s.clauses

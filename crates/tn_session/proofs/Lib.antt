@@ -1,0 +1,4 @@
+pub mod Longer
+pub mod Sessions
+pub mod FlagNames
+pub mod Existing

@@ -1,0 +1,6 @@
+pub mod Tracking
+pub mod Created
+pub mod Turns
+pub mod Moves
+pub mod Places
+pub mod OutputLemmas

@@ -1,0 +1,3 @@
+pub mod Tracked
+pub mod After
+pub mod Views
