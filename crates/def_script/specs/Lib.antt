@@ -1,1 +1,5 @@
+pub mod Limits
 pub mod Program
+pub mod Shapes
+pub mod Rules
+pub mod Script

@@ -10,9 +10,14 @@ use tn_term::{Atom, Term};
 #[derive(Drop)]
 pub enum Command<A: Allocator> {
     /// Creates the session, with this tracer (`trace:session_create/3`).
-    SessionCreate { session: Atom<A>, tracer: Atom<A> },
+    SessionCreate {
+        session: Atom<A>,
+        tracer: Atom<A>,
+    },
     /// Ends the session (`trace:session_destroy/1`).
-    SessionDestroy { session: Atom<A> },
+    SessionDestroy {
+        session: Atom<A>,
+    },
     /// Sets or clears flags of processes (`trace:process/4`).
     Process {
         session: Atom<A>,

@@ -19,7 +19,10 @@ pub enum Event<A: Allocator> {
         message: Term<A>,
     },
     /// A function was called.
-    Called { pid: u32, call: Call<A> },
+    Called {
+        pid: u32,
+        call: Call<A>,
+    },
     /// A call returned this value from the frame at this depth.
     Returned {
         pid: u32,
@@ -42,15 +45,30 @@ pub enum Event<A: Allocator> {
         args: Vec<Term<A>, A>,
     },
     /// The process ended.
-    Exited { pid: u32, reason: Term<A> },
+    Exited {
+        pid: u32,
+        reason: Term<A>,
+    },
     /// The process linked itself to another.
-    Linked { pid: u32, other: u32 },
+    Linked {
+        pid: u32,
+        other: u32,
+    },
     /// The process removed its link to another.
-    Unlinked { pid: u32, other: u32 },
+    Unlinked {
+        pid: u32,
+        other: u32,
+    },
     /// Another process linked itself to this one.
-    GettingLinked { pid: u32, other: u32 },
+    GettingLinked {
+        pid: u32,
+        other: u32,
+    },
     /// The link to another process was removed by that one, or by its exit.
-    GettingUnlinked { pid: u32, other: u32 },
+    GettingUnlinked {
+        pid: u32,
+        other: u32,
+    },
 }
 
 /// A call: whether it names the module, whether the function is exported, the function of the frame

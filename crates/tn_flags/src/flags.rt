@@ -122,15 +122,39 @@ fn named(text: &str) -> Option<Flags>
 {
     match text {
         "send" => Some(Flags { send: true, ..NONE }),
-        "receive" => Some(Flags { receive: true, ..NONE }),
+        "receive" => Some(Flags {
+            receive: true,
+            ..NONE
+        }),
         "call" => Some(Flags { call: true, ..NONE }),
-        "procs" => Some(Flags { procs: true, ..NONE }),
-        "silent" => Some(Flags { silent: true, ..NONE }),
-        "arity" => Some(Flags { arity: true, ..NONE }),
-        "set_on_spawn" => Some(Flags { set_on_spawn: true, ..NONE }),
-        "set_on_first_spawn" => Some(Flags { set_on_first_spawn: true, ..NONE }),
-        "set_on_link" => Some(Flags { set_on_link: true, ..NONE }),
-        "set_on_first_link" => Some(Flags { set_on_first_link: true, ..NONE }),
+        "procs" => Some(Flags {
+            procs: true,
+            ..NONE
+        }),
+        "silent" => Some(Flags {
+            silent: true,
+            ..NONE
+        }),
+        "arity" => Some(Flags {
+            arity: true,
+            ..NONE
+        }),
+        "set_on_spawn" => Some(Flags {
+            set_on_spawn: true,
+            ..NONE
+        }),
+        "set_on_first_spawn" => Some(Flags {
+            set_on_first_spawn: true,
+            ..NONE
+        }),
+        "set_on_link" => Some(Flags {
+            set_on_link: true,
+            ..NONE
+        }),
+        "set_on_first_link" => Some(Flags {
+            set_on_first_link: true,
+            ..NONE
+        }),
         _ => None,
     }
 }
@@ -170,7 +194,12 @@ pub fn inherit_spawn(parent: Flags, child: Flags) -> (Flags, Flags)
         set_on_first_spawn: true,
         ..NONE
     };
-    let (given, kept) = given_and_kept(parent, parent.set_on_spawn, parent.set_on_first_spawn, both);
+    let (given, kept) = given_and_kept(
+        parent,
+        parent.set_on_spawn,
+        parent.set_on_first_spawn,
+        both,
+    );
     (kept, child.join(given))
 }
 

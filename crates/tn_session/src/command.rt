@@ -89,7 +89,12 @@ fn flags_of<A: Allocator>(term: &Term<A>) -> Option<Flags>
 
 impl Session {
     // Sets or clears flags, and counts the processes; none where an argument is no good.
-    fn set_process<A: Allocator>(&mut self, procs: &Term<A>, how: &Term<A>, flags: &Term<A>) -> Option<u8>
+    fn set_process<A: Allocator>(
+        &mut self,
+        procs: &Term<A>,
+        how: &Term<A>,
+        flags: &Term<A>,
+    ) -> Option<u8>
         ensures { MatchOption result
             ((flags_set_if (session_of self.old) (procs_of (tree_of procs.now)) (how_of (tree_of how.now)) (flags_of (tree_of flags.now)) ≡ refused (session_of self.old)) × (self.new ≡ self.old))
             (λ n. flags_set_if (session_of self.old) (procs_of (tree_of procs.now)) (how_of (tree_of how.now)) (flags_of (tree_of flags.now)) ≡ (session_of self.new, number n)) }
@@ -142,7 +147,11 @@ impl Session {
         change_living(&mut self.flags, alive, on, flags);
     }
 
-    fn live_command<A: Allocator, B: Allocator + Copy>(&mut self, alloc: B, command: &Command<A>) -> Result<Term<B>, AllocError>
+    fn live_command<A: Allocator, B: Allocator + Copy>(
+        &mut self,
+        alloc: B,
+        command: &Command<A>,
+    ) -> Result<Term<B>, AllocError>
         requires { IsTrue (sets_no_specification (command_of command.now)) }
         ensures { IfOk result (λ t. (o : Opening) → done_live o (session_of self.old) (command_of command.now) ≡ (session_of self.new, tree_of t)) }
     {
@@ -152,16 +161,26 @@ impl Session {
                 *self = Session::unset(Phase::Destroyed, self.alive);
                 Ok(reply)
             }
-            Command::Process { procs, how, flags, .. } => match self.set_process(procs, how, flags) {
+            Command::Process {
+                procs,
+                how,
+                flags,
+                ..
+            } => match self.set_process(procs, how, flags) {
                 Some(count) => Ok(number_term(count)),
                 None => Ok(word(alloc, "badarg")?),
             },
             Command::SessionCreate { .. } => Ok(word(alloc, "badarg")?),
-            Command::Function { .. } | Command::Send { .. } | Command::Recv { .. } => unreachable!(),
+            Command::Function { .. } | Command::Send { .. } | Command::Recv { .. } =>
+                unreachable!(),
         }
     }
 
-    fn absent_command<A: Allocator, B: Allocator + Copy>(&mut self, alloc: B, command: &Command<A>) -> Result<Term<B>, AllocError>
+    fn absent_command<A: Allocator, B: Allocator + Copy>(
+        &mut self,
+        alloc: B,
+        command: &Command<A>,
+    ) -> Result<Term<B>, AllocError>
         ensures { IfOk result (λ t. done_absent (session_of self.old) (command_of command.now) ≡ (session_of self.new, tree_of t)) }
     {
         match command {
@@ -180,7 +199,11 @@ impl Session {
 
     /// What a command of the session does, and its reply: a creation where the session is absent, a
     /// destruction, or flags of processes. The command's session name isn't looked at.
-    pub fn command<A: Allocator, B: Allocator + Copy>(&mut self, alloc: B, command: &Command<A>) -> Result<Term<B>, AllocError>
+    pub fn command<A: Allocator, B: Allocator + Copy>(
+        &mut self,
+        alloc: B,
+        command: &Command<A>,
+    ) -> Result<Term<B>, AllocError>
         requires { IsTrue (sets_no_specification (command_of command.now)) }
         ensures { IfOk result (λ t. (o : Opening) → command_done o (session_of self.old) (command_of command.now) ≡ (session_of self.new, tree_of t)) }
     {
@@ -206,7 +229,11 @@ fn change_living(all: &mut [Flags], alive: Alive, on: bool, flags: Flags)
 fn changed(on: bool, flags: Flags, old: Flags) -> Flags
     ensures { flags_view result ≡ changed_flags on (flags_view flags) (flags_view old) }
 {
-    if on { old.join(flags) } else { old.without(flags) }
+    if on {
+        old.join(flags)
+    } else {
+        old.without(flags)
+    }
 }
 
 fn number_term<B: Allocator>(n: u8) -> Term<B>
@@ -216,7 +243,10 @@ fn number_term<B: Allocator>(n: u8) -> Term<B>
 }
 
 // {session,Name}
-fn created<A: Allocator, B: Allocator + Copy>(alloc: B, name: &Atom<A>) -> Result<Term<B>, AllocError>
+fn created<A: Allocator, B: Allocator + Copy>(
+    alloc: B,
+    name: &Atom<A>,
+) -> Result<Term<B>, AllocError>
     ensures { IfOk result (λ t. tree_of t ≡ tuple (of_elements (word "session" ∷ atom name.now ∷ []))) }
 {
     let session = word(alloc, "session")?;
@@ -228,7 +258,10 @@ fn created<A: Allocator, B: Allocator + Copy>(alloc: B, name: &Atom<A>) -> Resul
 }
 
 // The reply of a destroyed session, which nothing changes.
-fn destroyed_reply<A: Allocator, B: Allocator + Copy>(alloc: B, command: &Command<A>) -> Result<Term<B>, AllocError>
+fn destroyed_reply<A: Allocator, B: Allocator + Copy>(
+    alloc: B,
+    command: &Command<A>,
+) -> Result<Term<B>, AllocError>
     ensures { IfOk result (λ t. (s : State) → done_destroyed s (command_of command.now) ≡ (s, tree_of t)) }
 {
     match command {

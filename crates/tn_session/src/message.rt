@@ -40,7 +40,10 @@ pub(crate) fn tuple_of_three<B: Allocator + Copy>(
 }
 
 // {M,F,Arity}
-fn name_term<A: Allocator, B: Allocator + Copy>(alloc: B, mfa: &Mfa<A>) -> Result<Term<B>, AllocError>
+fn name_term<A: Allocator, B: Allocator + Copy>(
+    alloc: B,
+    mfa: &Mfa<A>,
+) -> Result<Term<B>, AllocError>
     ensures { IfOk result (λ t. tree_of t ≡ mfa_term (mfa_seen mfa.now)) }
 {
     let module = Term::Atom(mfa.module.copy_into(alloc)?);
@@ -48,7 +51,10 @@ fn name_term<A: Allocator, B: Allocator + Copy>(alloc: B, mfa: &Mfa<A>) -> Resul
     Ok(tuple_of_three(alloc, module, name, Term::Int(i64::from(mfa.arity)))?)
 }
 
-fn list_of<A: Allocator, B: Allocator + Copy>(alloc: B, items: &Vec<Term<A>, A>) -> Result<Term<B>, AllocError>
+fn list_of<A: Allocator, B: Allocator + Copy>(
+    alloc: B,
+    items: &Vec<Term<A>, A>,
+) -> Result<Term<B>, AllocError>
     ensures { IfOk result (λ t. tree_of t ≡ list (of_elements (map tree_of items.now.items))) }
 {
     let copies = copy_terms(items, alloc)?;
@@ -56,7 +62,11 @@ fn list_of<A: Allocator, B: Allocator + Copy>(alloc: B, items: &Vec<Term<A>, A>)
 }
 
 // {M,F,Args}
-fn call_of<A: Allocator, B: Allocator + Copy>(alloc: B, mfa: &Mfa<A>, args: &Vec<Term<A>, A>) -> Result<Term<B>, AllocError>
+fn call_of<A: Allocator, B: Allocator + Copy>(
+    alloc: B,
+    mfa: &Mfa<A>,
+    args: &Vec<Term<A>, A>,
+) -> Result<Term<B>, AllocError>
     ensures { IfOk result (λ t. tree_of t ≡ call_term (mfa_seen mfa.now) (map tree_of args.now.items)) }
 {
     let module = Term::Atom(mfa.module.copy_into(alloc)?);
@@ -80,7 +90,12 @@ fn front<B: Allocator + Copy>(alloc: B, pid: u32, kind: &str) -> Result<Vec<Term
 }
 
 // {trace,Pid,Kind,Detail}
-fn with_one<B: Allocator + Copy>(alloc: B, pid: u32, kind: &str, detail: Term<B>) -> Result<Term<B>, AllocError>
+fn with_one<B: Allocator + Copy>(
+    alloc: B,
+    pid: u32,
+    kind: &str,
+    detail: Term<B>,
+) -> Result<Term<B>, AllocError>
     requires { IsTrue (is_atom_text kind.now) }
     ensures { IfOk result (λ t. tree_of t ≡ tuple (of_elements (word "trace" ∷ pid_tree pid ∷ atom kind.now ∷ tree_of detail ∷ []))) }
 {
@@ -106,7 +121,12 @@ fn with_two<B: Allocator + Copy>(
     Ok(Term::Tuple(items))
 }
 
-fn call_message<A: Allocator, B: Allocator + Copy>(alloc: B, pid: u32, call: &Call<A>, short: bool) -> Result<Term<B>, AllocError>
+fn call_message<A: Allocator, B: Allocator + Copy>(
+    alloc: B,
+    pid: u32,
+    call: &Call<A>,
+    short: bool,
+) -> Result<Term<B>, AllocError>
     ensures { IfOk result (λ t. tree_of t ≡ tuple (of_elements (elements_of short (called pid (call_of_view call.now))))) }
 {
     let named = if short {
@@ -119,26 +139,69 @@ fn call_message<A: Allocator, B: Allocator + Copy>(alloc: B, pid: u32, call: &Ca
 
 /// The message of an event (module `trace`, "trace messages"); a call's names the arity alone where
 /// `short`.
-pub fn message_of<A: Allocator, B: Allocator + Copy>(alloc: B, event: &Event<A>, short: bool) -> Result<Term<B>, AllocError>
+pub fn message_of<A: Allocator, B: Allocator + Copy>(
+    alloc: B,
+    event: &Event<A>,
+    short: bool,
+) -> Result<Term<B>, AllocError>
     ensures { IfOk result (λ t. tree_of t ≡ tuple (of_elements (elements_of short (event_of event.now)))) }
 {
     match event {
-        Event::Sent { pid, message, to, alive } => Ok(sent(alloc, *pid, message, *to, *alive)?),
-        Event::Received { pid, sender: _, message } => Ok(with_copy(alloc, *pid, "receive", message)?),
+        Event::Sent {
+            pid,
+            message,
+            to,
+            alive,
+        } => Ok(sent(alloc, *pid, message, *to, *alive)?),
+        Event::Received {
+            pid,
+            sender: _,
+            message,
+        } => Ok(with_copy(alloc, *pid, "receive", message)?),
         Event::Called { pid, call } => Ok(call_message(alloc, *pid, call, short)?),
-        Event::Returned { pid, mfa, value, depth: _ } => Ok(returned(alloc, *pid, mfa, value)?),
-        Event::Spawn { pid, child, mfa, args } => Ok(with_call(alloc, *pid, "spawn", *child, mfa, args)?),
-        Event::Spawned { pid, parent, mfa, args } => Ok(with_call(alloc, *pid, "spawned", *parent, mfa, args)?),
+        Event::Returned {
+            pid,
+            mfa,
+            value,
+            depth: _,
+        } => Ok(returned(alloc, *pid, mfa, value)?),
+        Event::Spawn {
+            pid,
+            child,
+            mfa,
+            args,
+        } => Ok(with_call(alloc, *pid, "spawn", *child, mfa, args)?),
+        Event::Spawned {
+            pid,
+            parent,
+            mfa,
+            args,
+        } => Ok(with_call(alloc, *pid, "spawned", *parent, mfa, args)?),
         Event::Exited { pid, reason } => Ok(with_copy(alloc, *pid, "exit", reason)?),
         Event::Linked { pid, other } => Ok(with_one(alloc, *pid, "link", Term::Pid(*other))?),
         Event::Unlinked { pid, other } => Ok(with_one(alloc, *pid, "unlink", Term::Pid(*other))?),
-        Event::GettingLinked { pid, other } => Ok(with_one(alloc, *pid, "getting_linked", Term::Pid(*other))?),
-        Event::GettingUnlinked { pid, other } => Ok(with_one(alloc, *pid, "getting_unlinked", Term::Pid(*other))?),
+        Event::GettingLinked { pid, other } => Ok(with_one(
+            alloc,
+            *pid,
+            "getting_linked",
+            Term::Pid(*other),
+        )?),
+        Event::GettingUnlinked { pid, other } => Ok(with_one(
+            alloc,
+            *pid,
+            "getting_unlinked",
+            Term::Pid(*other),
+        )?),
     }
 }
 
 // {trace,Pid,Kind,Detail}, the detail copied
-fn with_copy<A: Allocator, B: Allocator + Copy>(alloc: B, pid: u32, kind: &str, detail: &Term<A>) -> Result<Term<B>, AllocError>
+fn with_copy<A: Allocator, B: Allocator + Copy>(
+    alloc: B,
+    pid: u32,
+    kind: &str,
+    detail: &Term<A>,
+) -> Result<Term<B>, AllocError>
     requires { IsTrue (is_atom_text kind.now) }
     ensures { IfOk result (λ t. tree_of t ≡ tuple (of_elements (word "trace" ∷ pid_tree pid ∷ atom kind.now ∷ tree_of detail.now ∷ []))) }
 {
@@ -162,18 +225,35 @@ fn with_call<A: Allocator, B: Allocator + Copy>(
     Ok(with_two(alloc, pid, kind, Term::Pid(other), call)?)
 }
 
-fn sent<A: Allocator, B: Allocator + Copy>(alloc: B, pid: u32, message: &Term<A>, to: u32, alive: bool) -> Result<Term<B>, AllocError>
+fn sent<A: Allocator, B: Allocator + Copy>(
+    alloc: B,
+    pid: u32,
+    message: &Term<A>,
+    to: u32,
+    alive: bool,
+) -> Result<Term<B>, AllocError>
     ensures { IfOk result (λ t. (short : Bool) → tree_of t ≡ tuple (of_elements (elements_of short (event_sent pid (tree_of message.now) to alive)))) }
 {
     let message = message.copy_into(alloc)?;
     if alive {
         Ok(with_two(alloc, pid, "send", message, Term::Pid(to))?)
     } else {
-        Ok(with_two(alloc, pid, "send_to_non_existing_process", message, Term::Pid(to))?)
+        Ok(with_two(
+            alloc,
+            pid,
+            "send_to_non_existing_process",
+            message,
+            Term::Pid(to),
+        )?)
     }
 }
 
-fn returned<A: Allocator, B: Allocator + Copy>(alloc: B, pid: u32, mfa: &Mfa<A>, value: &Term<A>) -> Result<Term<B>, AllocError>
+fn returned<A: Allocator, B: Allocator + Copy>(
+    alloc: B,
+    pid: u32,
+    mfa: &Mfa<A>,
+    value: &Term<A>,
+) -> Result<Term<B>, AllocError>
     ensures { IfOk result (λ t. tree_of t ≡ tuple (of_elements (word "trace" ∷ pid_tree pid ∷ word "return_from" ∷ mfa_term (mfa_seen mfa.now) ∷ tree_of value.now ∷ []))) }
 {
     let name = name_term(alloc, mfa)?;

@@ -138,7 +138,11 @@ impl Session {
         }
     }
 
-    fn live_event<A: Allocator, B: Allocator + Copy>(&mut self, alloc: B, event: &Event<A>) -> Result<Option<Term<B>>, AllocError>
+    fn live_event<A: Allocator, B: Allocator + Copy>(
+        &mut self,
+        alloc: B,
+        event: &Event<A>,
+    ) -> Result<Option<Term<B>>, AllocError>
         ensures { IfOk result (λ m. told_in live (session_of self.old) (event_of event.now) ≡ (session_of self.new, option_map tree_of m)) }
     {
         self.inherit(event);
@@ -154,7 +158,11 @@ impl Session {
 
     /// What the session makes of an event: the state afterwards, and at most one message. A session
     /// that isn't live follows who lives, and tells nothing.
-    pub fn event<A: Allocator, B: Allocator + Copy>(&mut self, alloc: B, event: &Event<A>) -> Result<Option<Term<B>>, AllocError>
+    pub fn event<A: Allocator, B: Allocator + Copy>(
+        &mut self,
+        alloc: B,
+        event: &Event<A>,
+    ) -> Result<Option<Term<B>>, AllocError>
         ensures { IfOk result (λ m. event_told (session_of self.old) (event_of event.now) ≡ (session_of self.new, option_map tree_of m)) }
     {
         match self.phase {

@@ -62,12 +62,12 @@ nothing_pick law p picks zero s s' ts lines journal a below h =
     let n = nothing_zero p s s' (nat_lt s.taken (length p.commands)) refl h in
     let past : length p.commands ≤ s.taken = ltb-false s.taken (length p.commands) n.1 in
     rests p picks zero s s' ts lines journal a n.0
-      (turn_zero p picks s r.0 (record { world = a.world; left = a.left; room_is = r.1 }) ∙ ap (takes_command (place_of p picks) r.0) (none_left p.commands s.taken past))
+    (turn_zero p picks s r.0 (record { world = a.world; left = a.left; room_is = r.1 }) ∙ ap (takes_command (place_of p picks) r.0) (none_left p.commands s.taken past))
 nothing_pick law p picks (suc m) s s' ts lines journal a below h =
     let r = with_room p picks journal a.journaled below in
     let n = nothing_of_move law p.functions s s' (suc m) (next_of p.functions s.world (suc m)) refl h in
     rests p picks (suc m) s s' ts lines journal a n.0
-      (turn_process p picks s r.0 m (record { world = a.world; left = a.left; room_is = r.1 }) ∙ ap (goes_to (place_of p picks) r.0) n.1.1)
+    (turn_process p picks s r.0 m (record { world = a.world; left = a.left; room_is = r.1 }) ∙ ap (goes_to (place_of p picks) r.0) n.1.1)
 
 -- ---- events
 
@@ -148,17 +148,19 @@ command_pick p picks zero s s' ts lines journal n a below h =
     let c : Command = d.0 in
     let turn : turn_at p picks 0 ≡ takes_command (place_of p picks) r.0 (c ∷ drop (suc s.taken) p.commands) = turn_zero p picks s r.0 (record { world = a.world; left = a.left; room_is = r.1 }) ∙ ap (takes_command (place_of p picks) r.0) d.2 in
     let place = place_more p picks 0 ∙ ap (λ (t : Turn). t.after) turn in
-    let shown : events p (picks ++ 0 ∷ []) ≡ events p picks ++ commanded c ∷ [] = events_more p picks 0 ∙ ap (λ (t : Turn). events p picks ++ t.shown) turn in
-    (c, record {
-      number = k.1;
-      command = d.1;
-      after = record {
-        world = ap (λ (q : State). q.world) k.0 ∙ a.world ∙ sym (ap (λ (q : Place). q.world) place);
-        left = ap (λ (q : State). drop q.taken p.commands) k.0 ∙ sym (ap (λ (q : Place). q.commands) place);
-        sessions = ap (map (with_command (opening p) c)) a.sessions ∙ sym (commands_more_all (opening p) (events p picks) c (creations p.commands)) ∙ ap (λ xs. all_after (opening p) xs (creations p.commands)) (sym shown);
-        replied = ap (λ xs. xs ++ line_of (reply_in (opening p) c ts)) a.replied
-          ∙ ap (λ t. lines_of (replies p picks) ++ line_of t) (reply_found p picks s.taken c ts d.1 a.sessions)
-          ∙ sym (ap (λ xs. lines_of (replies_from (opening p) [] xs)) shown ∙ ap lines_of (replies-append (opening p) [] (events p picks) (commanded c ∷ [])) ∙ flat_map-append line_of (replies p picks) (reply_of (opening p) (events p picks) c ∷ []) ∙ ap (λ xs. lines_of (replies p picks) ++ xs) (append-nil (line_of (reply_of (opening p) (events p picks) c))));
-        journaled = ap (λ xs. xs ++ 0 ∷ []) a.journaled ∙ sym (moves_more p picks 0 ∙ ap (λ (t : Turn). moves p picks ++ (if t.moved then 0 ∷ [] else [])) turn);
-      };
-    })
+    let shown : events p (picks ++ 0 ∷ []) ≡ events p picks ++ commanded c ∷ [] = events_more p picks 0 ∙ ap (λ (t : Turn). events p picks ++ t.shown) turn in (
+      c,
+      record {
+        number = k.1;
+        command = d.1;
+        after = record {
+          world = ap (λ (q : State). q.world) k.0 ∙ a.world ∙ sym (ap (λ (q : Place). q.world) place);
+          left = ap (λ (q : State). drop q.taken p.commands) k.0 ∙ sym (ap (λ (q : Place). q.commands) place);
+          sessions = ap (map (with_command (opening p) c)) a.sessions ∙ sym (commands_more_all (opening p) (events p picks) c (creations p.commands)) ∙ ap (λ xs. all_after (opening p) xs (creations p.commands)) (sym shown);
+          replied = ap (λ xs. xs ++ line_of (reply_in (opening p) c ts)) a.replied
+              ∙ ap (λ t. lines_of (replies p picks) ++ line_of t) (reply_found p picks s.taken c ts d.1 a.sessions)
+              ∙ sym (ap (λ xs. lines_of (replies_from (opening p) [] xs)) shown ∙ ap lines_of (replies-append (opening p) [] (events p picks) (commanded c ∷ [])) ∙ flat_map-append line_of (replies p picks) (reply_of (opening p) (events p picks) c ∷ []) ∙ ap (λ xs. lines_of (replies p picks) ++ xs) (append-nil (line_of (reply_of (opening p) (events p picks) c))));
+          journaled = ap (λ xs. xs ++ 0 ∷ []) a.journaled ∙ sym (moves_more p picks 0 ∙ ap (λ (t : Turn). moves p picks ++ (if t.moved then 0 ∷ [] else [])) turn);
+        };
+      },
+    )

@@ -33,8 +33,8 @@ event_more o items e s =
     ∙ ap (λ q. tracked s q (lines_of (messages_from o (absent_session o) (own ++ happened e ∷ [])))) (state-append o (absent_session o) own (happened e ∷ []))
     ∙ ap (λ ms. tracked s (event_told (state_after o (absent_session o) own) e).0 (lines_of ms)) (messages-append o (absent_session o) own (happened e ∷ []))
     ∙ ap (λ x. tracked s (event_told (state_after o (absent_session o) own) e).0 x)
-      (lines-append (messages_from o (absent_session o) own) (messages_from o (state_after o (absent_session o) own) (happened e ∷ []))
-       ∙ ap (λ ms. lines_of (messages_from o (absent_session o) own) ++ lines_of ms) (one_event o (state_after o (absent_session o) own) e))
+    (lines-append (messages_from o (absent_session o) own) (messages_from o (state_after o (absent_session o) own) (happened e ∷ []))
+    ∙ ap (λ ms. lines_of (messages_from o (absent_session o) own) ++ lines_of ms) (one_event o (state_after o (absent_session o) own) e))
 
 own_command : (o : Opening) (items : List Item) (c : Command) (s : Name × Name) (b : Bool) → bytes_eq s.0 (session_of c) ≡ b
     → tracked s (state_after o (absent_session o) (filter (is_own s.0) items ++ cond b (commanded c ∷ []) [])) (lines_of (messages_from o (absent_session o) (filter (is_own s.0) items ++ cond b (commanded c ∷ []) [])))

@@ -11,7 +11,11 @@ use std::alloc::{AllocError, Allocator};
 use tn_term::{Atom, Term};
 use tn_text::write_term;
 
-fn append_atom<A: Allocator + Copy>(output: &mut Vec<u8, A>, alloc: A, name: &Atom<A>) -> Result<(), AllocError>
+fn append_atom<A: Allocator + Copy>(
+    output: &mut Vec<u8, A>,
+    alloc: A,
+    name: &Atom<A>,
+) -> Result<(), AllocError>
     ensures { OnOk result (output.new.items ≡ output.old.items ++ atom_text name.now) }
 {
     let term = Term::Atom(name.copy_into(alloc)?);
@@ -20,7 +24,12 @@ fn append_atom<A: Allocator + Copy>(output: &mut Vec<u8, A>, alloc: A, name: &At
 }
 
 // == session NAME tracer TRACER
-fn append_header<A: Allocator + Copy>(output: &mut Vec<u8, A>, alloc: A, name: &Atom<A>, tracer: &Atom<A>) -> Result<(), AllocError>
+fn append_header<A: Allocator + Copy>(
+    output: &mut Vec<u8, A>,
+    alloc: A,
+    name: &Atom<A>,
+    tracer: &Atom<A>,
+) -> Result<(), AllocError>
     ensures { OnOk result (output.new.items ≡ output.old.items ++ header_line name.now tracer.now) }
 {
     output.extend_from_slice(b"== session ")?;
@@ -32,7 +41,11 @@ fn append_header<A: Allocator + Copy>(output: &mut Vec<u8, A>, alloc: A, name: &
 }
 
 /// Appends each session's header and the lines of its messages.
-pub fn append_listings<A: Allocator + Copy>(output: &mut Vec<u8, A>, alloc: A, sessions: &Vec<Tracked<A>, A>) -> Result<(), AllocError>
+pub fn append_listings<A: Allocator + Copy>(
+    output: &mut Vec<u8, A>,
+    alloc: A,
+    sessions: &Vec<Tracked<A>, A>,
+) -> Result<(), AllocError>
     ensures { OnOk result (output.new.items ≡ output.old.items ++ listings_of (map tracked_of sessions.now.items)) }
 {
     for session in sessions {
@@ -41,7 +54,11 @@ pub fn append_listings<A: Allocator + Copy>(output: &mut Vec<u8, A>, alloc: A, s
     Ok(())
 }
 
-fn append_listing<A: Allocator + Copy>(output: &mut Vec<u8, A>, alloc: A, session: &Tracked<A>) -> Result<(), AllocError>
+fn append_listing<A: Allocator + Copy>(
+    output: &mut Vec<u8, A>,
+    alloc: A,
+    session: &Tracked<A>,
+) -> Result<(), AllocError>
     ensures { OnOk result (output.new.items ≡ output.old.items ++ (header_line session.now.name session.now.tracer ++ session.now.text.items)) }
 {
     append_header(output, alloc, &session.name, &session.tracer)?;

@@ -56,7 +56,7 @@ impl<A: Allocator + Copy> Tracked<A> {
         requires { IsTrue (sets_no_specification (command_of command.now)) }
         ensures { IfOk result (λ r. (o : Opening) → (tracked_of self.new ≡ with_command o (command_of command.now) (tracked_of self.old))
             × MatchOption r (bytes_eq self.old.name (program.session_of (command_of command.now)) ≡ false)
-                (λ t. (bytes_eq self.old.name (program.session_of (command_of command.now)) ≡ true) × (tree_of t ≡ (command_done o (session_of self.old.session) (command_of command.now)).1))) }
+            (λ t. (bytes_eq self.old.name (program.session_of (command_of command.now)) ≡ true) × (tree_of t ≡ (command_done o (session_of self.old.session) (command_of command.now)).1))) }
     {
         if self.name.text() == command.session().text() {
             Ok(Some(self.session.command(alloc, command)?))
@@ -67,7 +67,11 @@ impl<A: Allocator + Copy> Tracked<A> {
 }
 
 /// Each session sees the event.
-pub fn tell_all<A: Allocator + Copy>(sessions: &mut Vec<Tracked<A>, A>, alloc: A, event: &Event<A>) -> Result<(), AllocError>
+pub fn tell_all<A: Allocator + Copy>(
+    sessions: &mut Vec<Tracked<A>, A>,
+    alloc: A,
+    event: &Event<A>,
+) -> Result<(), AllocError>
     ensures { IfOk result (λ _. map tracked_of sessions.new.items ≡ map (with_event (event_of event.now)) (map tracked_of sessions.old.items)) }
 {
     for place in 0..sessions.len() {
@@ -77,7 +81,11 @@ pub fn tell_all<A: Allocator + Copy>(sessions: &mut Vec<Tracked<A>, A>, alloc: A
 }
 
 /// Each session sees the events, in order.
-pub fn tell_events<A: Allocator + Copy>(sessions: &mut Vec<Tracked<A>, A>, alloc: A, events: &Vec<Event<A>, A>) -> Result<(), AllocError>
+pub fn tell_events<A: Allocator + Copy>(
+    sessions: &mut Vec<Tracked<A>, A>,
+    alloc: A,
+    events: &Vec<Event<A>, A>,
+) -> Result<(), AllocError>
     ensures { IfOk result (λ _. map tracked_of sessions.new.items ≡ with_events (map event_of events.now.items) (map tracked_of sessions.old.items)) }
 {
     for event in events {
@@ -87,7 +95,11 @@ pub fn tell_events<A: Allocator + Copy>(sessions: &mut Vec<Tracked<A>, A>, alloc
 }
 
 /// The session that the command names does it. None where there is no such session.
-pub fn obey_all<A: Allocator + Copy>(sessions: &mut Vec<Tracked<A>, A>, alloc: A, command: &Command<A>) -> Result<Option<Term<A>>, AllocError>
+pub fn obey_all<A: Allocator + Copy>(
+    sessions: &mut Vec<Tracked<A>, A>,
+    alloc: A,
+    command: &Command<A>,
+) -> Result<Option<Term<A>>, AllocError>
     requires { IsTrue (sets_no_specification (command_of command.now)) }
     ensures { IfOk result (λ r. (o : Opening) → (map tracked_of sessions.new.items ≡ map (with_command o (command_of command.now)) (map tracked_of sessions.old.items))
         × (option_map tree_of r ≡ reply_from o (command_of command.now) None (map tracked_of sessions.old.items))) }

@@ -18,8 +18,8 @@ loop-place-preserved c =
     let l = c.loop-place in
     let below : l.place < length l.all = omega arith in
     elim c.if-has_place.branch [
-      then-has_place w ↦ living_case flags_of c.args.on (flags_of c.args.flags) (alive_of c.args.alive) c.args.all.now l.all l.place nothing _ w.changed.result below l.auto.all l.invariant w.all-is w.changed.ensures (sym w.if-has_place.true ∙ c.has_place.ensures)
-    | else-has_place w ↦ other_case flags_of c.args.on (flags_of c.args.flags) (alive_of c.args.alive) c.args.all.now l.all l.place nothing _ below l.auto.all l.invariant w.all-is (sym w.if-has_place.false ∙ c.has_place.ensures)
+      | then-has_place w ↦ living_case flags_of c.args.on (flags_of c.args.flags) (alive_of c.args.alive) c.args.all.now l.all l.place nothing _ w.changed.result below l.auto.all l.invariant w.all-is w.changed.ensures (sym w.if-has_place.true ∙ c.has_place.ensures)
+      | else-has_place w ↦ other_case flags_of c.args.on (flags_of c.args.flags) (alive_of c.args.alive) c.args.all.now l.all l.place nothing _ below l.auto.all l.invariant w.all-is (sym w.if-has_place.false ∙ c.has_place.ensures)
     ]
 
 pub returns : goal.returns

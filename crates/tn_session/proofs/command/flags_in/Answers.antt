@@ -19,9 +19,11 @@ loop-left-preserved g c =
     let l = c.loop-left in
     let some_left = c.loop-left-test.true in
     let within = l.invariant.0 in
-    let back : (l.left - 1) + 1 ≡ l.left = omega arith in
-    (omega arith, named_more tree_of v.items (l.left - 1) c.index.result.now (flags_of c.in-Some.flag) (flags_of l.flags) _ (omega arith) c.index.ensures (sym c.in-Some.ensures)
-      (ap (λ k. flags_named (seen tree_of (drop k v.items))) back ∙ l.invariant.1) c.join-flags.ensures)
+    let back : (l.left - 1) + 1 ≡ l.left = omega arith in (
+      omega arith,
+      named_more tree_of v.items (l.left - 1) c.index.result.now (flags_of c.in-Some.flag) (flags_of l.flags) _ (omega arith) c.index.ensures (sym c.in-Some.ensures)
+          (ap (λ k. flags_named (seen tree_of (drop k v.items))) back ∙ l.invariant.1) c.join-flags.ensures,
+    )
 
 pub returns-in-None : goal.returns-in-None
 returns-in-None g c =

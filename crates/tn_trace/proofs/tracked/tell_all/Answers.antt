@@ -13,10 +13,11 @@ loop-place-preserved g c =
     let e = event_of c.args.event.now in
     let v_len = c.args.sessions.now.ok.0 in
     let last = c.len-place-end.ensures in
-    let below : l.place < length l.sessions.items = omega (arith, v_len, last, l.invariant.0) in
-    (length-set l.sessions.items l.place c.tell.new.self ∙ l.invariant.0,
-     one_more_place tracked_of (with_event e) c.args.sessions.now.items l.sessions.items l.place c.index_mut.result.now c.tell.new.self below l.invariant.0
-       (c.in_ok-tell.ensures ∙ ap (λ t. with_event e (tracked_of t)) c.index_mut.ensures.value) l.invariant.1)
+    let below : l.place < length l.sessions.items = omega (arith, v_len, last, l.invariant.0) in (
+      length-set l.sessions.items l.place c.tell.new.self ∙ l.invariant.0,
+      one_more_place tracked_of (with_event e) c.args.sessions.now.items l.sessions.items l.place c.index_mut.result.now c.tell.new.self below l.invariant.0
+          (c.in_ok-tell.ensures ∙ ap (λ t. with_event e (tracked_of t)) c.index_mut.ensures.value) l.invariant.1,
+    )
 
 pub returns : goal.returns
 returns g c =

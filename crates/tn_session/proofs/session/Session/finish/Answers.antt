@@ -7,4 +7,4 @@ pub returns-in-Exited : goal.returns-in-Exited
 returns-in-Exited g c =
     let s = c.args.self.now in
     rw c.in-Exited.is (exit_case (session_of s) (session_of (record s { alive = c.remove.new.self })) (session_of c.set_flags.new.self) c.in-Exited.pid _
-      (ap (λ a. record (session_of s) { alive = a }) c.remove.ensures) c.set_flags.ensures c.none.ensures)
+    (ap (λ a. record (session_of s) { alive = a }) c.remove.ensures) c.set_flags.ensures c.none.ensures)

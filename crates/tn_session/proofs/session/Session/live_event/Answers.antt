@@ -13,8 +13,8 @@ returns-then-shows g c =
     let t = session_of c.inherit.new.self in
     let e = event_of c.args.event.now in
     shown_case (session_of c.args.self.now) t (session_of c.finish.new.self) e _ c.shows.result c.inherit.ensures c.shows.ensures.value c.if-shows.true (c.shows.ensures.loud c.if-shows.true)
-      (c.in_ok-message.ensures ∙ ap (λ short. tuple (of_elements (elements_of short e))) (ap (λ f. f arity_flag) c.flags_at-short.ensures ∙ ap (λ p. flags_at t p arity_flag) c.process_of.ensures))
-      c.finish.ensures
+    (c.in_ok-message.ensures ∙ ap (λ short. tuple (of_elements (elements_of short e))) (ap (λ f. f arity_flag) c.flags_at-short.ensures ∙ ap (λ p. flags_at t p arity_flag) c.process_of.ensures))
+    c.finish.ensures
 
 pub returns : goal.returns
 returns g c =

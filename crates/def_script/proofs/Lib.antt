@@ -1,0 +1,3 @@
+pub mod FirstBroken
+pub mod OneScript
+mod Rows

@@ -1,0 +1,28 @@
+-- The limits on scripts, apart from those on terms (own).
+use Rattle.std.specs.Prelude.{ℕ}
+
+-- forms of a script
+abbrev pub FORMS : ℕ
+FORMS = 256
+
+-- parameters of a function, and arguments of a call
+abbrev pub PARAMETERS : ℕ
+PARAMETERS = 255
+
+-- functions of a script, and steps of one of them
+abbrev pub FUNCTIONS : ℕ
+FUNCTIONS = 64
+
+abbrev pub STEPS : ℕ
+STEPS = 64
+
+-- initial processes
+abbrev pub PROCESSES : ℕ
+PROCESSES = 16
+
+-- commands of the control list, and sessions that they create
+abbrev pub COMMANDS : ℕ
+COMMANDS = 256
+
+abbrev pub SESSIONS : ℕ
+SESSIONS = 32

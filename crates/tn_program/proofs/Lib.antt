@@ -1,0 +1,8 @@
+pub mod Any
+pub mod Equal
+pub mod First
+pub mod Gathered
+pub mod Made
+pub mod Seen
+pub mod Totals
+pub mod Unbound

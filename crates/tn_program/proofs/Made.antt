@@ -1,0 +1,49 @@
+-- The creations among commands, command by command.
+use Rattle.std.proofs.Common.{◌≡◌, ℕ, zero, suc, ◌+◌, ◌-◌, ◌==◌, ◌<◌, ◌≤◌, Bool, true, false, ◌&&◌, cond, List, ◌∷◌, length, get_or, drop, map, slice_get, refl, sym, ap, ◌∙◌, arith}
+use Rattle.std.proofs.lemmas.List.{drop_more}
+use Rattle.def_script.specs.Program.{Command, create, destroy, set_processes, set_function, set_send, set_receive}
+use Rattle.def_script.specs.Rules.{is_creation}
+use Rattle.def_script.specs.Script.{creation_of, creations}
+
+pub creations_at : {X : Type 0} (f : X → Command) (xs : List X) (i : ℕ) (x : X) → i < length xs → x ≡ get_or xs i x → creations (map f (drop i xs)) ≡ creations (f x ∷ map f (drop (i + 1) xs))
+creations_at f xs i x below is = ap (λ ys. creations (map f ys)) (drop_more xs i x below) ∙ ap (λ y. creations (f y ∷ map f (drop (i + 1) xs))) (sym is)
+
+pub one_counted : (c : Command) (cs : List Command) → length (creations (c ∷ cs)) ≡ cond (is_creation c) 1 0 + length (creations cs)
+one_counted (create s t) cs = omega arith
+one_counted (destroy s) cs = omega arith
+one_counted (set_processes s p h f) cs = omega arith
+one_counted (set_function s m p o) cs = omega arith
+one_counted (set_send s p) cs = omega arith
+one_counted (set_receive s p) cs = omega arith
+
+pub weighs_little : (b : Bool) (w : ℕ) → w ≡ cond b 1 0 → w ≤ 1
+weighs_little true w e = omega arith
+weighs_little false w e = omega arith
+
+true_is_not_false : true ≡ false → ⊥
+true_is_not_false e = cc
+
+never : (b : Bool) → (b && false) ≡ true → ⊥
+never true e = cc
+never false e = cc
+
+suc_is_some : (n : ℕ) → (suc n == 0) ≡ false
+suc_is_some n = grind arith
+
+pub found_here : (c : Command) (cs : List Command) (n : ℕ) → (n == 0 && is_creation c) ≡ true → creation_of c ≡ slice_get (creations (c ∷ cs)) n
+found_here (create s t) cs zero e = refl
+found_here (create s t) cs (suc n) e = absurd (true_is_not_false (sym e ∙ ap (λ b. b && true) (suc_is_some n)))
+found_here (destroy s) cs n e = absurd (never (n == 0) e)
+found_here (set_processes s p h f) cs n e = absurd (never (n == 0) e)
+found_here (set_function s m p o) cs n e = absurd (never (n == 0) e)
+found_here (set_send s p) cs n e = absurd (never (n == 0) e)
+found_here (set_receive s p) cs n e = absurd (never (n == 0) e)
+
+pub passed_over : (c : Command) (cs : List Command) (n w : ℕ) → w ≡ cond (is_creation c) 1 0 → (n == 0 && is_creation c) ≡ false → (w ≤ n) × (slice_get (creations (c ∷ cs)) n ≡ slice_get (creations cs) (n - w))
+passed_over (create s t) cs zero w e f = absurd (true_is_not_false f)
+passed_over (create s t) cs (suc n) w e f = let same : suc n - w ≡ n = omega arith in (omega arith, ap (slice_get (creations cs)) (sym same))
+passed_over (destroy s) cs n w e f = let same : n - w ≡ n = omega arith in (omega arith, ap (slice_get (creations cs)) (sym same))
+passed_over (set_processes s p h g) cs n w e f = let same : n - w ≡ n = omega arith in (omega arith, ap (slice_get (creations cs)) (sym same))
+passed_over (set_function s m p o) cs n w e f = let same : n - w ≡ n = omega arith in (omega arith, ap (slice_get (creations cs)) (sym same))
+passed_over (set_send s p) cs n w e f = let same : n - w ≡ n = omega arith in (omega arith, ap (slice_get (creations cs)) (sym same))
+passed_over (set_receive s p) cs n w e f = let same : n - w ≡ n = omega arith in (omega arith, ap (slice_get (creations cs)) (sym same))

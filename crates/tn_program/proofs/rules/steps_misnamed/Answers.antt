@@ -1,0 +1,19 @@
+use Rattle.std.proofs.Common.{map, refl, sym, ◌∙◌}
+use Rattle.def_script.specs.Rules.{passes, named_by, is_misnamed}
+use Rattle.tn_script.specs.Views.{step_of, form_of}
+use Rattle.tn_program.proofs.Any.{any_found, any_next, any_none}
+use Rattle.tn_program.proofs.rules.steps_misnamed.Goals as goal
+
+pub loop-step-init : goal.loop-step-init
+loop-step-init g c = refl
+
+pub returns-then-step_misnamed : goal.returns-then-step_misnamed
+returns-then-step_misnamed g c =
+    any_found (λ s. passes (is_misnamed (map (form_of {A = g.row.A.Denot}) c.args.forms.now)) (named_by c.args.of_module.now s)) (step_of {A = g.row.A.Denot}) c.args.steps.now c.loop-step.step-index c.step-item.result c.loop-step-test.true c.step-item.is (sym c.step_misnamed.ensures ∙ c.if-step_misnamed.true) c.loop-step.invariant
+
+pub loop-step-preserved : goal.loop-step-preserved
+loop-step-preserved g c =
+    any_next (λ s. passes (is_misnamed (map (form_of {A = g.row.A.Denot}) c.args.forms.now)) (named_by c.args.of_module.now s)) (step_of {A = g.row.A.Denot}) c.args.steps.now c.loop-step.step-index c.step-item.result c.loop-step-test.true c.step-item.is (sym c.step_misnamed.ensures ∙ c.if-step_misnamed.false) c.loop-step.invariant
+
+pub returns : goal.returns
+returns g c = any_none (λ s. passes (is_misnamed (map (form_of {A = g.row.A.Denot}) c.args.forms.now)) (named_by c.args.of_module.now s)) (step_of {A = g.row.A.Denot}) c.args.steps.now c.loop-step.step-index c.loop-step-test.false c.loop-step.invariant

@@ -1,0 +1,19 @@
+use Rattle.std.proofs.Common.{refl, sym, ◌∙◌}
+use Rattle.tn_script.specs.Views.{form_of}
+use Rattle.def_script.specs.Rules.{is_tracer, commands_of_form}
+use Rattle.tn_program.proofs.Any.{any_found, any_next, any_none}
+use Rattle.tn_program.proofs.sessions.forms_give.Goals as goal
+
+pub loop-form-init : goal.loop-form-init
+loop-form-init g c = refl
+
+pub returns-then-form_gives : goal.returns-then-form_gives
+returns-then-form_gives g c =
+    any_found (λ f. is_tracer (commands_of_form f) c.args.name.now) (form_of {A = g.row.A.Denot}) c.args.forms.now c.loop-form.form-index c.form-item.result c.loop-form-test.true c.form-item.is (sym c.form_gives.ensures ∙ c.if-form_gives.true) c.loop-form.invariant
+
+pub loop-form-preserved : goal.loop-form-preserved
+loop-form-preserved g c =
+    any_next (λ f. is_tracer (commands_of_form f) c.args.name.now) (form_of {A = g.row.A.Denot}) c.args.forms.now c.loop-form.form-index c.form-item.result c.loop-form-test.true c.form-item.is (sym c.form_gives.ensures ∙ c.if-form_gives.false) c.loop-form.invariant
+
+pub returns : goal.returns
+returns g c = any_none (λ f. is_tracer (commands_of_form f) c.args.name.now) (form_of {A = g.row.A.Denot}) c.args.forms.now c.loop-form.form-index c.loop-form-test.false c.loop-form.invariant

@@ -1,0 +1,69 @@
+// The sessions that a control list creates, in its order.
+ghost use Rattle.std.specs.Prelude.{◌≡◌, ◌&&◌, ◌==◌, cond, length, map, slice_get};
+ghost use Rattle.std.specs.Option.{option_map};
+ghost use Rattle.def_script.specs.Rules.{is_creation};
+ghost use Rattle.def_script.specs.Script.{creation_of, creations};
+ghost use Rattle.tn_flags.specs.Views.{command_of};
+ghost use Rattle.tn_program.specs.Bound.{lent};
+
+use std::alloc::Allocator;
+use tn_flags::Command;
+use tn_term::Atom;
+
+/// The name and the tracer of the session that the command creates, if it creates one.
+fn creation<A: Allocator>(command: &Command<A>) -> Option<(&Atom<A>, &Atom<A>)>
+    ensures { option_map lent result ≡ creation_of (command_of command.now) }
+{
+    match command {
+        Command::SessionCreate { session, tracer } => Some((session, tracer)),
+        _ => None,
+    }
+}
+
+/// 1 for a creation, else 0.
+fn weight<A: Allocator>(command: &Command<A>) -> usize
+    ensures { result ≡ cond (is_creation (command_of command.now)) 1 0 }
+{
+    match command {
+        Command::SessionCreate { .. } => 1,
+        _ => 0,
+    }
+}
+
+/// Whether the command is a creation and none is to be passed over.
+fn is_found<A: Allocator>(command: &Command<A>, left: usize) -> bool
+    ensures { result ≡ (left == 0 && is_creation (command_of command.now)) }
+{
+    match command {
+        Command::SessionCreate { .. } => left == 0,
+        _ => false,
+    }
+}
+
+/// How many sessions the commands create.
+pub fn count_sessions<A: Allocator>(commands: &[Command<A>]) -> usize
+    ensures { result ≡ length (creations (map command_of commands.now)) }
+{
+    let mut count = 0;
+    for command in commands {
+        count += weight(command);
+    }
+    count
+}
+
+/// The session with this number, from 0, that the commands create.
+pub fn find_session<A: Allocator>(
+    commands: &[Command<A>],
+    number: usize,
+) -> Option<(&Atom<A>, &Atom<A>)>
+    ensures { option_map lent result ≡ slice_get (creations (map command_of commands.now)) number }
+{
+    let mut left = number;
+    for command in commands {
+        if is_found(command, left) {
+            return creation(command);
+        }
+        left -= weight(command);
+    }
+    None
+}

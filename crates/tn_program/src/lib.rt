@@ -1,0 +1,26 @@
+//! Programs: forms that keep all static rules.
+//!
+//! Stands on tn_script and on the definitions of def_script. Promises that `program` answers exactly
+//! the program of forms that break no rule, or the first that does and the least rule that it breaks;
+//! that a copy is an equal program, and that `same` is equality; its sessions are the creations of the
+//! control list in their order.
+#![tactic(auto)]
+
+mod copies;
+mod counts;
+mod creations;
+mod fault;
+mod gather;
+mod lookup;
+mod parts;
+mod rules;
+mod same;
+mod sessions;
+mod variables;
+
+pub use fault::RuleFault;
+pub use gather::program;
+pub use parts::Program;
+
+#[cfg(test)]
+mod tests;

@@ -1,0 +1,340 @@
+// The static rules, each in a function, and the first form that breaks one.
+ghost use Rattle.std.specs.Prelude.{◌≡◌, IfOk, ◌&&◌, map, length, nat_le, nat_lt};
+ghost use Rattle.std.specs.List.{list_any, count_by};
+ghost use Rattle.def_script.specs.Limits.{FUNCTIONS as function_limit, STEPS as step_limit, PROCESSES as process_limit, COMMANDS as command_limit, SESSIONS as session_limit};
+ghost use Rattle.def_script.specs.Rules.{is_function, is_process, is_creation, commands_of, holds_past as is_past};
+ghost use Rattle.tn_flags.specs.Views.{command_of};
+ghost use Rattle.std.specs.Option.{option_map};
+ghost use Rattle.def_script.specs.Rules.{passes, named_by, named_with_module, is_misnamed as is_misnamed_in, is_declared_at_all as is_declared_at_all_in, is_internal as is_internal_in, breaks_duplicate, breaks_undeclared, breaks_not_exported, breaks_unbound, breaks_tracer_taken, breaks_arity, breaks_limit, rule_broken};
+ghost use Rattle.tn_script.specs.Views.{function_of, step_of, form_of};
+ghost use Rattle.tn_program.specs.Named.{mfa_from};
+ghost use Rattle.tn_program.specs.Naming.{is_unnamed};
+ghost use Rattle.tn_program.specs.Faults.{rule_of, IsKept};
+
+use crate::counts::{
+    all_commands, all_creations, creation_total, function_total, holds_past, process_total,
+};
+use crate::fault::{Rule, RuleFault, fault_in};
+use crate::lookup::{is_declared, is_declared_at_all, is_internal};
+use crate::sessions::{are_unmade, create_again, take_tracer};
+use crate::variables::{args_unbound, is_unbound};
+use std::alloc::{AllocError, Allocator};
+use tn_flags::Command;
+use tn_script::{Form, Function, Step};
+
+/// The greatest number of functions.
+const FUNCTIONS: u64 = 64;
+
+/// The greatest number of steps of a function.
+const STEPS: usize = 64;
+
+/// The greatest number of initial processes.
+const PROCESSES: u64 = 16;
+
+/// The greatest number of commands.
+const COMMANDS: u64 = 256;
+
+/// The greatest number of sessions.
+const SESSIONS: u64 = 32;
+
+/// Whether the step names a function that no form declares with any number of parameters.
+fn step_undeclared<A: Allocator>(forms: &[Form<A>], of_module: &str, step: &Step<A>) -> bool
+    ensures { result ≡ passes (is_unnamed (map form_of forms.now)) (named_by of_module.now (step_of step.now)) }
+{
+    match step {
+        Step::CallRemote {
+            module,
+            name,
+            args,
+            ..
+        } => !is_declared_at_all(forms, module.text(), name.text(), args.terms.len()),
+        Step::CallLocal { name, args, .. } => !is_declared_at_all(
+            forms,
+            of_module,
+            name.text(),
+            args.terms.len(),
+        ),
+        Step::Spawn {
+            module,
+            name,
+            args,
+            ..
+        } => !is_declared_at_all(forms, module.text(), name.text(), args.terms.len()),
+        _ => false,
+    }
+}
+
+/// Whether the step spawns an internal function, or calls one with the module.
+fn step_internal<A: Allocator>(forms: &[Form<A>], step: &Step<A>) -> bool
+    ensures { result ≡ passes (is_internal_in (map form_of forms.now)) (named_with_module (step_of step.now)) }
+{
+    match step {
+        Step::CallRemote {
+            module,
+            name,
+            args,
+            ..
+        } => is_internal(forms, module.text(), name.text(), args.terms.len()),
+        Step::Spawn {
+            module,
+            name,
+            args,
+            ..
+        } => is_internal(forms, module.text(), name.text(), args.terms.len()),
+        _ => false,
+    }
+}
+
+/// Whether a function of this module and name is declared, but not with that number of parameters.
+fn is_misnamed<A: Allocator>(forms: &[Form<A>], of_module: &str, name: &str, arity: usize) -> bool
+    ensures { result ≡ is_misnamed_in (map form_of forms.now) (mfa_from of_module.now name.now arity) }
+{
+    is_declared_at_all(forms, of_module, name, arity) && !is_declared(forms, of_module, name, arity)
+}
+
+/// Whether the step names a function that is declared, but not with that number of arguments.
+fn step_misnamed<A: Allocator>(forms: &[Form<A>], of_module: &str, step: &Step<A>) -> bool
+    ensures { result ≡ passes (is_misnamed_in (map form_of forms.now)) (named_by of_module.now (step_of step.now)) }
+{
+    match step {
+        Step::CallRemote {
+            module,
+            name,
+            args,
+            ..
+        } => is_misnamed(forms, module.text(), name.text(), args.terms.len()),
+        Step::CallLocal { name, args, .. } => is_misnamed(
+            forms,
+            of_module,
+            name.text(),
+            args.terms.len(),
+        ),
+        Step::Spawn {
+            module,
+            name,
+            args,
+            ..
+        } => is_misnamed(forms, module.text(), name.text(), args.terms.len()),
+        _ => false,
+    }
+}
+
+/// Whether a step names a function that no form declares with any number of parameters.
+fn steps_undeclared<A: Allocator>(forms: &[Form<A>], of_module: &str, steps: &[Step<A>]) -> bool
+    ensures { result ≡ list_any (λ s. passes (is_unnamed (map form_of forms.now)) (named_by of_module.now s)) (map step_of steps.now) }
+{
+    for step in steps {
+        if step_undeclared(forms, of_module, step) {
+            return true;
+        }
+    }
+    false
+}
+
+/// Whether a step spawns an internal function, or calls one with the module.
+fn steps_internal<A: Allocator>(forms: &[Form<A>], steps: &[Step<A>]) -> bool
+    ensures { result ≡ list_any (λ s. passes (is_internal_in (map form_of forms.now)) (named_with_module s)) (map step_of steps.now) }
+{
+    for step in steps {
+        if step_internal(forms, step) {
+            return true;
+        }
+    }
+    false
+}
+
+/// Whether a step names a function that is declared, but not with that number of arguments.
+fn steps_misnamed<A: Allocator>(forms: &[Form<A>], of_module: &str, steps: &[Step<A>]) -> bool
+    ensures { result ≡ list_any (λ s. passes (is_misnamed_in (map form_of forms.now)) (named_by of_module.now s)) (map step_of steps.now) }
+{
+    for step in steps {
+        if step_misnamed(forms, of_module, step) {
+            return true;
+        }
+    }
+    false
+}
+
+/// Rule 7.
+fn is_duplicate<A: Allocator>(earlier: &[Form<A>], form: &Form<A>) -> bool
+    ensures { result ≡ breaks_duplicate (map form_of earlier.now) (form_of form.now) }
+{
+    match form {
+        Form::Function(function) => is_declared(
+            earlier,
+            function.module.text(),
+            function.name.text(),
+            function.params.as_slice().len(),
+        ),
+        Form::Process(_) => false,
+        Form::Control(commands) => create_again(earlier, commands),
+    }
+}
+
+/// Rule 8.
+fn is_undeclared<A: Allocator>(forms: &[Form<A>], earlier: &[Form<A>], form: &Form<A>) -> bool
+    ensures { result ≡ breaks_undeclared (map form_of forms.now) (map form_of earlier.now) (form_of form.now) }
+{
+    match form {
+        Form::Function(function) => steps_undeclared(
+            forms,
+            function.module.text(),
+            &function.steps,
+        ),
+        Form::Process(entry) => !is_declared_at_all(
+            forms,
+            entry.module.text(),
+            entry.name.text(),
+            entry.args.terms.len(),
+        ),
+        Form::Control(commands) => are_unmade(earlier, commands),
+    }
+}
+
+/// Rule 9.
+fn is_not_exported<A: Allocator>(forms: &[Form<A>], form: &Form<A>) -> bool
+    ensures { result ≡ breaks_not_exported (map form_of forms.now) (form_of form.now) }
+{
+    match form {
+        Form::Function(function) => steps_internal(forms, &function.steps),
+        Form::Process(entry) => is_internal(
+            forms,
+            entry.module.text(),
+            entry.name.text(),
+            entry.args.terms.len(),
+        ),
+        Form::Control(_) => false,
+    }
+}
+
+/// Rule 10.
+fn has_unbound_variable<A: Allocator + Copy>(alloc: A, form: &Form<A>) -> Result<bool, AllocError>
+    ensures { IfOk result (λ b. b ≡ breaks_unbound (form_of form.now)) }
+{
+    match form {
+        Form::Function(function) => is_unbound(alloc, function),
+        Form::Process(entry) => Ok(args_unbound(&[], &entry.args.terms)),
+        Form::Control(_) => Ok(false),
+    }
+}
+
+/// Rule 11.
+fn is_tracer_taken<A: Allocator>(earlier: &[Form<A>], form: &Form<A>) -> bool
+    ensures { result ≡ breaks_tracer_taken (map form_of earlier.now) (form_of form.now) }
+{
+    match form {
+        Form::Control(commands) => take_tracer(earlier, commands),
+        _ => false,
+    }
+}
+
+/// Rule 12.
+fn has_wrong_arity<A: Allocator>(forms: &[Form<A>], form: &Form<A>) -> bool
+    ensures { result ≡ breaks_arity (map form_of forms.now) (form_of form.now) }
+{
+    match form {
+        Form::Function(function) => steps_misnamed(forms, function.module.text(), &function.steps),
+        Form::Process(entry) => is_misnamed(
+            forms,
+            entry.module.text(),
+            entry.name.text(),
+            entry.args.terms.len(),
+        ),
+        Form::Control(_) => false,
+    }
+}
+
+/// Whether as many functions are declared as may be.
+fn is_full<A: Allocator>(earlier: &[Form<A>]) -> bool
+    ensures { result ≡ nat_le function_limit (count_by is_function (map form_of earlier.now)) }
+{
+    FUNCTIONS <= function_total(earlier)
+}
+
+/// Whether there are more steps than a function may have.
+fn is_long<A: Allocator>(steps: &[Step<A>]) -> bool
+    ensures { result ≡ nat_lt step_limit (length (map step_of steps.now)) }
+{
+    STEPS < steps.len()
+}
+
+/// Whether as many processes are started as may be.
+fn is_crowded<A: Allocator>(earlier: &[Form<A>]) -> bool
+    ensures { result ≡ nat_le process_limit (count_by is_process (map form_of earlier.now)) }
+{
+    PROCESSES <= process_total(earlier)
+}
+
+/// Whether one of the commands, which follow those of the forms, is past the greatest number of them.
+fn has_late_command<A: Allocator>(earlier: &[Form<A>], commands: &[Command<A>]) -> bool
+    ensures { result ≡ is_past command_limit (length (commands_of (map form_of earlier.now))) (length (map command_of commands.now)) }
+{
+    holds_past(COMMANDS, all_commands(earlier), commands.len() as u64)
+}
+
+/// Whether one of the commands, which follow those of the forms, is a creation past the greatest number of them.
+fn has_late_creation<A: Allocator>(earlier: &[Form<A>], commands: &[Command<A>]) -> bool
+    ensures { result ≡ is_past session_limit (count_by is_creation (commands_of (map form_of earlier.now))) (count_by is_creation (map command_of commands.now)) }
+{
+    holds_past(SESSIONS, all_creations(earlier), creation_total(commands))
+}
+
+/// Rule 13.
+fn is_past_limit<A: Allocator>(earlier: &[Form<A>], form: &Form<A>) -> bool
+    ensures { result ≡ breaks_limit (map form_of earlier.now) (form_of form.now) }
+{
+    match form {
+        Form::Function(function) => is_full(earlier) || is_long(&function.steps),
+        Form::Process(_) => is_crowded(earlier),
+        Form::Control(commands) => has_late_command(earlier, commands)
+            || has_late_creation(earlier, commands),
+    }
+}
+
+/// The least of the rules that the form breaks.
+fn broken_rule<A: Allocator + Copy>(
+    alloc: A,
+    forms: &[Form<A>],
+    earlier: &[Form<A>],
+    form: &Form<A>,
+) -> Result<Option<Rule>, AllocError>
+    ensures { IfOk result (λ o. option_map rule_of o ≡ rule_broken (map form_of forms.now) (map form_of earlier.now) (form_of form.now)) }
+{
+    if is_duplicate(earlier, form) {
+        return Ok(Some(Rule::Duplicate));
+    }
+    if is_undeclared(forms, earlier, form) {
+        return Ok(Some(Rule::Undeclared));
+    }
+    if is_not_exported(forms, form) {
+        return Ok(Some(Rule::NotExported));
+    }
+    if has_unbound_variable(alloc, form)? {
+        return Ok(Some(Rule::Unbound));
+    }
+    if is_tracer_taken(earlier, form) {
+        return Ok(Some(Rule::TracerTaken));
+    }
+    if has_wrong_arity(forms, form) {
+        return Ok(Some(Rule::Arity));
+    }
+    if is_past_limit(earlier, form) {
+        return Ok(Some(Rule::Limit));
+    }
+    Ok(None)
+}
+
+/// Whether all forms keep all rules; else the lowest-numbered form that breaks one, and the least that it breaks.
+pub fn check_rules<A: Allocator + Copy>(alloc: A, forms: &[Form<A>]) -> Result<(), RuleFault>
+    ensures { IsKept (map form_of forms.now) result }
+{
+    for i in 0..forms.len() {
+        let Ok(broken) = broken_rule(alloc, forms, &forms[..i], &forms[i]) else {
+            return Err(RuleFault::OutOfMemory);
+        };
+        if let Some(rule) = broken {
+            return Err(fault_in(rule, i + 1));
+        }
+    }
+    Ok(())
+}

@@ -1,0 +1,127 @@
+// The variables in steps, and those that are bound there.
+ghost use Rattle.std.specs.Prelude.{◌≡◌, IfOk, OnOk, map, [], ◌∷◌, ◌++◌, option_to_list};
+ghost use Rattle.std.specs.Option.{option_map};
+ghost use Rattle.def_term.specs.Text.{is_among};
+ghost use Rattle.def_script.specs.Shapes.{self_name};
+ghost use Rattle.def_script.specs.Rules.{has_other_variable, have_other_variable, any_has_other, terms_of, target_of_step, any_with_earlier, bound_before};
+ghost use Rattle.tn_term.specs.Views.{tree_of, trees_of};
+ghost use Rattle.tn_script.specs.Views.{step_of, function_of};
+ghost use Rattle.tn_program.specs.Bound.{names_of};
+
+use std::alloc::{AllocError, Allocator};
+use tn_script::{Function, Step, is_variable};
+use tn_term::{Atom, Term};
+
+/// Whether the name is one of these.
+fn is_bound(bound: &[&str], name: &str) -> bool
+    ensures { result ≡ is_among (names_of bound.now) name.now }
+{
+    for known in bound {
+        if name == *known {
+            return true;
+        }
+    }
+    false
+}
+
+/// Whether a variable stands in the term that is none of these.
+#[cycle(unbound)]
+fn has_unbound<A: Allocator>(bound: &[&str], term: &Term<A>) -> bool
+    ensures { result ≡ has_other_variable (names_of bound.now) (tree_of term.now) }
+{
+    match term {
+        Term::Atom(atom) => is_variable(atom.text()) && !is_bound(bound, atom.text()),
+        Term::Int(_) | Term::Pid(_) => false,
+        Term::Tuple(terms) | Term::List(terms) => any_unbound(bound, terms),
+    }
+}
+
+/// Whether a variable stands in one of the terms that is none of these.
+#[cycle(unbound)]
+fn any_unbound<A: Allocator>(bound: &[&str], terms: &Vec<Term<A>, A>) -> bool
+    ensures { result ≡ have_other_variable (names_of bound.now) (trees_of terms.now.items) }
+{
+    for term in terms {
+        if has_unbound(bound, term) {
+            return true;
+        }
+    }
+    false
+}
+
+/// The same of arguments.
+pub fn args_unbound<A: Allocator>(bound: &[&str], terms: &Vec<Term<A>, A>) -> bool
+    ensures { result ≡ any_has_other (names_of bound.now) (map tree_of terms.now.items) }
+{
+    any_unbound(bound, terms)
+}
+
+/// Whether a variable stands in the step, its target apart, that is none of these.
+fn step_unbound<A: Allocator>(bound: &[&str], step: &Step<A>) -> bool
+    ensures { result ≡ any_has_other (names_of bound.now) (terms_of (step_of step.now)) }
+{
+    match step {
+        Step::Send { to, message } => has_unbound(bound, to) || has_unbound(bound, message),
+        Step::Receive { .. } => false,
+        Step::CallRemote { args, .. } => args_unbound(bound, &args.terms),
+        Step::CallLocal { args, .. } => args_unbound(bound, &args.terms),
+        Step::Spawn { args, .. } => args_unbound(bound, &args.terms),
+        Step::Link(other) => has_unbound(bound, other),
+        Step::Unlink(other) => has_unbound(bound, other),
+        Step::Return(value) => has_unbound(bound, value),
+        Step::Exit(reason) => has_unbound(bound, reason),
+    }
+}
+
+/// The target of the step, if it has one.
+fn target_of<A: Allocator>(step: &Step<A>) -> Option<&Atom<A>>
+    ensures { option_map (λ a. a.now) result ≡ target_of_step (step_of step.now) }
+{
+    match step {
+        Step::Receive { target } => target.as_ref(),
+        Step::CallRemote { target, .. } => target.as_ref(),
+        Step::CallLocal { target, .. } => target.as_ref(),
+        Step::Spawn { target, .. } => target.as_ref(),
+        _ => None,
+    }
+}
+
+/// 'Self' and the parameters.
+fn opening<A: Allocator + Copy>(
+    alloc: A,
+    function: &Function<A>,
+) -> Result<Vec<&str, A>, AllocError>
+    ensures { IfOk result (λ v. names_of v.items ≡ self_name ∷ (function_of function.now).params) }
+{
+    let mut bound = Vec::new(alloc);
+    bound.push("Self")?;
+    for param in &function.params {
+        bound.push(param.text())?;
+    }
+    Ok(bound)
+}
+
+/// The step's target is bound behind it.
+fn bind<'a, A: Allocator>(bound: &mut Vec<&'a str, A>, step: &'a Step<A>) -> Result<(), AllocError>
+    ensures { OnOk result (names_of bound.new.items ≡ names_of bound.old.items ++ option_to_list (target_of_step (step_of step.now))) }
+{
+    if let Some(target) = target_of(step) {
+        bound.push(target.text())?;
+    }
+    Ok(())
+}
+
+/// Whether a variable stands in a step of the function, its target apart, that is neither 'Self', nor a
+/// parameter, nor the target of an earlier step.
+pub fn is_unbound<A: Allocator + Copy>(alloc: A, function: &Function<A>) -> Result<bool, AllocError>
+    ensures { IfOk result (λ b. b ≡ any_with_earlier (λ before s. any_has_other (bound_before (function_of function.now).params before) (terms_of s)) [] (function_of function.now).steps) }
+{
+    let mut bound = opening(alloc, function)?;
+    for step in &function.steps {
+        if step_unbound(&bound, step) {
+            return Ok(true);
+        }
+        bind(&mut bound, step)?;
+    }
+    Ok(false)
+}

@@ -1,0 +1,7 @@
+mod PicksLemmas
+mod EndsLemmas
+mod SettingsLemmas
+mod AcceptLemmas
+mod RunLemmas
+mod LineLemmas
+mod RuleLemmas

@@ -1,0 +1,67 @@
+-- The parts of a tuple or a list, and the shapes of other lengths.
+use Rattle.std.proofs.Common.{◌≡◌, ◌≢◌, ℕ, suc, false, ◌==◌, ◌<◌, List, [], ◌∷◌, length, get_or, map, Some, None, refl, sym, ap, ◌∙◌, arith}
+use Rattle.std.proofs.lemmas.List.{length-map}
+use Rattle.std.specs.declared.vec.Vec.{Vec}
+use Rattle.def_term.specs.Tree.{Tree, list}
+use Rattle.def_script.specs.Shapes.{is_atom_of, begins_with, tuple_in, list_in, call_in, spawn_in, function_in, is_empty_list}
+use Rattle.tn_term.specs.Views.{tree_of, trees_of}
+use Rattle.tn_term.specs.declared.term.Term.{Term, Tuple, List as ListOf}
+use Rattle.tn_term.proofs.Views.{tree_of_tuple, tree_of_list, elements-of_elements}
+
+pub list_of_list : {A : Type 0} (v : Vec (Term A) A) → list_in (tree_of (ListOf v)) ≡ Some (map tree_of v.items)
+list_of_list v = ap list_in (tree_of_list v) ∙ ap Some (elements-of_elements (map tree_of v.items))
+
+pub tuple_of_tuple : {A : Type 0} (v : Vec (Term A) A) → tuple_in (tree_of (Tuple v)) ≡ Some (map tree_of v.items)
+tuple_of_tuple v = ap tuple_in (tree_of_tuple v) ∙ ap Some (elements-of_elements (map tree_of v.items))
+
+pub begins_at : {A : Type 0} (w : List ℕ) (xs : List (Term A)) (x : Term A) → 0 < length xs → x ≡ get_or xs 0 x → is_atom_of w (tree_of x) ≡ begins_with w (map tree_of xs)
+begins_at w [] x some is = absurd (omega (arith, some))
+begins_at w (y ∷ ys) x some is = ap (λ z. is_atom_of w (tree_of z)) is
+
+not_four_calls : (ts : List Tree) → length ts ≢ 4 → None ≡ call_in ts
+not_four_calls [] h = refl
+not_four_calls (a ∷ []) h = refl
+not_four_calls (a ∷ b ∷ []) h = refl
+not_four_calls (a ∷ b ∷ c ∷ []) h = refl
+not_four_calls (a ∷ b ∷ c ∷ d ∷ []) h = absurd (h refl)
+not_four_calls (a ∷ b ∷ c ∷ d ∷ e ∷ ts) h = refl
+
+not_four_spawns : (ts : List Tree) → length ts ≢ 4 → None ≡ spawn_in ts
+not_four_spawns [] h = refl
+not_four_spawns (a ∷ []) h = refl
+not_four_spawns (a ∷ b ∷ []) h = refl
+not_four_spawns (a ∷ b ∷ c ∷ []) h = refl
+not_four_spawns (a ∷ b ∷ c ∷ d ∷ []) h = absurd (h refl)
+not_four_spawns (a ∷ b ∷ c ∷ d ∷ e ∷ ts) h = refl
+
+pub no_call : {A : Type 0} (xs : List (Term A)) → length xs ≢ 4 → None ≡ call_in (map tree_of xs)
+no_call xs h = not_four_calls (map tree_of xs) (λ e. h (sym (length-map xs tree_of) ∙ e))
+
+pub no_spawn : {A : Type 0} (xs : List (Term A)) → length xs ≢ 4 → None ≡ spawn_in (map tree_of xs)
+no_spawn xs h = not_four_spawns (map tree_of xs) (λ e. h (sym (length-map xs tree_of) ∙ e))
+
+not_six : (ts : List Tree) → length ts ≢ 6 → None ≡ function_in ts
+not_six [] h = refl
+not_six (a ∷ []) h = refl
+not_six (a ∷ b ∷ []) h = refl
+not_six (a ∷ b ∷ c ∷ []) h = refl
+not_six (a ∷ b ∷ c ∷ d ∷ []) h = refl
+not_six (a ∷ b ∷ c ∷ d ∷ e ∷ []) h = refl
+not_six (a ∷ b ∷ c ∷ d ∷ e ∷ f ∷ []) h = absurd (h refl)
+not_six (a ∷ b ∷ c ∷ d ∷ e ∷ f ∷ g ∷ ts) h = refl
+
+pub no_function : {A : Type 0} (xs : List (Term A)) → length xs ≢ 6 → None ≡ function_in (map tree_of xs)
+no_function xs h = not_six (map tree_of xs) (λ e. h (sym (length-map xs tree_of) ∙ e))
+
+not_none : (n : ℕ) → (suc n == 0) ≡ false
+not_none n = grind arith
+
+empty_tree : {A : Type 0} (xs : List (Term A)) → (length xs == 0) ≡ is_empty_list (list (trees_of xs))
+empty_tree [] = refl
+empty_tree (x ∷ xs) = not_none (length xs)
+
+pub empty_of_list : {A : Type 0} (v : Vec (Term A) A) → (length v.items == 0) ≡ is_empty_list (tree_of (ListOf v))
+empty_of_list v = empty_tree v.items ∙ ap is_empty_list (sym (tree_of_list v))
+
+pub some_there : (n : ℕ) → (n == 0) ≡ false → 0 < n
+some_there n e = grind (arith, e)

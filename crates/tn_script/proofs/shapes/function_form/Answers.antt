@@ -1,0 +1,5 @@
+use Rattle.tn_script.proofs.OfTerms.{no_function}
+use Rattle.tn_script.proofs.shapes.function_form.Goals as goal
+
+pub returns-in_default : goal.returns-in_default
+returns-in_default g c = no_function {A = g.row.A.Denot} c.args.fields.items c.in_default.ensures

@@ -1,0 +1,79 @@
+// The parts of terms that shapes ask for.
+ghost use Rattle.std.specs.Prelude.{◌≡◌, map};
+ghost use Rattle.std.specs.Option.{option_map};
+ghost use Rattle.def_script.specs.Shapes.{is_atom_of, begins_with, is_tuple as is_tuple_tree, is_empty_list as is_empty_tree, tuple_in, list_in, args_in};
+ghost use Rattle.tn_term.specs.Views.{tree_of};
+ghost use Rattle.tn_script.specs.Views.{args_of};
+
+use crate::form::Arguments;
+use std::alloc::Allocator;
+use tn_term::Term;
+
+/// The greatest number of arguments.
+const ARGUMENTS: usize = 255;
+
+/// Whether the term is the atom of this text.
+fn is_word<A: Allocator>(term: &Term<A>, word: &str) -> bool
+    ensures { result ≡ is_atom_of word.now (tree_of term.now) }
+{
+    match term {
+        Term::Atom(atom) => atom.text() == word,
+        _ => false,
+    }
+}
+
+/// Whether the first field is this word.
+pub fn is_tagged<A: Allocator>(fields: &[Term<A>], word: &str) -> bool
+    ensures { result ≡ begins_with word.now (map tree_of fields.now) }
+{
+    !fields.is_empty() && is_word(&fields[0], word)
+}
+
+/// Whether the term is a tuple.
+pub fn is_tuple<A: Allocator>(term: &Term<A>) -> bool
+    ensures { result ≡ is_tuple_tree (tree_of term.now) }
+{
+    matches!(term, Term::Tuple(_))
+}
+
+/// Whether the term is the empty list.
+pub fn is_empty_list<A: Allocator>(term: &Term<A>) -> bool
+    ensures { result ≡ is_empty_tree (tree_of term.now) }
+{
+    match term {
+        Term::List(terms) => terms.as_slice().is_empty(),
+        _ => false,
+    }
+}
+
+/// The fields, where the term is a tuple.
+pub fn tuple<A: Allocator>(term: Term<A>) -> Option<Vec<Term<A>, A>>
+    ensures { option_map (λ v. map tree_of v.items) result ≡ tuple_in (tree_of term) }
+{
+    match term {
+        Term::Tuple(fields) => Some(fields),
+        _ => None,
+    }
+}
+
+/// The elements, where the term is a list.
+pub fn list<A: Allocator>(term: Term<A>) -> Option<Vec<Term<A>, A>>
+    ensures { option_map (λ v. map tree_of v.items) result ≡ list_in (tree_of term) }
+{
+    match term {
+        Term::List(terms) => Some(terms),
+        _ => None,
+    }
+}
+
+/// The arguments, where the term is a list of at most 255.
+pub fn arguments<A: Allocator>(term: Term<A>) -> Option<Arguments<A>>
+    ensures { option_map args_of result ≡ args_in (tree_of term) }
+{
+    let terms = list(term)?;
+    if terms.len() <= ARGUMENTS {
+        Some(Arguments { terms })
+    } else {
+        None
+    }
+}

@@ -1,0 +1,159 @@
+// The steps of a function, by their shapes.
+ghost use Rattle.std.specs.Prelude.{◌≡◌, IfOk, map};
+ghost use Rattle.std.specs.Option.{option_map};
+ghost use Rattle.def_script.specs.Program.{link, unlink, give_back, exit};
+ghost use Rattle.def_script.specs.Shapes.{callee_in, send_in, receive_in, call_in, spawn_in, of_one_in, step_of_fields, step_in, steps_in};
+ghost use Rattle.tn_term.specs.Views.{tree_of};
+ghost use Rattle.tn_script.specs.Views.{args_of, step_of};
+
+use crate::fields::{four, three, two};
+use crate::form::Step;
+use crate::names::{name, target};
+use crate::parts::{arguments, is_tagged, is_tuple, list, tuple};
+use std::alloc::{AllocError, Allocator};
+use tn_term::{Atom, Term};
+
+/// The names of `{M,F}`.
+fn callee<A: Allocator>(term: Term<A>) -> Option<(Atom<A>, Atom<A>)>
+    ensures { result ≡ callee_in (tree_of term) }
+{
+    let fields = tuple(term)?;
+    let (module, function) = two(fields)?;
+    Some((name(module)?, name(function)?))
+}
+
+/// `{send,To,Msg}`
+fn send_step<A: Allocator>(fields: Vec<Term<A>, A>) -> Option<Step<A>>
+    ensures { option_map step_of result ≡ send_in (map tree_of fields.items) }
+{
+    let (_, to, message) = three(fields)?;
+    Some(Step::Send { to, message })
+}
+
+/// `{'receive',V}`
+fn receive_step<A: Allocator>(fields: Vec<Term<A>, A>) -> Option<Step<A>>
+    ensures { option_map step_of result ≡ receive_in (map tree_of fields.items) }
+{
+    let (_, v) = two(fields)?;
+    Some(Step::Receive { target: target(v)? })
+}
+
+/// `{call,V,{M,F},Args}` or `{call,V,F,Args}`
+fn call_step<A: Allocator>(fields: Vec<Term<A>, A>) -> Option<Step<A>>
+    ensures { option_map step_of result ≡ call_in (map tree_of fields.items) }
+{
+    let (_, v, function, args) = four(fields)?;
+    if is_tuple(&function) {
+        let target = target(v)?;
+        let (module, name) = callee(function)?;
+        let args = arguments(args)?;
+        Some(Step::CallRemote {
+            target,
+            module,
+            name,
+            args,
+        })
+    } else {
+        let target = target(v)?;
+        let name = name(function)?;
+        let args = arguments(args)?;
+        Some(Step::CallLocal { target, name, args })
+    }
+}
+
+/// `{spawn,V,{M,F},Args}`
+fn spawn_step<A: Allocator>(fields: Vec<Term<A>, A>) -> Option<Step<A>>
+    ensures { option_map step_of result ≡ spawn_in (map tree_of fields.items) }
+{
+    let (_, v, function, args) = four(fields)?;
+    let target = target(v)?;
+    let (module, name) = callee(function)?;
+    let args = arguments(args)?;
+    Some(Step::Spawn {
+        target,
+        module,
+        name,
+        args,
+    })
+}
+
+/// `{link,T}`
+fn link_step<A: Allocator>(fields: Vec<Term<A>, A>) -> Option<Step<A>>
+    ensures { option_map step_of result ≡ of_one_in link (map tree_of fields.items) }
+{
+    let (_, other) = two(fields)?;
+    Some(Step::Link(other))
+}
+
+/// `{unlink,T}`
+fn unlink_step<A: Allocator>(fields: Vec<Term<A>, A>) -> Option<Step<A>>
+    ensures { option_map step_of result ≡ of_one_in unlink (map tree_of fields.items) }
+{
+    let (_, other) = two(fields)?;
+    Some(Step::Unlink(other))
+}
+
+/// `{return,T}`
+fn return_step<A: Allocator>(fields: Vec<Term<A>, A>) -> Option<Step<A>>
+    ensures { option_map step_of result ≡ of_one_in give_back (map tree_of fields.items) }
+{
+    let (_, value) = two(fields)?;
+    Some(Step::Return(value))
+}
+
+/// `{exit,T}`
+fn exit_step<A: Allocator>(fields: Vec<Term<A>, A>) -> Option<Step<A>>
+    ensures { option_map step_of result ≡ of_one_in exit (map tree_of fields.items) }
+{
+    let (_, reason) = two(fields)?;
+    Some(Step::Exit(reason))
+}
+
+/// The step that a tuple of these fields stands for.
+fn step_of_tuple<A: Allocator>(fields: Vec<Term<A>, A>) -> Option<Step<A>>
+    ensures { option_map step_of result ≡ step_of_fields (map tree_of fields.items) }
+{
+    if is_tagged(&fields, "send") {
+        send_step(fields)
+    } else if is_tagged(&fields, "receive") {
+        receive_step(fields)
+    } else if is_tagged(&fields, "call") {
+        call_step(fields)
+    } else if is_tagged(&fields, "spawn") {
+        spawn_step(fields)
+    } else if is_tagged(&fields, "link") {
+        link_step(fields)
+    } else if is_tagged(&fields, "unlink") {
+        unlink_step(fields)
+    } else if is_tagged(&fields, "return") {
+        return_step(fields)
+    } else if is_tagged(&fields, "exit") {
+        exit_step(fields)
+    } else {
+        None
+    }
+}
+
+/// The step that the term stands for, if it has a shape.
+fn step<A: Allocator>(term: Term<A>) -> Option<Step<A>>
+    ensures { option_map step_of result ≡ step_in (tree_of term) }
+{
+    step_of_tuple(tuple(term)?)
+}
+
+/// The steps, where the term is a list of steps.
+pub fn steps<A: Allocator>(alloc: A, term: Term<A>) -> Result<Option<Vec<Step<A>, A>>, AllocError>
+    ensures { IfOk result (λ o. option_map (λ v. map step_of v.items) o ≡ steps_in (tree_of term)) }
+{
+    let Some(terms) = list(term) else {
+        return Ok(None);
+    };
+    let mut steps = Vec::new(alloc);
+    for term in terms {
+        let Some(step) = step(term) else {
+            return Ok(None);
+        };
+        steps.push(step)?;
+    }
+    Ok(Some(steps))
+}
