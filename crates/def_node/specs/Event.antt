@@ -1,4 +1,5 @@
 -- The events of the node, which sessions may tell of (module `trace`, "trace messages").
+-- Stands on terms and the names of functions.
 use Rattle.std.specs.Prelude.{ℕ, Bool, List, Option}
 use Rattle.def_term.specs.Tree.{Tree}
 use Rattle.def_term.specs.Names.{Mfa}

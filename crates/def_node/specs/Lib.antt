@@ -3,3 +3,4 @@ pub mod Values
 pub mod Process
 pub mod Node
 pub mod Limits
+pub mod Laws

@@ -1,4 +1,5 @@
 -- What keeps within the limits of the node (own).
+-- Stands on the node. Laws speak of it.
 use Rattle.std.specs.Prelude.{ℕ, ◌≡◌, ◌≤◌, Bool, List, [], ◌∷◌, length, Option, Some, None}
 use Rattle.def_node.specs.Node.{World, Move, moved, idle, State, Next, gives_events, gives_command, gives_nothing}
 use Rattle.def_node.specs.Event.{Event, sent, received, called, returned, spawning, spawned, exited, linked, unlinked, getting_linked, getting_unlinked}
@@ -24,6 +25,7 @@ IsOwnAct most ls child (exits partners r before) = partners ≡ ls
 abbrev pub IsSmall : Process → Type 0
 IsSmall q = (length q.frames ≤ 64) × (length q.links ≡ 64)
 
+-- each process that lives is small
 abbrev pub AllSmall : List (Option Process) → Type 0
 AllSmall [] = Unit {0}
 AllSmall (None ∷ ss) = AllSmall ss
@@ -82,10 +84,12 @@ IsKnownEvent (unlinked p other) = IsKnown p
 IsKnownEvent (getting_linked p other) = IsKnown p × IsKnown other
 IsKnownEvent (getting_unlinked p other) = IsKnown p × IsKnown other
 
+-- each of the events is so
 abbrev pub AllKnown : List Event → Type 0
 AllKnown [] = Unit {0}
 AllKnown (e ∷ es) = IsKnownEvent e × AllKnown es
 
+-- the events of a pick, none where it is idle
 abbrev pub events_in : Move → List Event
 events_in (moved v es) = es
 events_in (idle v) = []

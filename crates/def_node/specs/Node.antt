@@ -1,4 +1,5 @@
 -- The node: all processes, and what one step of one of them does to the others (own). It knows nothing of sessions.
+-- Stands on events, on the program and on what a process does by itself.
 use Rattle.std.specs.Prelude.{ℕ, zero, suc, ◌+◌, ◌-◌, ◌==◌, nat_le, nat_lt, Bool, true, false, ◌&&◌, if◌then◌else◌, List, [], ◌∷◌, ◌++◌, length, map, replicate, slice_get, slice_set, Option, Some, None, option_to_list}
 use Rattle.std.specs.Option.{option_map, unwrap_or}
 use Rattle.def_term.specs.Tree.{Tree}
@@ -23,6 +24,7 @@ place_in None i = None
 place_in (Some None) i = None
 place_in (Some (Some q)) i = Some i
 
+-- the place of the process with this pid, where it lives
 abbrev pub living : World → ℕ → Option ℕ
 living w n = if nat_le 100 n then place_in (slice_get w.slots (n - 100)) (n - 100) else None
 
@@ -32,14 +34,17 @@ changed [] i f = []
 changed (s ∷ ss) zero f = option_map f s ∷ ss
 changed (s ∷ ss) (suc i) f = s ∷ changed ss i f
 
+-- the processes with the one at this place changed
 abbrev pub change_at : World → ℕ → (Process → Process) → World
 change_at w i f = record w { slots = changed w.slots i f }
 
+-- the processes with this one at this place
 abbrev pub put_at : World → ℕ → Process → World
 put_at w i q = change_at w i (λ _. q)
 
 -- ---- messages
 
+-- the message is put at the end of the mailbox
 abbrev pub with_message : Tree → Process → Process
 with_message t q = record q { mailbox = q.mailbox ++ t ∷ [] }
 
@@ -48,11 +53,13 @@ abbrev pub delivered_to : World → ℕ → ℕ → Tree → Option ℕ → Move
 delivered_to w n m t None = moved w (sent n t m false ∷ [])
 delivered_to w n m t (Some i) = moved (change_at w i (with_message t)) (sent n t m true ∷ received m n t ∷ [])
 
+-- a send from n to m
 abbrev pub delivered : World → ℕ → ℕ → Tree → Move
 delivered w n m t = delivered_to w n m t (living w m)
 
 -- ---- links and signals
 
+-- the process is linked to m
 abbrev pub is_linked : Process → ℕ → Bool
 is_linked q m = nat_le 100 m && unwrap_or (slice_get q.links (m - 100)) false
 
@@ -62,9 +69,11 @@ linked_in None m = false
 linked_in (Some None) m = false
 linked_in (Some (Some q)) m = is_linked q m
 
+-- whether the one at this place is
 abbrev pub linked_at : World → ℕ → ℕ → Bool
 linked_at w i m = linked_in (slice_get w.slots i) m
 
+-- the link to m is there, or is removed
 abbrev pub with_link : ℕ → Bool → Process → Process
 with_link m b q = record q { links = slice_set q.links (m - 100) b }
 
@@ -73,6 +82,7 @@ abbrev pub first_signal : Option Tree → Tree → Option Tree
 first_signal None r = Some r
 first_signal (Some s) r = Some s
 
+-- the process has that exit signal pending, unless it has an older one
 abbrev pub with_signal : Tree → Process → Process
 with_signal r q = record q { signal = first_signal q.signal r }
 
@@ -88,6 +98,7 @@ link_made w i n m =
     if linked_at w i m then moved w (linked n m ∷ []) else
     linked_to w i n m (living w m)
 
+-- the link is removed at both ends
 abbrev pub unlinked_from : World → ℕ → ℕ → ℕ → Option ℕ → Move
 unlinked_from w i n m None = moved (change_at w i (with_link m false)) (unlinked n m ∷ getting_unlinked m n ∷ [])
 unlinked_from w i n m (Some j) = moved (change_at (change_at w i (with_link m false)) j (with_link n false)) (unlinked n m ∷ getting_unlinked m n ∷ [])
@@ -105,6 +116,7 @@ link_removed w i n m =
 abbrev pub parted : ℕ → Tree → Process → Process
 parted n r q = if same r (word "normal") then with_link n false q else with_signal r (with_link n false q)
 
+-- each partner of n in turn
 abbrev pub partners_told : ℕ → Tree → List Bool → List (Option Process) → List (Option Process)
 partners_told n r [] ss = ss
 partners_told n r (b ∷ bs) [] = []
@@ -150,6 +162,7 @@ acted w i n (unlinks_from q m) = link_removed (put_at w i q) i n m
 acted w i n (spawns q child e) = started (put_at w i q) n child e
 acted w i n (exits partners r before) = ended w i n partners r before
 
+-- the step of what is at a place: nothing where no process was started, or it has exited
 abbrev pub stepped_at : List Function → World → ℕ → ℕ → Option (Option Process) → Move
 stepped_at ks w i n None = idle w
 stepped_at ks w i n (Some None) = idle w
@@ -176,6 +189,7 @@ pub data Next : Type 0 where
   gives_command : State → ℕ → Next
   gives_nothing : State → Next
 
+-- a move with the place in the control list
 abbrev pub of_move : State → Move → Next
 of_move s (moved w es) = gives_events (record s { world = w }) es
 of_move s (idle w) = gives_nothing (record s { world = w })
@@ -185,5 +199,6 @@ abbrev pub next : Program → State → ℕ → Next
 next p s zero = if nat_lt s.taken (length p.commands) then gives_command (record s { taken = suc s.taken }) (suc s.taken) else gives_nothing s
 next p s (suc n) = of_move s (next_of p.functions s.world (suc n))
 
+-- no command is taken yet
 abbrev pub opening_state : Program → State
 opening_state p = record { world = opening_world p.entries; taken = 0 }

@@ -34,6 +34,7 @@ pub data Act : Type 0 where
   -- with an event before the exit, where a return gives one
   exits : (partners : List Bool) → (reason : Tree) → Option Event → Act
 
+-- the process with these frames
 abbrev pub with_frames : Process → List Frame → Process
 with_frames q fs = record q { frames = fs }
 
@@ -41,9 +42,11 @@ with_frames q fs = record q { frames = fs }
 abbrev pub advanced : Frame → Frame
 advanced f = record f { place = f.place + 1 }
 
+-- the frame with these values of variables
 abbrev pub with_env : Frame → Env → Frame
 with_env f env = record f { env = env }
 
+-- the function with this number
 abbrev pub mfa_at : List Function → ℕ → Option Mfa
 mfa_at ks i = option_map mfa_of (slice_get ks i)
 
@@ -60,6 +63,7 @@ enters_at ks n q fs x named args i (Some k) =
     continues (record q { entry = None; frames = record { function = i; place = 0; env = bound_all ((codes "Self", pid n) ∷ []) k.params args; target = x } ∷ fs })
     (Some (called n (record { mfa = mfa_of k; args = args; named = named; exported = k.exported; caller = caller_of ks fs; depth = length fs + 1 })))
 
+-- a call of a function by its number; a program that keeps the static rules names only functions that are there
 abbrev pub enters : List Function → ℕ → Process → List Frame → Option Name → Bool → List Tree → Option ℕ → Act
 enters ks n q fs x named args None = exits q.links (word "undef") None
 enters ks n q fs x named args (Some i) = enters_at ks n q fs x named args i (slice_get ks i)
@@ -96,10 +100,12 @@ abbrev pub within : {X : Type 0} → List Bool → Option X → (X → Act) → 
 within ls (Some t) f = f t
 within ls None f = exits ls (word "system_limit") None
 
+-- a send: both templates within the limits first, then the kind of the target
 abbrev pub sends_to : Process → Frame → List Frame → Tree → Tree → Act
 sends_to q f fs to t =
     within q.links (fitting to) (λ to. within q.links (fitting t) (λ t. to_pid (λ n. sends (stepped q f fs) n t) q.links (pid_in to)))
 
+-- a call: its arguments within the limits first, then the frame
 abbrev pub calls : List Function → ℕ → Process → Frame → List Frame → Option Name → Bool → Name → Name → List Tree → Act
 calls ks n q f fs x named m g args =
     within q.links (fitting_all args) (λ args. enters ks n (stepped q f fs) (advanced f ∷ fs) x named args (number_from 0 ks (record { module_name = m; function_name = g; arity = length args })))
@@ -109,12 +115,15 @@ abbrev pub spawns_at : Process → Frame → List Frame → Option Name → Name
 spawns_at q f fs x m g args None = exits q.links (word "system_limit") None
 spawns_at q f fs x m g args (Some child) = spawns (binds q f fs x (pid child)) child (record { module_name = m; function_name = g; args = args })
 
+-- a spawn: its arguments within the limits first, then the pid
 abbrev pub spawns_with : Process → Frame → List Frame → Option Name → Name → Name → List Tree → Option ℕ → Act
 spawns_with q f fs x m g args child = within q.links (fitting_all args) (λ args. spawns_at q f fs x m g args child)
 
+-- a link: its template within the limits first, then its kind
 abbrev pub links_with : Process → Frame → List Frame → Tree → Act
 links_with q f fs t = within q.links (fitting t) (λ t. to_pid (λ m. links_to (stepped q f fs) m) q.links (pid_in t))
 
+-- an unlink: its template within the limits first, then its kind
 abbrev pub unlinks_with : Process → Frame → List Frame → Tree → Act
 unlinks_with q f fs t = within q.links (fitting t) (λ t. to_pid (λ m. unlinks_from (stepped q f fs) m) q.links (pid_in t))
 
@@ -132,10 +141,12 @@ performs ks n child q k f fs (Some (unlink t)) = unlinks_with q f fs (built f.en
 performs ks n child q k f fs (Some (give_back t)) = within q.links (fitting (built f.env t)) (leaves n q k f.target fs)
 performs ks n child q k f fs (Some (exit t)) = within q.links (fitting (built f.env t)) (λ t. exits q.links t None)
 
+-- a step of the newest frame, whose function is this one
 abbrev pub runs_in : List Function → ℕ → Option ℕ → Process → Frame → List Frame → Option Function → Act
 runs_in ks n child q f fs None = waits (with_frames q (f ∷ fs))
 runs_in ks n child q f fs (Some k) = performs ks n child q k f fs (slice_get k.steps f.place)
 
+-- a step of the newest frame
 abbrev pub runs : List Function → ℕ → Option ℕ → Process → List Frame → Act
 runs ks n child q [] = waits q
 runs ks n child q (f ∷ fs) = runs_in ks n child (with_frames q fs) f fs (slice_get ks f.function)

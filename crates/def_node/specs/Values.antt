@@ -1,4 +1,5 @@
 -- The values of variables, and what a template stands for (own).
+-- Stands on terms and on what is a variable.
 use Rattle.std.specs.Prelude.{nat_le, Bool, true, ◌&&◌, if◌then◌else◌, List, [], ◌∷◌, ℕ, Option, Some, None}
 use Rattle.std.specs.Option.{unwrap_or}
 use Rattle.std.specs.Str.{bytes_eq}
@@ -10,6 +11,7 @@ use Rattle.def_script.specs.Program.{is_variable}
 abbrev pub Env : Type 0
 Env = List (Name × Tree)
 
+-- the value of a variable, where it is bound
 abbrev pub found : Env → Name → Option Tree
 found [] x = None
 found (e ∷ env) x = if bytes_eq e.0 x then Some e.1 else found env x
@@ -28,6 +30,7 @@ abbrev pub bound_to : Option Name → Tree → Env → Env
 bound_to None t env = env
 bound_to (Some x) t env = bound env x t
 
+-- each parameter is bound to its argument
 abbrev pub bound_all : Env → List Name → List Tree → Env
 bound_all env [] ts = env
 bound_all env (x ∷ xs) [] = env
@@ -42,6 +45,7 @@ abbrev mutual
   built env (tuple ts) = tuple (all_built env ts)
   built env (list ts) = list (all_built env ts)
 
+  -- each element so
   pub all_built : Env → Trees → Trees
   all_built env none = none
   all_built env (more t ts) = more (built env t) (all_built env ts)
@@ -54,13 +58,16 @@ fits t = nat_le (size t) 65536 && nat_le (depth t) 32
 abbrev pub fitting : Tree → Option Tree
 fitting t = if fits t then Some t else None
 
+-- each of the built terms is within the limits
 abbrev pub all_fit : List Tree → Bool
 all_fit [] = true
 all_fit (t ∷ ts) = fits t && all_fit ts
 
+-- the built terms, where each is within the limits
 abbrev pub fitting_all : List Tree → Option (List Tree)
 fitting_all ts = if all_fit ts then Some ts else None
 
+-- the number of a pid; another term has none
 abbrev pub pid_in : Tree → Option ℕ
 pid_in (int z) = None
 pid_in (atom a) = None

@@ -7,35 +7,32 @@
 //! All else is definition, for every crate above.
 #![tactic(auto)]
 
-ghost use Rattle.std.specs.Prelude.{◌≡◌, ◌≤◌, ℕ, List, length};
-ghost use Rattle.def_script.specs.Program.{Function, Entry, Program};
-ghost use Rattle.def_node.specs.Node.{World, State, next, next_of, opening_world};
-ghost use Rattle.def_node.specs.Limits.{IsStill, NothingChanges, IsWithin, IsAfter, world_after, state_after, AllKnown, events_in};
+ghost use Rattle.def_node.specs.Laws.{IdleLeavesTheProcesses, IdleLeavesTheState, OpeningIsWithin, StepsStayWithin, NoPidIsUsedAgain, ControlChangesNoProcess, EventsAreOfTheRun};
 
 /// A pick that gives nothing leaves all processes, and the place in the control list, as they were.
 pub fn idle_changes_nothing()
-    ensures processes { (ks : List Function) → (w : World) → (n : ℕ) → IsStill w (next_of ks w n) }
-    ensures state { (p : Program) → (s : State) → (n : ℕ) → NothingChanges s (next p s n) }
+    ensures processes { IdleLeavesTheProcesses }
+    ensures state { IdleLeavesTheState }
 {}
 
 /// At most 64 processes are started, and each has at most 64 frames and links to those alone.
 pub fn limits_are_kept()
-    ensures opening { (es : List Entry) → length es ≤ 64 → IsWithin (opening_world es) }
-    ensures step { (ks : List Function) → (w : World) → (n : ℕ) → IsWithin w → IsWithin (world_after (next_of ks w n)) }
+    ensures opening { OpeningIsWithin }
+    ensures step { StepsStayWithin }
 {}
 
 /// The number of processes that were started never falls, and one that has exited never comes back.
 pub fn no_pid_is_used_again()
-    ensures { (ks : List Function) → (w : World) → (n : ℕ) → IsWithin w → IsAfter w.slots (world_after (next_of ks w n)).slots }
+    ensures { NoPidIsUsedAgain }
 {}
 
 /// A pick of the control list changes no process.
 pub fn control_changes_no_process()
-    ensures { (p : Program) → (s : State) → (state_after (next p s 0)).world ≡ s.world }
+    ensures { ControlChangesNoProcess }
 {}
 
 /// Each event is about a process with one of the pids 100 to 163; so is the parent of a spawned process,
 /// the one that linked itself, and a partner that exited.
 pub fn events_are_of_the_run()
-    ensures { (ks : List Function) → (w : World) → (n : ℕ) → IsWithin w → AllKnown (events_in (next_of ks w n)) }
+    ensures { EventsAreOfTheRun }
 {}

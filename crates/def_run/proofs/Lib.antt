@@ -17,3 +17,6 @@ pub mod CommandRows
 pub mod LimitRows
 pub mod Picks
 pub mod Rounds
+pub mod Outputs
+pub mod PickRows
+mod OutputRows

@@ -40,6 +40,16 @@ oldest_signal : program_output (program
 unfolding is_written_bare digits
 oldest_signal = refl
 
+-- a later exit with the reason `noproc` does not overtake an older signal
+older_signal_than_noproc : program_output (program
+    (function "go" [] (link (pid 101) ∷ link (pid 102) ∷ []) ∷ function "peer" [] (exit (word "boom") ∷ []) ∷ function "other" [] (link (pid 199) ∷ []) ∷ [])
+    (entry "go" [] ∷ entry "peer" [] ∷ entry "other" [] ∷ [])
+    (creates "s1" "t1" ∷ sets "s1" (pid 100) ("procs" ∷ []) ∷ []))
+    (0 ∷ 0 ∷ 100 ∷ 100 ∷ 100 ∷ 101 ∷ 101 ∷ 102 ∷ 102 ∷ 102 ∷ 100 ∷ [])
+    ≡ lines ("== session s1 tracer t1" ∷ "{trace,<0.100.0>,link,<0.101.0>}" ∷ "{trace,<0.100.0>,link,<0.102.0>}" ∷ "{trace,<0.100.0>,getting_unlinked,<0.101.0>}" ∷ "{trace,<0.100.0>,getting_unlinked,<0.102.0>}" ∷ "{trace,<0.100.0>,exit,boom}" ∷ "== replies" ∷ "{session,s1}" ∷ "1" ∷ "== journal" ∷ "0 0 100 100 100 101 101 102 102 102 100" ∷ [])
+unfolding is_written_bare digits
+older_signal_than_noproc = refl
+
 -- a pending signal is taken before anything else
 signal_before_steps : program_output (program
     (function "go" [] (link (pid 101) ∷ send (word "Self") (word "x") ∷ []) ∷ function "peer" [] (exit (word "boom") ∷ []) ∷ [])

@@ -1,14 +1,16 @@
 -- The laws of runs and of isolation.
-use Rattle.std.proofs.Common.{ℕ, List, [], ◌∷◌, ◌++◌, ap}
-use Rattle.std.specs.Prelude.{codes, filter}
+use Rattle.std.proofs.Common.{◌≤◌, ℕ, List, [], ◌∷◌, ◌++◌, length, Option, Some, None, ap, ◌∙◌, append-nil, arith}
+use Rattle.std.specs.Prelude.{codes, filter, option_to_list}
 use Rattle.def_script.specs.Program.{Program}
 use Rattle.def_run.specs.Run.{Item, opening, start, place_after, moves_from}
-use Rattle.def_run.specs.Listing.{messages_of, messages_from, replies_from, listing_text, listings_text, lines_of, picks_text, creations}
+use Rattle.def_run.specs.Listing.{messages_of, messages_from, state_after, replies_from, listing_text, listings_text, lines_of, picks_text, creations}
+use Rattle.def_term.specs.Tree.{Tree}
 use Rattle.def_session.specs.State.{absent_session}
+use Rattle.def_session.specs.Session.{event_told}
 use Rattle.def_run.specs.View.{is_own}
-use Rattle.def_run.specs.Laws.{IdleShowsNothing, IdleIsNotJournaled, IdleChangesNoOutput, JournalGivesTheOutput, RunsGrow, ListingGoesByTheView, SessionsAreIsolated}
-use Rattle.def_run.proofs.Appends.{moves-append}
-use Rattle.def_run.proofs.Replay.{idle-shown, idle-moves, events_again, journal_again}
+use Rattle.def_run.specs.Laws.{IdleLeavesThePlace, EventAddsOneAtMost, CommandAddsNone, IdleShowsNothing, IdleIsNotJournaled, IdleChangesNoOutput, JournalGivesTheOutput, RunsGrow, ListingGoesByTheView, SessionsAreIsolated}
+use Rattle.def_run.proofs.Appends.{moves-append, place-append, messages-append}
+use Rattle.def_run.proofs.Replay.{turn_kept, idle-shown, idle-moves, events_again, journal_again}
 use Rattle.def_run.proofs.Striking.{struck_view}
 
 -- the output of what was shown and what moved
@@ -17,6 +19,23 @@ output_of p items journal =
     listings_text (λ s. messages_from (opening p) (absent_session (opening p)) (filter (is_own s) items)) (creations p.commands)
     ++ codes "== replies\n" ++ lines_of (replies_from (opening p) [] items)
     ++ codes "== journal\n" ++ picks_text journal ++ 10 ∷ []
+
+pub idle_place : IdleLeavesThePlace
+idle_place p picks pick h =
+    place-append p.functions (start p) picks (pick ∷ [])
+    ∙ ap (λ t. t.after) (turn_kept p.functions (place_after p.functions (start p) picks) pick h)
+
+one_at_most : (m : Option Tree) → length (option_to_list m) ≤ 1
+one_at_most None = omega arith
+one_at_most (Some t) = omega arith
+
+pub event_adds : EventAddsOneAtMost
+event_adds o s items e =
+    let m : Option Tree = (event_told (state_after o s items) e).1 in
+    (option_to_list m, one_at_most m, messages-append o s items _ ∙ ap (messages_from o s items ++◌) (append-nil (option_to_list m)))
+
+pub command_adds : CommandAddsNone
+command_adds o s items c = messages-append o s items _ ∙ append-nil (messages_from o s items)
 
 pub idle_shown : IdleShowsNothing
 idle_shown p before pick after h = idle-shown p.functions (start p) before pick after h

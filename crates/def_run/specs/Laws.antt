@@ -1,15 +1,19 @@
--- What is promised of runs, views and listings.
+-- What is promised of runs, views and listings (own).
+-- Stands on all definitions of a run.
 use Rattle.std.specs.Prelude.{◌≡◌, ℕ, zero, suc, ◌+◌, min, ◌<◌, ◌≤◌, ◌==◌, Bool, true, false, List, [], ◌∷◌, ◌++◌, length, map, take, filter, slice_get, Some}
 use Rattle.std.specs.Str.{bytes_eq}
 use Rattle.def_term.specs.Tree.{Tree}
 use Rattle.def_term.specs.Names.{Name}
 use Rattle.def_script.specs.Program.{Command, Program}
-use Rattle.def_session.specs.State.{destroyed}
+use Rattle.def_session.specs.State.{destroyed, Opening, Session}
+use Rattle.def_node.specs.Event.{Event}
 use Rattle.def_node.specs.Node.{Move, moved, idle, next_of}
-use Rattle.def_run.specs.Run.{Turn, happened, commanded, start, turn_of, place_after, events, moves}
+use Rattle.def_run.specs.Run.{Item, Turn, happened, commanded, start, turn_of, place_after, events, moves}
 use Rattle.def_run.specs.Round.{pass, round}
 use Rattle.def_run.specs.View.{view, strike_program, strike_picks}
-use Rattle.def_run.specs.Listing.{messages, state_of, creations, Told, answer, for_session, listing_text, program_output}
+use Rattle.def_run.specs.Picks.{SpellsPicks}
+use Rattle.def_run.specs.Output.{IsOutput}
+use Rattle.def_run.specs.Listing.{messages, messages_from, state_of, creations, Told, answer, for_session, listing_text, program_output}
 
 -- ---- runs
 
@@ -17,32 +21,55 @@ use Rattle.def_run.specs.Listing.{messages, state_of, creations, Told, answer, f
 abbrev pub IsIdleAfter : Program → List ℕ → ℕ → Type 0
 IsIdleAfter p picks pick = (turn_of p.functions (place_after p.functions (start p) picks) pick).moved ≡ false
 
--- an idle pick, put anywhere, leaves no trace: not in what is shown, not in the journal, and so not in the output
+-- an idle pick changes nothing
+abbrev pub IdleLeavesThePlace : Type 0
+IdleLeavesThePlace =
+    (p : Program) (picks : List ℕ) (pick : ℕ) → IsIdleAfter p picks pick →
+    place_after p.functions (start p) (picks ++ pick ∷ []) ≡ place_after p.functions (start p) picks
+
+-- put anywhere, it leaves no trace: not in what is shown
 abbrev pub IdleShowsNothing : Type 0
 IdleShowsNothing = (p : Program) (before : List ℕ) (pick : ℕ) (after : List ℕ) → IsIdleAfter p before pick → events p (before ++ pick ∷ after) ≡ events p (before ++ after)
 
+-- not in the journal
 abbrev pub IdleIsNotJournaled : Type 0
 IdleIsNotJournaled = (p : Program) (before : List ℕ) (pick : ℕ) (after : List ℕ) → IsIdleAfter p before pick → moves p (before ++ pick ∷ after) ≡ moves p (before ++ after)
 
+-- and so not in the output
 abbrev pub IdleChangesNoOutput : Type 0
 IdleChangesNoOutput = (p : Program) (before : List ℕ) (pick : ℕ) (after : List ℕ) → IsIdleAfter p before pick → program_output p (before ++ pick ∷ after) ≡ program_output p (before ++ after)
 
--- the picks that moved, taken again, show the same, all move, and give the same output
+-- the picks that moved, taken again, show the same
 abbrev pub JournalShowsTheSame : Type 0
 JournalShowsTheSame = (p : Program) (picks : List ℕ) → events p (moves p picks) ≡ events p picks
 
+-- they all move
 abbrev pub JournalMovesAgain : Type 0
 JournalMovesAgain = (p : Program) (picks : List ℕ) → moves p (moves p picks) ≡ moves p picks
 
+-- and give the same output
 abbrev pub JournalGivesTheOutput : Type 0
 JournalGivesTheOutput = (p : Program) (picks : List ℕ) → program_output p (moves p picks) ≡ program_output p picks
 
+-- at most 65,536 picks move
 abbrev pub JournalIsBounded : Type 0
 JournalIsBounded = (p : Program) (picks : List ℕ) → length (moves p picks) ≤ 65536
 
 -- more picks add to what is shown and to the journal, and change nothing in them
 abbrev pub RunsGrow : Type 0
 RunsGrow = (p : Program) (picks more : List ℕ) → (rest : List ℕ) × (moves p (picks ++ more) ≡ moves p picks ++ rest)
+
+-- ---- one message
+
+-- an event adds at most one message to those of a session
+abbrev pub EventAddsOneAtMost : Type 0
+EventAddsOneAtMost =
+    (o : Opening) (s : Session) (items : List Item) (e : Event) →
+    (ms : List Tree) × (length ms ≤ 1) × (messages_from o s (items ++ happened e ∷ []) ≡ messages_from o s items ++ ms)
+
+-- and a command none
+abbrev pub CommandAddsNone : Type 0
+CommandAddsNone = (o : Opening) (s : Session) (items : List Item) (c : Command) → messages_from o s (items ++ commanded c ∷ []) ≡ messages_from o s items
 
 -- ---- isolation
 
@@ -84,6 +111,7 @@ DestroyedStays = (s : Name) (p : Program) (picks more : List ℕ) → IsDestroye
 abbrev pub IsCreation : Program → ℕ → Name → Name → Type 0
 IsCreation p n s tracer = slice_get (creations p.commands) n ≡ Some (s, tracer)
 
+-- told to the session of this number
 abbrev pub is_for : ℕ → Told → Bool
 is_for n x = x.session == n
 
@@ -117,10 +145,12 @@ AnswersAreListings =
 
 -- ---- what a pick does
 
+-- the turn moves where the process does, and shows the events of its step
 abbrev pub IsStep : Move → Turn → Type 0
 IsStep (moved w es) t = (t.moved ≡ true) × (t.shown ≡ map happened es) × (t.after.world ≡ w)
 IsStep (idle w) t = t.moved ≡ false
 
+-- the turn takes the next command, where one is left
 abbrev pub Takes : List Command → Turn → Type 0
 Takes [] t = t.moved ≡ false
 Takes (c ∷ cs) t = (t.moved ≡ true) × (t.shown ≡ commanded c ∷ []) × (t.after.commands ≡ cs)
@@ -163,3 +193,13 @@ RoundIsInOrder = (p : Program) (limit : ℕ) → round p limit ≡ take (min lim
 -- and where it has fewer, one more pass moves nothing
 abbrev pub RoundRests : Type 0
 RoundRests = (p : Program) (limit : ℕ) → length (round p limit) < min limit 65536 → moves p (round p limit ++ pass) ≡ round p limit
+
+-- ---- outputs
+
+-- a text spells one list of picks at most
+abbrev pub PicksAreOne : Type 0
+PicksAreOne = (text ps qs : List ℕ) → SpellsPicks text ps → SpellsPicks text qs → ps ≡ qs
+
+-- of any bytes and any text of picks there is exactly one output
+abbrev pub OutputIsOne : Type 0
+OutputIsOne = (bytes text : List ℕ) → (output : List ℕ) × IsOutput bytes text output × ((other : List ℕ) → IsOutput bytes text other → other ≡ output)

@@ -1,4 +1,5 @@
 -- A session's messages as a function of what it sees, the replies, what each move adds, and the text of an output (own).
+-- Stands on runs and views, on what one session makes of an event and of a command, and on the written text of terms (`~w` of `io_lib`).
 use Rattle.std.specs.Prelude.{ℕ, suc, ◌==◌, List, [], ◌∷◌, ◌++◌, Option, Some, None, option_to_list, filter, map, length, take, slice_get, flat_map, codes, decimal}
 use Rattle.std.specs.List.{join_with_byte}
 use Rattle.def_term.specs.Tree.{Tree}
@@ -14,19 +15,23 @@ use Rattle.def_run.specs.View.{is_own, View, view}
 
 -- ---- one session
 
+-- the messages of a session, from its state, by what it sees
 abbrev pub messages_from : Opening → Session → List Item → List Tree
 messages_from o s [] = []
 messages_from o s (happened e ∷ items) = option_to_list (event_told s e).1 ++ messages_from o (event_told s e).0 items
 messages_from o s (commanded c ∷ items) = messages_from o (command_done o s c).0 items
 
+-- its state afterwards
 abbrev pub state_after : Opening → Session → List Item → Session
 state_after o s [] = s
 state_after o s (happened e ∷ items) = state_after o (event_told s e).0 items
 state_after o s (commanded c ∷ items) = state_after o (command_done o s c).0 items
 
+-- the messages of a session as a function of its view alone
 abbrev pub messages_of : View → List Tree
 messages_of v = messages_from v.opening (absent_session v.opening) v.items
 
+-- its state as a function of its view alone
 abbrev pub state_of : View → Session
 state_of v = state_after v.opening (absent_session v.opening) v.items
 
@@ -44,6 +49,7 @@ replies_from o past (commanded c ∷ items) =
     (command_done o (state_after o (absent_session o) (filter (is_own (session_of c)) past)) c).1
     ∷ replies_from o (past ++ commanded c ∷ []) items
 
+-- in the order of the commands
 abbrev pub replies : Program → List ℕ → List Tree
 replies p picks = replies_from (opening p) [] (events p picks)
 
@@ -67,15 +73,18 @@ told o n s past e =
     let own : List Item = filter (is_own s) past in
     map (λ m. record { session = n; index = length (messages_from o (absent_session o) own); message = m }) (option_to_list (event_told (state_after o (absent_session o) own) e).1)
 
+-- to each of these sessions, which are numbered from n
 abbrev pub told_by_all : Opening → ℕ → List (Name × Name) → List Item → Event → List Told
 told_by_all o n [] past e = []
 told_by_all o n (s ∷ ss) past e = told o n s.0 past e ++ told_by_all o (suc n) ss past e
 
+-- by order of the events
 abbrev pub answers_from : Opening → List (Name × Name) → List Item → List Item → List Told
 answers_from o ss past [] = []
 answers_from o ss past (happened e ∷ items) = told_by_all o 1 ss past e ++ answers_from o ss (past ++ happened e ∷ []) items
 answers_from o ss past (commanded c ∷ items) = answers_from o ss (past ++ commanded c ∷ []) items
 
+-- what a pick shows after these
 abbrev pub shown_by : Program → List ℕ → Option ℕ → List Item
 shown_by p before None = []
 shown_by p before (Some pick) = (turn_of p.functions (place_after p.functions (start p) before) pick).shown
@@ -93,6 +102,7 @@ for_session n xs = map (λ x. x.message) (filter (λ x. x.session == n) xs)
 
 -- ---- text
 
+-- a term's text with a line feed
 abbrev pub line_of : Tree → List ℕ
 line_of t = w t ++ 10 ∷ []
 
@@ -108,6 +118,7 @@ header_line name tracer = codes "== session " ++ atom_text name ++ codes " trace
 abbrev pub listing_text : Name → Name → List Tree → List ℕ
 listing_text name tracer ms = header_line name tracer ++ lines_of ms
 
+-- those of all sessions, by rising number
 abbrev pub listings_text : (Name → List Tree) → List (Name × Name) → List ℕ
 listings_text ms [] = []
 listings_text ms (s ∷ ss) = listing_text s.0 s.1 (ms s.0) ++ listings_text ms ss

@@ -1,4 +1,5 @@
 -- The texts of lists of picks (own).
+-- Stands on the text of a journal.
 use Rattle.std.specs.Prelude.{◌≡◌, ℕ, ◌^◌, ◌<◌, ◌≤◌, List, length, All}
 use Rattle.def_run.specs.Listing.{picks_text}
 

@@ -1,8 +1,10 @@
 -- The picks of a round (own).
+-- Stands on runs.
 use Rattle.std.specs.Prelude.{ℕ, zero, suc, ◌+◌, min, Bool, true, false, if◌then◌else◌, List, [], ◌∷◌, ◌++◌}
 use Rattle.def_script.specs.Program.{Function, Program}
 use Rattle.def_run.specs.Run.{Place, start, moves_from, place_after}
 
+-- so many picks, from this one on
 abbrev pub pass_from : ℕ → ℕ → List ℕ
 pass_from zero n = []
 pass_from (suc k) n = n ∷ pass_from k (n + 1)
@@ -11,6 +13,7 @@ pass_from (suc k) n = n ∷ pass_from k (n + 1)
 abbrev pub pass : List ℕ
 pass = 0 ∷ pass_from 64 100
 
+-- nothing moved
 abbrev pub is_empty : List ℕ → Bool
 is_empty [] = true
 is_empty (x ∷ xs) = false

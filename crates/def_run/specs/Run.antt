@@ -27,10 +27,12 @@ pub record Turn : Type 0 where
 abbrev pub stays : Place → Turn
 stays p = record { moved = false; shown = []; after = p }
 
+-- a pick 0: the next command, where one is left
 abbrev pub takes_command : Place → ℕ → List Command → Turn
 takes_command p room [] = stays p
 takes_command p room (c ∷ cs) = record { moved = true; shown = commanded c ∷ []; after = record { world = p.world; commands = cs; room = room } }
 
+-- a pick of a process: what its step gives
 abbrev pub goes_to : Place → ℕ → Move → Turn
 goes_to p room (idle w) = stays p
 goes_to p room (moved w es) = record { moved = true; shown = map happened es; after = record { world = w; commands = p.commands; room = room } }
@@ -45,17 +47,21 @@ abbrev pub turn_with : List Function → Place → ℕ → ℕ → Turn
 turn_with ks p zero pick = stays p
 turn_with ks p (suc room) pick = turn_in ks p room pick
 
+-- one pick
 abbrev pub turn_of : List Function → Place → ℕ → Turn
 turn_of ks p pick = turn_with ks p p.room pick
 
+-- what the picks show, each from where the ones before it lead
 abbrev pub shown_from : List Function → Place → List ℕ → List Item
 shown_from ks p [] = []
 shown_from ks p (pick ∷ picks) = let t : Turn = turn_of ks p pick in t.shown ++ shown_from ks t.after picks
 
+-- those of the picks that move
 abbrev pub moves_from : List Function → Place → List ℕ → List ℕ
 moves_from ks p [] = []
 moves_from ks p (pick ∷ picks) = let t : Turn = turn_of ks p pick in (if t.moved then pick ∷ [] else []) ++ moves_from ks t.after picks
 
+-- where they lead
 abbrev pub place_after : List Function → Place → List ℕ → Place
 place_after ks p [] = p
 place_after ks p (pick ∷ picks) = let t : Turn = turn_of ks p pick in place_after ks t.after picks

@@ -1,4 +1,5 @@
 -- What one session sees of a run, and a program and its picks without one session (own).
+-- Stands on runs.
 use Rattle.std.specs.Prelude.{ℕ, zero, suc, Bool, true, not, if◌then◌else◌, List, [], ◌∷◌, filter}
 use Rattle.std.specs.Str.{bytes_eq}
 use Rattle.def_term.specs.Names.{Name}
@@ -11,6 +12,7 @@ abbrev pub is_own : Name → Item → Bool
 is_own s (happened e) = true
 is_own s (commanded c) = bytes_eq s (session_of c)
 
+-- what a session sees: the opening, and events with its own commands in their places
 pub record View : Type 0 where
   pub opening : Opening
   pub items : List Item
@@ -19,6 +21,7 @@ pub record View : Type 0 where
 abbrev pub view : Name → Program → List ℕ → View
 view s p picks = record { opening = opening p; items = filter (is_own s) (events p picks) }
 
+-- the commands of other sessions than r
 abbrev pub strike_commands : Name → List Command → List Command
 strike_commands r cs = filter (λ c. not (bytes_eq r (session_of c))) cs
 

@@ -1,17 +1,20 @@
 //! What a run of a program shows, what each session sees of it, and the texts of its output.
 //!
 //! Stands on def_term, def_script, def_node, def_spec and def_session. Promises, as laws: an idle pick
-//! leaves no trace, and any other is its process's step or the next command; a round goes on until a pass
-//! moves nothing or the limit is reached; a journal replays to itself and has at most 65,536 moves; a session's listing is a
-//! function of its view, and the view isn't changed by another session's commands; nothing follows a
-//! destruction; and each move adds exactly its answer, so that the answers together are the listings.
+//! changes nothing and leaves no trace, and any other is its process's step or the next command; a round
+//! goes on until a pass moves nothing or the limit is reached; a journal replays to itself and has at
+//! most 65,536 moves; an event gives a session at most one message; a session's listing is a function of
+//! its view, and the view isn't changed by another session's commands; nothing follows a destruction;
+//! each move adds exactly its answer, so that the answers together are the listings; and of any bytes and
+//! any text of picks there is exactly one output.
 #![tactic(auto)]
 
-ghost use Rattle.def_run.specs.Laws.{IdleShowsNothing, IdleIsNotJournaled, IdleChangesNoOutput, JournalShowsTheSame, JournalMovesAgain, JournalGivesTheOutput, JournalIsBounded, RunsGrow, ListingGoesByTheView, StrikingLeavesTheView, SessionsAreIsolated, DestroyedListingStays, DestroyedStays, MoveAddsItsAnswer, AnswerIsNumbered, AnswersAreListings, PickIsItsStep, PickTakesACommand, FullJournalStays, RoundMoves, RoundIsShort, RoundIsInOrder, RoundRests};
+ghost use Rattle.def_run.specs.Laws.{IdleLeavesThePlace, IdleShowsNothing, IdleIsNotJournaled, IdleChangesNoOutput, JournalShowsTheSame, JournalMovesAgain, JournalGivesTheOutput, JournalIsBounded, RunsGrow, EventAddsOneAtMost, CommandAddsNone, ListingGoesByTheView, StrikingLeavesTheView, SessionsAreIsolated, DestroyedListingStays, DestroyedStays, MoveAddsItsAnswer, AnswerIsNumbered, AnswersAreListings, PickIsItsStep, PickTakesACommand, FullJournalStays, RoundMoves, RoundIsShort, RoundIsInOrder, RoundRests, PicksAreOne, OutputIsOne};
 
-/// A pick that moves nothing, put anywhere among the picks, leaves no trace in what is shown, in the
-/// journal or in the output.
+/// A pick that moves nothing changes nothing. Put anywhere among the picks it leaves no trace in what is
+/// shown, in the journal or in the output.
 pub fn idle_picks_leave_no_trace()
+    ensures place { IdleLeavesThePlace }
     ensures shown { IdleShowsNothing }
     ensures moved { IdleIsNotJournaled }
     ensures output { IdleChangesNoOutput }
@@ -25,6 +28,12 @@ pub fn a_journal_replays()
     ensures output { JournalGivesTheOutput }
     ensures bounded { JournalIsBounded }
     ensures grows { RunsGrow }
+{}
+
+/// Each event adds at most one message to those of a session, and a command none.
+pub fn an_event_gives_one_message_at_most()
+    ensures event { EventAddsOneAtMost }
+    ensures command { CommandAddsNone }
 {}
 
 /// A listing is a function of the session's view. To strike another session's commands, and the picks
@@ -64,4 +73,11 @@ pub fn a_round_goes_on_until_nothing_moves()
     ensures short { RoundIsShort }
     ensures in_order { RoundIsInOrder }
     ensures rests { RoundRests }
+{}
+
+/// A text spells one list of picks or none, and of any bytes and any text of picks there is exactly one
+/// output: an accepted script's, or the line of a refusal.
+pub fn every_run_has_one_output()
+    ensures picks { PicksAreOne }
+    ensures output { OutputIsOne }
 {}

@@ -3,3 +3,4 @@ pub mod Program
 pub mod Shapes
 pub mod Rules
 pub mod Script
+pub mod Laws

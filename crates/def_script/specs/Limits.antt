@@ -1,4 +1,5 @@
 -- The limits on scripts, apart from those on terms (own).
+-- Stands on nothing.
 use Rattle.std.specs.Prelude.{ℕ}
 
 -- forms of a script
@@ -13,6 +14,7 @@ PARAMETERS = 255
 abbrev pub FUNCTIONS : ℕ
 FUNCTIONS = 64
 
+-- steps of one function
 abbrev pub STEPS : ℕ
 STEPS = 64
 
@@ -24,5 +26,6 @@ PROCESSES = 16
 abbrev pub COMMANDS : ℕ
 COMMANDS = 256
 
+-- sessions that the control list creates
 abbrev pub SESSIONS : ℕ
 SESSIONS = 32

@@ -22,6 +22,7 @@ pub data Step : Type 0 where
   give_back : (value : Tree) → Step
   exit : (reason : Tree) → Step
 
+-- a function of a module, exported or internal, with its parameters and steps
 pub record Function : Type 0 where
   pub module_name : Name
   pub function_name : Name
@@ -29,6 +30,7 @@ pub record Function : Type 0 where
   pub params : List Name
   pub steps : List Step
 
+-- the function by its module, its name and its number of parameters
 abbrev pub mfa_of : Function → Mfa
 mfa_of k = record { module_name = k.module_name; function_name = k.function_name; arity = length k.params }
 
@@ -38,6 +40,7 @@ pub record Entry : Type 0 where
   pub function_name : Name
   pub args : List Tree
 
+-- the function that it calls
 abbrev pub entry_mfa : Entry → Mfa
 entry_mfa e = record { module_name = e.module_name; function_name = e.function_name; arity = length e.args }
 
@@ -53,6 +56,7 @@ pub data Command : Type 0 where
   set_send : (session : Name) → (specification : Tree) → Command
   set_receive : (session : Name) → (specification : Tree) → Command
 
+-- the name of the session that the command is to
 abbrev pub session_of : Command → Name
 session_of (create s t) = s
 session_of (destroy s) = s
@@ -67,6 +71,7 @@ pub data Form : Type 0 where
   starts : Entry → Form
   controls : List Command → Form
 
+-- functions, initial processes and the control list, each in the order of the forms
 pub record Program : Type 0 where
   pub functions : List Function
   pub entries : List Entry

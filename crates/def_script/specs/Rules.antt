@@ -20,6 +20,7 @@ pub data Rule : Type 0 where
   wrong_arity : Rule
   past_limit : Rule
 
+-- the number of its refusal
 abbrev pub rule_number : Rule → ℕ
 rule_number duplicate = 7
 rule_number undeclared = 8
@@ -29,6 +30,7 @@ rule_number tracer_taken = 11
 rule_number wrong_arity = 12
 rule_number past_limit = 13
 
+-- by rising number
 abbrev pub rules : List Rule
 rules = duplicate ∷ undeclared ∷ not_exported ∷ unbound ∷ tracer_taken ∷ wrong_arity ∷ past_limit ∷ []
 
@@ -44,21 +46,26 @@ passes p (Some x) = p x
 
 -- ---- what forms declare, start and order
 
+-- the function that the form declares, if it declares one
 abbrev pub function_of_form : Form → List Function
 function_of_form (declares k) = k ∷ []
 function_of_form f = []
 
+-- the process that the form starts, if it starts one
 abbrev pub entry_of_form : Form → List Entry
 entry_of_form (starts e) = e ∷ []
 entry_of_form f = []
 
+-- the commands that the form holds
 abbrev pub commands_of_form : Form → List Command
 commands_of_form (controls cs) = cs
 commands_of_form f = []
 
+-- the functions of all forms in their order
 abbrev pub functions_of : List Form → List Function
 functions_of fs = flat_map function_of_form fs
 
+-- the initial processes of all forms in their order
 abbrev pub entries_of : List Form → List Entry
 entries_of fs = flat_map entry_of_form fs
 
@@ -73,6 +80,7 @@ abbrev pub declares_one : (Function → Bool) → Form → Bool
 declares_one p (declares k) = p k
 declares_one p f = false
 
+-- with that number of parameters
 abbrev pub is_declared : List Form → Mfa → Bool
 is_declared fs f = list_any (declares_one (λ k. same_mfa (mfa_of k) f)) fs
 
@@ -80,9 +88,11 @@ is_declared fs f = list_any (declares_one (λ k. same_mfa (mfa_of k) f)) fs
 abbrev pub is_declared_at_all : List Form → Mfa → Bool
 is_declared_at_all fs f = list_any (declares_one (λ k. bytes_eq k.module_name f.module_name && bytes_eq k.function_name f.function_name)) fs
 
+-- declared so, and not exported
 abbrev pub is_internal : List Form → Mfa → Bool
 is_internal fs f = list_any (declares_one (λ k. same_mfa (mfa_of k) f && not k.exported)) fs
 
+-- the function that M, F and these arguments name
 abbrev pub function_named : Name → Name → List Tree → Mfa
 function_named m f args = record { module_name = m; function_name = f; arity = length args }
 
@@ -110,6 +120,7 @@ abbrev mutual
   has_other_variable bound (tuple ts) = have_other_variable bound ts
   has_other_variable bound (list ts) = have_other_variable bound ts
 
+  -- in one of the terms
   pub have_other_variable : List Name → Trees → Bool
   have_other_variable bound none = false
   have_other_variable bound (more t ts) = has_other_variable bound t || have_other_variable bound ts
@@ -126,6 +137,7 @@ terms_of (unlink t) = t ∷ []
 terms_of (give_back t) = t ∷ []
 terms_of (exit t) = t ∷ []
 
+-- the variable that the step binds, if it binds one
 abbrev pub target_of_step : Step → Option Name
 target_of_step (receive v) = v
 target_of_step (call_remote v m f args) = v
@@ -137,6 +149,7 @@ target_of_step s = None
 abbrev pub bound_before : List Name → List Step → List Name
 bound_before params earlier = self_name ∷ params ++ flat_map (λ s. option_to_list (target_of_step s)) earlier
 
+-- in one of these terms
 abbrev pub any_has_other : List Name → List Tree → Bool
 any_has_other bound ts = list_any (has_other_variable bound) ts
 
@@ -147,13 +160,16 @@ abbrev pub creates_session : Name → Command → Bool
 creates_session n (create s t) = bytes_eq s n
 creates_session n c = false
 
+-- it creates a session with this tracer
 abbrev pub gives_tracer : Name → Command → Bool
 gives_tracer n (create s t) = bytes_eq t n
 gives_tracer n c = false
 
+-- an earlier command creates a session of this name
 abbrev pub is_created : List Command → Name → Bool
 is_created cs n = list_any (creates_session n) cs
 
+-- an earlier creation has this tracer
 abbrev pub is_tracer : List Command → Name → Bool
 is_tracer cs n = list_any (gives_tracer n) cs
 
@@ -164,6 +180,7 @@ abbrev pub creates_again : List Command → Command → Bool
 creates_again earlier (create s t) = is_created earlier s
 creates_again earlier c = false
 
+-- of the whole form
 abbrev pub breaks_duplicate : List Form → Form → Bool
 breaks_duplicate earlier (declares k) = is_declared earlier (mfa_of k)
 breaks_duplicate earlier (starts e) = false
@@ -174,6 +191,7 @@ abbrev pub commands_unmade : List Command → Command → Bool
 commands_unmade earlier (create s t) = false
 commands_unmade earlier c = not (is_created earlier (session_of c))
 
+-- of the whole form
 abbrev pub breaks_undeclared : List Form → List Form → Form → Bool
 breaks_undeclared fs earlier (declares k) = list_any (λ s. passes (λ f. not (is_declared_at_all fs f)) (named_by k.module_name s)) k.steps
 breaks_undeclared fs earlier (starts e) = not (is_declared_at_all fs (entry_mfa e))
@@ -196,6 +214,7 @@ abbrev pub takes_tracer : List Command → Command → Bool
 takes_tracer earlier (create s t) = is_tracer earlier t
 takes_tracer earlier c = false
 
+-- of the whole form
 abbrev pub breaks_tracer_taken : List Form → Form → Bool
 breaks_tracer_taken earlier (controls cs) = any_with_earlier takes_tracer (commands_of earlier) cs
 breaks_tracer_taken earlier f = false
@@ -204,6 +223,7 @@ breaks_tracer_taken earlier f = false
 abbrev pub is_misnamed : List Form → Mfa → Bool
 is_misnamed fs f = is_declared_at_all fs f && not (is_declared fs f)
 
+-- of the whole form
 abbrev pub breaks_arity : List Form → Form → Bool
 breaks_arity fs (declares k) = list_any (λ s. passes (is_misnamed fs) (named_by k.module_name s)) k.steps
 breaks_arity fs (starts e) = is_misnamed fs (entry_mfa e)
@@ -213,22 +233,27 @@ breaks_arity fs (controls cs) = false
 abbrev pub is_function : Form → Bool
 is_function f = declares_one (λ k. true) f
 
+-- a process form
 abbrev pub is_process : Form → Bool
 is_process (starts e) = true
 is_process f = false
 
+-- a creation of a session
 abbrev pub is_creation : Command → Bool
 is_creation (create s t) = true
 is_creation c = false
 
+-- holds one or more, of which the last is past the limit
 abbrev pub holds_past : ℕ → ℕ → ℕ → Bool
 holds_past limit earlier held = nat_lt 0 held && nat_lt limit (earlier + held)
 
+-- of the whole form
 abbrev pub breaks_limit : List Form → Form → Bool
 breaks_limit earlier (declares k) = nat_le FUNCTIONS (count_by is_function earlier) || nat_lt STEPS (length k.steps)
 breaks_limit earlier (starts e) = nat_le PROCESSES (count_by is_process earlier)
 breaks_limit earlier (controls cs) = holds_past COMMANDS (length (commands_of earlier)) (length cs) || holds_past SESSIONS (count_by is_creation (commands_of earlier)) (count_by is_creation cs)
 
+-- the form breaks the rule
 abbrev pub breaks : List Form → List Form → Form → Rule → Bool
 breaks fs earlier f duplicate = breaks_duplicate earlier f
 breaks fs earlier f undeclared = breaks_undeclared fs earlier f
@@ -255,20 +280,25 @@ pub record IsFirstBroken (fs : List Form) (n : ℕ) (r : Rule) : Type 0 where
 
 -- ---- the first one, computed
 
+-- the first of the list that passes
 abbrev pub first_passing : {X : Type 0} → (X → Bool) → List X → Option X
 first_passing p [] = None
 first_passing p (x ∷ xs) = if p x then Some x else first_passing p xs
 
+-- the least rule that the form breaks
 abbrev pub rule_broken : List Form → List Form → Form → Option Rule
 rule_broken fs earlier f = first_passing (breaks fs earlier f) rules
 
+-- this form's, or that of a later one
 abbrev pub or_later : ℕ → Option Rule → Option (ℕ × Rule) → Option (ℕ × Rule)
 or_later n None later = later
 or_later n (Some r) later = Some (n, r)
 
+-- of these forms, given those before them
 abbrev pub first_broken_from : List Form → List Form → List Form → Option (ℕ × Rule)
 first_broken_from fs earlier [] = None
 first_broken_from fs earlier (f ∷ rest) = or_later (suc (length earlier)) (rule_broken fs earlier f) (first_broken_from fs (earlier ++ f ∷ []) rest)
 
+-- the lowest-numbered form that breaks a rule, counted from 1, with the least rule that it breaks
 abbrev pub first_broken : List Form → Option (ℕ × Rule)
 first_broken fs = first_broken_from fs [] fs

@@ -93,6 +93,7 @@ IsRefused bytes (form n) = HasShapeless bytes n
 IsRefused bytes (broken r n) = HasBroken bytes n r
 IsRefused bytes bad_picks = ⊥
 
+-- what the line calls the rule
 abbrev pub rule_words : Rule → List ℕ
 rule_words duplicate = codes "duplicate"
 rule_words undeclared = codes "undeclared"

@@ -16,14 +16,17 @@ both f None y = None
 both f (Some x) None = None
 both f (Some x) (Some y) = Some (f x y)
 
+-- of three
 abbrev pub all_three : {W X Y Z : Type 0} → (W → X → Y → Z) → Option W → Option X → Option Y → Option Z
 all_three f None x y = None
 all_three f (Some w) x y = both (f w) x y
 
+-- of four
 abbrev pub all_four : {V W X Y Z : Type 0} → (V → W → X → Y → Z) → Option V → Option W → Option X → Option Y → Option Z
 all_four f None w x y = None
 all_four f (Some v) w x y = all_three (f v) w x y
 
+-- what is read from what was read
 abbrev pub and_then : {X Y : Type 0} → Option X → (X → Option Y) → Option Y
 and_then None f = None
 and_then (Some x) f = f x
@@ -35,9 +38,11 @@ each_in f (t ∷ ts) = both (λ x xs. x ∷ xs) (f t) (each_in f ts)
 
 -- ---- names, variables and targets
 
+-- the target that throws a value away
 abbrev pub nothing_name : Name
 nothing_name = codes "_"
 
+-- the variable that is always bound to the process's own pid
 abbrev pub self_name : Name
 self_name = codes "Self"
 
@@ -49,13 +54,16 @@ is_plain_name s = not (is_variable s) && not (bytes_eq s nothing_name)
 abbrev pub is_own_variable : Name → Bool
 is_own_variable s = is_variable s && not (bytes_eq s self_name)
 
+-- an atom's characters, where they pass
 abbrev pub atom_if : (Name → Bool) → Tree → Option Name
 atom_if p (atom s) = if p s then Some s else None
 atom_if p t = None
 
+-- the term as a name
 abbrev pub name_in : Tree → Option Name
 name_in t = atom_if is_plain_name t
 
+-- the term as a variable other than 'Self'
 abbrev pub variable_in : Tree → Option Name
 variable_in t = atom_if is_own_variable t
 
@@ -63,6 +71,7 @@ variable_in t = atom_if is_own_variable t
 abbrev pub target_of : Name → Option (Option Name)
 target_of s = if bytes_eq s nothing_name then Some None else if is_own_variable s then Some (Some s) else None
 
+-- the term as a target; none where it is '_'
 abbrev pub target_in : Tree → Option (Option Name)
 target_in (atom s) = target_of s
 target_in t = None
@@ -72,14 +81,17 @@ abbrev pub list_in : Tree → Option (List Tree)
 list_in (list ts) = Some (elements ts)
 list_in t = None
 
+-- the elements of a tuple
 abbrev pub tuple_in : Tree → Option (List Tree)
 tuple_in (tuple ts) = Some (elements ts)
 tuple_in t = None
 
+-- a term of the kind tuple
 abbrev pub is_tuple : Tree → Bool
 is_tuple (tuple ts) = true
 is_tuple t = false
 
+-- `[]`
 abbrev pub is_empty_list : Tree → Bool
 is_empty_list (list none) = true
 is_empty_list t = false
@@ -88,6 +100,7 @@ is_empty_list t = false
 abbrev pub if_few : List Tree → Option (List Tree)
 if_few ts = if nat_le (length ts) PARAMETERS then Some ts else None
 
+-- a list of arguments
 abbrev pub args_in : Tree → Option (List Tree)
 args_in t = and_then (list_in t) if_few
 
@@ -95,6 +108,7 @@ args_in t = and_then (list_in t) if_few
 abbrev pub exported_of : Name → Option Bool
 exported_of s = if bytes_eq s (codes "exported") then Some true else if bytes_eq s (codes "internal") then Some false else None
 
+-- the term as a visibility
 abbrev pub exported_in : Tree → Option Bool
 exported_in (atom s) = exported_of s
 exported_in t = None
@@ -104,6 +118,7 @@ abbrev pub are_distinct : List Name → Bool
 are_distinct [] = true
 are_distinct (s ∷ ss) = not (is_among ss s) && are_distinct ss
 
+-- the names, where they are distinct
 abbrev pub if_distinct : List Name → Option (List Name)
 if_distinct ss = if are_distinct ss then Some ss else None
 
@@ -113,6 +128,7 @@ params_in t = and_then (and_then (args_in t) (λ ts. each_in variable_in ts)) if
 
 -- ---- steps
 
+-- the atom of these characters
 abbrev pub is_atom_of : List ℕ → Tree → Bool
 is_atom_of word (atom s) = bytes_eq s word
 is_atom_of word t = false
@@ -122,6 +138,7 @@ abbrev pub begins_with : List ℕ → List Tree → Bool
 begins_with word [] = false
 begins_with word (t ∷ ts) = is_atom_of word t
 
+-- the same, by the word
 abbrev pub is_tagged : String → List Tree → Bool
 is_tagged word ts = begins_with (codes word) ts
 
@@ -140,12 +157,15 @@ abbrev pub callee_of : List Tree → Option (Name × Name)
 callee_of (m ∷ f ∷ []) = both (λ x y. (x, y)) (name_in m) (name_in f)
 callee_of ts = None
 
+-- the term as {M,F}
 abbrev pub callee_in : Tree → Option (Name × Name)
 callee_in t = and_then (tuple_in t) callee_of
 
+-- a call that names the module
 abbrev pub remote_call : Option Name → Name × Name → List Tree → Step
 remote_call v callee args = call_remote v callee.0 callee.1 args
 
+-- a spawn of M and F
 abbrev pub spawn_of : Option Name → Name × Name → List Tree → Step
 spawn_of v callee args = spawn v callee.0 callee.1 args
 
@@ -164,6 +184,7 @@ abbrev pub of_one_in : (Tree → Step) → List Tree → Option Step
 of_one_in f (tag ∷ t ∷ []) = Some (f t)
 of_one_in f ts = None
 
+-- a step, by its first element
 abbrev pub step_of_fields : List Tree → Option Step
 step_of_fields ts =
     if is_tagged "send" ts then send_in ts else
@@ -176,6 +197,7 @@ step_of_fields ts =
     if is_tagged "exit" ts then of_one_in exit ts else
     None
 
+-- the term as a step
 abbrev pub step_in : Tree → Option Step
 step_in t = and_then (tuple_in t) step_of_fields
 
@@ -205,6 +227,7 @@ abbrev pub specified_in : (Name → Tree → Command) → List Tree → Option C
 specified_in f (tag ∷ s ∷ spec ∷ options ∷ []) = if is_empty_list options then option_map (λ n. f n spec) (name_in s) else None
 specified_in f ts = None
 
+-- a command, by its first element
 abbrev pub command_of_fields : List Tree → Option Command
 command_of_fields ts =
     if is_tagged "session_create" ts then create_in ts else
@@ -215,6 +238,7 @@ command_of_fields ts =
     if is_tagged "recv" ts then specified_in set_receive ts else
     None
 
+-- the term as a command
 abbrev pub command_in : Tree → Option Command
 command_in t = and_then (tuple_in t) command_of_fields
 
@@ -224,9 +248,11 @@ commands_in t = and_then (list_in t) (λ ts. each_in command_in ts)
 
 -- ---- forms
 
+-- a function of these parts
 abbrev pub function_from : Name → Name → Bool → List Name → List Step → Function
 function_from m f exported params steps = record { module_name = m; function_name = f; exported = exported; params = params; steps = steps }
 
+-- an entry call of these parts
 abbrev pub entry_from : Name → Name → List Tree → Entry
 entry_from m f args = record { module_name = m; function_name = f; args = args }
 
@@ -246,6 +272,7 @@ abbrev pub control_in : List Tree → Option Form
 control_in (tag ∷ commands ∷ []) = option_map controls (commands_in commands)
 control_in ts = None
 
+-- a form, by its first element
 abbrev pub form_of_fields : List Tree → Option Form
 form_of_fields ts =
     if is_tagged "function" ts then function_in ts else
@@ -253,6 +280,7 @@ form_of_fields ts =
     if is_tagged "control" ts then control_in ts else
     None
 
+-- the term as a form
 abbrev pub form_in : Tree → Option Form
 form_in t = and_then (tuple_in t) form_of_fields
 

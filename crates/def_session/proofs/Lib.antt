@@ -3,3 +3,4 @@ pub mod Destroyed
 pub mod Messages
 pub mod Ends
 pub mod Life
+pub mod Kept

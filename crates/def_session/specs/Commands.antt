@@ -1,4 +1,5 @@
 -- What one command does to its session, and its reply (module `trace`: session_create/3, session_destroy/1, process/4, function/4, send/3, recv/3).
+-- Stands on the session's state and settings, on flags and on the reading of specifications.
 use Rattle.std.specs.Prelude.{ℕ, Bool, true, false, if◌then◌else◌, List, [], ◌∷◌, length, filter, Option, Some, None, Ok, Err, pos}
 use Rattle.def_term.specs.Tree.{Tree, int, atom, pid, tuple, list, none, more}
 use Rattle.def_term.specs.Order.{same}
@@ -15,6 +16,7 @@ use Rattle.def_session.specs.State.{Phase, absent, live, destroyed, Session, Ope
 abbrev pub Done : Type 0
 Done = Session × Tree
 
+-- a count as a reply
 abbrev pub number : ℕ → Tree
 number n = int (pos n)
 
@@ -22,18 +24,21 @@ number n = int (pos n)
 abbrev pub refused : Session → Done
 refused s = (s, word "badarg")
 
+-- `badarg` or {unsupported,Name}
 abbrev pub fault_term : SpecFault → Tree
 fault_term badarg = word "badarg"
 fault_term (unsupported s) = tuple (more (word "unsupported") (more (atom s) none))
 
 -- ---- flags of processes
 
+-- the processes that a command is about: a living pid, `existing`, `new`, or `all`, which is both together
 pub data Procs : Type 0 where
   one_process : ℕ → Procs
   existing : Procs
   new_processes : Procs
   all_processes : Procs
 
+-- any other term is none
 abbrev pub procs_of : Tree → Option Procs
 procs_of (pid n) = Some (one_process n)
 procs_of t =
@@ -45,10 +50,12 @@ procs_of t =
 abbrev pub how_of : Tree → Option Bool
 how_of t = if same t (word "true") then Some true else if same t (word "false") then Some false else None
 
+-- a list of the ten flags
 abbrev pub flags_of : Tree → Option Flags
 flags_of (list ts) = flags_named ts
 flags_of _ = None
 
+-- sets (How `true`) or clears (`false`)
 abbrev pub changed_flags : Bool → Flags → Flags → Flags
 changed_flags on f old = if on then joined old f else without old f
 
@@ -58,9 +65,11 @@ all_changed on f alive [] = []
 all_changed on f [] (g ∷ gs) = g ∷ gs
 all_changed on f (b ∷ bs) (g ∷ gs) = (if b then changed_flags on f g else g) ∷ all_changed on f bs gs
 
+-- `existing`: the living processes
 abbrev pub existing_changed : Bool → Flags → Session → Session
 existing_changed on f s = record s { flags = all_changed on f s.alive s.flags }
 
+-- `new`: the flags for new processes
 abbrev pub new_changed : Bool → Flags → Session → Session
 new_changed on f s = record s { for_new = changed_flags on f s.for_new }
 
@@ -71,6 +80,7 @@ flags_set s existing on f = (existing_changed on f s, number (living_count s.ali
 flags_set s new_processes on f = (new_changed on f s, number 0)
 flags_set s all_processes on f = (existing_changed on f (new_changed on f s), number (living_count s.alive))
 
+-- an unknown Procs, How or flag, or Flags that is no list, is refused
 abbrev pub flags_set_if : Session → Option Procs → Option Bool → Option Flags → Done
 flags_set_if s (Some procs) (Some on) (Some f) = flags_set s procs on f
 flags_set_if s _ _ _ = refused s
@@ -81,6 +91,7 @@ flags_set_if s _ _ _ = refused s
 abbrev pub matching_count : Opening → Covering → ℕ
 matching_count o k = length (filter (λ f. has_among k f.0 f.1) o.functions)
 
+-- an accepted function command is the newest
 abbrev pub function_set : Opening → Session → Covered → Bool → Reads Setting → Done
 function_set o s covered local (Err e) = (s, fault_term e)
 function_set o s covered local (Ok setting) =
@@ -92,16 +103,19 @@ abbrev pub function_set_if : Opening → Session → Option Covered → Option B
 function_set_if o s (Some covered) (Some local) spec = function_set o s covered local (setting_of for_calls spec)
 function_set_if o s _ _ spec = refused s
 
+-- sets the send setting; replies 1
 abbrev pub send_set : Session → Reads Setting → Done
 send_set s (Err e) = (s, fault_term e)
 send_set s (Ok setting) = (record s { sending = setting }, number 1)
 
+-- sets the receive setting; replies 1
 abbrev pub receive_set : Session → Reads Setting → Done
 receive_set s (Err e) = (s, fault_term e)
 receive_set s (Ok setting) = (record s { receiving = setting }, number 1)
 
 -- ---- one command
 
+-- a command to a live session
 abbrev pub done_live : Opening → Session → Command → Done
 done_live o s (create name tracer) = refused s
 done_live o s (destroy name) = (unset destroyed s.alive, word "true")
@@ -120,10 +134,12 @@ abbrev pub done_destroyed : Session → Command → Done
 done_destroyed s (destroy name) = (s, word "false")
 done_destroyed s _ = refused s
 
+-- by the session's phase
 abbrev pub done_in : Phase → Opening → Session → Command → Done
 done_in absent o s c = done_absent s c
 done_in live o s c = done_live o s c
 done_in destroyed o s c = done_destroyed s c
 
+-- one command
 abbrev pub command_done : Opening → Session → Command → Done
 command_done o s c = done_in s.phase o s c

@@ -1,4 +1,5 @@
--- What is promised of the definitions of a session.
+-- What is promised of the definitions of a session (module `trace`).
+-- Stands on all definitions of a session.
 use Rattle.std.specs.Prelude.{◌≡◌, ℕ, Bool, true, false, ◌||◌, if◌then◌else◌, List, [], ◌∷◌, ◌++◌, All, Some, None, Ok}
 use Rattle.def_term.specs.Tree.{Tree, atom, tuple, of_elements}
 use Rattle.def_term.specs.Alive.{with_alive}
@@ -7,11 +8,12 @@ use Rattle.def_script.specs.Program.{Command, create, destroy, set_function}
 use Rattle.def_node.specs.Event.{Event, Call, sent, received, called, returned, spawning, spawned, exited, linked, unlinked, getting_linked, getting_unlinked}
 use Rattle.def_spec.specs.Flags.{Flag, no_flags, send_flag, receive_flag, call_flag, procs_flag}
 use Rattle.def_spec.specs.Expressions.{for_calls}
+use Rattle.def_spec.specs.Reading.{SpecFault}
 use Rattle.def_session.specs.Settings.{Covered, Setting, off, Covering, has_among, setting_for, setting_of, covered_of, options_of}
 use Rattle.def_session.specs.State.{absent, live, destroyed, Session, Opening, flags_at, alive_after, unset}
 use Rattle.def_session.specs.Messages.{elements_of, process_of}
 use Rattle.def_session.specs.Session.{inherited, is_marked, event_told}
-use Rattle.def_session.specs.Commands.{matching_count, number, command_done}
+use Rattle.def_session.specs.Commands.{matching_count, number, fault_term, command_done}
 
 -- ---- settings
 
@@ -42,6 +44,24 @@ FunctionCommandIsNewest =
     s.phase ≡ live → covered_of mfa ≡ Some covered → options_of options ≡ Some local → setting_of for_calls spec ≡ Ok setting →
     command_done o s (set_function name mfa spec options)
     ≡ (record s { functions = record { covered = covered; setting = setting; local = local } ∷ s.functions }, number (matching_count o (record { covered = covered; setting = setting; local = local })))
+
+-- a command that is answered `badarg` or `{unsupported,Name}` changes nothing
+abbrev pub RefusedChangesNothing : Type 0
+RefusedChangesNothing = (o : Opening) (s : Session) (c : Command) (e : SpecFault) → (command_done o s c).1 ≡ fault_term e → (command_done o s c).0 ≡ s
+
+-- a command that adds a function setting, or ends all settings
+abbrev pub is_about_functions : Command → Bool
+is_about_functions (set_function name mfa spec options) = true
+is_about_functions (destroy name) = true
+is_about_functions _ = false
+
+-- any other leaves the accepted function commands as they are
+abbrev pub OtherCommandsKeepSettings : Type 0
+OtherCommandsKeepSettings = (o : Opening) (s : Session) (c : Command) → is_about_functions c ≡ false → (command_done o s c).0.functions ≡ s.functions
+
+-- and so does every event
+abbrev pub EventsKeepSettings : Type 0
+EventsKeepSettings = (s : Session) (e : Event) → (event_told s e).0.functions ≡ s.functions
 
 -- ---- messages
 
@@ -84,6 +104,7 @@ EventAfterDestruction = (s : Session) (e : Event) → s.phase ≡ destroyed → 
 abbrev pub CommandAfterDestruction : Type 0
 CommandAfterDestruction = (o : Opening) (s : Session) (c : Command) → s.phase ≡ destroyed → (command_done o s c).0 ≡ s
 
+-- `false` where already destroyed
 abbrev pub DestroyedAgain : Type 0
 DestroyedAgain = (o : Opening) (s : Session) (name : Name) → s.phase ≡ destroyed → (command_done o s (destroy name)).1 ≡ word "false"
 
@@ -97,14 +118,17 @@ ReturnEndsTheMark = (s : Session) (p : ℕ) (f : Mfa) (t : Tree) (depth : ℕ) �
 abbrev pub ExitEndsTheFlags : Type 0
 ExitEndsTheFlags = (s : Session) (p : ℕ) (r : Tree) → s.phase ≡ live → flags_at (event_told s (exited p r)).0 p ≡ no_flags
 
+-- its marks, at every depth
 abbrev pub ExitEndsTheMarks : Type 0
 ExitEndsTheMarks = (s : Session) (p : ℕ) (r : Tree) (depth : ℕ) → s.phase ≡ live → is_marked (event_told s (exited p r)).0 p depth ≡ false
 
+-- and it no longer lives
 abbrev pub ExitEndsTheLife : Type 0
 ExitEndsTheLife = (s : Session) (p : ℕ) (r : Tree) → s.phase ≡ live → (event_told s (exited p r)).0.alive ≡ with_alive s.alive p false
 
 -- ---- before creation, and life
 
+-- `session_create`
 abbrev pub is_creation : Command → Bool
 is_creation (create name tracer) = true
 is_creation _ = false
@@ -115,6 +139,7 @@ CreationMakesLive =
     (o : Opening) (s : Session) (name tracer : Name) → s.phase ≡ absent →
     command_done o s (create name tracer) ≡ (record s { phase = live }, tuple (of_elements (word "session" ∷ atom name ∷ [])))
 
+-- any other is refused
 abbrev pub CommandBeforeCreation : Type 0
 CommandBeforeCreation = (o : Opening) (s : Session) (c : Command) → s.phase ≡ absent → is_creation c ≡ false → command_done o s c ≡ (s, word "badarg")
 

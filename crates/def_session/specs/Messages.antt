@@ -1,4 +1,5 @@
 -- The message of each event, and how effects decide it (module `trace`, "trace messages"; "Match Specifications in Erlang", "Functions Allowed Only for Tracing").
+-- Stands on events and on effects.
 use Rattle.std.specs.Prelude.{ℕ, Bool, true, false, if◌then◌else◌, List, [], ◌∷◌, Option, Some, None}
 use Rattle.def_term.specs.Tree.{Tree, atom, pid, tuple, list, of_elements}
 use Rattle.def_term.specs.Order.{same}
@@ -39,6 +40,7 @@ process_of (unlinked p q) = p
 process_of (getting_linked p q) = p
 process_of (getting_unlinked p q) = p
 
+-- the later of two messages, where there is one
 abbrev pub later : Option Tree → Option Tree → Option Tree
 later o None = o
 later o (Some t) = Some t
@@ -49,6 +51,7 @@ last_message [] = None
 last_message (gives_message t ∷ es) = later (Some t) (last_message es)
 last_message (_ ∷ es) = last_message es
 
+-- one more element at the end
 abbrev pub followed_by : List Tree → Tree → List Tree
 followed_by [] t = t ∷ []
 followed_by (u ∷ us) t = u ∷ followed_by us t

@@ -1,4 +1,5 @@
 -- What one session makes of an event: inheritance, whether it is evaluated, the effects, at most one message, marks (module `trace`).
+-- Stands on the session's state and settings, on the outcome of specifications and on messages.
 -- It knows no other session, and nothing of how the events came about.
 use Rattle.std.specs.Prelude.{ℕ, ◌-◌, ◌==◌, Bool, true, false, not, ◌&&◌, if◌then◌else◌, List, [], ◌∷◌, filter, Option, Some, None, slice_set}
 use Rattle.std.specs.List.{list_any}
@@ -15,6 +16,7 @@ use Rattle.def_session.specs.Messages.{elements_of, process_of, last_message, de
 
 -- ---- inheritance
 
+-- the flags of both afterwards
 abbrev pub with_both : Session → (giver taker : ℕ) → Flags × Flags → Session
 with_both s giver taker pair = with_flags (with_flags s giver pair.0) taker pair.1
 
@@ -26,6 +28,7 @@ inherited s _ = s
 
 -- ---- what is evaluated
 
+-- the effects of an outcome; none where there is no match
 abbrev pub effects_in : Outcome → Option (List Effect)
 effects_in no_match = None
 effects_in (matched es) = Some es
@@ -36,12 +39,15 @@ evaluated_by off c = None
 evaluated_by plain c = Some []
 evaluated_by (by s) c = effects_in (outcome_of s c)
 
+-- what a specification is evaluated in
 abbrev pub context : Session → ℕ → List Tree → Option Mfa → Context
 context s me ts caller = record { matched_list = ts; me = me; caller_mfa = caller; alive = s.alive }
 
+-- the frame of this depth is marked
 abbrev pub is_marked : Session → ℕ → ℕ → Bool
 is_marked s p depth = list_any (λ m. m.0 == p && m.1 == depth) s.marks
 
+-- evaluated where the process has the flag
 abbrev pub where_set : Session → ℕ → Flag → Option (List Effect) → Option (List Effect)
 where_set s p f r = if flags_at s p f then r else None
 
@@ -61,6 +67,7 @@ evaluated s (getting_unlinked p q) = where_set s p procs_flag (Some [])
 
 -- ---- effects
 
+-- one effect: `silent` of the process itself, or flags of a process, cleared first and then set
 abbrev pub affected : ℕ → Session → Effect → Session
 affected p s (gives_message t) = s
 affected p s traces_return = s
@@ -107,9 +114,11 @@ finished s _ es = s
 abbrev pub Told : Type 0
 Told = Session × Option Tree
 
+-- the effects, then the message, then marks
 abbrev pub told_by_effects : Session → Event → List Effect → Told
 told_by_effects s e es = let t : Session = all_affected (process_of e) s es in (finished t e es, message_after t e es)
 
+-- without a message marks and flags still end with their frame and process
 abbrev pub told_for : Session → Event → Option (List Effect) → Told
 told_for s e None = (finished s e [], None)
 told_for s e (Some es) = told_by_effects s e es
@@ -120,5 +129,6 @@ told_in absent s e = (record s { alive = alive_after s.alive e }, None)
 told_in destroyed s e = (record s { alive = alive_after s.alive e }, None)
 told_in live s e = let t : Session = inherited s e in told_for t e (evaluated t e)
 
+-- one event
 abbrev pub event_told : Session → Event → Told
 event_told s e = told_in s.phase s e

@@ -36,11 +36,13 @@ setting_of d t =
     if same t (word "false") then Ok off else
     then_read (spec_of d t) (λ s. Ok (by s))
 
+-- {M,F,A} or {M,F,'_'}
 abbrev pub with_arity : Name → Name → Tree → Option Covered
 with_arity m f (int (pos n)) = if nat_le n 255 then Some (one (record { module_name = m; function_name = f; arity = n })) else None
 with_arity m f (atom s) = if is_wildcard s then Some (any_arity m f) else None
 with_arity m f _ = None
 
+-- M and F are atoms; behind '_' only '_' may stand
 abbrev pub covered_by : Tree → Tree → Tree → Option Covered
 covered_by (atom m) (atom f) a =
     if is_wildcard m then (if is_wildcard f && same a (word "_") then Some every else None) else
@@ -59,6 +61,7 @@ options_of t =
     if same t (list none) || same t (list (more (word "global") none)) then Some false else
     if same t (list (more (word "local") none)) then Some true else None
 
+-- the function is one of these
 abbrev pub is_covered : Covered → Mfa → Bool
 is_covered (one a) f = same_mfa a f
 is_covered (any_arity m g) f = bytes_eq m f.module_name && bytes_eq g f.function_name

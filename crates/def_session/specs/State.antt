@@ -1,4 +1,5 @@
 -- The state of one session.
+-- Stands on flags, on settings and on who lives (module `trace`: session_create/3, process/4).
 use Rattle.std.specs.Prelude.{ℕ, ◌-◌, Bool, true, false, List, [], ◌++◌, replicate, slice_get, slice_set}
 use Rattle.std.specs.Option.{unwrap_or}
 use Rattle.def_term.specs.Alive.{Alive, with_alive}
@@ -7,9 +8,11 @@ use Rattle.def_spec.specs.Flags.{Flags, no_flags}
 use Rattle.def_session.specs.Settings.{Covering, Setting, plain}
 use Rattle.def_node.specs.Event.{Event, spawned, exited}
 
+-- before its creation, from then on, and after its destruction
 pub data Phase : Type 0 where
   absent live destroyed : Phase
 
+-- its own flags for each process and for new processes, its settings, and its marked frames
 pub record Session : Type 0 where
   pub phase : Phase
   pub alive : Alive
@@ -40,9 +43,11 @@ unset phase alive = record { phase = phase; alive = alive; flags = replicate 64 
 abbrev pub absent_session : Opening → Session
 absent_session o = unset absent (alive_at_start o.processes)
 
+-- the flags of a process
 abbrev pub flags_at : Session → ℕ → Flags
 flags_at s n = unwrap_or (slice_get s.flags (n - 100)) no_flags
 
+-- the flags of a process changed
 abbrev pub with_flags : Session → ℕ → Flags → Session
 with_flags s n f = record s { flags = slice_set s.flags (n - 100) f }
 

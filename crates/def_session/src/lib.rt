@@ -7,16 +7,20 @@
 //! the process's flags and marks; a destroyed session tells nothing, and nothing brings it back.
 #![tactic(auto)]
 
-ghost use Rattle.def_session.specs.Laws.{NewestSettingWins, FalseRemoves, NoSetting, FunctionCommandIsNewest, MessageIsOfItsEvent, DestructionTakesAll, EventAfterDestruction, CommandAfterDestruction, DestroyedAgain, ReturnEndsTheMark, ExitEndsTheFlags, ExitEndsTheMarks, ExitEndsTheLife, CreationMakesLive, CommandBeforeCreation, EventBeforeCreation, LifeGoesByEvents, EventKeepsThePhase};
+ghost use Rattle.def_session.specs.Laws.{NewestSettingWins, FalseRemoves, NoSetting, FunctionCommandIsNewest, RefusedChangesNothing, OtherCommandsKeepSettings, EventsKeepSettings, MessageIsOfItsEvent, DestructionTakesAll, EventAfterDestruction, CommandAfterDestruction, DestroyedAgain, ReturnEndsTheMark, ExitEndsTheFlags, ExitEndsTheMarks, ExitEndsTheLife, CreationMakesLive, CommandBeforeCreation, EventBeforeCreation, LifeGoesByEvents, EventKeepsThePhase};
 
 /// The newest function command that has a function among its own decides its setting, whichever kind it
 /// is: an older one never shows through, and `false` removes. An accepted command is the newest
-/// (`trace:function/4`).
+/// (`trace:function/4`); one that is refused changes nothing, and no other command but a destruction, and
+/// no event, changes which were accepted.
 pub fn newest_setting_wins()
     ensures wins { NewestSettingWins }
     ensures removes { FalseRemoves }
     ensures none { NoSetting }
     ensures newest { FunctionCommandIsNewest }
+    ensures unchanged { RefusedChangesNothing }
+    ensures others { OtherCommandsKeepSettings }
+    ensures events { EventsKeepSettings }
 {}
 
 /// A message is told by a live session alone, of a process that has the flag that the event needs, and it

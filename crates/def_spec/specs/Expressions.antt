@@ -19,6 +19,7 @@ pub data Action : Type 0 where
   message return_trace exception_trace silent enable_trace disable_trace caller : Action
 
 mutual
+  -- a variable, `'$_'`, `'$$'`, a term as it stands, a tuple or list of expressions, or a call of a function or an action
   pub data Expr : Type 0 where
     -- '$N', '$_' and '$$'
     bound_to : ℕ → Expr
@@ -34,6 +35,7 @@ mutual
     or_else : Exprs → Expr
     perform : Action → Exprs → Expr
 
+  -- several expressions in their order
   pub data Exprs : Type 0 where
     no_exprs : Exprs
     and_expr : Expr → Exprs → Exprs
@@ -47,6 +49,7 @@ pub record Context : Type 0 where
 
 -- ---- actions
 
+-- what an action asks of the session: a message, a mark of the call's frame, the flag `silent`, or a change of flags of a process
 pub data Effect : Type 0 where
   gives_message : Tree → Effect
   traces_return : Effect
@@ -71,6 +74,7 @@ change_by on c (f ∷ []) = change on (living_pid c.alive (pid c.me)) (flag_name
 change_by on c (p ∷ f ∷ []) = change on (living_pid c.alive p) (flag_named f)
 change_by on c (p ∷ f ∷ t ∷ ts) = None
 
+-- for `true` or `false` that effect, for another value none
 abbrev pub silence : Tree → List Effect
 silence t = if same t (word "true") then silences true ∷ [] else if same t (word "false") then silences false ∷ [] else []
 
@@ -104,6 +108,7 @@ pub data Place : Type 0 where
   in_condition : Place
   in_body : Place
 
+-- in a condition a fault is the fault of the whole, in a body a call that faults has the value 'EXIT' (own)
 abbrev pub settled : Place → Option Tree → Option Tree
 settled in_condition r = r
 settled in_body None = Some (word "EXIT")
@@ -114,6 +119,7 @@ abbrev pub values_bound : Bindings → List Tree
 values_bound [] = []
 values_bound (e ∷ es) = e.1 ∷ values_bound es
 
+-- the value without the effects
 abbrev pub value_part : Option (Tree × List Effect) → Option Tree
 value_part r = option_map (λ p. p.0) r
 
@@ -122,10 +128,12 @@ abbrev pub if_true : Option Tree → Option Tree → Option Tree
 if_true None rest = None
 if_true (Some t) rest = if is_true t then rest else Some (truth false)
 
+-- goes on where the value is not true: true where it is, and a fault where it is one
 abbrev pub unless_true : Option Tree → Option Tree → Option Tree
 unless_true None rest = None
 unless_true (Some t) rest = if is_true t then Some (truth true) else rest
 
+-- one value before the others; a fault where one is
 abbrev pub before : Option Tree → Option (List Tree) → Option (List Tree)
 before None ts = None
 before (Some t) None = None
@@ -133,6 +141,7 @@ before (Some t) (Some ts) = Some (t ∷ ts)
 
 module _ (d : Dialect) (place : Place) (b : Bindings) (c : Context) where
   abbrev mutual
+    -- the value of an expression; None is a fault
     pub value : Expr → Option Tree
     value (bound_to n) = bound b n
     value whole_list = Some (list (of_elements c.matched_list))
@@ -167,6 +176,7 @@ abbrev pub own_effects : Option (Tree × List Effect) → List Effect
 own_effects None = []
 own_effects (Some p) = p.1
 
+-- there is a value, and it is `true`
 abbrev pub is_true_value : Option Tree → Bool
 is_true_value None = false
 is_true_value (Some t) = is_true t
@@ -186,14 +196,17 @@ module _ (d : Dialect) (b : Bindings) (c : Context) where
     effects (or_else es) = effects_until_true es
     effects (perform a es) = effects_of_all es ++ own_effects (option_and_then (λ ts. act d a ts c) (values d in_body b c es))
 
+    -- those of several expressions, left to right
     pub effects_of_all : Exprs → List Effect
     effects_of_all no_exprs = []
     effects_of_all (and_expr e es) = effects e ++ effects_of_all es
 
+    -- up to the first that isn't true
     pub effects_while_true : Exprs → List Effect
     effects_while_true no_exprs = []
     effects_while_true (and_expr e es) = effects e ++ (if is_true_value (value d in_body b c e) then effects_while_true es else [])
 
+    -- up to the first that is true
     pub effects_until_true : Exprs → List Effect
     effects_until_true no_exprs = []
     effects_until_true (and_expr e es) = effects e ++ (if is_true_value (value d in_body b c e) then [] else effects_until_true es)

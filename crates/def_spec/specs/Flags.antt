@@ -6,9 +6,11 @@ use Rattle.std.specs.Str.{bytes_eq}
 use Rattle.def_term.specs.Tree.{Tree, atom, Trees, none, more}
 use Rattle.def_term.specs.Names.{Name}
 
+-- `send`, `'receive'`, `call`, `procs`, `silent`, `arity`, `set_on_spawn`, `set_on_first_spawn`, `set_on_link` and `set_on_first_link`
 pub data Flag : Type 0 where
   send_flag receive_flag call_flag procs_flag silent_flag arity_flag set_on_spawn set_on_first_spawn set_on_link set_on_first_link : Flag
 
+-- each flag has a number of its own
 abbrev pub number_of : Flag → ℕ
 number_of send_flag = 0
 number_of receive_flag = 1
@@ -25,15 +27,19 @@ number_of set_on_first_link = 9
 abbrev pub Flags : Type 0
 Flags = Flag → Bool
 
+-- the empty set
 abbrev pub no_flags : Flags
 no_flags f = false
 
+-- the set of one flag
 abbrev pub only : Flag → Flags
 only f g = number_of f == number_of g
 
+-- the flags of either set
 abbrev pub joined : Flags → Flags → Flags
 joined f g x = f x || g x
 
+-- the flags of the first set that are not in the second
 abbrev pub without : Flags → Flags → Flags
 without f g x = f x && not (g x)
 
@@ -49,6 +55,7 @@ flags_by_name =
     (codes "send", send_flag) ∷ (codes "receive", receive_flag) ∷ (codes "call", call_flag) ∷ (codes "procs", procs_flag) ∷ (codes "silent", silent_flag) ∷ (codes "arity", arity_flag)
     ∷ (codes "set_on_spawn", set_on_spawn) ∷ (codes "set_on_first_spawn", set_on_first_spawn) ∷ (codes "set_on_link", set_on_link) ∷ (codes "set_on_first_link", set_on_first_link) ∷ []
 
+-- the flag of a name, where it is one
 abbrev pub named_in : List (Name × Flag) → Name → Option Flag
 named_in [] s = None
 named_in (e ∷ es) s = if bytes_eq s e.0 then Some e.1 else named_in es s

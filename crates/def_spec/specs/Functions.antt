@@ -7,6 +7,7 @@ use Rattle.def_term.specs.Tree.{Tree, int, atom, pid, tuple, list, Trees, none, 
 use Rattle.def_term.specs.Order.{tree_cmp, same}
 use Rattle.def_term.specs.Names.{word}
 
+-- tests of kinds, functions of lists and tuples, arithmetic, comparisons, the own pid and node, and logic
 pub data Func : Type 0 where
   is_atom is_integer is_list is_tuple is_pid is_number is_boolean : Func
   -- there are no such terms here
@@ -19,10 +20,12 @@ pub data Func : Type 0 where
   -- all arguments of these are evaluated
   all_of one_of just_one_of is_false : Func
 
+-- `true` or `false` as a term
 abbrev pub truth : Bool → Tree
 truth true = word "true"
 truth false = word "false"
 
+-- the term is the atom `true`
 abbrev pub is_true : Tree → Bool
 is_true t = same t (word "true")
 
@@ -32,40 +35,49 @@ on_one f [] = None
 on_one f (t ∷ []) = f t
 on_one f (t ∷ u ∷ us) = None
 
+-- with two arguments
 abbrev pub on_two : (Tree → Tree → Option Tree) → List Tree → Option Tree
 on_two f [] = None
 on_two f (t ∷ []) = None
 on_two f (t ∷ u ∷ []) = f t u
 on_two f (t ∷ u ∷ v ∷ vs) = None
 
+-- a test of one term
 abbrev pub tests : (Tree → Bool) → List Tree → Option Tree
 tests p ts = on_one (λ t. Some (truth (p t))) ts
 
+-- a test of two terms
 abbrev pub compares : (Tree → Tree → Bool) → List Tree → Option Tree
 compares p ts = on_two (λ t u. Some (truth (p t u))) ts
 
 -- ---- the kinds of terms
 
+-- is_atom
 abbrev pub atom_test : Tree → Bool
 atom_test (atom a) = true
 atom_test _ = false
 
+-- is_integer, and is_number in this profile
 abbrev pub integer_test : Tree → Bool
 integer_test (int z) = true
 integer_test _ = false
 
+-- is_list; `[]` is a list
 abbrev pub list_test : Tree → Bool
 list_test (list ts) = true
 list_test _ = false
 
+-- is_tuple
 abbrev pub tuple_test : Tree → Bool
 tuple_test (tuple ts) = true
 tuple_test _ = false
 
+-- is_pid
 abbrev pub pid_test : Tree → Bool
 pid_test (pid n) = true
 pid_test _ = false
 
+-- is_boolean: `true` for the atoms `true` and `false` (own)
 abbrev pub boolean_test : Tree → Bool
 boolean_test t = same t (word "true") || same t (word "false")
 
@@ -75,14 +87,17 @@ boolean_test t = same t (word "true") || same t (word "false")
 abbrev pub fitting : ℤ → Option Tree
 fitting z = if int_le (negsuc (2 ^ 63 - 1)) z && int_le z (pos (2 ^ 63 - 1)) then Some (int z) else None
 
+-- of an integer; of another term a fault
 abbrev pub of_integer : (ℤ → ℤ) → Tree → Option Tree
 of_integer f (int a) = fitting (f a)
 of_integer f _ = None
 
+-- of two integers; of other terms a fault
 abbrev pub of_integers : (ℤ → ℤ → Option Tree) → Tree → Tree → Option Tree
 of_integers f (int a) (int b) = f a b
 of_integers f _ _ = None
 
+-- abs
 abbrev pub magnitude : ℤ → ℤ
 magnitude (pos n) = pos n
 magnitude (negsuc n) = pos (suc n)
@@ -97,27 +112,33 @@ abbrev pub rest_of : ℤ → ℤ → Option Tree
 rest_of a (pos zero) = None
 rest_of a b = fitting (int_rem a b)
 
+-- a function of two integers with an integer as its value
 abbrev pub whole : (ℤ → ℤ → ℤ) → List Tree → Option Tree
 whole f ts = on_two (of_integers (λ a b. fitting (f a b))) ts
 
 -- ---- lists and tuples
 
+-- hd of a nonempty list; else a fault
 abbrev pub head_of : Tree → Option Tree
 head_of (list (more t ts)) = Some t
 head_of _ = None
 
+-- tl of a nonempty list; else a fault
 abbrev pub tail_of : Tree → Option Tree
 tail_of (list (more t ts)) = Some (list ts)
 tail_of _ = None
 
+-- length of a list; else a fault
 abbrev pub length_of : Tree → Option Tree
 length_of (list ts) = Some (int (pos (count ts)))
 length_of _ = None
 
+-- size of a tuple; else a fault
 abbrev pub tuple_size_of : Tree → Option Tree
 tuple_size_of (tuple ts) = Some (int (pos (count ts)))
 tuple_size_of _ = None
 
+-- the element with this number, from 0
 abbrev pub nth : Trees → ℕ → Option Tree
 nth none n = None
 nth (more t ts) zero = Some t
@@ -130,10 +151,12 @@ element_of _ _ = None
 
 -- ---- logic, where anything but `true` counts as not true (own)
 
+-- and: where all are `true`
 abbrev pub all_true : List Tree → Bool
 all_true [] = true
 all_true (t ∷ ts) = is_true t && all_true ts
 
+-- or: where one is `true`
 abbrev pub some_true : List Tree → Bool
 some_true [] = false
 some_true (t ∷ ts) = is_true t || some_true ts

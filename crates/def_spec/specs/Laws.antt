@@ -1,4 +1,5 @@
--- What is promised of specifications and flags.
+-- What is promised of specifications ("Match Specifications in Erlang") and of flags (trace:process/4).
+-- Stands on all definitions of specifications.
 use Rattle.std.specs.Prelude.{◌≡◌, ◌↔◌, ◌≤◌, ℕ, suc, nat_le, true, false, not, ◌&&◌, ◌||◌, List, [], ◌∷◌, length, Some, None, is_some, Ok, Err}
 use Rattle.std.specs.Bool.{⊤}
 use Rattle.def_term.specs.Tree.{Tree, atom, tuple, list, Trees, none, more}
@@ -28,9 +29,11 @@ WalkMissesNone = (p : Pattern) (t : Tree) → (bindings_of p t ≡ None) ↔ ((b
 
 -- ---- outcomes
 
+-- what is computed is the outcome of the least-numbered clause that fires, or no match
 abbrev pub OutcomeIsComputed : Type 0
 OutcomeIsComputed = (s : Spec) (c : Context) → IsOutcome s c (outcome_of s c)
 
+-- and there is no other
 abbrev pub OutcomeIsUnique : Type 0
 OutcomeIsUnique = (s : Spec) (c : Context) (o : Outcome) → IsOutcome s c o → o ≡ outcome_of s c
 
@@ -50,6 +53,7 @@ abbrev mutual
   IsCovered p (or_else es) = AreCovered p es
   IsCovered p (perform a es) = AreCovered p es
 
+  -- of several expressions
   pub AreCovered : Pattern → Exprs → Type 0
   AreCovered p no_exprs = ⊤
   AreCovered p (and_expr e es) = IsCovered p e × AreCovered p es
@@ -73,6 +77,7 @@ EffectsChangeNoValue = (d : Dialect) (place : Place) (b : Bindings) (c : Context
 
 -- ---- reading
 
+-- the number of arguments
 abbrev pub count_of : Exprs → ℕ
 count_of no_exprs = 0
 count_of (and_expr e es) = suc (count_of es)
@@ -103,6 +108,7 @@ numbers_of_function fn.all_of = (1, any_number)
 numbers_of_function fn.one_of = (1, any_number)
 numbers_of_function _ = (1, 1)
 
+-- those of an action
 abbrev pub numbers_of_action : Action → ℕ × ℕ
 numbers_of_action message = (1, 1)
 numbers_of_action return_trace = (0, 0)
@@ -112,6 +118,7 @@ numbers_of_action enable_trace = (1, 2)
 numbers_of_action disable_trace = (1, 2)
 numbers_of_action caller = (0, 0)
 
+-- those of what is called
 abbrev pub numbers_of : Called → ℕ × ℕ
 numbers_of (a_function f) = numbers_of_function f
 numbers_of an_and_also = (1, any_number)
@@ -126,12 +133,14 @@ IsAllowed d place (a_function f) = ⊤
 IsAllowed d place an_and_also = ⊤
 IsAllowed d place an_or_else = ⊤
 
+-- the number of arguments is one that the function has, and the call may stand there
 pub record IsFitting (d : Dialect) (place : Place) (f : Called) (n : ℕ) : Type 0 where
   pub least : nat_le (numbers_of f).0 n ≡ true
   pub most : nat_le n (numbers_of f).1 ≡ true
   pub allowed : IsAllowed d place f
 
 abbrev mutual
+  -- each call in the expression fits
   pub AllCallsFit : Dialect → Place → Expr → Type 0
   AllCallsFit d place (bound_to n) = ⊤
   AllCallsFit d place whole_list = ⊤
@@ -144,20 +153,24 @@ abbrev mutual
   AllCallsFit d place (or_else es) = IsFitting d place an_or_else (count_of es) × CallsOfAllFit d place es
   AllCallsFit d place (perform a es) = IsFitting d place (an_action a) (count_of es) × CallsOfAllFit d place es
 
+  -- of several expressions
   pub CallsOfAllFit : Dialect → Place → Exprs → Type 0
   CallsOfAllFit d place no_exprs = ⊤
   CallsOfAllFit d place (and_expr e es) = AllCallsFit d place e × CallsOfAllFit d place es
 
+-- variables that the head binds, and calls that fit, in conditions and in the body
 pub record IsSoundClause (d : Dialect) (k : Clause) : Type 0 where
   pub conditions_covered : AreCovered k.head k.conditions
   pub conditions_fit : CallsOfAllFit d in_condition k.conditions
   pub body_covered : AreCovered k.head k.body
   pub body_fits : CallsOfAllFit d in_body k.body
 
+-- each clause so
 abbrev pub AreSoundClauses : Dialect → List Clause → Type 0
 AreSoundClauses d [] = ⊤
 AreSoundClauses d (k ∷ ks) = IsSoundClause d k × AreSoundClauses d ks
 
+-- the dialect that it is read for, one clause or more, and each clause sound
 pub record IsSound (d : Dialect) (s : Spec) : Type 0 where
   pub dialect : s.dialect ≡ d
   pub nonempty : nat_le 1 (length s.clauses) ≡ true
@@ -169,10 +182,12 @@ ReadSpecsAreSound = (d : Dialect) (t : Tree) (s : Spec) → spec_of d t ≡ Ok s
 
 -- ---- the first fault
 
+-- these terms before the others
 abbrev pub trees_before : List Tree → Trees → Trees
 trees_before [] ts = ts
 trees_before (u ∷ us) ts = more u (trees_before us ts)
 
+-- each of these terms is read as a clause
 abbrev pub AreRead : Dialect → List Tree → Type 0
 AreRead d [] = ⊤
 AreRead d (t ∷ ts) = ((k : Clause) × (clause_of d t ≡ Ok k)) × AreRead d ts
@@ -187,11 +202,13 @@ FirstFaultyClause =
 abbrev pub HeadFaultFirst : Type 0
 HeadFaultFirst = (d : Dialect) (h : Tree) (cs bs : Trees) (e : SpecFault) → head_of h ≡ Err e → clause_of d (tuple (more h (more (list cs) (more (list bs) none)))) ≡ Err e
 
+-- then that of the conditions
 abbrev pub ConditionFaultNext : Type 0
 ConditionFaultNext =
     (d : Dialect) (h : Tree) (p : Pattern) (cs bs : Trees) (e : SpecFault) → head_of h ≡ Ok p → exprs_of d in_condition p cs ≡ Err e →
     clause_of d (tuple (more h (more (list cs) (more (list bs) none)))) ≡ Err e
 
+-- then that of the body
 abbrev pub BodyFaultLast : Type 0
 BodyFaultLast =
     (d : Dialect) (h : Tree) (p : Pattern) (cs bs : Trees) (es : Exprs) (e : SpecFault) → head_of h ≡ Ok p → exprs_of d in_condition p cs ≡ Ok es → exprs_of d in_body p bs ≡ Err e →
@@ -224,14 +241,17 @@ pub record Inherits (always first : Flag) (after : Flags → Flags → Flags × 
       ((after giver taker).0 x ≡ (giver x && not (only always x || only first x)))
       × ((after giver taker).1 x ≡ (taker x || (giver x && not (only always x || only first x))))
 
+-- at a spawn, from the parent to the child
 abbrev pub SpawnInherits : Type 0
 SpawnInherits = Inherits set_on_spawn set_on_first_spawn after_spawn
 
+-- at a link, from the linking process to its partner
 abbrev pub LinkInherits : Type 0
 LinkInherits = Inherits set_on_link set_on_first_link after_link
 
 -- ---- variables
 
+-- the variables of each clause's head are numbered from 0 to 999
 abbrev pub AreNumbered : List Clause → Type 0
 AreNumbered [] = ⊤
 AreNumbered (k ∷ ks) = ((n : ℕ) → occurs n k.head ≡ true → n ≤ 999) × AreNumbered ks

@@ -16,6 +16,7 @@ mutual
     in_tuple : Patterns → Pattern
     in_list : Patterns → Pattern
 
+  -- several patterns in their order
   pub data Patterns : Type 0 where
     no_patterns : Patterns
     and_pattern : Pattern → Patterns → Patterns
@@ -24,6 +25,7 @@ mutual
 abbrev pub Bindings : Type 0
 Bindings = List (ℕ × Tree)
 
+-- the term that is bound to a variable, where one is
 abbrev pub bound : Bindings → ℕ → Option Tree
 bound b n = find nat_cmp n b
 
@@ -36,6 +38,7 @@ abbrev mutual
   occurs n (in_tuple ps) = occurs_in_some n ps
   occurs n (in_list ps) = occurs_in_some n ps
 
+  -- in one of the patterns
   pub occurs_in_some : ℕ → Patterns → Bool
   occurs_in_some n no_patterns = false
   occurs_in_some n (and_pattern p ps) = occurs n p || occurs_in_some n ps
@@ -58,6 +61,7 @@ abbrev mutual
   subst_in (in_tuple ps) b fill = tuple (subst_each ps b fill)
   subst_in (in_list ps) b fill = list (subst_each ps b fill)
 
+  -- each pattern so
   pub subst_each : Patterns → Bindings → Fill → Trees
   subst_each no_patterns b fill = none
   subst_each (and_pattern p ps) b fill = more (subst_in p b (λ place. fill (here ∷ place))) (subst_each ps b (λ place. fill (past ∷ place)))
@@ -84,11 +88,13 @@ abbrev mutual
   bind_on (in_list ps) (list ts) b = bind_each ps ts b
   bind_on (in_list ps) _ b = None
 
+  -- each pattern against its term, left to right; as many of the one as of the other
   pub bind_each : Patterns → Trees → Bindings → Option Bindings
   bind_each no_patterns none b = Some b
   bind_each no_patterns (more t ts) b = None
   bind_each (and_pattern p ps) none b = None
   bind_each (and_pattern p ps) (more t ts) b = option_and_then (bind_each ps ts) (bind_on p t b)
 
+-- the binding that the walk finds, with nothing bound before
 abbrev pub bindings_of : Pattern → Tree → Option Bindings
 bindings_of p t = bind_on p t []

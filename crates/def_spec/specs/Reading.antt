@@ -1,4 +1,5 @@
 -- How a term is read as a specification: the clauses that it spells, or the first fault ("Match Specifications in Erlang", "Grammar").
+-- Stands on terms, patterns, functions and expressions.
 -- Which fault is the first is this project's own: clauses in order; of a clause its shape, then head, conditions and body, left to right; of an expression first itself, then its arguments.
 use Rattle.std.specs.Prelude.{ℕ, ◌+◌, ◌*◌, ◌-◌, ◌==◌, nat_le, Bool, true, false, not, ◌&&◌, if◌then◌else◌, List, [], ◌∷◌, length, Option, Some, None, Result, Ok, Err, codes}
 use Rattle.std.specs.Str.{bytes_eq}
@@ -11,6 +12,7 @@ use Rattle.def_spec.specs.Functions.{Func}
 use Rattle.def_spec.specs.Expressions.{Dialect, for_calls, for_sends, for_receives, Action, message, return_trace, exception_trace, silent, enable_trace, disable_trace, caller, Expr, bound_to, whole_list, all_bound, constant, tuple_of, list_of, call, and_also, or_else, perform, Exprs, no_exprs, and_expr, Place, in_condition, in_body}
 use Rattle.def_spec.specs.Outcome.{Clause, Spec}
 
+-- `badarg`, or `{unsupported,Name}`
 pub data SpecFault : Type 0 where
   badarg : SpecFault
   -- an unsupported function, by its name
@@ -20,16 +22,19 @@ pub data SpecFault : Type 0 where
 abbrev pub Reads : Type 0 → Type 0
 Reads X = Result X SpecFault
 
+-- goes on with what is read; the first fault is the fault of the whole
 abbrev pub then_read : {X Y : Type 0} → Reads X → (X → Reads Y) → Reads Y
 then_read (Ok x) f = f x
 then_read (Err e) f = Err e
 
 -- ---- variables
 
+-- each character is a digit
 abbrev pub all_digits : List ℕ → Bool
 all_digits [] = true
 all_digits (c ∷ cs) = is_digit c && all_digits cs
 
+-- the number that decimal digits spell behind a number
 abbrev pub number_from : ℕ → List ℕ → ℕ
 number_from n [] = n
 number_from n (d ∷ ds) = number_from (n * 10 + (d - 48)) ds
@@ -53,21 +58,25 @@ pub data AtomKind : Type 0 where
   a_wrong_variable : AtomKind
   a_plain_atom : AtomKind
 
+-- the characters behind `$`
 abbrev pub digits_of : Name → List ℕ
 digits_of [] = []
 digits_of (c ∷ cs) = cs
 
+-- any other atom of `$` and one or more digits is a fault (own)
 abbrev pub atom_kind : Name → AtomKind
 atom_kind s =
     if is_dollar_number s
     then (if is_plain_number (digits_of s) then a_variable (number_from 0 (digits_of s)) else a_wrong_variable)
     else a_plain_atom
 
+-- the atom '_'
 abbrev pub is_wildcard : Name → Bool
 is_wildcard s = bytes_eq s (codes "_")
 
 -- ---- heads
 
+-- an atom as a pattern
 abbrev pub pattern_of_kind : Name → AtomKind → Reads Pattern
 pattern_of_kind s (a_variable n) = Ok (variable n)
 pattern_of_kind s a_wrong_variable = Err badarg
@@ -82,10 +91,12 @@ abbrev mutual
   pattern_of (tuple ts) = then_read (patterns_of ts) (λ ps. Ok (in_tuple ps))
   pattern_of (list ts) = then_read (patterns_of ts) (λ ps. Ok (in_list ps))
 
+  -- each element, left to right
   pub patterns_of : Trees → Reads Patterns
   patterns_of none = Ok no_patterns
   patterns_of (more t ts) = then_read (pattern_of t) (λ p. then_read (patterns_of ts) (λ ps. Ok (and_pattern p ps)))
 
+-- an atom as a whole head
 abbrev pub head_of_kind : Name → AtomKind → Reads Pattern
 head_of_kind s (a_variable n) = Ok (variable n)
 head_of_kind s a_wrong_variable = Err badarg
@@ -106,6 +117,7 @@ pub data Called : Type 0 where
   an_or_else : Called
   an_action : Action → Called
 
+-- a name with what it calls, and the least and greatest number of arguments
 pub record Row : Type 0 where
   pub name : Name
   pub called : Called
@@ -116,6 +128,7 @@ pub record Row : Type 0 where
 abbrev pub any_number : ℕ
 any_number = 4096
 
+-- a row of the table
 abbrev pub row : Name → Called → ℕ → ℕ → Row
 row s c least most = record { name = s; called = c; least = least; most = most }
 
@@ -123,6 +136,7 @@ row s c least most = record { name = s; called = c; least = least; most = most }
 abbrev pub with_args : ℕ → Name → Func → Row
 with_args n s f = row s (a_function f) n n
 
+-- the functions of conditions and bodies, and the actions of bodies
 abbrev pub table : List Row
 table =
     with_args 1 (codes "is_atom") fn.is_atom ∷ with_args 1 (codes "is_integer") fn.is_integer ∷ with_args 1 (codes "is_list") fn.is_list ∷ with_args 1 (codes "is_tuple") fn.is_tuple ∷ with_args 1 (codes "is_pid") fn.is_pid
@@ -146,6 +160,7 @@ unsupported_names =
     codes "is_record" ∷ codes "is_seq_trace" ∷ codes "set_seq_token" ∷ codes "get_seq_token" ∷ codes "set_tcw" ∷ codes "get_tcw" ∷ codes "display" ∷ codes "process_dump" ∷ codes "caller_line" ∷ codes "current_stacktrace"
     ∷ codes "bsl" ∷ codes "bsr" ∷ codes "max" ∷ codes "min" ∷ codes "float" ∷ codes "round" ∷ codes "trunc" ∷ codes "ceil" ∷ codes "floor" ∷ codes "map_get" ∷ codes "map_size" ∷ codes "is_map_key" ∷ codes "bit_size" ∷ codes "byte_size" ∷ codes "binary_part" ∷ codes "trace" ∷ []
 
+-- the row of a name, where the table has one
 abbrev pub found_in : List Row → Name → Option Row
 found_in [] s = None
 found_in (r ∷ rs) s = if bytes_eq r.name s then Some r else found_in rs s
@@ -166,9 +181,11 @@ is_allowed d in_condition (an_action a) = false
 is_allowed d in_body (an_action a) = has_action d a
 is_allowed d place _ = true
 
+-- so many arguments are allowed
 abbrev pub takes : Row → ℕ → Bool
 takes r n = nat_le r.least n && nat_le n r.most
 
+-- a name that isn't in the table, a wrong number of arguments, or a call that isn't allowed there is a fault
 abbrev pub called_of : Dialect → Place → ℕ → Option Row → Reads Called
 called_of d place n None = Err badarg
 called_of d place n (Some r) = if takes r n && is_allowed d place r.called then Ok r.called else Err badarg
@@ -177,6 +194,7 @@ called_of d place n (Some r) = if takes r n && is_allowed d place r.called then 
 abbrev pub named_call : Dialect → Place → Name → ℕ → Reads Called
 named_call d place s n = if is_among unsupported_names s then Err (unsupported s) else called_of d place n (found_in table s)
 
+-- the expression of a call
 abbrev pub call_of : Called → Exprs → Expr
 call_of (a_function f) es = call f es
 call_of an_and_also es = and_also es
@@ -185,6 +203,7 @@ call_of (an_action a) es = perform a es
 
 -- ---- expressions
 
+-- a variable that the head doesn't bind is a fault (own); any other atom is itself
 abbrev pub atom_expr_of_kind : Pattern → Name → AtomKind → Reads Expr
 atom_expr_of_kind head s (a_variable n) = if occurs n head then Ok (bound_to n) else Err badarg
 atom_expr_of_kind head s a_wrong_variable = Err badarg
@@ -195,12 +214,14 @@ atom_expr_of_kind head s a_plain_atom =
 abbrev pub is_constant : Name → Trees → Bool
 is_constant s ts = bytes_eq s (codes "const") && count ts == 1
 
+-- the T of {const,T}
 abbrev pub only_element : Trees → Tree
 only_element none = tuple none
 only_element (more t ts) = t
 
 module _ (d : Dialect) (place : Place) (head : Pattern) where
   abbrev mutual
+    -- integers and pids are themselves
     pub expr_of : Tree → Reads Expr
     expr_of (int z) = Ok (constant (int z))
     expr_of (atom s) = atom_expr_of_kind head s (atom_kind s)
@@ -214,12 +235,14 @@ module _ (d : Dialect) (place : Place) (head : Pattern) where
         then_read (named_call d place s (count ts)) (λ f. then_read (exprs_of ts) (λ es. Ok (call_of f es)))
     expr_of (tuple _) = Err badarg
 
+    -- several expressions, left to right
     pub exprs_of : Trees → Reads Exprs
     exprs_of none = Ok no_exprs
     exprs_of (more t ts) = then_read (expr_of t) (λ e. then_read (exprs_of ts) (λ es. Ok (and_expr e es)))
 
 -- ---- clauses
 
+-- the head, then the conditions, then the body
 abbrev pub clause_of_parts : Dialect → Tree → Trees → Trees → Reads Clause
 clause_of_parts d h cs bs =
     then_read (head_of h) (λ head. then_read (exprs_of d in_condition head cs) (λ conditions. then_read (exprs_of d in_body head bs) (λ body.
@@ -230,6 +253,7 @@ abbrev pub clause_of : Dialect → Tree → Reads Clause
 clause_of d (tuple (more h (more (list cs) (more (list bs) none)))) = clause_of_parts d h cs bs
 clause_of d _ = Err badarg
 
+-- in order
 abbrev pub clauses_of : Dialect → Trees → Reads (List Clause)
 clauses_of d none = Ok []
 clauses_of d (more t ts) = then_read (clause_of d t) (λ k. then_read (clauses_of d ts) (λ ks. Ok (k ∷ ks)))

@@ -4,3 +4,4 @@ pub mod Names
 pub mod Atoms
 pub mod Text
 pub mod Alive
+pub mod Laws

@@ -1,5 +1,6 @@
 -- Names: atoms that name a module, a function, a variable or a session, and the functions that they name.
-use Rattle.std.specs.Prelude.{ℕ, ◌==◌, Bool, ◌&&◌, List, [], codes, pos}
+-- Stands on terms. {M,F,Arity} is that of the module `trace`.
+use Rattle.std.specs.Prelude.{ℕ, ◌==◌, Bool, ◌&&◌, List, codes, pos}
 use Prim.Native.String.{String}
 use Rattle.std.specs.Str.{bytes_eq}
 use Rattle.def_term.specs.Tree.{Tree, int, atom, tuple, none, more}
@@ -14,6 +15,7 @@ pub record Mfa : Type 0 where
   pub function_name : Name
   pub arity : ℕ
 
+-- the same module, name and number of parameters
 abbrev pub same_mfa : Mfa → Mfa → Bool
 same_mfa a b = bytes_eq a.module_name b.module_name && (bytes_eq a.function_name b.function_name && a.arity == b.arity)
 

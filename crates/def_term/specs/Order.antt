@@ -1,4 +1,5 @@
 -- The order of terms, by cases on pairs of trees.
+-- Stands on terms. It is that of the Erlang Reference Manual ("Term Comparisons"), of the five kinds of this profile.
 use Rattle.std.specs.Prelude.{ℕ, Bool}
 use Rattle.std.specs.declared.cmp.Ordering.{Ordering}
 use Rattle.std.specs.declared.cmp.Ordering.TheVariants.{Less, Equal, Greater}
@@ -15,6 +16,7 @@ rank (tuple ts) = 3
 rank (list ts) = 4
 
 abbrev mutual
+  -- numbers by value, atoms by their characters, pids by number, tuples by size and then element by element, lists element by element; terms of two kinds by their kinds
   pub tree_cmp : Tree → Tree → Ordering
   tree_cmp (int m) (int n) = int_cmp m n
   tree_cmp (atom r) (atom s) = slice_cmp nat_cmp r s

@@ -1,15 +1,19 @@
 -- The written text of a tree.
+-- Stands on terms. It is that of `~w` of `io_lib`; where it differs, its line says (own).
 use Rattle.std.specs.Prelude.{ℕ, List, [], ◌∷◌, ◌++◌, Bool, true, false, ◌&&◌, ◌||◌, not, cond, nat_le, ◌==◌, codes, decimal, flat_map}
 use Rattle.std.specs.Fmt.{signed_decimal}
 use Rattle.std.specs.Str.{bytes_eq}
 use Rattle.def_term.specs.Tree.{Tree, int, atom, pid, tuple, list, Trees, none, more}
 
+-- a letter a to z
 abbrev pub is_lower : ℕ → Bool
 is_lower b = nat_le 97 b && nat_le b 122
 
+-- a letter A to Z
 abbrev pub is_upper : ℕ → Bool
 is_upper b = nat_le 65 b && nat_le b 90
 
+-- a digit 0 to 9
 abbrev pub is_digit : ℕ → Bool
 is_digit b = nat_le 48 b && nat_le b 57
 
@@ -17,14 +21,17 @@ is_digit b = nat_le 48 b && nat_le b 57
 abbrev pub is_name_byte : ℕ → Bool
 is_name_byte b = is_lower b || is_upper b || is_digit b || (b == 95) || (b == 64)
 
+-- a run of them
 abbrev pub are_name_bytes : List ℕ → Bool
 are_name_bytes [] = true
 are_name_bytes (b ∷ bs) = is_name_byte b && are_name_bytes bs
 
+-- the name is one of these
 abbrev pub is_among : List (List ℕ) → List ℕ → Bool
 is_among [] s = false
 is_among (w ∷ ws) s = bytes_eq s w || is_among ws s
 
+-- the words that are no bare atoms ("Reserved Words" of the Erlang Reference Manual)
 abbrev pub reserved_words : List (List ℕ)
 reserved_words =
     codes "after" ∷ codes "and" ∷ codes "andalso" ∷ codes "band" ∷ codes "begin" ∷ codes "bnot" ∷ codes "bor" ∷ codes "bsl" ∷ codes "bsr" ∷ codes "bxor" ∷ codes "case" ∷ codes "catch" ∷ codes "cond" ∷ codes "div" ∷ codes "end"
@@ -35,6 +42,7 @@ abbrev pub is_name : List ℕ → Bool
 is_name [] = false
 is_name (b ∷ bs) = is_lower b && are_name_bytes bs
 
+-- an atom is written bare where it is a bare atom, and is neither `maybe` nor `else` (own)
 unfoldable pub is_written_bare : List ℕ → Bool
 is_written_bare s = is_name s && not (is_among (codes "maybe" ∷ codes "else" ∷ reserved_words) s)
 
@@ -42,13 +50,16 @@ is_written_bare s = is_name s && not (is_among (codes "maybe" ∷ codes "else" �
 abbrev pub escaped : ℕ → List ℕ
 escaped b = cond ((b == 39) || (b == 92)) (92 ∷ b ∷ []) (b ∷ [])
 
+-- otherwise quoted
 abbrev pub atom_text : List ℕ → List ℕ
 atom_text s = cond (is_written_bare s) s (39 ∷ flat_map escaped s ++ 39 ∷ [])
 
+-- `<0.N.0>`
 abbrev pub pid_text : ℕ → List ℕ
 pid_text n = codes "<0." ++ decimal n ++ codes ".0>"
 
 abbrev mutual
+  -- without blanks; integers in decimal without leading zeros, strings as lists; one text for each term
   pub w : Tree → List ℕ
   w (int n) = signed_decimal n
   w (atom s) = atom_text s
@@ -61,6 +72,7 @@ abbrev mutual
   joined none = []
   joined (more t ts) = w t ++ each_after_comma ts
 
+  -- each with a comma before it
   pub each_after_comma : Trees → List ℕ
   each_after_comma none = []
   each_after_comma (more t ts) = 44 ∷ (w t ++ each_after_comma ts)

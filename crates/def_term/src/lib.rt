@@ -4,14 +4,10 @@
 //! equal terms compare as equal. Everything else here is definition, for every crate above.
 #![tactic(auto)]
 
-ghost use Rattle.std.specs.Prelude.{◌≡◌};
-ghost use Rattle.std.specs.Cmp.{IsTotalOrder};
-ghost use Rattle.std.specs.declared.cmp.Ordering.TheVariants.{Equal};
-ghost use Rattle.def_term.specs.Tree.{Tree};
-ghost use Rattle.def_term.specs.Order.{tree_cmp};
+ghost use Rattle.def_term.specs.Laws.{OrderIsTotal, OnlyItselfIsEqual};
 
 /// The order of terms is total, and only a term and itself compare as equal.
 pub fn order_is_total()
-    ensures total { IsTotalOrder tree_cmp }
-    ensures exact { (t u : Tree) → tree_cmp t u ≡ Equal → t ≡ u }
+    ensures total { OrderIsTotal }
+    ensures exact { OnlyItselfIsEqual }
 {}

@@ -1,4 +1,4 @@
--- What a list of tokens begins, and where and how the text of one term is refused.
+-- What a list of tokens begins, and where and how the text of one term is refused (own).
 -- Stands on the grammar and the limits.
 use Rattle.std.specs.Prelude.{◌≡◌, ℕ, List, [], ◌∷◌, ◌++◌, Bool, true, false}
 use Rattle.def_term.specs.Tree.{Tree}

@@ -8,3 +8,4 @@ pub mod Scan
 pub mod Writable
 pub mod Scripts
 pub mod ScriptReading
+pub mod Laws

@@ -1,5 +1,5 @@
 -- Reading one term as a fold over the tokens, with a stack that has a frame for each tuple or list that is open.
--- Stands on tokens, limits and refusals. Laws say that it reads what the grammar derives.
+-- Stands on tokens, limits and refusals (own). Laws say that it reads what the grammar derives.
 use Rattle.std.specs.Prelude.{ℕ, ◌+◌, List, [], ◌∷◌, ◌++◌, length, Result, Ok, Err, Bool, true, false, cond, nat_lt, nat_le}
 use Rattle.def_term.specs.Tree.{Tree, int, atom, pid, tuple, list, Trees, of_elements, depth}
 use Rattle.def_text.specs.Tokens as text

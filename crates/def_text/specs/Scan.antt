@@ -1,5 +1,5 @@
 -- Which token stands at the front of the bytes, and how long it is, by cases on the bytes from the left.
--- Stands on tokens. Lemmas say that it finds each token, and only tokens.
+-- Stands on tokens (own). Lemmas say that it finds each token, and only tokens.
 use Rattle.std.specs.Prelude.{◌≡◌, ℕ, ◌+◌, List, [], ◌∷◌, take, drop, Bool, true, false, not, ◌&&◌, ◌||◌, if◌then◌else◌, nat_le, nat_lt, ◌==◌, Option, Some, None}
 use Rattle.def_term.specs.Text.{is_digit, is_lower, is_name_byte, is_among, reserved_words}
 use Rattle.def_text.specs.Tokens.{ends_form, Token, open_brace, close_brace, open_bracket, close_bracket, comma, stop, integer, atom, characters, pid, IsBare, IsQuoted, IsToken}

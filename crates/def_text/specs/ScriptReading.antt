@@ -1,5 +1,5 @@
 -- Reading a script as a fold over the tokens, which starts on a new term behind each full stop.
--- Stands on the fold that reads one term. Laws say that it reads what the grammar derives.
+-- Stands on the fold that reads one term (own). Laws say that it reads what the grammar derives.
 use Rattle.std.specs.Prelude.{ℕ, List, [], ◌∷◌, ◌++◌, Result, Ok, Err, Bool}
 use Rattle.def_term.specs.Tree.{Tree}
 use Rattle.def_text.specs.Tokens as text

@@ -1,5 +1,5 @@
 -- Which terms a text spells as a script, and how a text that is none is refused: as for one term, of any number of terms with a full stop behind each.
--- Stands on the tokens, the grammar, the limits and the kinds of refusal.
+-- Stands on the tokens, the grammar, the limits and the kinds of refusal (own).
 use Rattle.std.specs.Prelude.{◌≡◌, ℕ, ◌≤◌, List, [], ◌∷◌, ◌++◌, length, Bool, true, false}
 use Rattle.def_term.specs.Tree.{Tree}
 use Rattle.def_text.specs.Tokens.{Token, Spanned, Tokens}

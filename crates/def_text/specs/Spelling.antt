@@ -1,5 +1,5 @@
 -- Which term a text spells, and how a text that spells none is refused.
--- Stands on the tokens, the grammar, the limits and the first fault.
+-- Stands on the tokens, the grammar, the limits and the first fault (own).
 use Rattle.std.specs.Prelude.{◌≡◌, ℕ, ◌≤◌, List, [], ◌∷◌, ◌++◌, length, map, true}
 use Rattle.def_term.specs.Tree.{Tree}
 use Rattle.def_text.specs.Tokens.{Token, Spanned, Tokens}

@@ -155,7 +155,8 @@ fn steps_misnamed<A: Allocator>(forms: &[Form<A>], of_module: &str, steps: &[Ste
     false
 }
 
-/// Rule 7.
+/// Whether the form declares a function that an earlier form declares, or creates a session that an
+/// earlier command creates.
 fn is_duplicate<A: Allocator>(earlier: &[Form<A>], form: &Form<A>) -> bool
     ensures { result ≡ breaks_duplicate (map form_of earlier.now) (form_of form.now) }
 {
@@ -171,7 +172,8 @@ fn is_duplicate<A: Allocator>(earlier: &[Form<A>], form: &Form<A>) -> bool
     }
 }
 
-/// Rule 8.
+/// Whether the form names a function that no form declares with any number of parameters, or has a
+/// command on a session that no earlier command creates.
 fn is_undeclared<A: Allocator>(forms: &[Form<A>], earlier: &[Form<A>], form: &Form<A>) -> bool
     ensures { result ≡ breaks_undeclared (map form_of forms.now) (map form_of earlier.now) (form_of form.now) }
 {
@@ -191,7 +193,7 @@ fn is_undeclared<A: Allocator>(forms: &[Form<A>], earlier: &[Form<A>], form: &Fo
     }
 }
 
-/// Rule 9.
+/// Whether the form spawns, starts or calls with the module an internal function.
 fn is_not_exported<A: Allocator>(forms: &[Form<A>], form: &Form<A>) -> bool
     ensures { result ≡ breaks_not_exported (map form_of forms.now) (form_of form.now) }
 {
@@ -207,7 +209,7 @@ fn is_not_exported<A: Allocator>(forms: &[Form<A>], form: &Form<A>) -> bool
     }
 }
 
-/// Rule 10.
+/// Whether a variable stands in the form where it isn't bound.
 fn has_unbound_variable<A: Allocator + Copy>(alloc: A, form: &Form<A>) -> Result<bool, AllocError>
     ensures { IfOk result (λ b. b ≡ breaks_unbound (form_of form.now)) }
 {
@@ -218,7 +220,7 @@ fn has_unbound_variable<A: Allocator + Copy>(alloc: A, form: &Form<A>) -> Result
     }
 }
 
-/// Rule 11.
+/// Whether the form creates a session with a tracer that an earlier creation has.
 fn is_tracer_taken<A: Allocator>(earlier: &[Form<A>], form: &Form<A>) -> bool
     ensures { result ≡ breaks_tracer_taken (map form_of earlier.now) (form_of form.now) }
 {
@@ -228,7 +230,7 @@ fn is_tracer_taken<A: Allocator>(earlier: &[Form<A>], form: &Form<A>) -> bool
     }
 }
 
-/// Rule 12.
+/// Whether the form names a declared function with another number of arguments.
 fn has_wrong_arity<A: Allocator>(forms: &[Form<A>], form: &Form<A>) -> bool
     ensures { result ≡ breaks_arity (map form_of forms.now) (form_of form.now) }
 {
@@ -279,7 +281,7 @@ fn has_late_creation<A: Allocator>(earlier: &[Form<A>], commands: &[Command<A>])
     holds_past(SESSIONS, all_creations(earlier), creation_total(commands))
 }
 
-/// Rule 13.
+/// Whether the form goes past a limit on functions, steps, initial processes, commands or sessions.
 fn is_past_limit<A: Allocator>(earlier: &[Form<A>], form: &Form<A>) -> bool
     ensures { result ≡ breaks_limit (map form_of earlier.now) (form_of form.now) }
 {

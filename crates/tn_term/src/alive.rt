@@ -56,14 +56,14 @@ impl Alive {
         }
     }
 
-    /// The process with this pid lives from now on, where it is one of 100 to 163.
+    /// The process with this pid lives from now on. A pid past 163 changes nothing; no run has one below 100.
     pub fn add(&mut self, pid: u32)
         ensures { alive_of self.new ≡ with_alive (alive_of self.old) pid true }
     {
         self.put(pid, true);
     }
 
-    /// The process with this pid lives no longer.
+    /// The process with this pid lives no longer. A pid past 163 changes nothing; no run has one below 100.
     pub fn remove(&mut self, pid: u32)
         ensures { alive_of self.new ≡ with_alive (alive_of self.old) pid false }
     {

@@ -23,6 +23,3 @@ pub use reader::{read_term, read_terms};
 pub use scan::Kind;
 pub use watched::Watched;
 pub use write::write_term;
-
-#[cfg(test)]
-mod tests;

@@ -1,5 +1,5 @@
 -- Replies: a session that a command names was created by an earlier form, or stays absent.
-use Rattle.std.proofs.Common.{◌≡◌, ◌∙◌, ℕ, zero, suc, Bool, true, false, ◌||◌, cond, if◌then◌else◌, List, [], ◌∷◌, ◌++◌, map, filter, Option, Some, None, refl, sym, ap, subst}
+use Rattle.std.proofs.Common.{◌≡◌, ◌∙◌, ℕ, zero, suc, Bool, true, false, ◌||◌, cond, if◌then◌else◌, List, [], ◌∷◌, ◌++◌, map, filter, Option, Some, refl, sym, ap}
 use Rattle.std.specs.Prelude.{slice_get}
 use Rattle.std.specs.Str.{bytes_eq}
 use Rattle.std.proofs.lemmas.Slice.Eq.{bytes_eq-Decides}
@@ -14,7 +14,7 @@ use Rattle.def_session.specs.Commands.{command_done, done_in, done_absent}
 use Rattle.def_run.specs.Run.{Item, happened, commanded, Place, takes_command, goes_to, turn_with, shown_from}
 use Rattle.def_run.specs.View.{is_own}
 use Rattle.def_run.specs.Listing.{state_after, creations}
-use Rattle.tn_trace.specs.Tracked.{Tracked, tracked_after, all_after, reply_from}
+use Rattle.tn_trace.specs.Tracked.{tracked_after, all_after, reply_from}
 
 pub name_is : (a b : Name) → bytes_eq a b ≡ true → a ≡ b
 name_is a b e = (bytes_eq-Decides a b).0 e

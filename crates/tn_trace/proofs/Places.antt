@@ -10,7 +10,7 @@ use Rattle.def_script.specs.Program.{Command, session_of}
 use Rattle.def_node.specs.Event.{Event}
 use Rattle.def_session.specs.State.{Opening}
 use Rattle.def_session.specs.Commands.{command_done}
-use Rattle.tn_trace.specs.Tracked.{Tracked, with_event, with_command, reply_from, newer_of, first_mapped, listings_of}
+use Rattle.tn_trace.specs.Tracked.{Tracked, with_event, reply_from, newer_of, first_mapped, listings_of}
 use Rattle.def_run.specs.Listing.{header_line}
 use Rattle.tn_trace.specs.After.{with_events}
 

@@ -1,21 +1,13 @@
 -- One more pick.
-use Rattle.std.proofs.Common.{◌≡◌, ◌∙◌, ℕ, zero, suc, ◌+◌, ◌<◌, ◌≤◌, Bool, true, false, cond, if◌then◌else◌, List, [], ◌∷◌, ◌++◌, length, drop, map, Option, Some, None, unwrap_or, refl, sym, ap, subst, append-nil, append_assoc, arith}
-use Rattle.std.specs.Prelude.{slice_get, nat_lt}
-use Rattle.std.proofs.lemmas.Grind.{flat_map-append}
-use Rattle.def_term.specs.Tree.{Tree}
-use Rattle.def_term.specs.Names.{Name, word}
-use Rattle.def_script.specs.Program.{Function, Command, session_of, Program}
-use Rattle.def_node.specs.Event.{Event}
-use Rattle.def_node.specs.Node.{World, Move, moved, idle, next_of, State, Next, gives_events, gives_command, gives_nothing, of_move, next}
-use Rattle.def_session.specs.State.{Opening}
-use Rattle.def_run.specs.Run.{Item, happened, commanded, Place, Turn, stays, takes_command, goes_to, turn_in, turn_with, turn_of, start, shown_from, moves_from, place_after, events, moves, opening}
-use Rattle.def_run.specs.Listing.{creations, replies, replies_from, lines_of, line_of}
-use Rattle.def_run.proofs.Appends.{shown-append, moves-append, place-append, replies-append}
+use Rattle.std.proofs.Common.{◌≡◌, ◌∙◌, ℕ, zero, suc, ◌+◌, ◌<◌, ◌≤◌, if◌then◌else◌, List, [], ◌∷◌, ◌++◌, length, drop, refl, sym, ap, append-nil, arith}
+use Rattle.def_script.specs.Program.{Function, Program}
+use Rattle.def_node.specs.Node.{World, idle, next_of, State}
+use Rattle.def_run.specs.Run.{Place, Turn, stays, turn_with, turn_of, start, events, moves, opening}
+use Rattle.def_run.specs.Listing.{creations, replies_from, lines_of}
+use Rattle.def_run.proofs.Appends.{shown-append, moves-append, place-append}
 use Rattle.def_run.proofs.Replay.{room_spent}
-use Rattle.tn_trace.specs.Tracked.{Tracked, all_after, with_event, with_command, reply_from}
-use Rattle.tn_trace.specs.After.{place_of, IsAfter, with_events, reply_in}
-use Rattle.tn_trace.proofs.Tracking.{events_more_all, commands_more_all}
-use Rattle.tn_trace.proofs.Created.{is_created, reply_of, reply_is, never_created, no_creation}
+use Rattle.tn_trace.specs.Tracked.{Tracked, all_after}
+use Rattle.tn_trace.specs.After.{place_of, IsAfter}
 
 -- the turn that one more pick is
 abbrev pub turn_at : Program → List ℕ → ℕ → Turn

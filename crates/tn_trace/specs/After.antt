@@ -1,5 +1,5 @@
 -- What a run keeps after some picks: the node's state, the sessions, the replies' lines and the journal.
-use Rattle.std.specs.Prelude.{◌≡◌, ℕ, List, [], ◌∷◌, drop, map, Option, None}
+use Rattle.std.specs.Prelude.{◌≡◌, ℕ, List, [], ◌∷◌, drop, map, None}
 use Rattle.std.specs.Option.{unwrap_or}
 use Rattle.def_term.specs.Tree.{Tree}
 use Rattle.def_term.specs.Names.{word}

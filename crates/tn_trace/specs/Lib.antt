@@ -1,3 +1,4 @@
 pub mod Tracked
 pub mod After
 pub mod Views
+pub mod Cores

@@ -6,8 +6,10 @@
 //! pick is for the sessions, the replies and the journal of a run.
 #![tactic(auto)]
 
+mod engine;
 mod output;
 mod tracked;
 
+pub use engine::{Core, replay};
 pub use output::{append_listings, append_picks};
 pub use tracked::{Tracked, obey_all, tell_all, tell_events, write_line};

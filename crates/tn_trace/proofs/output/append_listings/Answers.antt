@@ -1,5 +1,3 @@
-use Rattle.std.proofs.Common.{◌∙◌, ◌++◌, map, take, ap}
-use Rattle.tn_trace.specs.Tracked.{listings_of}
 use Rattle.tn_trace.specs.Views.{tracked_of}
 use Rattle.tn_trace.proofs.Places.{one_more_listing}
 use Rattle.tn_trace.proofs.output.append_listings.Goals as goal

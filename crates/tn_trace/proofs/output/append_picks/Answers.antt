@@ -1,4 +1,4 @@
-use Rattle.std.proofs.Common.{◌≡◌, ℕ, ◌<◌, ◌++◌, length, decimal, slice_index_or, ◌∙◌, ap, rules, arith}
+use Rattle.std.proofs.Common.{◌≡◌, ◌<◌, ◌++◌, length, decimal, slice_index_or, ◌∙◌, ap, rules, arith}
 use Rattle.tn_trace.proofs.OutputLemmas.{first_step, next_step}
 use Rattle.tn_trace.proofs.output.append_picks.Goals as goal
 use Rattle.tn_trace.proofs.output.append_picks.Goals.{then-i-gt0+in_ok-push, else-i-gt0}

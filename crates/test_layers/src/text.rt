@@ -1,8 +1,8 @@
 // Texts of the limits, of comments and strings, and what is written back.
-use crate::{Kind, TextFault, Watched, read_term, read_terms, tokens, write_term};
 use std::alloc::{AllocError, Allocator};
 use std::io::{Read, Write};
 use std::test::Fail;
+use tn_text::{Kind, TextFault, Watched, read_term, read_terms, tokens, write_term};
 
 // the number of the refusal and its place
 fn number(fault: TextFault) -> (u8, usize) {
@@ -105,7 +105,7 @@ fn short_texts(rt: HostRuntime) -> Result<(), Fail> {
 }
 
 #[test]
-fn limits(rt: HostRuntime) -> Result<(), Fail> {
+fn limits_of_elements(rt: HostRuntime) -> Result<(), Fail> {
     let alloc = rt.alloc();
     assert_eq!(rt;
         refusal(alloc, many(alloc, b"[", b"0", 4096, b"]")?.as_slice()),
@@ -123,6 +123,12 @@ fn limits(rt: HostRuntime) -> Result<(), Fail> {
         refusal(alloc, many(alloc, b"{", b"0", 256, b"}")?.as_slice()),
         (4, 510)
     );
+    Ok(())
+}
+
+#[test]
+fn limits_of_characters(rt: HostRuntime) -> Result<(), Fail> {
+    let alloc = rt.alloc();
     assert_eq!(rt;
         refusal(alloc, repeated(alloc, b"\"", b'a', 4096, b"\"")?.as_slice()),
         (0, 0)
@@ -139,6 +145,12 @@ fn limits(rt: HostRuntime) -> Result<(), Fail> {
         refusal(alloc, repeated(alloc, b"", b'a', 256, b"")?.as_slice()),
         (4, 0)
     );
+    Ok(())
+}
+
+#[test]
+fn limits_of_depth_and_length(rt: HostRuntime) -> Result<(), Fail> {
+    let alloc = rt.alloc();
     let closed = repeated(alloc, b"", b']', 32, b"")?;
     assert_eq!(rt;
         refusal(
@@ -204,5 +216,36 @@ fn watched_ends(rt: HostRuntime) -> Result<(), Fail> {
     writer.flush()?;
     assert!(rt; !writer.failed());
     assert_eq!(rt; writer.into_inner().as_slice(), b"xy".as_slice());
+    Ok(())
+}
+
+#[test]
+fn row_of_term_texts(rt: HostRuntime) -> Result<(), Fail> {
+    let alloc = rt.alloc();
+    let letters = repeated(alloc, b"", b'a', 255, b"")?;
+    let closed = repeated(alloc, b"", b']', 32, b"")?;
+    let brackets = repeated(alloc, b"", b'[', 32, &closed)?;
+    // Each text that is read, and what is written of its term.
+    let texts: [(&[u8], &[u8]); 8] = [
+        (b"\"hi\"", b"[104,105]"),
+        (b"'receive'", b"'receive'"),
+        (b"'a b'", b"'a b'"),
+        (b"'it\\'s'", b"'it\\'s'"),
+        (b"maybe", b"'maybe'"),
+        (b"-9223372036854775808", b"-9223372036854775808"),
+        (&letters, &letters),
+        (&brackets, &brackets),
+    ];
+    for (text, wanted) in texts {
+        let mut out = Vec::new(alloc);
+        write_term(&read_term(alloc, text)?, &mut out)?;
+        assert_eq!(rt; out.as_slice(), wanted);
+    }
+    let letters = repeated(alloc, b"", b'a', 256, b"")?;
+    let closed = repeated(alloc, b"", b']', 33, b"")?;
+    let brackets = repeated(alloc, b"", b'[', 33, &closed)?;
+    assert_eq!(rt; refusal(alloc, b"-9223372036854775809"), (4, 0));
+    assert_eq!(rt; refusal(alloc, &letters), (4, 0));
+    assert_eq!(rt; refusal(alloc, &brackets), (3, 32));
     Ok(())
 }

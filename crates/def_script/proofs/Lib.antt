@@ -1,0 +1,4 @@
+pub mod FirstBroken
+pub mod OneScript
+mod Rows
+pub mod TextRows

@@ -1,0 +1,21 @@
+//! Tests of the layers' public functions, each once as it is meant to be used, with ample memory.
+//!
+//! Stands on the crates from tn_term to tn_trace. It promises nothing of its own.
+#![tactic(auto)]
+
+#[cfg(test)]
+mod flags;
+#[cfg(test)]
+mod process;
+#[cfg(test)]
+mod program;
+#[cfg(test)]
+mod script;
+#[cfg(test)]
+mod session;
+#[cfg(test)]
+mod term;
+#[cfg(test)]
+mod text;
+#[cfg(test)]
+mod trace;

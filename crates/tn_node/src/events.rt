@@ -1,0 +1,113 @@
+// The events of spawns and exits.
+ghost use Rattle.std.specs.Prelude.{◌≡◌, IfOk, List, [], ◌∷◌, ◌++◌, map, option_to_list};
+ghost use Rattle.def_script.specs.Program.{entry_mfa};
+ghost use Rattle.def_node.specs.Event.{spawning, spawned, exited, getting_unlinked};
+ghost use Rattle.def_node.specs.Node.{partner_pids};
+ghost use Rattle.std.specs.Option.{option_map};
+ghost use Rattle.tn_term.specs.Views.{mfa_seen, tree_of};
+ghost use Rattle.tn_flags.specs.Views.{event_of};
+ghost use Rattle.tn_script.specs.Views.{entry_of};
+
+use std::alloc::{AllocError, Allocator};
+use tn_flags::Event;
+use tn_script::Entry;
+use tn_term::{FIRST_PID, Mfa, Term, copy_terms};
+
+/// The module, the name and the number of arguments of an entry call.
+fn entry_mfa<A: Allocator + Copy>(alloc: A, entry: &Entry<A>) -> Result<Mfa<A>, AllocError>
+    ensures { IfOk result (λ m. mfa_seen m ≡ entry_mfa (entry_of entry.now)) }
+{
+    Ok(Mfa {
+        module: entry.module.copy_into(alloc)?,
+        name: entry.name.copy_into(alloc)?,
+        arity: entry.args.terms.len() as u8,
+    })
+}
+
+/// The event of a step that concerns its own process alone, if any.
+pub fn own_events<A: Allocator>(
+    alloc: A,
+    event: Option<Event<A>>,
+) -> Result<Vec<Event<A>, A>, AllocError>
+    ensures { IfOk result (λ es. map event_of es.items ≡ option_to_list (option_map event_of event)) }
+{
+    let mut events = Vec::new(alloc);
+    match event {
+        Some(event) => {
+            events.push(event)?;
+            Ok(events)
+        }
+        None => Ok(events),
+    }
+}
+
+/// The events of a spawn: the parent's, and then the child's.
+pub fn start_events<A: Allocator + Copy>(
+    alloc: A,
+    pid: u32,
+    child: u32,
+    entry: &Entry<A>,
+) -> Result<Vec<Event<A>, A>, AllocError>
+    ensures { IfOk result (λ es. let e = entry_of entry.now in map event_of es.items ≡ spawning pid child (entry_mfa e) e.args ∷ spawned child pid (entry_mfa e) e.args ∷ []) }
+{
+    let mut events = Vec::new(alloc);
+    events.push(Event::Spawn {
+        pid,
+        child,
+        mfa: entry_mfa(alloc, entry)?,
+        args: copy_terms(&entry.args.terms, alloc)?,
+    })?;
+    events.push(Event::Spawned {
+        pid: child,
+        parent: pid,
+        mfa: entry_mfa(alloc, entry)?,
+        args: copy_terms(&entry.args.terms, alloc)?,
+    })?;
+    Ok(events)
+}
+
+/// For each partner of the process with this pid, by rising pid, the event of its lost link.
+fn push_partings<A: Allocator>(
+    events: &mut Vec<Event<A>, A>,
+    pid: u32,
+    partners: &[bool; 64],
+) -> Result<(), AllocError>
+    ensures { IfOk result (λ _. map event_of events.new.items ≡ map event_of events.old.items ++ map (λ m. getting_unlinked m pid) (partner_pids 100 partners.now)) }
+{
+    for place in 0..partners.len() {
+        if !partners[place] {
+            continue;
+        }
+        events.push(Event::GettingUnlinked {
+            pid: FIRST_PID + place as u32,
+            other: pid,
+        })?;
+    }
+    Ok(())
+}
+
+/// The events of an exit: the one before it, if any, the exit, and then those of the partners.
+pub fn exit_events<A: Allocator>(
+    alloc: A,
+    pid: u32,
+    partners: &[bool; 64],
+    reason: Term<A>,
+    before: Option<Event<A>>,
+) -> Result<Vec<Event<A>, A>, AllocError>
+    ensures { IfOk result (λ es. map event_of es.items ≡ option_to_list (option_map event_of before) ++ exited pid (tree_of reason) ∷ map (λ m. getting_unlinked m pid) (partner_pids 100 partners.now)) }
+{
+    let mut events = Vec::new(alloc);
+    match before {
+        Some(before) => {
+            events.push(before)?;
+            events.push(Event::Exited { pid, reason })?;
+            push_partings(&mut events, pid, partners)?;
+            Ok(events)
+        }
+        None => {
+            events.push(Event::Exited { pid, reason })?;
+            push_partings(&mut events, pid, partners)?;
+            Ok(events)
+        }
+    }
+}

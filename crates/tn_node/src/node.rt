@@ -1,0 +1,119 @@
+// The node and its picks.
+use crate::moved::Moved;
+use crate::world::World;
+use std::alloc::{AllocError, Allocator};
+use tn_process::copy_functions;
+use tn_program::Program;
+use tn_script::Function;
+
+/// The processes, and how many commands of the control list were taken.
+#[derive(Drop)]
+pub struct State<A: Allocator> {
+    alloc: A,
+    functions: Vec<Function<A>, A>,
+    commands: usize,
+    taken: usize,
+    world: World<A>,
+}
+
+/// A node that runs a program. It has no state once it was refused memory.
+#[derive(Drop)]
+pub struct Node<A: Allocator> {
+    state: Option<State<A>>,
+}
+
+impl<A: Allocator + Copy> State<A> {
+    ghost use Rattle.std.specs.Prelude.{◌≡◌, ◌<◌, IfOk};
+    ghost use Rattle.def_script.specs.Program as program;
+    ghost use Rattle.def_node.specs.Node as node;
+    ghost use Rattle.def_node.specs.Node.{next};
+    ghost use Rattle.tn_program.specs.Views.{program_of};
+    ghost use Rattle.tn_node.specs.Nodes.{Holds, next_seen, state_of};
+
+    fn new(alloc: A, program: &Program<A>) -> Result<State<A>, AllocError>
+        ensures { IfOk result (λ s. Holds (program_of program.now) (node.opening_state (program_of program.now)) s) }
+    {
+        let functions = copy_functions(alloc, program.functions())?;
+        let world = World::new(alloc, program.entries())?;
+        Ok(State {
+            alloc,
+            functions,
+            commands: program.commands().len(),
+            taken: 0,
+            world,
+        })
+    }
+
+    /// Takes the next command of the control list.
+    fn step_control(&mut self) -> Moved<A>
+        ensures { (p : program.Program) → (s : node.State) → Holds p s self.old → Holds p (state_of self.new) self.new × (next_seen (state_of self.new) result ≡ next p s 0) }
+    {
+        if self.taken < self.commands {
+            self.taken += 1;
+            Moved::Control(self.taken as u64)
+        } else {
+            Moved::Idle
+        }
+    }
+
+    fn step_process(&mut self, pid: u32) -> Result<Moved<A>, AllocError>
+        requires { 0 < pid }
+        ensures { (p : program.Program) → (s : node.State) → Holds p s self.old → IfOk result (λ m. Holds p (state_of self.new) self.new × (next_seen (state_of self.new) m ≡ next p s pid)) }
+    {
+        match self.world.step(self.alloc, &self.functions, pid)? {
+            Some(events) => Ok(Moved::Moved(events)),
+            None => Ok(Moved::Idle),
+        }
+    }
+
+    fn step(&mut self, pick: u32) -> Result<Moved<A>, AllocError>
+        ensures { (p : program.Program) → (s : node.State) → Holds p s self.old → IfOk result (λ m. Holds p (state_of self.new) self.new × (next_seen (state_of self.new) m ≡ next p s pick)) }
+    {
+        if pick == 0 {
+            Ok(self.step_control())
+        } else {
+            Ok(self.step_process(pick)?)
+        }
+    }
+}
+
+impl<A: Allocator + Copy> Node<A> {
+    ghost use Rattle.std.specs.Prelude.{◌≡◌, IfOk, IsErr, OnErr};
+    ghost use Rattle.def_script.specs.Program as program;
+    ghost use Rattle.def_node.specs.Node as node;
+    ghost use Rattle.def_node.specs.Node.{next};
+    ghost use Rattle.tn_program.specs.Views.{program_of};
+    ghost use Rattle.tn_node.specs.Nodes.{IsAt, IsSpent, next_seen};
+
+    /// The node of the program, before any pick.
+    pub fn new(alloc: A, program: &Program<A>) -> Result<Node<A>, AllocError>
+        ensures { IfOk result (λ n. IsAt (program_of program.now) (node.opening_state (program_of program.now)) n) }
+    {
+        Ok(Node {
+            state: Some(State::new(alloc, program)?),
+        })
+    }
+
+    /// One pick: 0 is the control list, another number the process with that pid. The answer is the
+    /// events of the step, the number of the command that is taken, or that nothing moved.
+    ///
+    /// # Errors
+    ///
+    /// AllocError where memory was refused, in this step or an earlier one: the node is spent.
+    pub fn step(&mut self, pick: u32) -> Result<Moved<A>, AllocError>
+        ensures moved { (p : program.Program) → (s : node.State) → IsAt p s self.old → IfOk result (λ m. (t : node.State) × IsAt p t self.new × (next_seen t m ≡ next p s pick)) }
+        ensures spent { IsSpent self.old → IsErr result }
+        ensures refused { OnErr result (IsSpent self.new) }
+    {
+        match &mut self.state {
+            None => Err(AllocError),
+            Some(state) => match state.step(pick) {
+                Ok(moved) => Ok(moved),
+                Err(refused) => {
+                    self.state = None;
+                    Err(refused)
+                }
+            },
+        }
+    }
+}

@@ -1,0 +1,61 @@
+-- What the acts of a process come to.
+use Rattle.std.proofs.Common.{◌≡◌, ℕ, zero, suc, ◌+◌, ◌-◌, ◌<◌, Bool, false, cond, List, [], ◌∷◌, length, map, reverse, slice_get, Option, Some, None, refl, ap, sym, ◌∙◌, arith}
+use mathlib.Core.List.{reverse_aux}
+use Rattle.std.proofs.lemmas.List.{length-reverse, length-map}
+use Rattle.std.proofs.lemmas.Bool.Decides.{nat_tests}
+use Rattle.std.specs.Prelude.{nat_le}
+use Rattle.def_term.specs.Tree.{Tree}
+use Rattle.def_term.specs.Names.{Name, Mfa}
+use Rattle.def_script.specs.Program.{Function}
+use Rattle.def_node.specs.Event.{called}
+use Rattle.def_node.specs.Values.{Env, bound_all}
+use Rattle.def_node.specs.Process.{Process, Frame, Act, waits, mfa_at, caller_of, within, with_frames, performs, runs, runs_in}
+
+last_caller : {X : Type 0} (h : X → Frame) (ks : List Function) (xs : List X) (i : ℕ) (x : X) (acc : List Frame)
+    → i + 1 ≡ length xs → slice_get xs i ≡ Some x → caller_of ks (reverse_aux (map h xs) acc) ≡ mfa_at ks (h x).function
+last_caller h ks [] i x acc e p = absurd (omega arith)
+last_caller h ks (y ∷ []) zero x acc e p = let q : y ≡ x = (let r : Some y ≡ Some x = p in cc) in ap (λ z. mfa_at ks (h z).function) q
+last_caller h ks (y ∷ []) (suc i) x acc e p = absurd (omega arith)
+last_caller h ks (y ∷ z ∷ zs) zero x acc e p = absurd (omega arith)
+last_caller h ks (y ∷ z ∷ zs) (suc i) x acc e p = last_caller h ks (z ∷ zs) i x (h y ∷ acc) (omega arith) p
+
+pub caller_last : {X : Type 0} (h : X → Frame) (ks : List Function) (xs : List X) (x : X)
+    → slice_get xs (length xs - 1) ≡ Some x → caller_of ks (reverse (map h xs)) ≡ mfa_at ks (h x).function
+caller_last h ks [] x p = absurd (let r : None ≡ Some x = p in cc)
+caller_last h ks (y ∷ ys) x p = last_caller h ks (y ∷ ys) (length (y ∷ ys) - 1) x [] (omega arith) p
+
+pub none_bound : (env : Env) (ps : List Name) → bound_all env ps [] ≡ env
+none_bound env [] = refl
+none_bound env (p ∷ ps) = refl
+
+pub depth_below : {X : Type 0} (h : X → Frame) (xs : List X) → length xs < 64 → nat_le 64 (length (reverse (map h xs))) ≡ false
+depth_below h xs below = let e : length (reverse (map h xs)) ≡ length xs = length-reverse (map h xs) ∙ length-map xs h in grind (arith, nat_tests)
+
+pub depth_seen : {X : Type 0} (h : X → Frame) (xs : List X) → length (reverse (map h xs)) ≡ length xs
+depth_seen h xs = length-reverse (map h xs) ∙ length-map xs h
+
+pub otherwise : (b : Bool) (x r y : Act) → b ≡ false → x ≡ y → x ≡ cond b r y
+otherwise b x r y h e = e ∙ sym (ap (λ v. cond v r y) h)
+
+pub within_some : {X : Type 0} (ls : List Bool) (o : Option X) (f : X → Act) (x : X) (a : Act) → Some x ≡ o → a ≡ f x → a ≡ within ls o f
+within_some ls o f x a is e = e ∙ ap (λ v. within ls v f) is
+
+pub called_same : (p : ℕ) (m m' : Mfa) (ts ts' : List Tree) (named exported : Bool) (o o' : Option Mfa) (d d' : ℕ)
+    → m ≡ m' → ts ≡ ts' → o ≡ o' → d ≡ d'
+    → called p (record { mfa = m; args = ts; named = named; exported = exported; caller = o; depth = d }) ≡ called p (record { mfa = m'; args = ts'; named = named; exported = exported; caller = o'; depth = d' })
+called_same p m m' ts ts' named exported o o' d d' em ets eo ed =
+    ap (λ x. called p (record { mfa = x; args = ts; named = named; exported = exported; caller = o; depth = d })) em
+    ∙ ap (λ x. called p (record { mfa = m'; args = x; named = named; exported = exported; caller = o; depth = d })) ets
+    ∙ ap (λ x. called p (record { mfa = m'; args = ts'; named = named; exported = exported; caller = x; depth = d })) eo
+    ∙ ap (λ x. called p (record { mfa = m'; args = ts'; named = named; exported = exported; caller = o'; depth = x })) ed
+
+-- a step of the newest frame, which was taken off
+pub run_here : (ks : List Function) (n : ℕ) (child : Option ℕ) (q p : Process) (f : Frame) (k : Function) → q ≡ with_frames p (f ∷ p.frames)
+    → slice_get ks f.function ≡ Some k → performs ks n child p k f p.frames (slice_get k.steps f.place) ≡ runs ks n child q q.frames
+run_here ks n child q p f k is found =
+    sym (ap (runs_in ks n child p f p.frames) found) ∙ sym (ap (λ (x : Process). runs ks n child x x.frames) is)
+
+pub run_nowhere : (ks : List Function) (n : ℕ) (child : Option ℕ) (q p : Process) (f : Frame) → q ≡ with_frames p (f ∷ p.frames)
+    → slice_get ks f.function ≡ None → waits q ≡ runs ks n child q q.frames
+run_nowhere ks n child q p f is found =
+    ap waits is ∙ sym (ap (runs_in ks n child p f p.frames) found) ∙ sym (ap (λ (x : Process). runs ks n child x x.frames) is)

@@ -1,0 +1,3 @@
+pub mod Lookup
+pub mod Building
+pub mod Acts

@@ -1,0 +1,30 @@
+use Rattle.std.proofs.Common.{◌≡◌, ap, sym, ◌∙◌, Some, None, slice_get, map}
+use Rattle.tn_term.proofs.Views.{tree_of_atom}
+use Rattle.def_term.specs.Tree.{Tree, atom}
+use Rattle.def_node.specs.Process.{performs, leaves}
+use Rattle.tn_script.specs.Views.{functions_of, function_of, step_of}
+use Rattle.tn_process.specs.Views.{process_of, frame_of}
+use Rattle.tn_process.proofs.Lookup.{seen_at, none_at}
+use Rattle.tn_process.proofs.process.Process.run_frame.Goals as goal
+
+pub returns-in_ok-leave-in-None : goal.returns-in_ok-leave-in-None
+returns-in_ok-leave-in-None g c =
+    let q = process_of c.args.self.now in
+    let f = frame_of c.args.frame in
+    let k = function_of c.args.function.now in
+    let ok = tree_of_atom g.row.A.Denot c.in_ok-atom_of-in-None.field-0 ∙ ap atom c.in_ok-atom_of-in-None.ensures in
+    let at : slice_get k.steps f.place ≡ None = ap (λ xs. slice_get (map step_of xs) f.place) (sym c.deref.ensures.value) ∙ none_at step_of c.deref.result.now f.place c.in-None.ensures.lookup.3 in
+    c.in_ok-leave-in-None.ensures
+    ∙ ap (λ (t : Tree). leaves c.args.pid q k f.target q.frames t) ok
+    ∙ sym (ap (performs (functions_of c.args.functions.now) c.args.pid c.args.child q k f q.frames) at)
+
+pub returns-in_ok-perform-in-Some : goal.returns-in_ok-perform-in-Some
+returns-in_ok-perform-in-Some g c =
+    let q = process_of c.args.self.now in
+    let f = frame_of c.args.frame in
+    let k = function_of c.args.function.now in
+    let step = c.in-Some.step.now in
+    let at : slice_get k.steps f.place ≡ Some (step_of step) =
+    ap (λ xs. slice_get (map step_of xs) f.place) (sym c.deref.ensures.value) ∙ seen_at step_of c.deref.result.now f.place step c.in-Some.ensures.lookup.3.0 c.in-Some.ensures.lookup.1 in
+    c.in_ok-perform-in-Some.ensures
+    ∙ sym (ap (performs (functions_of c.args.functions.now) c.args.pid c.args.child q k f q.frames) at)

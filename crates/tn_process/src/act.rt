@@ -1,0 +1,33 @@
+// What a process does at its next step.
+use std::alloc::Allocator;
+use tn_flags::Event;
+use tn_script::Entry;
+use tn_term::Term;
+
+/// What a process does at its next step, apart from the change in itself.
+#[derive(Drop)]
+pub enum Act<A: Allocator> {
+    /// It can't move.
+    Waits,
+    /// It goes on, with an event where the step gives one.
+    Continues(Option<Event<A>>),
+    /// It sends a message to a pid.
+    Sends {
+        to: u32,
+        message: Term<A>,
+    },
+    /// It links itself to another process.
+    LinksTo(u32),
+    /// It removes its link to another process.
+    UnlinksFrom(u32),
+    /// It starts a process with this pid.
+    Spawns {
+        child: u32,
+        entry: Entry<A>,
+    },
+    /// It ends, with an event before the exit where the step gives one.
+    Exits {
+        reason: Term<A>,
+        event: Option<Event<A>>,
+    },
+}

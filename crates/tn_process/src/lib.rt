@@ -1,0 +1,20 @@
+//! One process of the node: the values of its variables, its frames, its mailbox, its pending exit
+//! signal and its links.
+//!
+//! Stands on the functions of a script and on the definitions of def_node. Promises that what a process
+//! does at its next step, and what it is then, are those of the definition: templates are built in one
+//! go and measured first, a call or a return changes the newest frame, and whatever concerns another
+//! process comes out as an act, for the node to carry out.
+#![tactic(auto)]
+
+mod act;
+mod copies;
+mod function;
+mod neighbours;
+mod process;
+mod values;
+
+pub use act::Act;
+pub use copies::{copy_entry, copy_functions};
+pub use process::Process;
+pub use values::atom_of;

@@ -1,0 +1,300 @@
+// The values of variables, and the terms that templates stand for.
+ghost use Rattle.std.specs.Prelude.{◌≡◌, ℕ, ◌+◌, IfOk, List, [], ◌∷◌, map, min, codes};
+ghost use Rattle.std.specs.List.{position};
+ghost use Rattle.std.specs.Option.{option_map};
+ghost use Rattle.std.specs.Str.{bytes_eq};
+ghost use Rattle.def_term.specs.Tree as Tree;
+ghost use Rattle.def_term.specs.Atoms.{IsAtomText};
+ghost use Rattle.def_term.specs.Tree.{depth as nesting, greatest_depth, size as extent, sum_of_sizes};
+ghost use Rattle.tn_term.specs.Views.{tree_of, trees_of};
+ghost use Rattle.def_script.specs.Program.{is_variable};
+ghost use Rattle.def_node.specs.Values.{found, value_of, bound, built, all_built, fits, all_fit, fitting, fitting_all, pid_in, bound_all};
+ghost use Rattle.tn_script.specs.Views.{args_of};
+ghost use Rattle.tn_process.specs.Views.{env_of};
+
+use std::alloc::{AllocError, Allocator};
+use std::collections::VecDeque;
+use tn_script::Arguments;
+use tn_term::{Atom, Term};
+
+#[derive(Drop)]
+pub struct Binding<A: Allocator> {
+    pub(crate) name: Atom<A>,
+    pub(crate) value: Term<A>,
+}
+
+/// Each variable once, the oldest first.
+#[derive(Drop)]
+pub struct Env<A: Allocator> {
+    pub(crate) values: Vec<Binding<A>, A>,
+}
+
+const GREATEST_DEPTH: u64 = 32;
+
+const GREATEST_SIZE: u64 = 65536;
+
+const TOO_LARGE: u64 = 65537;
+
+fn is_capitalized(name: &str) -> bool
+    ensures { result ≡ is_variable name.now }
+{
+    match name.as_bytes() {
+        [first, ..] => 65 <= *first && *first <= 90,
+        [] => false,
+    }
+}
+
+/// The atom of a text that may be one.
+pub fn atom_of<A: Allocator + Copy>(alloc: A, text: &str) -> Result<Atom<A>, AllocError>
+    requires { IsAtomText text.now }
+    ensures { IfOk result (λ a. a ≡ text.now) }
+{
+    match Atom::new(alloc, text)? {
+        Some(name) => Ok(name),
+        None => unreachable!(),
+    }
+}
+
+pub fn pid_in<A: Allocator>(term: &Term<A>) -> Option<u32>
+    ensures { result ≡ pid_in (tree_of term.now) }
+{
+    match term {
+        Term::Pid(n) => Some(*n),
+        _ => None,
+    }
+}
+
+impl<A: Allocator + Copy> Env<A> {
+    pub fn new(alloc: A) -> Env<A>
+        ensures { env_of result ≡ [] }
+    {
+        Env {
+            values: Vec::new(alloc),
+        }
+    }
+
+    fn place(&self, name: &str) -> Option<usize>
+        ensures { result ≡ position (λ b. bytes_eq b.name name.now) self.now.values.items }
+    {
+        self.values.iter().position(|b| b.name.text() == name)
+    }
+
+    pub fn get(&self, name: &str) -> Option<&Term<A>>
+        ensures { option_map (λ t. tree_of t.now) result ≡ found (env_of self.now) name.now }
+    {
+        match self.place(name) {
+            Some(i) => Some(&self.values[i].value),
+            None => None,
+        }
+    }
+
+    fn value_of(&self, name: &str) -> Option<&Term<A>>
+        ensures { option_map (λ t. tree_of t.now) result ≡ value_of (env_of self.now) name.now }
+    {
+        if is_capitalized(name) {
+            self.get(name)
+        } else {
+            None
+        }
+    }
+
+    /// Whether what the template stands for is within the limits. Nothing is built.
+    pub fn fits(&self, template: &Term<A>) -> bool
+        ensures { result ≡ fits (built (env_of self.now) (tree_of template.now)) }
+    {
+        built_size(template, self) <= GREATEST_SIZE && built_depth(template, self) <= GREATEST_DEPTH
+    }
+
+    pub fn build(&self, alloc: A, template: &Term<A>) -> Result<Term<A>, AllocError>
+        ensures { IfOk result (λ t. tree_of t ≡ built (env_of self.now) (tree_of template.now)) }
+    {
+        build_term(template, self, alloc)
+    }
+
+    pub fn all_fit(&self, templates: &Vec<Term<A>, A>) -> bool
+        ensures { result ≡ all_fit (map (λ t. built (env_of self.now) (tree_of t)) templates.now.items) }
+    {
+        for template in templates {
+            if !self.fits(template) {
+                return false;
+            }
+        }
+        true
+    }
+
+    pub fn build_all(
+        &self,
+        alloc: A,
+        templates: &Vec<Term<A>, A>,
+    ) -> Result<Vec<Term<A>, A>, AllocError>
+        ensures { IfOk result (λ v. map tree_of v.items ≡ map (λ t. built (env_of self.now) (tree_of t)) templates.now.items) }
+    {
+        build_terms(templates, self, alloc)
+    }
+
+    /// What the template stands for, where that is within the limits.
+    pub fn fitting(&self, alloc: A, template: &Term<A>) -> Result<Option<Term<A>>, AllocError>
+        ensures { IfOk result (λ o. option_map tree_of o ≡ fitting (built (env_of self.now) (tree_of template.now))) }
+    {
+        if self.fits(template) {
+            Ok(Some(self.build(alloc, template)?))
+        } else {
+            Ok(None)
+        }
+    }
+
+    /// What all templates stand for, where each of that is within the limits.
+    pub fn fitting_all(
+        &self,
+        alloc: A,
+        templates: &Arguments<A>,
+    ) -> Result<Option<Arguments<A>>, AllocError>
+        ensures { IfOk result (λ o. option_map args_of o ≡ fitting_all (map (λ t. built (env_of self.now) (tree_of t)) templates.now.terms.items)) }
+    {
+        if self.all_fit(&templates.terms) {
+            let terms = self.build_all(alloc, &templates.terms)?;
+            Ok(Some(Arguments { terms }))
+        } else {
+            Ok(None)
+        }
+    }
+
+    /// The values of a function's parameters, and the process's own pid.
+    pub fn for_call(
+        alloc: A,
+        pid: u32,
+        params: &Vec<Atom<A>, A>,
+        args: Vec<Term<A>, A>,
+    ) -> Result<Env<A>, AllocError>
+        ensures { IfOk result (λ e. env_of e ≡ bound_all ((codes "Self", Tree.pid pid) ∷ []) params.now.items (map tree_of args.items)) }
+    {
+        let mut env = Env::new(alloc);
+        env.bind(alloc, &atom_of(alloc, "Self")?, Term::Pid(pid))?;
+        let mut args = VecDeque::from(args);
+        for param in params {
+            env.bind_next(alloc, param, &mut args)?;
+        }
+        Ok(env)
+    }
+
+    fn bind_next(
+        &mut self,
+        alloc: A,
+        param: &Atom<A>,
+        args: &mut VecDeque<Term<A>, A>,
+    ) -> Result<(), AllocError>
+        ensures { IfOk result (λ _. (ps : List (List ℕ)) → bound_all (env_of self.new) ps (map tree_of args.new.items) ≡ bound_all (env_of self.old) (param.now ∷ ps) (map tree_of args.old.items)) }
+    {
+        match args.pop_front() {
+            Some(value) => {
+                self.bind(alloc, param, value)?;
+                Ok(())
+            }
+            None => Ok(()),
+        }
+    }
+
+    /// The value takes the place of the variable's earlier one.
+    pub fn bind(&mut self, alloc: A, name: &Atom<A>, value: Term<A>) -> Result<(), AllocError>
+        ensures { IfOk result (λ _. env_of self.new ≡ bound (env_of self.old) name.now (tree_of value)) }
+    {
+        match self.place(name.text()) {
+            Some(i) => {
+                self.values[i].value = value;
+            }
+            None => {
+                let name = name.copy_into(alloc)?;
+                self.values.push(Binding { name, value })?;
+            }
+        }
+        Ok(())
+    }
+}
+
+#[cycle(built_size)]
+fn built_size<A: Allocator + Copy>(template: &Term<A>, env: &Env<A>) -> u64
+    ensures { result ≡ min (extent (built (env_of env.now) (tree_of template.now))) TOO_LARGE }
+{
+    match template {
+        Term::Int(_) | Term::Pid(_) => 1,
+        Term::Atom(a) => match env.value_of(a.text()) {
+            Some(value) => value.size().min(TOO_LARGE),
+            None => 1,
+        },
+        Term::Tuple(v) | Term::List(v) => (built_sizes(v, env) + 1).min(TOO_LARGE),
+    }
+}
+
+#[cycle(built_size)]
+fn built_sizes<A: Allocator + Copy>(templates: &Vec<Term<A>, A>, env: &Env<A>) -> u64
+    ensures { result ≡ min (sum_of_sizes (all_built (env_of env.now) (trees_of templates.now.items))) TOO_LARGE }
+{
+    let mut total: u64 = 0;
+    for template in templates {
+        total += built_size(template, env);
+        if total >= TOO_LARGE {
+            return TOO_LARGE;
+        }
+    }
+    total
+}
+
+#[cycle(built_depth)]
+fn built_depth<A: Allocator + Copy>(template: &Term<A>, env: &Env<A>) -> u64
+    ensures { result ≡ min (nesting (built (env_of env.now) (tree_of template.now))) u64.MAX }
+{
+    match template {
+        Term::Int(_) | Term::Pid(_) => 0,
+        Term::Atom(a) => match env.value_of(a.text()) {
+            Some(value) => value.depth(),
+            None => 0,
+        },
+        Term::Tuple(v) | Term::List(v) => built_depths(v, env).saturating_add(1),
+    }
+}
+
+#[cycle(built_depth)]
+fn built_depths<A: Allocator + Copy>(templates: &Vec<Term<A>, A>, env: &Env<A>) -> u64
+    ensures { result ≡ min (greatest_depth (all_built (env_of env.now) (trees_of templates.now.items))) u64.MAX }
+{
+    let mut greatest: u64 = 0;
+    for template in templates {
+        greatest = greatest.max(built_depth(template, env));
+    }
+    greatest
+}
+
+#[cycle(build)]
+fn build_term<A: Allocator + Copy>(
+    template: &Term<A>,
+    env: &Env<A>,
+    alloc: A,
+) -> Result<Term<A>, AllocError>
+    ensures { IfOk result (λ t. tree_of t ≡ built (env_of env.now) (tree_of template.now)) }
+{
+    match template {
+        Term::Int(n) => Ok(Term::Int(*n)),
+        Term::Atom(a) => match env.value_of(a.text()) {
+            Some(value) => Ok(value.copy_into(alloc)?),
+            None => Ok(Term::Atom(a.copy_into(alloc)?)),
+        },
+        Term::Pid(n) => Ok(Term::Pid(*n)),
+        Term::Tuple(v) => Ok(Term::Tuple(build_terms(v, env, alloc)?)),
+        Term::List(v) => Ok(Term::List(build_terms(v, env, alloc)?)),
+    }
+}
+
+#[cycle(build)]
+fn build_terms<A: Allocator + Copy>(
+    templates: &Vec<Term<A>, A>,
+    env: &Env<A>,
+    alloc: A,
+) -> Result<Vec<Term<A>, A>, AllocError>
+    ensures { IfOk result (λ v. map tree_of v.items ≡ map (λ t. built (env_of env.now) (tree_of t)) templates.now.items) }
+{
+    let mut terms = Vec::new(alloc);
+    for template in templates {
+        terms.push(build_term(template, env, alloc)?)?;
+    }
+    Ok(terms)
+}

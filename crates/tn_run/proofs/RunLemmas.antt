@@ -1,0 +1,58 @@
+-- What was read of a script, and the output that belongs to it.
+use Rattle.std.proofs.Common.{◌≡◌, ℕ, ◌+◌, ◌<◌, ◌≤◌, List, [], ◌++◌, length, Option, None, Some, Err, IfSome, sym, subst, ap, ◌∙◌, append-nil, arith, length-append}
+use Rattle.def_run.specs.Picks.{SpellsPicks}
+use Rattle.def_script.specs.Script as script
+use Rattle.def_script.specs.Script.{Refusal}
+use Rattle.std.specs.Result.{IsErrOf}
+use Rattle.tn_run.specs.Ends.{TakesText}
+use Rattle.tn_run.specs.Scripts.{IsRunRefusal}
+use Rattle.tn_run.specs.Out.{IsRefusedSo}
+use Rattle.tn_run.specs.declared.fault.RunFault.{RunFault}
+use Rattle.tn_run.specs.declared.fault.RunFault.TheVariants.{Write}
+use Rattle.tn_run.specs.declared.outcome.Outcome.{Outcome}
+
+-- where the text within the limit was taken, it was all that the reader had
+pub whole_text : (P : List ℕ → Type 0) (old new : Option (List ℕ)) (text : List ℕ) → TakesText old new text → length text ≤ 1048576 → P text → IfSome old P
+whole_text P None new text takes short h = tt
+whole_text P (Some bytes) None text takes short h = absurd takes.consumed
+whole_text P (Some bytes) (Some rest) text takes short h =
+    let end : rest ≡ [] = takes.whole (omega arith) in
+    let same : text ≡ bytes = sym (takes.consumed ∙ ap (λ l. text ++ l) end ∙ append-nil text) in
+    subst P same h
+
+-- where more was taken, the reader had more than the limit
+pub long_text : (P : List ℕ → Type 0) (old new : Option (List ℕ)) (text : List ℕ) → TakesText old new text → 1048576 < length text → ((bytes : List ℕ) → 1048576 < length bytes → P bytes) → IfSome old P
+long_text P None new text takes long h = tt
+long_text P (Some bytes) None text takes long h = absurd takes.consumed
+long_text P (Some bytes) (Some rest) text takes long h =
+    let size : length bytes ≡ length text + length rest = ap length takes.consumed ∙ length-append text rest in
+    h bytes (omega arith)
+
+-- for every reader's bytes
+pub any_text : (P : List ℕ → Type 0) (old : Option (List ℕ)) → ((bytes : List ℕ) → P bytes) → IfSome old P
+any_text P None h = tt
+any_text P (Some bytes) h = h bytes
+
+-- a refusal of the script, where the picks are spelled
+pub refused_so : (bytes text picks : List ℕ) (r : Refusal) → SpellsPicks text picks → IsRunRefusal bytes r → IsRefusedSo bytes text r
+refused_so bytes text picks script.too_long s h = ((picks, s), h)
+refused_so bytes text picks (script.token at) s h = ((picks, s), h)
+refused_so bytes text picks (script.too_deep at) s h = ((picks, s), h)
+refused_so bytes text picks (script.too_large at) s h = ((picks, s), h)
+refused_so bytes text picks (script.form n) s h = ((picks, s), h)
+refused_so bytes text picks script.too_many_forms s h = ((picks, s), h)
+refused_so bytes text picks (script.broken r n) s h = ((picks, s), h)
+refused_so bytes text picks script.bad_picks s h = absurd h
+
+-- what holds of the number that a fault tells
+pub told_number : (P : ℕ → Type 0) (fault : RunFault) → (m : ℕ) × (fault ≡ Write m) × P m → (n : ℕ) → IsErrOf {T = Outcome} (Err fault) (Write n) → P n
+told_number P fault h n is =
+    let (m, said, p) = h in
+    let same : m ≡ n = cc in
+    subst P same p
+
+-- what the reader's bytes give, with what was written of it
+pub with_front : (old : Option (List ℕ)) (P : List ℕ → Outcome → List ℕ → Type 0) (Q : List ℕ → Type 0) (outcome : Outcome) (output : List ℕ) → IfSome old (λ bytes. P bytes outcome output) → Q output
+    → IfSome old (λ bytes. (o : Outcome) × (out : List ℕ) × P bytes o out × Q out)
+with_front None P Q outcome output h q = tt
+with_front (Some bytes) P Q outcome output h q = (outcome, output, h, q)
