@@ -1,0 +1,21 @@
+//! The functions of conditions and bodies, on values.
+//!
+//! Stands on tn_term, on tn_spec and on the definitions of def_spec. Promises that `apply` answers the
+//! value of one function on values, and none exactly where that is a fault. A term that a function looks
+//! at is lent: only `copy_into` takes memory.
+#![tactic(auto)]
+
+mod arithmetic;
+mod copies;
+mod elements;
+mod functions;
+mod kind;
+mod logic;
+mod shape;
+mod value;
+
+pub use functions::apply;
+pub use value::{Value, Word};
+
+#[cfg(test)]
+mod tests;

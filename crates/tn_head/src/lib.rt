@@ -1,0 +1,15 @@
+//! The binding of a head against the list that is matched.
+//!
+//! Stands on tn_term, on tn_spec and on the definitions of def_spec. Promises that `bind` answers the one
+//! binding of *Matching*, by rising number, and none exactly where there is none. What a variable is bound
+//! to is lent: no term is copied.
+#![tactic(auto)]
+
+mod bindings;
+mod matching;
+
+pub use bindings::{Binding, Bindings, Bound};
+pub use matching::bind;
+
+#[cfg(test)]
+mod tests;

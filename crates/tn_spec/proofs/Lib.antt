@@ -1,0 +1,6 @@
+pub mod Calls
+pub mod Each
+pub mod Parts
+pub mod Tables
+pub mod Tuples
+pub mod Views
