@@ -117,7 +117,8 @@ impl Flags {
     }
 }
 
-fn named(text: &str) -> Option<Flags>
+/// The flag of this name; None where none of the ten has it.
+pub fn flag_of_name(text: &str) -> Option<Flags>
     ensures { option_map flags_of result ≡ option_map only (flag_named (atom text.now)) }
 {
     match text {
@@ -164,7 +165,7 @@ pub fn flag_of<A: Allocator>(term: &Term<A>) -> Option<Flags>
     ensures { option_map flags_of result ≡ option_map only (flag_named (tree_of term.now)) }
 {
     match term {
-        Term::Atom(name) => named(name.text()),
+        Term::Atom(name) => flag_of_name(name.text()),
         _ => None,
     }
 }

@@ -11,4 +11,4 @@ mod flags;
 
 pub use command::Command;
 pub use event::{Call, Event};
-pub use flags::{Flags, flag_of, inherit_link, inherit_spawn};
+pub use flags::{Flags, flag_of, flag_of_name, inherit_link, inherit_spawn};

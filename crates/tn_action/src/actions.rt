@@ -1,0 +1,207 @@
+// The actions of bodies ("Match Specifications in Erlang", "Functions Allowed Only for Tracing").
+ghost use Rattle.std.specs.Prelude.{◌≡◌, ◌∷◌, [], IfOk, map, if◌then◌else◌};
+ghost use Rattle.std.specs.Option.{option_map};
+ghost use Rattle.def_term.specs.Tree.{Tree};
+ghost use Rattle.def_term.specs.Names.{word};
+ghost use Rattle.def_spec.specs.Expressions as ex;
+ghost use Rattle.def_spec.specs.Flags.{flag_named, no_flags, only};
+ghost use Rattle.tn_flags.specs.Views.{flags_of};
+ghost use Rattle.tn_guard.specs.Views.{value_seen, pid_in};
+ghost use Rattle.tn_spec.specs.Views.{action_of, dialect_of};
+ghost use Rattle.tn_term.specs.Views.{alive_of};
+ghost use Rattle.tn_action.specs.Views.{acted, context_seen, effect_seen, effect_list};
+
+use crate::context::Context;
+use crate::effect::Effect;
+use crate::scene::Scene;
+use std::alloc::{AllocError, Allocator};
+use tn_flags::{Flags, flag_of_name};
+use tn_guard::Value;
+use tn_spec::{Action, Dialect};
+use tn_term::Alive;
+
+/// The value of an action, and its effect, where it has one.
+#[derive(Drop)]
+pub struct Acted<'a, A: Allocator> {
+    pub value: Value<'a, A>,
+    pub effect: Option<Effect<A>>,
+}
+
+/// The value of an action on its arguments' values, with its effect; None is a fault.
+pub fn act<'a, A: Allocator + Copy>(
+    action: Action,
+    args: &[Value<'a, A>],
+    scene: &Scene<'a, '_, A>,
+) -> Result<Option<Acted<'a, A>>, AllocError>
+    ensures { IfOk result (λ r. option_map acted r ≡ ex.act (dialect_of scene.now.dialect) (action_of action) (map value_seen args.now) (context_seen scene.now.context.now)) }
+{
+    match action {
+        Action::Message => Ok(message(args, scene.alloc)?),
+        Action::ReturnTrace => Ok(Some(marking(scene.dialect, Effect::ReturnTrace))),
+        Action::ExceptionTrace => Ok(Some(marking(scene.dialect, Effect::ExceptionTrace))),
+        Action::Silent => Ok(silent(args)),
+        Action::EnableTrace => Ok(changing(change(true, args, scene.context))),
+        Action::DisableTrace => Ok(changing(change(false, args, scene.context))),
+        Action::Caller => Ok(Some(Acted {
+            value: scene.caller()?,
+            effect: None,
+        })),
+    }
+}
+
+/// `true`, with this effect.
+fn done<'a, A: Allocator>(effect: Option<Effect<A>>) -> Acted<'a, A>
+    ensures { acted result ≡ (word "true", effect_list effect) }
+{
+    Acted {
+        value: Value::truth(true),
+        effect,
+    }
+}
+
+/// `message`
+fn message<'a, A: Allocator + Copy>(
+    args: &[Value<'a, A>],
+    alloc: A,
+) -> Result<Option<Acted<'a, A>>, AllocError>
+    ensures { (d : ex.Dialect) → (c : ex.Context) → IfOk result (λ r. option_map acted r ≡ ex.act d ex.message (map value_seen args.now) c) }
+{
+    if args.len() != 1 {
+        return Ok(None);
+    }
+    let term = args[0].copy_into(alloc)?;
+    Ok(Some(done(Some(Effect::Message(term)))))
+}
+
+/// `return_trace` and `exception_trace`, which have their effect in the dialect of calls alone.
+fn marking<'a, A: Allocator>(dialect: Dialect, effect: Effect<A>) -> Acted<'a, A>
+    ensures { acted result ≡ (word "true", ex.of_calls (dialect_of dialect) (effect_seen effect)) }
+{
+    match dialect {
+        Dialect::Call => done(Some(effect)),
+        Dialect::Send | Dialect::Recv => done(None),
+    }
+}
+
+/// `silent`
+fn silent<'a, A: Allocator>(args: &[Value<'a, A>]) -> Option<Acted<'a, A>>
+    ensures { (d : ex.Dialect) → (c : ex.Context) → option_map acted result ≡ ex.act d ex.silent (map value_seen args.now) c }
+{
+    if args.len() == 1 {
+        Some(done(silence(args[0])))
+    } else {
+        None
+    }
+}
+
+/// The effect of `silent` for this value.
+fn silence<'a, A: Allocator>(value: Value<'a, A>) -> Option<Effect<A>>
+    ensures { effect_list result ≡ ex.silence (value_seen value.entry) }
+{
+    if value.is_true() {
+        Some(Effect::Silent(true))
+    } else if value.same(Value::<A>::truth(false)) {
+        Some(Effect::Silent(false))
+    } else {
+        None
+    }
+}
+
+/// `true`, with this change; None where there is none.
+fn changing<'a, A: Allocator>(change: Option<Effect<A>>) -> Option<Acted<'a, A>>
+    ensures { option_map acted result ≡ option_map (λ e. (word "true", effect_seen e ∷ [])) change }
+{
+    match change {
+        Some(effect) => Some(done(Some(effect))),
+        None => None,
+    }
+}
+
+/// What `enable_trace` and `disable_trace` change: a flag of the own process, or of a living one.
+fn change<A: Allocator>(
+    on: bool,
+    args: &[Value<'_, A>],
+    context: &Context<'_, A>,
+) -> Option<Effect<A>>
+    ensures { option_map (λ e. effect_seen e ∷ []) result ≡ ex.change_by on (context_seen context.now) (map value_seen args.now) }
+{
+    if args.len() == 1 {
+        change_own(on, args[0], context)
+    } else if args.len() == 2 {
+        change_other(on, args[0], args[1], context)
+    } else {
+        None
+    }
+}
+
+/// The change of a flag of the own process.
+fn change_own<A: Allocator>(
+    on: bool,
+    flag: Value<'_, A>,
+    context: &Context<'_, A>,
+) -> Option<Effect<A>>
+    ensures { option_map (λ e. effect_seen e ∷ []) result ≡ ex.change_by on (context_seen context.now) (value_seen flag.entry ∷ []) }
+{
+    change_flag(on, living(Some(context.me), context.alive), flag)
+}
+
+/// The change of a flag of another process.
+fn change_other<A: Allocator>(
+    on: bool,
+    process: Value<'_, A>,
+    flag: Value<'_, A>,
+    context: &Context<'_, A>,
+) -> Option<Effect<A>>
+    ensures { option_map (λ e. effect_seen e ∷ []) result ≡ ex.change_by on (context_seen context.now) (value_seen process.entry ∷ value_seen flag.entry ∷ []) }
+{
+    change_flag(on, living(process.pid(), context.alive), flag)
+}
+
+/// The pid, where it is a living process's.
+fn living(pid: Option<u32>, alive: &Alive) -> Option<u32>
+    ensures { (t : Tree) → pid ≡ pid_in t → result ≡ ex.living_pid (alive_of alive.now) t }
+{
+    match pid {
+        Some(pid) => { if alive.has(pid) { Some(pid) } else { None } }
+        None => None,
+    }
+}
+
+/// The flag that the value names; None where it names none of the ten.
+fn flag_in<A: Allocator>(value: Value<'_, A>) -> Option<Flags>
+    ensures { option_map flags_of result ≡ option_map only (flag_named (value_seen value.entry)) }
+{
+    match value.atom_text() {
+        Some(text) => flag_of_name(text),
+        None => None,
+    }
+}
+
+/// The change of one flag of one process; None where the process or the flag isn't there.
+fn change_flag<A: Allocator>(on: bool, pid: Option<u32>, flag: Value<'_, A>) -> Option<Effect<A>>
+    ensures { option_map (λ e. effect_seen e ∷ []) result ≡ ex.change on pid (flag_named (value_seen flag.entry)) }
+{
+    match (pid, flag_in(flag)) {
+        (Some(pid), Some(flag)) => Some(change_of(on, pid, flag)),
+        _ => None,
+    }
+}
+
+/// The change of one flag of one process.
+fn change_of<A: Allocator>(on: bool, pid: u32, flag: Flags) -> Effect<A>
+    ensures { effect_seen result ≡ ex.changes pid (if on then no_flags else flags_of flag) (if on then flags_of flag else no_flags) }
+{
+    if on {
+        Effect::Change {
+            pid,
+            off: Flags::none(),
+            on: flag,
+        }
+    } else {
+        Effect::Change {
+            pid,
+            off: flag,
+            on: Flags::none(),
+        }
+    }
+}

@@ -1,0 +1,122 @@
+// The first clause that fires.
+ghost use Rattle.std.specs.Prelude.{◌≡◌, IfOk, map};
+ghost use Rattle.std.specs.Option.{option_map};
+ghost use Rattle.def_spec.specs.Expressions as ex;
+ghost use Rattle.def_spec.specs.Outcome as definition;
+ghost use Rattle.tn_spec.specs.Views.{dialect_of, clause_seen, exprs_seen};
+ghost use Rattle.tn_spec.specs.Wholes.{spec_seen};
+ghost use Rattle.tn_head.specs.Views.{bindings_seen};
+ghost use Rattle.tn_action.specs.Scenes.{each_true_in, body_effects_in, taken};
+ghost use Rattle.tn_action.specs.Views.{context_seen, effect_seen, outcome_seen};
+
+use crate::context::Context;
+use crate::effect::{Effect, Outcome};
+use crate::scene::{Place, Scene};
+use crate::values::{value, values};
+use bumpalo::Bump;
+use std::alloc::{AllocError, Allocator};
+use tn_head::bind;
+use tn_spec::{Clause, Dialect, Expr, Spec};
+
+/// What a specification gives in a context: the effects of the body of the least-numbered clause whose
+/// head matches the list and whose conditions are all `true`, or no match ("Match Specifications in
+/// Erlang", "Match Specification Operation"). An error is refused memory.
+pub fn outcome<A: Allocator + Copy>(
+    alloc: A,
+    spec: &Spec<A>,
+    context: &Context<'_, A>,
+) -> Result<Outcome<A>, AllocError>
+    ensures answer { IfOk result (λ o. definition.IsOutcome (spec_seen spec.now) (context_seen context.now) (outcome_seen o)) }
+    ensures computed { IfOk result (λ o. outcome_seen o ≡ definition.outcome_of (spec_seen spec.now) (context_seen context.now)) }
+{
+    let arena = Bump::new(alloc);
+    Ok(first_fired(alloc, &arena, spec, context)?)
+}
+
+/// The outcome, with what is evaluated in this arena.
+fn first_fired<'a, A: Allocator + Copy>(
+    alloc: A,
+    arena: &'a Bump<A>,
+    spec: &'a Spec<A>,
+    context: &Context<'a, A>,
+) -> Result<Outcome<A>, AllocError>
+    ensures { IfOk result (λ o. outcome_seen o ≡ definition.outcome_of (spec_seen spec.now) (context_seen context.now)) }
+{
+    for clause in &spec.clauses {
+        if let Some(effects) = fired(alloc, arena, spec.dialect, clause, context)? {
+            return Ok(Outcome::Matched(effects));
+        }
+    }
+    Ok(Outcome::NoMatch)
+}
+
+/// The effects of the clause's body, where the clause fires.
+fn fired<'a, A: Allocator + Copy>(
+    alloc: A,
+    arena: &'a Bump<A>,
+    dialect: Dialect,
+    clause: &'a Clause<A>,
+    context: &Context<'a, A>,
+) -> Result<Option<Vec<Effect<A>, A>>, AllocError>
+    ensures { IfOk result (λ r. (next : definition.Outcome) →
+        definition.or_next (dialect_of dialect) (definition.firing (dialect_of dialect) (clause_seen clause.now) (context_seen context.now)) (context_seen context.now) (exprs_seen clause.now.body.items) next
+        ≡ taken (option_map (λ v. map effect_seen v.items) r) next) }
+{
+    let Some(bindings) = bind(arena, &clause.head, context.list)? else {
+        return Ok(None);
+    };
+    let scene = Scene {
+        alloc,
+        arena,
+        dialect,
+        place: Place::Condition,
+        bindings: &bindings,
+        context,
+    };
+    if each_true(&clause.conditions, &scene)? {
+        Ok(Some(body_effects(&clause.body, &scene)?))
+    } else {
+        Ok(None)
+    }
+}
+
+/// Whether each condition is `true`.
+fn each_true<'a, A: Allocator + Copy>(
+    conditions: &'a Vec<Expr<A>, A>,
+    scene: &Scene<'a, '_, A>,
+) -> Result<bool, AllocError>
+    ensures { IfOk result (λ holds. holds ≡ each_true_in scene.now (exprs_seen conditions.now.items)) }
+{
+    let in_condition = Scene {
+        place: Place::Condition,
+        ..*scene
+    };
+    let mut effects = Vec::new(scene.alloc);
+    for i in 0..conditions.len() {
+        match value(&conditions[i], &in_condition, &mut effects)? {
+            Some(part) => {
+                if !part.is_true() {
+                    return Ok(false);
+                }
+            }
+            None => return Ok(false),
+        }
+    }
+    Ok(true)
+}
+
+/// The effects of a body.
+fn body_effects<'a, A: Allocator + Copy>(
+    body: &'a Vec<Expr<A>, A>,
+    scene: &Scene<'a, '_, A>,
+) -> Result<Vec<Effect<A>, A>, AllocError>
+    ensures { IfOk result (λ v. map effect_seen v.items ≡ body_effects_in scene.now (exprs_seen body.now.items)) }
+{
+    let in_body = Scene {
+        place: Place::Body,
+        ..*scene
+    };
+    let mut effects = Vec::new(scene.alloc);
+    values(body, &in_body, &mut effects)?;
+    Ok(effects)
+}

@@ -1,0 +1,75 @@
+// Values as terms of their own, for what leaves an evaluation.
+ghost use Rattle.std.specs.Prelude.{◌≡◌, IfOk};
+ghost use Rattle.def_term.specs.Tree.{atom};
+ghost use Rattle.tn_term.specs.Views.{tree_of, trees_of};
+ghost use Rattle.tn_guard.specs.Views.{word_seen, value_seen, values_seen};
+
+use crate::value::{Value, Word};
+use std::alloc::{AllocError, Allocator};
+use tn_term::{Atom, Term};
+
+impl Word {
+    fn copy_into<B: Allocator>(self, alloc: B) -> Result<Atom<B>, AllocError>
+        ensures { IfOk result (λ a. atom a ≡ word_seen self) }
+    {
+        match Atom::new(alloc, self.text())? {
+            Some(name) => Ok(name),
+            None => unreachable!(),
+        }
+    }
+}
+
+impl<'a, A: Allocator> Value<'a, A> {
+    /// The value as a term in another allocator.
+    pub fn copy_into<B: Allocator + Copy>(self, alloc: B) -> Result<Term<B>, AllocError>
+        ensures { IfOk result (λ t. tree_of t ≡ value_seen self.entry) }
+    {
+        Ok(copy_value(self, alloc)?)
+    }
+}
+
+#[cycle(copy)]
+fn copy_value<A: Allocator, B: Allocator + Copy>(
+    value: Value<'_, A>,
+    alloc: B,
+) -> Result<Term<B>, AllocError>
+    ensures { IfOk result (λ t. tree_of t ≡ value_seen value.entry) }
+{
+    match value {
+        Value::Lent(term) => Ok(term.copy_into(alloc)?),
+        Value::Rest(items) => Ok(Term::List(copy_terms(items, alloc)?)),
+        Value::Name(name) => Ok(Term::Atom(name.copy_into(alloc)?)),
+        Value::Int(n) => Ok(Term::Int(n)),
+        Value::Pid(n) => Ok(Term::Pid(n)),
+        Value::Word(word) => Ok(Term::Atom(word.copy_into(alloc)?)),
+        Value::Tuple(items) => Ok(Term::Tuple(copy_values(items, alloc)?)),
+        Value::List(items) => Ok(Term::List(copy_values(items, alloc)?)),
+    }
+}
+
+#[cycle(copy)]
+fn copy_values<A: Allocator, B: Allocator + Copy>(
+    items: &[Value<'_, A>],
+    alloc: B,
+) -> Result<Vec<Term<B>, B>, AllocError>
+    ensures { IfOk result (λ v. trees_of v.items ≡ values_seen items.now) }
+{
+    let mut copies = Vec::new(alloc);
+    for i in 0..items.len() {
+        copies.push(copy_value(items[i], alloc)?)?;
+    }
+    Ok(copies)
+}
+
+fn copy_terms<A: Allocator, B: Allocator + Copy>(
+    items: &[Term<A>],
+    alloc: B,
+) -> Result<Vec<Term<B>, B>, AllocError>
+    ensures { IfOk result (λ v. trees_of v.items ≡ trees_of items.now) }
+{
+    let mut copies = Vec::new(alloc);
+    for item in items {
+        copies.push(item.copy_into(alloc)?)?;
+    }
+    Ok(copies)
+}

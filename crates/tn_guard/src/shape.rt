@@ -1,0 +1,93 @@
+// A value with its first level open: its kind, its order and its equality.
+ghost use Rattle.std.specs.Prelude.{◌≡◌};
+ghost use Rattle.def_term.specs.Tree.{atom};
+ghost use Rattle.def_term.specs.Order.{rank, tree_cmp, trees_cmp, same};
+ghost use Rattle.tn_term.specs.Views.{tree_of};
+ghost use Rattle.tn_guard.specs.Views.{shape_seen, parts_seen};
+
+use crate::parts::Parts;
+use std::alloc::Allocator;
+use std::cmp::Ordering;
+use tn_term::Term;
+
+#[derive_where(Clone, Copy)]
+pub enum Shape<'a, A: Allocator> {
+    Int(i64),
+    Atom(&'a str),
+    Pid(u32),
+    Tuple(Parts<'a, A>),
+    List(Parts<'a, A>),
+}
+
+impl<'a, A: Allocator> Shape<'a, A> {
+    pub fn of(term: &'a Term<A>) -> Shape<'a, A>
+        ensures { shape_seen result ≡ tree_of term.now }
+    {
+        match term {
+            Term::Int(n) => Shape::Int(*n),
+            Term::Atom(name) => Shape::Atom(name.text()),
+            Term::Pid(n) => Shape::Pid(*n),
+            Term::Tuple(items) => Shape::Tuple(Parts::Terms(items.as_slice())),
+            Term::List(items) => Shape::List(Parts::Terms(items.as_slice())),
+        }
+    }
+
+    fn rank(self) -> u8
+        ensures { result ≡ rank (shape_seen self.entry) }
+    {
+        match self {
+            Shape::Int(_) => 0,
+            Shape::Atom(_) => 1,
+            Shape::Pid(_) => 2,
+            Shape::Tuple(_) => 3,
+            Shape::List(_) => 4,
+        }
+    }
+
+    /// The order of terms ("Expressions", "Term Comparisons").
+    pub fn order<'b, B: Allocator>(self, other: Shape<'b, B>) -> Ordering
+        ensures { result ≡ tree_cmp (shape_seen self.entry) (shape_seen other.entry) }
+    {
+        order_shapes(self, other)
+    }
+
+    /// Whether it is the atom of this text.
+    pub fn is_word(self, text: &str) -> bool
+        ensures { result ≡ same (shape_seen self.entry) (atom text.now) }
+    {
+        match self {
+            Shape::Atom(name) => name == text,
+            _ => false,
+        }
+    }
+}
+
+#[cycle(order)]
+fn order_shapes<A: Allocator, B: Allocator>(one: Shape<'_, A>, other: Shape<'_, B>) -> Ordering
+    ensures { result ≡ tree_cmp (shape_seen one.entry) (shape_seen other.entry) }
+{
+    match (one, other) {
+        (Shape::Int(m), Shape::Int(n)) => m.cmp(&n),
+        (Shape::Atom(r), Shape::Atom(s)) => r.cmp(s),
+        (Shape::Pid(m), Shape::Pid(n)) => m.cmp(&n),
+        (Shape::Tuple(v), Shape::Tuple(w)) => match v.len().cmp(&w.len()) {
+            Ordering::Equal => order_parts(v, w),
+            unequal => unequal,
+        },
+        (Shape::List(v), Shape::List(w)) => order_parts(v, w),
+        _ => one.rank().cmp(&other.rank()),
+    }
+}
+
+#[cycle(order)]
+fn order_parts<A: Allocator, B: Allocator>(v: Parts<'_, A>, w: Parts<'_, B>) -> Ordering
+    ensures { result ≡ trees_cmp (parts_seen v.entry) (parts_seen w.entry) }
+{
+    for i in 0..v.len().min(w.len()) {
+        match order_shapes(v.at(i).shape(), w.at(i).shape()) {
+            Ordering::Equal => {}
+            unequal => return unequal,
+        }
+    }
+    v.len().cmp(&w.len())
+}

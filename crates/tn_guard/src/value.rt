@@ -1,0 +1,145 @@
+// Values: terms that are lent, and what functions and expressions make.
+ghost use Rattle.std.specs.Prelude.{◌≡◌};
+ghost use Rattle.std.specs.Option.{option_map};
+ghost use Rattle.def_term.specs.Tree.{int, atom};
+ghost use Rattle.def_term.specs.Atoms.{IsAtomText};
+ghost use Rattle.def_term.specs.Order.{same};
+ghost use Rattle.def_spec.specs.Functions.{truth};
+ghost use Rattle.tn_guard.specs.Views.{word_seen, value_seen, shape_seen, parts_seen, text_in, pid_in, tuple_in, list_in};
+
+use crate::parts::Parts;
+use crate::shape::Shape;
+use std::alloc::Allocator;
+use tn_term::{Atom, Term};
+
+/// An atom that evaluation makes.
+#[derive(Clone, Copy)]
+pub enum Word {
+    True,
+    False,
+    /// `nonode@nohost`
+    Node,
+    /// `'EXIT'`
+    Exit,
+    /// `undefined`
+    Undefined,
+}
+
+/// The value of an expression ("Match Specifications in Erlang", "Functions Allowed in All Types of Match
+/// Specifications"): a term, an atom or the terms of a list that are lent; a small term that a function
+/// makes; or a tuple or list of values that lie in an arena.
+#[derive_where(Clone, Copy)]
+pub enum Value<'a, A: Allocator> {
+    Lent(&'a Term<A>),
+    /// The list of these terms.
+    Rest(&'a [Term<A>]),
+    Name(&'a Atom<A>),
+    Int(i64),
+    Pid(u32),
+    Word(Word),
+    /// The tuple of these values.
+    Tuple(&'a [Value<'a, A>]),
+    /// The list of these values.
+    List(&'a [Value<'a, A>]),
+}
+
+impl Word {
+    /// The atom's text.
+    pub fn text(self) -> &'static str
+        ensures seen { atom result.now ≡ word_seen self }
+        ensures valid { IsAtomText result.now }
+    {
+        match self {
+            Word::True => "true",
+            Word::False => "false",
+            Word::Node => "nonode@nohost",
+            Word::Exit => "EXIT",
+            Word::Undefined => "undefined",
+        }
+    }
+}
+
+impl<'a, A: Allocator> Value<'a, A> {
+    /// `true` or `false`.
+    pub fn truth(holds: bool) -> Value<'a, A>
+        ensures { value_seen result ≡ truth holds }
+    {
+        if holds {
+            Value::Word(Word::True)
+        } else {
+            Value::Word(Word::False)
+        }
+    }
+
+    /// The integer, where there is one.
+    pub fn integer(number: Option<i64>) -> Option<Value<'a, A>>
+        ensures { option_map value_seen result ≡ option_map int number }
+    {
+        match number {
+            Some(n) => Some(Value::Int(n)),
+            None => None,
+        }
+    }
+
+    /// Whether both are the same term.
+    pub fn same<'b, B: Allocator>(self, other: Value<'b, B>) -> bool
+        ensures { result ≡ same (value_seen self.entry) (value_seen other.entry) }
+    {
+        self.shape().order(other.shape()).is_eq()
+    }
+
+    /// The text of an atom; None of any other term.
+    pub fn atom_text(self) -> Option<&'a str>
+        ensures { option_map (λ s. s.now) result ≡ text_in (value_seen self.entry) }
+    {
+        match self.shape() {
+            Shape::Atom(text) => Some(text),
+            _ => None,
+        }
+    }
+
+    /// The number of a pid; None of any other term.
+    pub fn pid(self) -> Option<u32>
+        ensures { result ≡ pid_in (value_seen self.entry) }
+    {
+        match self.shape() {
+            Shape::Pid(n) => Some(n),
+            _ => None,
+        }
+    }
+
+    /// The elements of a tuple; None of any other term.
+    pub fn tuple_parts(self) -> Option<Parts<'a, A>>
+        ensures { option_map parts_seen result ≡ tuple_in (value_seen self.entry) }
+    {
+        match self.shape() {
+            Shape::Tuple(parts) => Some(parts),
+            _ => None,
+        }
+    }
+
+    /// The elements of a list; None of any other term.
+    pub fn list_parts(self) -> Option<Parts<'a, A>>
+        ensures { option_map parts_seen result ≡ list_in (value_seen self.entry) }
+    {
+        match self.shape() {
+            Shape::List(parts) => Some(parts),
+            _ => None,
+        }
+    }
+
+    pub(crate) fn shape(self) -> Shape<'a, A>
+        ensures { shape_seen result ≡ value_seen self.entry }
+    {
+        match self {
+            Value::Lent(term) => Shape::of(term),
+            Value::Rest(items) => Shape::List(Parts::Terms(items)),
+            Value::Name(name) => Shape::Atom(name.text()),
+            Value::Int(n) => Shape::Int(n),
+            Value::Pid(n) => Shape::Pid(n),
+            Value::Word(word) => Shape::Atom(word.text()),
+            Value::Tuple(items) => Shape::Tuple(Parts::Values(items)),
+            Value::List(items) => Shape::List(Parts::Values(items)),
+        }
+    }
+}

@@ -1,0 +1,7 @@
+pub mod Calls
+pub mod Each
+pub mod Parts
+pub mod Sizes
+pub mod Tables
+pub mod Tuples
+pub mod Views

@@ -1,0 +1,26 @@
+use Rattle.std.proofs.Common.{map, arith}
+use Rattle.std.proofs.lemmas.Result.{err_from_is_err_and}
+use Rattle.def_spec.specs.Reading.{pattern_of}
+use Rattle.tn_term.specs.Views.{tree_of}
+use Rattle.tn_spec.specs.Answers.{each_read}
+use Rattle.tn_spec.specs.Views.{pattern_seen}
+use Rattle.tn_spec.proofs.Each.{read_fails, read_next, read_ends, patterns_read, patterns_fail}
+use Rattle.tn_spec.proofs.heads.+pattern.Goals as goal
+
+pub patterns-returns-in_err-pattern : goal.patterns-returns-in_err-pattern
+patterns-returns-in_err-pattern g t c =
+    let p = err_from_is_err_and c.from_residual.result c.from_residual.ensures.1 in
+    rw (p.1, p.2)
+    (patterns_fail (map tree_of c.args.terms.now.items) c.in_err-pattern.field-0.0
+    (read_fails pattern_of tree_of pattern_seen (each_read pattern_of (map tree_of c.args.terms.now.items)) c.deref-term-items.result.now c.loop-term.term-index c.loop-term.patterns.items c.term-item.result c.in_err-pattern.field-0.0
+    (omega arith) c.term-item.is c.in_err-pattern.ensures c.loop-term.invariant))
+
+pub patterns-loop-term-preserved : goal.patterns-loop-term-preserved
+patterns-loop-term-preserved g t c =
+    read_next pattern_of tree_of pattern_seen (each_read pattern_of (map tree_of c.args.terms.now.items)) c.deref-term-items.result.now c.loop-term.term-index c.term-item.result c.loop-term.patterns.items c.push.new.self.items c.in_ok-pattern.field-0
+    (omega arith) c.term-item.is c.in_ok-pattern.ensures c.in_ok-push.ensures.items c.loop-term.invariant
+
+pub patterns-returns : goal.patterns-returns
+patterns-returns g t c =
+    patterns_read (map tree_of c.args.terms.now.items) (map pattern_seen c.loop-term.patterns.items)
+    (read_ends pattern_of tree_of pattern_seen (each_read pattern_of (map tree_of c.args.terms.now.items)) c.deref-term-items.result.now c.loop-term.term-index c.loop-term.patterns.items (omega arith) c.loop-term.invariant)

@@ -1,0 +1,5 @@
+pub mod Views
+pub mod Names
+pub mod Answers
+pub mod Sizes
+pub mod Wholes

@@ -1,0 +1,62 @@
+-- What the code's answers on names stand for.
+use Rattle.std.specs.Prelude.{ℕ, if◌then◌else◌, List, [], ◌∷◌, take, drop, Option, Some, None}
+use Rattle.std.specs.Str.{bytes_eq}
+use Rattle.def_term.specs.Names.{Name}
+use Rattle.def_spec.specs.Expressions as ex
+use Rattle.def_spec.specs.Reading as reading
+use Rattle.def_spec.specs.Reading.{Row, table}
+use Rattle.tn_spec.specs.declared.names.AtomKind.{AtomKind}
+use Rattle.tn_spec.specs.declared.names.AtomKind.TheVariants as kinds
+use Rattle.tn_spec.specs.declared.called.Place.{Place}
+use Rattle.tn_spec.specs.declared.called.Place.TheVariants as places
+use Rattle.tn_spec.specs.declared.table.Called.{Called}
+use Rattle.tn_spec.specs.declared.table.Called.TheVariants as calls
+use Rattle.tn_spec.specs.declared.table.Row as code
+use Rattle.tn_spec.specs.Views.{func_of, action_of}
+
+abbrev pub kind_seen : AtomKind → reading.AtomKind
+kind_seen (kinds.Variable n) = reading.a_variable n
+kind_seen kinds.WrongVariable = reading.a_wrong_variable
+kind_seen kinds.Plain = reading.a_plain_atom
+
+abbrev pub place_seen : Place → ex.Place
+place_seen places.Condition = ex.in_condition
+place_seen places.Body = ex.in_body
+
+abbrev pub called_seen : Called → reading.Called
+called_seen (calls.Func f) = reading.a_function (func_of f)
+called_seen calls.AndAlso = reading.an_and_also
+called_seen calls.OrElse = reading.an_or_else
+called_seen (calls.Action a) = reading.an_action (action_of a)
+
+-- ---- the table of names, without the names
+
+abbrev pub row_seen : code.Row → reading.Called × ℕ × ℕ
+row_seen r = (called_seen r.called, r.least, r.most)
+
+abbrev pub row_of : Row → reading.Called × ℕ × ℕ
+row_of r = (r.called, r.least, r.most)
+
+-- the first row of this name
+abbrev pub row_in : List Row → Name → Option (reading.Called × ℕ × ℕ)
+row_in [] s = None
+row_in (r ∷ rs) s = if bytes_eq s r.name then Some (row_of r) else row_in rs s
+
+-- the parts of the table, in its order
+abbrev pub tests : List Row
+tests = take 14 table
+
+abbrev pub of_lists : List Row
+of_lists = take 6 (drop 14 table)
+
+abbrev pub of_integers : List Row
+of_integers = take 10 (drop 20 table)
+
+abbrev pub comparisons : List Row
+comparisons = take 8 (drop 30 table)
+
+abbrev pub others : List Row
+others = take 8 (drop 38 table)
+
+abbrev pub actions : List Row
+actions = drop 46 table

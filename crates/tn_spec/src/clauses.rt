@@ -1,0 +1,125 @@
+// Specifications, read from terms.
+ghost use Rattle.std.specs.Prelude.{◌≡◌, MatchResult, Ok};
+ghost use Rattle.std.specs.Option.{option_map};
+ghost use Rattle.def_term.specs.Tree.{tuple};
+ghost use Rattle.def_spec.specs.Reading.{clause_of_parts, clause_of, clauses_of, spec_of};
+ghost use Rattle.tn_term.specs.Views.{tree_of, trees_of};
+ghost use Rattle.tn_spec.specs.Answers.{IsFaultOf, IsRead, elements_in};
+ghost use Rattle.tn_spec.specs.Views.{dialect_of, clause_seen, clause_list};
+ghost use Rattle.tn_spec.specs.Wholes.{spec_seen};
+
+use crate::called::Place;
+use crate::exprs::exprs;
+use crate::fault::SpecFault;
+use crate::func::Dialect;
+use crate::heads::head;
+use crate::spec::{Clause, Spec};
+use std::alloc::Allocator;
+use tn_term::Term;
+
+/// The greatest size of a term that is read as a specification.
+const LARGEST: u64 = 4_294_967_295;
+
+/// The elements, where the term is a list.
+fn elements<A: Allocator>(term: &Term<A>) -> Option<&Vec<Term<A>, A>>
+    ensures { option_map (λ v. trees_of v.now.items) result ≡ elements_in (tree_of term.now) }
+{
+    match term {
+        Term::List(v) => Some(v),
+        _ => None,
+    }
+}
+
+/// The clause of this head, these conditions and this body.
+fn clause_of_three<A: Allocator + Copy>(
+    alloc: A,
+    term: &Term<A>,
+    conditions: &Vec<Term<A>, A>,
+    body: &Vec<Term<A>, A>,
+    dialect: Dialect,
+) -> Result<Clause<A>, SpecFault<A>>
+    ensures { IsRead clause_seen (clause_of_parts (dialect_of dialect) (tree_of term.now) (trees_of conditions.now.items) (trees_of body.now.items)) result }
+{
+    let head = head(alloc, term)?;
+    let conditions = exprs(alloc, conditions, 0, dialect, Place::Condition, &head)?;
+    let body = exprs(alloc, body, 0, dialect, Place::Body, &head)?;
+    Ok(Clause {
+        head,
+        conditions,
+        body,
+    })
+}
+
+/// The clause that a tuple of these fields is.
+fn clause_of_fields<A: Allocator + Copy>(
+    alloc: A,
+    fields: &Vec<Term<A>, A>,
+    dialect: Dialect,
+) -> Result<Clause<A>, SpecFault<A>>
+    ensures { IsRead clause_seen (clause_of (dialect_of dialect) (tuple (trees_of fields.now.items))) result }
+{
+    if fields.len() != 3 {
+        return Err(SpecFault::Badarg);
+    }
+    let Some(conditions) = elements(&fields[1]) else {
+        return Err(SpecFault::Badarg);
+    };
+    let Some(body) = elements(&fields[2]) else {
+        return Err(SpecFault::Badarg);
+    };
+    clause_of_three(alloc, &fields[0], conditions, body, dialect)
+}
+
+/// The clause that the term is.
+fn clause<A: Allocator + Copy>(
+    alloc: A,
+    term: &Term<A>,
+    dialect: Dialect,
+) -> Result<Clause<A>, SpecFault<A>>
+    ensures { IsRead clause_seen (clause_of (dialect_of dialect) (tree_of term.now)) result }
+{
+    match term {
+        Term::Tuple(fields) => clause_of_fields(alloc, fields, dialect),
+        _ => Err(SpecFault::Badarg),
+    }
+}
+
+/// The clause that each of the terms is.
+fn clauses<A: Allocator + Copy>(
+    alloc: A,
+    terms: &Vec<Term<A>, A>,
+    dialect: Dialect,
+) -> Result<Vec<Clause<A>, A>, SpecFault<A>>
+    ensures { IsRead clause_list (clauses_of (dialect_of dialect) (trees_of terms.now.items)) result }
+{
+    let mut clauses = Vec::new(alloc);
+    for term in terms {
+        clauses.push(clause(alloc, term, dialect)?)?;
+    }
+    Ok(clauses)
+}
+
+/// The specification that the term is in that dialect, or its first fault: clauses in order; of a
+/// clause its shape, then its head, its conditions and its body, left to right; of an expression
+/// first itself, then its arguments. Memory that runs out is `OutOfMemory` and says nothing of the
+/// term; so is a term of more than 4,294,967,295 parts, which no script spells.
+pub fn spec_of<A: Allocator + Copy>(
+    alloc: A,
+    term: &Term<A>,
+    dialect: Dialect,
+) -> Result<Spec<A>, SpecFault<A>>
+    ensures { let read = spec_of (dialect_of dialect) (tree_of term.now) in
+        MatchResult result (λ spec. read ≡ Ok (spec_seen spec)) (λ fault. IsFaultOf read fault) }
+{
+    let Some(terms) = elements(term) else {
+        return Err(SpecFault::Badarg);
+    };
+    if terms.len() == 0 {
+        return Err(SpecFault::Badarg);
+    }
+    if term.size() > LARGEST {
+        return Err(SpecFault::OutOfMemory);
+    }
+    let clauses = clauses(alloc, terms, dialect)?;
+    Ok(Spec { dialect, clauses })
+}

@@ -1,0 +1,25 @@
+//! Match specifications, read from terms.
+//!
+//! Stands on tn_term and on the definitions of def_spec. Promises that `spec_of` answers exactly the
+//! specification that a term spells in a dialect, or its first fault.
+#![tactic(auto)]
+
+mod binds;
+mod called;
+mod clauses;
+mod expr;
+mod exprs;
+mod fault;
+mod func;
+mod heads;
+mod names;
+mod pattern;
+mod spec;
+mod table;
+
+pub use clauses::spec_of;
+pub use expr::Expr;
+pub use fault::SpecFault;
+pub use func::{Action, Dialect, Func};
+pub use pattern::{Head, Pattern};
+pub use spec::{Clause, Spec};
