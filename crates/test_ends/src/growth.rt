@@ -1,8 +1,8 @@
 // Each growth refused in turn: over reading and writing terms, and over forms, programs and the node.
-use crate::Refusing;
 use std::alloc::Global;
 use std::process::Abort;
 use std::test::Fail;
+use test_allocator::Refusing;
 use tn_node::{Moved, Node};
 use tn_program::{RuleFault, program};
 use tn_script::{ScriptFault, forms};

@@ -1,10 +1,10 @@
 // Runs over ends that fail in mid-stream, and over memory that is refused.
-use crate::Refusing;
 use std::alloc::Global;
 use std::io;
 use std::io::{ErrorKind, Read, Write};
 use std::process::Abort;
 use std::test::Fail;
+use test_allocator::Refusing;
 use tn_run::{Outcome, Refusal, RunFault, Schedule, run};
 use tn_text::Watched;
 

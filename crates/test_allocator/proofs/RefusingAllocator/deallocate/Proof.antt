@@ -1,5 +1,5 @@
 -- It gives the block back to the inner allocator. Assumes `Logic`.
-use Rattle.std.proofs.Common.{◌≡◌, ℕ, ◌+◌, ◌^◌, ◌<◌, true, false, List, [], ◌∷◌, refl, w64, Bor}
+use Rattle.std.proofs.Common.{◌≡◌, ℕ, ◌+◌, ◌^◌, ◌<◌, List, [], ◌∷◌, refl, w64, Bor}
 use seplogic.Ra.Ura.{Ura}
 use mir.Syntax.{Ty, Args, Fn, a_type, dnil, dcons}
 use mir.Val.{Val, vint, vptr}
@@ -31,18 +31,18 @@ use denote.Triple.Walked.{Stays, stay_dropped, walk_of, ends_at, walked, Goes-dr
 use mir.Val.{vunit}
 use base.Logic.{never_e}
 use base.Fml.{ffalse, fsep, froom}
-use types.Kit.{Item, ‵, raw, ◌⊛◌, later, given, ◌$◌, ◌∵◌, !, qed, by, move, keep, drop, use1, split, split3, join, learn, fsplit, fjoin, feq_i, suffices, await, done}
+use types.Kit.{Item, ‵, raw, ◌⊛◌, later, given, ◌$◌, ◌∵◌, !, qed, by, move, keep, use1, split, split3, join, learn, fsplit, fjoin, feq_i, suffices, await, done}
 use types.Run.{unit_lit}
 use types.ByLocal.{alloc_all, pass_all, free_all, look_at, get, through, sets, lands_as}
 use denote.RawPtr.{Ptr, block_ptr, null_ptr, ptr_val, rawptr_vals, rawptr_Tells}
 use denote.Builtin.{usize, RawPtr, RefOf}
 use denote.Triple.Call.{calls_at}
 use Rattle.std.proofs.alloc.Calls.{Al, α, seen, token, gives_key, Gives, at_gives, Gives-goes, Gives-Gives}
-use Rattle.test_ends.specs.contracts.Refusing as wrapper
-use Rattle.test_ends.specs.contracts.RefusingAllocator.deallocate as F
-use Rattle.test_ends.specs.contracts.RefusingAllocator.deallocate.Key as key
-use Rattle.test_ends.proofs.RefusingAllocator.deallocate.Statement as stated
-use Rattle.test_ends.proofs.RefusingAllocator.deallocate.Code as code
+use Rattle.test_allocator.specs.contracts.Refusing as wrapper
+use Rattle.test_allocator.specs.contracts.RefusingAllocator.deallocate as F
+use Rattle.test_allocator.specs.contracts.RefusingAllocator.deallocate.Key as key
+use Rattle.test_allocator.proofs.RefusingAllocator.deallocate.Statement as stated
+use Rattle.test_allocator.proofs.RefusingAllocator.deallocate.Code as code
 
 module _ (Z : Al) where
   abbrev args : Args

@@ -1,0 +1,18 @@
+//! Tests of match specifications: the terms that are read as one, the lists that heads match, the
+//! functions of conditions and bodies, the outcome, and each of these with a growth of memory refused.
+//!
+//! Stands on tn_text, tn_spec, tn_head, tn_guard and tn_action.
+#![tactic(auto)]
+
+#[cfg(test)]
+mod growth;
+#[cfg(test)]
+mod guard;
+#[cfg(test)]
+mod head;
+#[cfg(test)]
+mod large;
+#[cfg(test)]
+mod outcome;
+#[cfg(test)]
+mod spec;

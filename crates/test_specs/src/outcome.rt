@@ -1,0 +1,638 @@
+// What specifications show of a list: the clause that is chosen, and the effects of its body.
+use crate::head::elements;
+use std::alloc::{AllocError, Allocator, Global};
+use std::process::Abort;
+use std::test::Fail;
+use test_allocator::Refusing;
+use tn_action::{Context, Effect, Outcome, outcome};
+use tn_flags::Flags;
+use tn_guard::{Parts, Value};
+use tn_spec::{Dialect, spec_of};
+use tn_term::{Alive, Atom, Mfa, Term};
+use tn_text::read_term;
+
+/// The pid of the process whose event it is.
+const OWN: u32 = 100;
+
+/// More growths than any of these calls needs.
+const ENOUGH: u64 = 10_000;
+
+/// The living pids: that process and another.
+fn two_alive() -> Alive {
+    Alive::first(2)
+}
+
+fn word(alloc: Global, text: &str) -> Result<Term<Global>, Fail> {
+    Ok(Term::Atom(Atom::new(alloc, text)?.ok_or("no atom")?))
+}
+
+/// The names of the flags.
+fn names(alloc: Global, flags: Flags) -> Result<Term<Global>, Fail> {
+    let mut names = Vec::new(alloc);
+    for (is_set, name) in [
+        (flags.send, "send"),
+        (flags.receive, "receive"),
+        (flags.call, "call"),
+        (flags.procs, "procs"),
+        (flags.silent, "silent"),
+        (flags.arity, "arity"),
+        (flags.set_on_spawn, "set_on_spawn"),
+        (flags.set_on_first_spawn, "set_on_first_spawn"),
+        (flags.set_on_link, "set_on_link"),
+        (flags.set_on_first_link, "set_on_first_link"),
+    ] {
+        if is_set {
+            names.push(word(alloc, name)?)?;
+        }
+    }
+    Ok(Term::List(names))
+}
+
+/// `{message,Term}`, `return_trace`, `exception_trace`, `{silent,Bool}` or `{change,Pid,Off,On}`.
+fn effect_term<A: Allocator>(alloc: Global, effect: &Effect<A>) -> Result<Term<Global>, Fail> {
+    let mut fields = Vec::new(alloc);
+    match effect {
+        Effect::Message(term) => {
+            fields.push(word(alloc, "message")?)?;
+            fields.push(term.copy_into(alloc)?)?;
+        }
+        Effect::ReturnTrace => return word(alloc, "return_trace"),
+        Effect::ExceptionTrace => return word(alloc, "exception_trace"),
+        Effect::Silent(is_silent) => {
+            fields.push(word(alloc, "silent")?)?;
+            fields.push(word(alloc, if *is_silent { "true" } else { "false" })?)?;
+        }
+        Effect::Change { pid, off, on } => {
+            fields.push(word(alloc, "change")?)?;
+            fields.push(Term::Pid(*pid))?;
+            fields.push(names(alloc, *off)?)?;
+            fields.push(names(alloc, *on)?)?;
+        }
+    }
+    Ok(Term::Tuple(fields))
+}
+
+/// The list of the effects, or `no_match`.
+fn outcome_term<A: Allocator>(alloc: Global, outcome: &Outcome<A>) -> Result<Term<Global>, Fail> {
+    match outcome {
+        Outcome::NoMatch => word(alloc, "no_match"),
+        Outcome::Matched(effects) => {
+            let mut terms = Vec::new(alloc);
+            for effect in effects {
+                terms.push(effect_term(alloc, effect)?)?;
+            }
+            Ok(Term::List(terms))
+        }
+    }
+}
+
+/// A specification on a list, in a dialect.
+#[derive(Clone, Copy)]
+struct Case<'a> {
+    dialect: Dialect,
+    spec: &'a str,
+    list: &'a str,
+}
+
+/// What a specification is evaluated in, for the own process.
+fn context<'a>(
+    list: &'a [Term<Global>],
+    caller: Option<&'a Mfa<Global>>,
+    alive: &'a Alive,
+) -> Context<'a, Global> {
+    Context {
+        list: Parts::Terms(list),
+        me: OWN,
+        caller,
+        alive,
+    }
+}
+
+/// The outcome of the case is that of the text.
+fn check_in(
+    rt: &impl Abort,
+    alloc: Global,
+    case: &Case<'_>,
+    caller: Option<&Mfa<Global>>,
+    alive: &Alive,
+    wanted: &str,
+) -> Result<(), Fail> {
+    let spec_term = read_term(alloc, case.spec.as_bytes())?;
+    let spec = spec_of(alloc, &spec_term, case.dialect)?;
+    let list = elements(alloc, case.list)?;
+    let context = context(list.as_slice(), caller, alive);
+    let seen = outcome_term(alloc, &outcome(alloc, &spec, &context)?)?;
+    let wanted_term = read_term(alloc, wanted.as_bytes())?;
+    let (spec, list) = (case.spec, case.list);
+    assert!(rt; seen.same(&wanted_term), "{spec} on {list} isn't {wanted}");
+    Ok(())
+}
+
+/// The same in the dialect Call, with no caller.
+fn check(rt: &impl Abort, alloc: Global, spec: &str, list: &str, wanted: &str) -> Result<(), Fail> {
+    let case = Case {
+        dialect: Dialect::Call,
+        spec,
+        list,
+    };
+    check_in(rt, alloc, &case, None, &two_alive(), wanted)
+}
+
+/// The effects of the expressions as a body on the list `[1]`.
+fn check_body(
+    rt: &impl Abort,
+    alloc: Global,
+    dialect: Dialect,
+    body: &str,
+    wanted: &str,
+) -> Result<(), Fail> {
+    let spec = format!(in alloc; "[{{'_',[],[{body}]}}]")?;
+    let case = Case {
+        dialect,
+        spec: &spec,
+        list: "[1]",
+    };
+    check_in(rt, alloc, &case, None, &two_alive(), wanted)
+}
+
+#[test]
+fn row_same_variable_twice(rt: HostRuntime) -> Result<(), Fail> {
+    let spec = "[{['$1','$1'],[],[]}]";
+    check(&rt, rt.alloc(), spec, "[a,a]", "[]")?;
+    check(&rt, rt.alloc(), spec, "[a,b]", "no_match")
+}
+
+#[test]
+fn row_first_clause_that_matches(rt: HostRuntime) -> Result<(), Fail> {
+    let spec = "[{[2],[],[]},{['_'],[],[{message,second}]}]";
+    check(&rt, rt.alloc(), spec, "[1]", "[{message,second}]")?;
+    check(&rt, rt.alloc(), spec, "[2]", "[]")
+}
+
+#[test]
+fn row_guard_fault_skips_clause(rt: HostRuntime) -> Result<(), Fail> {
+    let spec = "[{['$1'],[{'>',{hd,'$1'},3}],[]},{['_'],[],[{message,second}]}]";
+    check(&rt, rt.alloc(), spec, "[[]]", "[{message,second}]")?;
+    check(&rt, rt.alloc(), spec, "[[4]]", "[]")
+}
+
+#[test]
+fn row_body_fault_is_exit(rt: HostRuntime) -> Result<(), Fail> {
+    let spec = "[{'_',[],[{message,{hd,[]}}]}]";
+    check(&rt, rt.alloc(), spec, "[1]", "[{message,'EXIT'}]")
+}
+
+#[test]
+fn row_bindings_by_number(rt: HostRuntime) -> Result<(), Fail> {
+    let spec = "[{['$3','$1'],[],[{message,'$$'}]}]";
+    check(&rt, rt.alloc(), spec, "[a,b]", "[{message,[b,a]}]")
+}
+
+#[test]
+fn row_sum_past_64_bits_is_a_fault(rt: HostRuntime) -> Result<(), Fail> {
+    let spec = "[{['$1'],[{'=:=',{'+','$1',1},0}],[]}]";
+    check(&rt, rt.alloc(), spec, "[9223372036854775807]", "no_match")?;
+    check(&rt, rt.alloc(), spec, "[-1]", "[]")
+}
+
+#[test]
+fn row_fault_inside_not(rt: HostRuntime) -> Result<(), Fail> {
+    let spec = "[{['$1'],[{'not',{hd,'$1'}}],[]}]";
+    check(&rt, rt.alloc(), spec, "[a]", "no_match")
+}
+
+#[test]
+fn row_orelse_stops_early(rt: HostRuntime) -> Result<(), Fail> {
+    let spec = "[{['$1'],[{'orelse',{is_atom,'$1'},{hd,'$1'}}],[]}]";
+    check(&rt, rt.alloc(), spec, "[a]", "[]")
+}
+
+#[test]
+fn row_or_evaluates_all(rt: HostRuntime) -> Result<(), Fail> {
+    let spec = "[{['$1'],[{'or',{is_atom,'$1'},{hd,'$1'}}],[]}]";
+    check(&rt, rt.alloc(), spec, "[a]", "no_match")
+}
+
+#[test]
+fn row_division_toward_zero(rt: HostRuntime) -> Result<(), Fail> {
+    let spec = "[{['$1'],[],[{message,[{'div','$1',2},{'rem','$1',2},{'div','$1',0}]}]}]";
+    check(&rt, rt.alloc(), spec, "[-7]", "[{message,[-3,-1,'EXIT']}]")
+}
+
+// One clause of head '_' without conditions, one living pid, no caller.
+#[test]
+fn faults_of_actions(rt: HostRuntime) -> Result<(), Fail> {
+    let case = Case {
+        dialect: Dialect::Call,
+        spec: "[{'_',[],[{message,{enable_trace,nope}},{silent,7},{message,{caller}}]}]",
+        list: "[1]",
+    };
+    let wanted = "[{message,'EXIT'},{message,undefined}]";
+    check_in(&rt, rt.alloc(), &case, None, &Alive::first(1), wanted)
+}
+
+/// Conditions that are true, false, something else or faults, and what isn't evaluated.
+#[test]
+fn conditions(rt: HostRuntime) -> Result<(), Fail> {
+    let alloc = rt.alloc();
+    for (conditions, holds) in [
+        ("", true),
+        ("true", true),
+        ("true,true", true),
+        ("false", false),
+        ("7", false),
+        ("{{}}", false),
+        ("true,false", false),
+        ("true,{hd,a}", false),
+        ("{'==',{self},<0.100.0>}", true),
+        ("{'==',{node},nonode@nohost}", true),
+        ("{'==','$_',[a,[1]]}", true),
+        ("{'==','$$',[[1],a]}", true),
+        ("{'==',{{'$1',['$0']}},{const,{a,[[1]]}}}", true),
+        ("{'==',{element,2,{{x,{tl,'$0'}}}},[]}", true),
+        ("{'andalso',{is_atom,'$1'},{is_list,'$0'}}", true),
+        ("{'andalso',{is_pid,'$1'},{hd,'$1'}}", false),
+        ("{'andalso',{is_atom,'$1'},{hd,'$1'}}", false),
+        ("{'orelse',{hd,'$1'},true}", false),
+        ("{'orelse',7,{hd,'$0'},true}", true),
+        ("{'orelse',7,{hd,'$0'}}", false),
+        ("{'and',false,{hd,'$1'}}", false),
+        ("{'and',true,7}", false),
+        ("{'not',{'and',true,7}}", true),
+        ("{'not',{'andalso',7,{hd,a}}}", true),
+        ("{is_list,[{hd,a}]}", false),
+        ("{is_tuple,{{{hd,a}}}}", false),
+    ] {
+        let spec = format!(in alloc; "[{{['$1','$0'],[{conditions}],[]}}]")?;
+        let wanted = if holds { "[]" } else { "no_match" };
+        check(&rt, alloc, &spec, "[a,[1]]", wanted)?;
+    }
+    Ok(())
+}
+
+#[test]
+fn heads(rt: HostRuntime) -> Result<(), Fail> {
+    for (spec, list, wanted) in [
+        ("[{'$1',[],[{message,'$1'}]}]", "[a,b]", "[{message,[a,b]}]"),
+        (
+            "[{'$1',[],[{message,'$$'}]}]",
+            "[a,b]",
+            "[{message,[[a,b]]}]",
+        ),
+        ("[{'$1',[{'==','$1','$_'}],[]}]", "[]", "[]"),
+        ("[{'_',[],[{message,'$$'}]}]", "[a,b]", "[{message,[]}]"),
+        ("[{[],[],[{message,'$_'}]}]", "[]", "[{message,[]}]"),
+        ("[{[],[],[]}]", "[a]", "no_match"),
+        (
+            "[{['$1'],[],[{message,'$1'}]},{'_',[],[]}]",
+            "[{a,[7]}]",
+            "[{message,{a,[7]}}]",
+        ),
+        (
+            "[{'_',[false],[{message,a}]},{'_',[],[{message,b}]}]",
+            "[]",
+            "[{message,b}]",
+        ),
+        (
+            "[{'_',[],[{message,a}]},{'_',[],[{message,b}]}]",
+            "[]",
+            "[{message,a}]",
+        ),
+    ] {
+        check(&rt, rt.alloc(), spec, list, wanted)?;
+    }
+    Ok(())
+}
+
+/// Each call that faults has the value 'EXIT', and evaluation goes on.
+#[test]
+fn bodies(rt: HostRuntime) -> Result<(), Fail> {
+    for (body, wanted) in [
+        ("", "[]"),
+        ("true,7,{hd,[]}", "[]"),
+        (
+            "{message,[{hd,[]},{tl,[]},7]}",
+            "[{message,['EXIT','EXIT',7]}]",
+        ),
+        ("{message,{{{abs,a}}}}", "[{message,{'EXIT'}}]"),
+        ("{message,{is_atom,{hd,[]}}}", "[{message,true}]"),
+        ("{message,{'not',{hd,[]}}}", "[{message,false}]"),
+        ("{message,{'+',{hd,[]},1}}", "[{message,'EXIT'}]"),
+        ("{message,{'orelse',{hd,[]},true}}", "[{message,true}]"),
+        ("{message,{'andalso',{hd,[]},true}}", "[{message,false}]"),
+        ("{message,{self}}", "[{message,<0.100.0>}]"),
+        ("{message,{node,{self}}}", "[{message,nonode@nohost}]"),
+        ("{message,{const,{hd,[]}}}", "[{message,{hd,[]}}]"),
+        ("{message,{{}}}", "[{message,{}}]"),
+    ] {
+        check_body(&rt, rt.alloc(), Dialect::Call, body, wanted)?;
+    }
+    Ok(())
+}
+
+/// Effects come in the order of evaluation: an argument's before its call's, from left to right.
+#[test]
+fn order_of_effects(rt: HostRuntime) -> Result<(), Fail> {
+    for (body, wanted) in [
+        ("{message,1},{message,2}", "[{message,1},{message,2}]"),
+        ("{message,{message,1}}", "[{message,1},{message,true}]"),
+        (
+            "[{message,1},{{{message,2}}},{message,3}]",
+            "[{message,1},{message,2},{message,3}]",
+        ),
+        (
+            "{'or',{message,1},{message,2}}",
+            "[{message,1},{message,2}]",
+        ),
+        ("{'andalso',{message,1},false,{message,2}}", "[{message,1}]"),
+        ("{'orelse',{message,1},{message,2}}", "[{message,1}]"),
+        ("{'orelse',{hd,[]},{message,2}}", "[{message,2}]"),
+        ("{'andalso',{hd,[]},{message,2}}", "[]"),
+        ("{'+',{message,1},{message,2}}", "[{message,1},{message,2}]"),
+        ("{enable_trace,{message,nope}}", "[{message,nope}]"),
+        ("{silent,{message,1}}", "[{message,1},{silent,true}]"),
+        (
+            "{return_trace},{message,1},{return_trace}",
+            "[return_trace,{message,1},return_trace]",
+        ),
+    ] {
+        check_body(&rt, rt.alloc(), Dialect::Call, body, wanted)?;
+    }
+    Ok(())
+}
+
+#[test]
+fn actions_of_calls(rt: HostRuntime) -> Result<(), Fail> {
+    for (body, wanted) in [
+        ("{message,false}", "[{message,false}]"),
+        ("{message,{return_trace}}", "[return_trace,{message,true}]"),
+        (
+            "{message,{exception_trace}}",
+            "[exception_trace,{message,true}]",
+        ),
+        ("{message,{silent,true}}", "[{silent,true},{message,true}]"),
+        (
+            "{message,{silent,false}}",
+            "[{silent,false},{message,true}]",
+        ),
+        ("{message,{silent,7}}", "[{message,true}]"),
+        ("{message,{silent,{hd,[]}}}", "[{message,true}]"),
+        ("{message,{caller}}", "[{message,undefined}]"),
+    ] {
+        check_body(&rt, rt.alloc(), Dialect::Call, body, wanted)?;
+    }
+    Ok(())
+}
+
+/// Changes of flags, which calls and sends have: the flag of the own process or another living one.
+#[test]
+fn changes(rt: HostRuntime) -> Result<(), Fail> {
+    for (body, wanted) in [
+        ("{enable_trace,call}", "[{change,<0.100.0>,[],[call]}]"),
+        ("{disable_trace,call}", "[{change,<0.100.0>,[call],[]}]"),
+        (
+            "{enable_trace,<0.101.0>,procs}",
+            "[{change,<0.101.0>,[],[procs]}]",
+        ),
+        (
+            "{disable_trace,<0.101.0>,send}",
+            "[{change,<0.101.0>,[send],[]}]",
+        ),
+        (
+            "{message,{enable_trace,arity}}",
+            "[{change,<0.100.0>,[],[arity]},{message,true}]",
+        ),
+        (
+            "{message,{disable_trace,{self},call}}",
+            "[{change,<0.100.0>,[call],[]},{message,true}]",
+        ),
+    ] {
+        check_body(&rt, rt.alloc(), Dialect::Call, body, wanted)?;
+        check_body(&rt, rt.alloc(), Dialect::Send, body, wanted)?;
+    }
+    Ok(())
+}
+
+/// Flags that are none of the ten, and what is no living process's pid.
+#[test]
+fn faults_of_changes(rt: HostRuntime) -> Result<(), Fail> {
+    let alloc = rt.alloc();
+    for change in [
+        "{enable_trace,nope}",
+        "{disable_trace,[call]}",
+        "{enable_trace,<0.102.0>,call}",
+        "{disable_trace,<0.99.0>,call}",
+        "{enable_trace,<0.4294967295.0>,call}",
+        "{disable_trace,100,call}",
+        "{enable_trace,<0.101.0>,nope}",
+        "{disable_trace,call,<0.101.0>}",
+    ] {
+        let body = format!(in alloc; "{{message,{change}}}")?;
+        check_body(&rt, alloc, Dialect::Call, &body, "[{message,'EXIT'}]")?;
+        check_body(&rt, alloc, Dialect::Send, &body, "[{message,'EXIT'}]")?;
+    }
+    Ok(())
+}
+
+#[test]
+fn each_flag(rt: HostRuntime) -> Result<(), Fail> {
+    let alloc = rt.alloc();
+    for flag in [
+        "send",
+        "'receive'",
+        "call",
+        "procs",
+        "silent",
+        "arity",
+        "set_on_spawn",
+        "set_on_first_spawn",
+        "set_on_link",
+        "set_on_first_link",
+    ] {
+        let body = format!(in alloc; "{{enable_trace,{flag}}},{{disable_trace,<0.101.0>,{flag}}}")?;
+        let wanted = format!(in alloc;
+            "[{{change,<0.100.0>,[],[{flag}]}},{{change,<0.101.0>,[{flag}],[]}}]"
+        )?;
+        check_body(&rt, alloc, Dialect::Call, &body, &wanted)?;
+        check_body(&rt, alloc, Dialect::Send, &body, &wanted)?;
+    }
+    Ok(())
+}
+
+/// The own process has ended: no change of its flags.
+#[test]
+fn changes_of_the_dead(rt: HostRuntime) -> Result<(), Fail> {
+    for (body, wanted) in [
+        ("{message,{enable_trace,call}}", "[{message,'EXIT'}]"),
+        (
+            "{message,{disable_trace,<0.100.0>,call}}",
+            "[{message,'EXIT'}]",
+        ),
+        ("{message,{self}}", "[{message,<0.100.0>}]"),
+    ] {
+        let spec = format!(in rt.alloc(); "[{{'_',[],[{body}]}}]")?;
+        let case = Case {
+            dialect: Dialect::Send,
+            spec: &spec,
+            list: "[]",
+        };
+        check_in(&rt, rt.alloc(), &case, None, &Alive::none(), wanted)?;
+    }
+    Ok(())
+}
+
+#[test]
+fn actions_of_sends(rt: HostRuntime) -> Result<(), Fail> {
+    for (body, wanted) in [
+        ("{message,{message,a}}", "[{message,a},{message,true}]"),
+        ("{message,{return_trace}}", "[{message,true}]"),
+        ("{message,{exception_trace}}", "[{message,true}]"),
+        ("{message,{silent,true}}", "[{silent,true},{message,true}]"),
+        ("{silent,false}", "[{silent,false}]"),
+        ("{message,{silent,7}}", "[{message,true}]"),
+    ] {
+        check_body(&rt, rt.alloc(), Dialect::Send, body, wanted)?;
+    }
+    Ok(())
+}
+
+#[test]
+fn actions_of_receives(rt: HostRuntime) -> Result<(), Fail> {
+    for (body, wanted) in [
+        ("{message,{message,a}}", "[{message,a},{message,true}]"),
+        ("{message,{return_trace}}", "[{message,true}]"),
+        ("{message,{exception_trace}}", "[{message,true}]"),
+        ("{message,{hd,[]}}", "[{message,'EXIT'}]"),
+    ] {
+        check_body(&rt, rt.alloc(), Dialect::Recv, body, wanted)?;
+    }
+    Ok(())
+}
+
+/// `{m,go,2}`
+fn caller<A: Allocator + Copy>(alloc: A) -> Result<Option<Mfa<A>>, AllocError> {
+    let (Some(module), Some(name)) = (Atom::new(alloc, "m")?, Atom::new(alloc, "go")?) else {
+        return Ok(None);
+    };
+    Ok(Some(Mfa {
+        module,
+        name,
+        arity: 2,
+    }))
+}
+
+#[test]
+fn callers(rt: HostRuntime) -> Result<(), Fail> {
+    let caller = caller(rt.alloc())?.ok_or("no caller")?;
+    let case = Case {
+        dialect: Dialect::Call,
+        spec: "[{'_',[],[{message,{caller}},{message,[{element,2,{caller}}]}]}]",
+        list: "[]",
+    };
+    let wanted = "[{message,{m,go,2}},{message,[go]}]";
+    check_in(&rt, rt.alloc(), &case, Some(&caller), &two_alive(), wanted)
+}
+
+/// Clauses that match the numbers from 1 to 63, and a last one that matches any.
+fn many_clauses(alloc: Global) -> Result<String, Fail> {
+    let mut text = String::from_str(alloc, "[")?;
+    for number in 1..64 {
+        text = format!(in alloc;
+            "{text}{{['$1'],[{{'==','$1',{number}}}],[{{message,{number}}}]}},"
+        )?;
+    }
+    Ok(format!(in alloc; "{text}{{['$1'],[],[{{message,last}}]}}]")?)
+}
+
+#[test]
+fn the_last_of_many_clauses(rt: HostRuntime) -> Result<(), Fail> {
+    let spec = many_clauses(rt.alloc())?;
+    check(&rt, rt.alloc(), &spec, "[64]", "[{message,last}]")?;
+    check(&rt, rt.alloc(), &spec, "[63]", "[{message,63}]")?;
+    check(&rt, rt.alloc(), &spec, "[1]", "[{message,1}]")?;
+    check(&rt, rt.alloc(), &spec, "[]", "no_match")
+}
+
+/// A list of values: what is lent and what is made match alike.
+#[test]
+fn a_list_of_values(rt: HostRuntime) -> Result<(), Fail> {
+    let alloc = rt.alloc();
+    let text = b"[{['$1',{hi,'$2'},'$3'],[{is_pid,'$1'}],[{message,['$3','$2','$_']}]}]";
+    let spec = spec_of(alloc, &read_term(alloc, text)?, Dialect::Send)?;
+    let message = read_term(alloc, b"{hi,[1]}")?;
+    let one = [Value::Lent(&message)];
+    let context = Context {
+        list: Parts::Values(&[Value::Pid(101), Value::Lent(&message), Value::List(&one)]),
+        me: OWN,
+        caller: None,
+        alive: &two_alive(),
+    };
+    let seen = outcome_term(alloc, &outcome(alloc, &spec, &context)?)?;
+    let wanted = b"[{message,[[{hi,[1]}],[1],[<0.101.0>,{hi,[1]},[{hi,[1]}]]]}]";
+    assert!(rt; seen.same(&read_term(alloc, wanted)?));
+    Ok(())
+}
+
+/// Bindings, made values, each kind of effect and a fault, behind a clause whose condition is a fault.
+const SPEC: &str = "[{['$1','$2'],[{hd,[{'div','$1',0}]}],[]},
+ {['$1','$2'],[{'==',{{'$1',['$2']}},{{'$1',{tl,[a,'$2']}}}}],
+  [{message,[{{'$1','$2'}},'$_','$$',{hd,[]},{caller}]},{return_trace},{exception_trace},{silent,true},
+   {enable_trace,<0.101.0>,call},{message,{const,[a,{b}]}}]}]";
+
+const EFFECTS: &str =
+    "[{message,[{7,{x,[y]}},[7,{x,[y]}],[7,{x,[y]}],'EXIT',{m,go,2}]},return_trace,
+ exception_trace,{silent,true},{change,<0.101.0>,[],[call]},{message,[a,{b}]}]";
+
+/// The outcome of the specification on the list, with the caller `{m,go,2}`; None where memory was
+/// refused.
+fn attempted<'h>(
+    heap: &'h Refusing<Global>,
+    spec: &str,
+    list: &str,
+) -> Option<Outcome<&'h Refusing<Global>>> {
+    let spec_term = read_term(heap, spec.as_bytes()).ok()?;
+    let spec = spec_of(heap, &spec_term, Dialect::Call).ok()?;
+    let Term::List(terms) = read_term(heap, list.as_bytes()).ok()? else {
+        return None;
+    };
+    let caller = caller(heap).ok()??;
+    let context = Context {
+        list: Parts::Terms(terms.as_slice()),
+        me: OWN,
+        caller: Some(&caller),
+        alive: &two_alive(),
+    };
+    outcome(heap, &spec, &context).ok()
+}
+
+/// Each growth refused in turn: the outcome of the text, or none where a growth was refused. The arena
+/// may ask again for less, so that there may be an outcome after a refusal.
+fn check_growths(
+    rt: &impl Abort,
+    alloc: Global,
+    spec: &str,
+    list: &str,
+    wanted: &str,
+) -> Result<(), Fail> {
+    let wanted = read_term(alloc, wanted.as_bytes())?;
+    for served in 0..ENOUGH {
+        let heap = Refusing::after(alloc, served);
+        match attempted(&heap, spec, list) {
+            Some(outcome) => {
+                assert!(rt; outcome_term(alloc, &outcome)?.same(&wanted));
+                if !heap.has_refused() {
+                    assert!(rt; served > 20, "only {served} growths");
+                    return Ok(());
+                }
+            }
+            None => assert!(rt; heap.has_refused(), "nothing was refused"),
+        }
+    }
+    panic!(rt; "each outcome was refused memory")
+}
+
+#[test]
+fn growths_refused(rt: HostRuntime) -> Result<(), Fail> {
+    check_growths(&rt, rt.alloc(), SPEC, "[7,{x,[y]}]", EFFECTS)?;
+    check_growths(&rt, rt.alloc(), SPEC, "[7,[{x},{y}],8]", "no_match")
+}
