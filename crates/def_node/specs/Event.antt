@@ -1,4 +1,4 @@
--- The events of the node, which sessions may tell of (module `trace`, "trace messages").
+-- The events of the node, which sessions may tell of (trace:process/4 and trace:function/4).
 -- Stands on terms and the names of functions.
 use Rattle.std.specs.Prelude.{ℕ, Bool, List, Option}
 use Rattle.def_term.specs.Tree.{Tree}

@@ -1,6 +1,7 @@
 -- What is promised of the node (own).
 -- Stands on the node, and on what keeps within its limits.
 use Rattle.std.specs.Prelude.{◌≡◌, ◌≤◌, ℕ, List, length}
+use Rattle.def_term.specs.Alive.{PROCESSES}
 use Rattle.def_script.specs.Program.{Function, Entry, Program}
 use Rattle.def_node.specs.Node.{World, State, next, next_of, opening_world}
 use Rattle.def_node.specs.Limits.{IsStill, NothingChanges, IsWithin, IsAfter, world_after, state_after, AllKnown, events_in}
@@ -15,7 +16,7 @@ IdleLeavesTheState = (p : Program) → (s : State) → (n : ℕ) → NothingChan
 
 -- a program of at most 64 processes begins within the limits
 abbrev pub OpeningIsWithin : Type 0
-OpeningIsWithin = (es : List Entry) → length es ≤ 64 → IsWithin (opening_world es)
+OpeningIsWithin = (es : List Entry) → length es ≤ PROCESSES → IsWithin (opening_world es)
 
 -- and no step leaves them
 abbrev pub StepsStayWithin : Type 0

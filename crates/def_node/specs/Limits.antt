@@ -1,9 +1,10 @@
 -- What keeps within the limits of the node (own).
 -- Stands on the node. Laws speak of it.
 use Rattle.std.specs.Prelude.{ℕ, ◌≡◌, ◌≤◌, Bool, List, [], ◌∷◌, length, Option, Some, None}
+use Rattle.def_term.specs.Alive.{FIRST_PID, PROCESSES, LAST_PID}
 use Rattle.def_node.specs.Node.{World, Move, moved, idle, State, Next, gives_events, gives_command, gives_nothing}
 use Rattle.def_node.specs.Event.{Event, sent, received, called, returned, spawning, spawned, exited, linked, unlinked, getting_linked, getting_unlinked}
-use Rattle.def_node.specs.Process.{Process, Act, waits, continues, sends, links_to, unlinks_from, spawns, exits}
+use Rattle.def_node.specs.Process.{FRAMES, Process, Act, waits, continues, sends, links_to, unlinks_from, spawns, exits}
 
 -- what a process is after its own act: it has the links that it had, and at most so many frames
 abbrev pub IsOwn : ℕ → List Bool → Process → Type 0
@@ -23,7 +24,7 @@ IsOwnAct most ls child (exits partners r before) = partners ≡ ls
 
 -- a process with at most 64 frames, which knows of each of the 64 pids whether it is linked to it
 abbrev pub IsSmall : Process → Type 0
-IsSmall q = (length q.frames ≤ 64) × (length q.links ≡ 64)
+IsSmall q = (length q.frames ≤ FRAMES) × (length q.links ≡ PROCESSES)
 
 -- each process that lives is small
 abbrev pub AllSmall : List (Option Process) → Type 0
@@ -33,7 +34,7 @@ AllSmall (Some q ∷ ss) = IsSmall q × AllSmall ss
 
 -- at most 64 processes were started, each of them small
 abbrev pub IsWithin : World → Type 0
-IsWithin w = (length w.slots ≤ 64) × AllSmall w.slots
+IsWithin w = (length w.slots ≤ PROCESSES) × AllSmall w.slots
 
 -- no place is given up, and one where a process has exited stays empty, so no pid is used again
 abbrev pub IsAfter : List (Option Process) → List (Option Process) → Type 0
@@ -68,7 +69,7 @@ NothingChanges s (gives_nothing t) = t ≡ s
 
 -- one of the pids that a run gives
 abbrev pub IsKnown : ℕ → Type 0
-IsKnown n = (100 ≤ n) × (n ≤ 163)
+IsKnown n = (FIRST_PID ≤ n) × (n ≤ LAST_PID)
 
 -- an event is about a process of the run; so are the parent of a spawned one, the one that linked, and a partner
 abbrev pub IsKnownEvent : Event → Type 0

@@ -5,6 +5,7 @@ use Rattle.std.specs.Option.{option_map, unwrap_or}
 use Rattle.def_term.specs.Tree.{Tree}
 use Rattle.def_term.specs.Order.{same}
 use Rattle.def_term.specs.Names.{word}
+use Rattle.def_term.specs.Alive.{FIRST_PID, PROCESSES}
 use Rattle.def_script.specs.Program.{Function, Entry, entry_mfa, Program}
 use Rattle.def_node.specs.Event.{Event, sent, received, spawning, spawned, exited, linked, unlinked, getting_linked, getting_unlinked}
 use Rattle.def_node.specs.Process.{Process, Act, act, waits, continues, sends, links_to, unlinks_from, spawns, exits}
@@ -26,7 +27,7 @@ place_in (Some (Some q)) i = Some i
 
 -- the place of the process with this pid, where it lives
 abbrev pub living : World → ℕ → Option ℕ
-living w n = if nat_le 100 n then place_in (slice_get w.slots (n - 100)) (n - 100) else None
+living w n = if nat_le FIRST_PID n then place_in (slice_get w.slots (n - FIRST_PID)) (n - FIRST_PID) else None
 
 -- the process at this place changed, if it lives
 abbrev pub changed : List (Option Process) → ℕ → (Process → Process) → List (Option Process)
@@ -61,7 +62,7 @@ delivered w n m t = delivered_to w n m t (living w m)
 
 -- the process is linked to m
 abbrev pub is_linked : Process → ℕ → Bool
-is_linked q m = nat_le 100 m && unwrap_or (slice_get q.links (m - 100)) false
+is_linked q m = nat_le FIRST_PID m && unwrap_or (slice_get q.links (m - FIRST_PID)) false
 
 -- whether the process at this place is linked to m
 abbrev pub linked_in : Option (Option Process) → ℕ → Bool
@@ -75,7 +76,7 @@ linked_at w i m = linked_in (slice_get w.slots i) m
 
 -- the link to m is there, or is removed
 abbrev pub with_link : ℕ → Bool → Process → Process
-with_link m b q = record q { links = slice_set q.links (m - 100) b }
+with_link m b q = record q { links = slice_set q.links (m - FIRST_PID) b }
 
 -- the oldest signal is taken, so a later one is dropped
 abbrev pub first_signal : Option Tree → Tree → Option Tree
@@ -132,17 +133,17 @@ partner_pids m (false ∷ bs) = partner_pids (suc m) bs
 abbrev pub ended : World → ℕ → ℕ → List Bool → Tree → Option Event → Move
 ended w i n partners r before =
     moved (record { slots = partners_told n r partners (slice_set w.slots i None) })
-    (option_to_list before ++ exited n r ∷ map (λ m. getting_unlinked m n) (partner_pids 100 partners))
+    (option_to_list before ++ exited n r ∷ map (λ m. getting_unlinked m n) (partner_pids FIRST_PID partners))
 
 -- ---- spawning
 
 -- a process that has made no step yet
 abbrev pub fresh : Entry → Process
-fresh e = record { entry = Some e; frames = []; mailbox = []; signal = None; links = replicate 64 false }
+fresh e = record { entry = Some e; frames = []; mailbox = []; signal = None; links = replicate PROCESSES false }
 
 -- the pid that a spawn would give: pids are numbered in the order of spawns, and at most 64 processes are started in a run
 abbrev pub next_pid : World → Option ℕ
-next_pid w = if nat_lt (length w.slots) 64 then Some (100 + length w.slots) else None
+next_pid w = if nat_lt (length w.slots) PROCESSES then Some (FIRST_PID + length w.slots) else None
 
 -- a spawn gives the events spawn, then spawned
 abbrev pub started : World → ℕ → ℕ → Entry → Move
@@ -170,7 +171,7 @@ stepped_at ks w i n (Some (Some q)) = acted w i n (act ks n (next_pid w) q)
 
 -- the next step of the process n; a pick is idle where the process was never started, has exited, or waits
 abbrev pub next_of : List Function → World → ℕ → Move
-next_of ks w n = if nat_le 100 n then stepped_at ks w (n - 100) n (slice_get w.slots (n - 100)) else idle w
+next_of ks w n = if nat_le FIRST_PID n then stepped_at ks w (n - FIRST_PID) n (slice_get w.slots (n - FIRST_PID)) else idle w
 
 -- initial processes have the pids from 100 on, in the order of their forms
 abbrev pub opening_world : List Entry → World

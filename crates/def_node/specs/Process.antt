@@ -6,7 +6,7 @@ use Rattle.def_term.specs.Tree.{Tree, pid}
 use Rattle.def_term.specs.Names.{Name, Mfa, word}
 use Rattle.def_script.specs.Program.{Step, send, receive, call_remote, call_local, spawn, link, unlink, give_back, exit, Function, mfa_of, Entry, entry_mfa, number_from}
 use Rattle.def_node.specs.Event.{Event, called, returned}
-use Rattle.def_node.specs.Values.{Env, built, fitting, fitting_all, pid_in, bound_to, bound_all}
+use Rattle.def_node.specs.Values.{Env, built, fitting, fitting_all, pid_in, rebound_target, params_bound}
 
 -- a call that goes on: its function's number, how many of its steps are done, the values of its variables, and the caller's target
 pub record Frame : Type 0 where
@@ -55,12 +55,16 @@ abbrev pub caller_of : List Function → List Frame → Option Mfa
 caller_of ks [] = None
 caller_of ks (f ∷ fs) = mfa_at ks f.function
 
--- a call of the function k with the number i, over the frames beneath. At depth 64 it ends the process
+-- the most frames of a process
+abbrev pub FRAMES : ℕ
+FRAMES = 64
+
+-- a call of the function k with the number i, over the frames beneath. Over so many frames it ends the process
 abbrev pub enters_at : List Function → ℕ → Process → List Frame → Option Name → Bool → List Tree → ℕ → Option Function → Act
 enters_at ks n q fs x named args i None = exits q.links (word "undef") None
 enters_at ks n q fs x named args i (Some k) =
-    if nat_le 64 (length fs) then exits q.links (word "system_limit") None else
-    continues (record q { entry = None; frames = record { function = i; place = 0; env = bound_all ((codes "Self", pid n) ∷ []) k.params args; target = x } ∷ fs })
+    if nat_le FRAMES (length fs) then exits q.links (word "system_limit") None else
+    continues (record q { entry = None; frames = record { function = i; place = 0; env = params_bound ((codes "Self", pid n) ∷ []) k.params args; target = x } ∷ fs })
     (Some (called n (record { mfa = mfa_of k; args = args; named = named; exported = k.exported; caller = caller_of ks fs; depth = length fs + 1 })))
 
 -- a call of a function by its number; a program that keeps the static rules names only functions that are there
@@ -71,7 +75,7 @@ enters ks n q fs x named args (Some i) = enters_at ks n q fs x named args i (sli
 -- a return from the entry frame is followed by the exit with reason `normal`
 abbrev pub leaves_to : Process → Option Name → List Frame → Tree → Event → Act
 leaves_to q x [] t e = exits q.links (word "normal") (Some e)
-leaves_to q x (g ∷ gs) t e = continues (record q { frames = record g { env = bound_to x t g.env } ∷ gs }) (Some e)
+leaves_to q x (g ∷ gs) t e = continues (record q { frames = record g { env = rebound_target x t g.env } ∷ gs }) (Some e)
 
 -- a return of this value from a frame of the function k, over the frames beneath
 abbrev pub leaves : ℕ → Process → Function → Option Name → List Frame → Tree → Act
@@ -88,7 +92,7 @@ stepped q f fs = record q { frames = advanced f ∷ fs }
 
 -- and with a value at a target
 abbrev pub binds : Process → Frame → List Frame → Option Name → Tree → Process
-binds q f fs x t = record q { frames = record f { place = f.place + 1; env = bound_to x t f.env } ∷ fs }
+binds q f fs x t = record q { frames = record f { place = f.place + 1; env = rebound_target x t f.env } ∷ fs }
 
 -- it can't move while the mailbox is empty
 abbrev pub receives : Process → Frame → List Frame → Option Name → List Tree → Act

@@ -5,6 +5,7 @@ use Rattle.std.specs.Option.{unwrap_or}
 use Rattle.std.specs.Str.{bytes_eq}
 use Rattle.def_term.specs.Tree.{Tree, int, atom, pid, tuple, list, Trees, none, more, depth, size}
 use Rattle.def_term.specs.Names.{Name}
+use Rattle.def_text.specs.Limits.{DEPTH}
 use Rattle.def_script.specs.Program.{is_variable}
 
 -- each variable once, the oldest first
@@ -21,20 +22,20 @@ abbrev pub value_of : Env → Name → Option Tree
 value_of env a = if is_variable a then found env a else None
 
 -- a step that binds a bound variable replaces its value
-abbrev pub bound : Env → Name → Tree → Env
-bound [] x t = (x, t) ∷ []
-bound (e ∷ env) x t = if bytes_eq e.0 x then (e.0, t) ∷ env else e ∷ bound env x t
+abbrev pub rebound : Env → Name → Tree → Env
+rebound [] x t = (x, t) ∷ []
+rebound (e ∷ env) x t = if bytes_eq e.0 x then (e.0, t) ∷ env else e ∷ rebound env x t
 
 -- a target that is none throws the value away
-abbrev pub bound_to : Option Name → Tree → Env → Env
-bound_to None t env = env
-bound_to (Some x) t env = bound env x t
+abbrev pub rebound_target : Option Name → Tree → Env → Env
+rebound_target None t env = env
+rebound_target (Some x) t env = rebound env x t
 
 -- each parameter is bound to its argument
-abbrev pub bound_all : Env → List Name → List Tree → Env
-bound_all env [] ts = env
-bound_all env (x ∷ xs) [] = env
-bound_all env (x ∷ xs) (t ∷ ts) = bound_all (bound env x t) xs ts
+abbrev pub params_bound : Env → List Name → List Tree → Env
+params_bound env [] ts = env
+params_bound env (x ∷ xs) [] = env
+params_bound env (x ∷ xs) (t ∷ ts) = params_bound (rebound env x t) xs ts
 
 -- each variable of a template stands for its value
 abbrev mutual
@@ -50,9 +51,13 @@ abbrev mutual
   all_built env none = none
   all_built env (more t ts) = more (built env t) (all_built env ts)
 
--- whether a built term is within the limits: size 65,536 and depth 32
+-- the greatest size of a built term
+abbrev pub SIZE : ℕ
+SIZE = 65536
+
+-- whether a built term is within the limits on size and depth
 abbrev pub fits : Tree → Bool
-fits t = nat_le (size t) 65536 && nat_le (depth t) 32
+fits t = nat_le (size t) SIZE && nat_le (depth t) DEPTH
 
 -- the built term, where it is within the limits
 abbrev pub fitting : Tree → Option Tree

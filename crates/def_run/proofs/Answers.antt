@@ -9,17 +9,19 @@ use Rattle.def_term.specs.Tree.{Tree}
 use Rattle.def_term.specs.Names.{Name}
 use Rattle.def_script.specs.Program.{Program, session_of}
 use Rattle.def_node.specs.Event.{Event}
-use Rattle.def_session.specs.State.{Session, Opening, absent_session}
+use Rattle.def_session.specs.State.{Session, absent_session}
+use Rattle.def_script.specs.Opening.{Opening, opening}
 use Rattle.def_session.specs.Session.{event_told}
 use Rattle.def_session.specs.Commands.{command_done}
-use Rattle.def_run.specs.Run.{Item, happened, commanded, opening, events, moves, start}
+use Rattle.def_run.specs.Run.{Shown, happened, commanded, events, moves, start}
 use Rattle.def_run.specs.View.{is_own}
-use Rattle.def_run.specs.Listing.{messages_from, state_after, Told, told, told_by_all, answers_from, for_session, messages, creations, shown_by, answer}
+use Rattle.def_run.specs.Listing.{messages_from, session_after, Item, told, told_by_all, answers_from, for_session, messages, shown_by, answer}
+use Rattle.def_script.specs.Script.{creations}
 use Rattle.def_run.specs.Laws.{is_for, numbered, answers, MoveAddsItsAnswer, AnswerIsNumbered, AnswersAreListings}
 use Rattle.def_run.proofs.Appends.{own-append, shown-append, messages-append, state-append}
 use Rattle.def_run.proofs.Replay.{events_again}
 
-for-append : (m : ℕ) (xs ys : List Told) → filter (is_for m) (xs ++ ys) ≡ filter (is_for m) xs ++ filter (is_for m) ys
+for-append : (m : ℕ) (xs ys : List Item) → filter (is_for m) (xs ++ ys) ≡ filter (is_for m) xs ++ filter (is_for m) ys
 for-append m [] ys = refl
 for-append m (x ∷ xs) ys = go (is_for m x) (for-append m xs ys)
   where
@@ -35,7 +37,7 @@ numbered-messages : (n i : ℕ) (xs : List Tree) → map (λ x. x.message) (numb
 numbered-messages n i [] = refl
 numbered-messages n i (x ∷ xs) = ap (x ∷◌) (numbered-messages n (suc i) xs)
 
-abbrev tells : ℕ → ℕ → Option Tree → List Told
+abbrev tells : ℕ → ℕ → Option Tree → List Item
 tells n i r = map (λ m. record { session = n; index = i; message = m }) (option_to_list r)
 
 told_own : (n i : ℕ) (r : Option Tree) → filter (is_for n) (tells n i r) ≡ numbered n i (option_to_list r)
@@ -46,12 +48,12 @@ told_other : (m n i : ℕ) (r : Option Tree) → n ≢ m → filter (is_for m) (
 told_other m n i None h = refl
 told_other m n i (Some t) h = ap (λ b. cond b (record { session = n; index = i; message = t } ∷ []) []) (ne_eqb n m h)
 
-module _ (o : Opening) (past : List Item) (e : Event) where
+module _ (o : Opening) (past : List Shown) (e : Event) where
   abbrev index_of : Name → ℕ
   index_of s = length (messages_from o (absent_session o) (filter (is_own s) past))
 
   abbrev result_of : Name → Option Tree
-  result_of s = (event_told (state_after o (absent_session o) (filter (is_own s) past)) e).1
+  result_of s = (event_told (session_after o (absent_session o) (filter (is_own s) past)) e).1
 
   later : (m : ℕ) (ss : List (Name × Name)) (n : ℕ) → m < n → filter (is_for m) (told_by_all o n ss past e) ≡ []
   later m [] n h = refl
@@ -76,28 +78,28 @@ module _ (o : Opening) (past : List Item) (e : Event) where
       ∙ picked s m ss (suc n) k h (omega arith)
 
 module _ (o : Opening) (ss : List (Name × Name)) (s : Name × Name) (k : ℕ) (known : slice_get ss k ≡ Some s) where
-  abbrev own : List Item → List Item
+  abbrev own : List Shown → List Shown
   own xs = filter (is_own s.0) xs
 
-  abbrev state_of_past : List Item → Session
-  state_of_past past = state_after o (absent_session o) (own past)
+  abbrev state_of_past : List Shown → Session
+  state_of_past past = session_after o (absent_session o) (own past)
 
-  abbrev count_of_past : List Item → ℕ
+  abbrev count_of_past : List Shown → ℕ
   count_of_past past = length (messages_from o (absent_session o) (own past))
 
-  next_state : (past : List Item) (x : Item) → state_of_past (past ++ x ∷ []) ≡ state_after o (state_of_past past) (own (x ∷ []))
-  next_state past x = ap (state_after o (absent_session o)) (own-append s.0 past (x ∷ [])) ∙ state-append o (absent_session o) (own past) (own (x ∷ []))
+  next_state : (past : List Shown) (x : Shown) → state_of_past (past ++ x ∷ []) ≡ session_after o (state_of_past past) (own (x ∷ []))
+  next_state past x = ap (session_after o (absent_session o)) (own-append s.0 past (x ∷ [])) ∙ state-append o (absent_session o) (own past) (own (x ∷ []))
 
-  next_count : (past : List Item) (x : Item) → count_of_past (past ++ x ∷ []) ≡ count_of_past past + length (messages_from o (state_of_past past) (own (x ∷ [])))
+  next_count : (past : List Shown) (x : Shown) → count_of_past (past ++ x ∷ []) ≡ count_of_past past + length (messages_from o (state_of_past past) (own (x ∷ [])))
   next_count past x =
       ap (λ xs. length (messages_from o (absent_session o) xs)) (own-append s.0 past (x ∷ []))
       ∙ ap length (messages-append o (absent_session o) (own past) (own (x ∷ [])))
       ∙ length-append (messages_from o (absent_session o) (own past)) (messages_from o (state_of_past past) (own (x ∷ [])))
 
-  pub answers-listing : (past items : List Item) → filter (is_for (suc k)) (answers_from o ss past items) ≡ numbered (suc k) (count_of_past past) (messages_from o (state_of_past past) (own items))
+  pub answers-listing : (past items : List Shown) → filter (is_for (suc k)) (answers_from o ss past items) ≡ numbered (suc k) (count_of_past past) (messages_from o (state_of_past past) (own items))
   answers-listing past [] = refl
   answers-listing past (happened e ∷ items) =
-      let rest : List Told = answers_from o ss (past ++ happened e ∷ []) items in
+      let rest : List Item = answers_from o ss (past ++ happened e ∷ []) items in
       let new : List Tree = option_to_list (result_of o past e s.0) in
       let after : List Tree = messages_from o (event_told (state_of_past past) e).0 (own items) in
       let counted : count_of_past (past ++ happened e ∷ []) ≡ count_of_past past + length new = next_count past (happened e) ∙ ap (λ xs. count_of_past past + length xs) (append-nil new) in
@@ -110,19 +112,19 @@ module _ (o : Opening) (ss : List (Name × Name)) (s : Name × Name) (k : ℕ) (
       go (bytes_eq s.0 (session_of c)) refl (next_state past (commanded c)) (next_count past (commanded c)) (answers-listing (past ++ commanded c ∷ []) items)
     where
       go : (b : Bool) → bytes_eq s.0 (session_of c) ≡ b
-          → state_of_past (past ++ commanded c ∷ []) ≡ state_after o (state_of_past past) (cond (bytes_eq s.0 (session_of c)) (commanded c ∷ []) [])
+          → state_of_past (past ++ commanded c ∷ []) ≡ session_after o (state_of_past past) (cond (bytes_eq s.0 (session_of c)) (commanded c ∷ []) [])
           → count_of_past (past ++ commanded c ∷ []) ≡ count_of_past past + length (messages_from o (state_of_past past) (cond (bytes_eq s.0 (session_of c)) (commanded c ∷ []) []))
           → filter (is_for (suc k)) (answers_from o ss (past ++ commanded c ∷ []) items) ≡ numbered (suc k) (count_of_past (past ++ commanded c ∷ [])) (messages_from o (state_of_past (past ++ commanded c ∷ [])) (own items))
           → filter (is_for (suc k)) (answers_from o ss (past ++ commanded c ∷ []) items) ≡ numbered (suc k) (count_of_past past) (messages_from o (state_of_past past) (cond (bytes_eq s.0 (session_of c)) (commanded c ∷ own items) (own items)))
       go true e h n ih =
-          let state : state_of_past (past ++ commanded c ∷ []) ≡ (command_done o (state_of_past past) c).0 = h ∙ ap (λ b. state_after o (state_of_past past) (cond b (commanded c ∷ []) [])) e in
+          let state : state_of_past (past ++ commanded c ∷ []) ≡ (command_done o (state_of_past past) c).0 = h ∙ ap (λ b. session_after o (state_of_past past) (cond b (commanded c ∷ []) [])) e in
           let count : count_of_past (past ++ commanded c ∷ []) ≡ count_of_past past = n ∙ ap (λ b. count_of_past past + length (messages_from o (state_of_past past) (cond b (commanded c ∷ []) []))) e ∙ omega arith in
           ih
           ∙ ap (λ i. numbered (suc k) i (messages_from o (state_of_past (past ++ commanded c ∷ [])) (own items))) count
           ∙ ap (λ t. numbered (suc k) (count_of_past past) (messages_from o t (own items))) state
           ∙ ap (λ b. numbered (suc k) (count_of_past past) (messages_from o (state_of_past past) (cond b (commanded c ∷ own items) (own items)))) (sym e)
       go false e h n ih =
-          let state : state_of_past (past ++ commanded c ∷ []) ≡ state_of_past past = h ∙ ap (λ b. state_after o (state_of_past past) (cond b (commanded c ∷ []) [])) e in
+          let state : state_of_past (past ++ commanded c ∷ []) ≡ state_of_past past = h ∙ ap (λ b. session_after o (state_of_past past) (cond b (commanded c ∷ []) [])) e in
           let count : count_of_past (past ++ commanded c ∷ []) ≡ count_of_past past = n ∙ ap (λ b. count_of_past past + length (messages_from o (state_of_past past) (cond b (commanded c ∷ []) []))) e ∙ omega arith in
           ih
           ∙ ap (λ i. numbered (suc k) i (messages_from o (state_of_past (past ++ commanded c ∷ [])) (own items))) count
@@ -132,7 +134,7 @@ module _ (o : Opening) (ss : List (Name × Name)) (s : Name × Name) (k : ℕ) (
 -- ---- one move
 
 -- what the pick shows after these moves, told to all sessions
-abbrev pub added : Program → List ℕ → Option ℕ → List Told
+abbrev pub added : Program → List ℕ → Option ℕ → List Item
 added p before pick = answers_from (opening p) (creations p.commands) (events p before) (shown_by p before pick)
 
 taken_next : (xs : List ℕ) (k : ℕ) (x : ℕ) → slice_get xs k ≡ Some x → take (suc k) xs ≡ take k xs ++ x ∷ []
@@ -153,9 +155,9 @@ module _ (p : Program) (n : ℕ) (s tracer : Name) (known : slice_get (creations
   pub pick-listing : (picks : List ℕ) (pick : ℕ) → messages s p (picks ++ pick ∷ []) ≡ messages s p picks ++ for_session (suc n) (added p picks (Some pick))
   pick-listing picks pick =
       let o : Opening = opening p in
-      let seen : List Item = events p picks in
-      let next : List Item = shown_by p picks (Some pick) in
-      let new : List Tree = messages_from o (state_after o (absent_session o) (filter (is_own s) seen)) (filter (is_own s) next) in
+      let seen : List Shown = events p picks in
+      let next : List Shown = shown_by p picks (Some pick) in
+      let new : List Tree = messages_from o (session_after o (absent_session o) (filter (is_own s) seen)) (filter (is_own s) next) in
       ap (λ items. messages_from o (absent_session o) (filter (is_own s) items)) (shown-append p.functions (start p) picks (pick ∷ []) ∙ ap (seen ++◌) (append-nil next))
       ∙ ap (messages_from o (absent_session o)) (own-append s seen next)
       ∙ messages-append o (absent_session o) (filter (is_own s) seen) (filter (is_own s) next)
@@ -170,7 +172,7 @@ module _ (p : Program) (n : ℕ) (s tracer : Name) (known : slice_get (creations
   numbered-at before x =
       let o : Opening = opening p in
       let i : ℕ = length (messages s p before) in
-      let e : filter (is_for (suc n)) (added p before x) ≡ numbered (suc n) i (messages_from o (state_after o (absent_session o) (filter (is_own s) (events p before))) (filter (is_own s) (shown_by p before x)))
+      let e : filter (is_for (suc n)) (added p before x) ≡ numbered (suc n) i (messages_from o (session_after o (absent_session o) (filter (is_own s) (events p before))) (filter (is_own s) (shown_by p before x)))
       = answers-listing o (creations p.commands) (s, tracer) n known (events p before) (shown_by p before x) in
       e ∙ ap (numbered (suc n) i) (sym (ap (map (λ x. x.message)) e ∙ numbered-messages (suc n) i _))
 

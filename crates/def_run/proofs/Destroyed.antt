@@ -3,31 +3,32 @@ use Rattle.std.proofs.Common.{◌≡◌, ℕ, List, [], ◌∷◌, ◌++◌, ref
 use Rattle.std.specs.Prelude.{option_to_list, filter}
 use Rattle.def_term.specs.Names.{Name}
 use Rattle.def_script.specs.Program.{Program}
-use Rattle.def_session.specs.State.{destroyed, Opening, Session, absent_session}
+use Rattle.def_session.specs.State.{destroyed, Session, absent_session}
+use Rattle.def_script.specs.Opening.{Opening, opening}
 use Rattle.def_session.specs.Session.{event_told}
 use Rattle.def_session.specs.Commands.{command_done}
 use Rattle.def_session.proofs.Destroyed.{event-silent, event-destroyed, command-destroyed}
-use Rattle.def_run.specs.Run.{Item, happened, commanded, opening, shown_from, place_after, start}
+use Rattle.def_run.specs.Run.{Shown, happened, commanded, shown_from, place_after, start}
 use Rattle.def_run.specs.View.{is_own, view}
-use Rattle.def_run.specs.Listing.{messages_from, state_after, messages, state_of}
+use Rattle.def_run.specs.Listing.{messages_from, session_after, messages, state_of}
 use Rattle.def_run.proofs.Appends.{own-append, shown-append, messages-append, state-append}
 
-pub nothing_more : (o : Opening) (s : Session) (items : List Item) → s.phase ≡ destroyed → messages_from o s items ≡ []
+pub nothing_more : (o : Opening) (s : Session) (items : List Shown) → s.phase ≡ destroyed → messages_from o s items ≡ []
 nothing_more o s [] h = refl
 nothing_more o s (happened e ∷ items) h =
     ap (λ m. option_to_list m ++ messages_from o (event_told s e).0 items) (event-silent s e h) ∙ nothing_more o (event_told s e).0 items (event-destroyed s e h)
 nothing_more o s (commanded c ∷ items) h = nothing_more o (command_done o s c).0 items (command-destroyed o s c h)
 
-pub still_destroyed : (o : Opening) (s : Session) (items : List Item) → s.phase ≡ destroyed → (state_after o s items).phase ≡ destroyed
+pub still_destroyed : (o : Opening) (s : Session) (items : List Shown) → s.phase ≡ destroyed → (session_after o s items).phase ≡ destroyed
 still_destroyed o s [] h = h
 still_destroyed o s (happened e ∷ items) h = still_destroyed o (event_told s e).0 items (event-destroyed s e h)
 still_destroyed o s (commanded c ∷ items) h = still_destroyed o (command_done o s c).0 items (command-destroyed o s c h)
 
 module _ (s : Name) (p : Program) (picks more : List ℕ) (h : (state_of (view s p picks)).phase ≡ destroyed) where
-  abbrev seen : List Item
+  abbrev seen : List Shown
   seen = shown_from p.functions (start p) picks
 
-  abbrev next : List Item
+  abbrev next : List Shown
   next = shown_from p.functions (place_after p.functions (start p) picks) more
 
   pub destroyed_listing : messages s p (picks ++ more) ≡ messages s p picks
@@ -36,13 +37,13 @@ module _ (s : Name) (p : Program) (picks more : List ℕ) (h : (state_of (view s
       ap (λ items. messages_from o (absent_session o) (filter (is_own s) items)) (shown-append p.functions (start p) picks more)
       ∙ ap (messages_from o (absent_session o)) (own-append s seen next)
       ∙ messages-append o (absent_session o) (filter (is_own s) seen) (filter (is_own s) next)
-      ∙ ap (messages_from o (absent_session o) (filter (is_own s) seen) ++◌) (nothing_more o (state_after o (absent_session o) (filter (is_own s) seen)) (filter (is_own s) next) h)
+      ∙ ap (messages_from o (absent_session o) (filter (is_own s) seen) ++◌) (nothing_more o (session_after o (absent_session o) (filter (is_own s) seen)) (filter (is_own s) next) h)
       ∙ append-nil (messages_from o (absent_session o) (filter (is_own s) seen))
 
   pub destroyed_stays : (state_of (view s p (picks ++ more))).phase ≡ destroyed
   destroyed_stays =
       let o : Opening = opening p in
-      ap (λ items. (state_after o (absent_session o) (filter (is_own s) items)).phase) (shown-append p.functions (start p) picks more)
-      ∙ ap (λ items. (state_after o (absent_session o) items).phase) (own-append s seen next)
+      ap (λ items. (session_after o (absent_session o) (filter (is_own s) items)).phase) (shown-append p.functions (start p) picks more)
+      ∙ ap (λ items. (session_after o (absent_session o) items).phase) (own-append s seen next)
       ∙ ap (λ t. t.phase) (state-append o (absent_session o) (filter (is_own s) seen) (filter (is_own s) next))
-      ∙ still_destroyed o (state_after o (absent_session o) (filter (is_own s) seen)) (filter (is_own s) next) h
+      ∙ still_destroyed o (session_after o (absent_session o) (filter (is_own s) seen)) (filter (is_own s) next) h

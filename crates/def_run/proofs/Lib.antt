@@ -17,6 +17,7 @@ pub mod CommandRows
 pub mod LimitRows
 pub mod Picks
 pub mod Rounds
+pub mod Nexts
 pub mod Outputs
 pub mod PickRows
 mod OutputRows

@@ -9,10 +9,11 @@ use Rattle.std.specs.Str.{bytes_eq}
 use Rattle.def_script.specs.Program.{Program}
 use Rattle.def_script.specs.Script.{Refusal, bad_picks, IsScript, IsRefused}
 use Rattle.def_script.proofs.OneScript.{one_program, not_both, refused_once, either_way}
-use Rattle.def_run.specs.Listing.{picks_text, program_output}
-use Rattle.def_run.specs.Picks.{SpellsPicks}
-use Rattle.def_run.specs.Output.{HasBadPicks, refusal_text, IsOutput, lists, refuses, refuses_picks}
-use Rattle.def_run.specs.Laws.{PicksAreOne, OutputIsOne}
+use Rattle.def_run.specs.Listing.{program_output}
+use Rattle.def_run.specs.Picks.{SpellsPicks, picks_text}
+use Rattle.def_run.specs.Round.{round}
+use Rattle.def_run.specs.Output.{HasBadPicks, refusal_text, IsOutput, lists, refuses, refuses_picks, IsRoundOutput, lists_round, refuses_round}
+use Rattle.def_run.specs.Laws.{PicksAreOne, OutputIsOne, RoundOutputIsOne}
 
 -- the numbers of a text with single spaces, behind so much of the first
 abbrev numbers_from : ℕ → List ℕ → List ℕ
@@ -128,3 +129,20 @@ output_by bytes text (inr bad) other = (refusal_text bad_picks, refuses_picks ba
 
 pub output_is_one : OutputIsOne
 output_is_one bytes text = output_by bytes text (picks_or_none text) (either_way bytes)
+
+-- ---- one output of a round
+
+only_round_listed : (bytes : List ℕ) (limit : ℕ) (p : Program) → IsScript bytes p → (other : List ℕ) → IsRoundOutput bytes limit other → other ≡ program_output p (round p limit)
+only_round_listed bytes limit p s other (lists_round q t e) = e ∙ ap (λ k. program_output k (round k limit)) (one_program bytes q p t s)
+only_round_listed bytes limit p s other (refuses_round r d e) = absurd (not_both bytes p r s d)
+
+only_round_refused : (bytes : List ℕ) (limit : ℕ) (r : Refusal) → IsRefused bytes r → (other : List ℕ) → IsRoundOutput bytes limit other → other ≡ refusal_text r
+only_round_refused bytes limit r d other (lists_round q t e) = absurd (not_both bytes q r t d)
+only_round_refused bytes limit r d other (refuses_round q c e) = e ∙ ap refusal_text (refused_once bytes q r c d)
+
+round_output_by : (bytes : List ℕ) (limit : ℕ) → ((p : Program) × IsScript bytes p) ⊎ ((r : Refusal) × IsRefused bytes r) → (output : List ℕ) × IsRoundOutput bytes limit output × ((other : List ℕ) → IsRoundOutput bytes limit other → other ≡ output)
+round_output_by bytes limit (inl s) = (program_output s.0 (round s.0 limit), lists_round s.0 s.1 refl, only_round_listed bytes limit s.0 s.1)
+round_output_by bytes limit (inr d) = (refusal_text d.0, refuses_round d.0 d.1 refl, only_round_refused bytes limit d.0 d.1)
+
+pub round_output_is_one : RoundOutputIsOne
+round_output_is_one bytes limit = round_output_by bytes limit (either_way bytes)

@@ -5,8 +5,7 @@ use Rattle.std.proofs.lemmas.Bool.{cond-true, cond-false, ne_eqb}
 use Rattle.std.proofs.lemmas.Bool.Decides.{nat_tests}
 use Rattle.std.proofs.lemmas.List.Elements.{All-head, All-tail}
 use Rattle.def_term.specs.Text.{is_digit}
-use Rattle.def_run.specs.Listing.{picks_text}
-use Rattle.def_run.specs.Picks.{SpellsPicks}
+use Rattle.def_run.specs.Picks.{SpellsPicks, picks_text}
 
 -- where a scan of such a text stands: before a number, behind a 0 that begins one, or within another
 data Where : Type 0 where

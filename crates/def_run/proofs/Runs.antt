@@ -2,8 +2,11 @@
 use Rattle.std.proofs.Common.{◌≤◌, ℕ, List, [], ◌∷◌, ◌++◌, length, Option, Some, None, ap, ◌∙◌, append-nil, arith}
 use Rattle.std.specs.Prelude.{codes, filter, option_to_list}
 use Rattle.def_script.specs.Program.{Program}
-use Rattle.def_run.specs.Run.{Item, opening, start, place_after, moves_from}
-use Rattle.def_run.specs.Listing.{messages_of, messages_from, state_after, replies_from, listing_text, listings_text, lines_of, picks_text, creations}
+use Rattle.def_run.specs.Run.{Shown, start, place_after, moves_from}
+use Rattle.def_script.specs.Opening.{opening}
+use Rattle.def_run.specs.Listing.{messages_of, messages_from, session_after, replies_from, listing_text, listings_text, lines_of}
+use Rattle.def_run.specs.Picks.{picks_text}
+use Rattle.def_script.specs.Script.{creations}
 use Rattle.def_term.specs.Tree.{Tree}
 use Rattle.def_session.specs.State.{absent_session}
 use Rattle.def_session.specs.Session.{event_told}
@@ -14,7 +17,7 @@ use Rattle.def_run.proofs.Replay.{turn_kept, idle-shown, idle-moves, events_agai
 use Rattle.def_run.proofs.Striking.{struck_view}
 
 -- the output of what was shown and what moved
-abbrev output_of : Program → List Item → List ℕ → List ℕ
+abbrev output_of : Program → List Shown → List ℕ → List ℕ
 output_of p items journal =
     listings_text (λ s. messages_from (opening p) (absent_session (opening p)) (filter (is_own s) items)) (creations p.commands)
     ++ codes "== replies\n" ++ lines_of (replies_from (opening p) [] items)
@@ -31,7 +34,7 @@ one_at_most (Some t) = omega arith
 
 pub event_adds : EventAddsOneAtMost
 event_adds o s items e =
-    let m : Option Tree = (event_told (state_after o s items) e).1 in
+    let m : Option Tree = (event_told (session_after o s items) e).1 in
     (option_to_list m, one_at_most m, messages-append o s items _ ∙ ap (messages_from o s items ++◌) (append-nil (option_to_list m)))
 
 pub command_adds : CommandAddsNone

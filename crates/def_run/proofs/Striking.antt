@@ -6,7 +6,8 @@ use Rattle.std.proofs.lemmas.Slice.Eq.{bytes_eq-Decides}
 use Rattle.def_term.specs.Names.{Name}
 use Rattle.def_script.specs.Program.{Function, Program, Command, session_of}
 use Rattle.def_node.specs.Node.{World, Move, moved, idle, next_of, opening_world}
-use Rattle.def_run.specs.Run.{happened, commanded, Place, goes_to, shown_from, moves_from, moves, opening}
+use Rattle.def_run.specs.Run.{happened, commanded, Place, goes_to, shown_from, moves_from, moves}
+use Rattle.def_script.specs.Opening.{opening}
 use Rattle.def_run.specs.View.{is_own, view, strike_commands, strike_program, strike_picks}
 use Rattle.def_run.proofs.Appends.{own-append}
 

@@ -1,19 +1,21 @@
 -- What is promised of runs, views and listings (own).
 -- Stands on all definitions of a run.
-use Rattle.std.specs.Prelude.{◌≡◌, ℕ, zero, suc, ◌+◌, min, ◌<◌, ◌≤◌, ◌==◌, Bool, true, false, List, [], ◌∷◌, ◌++◌, length, map, take, filter, slice_get, Some}
+use Rattle.std.specs.Prelude.{◌≡◌, ℕ, zero, suc, ◌+◌, ◌-◌, min, ◌<◌, ◌≤◌, ◌==◌, Bool, true, false, List, [], ◌∷◌, ◌++◌, length, map, take, filter, slice_get, Some}
 use Rattle.std.specs.Str.{bytes_eq}
 use Rattle.def_term.specs.Tree.{Tree}
 use Rattle.def_term.specs.Names.{Name}
 use Rattle.def_script.specs.Program.{Command, Program}
-use Rattle.def_session.specs.State.{destroyed, Opening, Session}
+use Rattle.def_session.specs.State.{destroyed, Session}
+use Rattle.def_script.specs.Opening.{Opening}
 use Rattle.def_node.specs.Event.{Event}
-use Rattle.def_node.specs.Node.{Move, moved, idle, next_of}
-use Rattle.def_run.specs.Run.{Item, Turn, happened, commanded, start, turn_of, place_after, events, moves}
+use Rattle.def_node.specs.Node.{Move, moved, idle, next_of, State, Next, gives_events, gives_command, gives_nothing, next}
+use Rattle.def_run.specs.Run.{JOURNAL, Shown, Place, Turn, happened, commanded, start, turn_of, place_after, events, moves}
 use Rattle.def_run.specs.Round.{pass, round}
 use Rattle.def_run.specs.View.{view, strike_program, strike_picks}
 use Rattle.def_run.specs.Picks.{SpellsPicks}
-use Rattle.def_run.specs.Output.{IsOutput}
-use Rattle.def_run.specs.Listing.{messages, messages_from, state_of, creations, Told, answer, for_session, listing_text, program_output}
+use Rattle.def_run.specs.Output.{IsOutput, IsRoundOutput}
+use Rattle.def_run.specs.Listing.{messages, messages_from, state_of, Item, answer, for_session, listing_text, program_output}
+use Rattle.def_script.specs.Script.{creations}
 
 -- ---- runs
 
@@ -53,7 +55,7 @@ JournalGivesTheOutput = (p : Program) (picks : List ℕ) → program_output p (m
 
 -- at most 65,536 picks move
 abbrev pub JournalIsBounded : Type 0
-JournalIsBounded = (p : Program) (picks : List ℕ) → length (moves p picks) ≤ 65536
+JournalIsBounded = (p : Program) (picks : List ℕ) → length (moves p picks) ≤ JOURNAL
 
 -- more picks add to what is shown and to the journal, and change nothing in them
 abbrev pub RunsGrow : Type 0
@@ -64,12 +66,12 @@ RunsGrow = (p : Program) (picks more : List ℕ) → (rest : List ℕ) × (moves
 -- an event adds at most one message to those of a session
 abbrev pub EventAddsOneAtMost : Type 0
 EventAddsOneAtMost =
-    (o : Opening) (s : Session) (items : List Item) (e : Event) →
+    (o : Opening) (s : Session) (items : List Shown) (e : Event) →
     (ms : List Tree) × (length ms ≤ 1) × (messages_from o s (items ++ happened e ∷ []) ≡ messages_from o s items ++ ms)
 
 -- and a command none
 abbrev pub CommandAddsNone : Type 0
-CommandAddsNone = (o : Opening) (s : Session) (items : List Item) (c : Command) → messages_from o s (items ++ commanded c ∷ []) ≡ messages_from o s items
+CommandAddsNone = (o : Opening) (s : Session) (items : List Shown) (c : Command) → messages_from o s (items ++ commanded c ∷ []) ≡ messages_from o s items
 
 -- ---- isolation
 
@@ -82,13 +84,13 @@ ListingGoesByTheView =
 -- without the commands of another session r, and the picks that took them, the view is the same, where the run did not meet the limit
 abbrev pub StrikingLeavesTheView : Type 0
 StrikingLeavesTheView =
-    (s r : Name) (p : Program) (picks : List ℕ) → bytes_eq r s ≡ false → length (moves p picks) < 65536 →
+    (s r : Name) (p : Program) (picks : List ℕ) → bytes_eq r s ≡ false → length (moves p picks) < JOURNAL →
     view s (strike_program r p) (strike_picks r picks p.commands) ≡ view s p picks
 
 -- and so the listing
 abbrev pub SessionsAreIsolated : Type 0
 SessionsAreIsolated =
-    (s r : Name) (p : Program) (picks : List ℕ) → bytes_eq r s ≡ false → length (moves p picks) < 65536 →
+    (s r : Name) (p : Program) (picks : List ℕ) → bytes_eq r s ≡ false → length (moves p picks) < JOURNAL →
     messages s (strike_program r p) (strike_picks r picks p.commands) ≡ messages s p picks
 
 -- ---- destruction
@@ -112,16 +114,16 @@ abbrev pub IsCreation : Program → ℕ → Name → Name → Type 0
 IsCreation p n s tracer = slice_get (creations p.commands) n ≡ Some (s, tracer)
 
 -- told to the session of this number
-abbrev pub is_for : ℕ → Told → Bool
+abbrev pub is_for : ℕ → Item → Bool
 is_for n x = x.session == n
 
 -- these messages of the session of a number, numbered from i
-abbrev pub numbered : ℕ → ℕ → List Tree → List Told
+abbrev pub numbered : ℕ → ℕ → List Tree → List Item
 numbered n i [] = []
 numbered n i (m ∷ ms) = record { session = n; index = i; message = m } ∷ numbered n (suc i) ms
 
 -- the answers of the first k moves
-abbrev pub answers : Program → List ℕ → ℕ → List Told
+abbrev pub answers : Program → List ℕ → ℕ → List Item
 answers p picks zero = []
 answers p picks (suc k) = answers p picks k ++ answer p picks k
 
@@ -158,18 +160,34 @@ Takes (c ∷ cs) t = (t.moved ≡ true) × (t.shown ≡ commanded c ∷ []) × (
 -- while fewer than 65,536 picks have moved, a pick of a process moves exactly where the process does, and shows the events of its step
 abbrev pub PickIsItsStep : Type 0
 PickIsItsStep =
-    (p : Program) (picks : List ℕ) (n : ℕ) → length (moves p picks) < 65536 →
+    (p : Program) (picks : List ℕ) (n : ℕ) → length (moves p picks) < JOURNAL →
     IsStep (next_of p.functions (place_after p.functions (start p) picks).world (suc n)) (turn_of p.functions (place_after p.functions (start p) picks) (suc n))
 
 -- and a pick 0 takes the next command
 abbrev pub PickTakesACommand : Type 0
 PickTakesACommand =
-    (p : Program) (picks : List ℕ) → length (moves p picks) < 65536 →
+    (p : Program) (picks : List ℕ) → length (moves p picks) < JOURNAL →
     Takes (place_after p.functions (start p) picks).commands (turn_of p.functions (place_after p.functions (start p) picks) 0)
 
 -- with 65,536 moves every pick is passed over
 abbrev pub FullJournalStays : Type 0
-FullJournalStays = (p : Program) (picks : List ℕ) (pick : ℕ) → length (moves p picks) ≡ 65536 → IsIdleAfter p picks pick
+FullJournalStays = (p : Program) (picks : List ℕ) (pick : ℕ) → length (moves p picks) ≡ JOURNAL → IsIdleAfter p picks pick
+
+-- the node's state at a place of the run
+abbrev pub state_at : Program → Place → State
+state_at p q = record { world = q.world; taken = length p.commands - length q.commands }
+
+-- what the node gives for a pick is what its turn shows, and both lead to the same place
+abbrev pub IsNext : Program → Next → Turn → Type 0
+IsNext p (gives_events s es) t = (t.moved ≡ true) × (s ≡ state_at p t.after) × (t.shown ≡ map happened es)
+IsNext p (gives_command s n) t = (t.moved ≡ true) × (s ≡ state_at p t.after) × ((k : ℕ) × (c : Command) × (n ≡ suc k) × (slice_get p.commands k ≡ Some c) × (t.shown ≡ commanded c ∷ []))
+IsNext p (gives_nothing s) t = (t.moved ≡ false) × (s ≡ state_at p t.after)
+
+-- while fewer than 65,536 picks have moved, a pick of the run is what the node gives for it
+abbrev pub PickIsNext : Type 0
+PickIsNext =
+    (p : Program) (picks : List ℕ) (pick : ℕ) → length (moves p picks) < JOURNAL →
+    IsNext p (next p (state_at p (place_after p.functions (start p) picks)) pick) (turn_of p.functions (place_after p.functions (start p) picks) pick)
 
 -- ---- rounds
 
@@ -184,15 +202,15 @@ RoundMoves = (p : Program) (limit : ℕ) → moves p (round p limit) ≡ round p
 
 -- it has at most the limit's picks
 abbrev pub RoundIsShort : Type 0
-RoundIsShort = (p : Program) (limit : ℕ) → length (round p limit) ≤ min limit 65536
+RoundIsShort = (p : Program) (limit : ℕ) → length (round p limit) ≤ min limit JOURNAL
 
 -- they are the first that move of the picks 0, 100, 101, .., 163 again and again
 abbrev pub RoundIsInOrder : Type 0
-RoundIsInOrder = (p : Program) (limit : ℕ) → round p limit ≡ take (min limit 65536) (moves p (repeated pass (min limit 65536 + 1)))
+RoundIsInOrder = (p : Program) (limit : ℕ) → round p limit ≡ take (min limit JOURNAL) (moves p (repeated pass (min limit JOURNAL + 1)))
 
 -- and where it has fewer, one more pass moves nothing
 abbrev pub RoundRests : Type 0
-RoundRests = (p : Program) (limit : ℕ) → length (round p limit) < min limit 65536 → moves p (round p limit ++ pass) ≡ round p limit
+RoundRests = (p : Program) (limit : ℕ) → length (round p limit) < min limit JOURNAL → moves p (round p limit ++ pass) ≡ round p limit
 
 -- ---- outputs
 
@@ -203,3 +221,7 @@ PicksAreOne = (text ps qs : List ℕ) → SpellsPicks text ps → SpellsPicks te
 -- of any bytes and any text of picks there is exactly one output
 abbrev pub OutputIsOne : Type 0
 OutputIsOne = (bytes text : List ℕ) → (output : List ℕ) × IsOutput bytes text output × ((other : List ℕ) → IsOutput bytes text other → other ≡ output)
+
+-- and of any bytes and any limit of a round
+abbrev pub RoundOutputIsOne : Type 0
+RoundOutputIsOne = (bytes : List ℕ) (limit : ℕ) → (output : List ℕ) × IsRoundOutput bytes limit output × ((other : List ℕ) → IsRoundOutput bytes limit other → other ≡ output)

@@ -1,7 +1,7 @@
 pub mod Run
 pub mod View
-pub mod Listing
 pub mod Picks
+pub mod Listing
 pub mod Round
 pub mod Output
 pub mod Laws

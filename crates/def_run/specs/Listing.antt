@@ -1,31 +1,33 @@
 -- A session's messages as a function of what it sees, the replies, what each move adds, and the text of an output (own).
--- Stands on runs and views, on what one session makes of an event and of a command, and on the written text of terms (`~w` of `io_lib`).
-use Rattle.std.specs.Prelude.{ℕ, suc, ◌==◌, List, [], ◌∷◌, ◌++◌, Option, Some, None, option_to_list, filter, map, length, take, slice_get, flat_map, codes, decimal}
-use Rattle.std.specs.List.{join_with_byte}
+-- Stands on runs and views, on what one session makes of an event and of a command, on the text of picks, and on the written text of terms (`~w` of `io_lib`).
+use Rattle.std.specs.Prelude.{ℕ, suc, ◌==◌, List, [], ◌∷◌, ◌++◌, Option, Some, None, option_to_list, filter, map, length, take, slice_get, flat_map, codes}
 use Rattle.def_term.specs.Tree.{Tree}
 use Rattle.def_term.specs.Names.{Name}
 use Rattle.def_term.specs.Text.{w, atom_text}
-use Rattle.def_script.specs.Program.{Command, create, session_of, Program}
+use Rattle.def_script.specs.Program.{session_of, Program}
+use Rattle.def_script.specs.Opening.{Opening, opening}
+use Rattle.def_script.specs.Script.{creations}
 use Rattle.def_node.specs.Event.{Event}
-use Rattle.def_session.specs.State.{Opening, Session, absent_session}
+use Rattle.def_session.specs.State.{Session, absent_session}
 use Rattle.def_session.specs.Session.{event_told}
 use Rattle.def_session.specs.Commands.{command_done}
-use Rattle.def_run.specs.Run.{Item, happened, commanded, opening, events, moves, turn_of, place_after, start}
+use Rattle.def_run.specs.Run.{Shown, happened, commanded, events, moves, turn_of, place_after, start}
 use Rattle.def_run.specs.View.{is_own, View, view}
+use Rattle.def_run.specs.Picks.{picks_text}
 
 -- ---- one session
 
 -- the messages of a session, from its state, by what it sees
-abbrev pub messages_from : Opening → Session → List Item → List Tree
+abbrev pub messages_from : Opening → Session → List Shown → List Tree
 messages_from o s [] = []
 messages_from o s (happened e ∷ items) = option_to_list (event_told s e).1 ++ messages_from o (event_told s e).0 items
 messages_from o s (commanded c ∷ items) = messages_from o (command_done o s c).0 items
 
 -- its state afterwards
-abbrev pub state_after : Opening → Session → List Item → Session
-state_after o s [] = s
-state_after o s (happened e ∷ items) = state_after o (event_told s e).0 items
-state_after o s (commanded c ∷ items) = state_after o (command_done o s c).0 items
+abbrev pub session_after : Opening → Session → List Shown → Session
+session_after o s [] = s
+session_after o s (happened e ∷ items) = session_after o (event_told s e).0 items
+session_after o s (commanded c ∷ items) = session_after o (command_done o s c).0 items
 
 -- the messages of a session as a function of its view alone
 abbrev pub messages_of : View → List Tree
@@ -33,7 +35,7 @@ messages_of v = messages_from v.opening (absent_session v.opening) v.items
 
 -- its state as a function of its view alone
 abbrev pub state_of : View → Session
-state_of v = state_after v.opening (absent_session v.opening) v.items
+state_of v = session_after v.opening (absent_session v.opening) v.items
 
 -- the messages of the session s
 abbrev pub messages : Name → Program → List ℕ → List Tree
@@ -42,11 +44,11 @@ messages s p picks = messages_of (view s p picks)
 -- ---- replies
 
 -- the reply of each command, by its own session's fold over what came before it
-abbrev pub replies_from : Opening → List Item → List Item → List Tree
+abbrev pub replies_from : Opening → List Shown → List Shown → List Tree
 replies_from o past [] = []
 replies_from o past (happened e ∷ items) = replies_from o (past ++ happened e ∷ []) items
 replies_from o past (commanded c ∷ items) =
-    (command_done o (state_after o (absent_session o) (filter (is_own (session_of c)) past)) c).1
+    (command_done o (session_after o (absent_session o) (filter (is_own (session_of c)) past)) c).1
     ∷ replies_from o (past ++ commanded c ∷ []) items
 
 -- in the order of the commands
@@ -56,48 +58,42 @@ replies p picks = replies_from (opening p) [] (events p picks)
 -- ---- what each move adds
 
 -- a message of the session of this number, at this index in its listing
-pub record Told : Type 0 where
+pub record Item : Type 0 where
   pub session : ℕ
   pub index : ℕ
   pub message : Tree
 
--- the sessions of the control list with their tracers, by rising number
-abbrev pub creations : List Command → List (Name × Name)
-creations [] = []
-creations (create s t ∷ cs) = (s, t) ∷ creations cs
-creations (_ ∷ cs) = creations cs
-
 -- what an event adds to the session s of number n, after what was shown before
-abbrev pub told : Opening → ℕ → Name → List Item → Event → List Told
+abbrev pub told : Opening → ℕ → Name → List Shown → Event → List Item
 told o n s past e =
-    let own : List Item = filter (is_own s) past in
-    map (λ m. record { session = n; index = length (messages_from o (absent_session o) own); message = m }) (option_to_list (event_told (state_after o (absent_session o) own) e).1)
+    let own : List Shown = filter (is_own s) past in
+    map (λ m. record { session = n; index = length (messages_from o (absent_session o) own); message = m }) (option_to_list (event_told (session_after o (absent_session o) own) e).1)
 
 -- to each of these sessions, which are numbered from n
-abbrev pub told_by_all : Opening → ℕ → List (Name × Name) → List Item → Event → List Told
+abbrev pub told_by_all : Opening → ℕ → List (Name × Name) → List Shown → Event → List Item
 told_by_all o n [] past e = []
 told_by_all o n (s ∷ ss) past e = told o n s.0 past e ++ told_by_all o (suc n) ss past e
 
 -- by order of the events
-abbrev pub answers_from : Opening → List (Name × Name) → List Item → List Item → List Told
+abbrev pub answers_from : Opening → List (Name × Name) → List Shown → List Shown → List Item
 answers_from o ss past [] = []
 answers_from o ss past (happened e ∷ items) = told_by_all o 1 ss past e ++ answers_from o ss (past ++ happened e ∷ []) items
 answers_from o ss past (commanded c ∷ items) = answers_from o ss (past ++ commanded c ∷ []) items
 
 -- what a pick shows after these
-abbrev pub shown_by : Program → List ℕ → Option ℕ → List Item
+abbrev pub shown_by : Program → List ℕ → Option ℕ → List Shown
 shown_by p before None = []
 shown_by p before (Some pick) = (turn_of p.functions (place_after p.functions (start p) before) pick).shown
 
 -- the messages that the move k adds, by order of its events, and for one event by rising session number
-abbrev pub answer : Program → List ℕ → ℕ → List Told
+abbrev pub answer : Program → List ℕ → ℕ → List Item
 answer p picks k =
     let journal : List ℕ = moves p picks in
     let before : List ℕ = take k journal in
     answers_from (opening p) (creations p.commands) (events p before) (shown_by p before (slice_get journal k))
 
 -- what is told to the session of this number
-abbrev pub for_session : ℕ → List Told → List Tree
+abbrev pub for_session : ℕ → List Item → List Tree
 for_session n xs = map (λ x. x.message) (filter (λ x. x.session == n) xs)
 
 -- ---- text
@@ -122,10 +118,6 @@ listing_text name tracer ms = header_line name tracer ++ lines_of ms
 abbrev pub listings_text : (Name → List Tree) → List (Name × Name) → List ℕ
 listings_text ms [] = []
 listings_text ms (s ∷ ss) = listing_text s.0 s.1 (ms s.0) ++ listings_text ms ss
-
--- the picks, separated by single spaces
-abbrev pub picks_text : List ℕ → List ℕ
-picks_text picks = join_with_byte 32 (map decimal picks)
 
 -- the output of an accepted script: each session's listing, the replies, and the journal
 abbrev pub program_output : Program → List ℕ → List ℕ

@@ -1,15 +1,14 @@
 -- A run of a program by a list of picks: what moved, and what it shows in order (own).
 -- Stands on the node. It knows nothing of what sessions do with it.
-use Rattle.std.specs.Prelude.{ℕ, zero, suc, Bool, true, false, if◌then◌else◌, List, [], ◌∷◌, ◌++◌, map, length}
-use Rattle.def_script.specs.Program.{Function, mfa_of, Command, Program}
+use Rattle.std.specs.Prelude.{ℕ, zero, suc, Bool, true, false, if◌then◌else◌, List, [], ◌∷◌, ◌++◌, map}
+use Rattle.def_script.specs.Program.{Function, Command, Program}
 use Rattle.def_node.specs.Event.{Event}
 use Rattle.def_node.specs.Node.{World, Move, moved, idle, next_of, opening_world}
-use Rattle.def_session.specs.State.{Opening}
 
 -- what a run shows: an event, or a command in its place
-pub data Item : Type 0 where
-  happened : Event → Item
-  commanded : Command → Item
+pub data Shown : Type 0 where
+  happened : Event → Shown
+  commanded : Command → Shown
 
 -- where a run stands: the processes, the commands that are not yet taken, and how many moves the journal has room for
 pub record Place : Type 0 where
@@ -20,7 +19,7 @@ pub record Place : Type 0 where
 -- what one pick does: whether it moved, what it shows, and the place afterwards
 pub record Turn : Type 0 where
   pub moved : Bool
-  pub shown : List Item
+  pub shown : List Shown
   pub after : Place
 
 -- an idle pick changes nothing, and shows nothing
@@ -52,7 +51,7 @@ abbrev pub turn_of : List Function → Place → ℕ → Turn
 turn_of ks p pick = turn_with ks p p.room pick
 
 -- what the picks show, each from where the ones before it lead
-abbrev pub shown_from : List Function → Place → List ℕ → List Item
+abbrev pub shown_from : List Function → Place → List ℕ → List Shown
 shown_from ks p [] = []
 shown_from ks p (pick ∷ picks) = let t : Turn = turn_of ks p pick in t.shown ++ shown_from ks t.after picks
 
@@ -66,18 +65,18 @@ abbrev pub place_after : List Function → Place → List ℕ → Place
 place_after ks p [] = p
 place_after ks p (pick ∷ picks) = let t : Turn = turn_of ks p pick in place_after ks t.after picks
 
--- at most 65,536 picks move
+-- the most picks that move
+abbrev pub JOURNAL : ℕ
+JOURNAL = 65536
+
+-- nothing has moved yet
 abbrev pub start : Program → Place
-start p = record { world = opening_world p.entries; commands = p.commands; room = 65536 }
+start p = record { world = opening_world p.entries; commands = p.commands; room = JOURNAL }
 
 -- the events of the moves in order, with each command taken in its place
-abbrev pub events : Program → List ℕ → List Item
+abbrev pub events : Program → List ℕ → List Shown
 events p picks = shown_from p.functions (start p) picks
 
 -- the picks that moved
 abbrev pub moves : Program → List ℕ → List ℕ
 moves p picks = moves_from p.functions (start p) picks
-
--- the functions with their visibility, and the number of initial processes
-abbrev pub opening : Program → Opening
-opening p = record { functions = map (λ k. (mfa_of k, k.exported)) p.functions; processes = length p.entries }

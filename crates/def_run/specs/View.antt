@@ -4,18 +4,18 @@ use Rattle.std.specs.Prelude.{ℕ, zero, suc, Bool, true, not, if◌then◌else�
 use Rattle.std.specs.Str.{bytes_eq}
 use Rattle.def_term.specs.Names.{Name}
 use Rattle.def_script.specs.Program.{Command, session_of, Program}
-use Rattle.def_session.specs.State.{Opening}
-use Rattle.def_run.specs.Run.{Item, happened, commanded, opening, events}
+use Rattle.def_script.specs.Opening.{Opening, opening}
+use Rattle.def_run.specs.Run.{Shown, happened, commanded, events}
 
 -- an event, or a command to this session
-abbrev pub is_own : Name → Item → Bool
+abbrev pub is_own : Name → Shown → Bool
 is_own s (happened e) = true
 is_own s (commanded c) = bytes_eq s (session_of c)
 
 -- what a session sees: the opening, and events with its own commands in their places
 pub record View : Type 0 where
   pub opening : Opening
-  pub items : List Item
+  pub items : List Shown
 
 -- the opening, and the events without the commands of other sessions
 abbrev pub view : Name → Program → List ℕ → View

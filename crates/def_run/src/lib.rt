@@ -9,7 +9,7 @@
 //! any text of picks there is exactly one output.
 #![tactic(auto)]
 
-ghost use Rattle.def_run.specs.Laws.{IdleLeavesThePlace, IdleShowsNothing, IdleIsNotJournaled, IdleChangesNoOutput, JournalShowsTheSame, JournalMovesAgain, JournalGivesTheOutput, JournalIsBounded, RunsGrow, EventAddsOneAtMost, CommandAddsNone, ListingGoesByTheView, StrikingLeavesTheView, SessionsAreIsolated, DestroyedListingStays, DestroyedStays, MoveAddsItsAnswer, AnswerIsNumbered, AnswersAreListings, PickIsItsStep, PickTakesACommand, FullJournalStays, RoundMoves, RoundIsShort, RoundIsInOrder, RoundRests, PicksAreOne, OutputIsOne};
+ghost use Rattle.def_run.specs.Laws.{IdleLeavesThePlace, IdleShowsNothing, IdleIsNotJournaled, IdleChangesNoOutput, JournalShowsTheSame, JournalMovesAgain, JournalGivesTheOutput, JournalIsBounded, RunsGrow, EventAddsOneAtMost, CommandAddsNone, ListingGoesByTheView, StrikingLeavesTheView, SessionsAreIsolated, DestroyedListingStays, DestroyedStays, MoveAddsItsAnswer, AnswerIsNumbered, AnswersAreListings, PickIsItsStep, PickTakesACommand, FullJournalStays, PickIsNext, RoundMoves, RoundIsShort, RoundIsInOrder, RoundRests, PicksAreOne, OutputIsOne, RoundOutputIsOne};
 
 /// A pick that moves nothing changes nothing. Put anywhere among the picks it leaves no trace in what is
 /// shown, in the journal or in the output.
@@ -59,11 +59,13 @@ pub fn answers_are_listings()
 {}
 
 /// While fewer than 65,536 picks have moved, a pick of a process moves exactly where the process does, and
-/// shows the events of its step; a pick 0 takes the next command. After that every pick is passed over.
+/// shows the events of its step; a pick 0 takes the next command: it is what the node gives for the pick.
+/// After that every pick is passed over.
 pub fn a_pick_is_a_step()
     ensures step { PickIsItsStep }
     ensures command { PickTakesACommand }
     ensures full { FullJournalStays }
+    ensures node { PickIsNext }
 {}
 
 /// A round is the first of the picks 0, 100, 101, .., 163 again and again that move, at most the limit's
@@ -75,9 +77,10 @@ pub fn a_round_goes_on_until_nothing_moves()
     ensures rests { RoundRests }
 {}
 
-/// A text spells one list of picks or none, and of any bytes and any text of picks there is exactly one
-/// output: an accepted script's, or the line of a refusal.
+/// A text spells one list of picks or none, and of any bytes and any text of picks, or any limit of a round,
+/// there is exactly one output: an accepted script's, or the line of a refusal.
 pub fn every_run_has_one_output()
     ensures picks { PicksAreOne }
     ensures output { OutputIsOne }
+    ensures round { RoundOutputIsOne }
 {}

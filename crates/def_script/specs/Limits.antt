@@ -10,7 +10,7 @@ FORMS = 256
 abbrev pub PARAMETERS : ℕ
 PARAMETERS = 255
 
--- functions of a script, and steps of one of them
+-- functions of a script
 abbrev pub FUNCTIONS : ℕ
 FUNCTIONS = 64
 
@@ -19,10 +19,10 @@ abbrev pub STEPS : ℕ
 STEPS = 64
 
 -- initial processes
-abbrev pub PROCESSES : ℕ
-PROCESSES = 16
+abbrev pub INITIAL_PROCESSES : ℕ
+INITIAL_PROCESSES = 16
 
--- commands of the control list, and sessions that they create
+-- commands of the control list
 abbrev pub COMMANDS : ℕ
 COMMANDS = 256
 

@@ -6,7 +6,7 @@ use Rattle.std.specs.Str.{bytes_eq}
 use Rattle.def_term.specs.Tree.{Tree, int, atom, pid, tuple, list, Trees, none, more}
 use Rattle.def_term.specs.Names.{Name, Mfa, same_mfa}
 use Rattle.def_term.specs.Text.{is_among}
-use Rattle.def_script.specs.Limits.{FUNCTIONS, STEPS, PROCESSES, COMMANDS, SESSIONS}
+use Rattle.def_script.specs.Limits.{FUNCTIONS, STEPS, INITIAL_PROCESSES, COMMANDS, SESSIONS}
 use Rattle.def_script.specs.Program.{is_variable, Step, send, receive, call_remote, call_local, spawn, link, unlink, give_back, exit, Function, mfa_of, Entry, entry_mfa, Command, create, session_of, Form, declares, starts, controls}
 use Rattle.def_script.specs.Shapes.{self_name}
 
@@ -88,7 +88,7 @@ is_declared fs f = list_any (declares_one (λ k. same_mfa (mfa_of k) f)) fs
 abbrev pub is_declared_at_all : List Form → Mfa → Bool
 is_declared_at_all fs f = list_any (declares_one (λ k. bytes_eq k.module_name f.module_name && bytes_eq k.function_name f.function_name)) fs
 
--- declared so, and not exported
+-- some form declares it so as internal
 abbrev pub is_internal : List Form → Mfa → Bool
 is_internal fs f = list_any (declares_one (λ k. same_mfa (mfa_of k) f && not k.exported)) fs
 
@@ -155,7 +155,7 @@ any_has_other bound ts = list_any (has_other_variable bound) ts
 
 -- ---- sessions
 
--- it creates the session of this name, or one with this tracer
+-- it creates a session of this name
 abbrev pub creates_session : Name → Command → Bool
 creates_session n (create s t) = bytes_eq s n
 creates_session n c = false
@@ -175,29 +175,29 @@ is_tracer cs n = list_any (gives_tracer n) cs
 
 -- ---- the rules. `earlier` are the forms before the form, `fs` all forms of the script
 
--- 7: declares a function whose M, F and number of parameters an earlier form declares; or creates a session whose name an earlier command creates
+-- creates a session whose name an earlier command creates
 abbrev pub creates_again : List Command → Command → Bool
 creates_again earlier (create s t) = is_created earlier s
 creates_again earlier c = false
 
--- of the whole form
+-- 7: declares a function whose M, F and number of parameters an earlier form declares; or creates a session whose name an earlier command creates
 abbrev pub breaks_duplicate : List Form → Form → Bool
 breaks_duplicate earlier (declares k) = is_declared earlier (mfa_of k)
 breaks_duplicate earlier (starts e) = false
 breaks_duplicate earlier (controls cs) = any_with_earlier creates_again (commands_of earlier) cs
 
--- 8: names (in a call, spawn or process) M and F that no form of the script declares with any number of parameters; or has a command other than a creation on a session that no earlier command creates
+-- is a command other than a creation on a session that no earlier command creates
 abbrev pub commands_unmade : List Command → Command → Bool
 commands_unmade earlier (create s t) = false
 commands_unmade earlier c = not (is_created earlier (session_of c))
 
--- of the whole form
+-- 8: names (in a call, spawn or process) M and F that no form of the script declares with any number of parameters; or has a command other than a creation on a session that no earlier command creates
 abbrev pub breaks_undeclared : List Form → List Form → Form → Bool
 breaks_undeclared fs earlier (declares k) = list_any (λ s. passes (λ f. not (is_declared_at_all fs f)) (named_by k.module_name s)) k.steps
 breaks_undeclared fs earlier (starts e) = not (is_declared_at_all fs (entry_mfa e))
 breaks_undeclared fs earlier (controls cs) = any_with_earlier commands_unmade (commands_of earlier) cs
 
--- 9: spawns, starts or calls with the module an internal function
+-- 9: spawns, starts or calls with the module an internal function: one that some form declares as internal, whatever other forms declare it as
 abbrev pub breaks_not_exported : List Form → Form → Bool
 breaks_not_exported fs (declares k) = list_any (λ s. passes (is_internal fs) (named_with_module s)) k.steps
 breaks_not_exported fs (starts e) = is_internal fs (entry_mfa e)
@@ -209,27 +209,27 @@ breaks_unbound (declares k) = any_with_earlier (λ before s. any_has_other (boun
 breaks_unbound (starts e) = any_has_other [] e.args
 breaks_unbound (controls cs) = false
 
--- 11: creates a session with a tracer that an earlier creation has
+-- creates a session with a tracer that an earlier creation has
 abbrev pub takes_tracer : List Command → Command → Bool
 takes_tracer earlier (create s t) = is_tracer earlier t
 takes_tracer earlier c = false
 
--- of the whole form
+-- 11: creates a session with a tracer that an earlier creation has
 abbrev pub breaks_tracer_taken : List Form → Form → Bool
 breaks_tracer_taken earlier (controls cs) = any_with_earlier takes_tracer (commands_of earlier) cs
 breaks_tracer_taken earlier f = false
 
--- 12: names M and F that are declared, but not with that number of arguments
+-- is declared, but not with that number of parameters
 abbrev pub is_misnamed : List Form → Mfa → Bool
 is_misnamed fs f = is_declared_at_all fs f && not (is_declared fs f)
 
--- of the whole form
+-- 12: names M and F that are declared, but not with that number of arguments
 abbrev pub breaks_arity : List Form → Form → Bool
 breaks_arity fs (declares k) = list_any (λ s. passes (is_misnamed fs) (named_by k.module_name s)) k.steps
 breaks_arity fs (starts e) = is_misnamed fs (entry_mfa e)
 breaks_arity fs (controls cs) = false
 
--- 13: is function form 65 or later, has more than 64 steps, is process form 17 or later, or holds command 257 or creation 33 of the control list or a later one
+-- a function form
 abbrev pub is_function : Form → Bool
 is_function f = declares_one (λ k. true) f
 
@@ -250,7 +250,7 @@ holds_past limit earlier held = nat_lt 0 held && nat_lt limit (earlier + held)
 -- of the whole form
 abbrev pub breaks_limit : List Form → Form → Bool
 breaks_limit earlier (declares k) = nat_le FUNCTIONS (count_by is_function earlier) || nat_lt STEPS (length k.steps)
-breaks_limit earlier (starts e) = nat_le PROCESSES (count_by is_process earlier)
+breaks_limit earlier (starts e) = nat_le INITIAL_PROCESSES (count_by is_process earlier)
 breaks_limit earlier (controls cs) = holds_past COMMANDS (length (commands_of earlier)) (length cs) || holds_past SESSIONS (count_by is_creation (commands_of earlier)) (count_by is_creation cs)
 
 -- the form breaks the rule

@@ -10,7 +10,7 @@ use Rattle.def_term.specs.Text.{is_among}
 use Rattle.def_script.specs.Limits.{PARAMETERS}
 use Rattle.def_script.specs.Program.{is_variable, Step, send, receive, call_remote, call_local, spawn, link, unlink, give_back, exit, Function, Entry, Command, create, destroy, set_processes, set_function, set_send, set_receive, Form, declares, starts, controls}
 
--- what is made of two, three or four parts, where each is there
+-- what is made of two parts, where both are there
 abbrev pub both : {X Y Z : Type 0} → (X → Y → Z) → Option X → Option Y → Option Z
 both f None y = None
 both f (Some x) None = None
@@ -76,7 +76,7 @@ abbrev pub target_in : Tree → Option (Option Name)
 target_in (atom s) = target_of s
 target_in t = None
 
--- the elements of a list, and those of a tuple
+-- the elements of a list
 abbrev pub list_in : Tree → Option (List Tree)
 list_in (list ts) = Some (elements ts)
 list_in t = None

@@ -2,7 +2,8 @@
 use Rattle.std.proofs.Common.{◌≡◌, refl, ap, ◌∙◌, None}
 use Rattle.def_script.specs.Program.{Command, destroy}
 use Rattle.def_node.specs.Event.{Event}
-use Rattle.def_session.specs.State.{destroyed, Session, Opening}
+use Rattle.def_session.specs.State.{destroyed, Session}
+use Rattle.def_script.specs.Opening.{Opening}
 use Rattle.def_session.specs.Session.{told_in, event_told}
 use Rattle.def_session.specs.Commands.{done_destroyed, done_in, command_done}
 use Rattle.def_session.specs.Laws.{DestructionTakesAll, EventAfterDestruction, CommandAfterDestruction, DestroyedAgain}

@@ -9,7 +9,8 @@ use Rattle.def_spec.specs.Flags.{Flags}
 use Rattle.def_spec.specs.Expressions.{Effect, gives_message, traces_return, traces_exception, silences, changes, for_calls, for_sends, for_receives}
 use Rattle.def_spec.specs.Reading.{SpecFault, badarg, unsupported, Reads}
 use Rattle.def_session.specs.Settings.{Covered, Setting, setting_of, covered_of, options_of}
-use Rattle.def_session.specs.State.{Phase, absent, live, destroyed, Session, Opening}
+use Rattle.def_session.specs.State.{Phase, absent, live, destroyed, Session}
+use Rattle.def_script.specs.Opening.{Opening}
 use Rattle.def_session.specs.Session.{inherited, evaluated, affected, all_affected, marks_frame, finished, told_for, told_in}
 use Rattle.def_session.specs.Messages.{process_of}
 use Rattle.def_session.specs.Commands.{number, refused, fault_term, Procs, one_process, existing, new_processes, all_processes, procs_of, how_of, flags_of, flags_set, flags_set_if, function_set, function_set_if, send_set, receive_set, done_live, done_absent, done_destroyed, done_in}

@@ -1,15 +1,16 @@
 -- A message is told by a live session, of a process with the flag that is needed, and is its event's.
-use Rattle.std.proofs.Common.{◌≡◌, ℕ, List, [], ◌∷◌, ◌++◌, Bool, true, false, if◌then◌else◌, refl, sym, ap, ◌∙◌, Option, Some, None, unwrap_or}
+use Rattle.std.proofs.Common.{◌≡◌, ℕ, List, [], ◌∷◌, ◌++◌, Bool, true, false, if◌then◌else◌, refl, sym, ap, ◌∙◌, Option, Some, None, unwrap_or, inl, inr}
 use Rattle.def_term.specs.Tree.{Tree, tuple, of_elements}
 use Rattle.def_term.specs.Order.{same}
 use Rattle.def_term.specs.Names.{word}
+use Rattle.def_term.proofs.Same.{same-is}
 use Rattle.def_node.specs.Event.{Event, sent, received, called, returned, spawning, spawned, exited, linked, unlinked, getting_linked, getting_unlinked}
 use Rattle.def_spec.specs.Flags.{Flag, arity_flag}
 use Rattle.def_spec.specs.Expressions.{Effect}
 use Rattle.def_session.specs.State.{Phase, absent, live, destroyed, Session, flags_at}
 use Rattle.def_session.specs.Messages.{elements_of, process_of, last_message, decided, followed_by}
 use Rattle.def_session.specs.Session.{inherited, where_set, evaluated, is_silenced, message_after, is_marked, all_affected, told_for, told_in}
-use Rattle.def_session.specs.Laws.{needed_for, IsMessageOf, plainly, with_one_more, MessageIsOfItsEvent}
+use Rattle.def_session.specs.Laws.{needed_for, IsMessageOf, plainly, with_one_more, IsToldOf, MessageIsOfItsEvent, ShortCallHasItsArity, PlainCallHasItsArguments}
 
 value_in : (t u : Tree) → Some t ≡ Some u → t ≡ u
 value_in t u e = ap (λ o. unwrap_or o t) e
@@ -19,17 +20,17 @@ at_the_end [] t = refl
 at_the_end (u ∷ us) t = ap (u ∷◌) (at_the_end us t)
 
 module _ (e : Event) (short : Bool) (m : Tree) where
-  decided_is : (o : Option Tree) → decided o (elements_of short e) ≡ Some m → IsMessageOf e m
-  decided_is None h = plainly short (sym (value_in _ _ h))
-  decided_is (Some t) h = first (same t (word "true")) h
+  decided_is : (o : Option Tree) → decided o (elements_of short e) ≡ Some m → IsMessageOf e short o m
+  decided_is None h = plainly (inl refl) (sym (value_in _ _ h))
+  decided_is (Some t) h = first (same t (word "true")) refl h
     where
-      last : (b : Bool) → (if b then None else Some (tuple (of_elements (followed_by (elements_of short e) t)))) ≡ Some m → IsMessageOf e m
+      last : (b : Bool) → (if b then None else Some (tuple (of_elements (followed_by (elements_of short e) t)))) ≡ Some m → IsMessageOf e short (Some t) m
       last true g = cc
-      last false g = with_one_more short t (sym (value_in _ _ g) ∙ ap (λ ts. tuple (of_elements ts)) (at_the_end (elements_of short e) t))
+      last false g = with_one_more t refl (sym (value_in _ _ g) ∙ ap (λ ts. tuple (of_elements ts)) (at_the_end (elements_of short e) t))
 
-      first : (b : Bool) → (if b then Some (tuple (of_elements (elements_of short e))) else if same t (word "false") then None else Some (tuple (of_elements (followed_by (elements_of short e) t)))) ≡ Some m → IsMessageOf e m
-      first true g = plainly short (sym (value_in _ _ g))
-      first false g = last (same t (word "false")) g
+      first : (b : Bool) → same t (word "true") ≡ b → (if b then Some (tuple (of_elements (elements_of short e))) else if same t (word "false") then None else Some (tuple (of_elements (followed_by (elements_of short e) t)))) ≡ Some m → IsMessageOf e short (Some t) m
+      first true is g = plainly (inr (ap Some (same-is t (word "true") is))) (sym (value_in _ _ g))
+      first false is g = last (same t (word "false")) g
 
 set_where : (s : Session) (p : ℕ) (f : Flag) (r : Option (List Effect)) (es : List Effect) → where_set s p f r ≡ Some es → flags_at s p f ≡ true
 set_where s p f r es h = go (flags_at s p f) h
@@ -55,26 +56,35 @@ evaluated_set s (unlinked p q) es h = set_where s p (needed_for (unlinked p q)) 
 evaluated_set s (getting_linked p q) es h = set_where s p (needed_for (getting_linked p q)) _ es h
 evaluated_set s (getting_unlinked p q) es h = set_where s p (needed_for (getting_unlinked p q)) _ es h
 
-decided_of : (s : Session) (e : Event) (es : List Effect) (m : Tree) → message_after s e es ≡ Some m → IsMessageOf e m
+abbrev MessageOf : Session → Event → List Effect → Tree → Type 0
+MessageOf s e es m = IsMessageOf e (flags_at s (process_of e) arity_flag) (last_message es) m
+
+decided_of : (s : Session) (e : Event) (es : List Effect) (m : Tree) → message_after s e es ≡ Some m → MessageOf s e es m
 decided_of s e es m h = go (is_silenced s e) h
   where
-    go : (b : Bool) → (if b then None else decided (last_message es) (elements_of (flags_at s (process_of e) arity_flag) e)) ≡ Some m → IsMessageOf e m
+    go : (b : Bool) → (if b then None else decided (last_message es) (elements_of (flags_at s (process_of e) arity_flag) e)) ≡ Some m → MessageOf s e es m
     go true g = cc
     go false g = decided_is e (flags_at s (process_of e) arity_flag) m (last_message es) g
 
-told_of : (s : Session) (e : Event) (m : Tree) (r : Option (List Effect)) → evaluated s e ≡ r → (told_for s e r).1 ≡ Some m → (flags_at s (process_of e) (needed_for e) ≡ true) × IsMessageOf e m
+abbrev Evaluated : Session → Event → Tree → Type 0
+Evaluated s e m = (es : List Effect) × (evaluated s e ≡ Some es) × MessageOf (all_affected (process_of e) s es) e es m
+
+told_of : (s : Session) (e : Event) (m : Tree) (r : Option (List Effect)) → evaluated s e ≡ r → (told_for s e r).1 ≡ Some m → Evaluated s e m
 told_of s e m None h g = cc
-told_of s e m (Some es) h g = (evaluated_set s e es h, decided_of (all_affected (process_of e) s es) e es m g)
+told_of s e m (Some es) h g = (es, h, decided_of (all_affected (process_of e) s es) e es m g)
 
-abbrev Telling : Session → Event → Tree → Phase → Type 0
-Telling s e m p = (p ≡ live) × (flags_at (inherited s e) (process_of e) (needed_for e) ≡ true) × IsMessageOf e m
-
-told_at : (p : Phase) (s : Session) (e : Event) (m : Tree) → (told_in p s e).1 ≡ Some m → Telling s e m p
-told_at absent s e m h = cc
-told_at destroyed s e m h = cc
-told_at live s e m h =
-    let r : (flags_at (inherited s e) (process_of e) (needed_for e) ≡ true) × IsMessageOf e m = told_of (inherited s e) e m (evaluated (inherited s e) e) refl h in
-    (refl, r.0, r.1)
+told_at : (p : Phase) (s : Session) (e : Event) (m : Tree) → s.phase ≡ p → (told_in p s e).1 ≡ Some m → IsToldOf s e m
+told_at absent s e m is h = cc
+told_at destroyed s e m is h = cc
+told_at live s e m is h =
+    let r : Evaluated (inherited s e) e m = told_of (inherited s e) e m (evaluated (inherited s e) e) refl h in
+    record { lives = is; flagged = evaluated_set (inherited s e) e r.0 r.1; effects = r.0; have = r.1; message = r.2 }
 
 pub message_of_event : MessageIsOfItsEvent
-message_of_event s e m h = told_at s.phase s e m h
+message_of_event s e m h = told_at s.phase s e m refl h
+
+pub short_call : ShortCallHasItsArity
+short_call p c = refl
+
+pub plain_call : PlainCallHasItsArguments
+plain_call p c = refl

@@ -1,4 +1,4 @@
--- What one command does to its session, and its reply (module `trace`: session_create/3, session_destroy/1, process/4, function/4, send/3, recv/3).
+-- What one command does to its session, and its reply (trace:session_create/3, session_destroy/1, process/4, function/4, send/3, recv/3).
 -- Stands on the session's state and settings, on flags and on the reading of specifications.
 use Rattle.std.specs.Prelude.{ℕ, Bool, true, false, if◌then◌else◌, List, [], ◌∷◌, length, filter, Option, Some, None, Ok, Err, pos}
 use Rattle.def_term.specs.Tree.{Tree, int, atom, pid, tuple, list, none, more}
@@ -6,11 +6,12 @@ use Rattle.def_term.specs.Order.{same}
 use Rattle.def_term.specs.Names.{word}
 use Rattle.def_term.specs.Alive.{Alive, is_alive, living_count}
 use Rattle.def_script.specs.Program.{Command, create, destroy, set_processes, set_function, set_send, set_receive}
+use Rattle.def_script.specs.Opening.{Opening}
 use Rattle.def_spec.specs.Flags.{Flags, joined, without, flags_named}
 use Rattle.def_spec.specs.Expressions.{for_calls, for_sends, for_receives}
 use Rattle.def_spec.specs.Reading.{SpecFault, badarg, unsupported, Reads}
 use Rattle.def_session.specs.Settings.{Covered, Setting, Covering, setting_of, covered_of, options_of, has_among}
-use Rattle.def_session.specs.State.{Phase, absent, live, destroyed, Session, Opening, unset, flags_at, with_flags}
+use Rattle.def_session.specs.State.{Phase, absent, live, destroyed, Session, unset, flags_at, with_flags}
 
 -- the session afterwards, and the reply
 abbrev pub Done : Type 0
@@ -50,7 +51,7 @@ procs_of t =
 abbrev pub how_of : Tree → Option Bool
 how_of t = if same t (word "true") then Some true else if same t (word "false") then Some false else None
 
--- a list of the ten flags
+-- a list of flags, each one of the ten
 abbrev pub flags_of : Tree → Option Flags
 flags_of (list ts) = flags_named ts
 flags_of _ = None
@@ -124,7 +125,7 @@ done_live o s (set_function name mfa spec options) = function_set_if o s (covere
 done_live o s (set_send name spec) = send_set s (setting_of for_sends spec)
 done_live o s (set_receive name spec) = receive_set s (setting_of for_receives spec)
 
--- only the creation of an absent session is possible
+-- only the creation of an absent session is possible; it replies {session,Name} (own)
 abbrev pub done_absent : Session → Command → Done
 done_absent s (create name tracer) = (record s { phase = live }, tuple (more (word "session") (more (atom name) none)))
 done_absent s _ = refused s

@@ -1,18 +1,19 @@
--- What is promised of the definitions of a session (module `trace`).
+-- What is promised of the definitions of a session (trace:session_create/3, session_destroy/1, process/4, function/4, send/3, recv/3).
 -- Stands on all definitions of a session.
-use Rattle.std.specs.Prelude.{◌≡◌, ℕ, Bool, true, false, ◌||◌, if◌then◌else◌, List, [], ◌∷◌, ◌++◌, All, Some, None, Ok}
-use Rattle.def_term.specs.Tree.{Tree, atom, tuple, of_elements}
+use Rattle.std.specs.Prelude.{◌≡◌, ℕ, Bool, true, false, ◌||◌, ◌⊎◌, if◌then◌else◌, List, [], ◌∷◌, ◌++◌, All, Option, Some, None, Ok, pos}
+use Rattle.def_term.specs.Tree.{Tree, int, atom, pid, tuple, list, of_elements}
 use Rattle.def_term.specs.Alive.{with_alive}
 use Rattle.def_term.specs.Names.{Name, Mfa, word}
 use Rattle.def_script.specs.Program.{Command, create, destroy, set_function}
+use Rattle.def_script.specs.Opening.{Opening}
 use Rattle.def_node.specs.Event.{Event, Call, sent, received, called, returned, spawning, spawned, exited, linked, unlinked, getting_linked, getting_unlinked}
-use Rattle.def_spec.specs.Flags.{Flag, no_flags, send_flag, receive_flag, call_flag, procs_flag}
-use Rattle.def_spec.specs.Expressions.{for_calls}
+use Rattle.def_spec.specs.Flags.{Flag, no_flags, send_flag, receive_flag, call_flag, procs_flag, arity_flag}
+use Rattle.def_spec.specs.Expressions.{for_calls, Effect}
 use Rattle.def_spec.specs.Reading.{SpecFault}
 use Rattle.def_session.specs.Settings.{Covered, Setting, off, Covering, has_among, setting_for, setting_of, covered_of, options_of}
-use Rattle.def_session.specs.State.{absent, live, destroyed, Session, Opening, flags_at, alive_after, unset}
-use Rattle.def_session.specs.Messages.{elements_of, process_of}
-use Rattle.def_session.specs.Session.{inherited, is_marked, event_told}
+use Rattle.def_session.specs.State.{absent, live, destroyed, Session, flags_at, alive_after, unset}
+use Rattle.def_session.specs.Messages.{elements_of, process_of, last_message}
+use Rattle.def_session.specs.Session.{inherited, is_marked, evaluated, all_affected, event_told}
 use Rattle.def_session.specs.Commands.{matching_count, number, fault_term, command_done}
 
 -- ---- settings
@@ -79,16 +80,38 @@ needed_for (unlinked p q) = procs_flag
 needed_for (getting_linked p q) = procs_flag
 needed_for (getting_unlinked p q) = procs_flag
 
--- the message of an event, plain or with one more element at its end
-pub data IsMessageOf (e : Event) (m : Tree) : Type 0 where
-  plainly : (short : Bool) → m ≡ tuple (of_elements (elements_of short e)) → IsMessageOf e m
-  with_one_more : (short : Bool) (t : Tree) → m ≡ tuple (of_elements (elements_of short e ++ t ∷ [])) → IsMessageOf e m
+-- the message of an event, short or not: plain where the last message that the effects give is `true`, or none is given; else with that term as one more element at its end
+pub data IsMessageOf (e : Event) (short : Bool) (last : Option Tree) (m : Tree) : Type 0 where
+  plainly : (last ≡ None) ⊎ (last ≡ Some (word "true")) → m ≡ tuple (of_elements (elements_of short e)) → IsMessageOf e short last m
+  with_one_more : (t : Tree) → last ≡ Some t → m ≡ tuple (of_elements (elements_of short e ++ t ∷ [])) → IsMessageOf e short last m
 
--- a message is told by a live session alone, of a process that has the flag that the event needs, and it is that event's message
+-- a session that tells m of an event is live, and the process has the flag that the event needs. The message is short where the process has the flag `arity` after inheritance and the effects
+pub record IsToldOf (s : Session) (e : Event) (m : Tree) : Type 0 where
+  pub lives : s.phase ≡ live
+  pub flagged : flags_at (inherited s e) (process_of e) (needed_for e) ≡ true
+  pub effects : List Effect
+  pub have : evaluated (inherited s e) e ≡ Some effects
+  pub message : IsMessageOf e (flags_at (all_affected (process_of e) (inherited s e) effects) (process_of e) arity_flag) (last_message effects) m
+
+-- a message is told so, and is that of its event
 abbrev pub MessageIsOfItsEvent : Type 0
-MessageIsOfItsEvent =
-    (s : Session) (e : Event) (m : Tree) → (event_told s e).1 ≡ Some m →
-    (s.phase ≡ live) × (flags_at (inherited s e) (process_of e) (needed_for e) ≡ true) × IsMessageOf e m
+MessageIsOfItsEvent = (s : Session) (e : Event) (m : Tree) → (event_told s e).1 ≡ Some m → IsToldOf s e m
+
+-- the message of a call ends with its function
+abbrev pub call_ending_with : ℕ → Tree → List Tree
+call_ending_with p f = word "trace" ∷ pid p ∷ word "call" ∷ f ∷ []
+
+-- which is {M,F,Arity} where it is short
+abbrev pub ShortCallHasItsArity : Type 0
+ShortCallHasItsArity =
+    (p : ℕ) (c : Call) →
+    elements_of true (called p c) ≡ call_ending_with p (tuple (of_elements (atom c.mfa.module_name ∷ atom c.mfa.function_name ∷ int (pos c.mfa.arity) ∷ [])))
+
+-- and else {M,F,Args}
+abbrev pub PlainCallHasItsArguments : Type 0
+PlainCallHasItsArguments =
+    (p : ℕ) (c : Call) →
+    elements_of false (called p c) ≡ call_ending_with p (tuple (of_elements (atom c.mfa.module_name ∷ atom c.mfa.function_name ∷ list (of_elements c.args) ∷ [])))
 
 -- ---- after destruction
 
@@ -114,11 +137,11 @@ DestroyedAgain = (o : Opening) (s : Session) (name : Name) → s.phase ≡ destr
 abbrev pub ReturnEndsTheMark : Type 0
 ReturnEndsTheMark = (s : Session) (p : ℕ) (f : Mfa) (t : Tree) (depth : ℕ) → s.phase ≡ live → is_marked (event_told s (returned p f t depth)).0 p depth ≡ false
 
--- after a process's exit its flags and marks are gone, and it no longer lives
+-- after a process's exit its flags are gone
 abbrev pub ExitEndsTheFlags : Type 0
 ExitEndsTheFlags = (s : Session) (p : ℕ) (r : Tree) → s.phase ≡ live → flags_at (event_told s (exited p r)).0 p ≡ no_flags
 
--- its marks, at every depth
+-- and its marks, at every depth
 abbrev pub ExitEndsTheMarks : Type 0
 ExitEndsTheMarks = (s : Session) (p : ℕ) (r : Tree) (depth : ℕ) → s.phase ≡ live → is_marked (event_told s (exited p r)).0 p depth ≡ false
 

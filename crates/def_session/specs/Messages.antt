@@ -1,4 +1,4 @@
--- The message of each event, and how effects decide it (module `trace`, "trace messages"; "Match Specifications in Erlang", "Functions Allowed Only for Tracing").
+-- The message of each event, and how effects decide it (trace:process/4; "Match Specifications in Erlang", "Functions Allowed Only for Tracing").
 -- Stands on events and on effects.
 use Rattle.std.specs.Prelude.{ℕ, Bool, true, false, if◌then◌else◌, List, [], ◌∷◌, Option, Some, None}
 use Rattle.def_term.specs.Tree.{Tree, atom, pid, tuple, list, of_elements}

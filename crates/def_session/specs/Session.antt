@@ -1,11 +1,11 @@
--- What one session makes of an event: inheritance, whether it is evaluated, the effects, at most one message, marks (module `trace`).
+-- What one session makes of an event: inheritance, whether it is evaluated, the effects, at most one message, marks (trace:process/4, function/4, send/3, recv/3).
 -- Stands on the session's state and settings, on the outcome of specifications and on messages.
 -- It knows no other session, and nothing of how the events came about.
 use Rattle.std.specs.Prelude.{ℕ, ◌-◌, ◌==◌, Bool, true, false, not, ◌&&◌, if◌then◌else◌, List, [], ◌∷◌, filter, Option, Some, None, slice_set}
 use Rattle.std.specs.List.{list_any}
 use Rattle.def_term.specs.Tree.{Tree, pid}
 use Rattle.def_term.specs.Names.{Mfa, word}
-use Rattle.def_term.specs.Alive.{with_alive}
+use Rattle.def_term.specs.Alive.{FIRST_PID, with_alive}
 use Rattle.def_spec.specs.Flags.{Flag, Flags, no_flags, only, joined, without, send_flag, receive_flag, call_flag, procs_flag, silent_flag, arity_flag, after_spawn, after_link}
 use Rattle.def_spec.specs.Expressions.{Context, Effect, gives_message, traces_return, traces_exception, silences, changes}
 use Rattle.def_spec.specs.Outcome.{Outcome, no_match, matched, outcome_of}
@@ -51,7 +51,7 @@ is_marked s p depth = list_any (λ m. m.0 == p && m.1 == depth) s.marks
 abbrev pub where_set : Session → ℕ → Flag → Option (List Effect) → Option (List Effect)
 where_set s p f r = if flags_at s p f then r else None
 
--- the effects, or none where the event gives no message. The list that is matched: a call's arguments, [Receiver,Msg] for a send, [Node,Sender,Msg] for a receive
+-- the effects, or none where the event gives no message. The list that is matched: a call's arguments, [Receiver,Msg] for a send, [Node,Sender,Msg] for a receive. The return of a marked frame is told where `call` is set at that moment (own)
 abbrev pub evaluated : Session → Event → Option (List Effect)
 evaluated s (sent p t to alive) = where_set s p send_flag (evaluated_by s.sending (context s p (pid to ∷ t ∷ []) None))
 evaluated s (received p sender t) = where_set s p receive_flag (evaluated_by s.receiving (context s p (word "nonode@nohost" ∷ pid sender ∷ t ∷ []) None))
@@ -89,7 +89,7 @@ marks_frame (_ ∷ es) = marks_frame es
 
 -- ---- the message
 
--- `silent` inhibits call and return_from messages alone
+-- `silent` inhibits call and return_from messages alone, the latter where it is set at the moment of the return (own)
 abbrev pub is_silenced : Session → Event → Bool
 is_silenced s (called p c) = flags_at s p silent_flag
 is_silenced s (returned p f t depth) = flags_at s p silent_flag
@@ -105,30 +105,30 @@ message_after s e es = if is_silenced s e then None else decided (last_message e
 abbrev pub finished : Session → Event → List Effect → Session
 finished s (called p c) es = if marks_frame es then record s { marks = (p, c.depth) ∷ s.marks } else s
 finished s (returned p f t depth) es = record s { marks = filter (λ m. not (m.0 == p && m.1 == depth)) s.marks }
-finished s (exited p r) es = record s { alive = with_alive s.alive p false; flags = slice_set s.flags (p - 100) no_flags; marks = filter (λ m. not (m.0 == p)) s.marks }
+finished s (exited p r) es = record s { alive = with_alive s.alive p false; flags = slice_set s.flags (p - FIRST_PID) no_flags; marks = filter (λ m. not (m.0 == p)) s.marks }
 finished s _ es = s
 
 -- ---- one event
 
 -- the session afterwards, and its message
-abbrev pub Told : Type 0
-Told = Session × Option Tree
+abbrev pub Answered : Type 0
+Answered = Session × Option Tree
 
 -- the effects, then the message, then marks
-abbrev pub told_by_effects : Session → Event → List Effect → Told
+abbrev pub told_by_effects : Session → Event → List Effect → Answered
 told_by_effects s e es = let t : Session = all_affected (process_of e) s es in (finished t e es, message_after t e es)
 
 -- without a message marks and flags still end with their frame and process
-abbrev pub told_for : Session → Event → Option (List Effect) → Told
+abbrev pub told_for : Session → Event → Option (List Effect) → Answered
 told_for s e None = (finished s e [], None)
 told_for s e (Some es) = told_by_effects s e es
 
 -- absent or destroyed, an event changes the living pids alone and gives no message
-abbrev pub told_in : Phase → Session → Event → Told
+abbrev pub told_in : Phase → Session → Event → Answered
 told_in absent s e = (record s { alive = alive_after s.alive e }, None)
 told_in destroyed s e = (record s { alive = alive_after s.alive e }, None)
 told_in live s e = let t : Session = inherited s e in told_for t e (evaluated t e)
 
 -- one event
-abbrev pub event_told : Session → Event → Told
+abbrev pub event_told : Session → Event → Answered
 event_told s e = told_in s.phase s e

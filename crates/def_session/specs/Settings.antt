@@ -5,6 +5,7 @@ use Rattle.std.specs.Str.{bytes_eq}
 use Rattle.def_term.specs.Tree.{Tree, int, atom, tuple, list, none, more}
 use Rattle.def_term.specs.Order.{same}
 use Rattle.def_term.specs.Names.{Name, Mfa, same_mfa, word}
+use Rattle.def_script.specs.Limits.{PARAMETERS}
 use Rattle.def_node.specs.Event.{Call}
 use Rattle.def_spec.specs.Expressions.{Dialect}
 use Rattle.def_spec.specs.Outcome.{Spec}
@@ -29,7 +30,7 @@ pub record Covering : Type 0 where
   pub setting : Setting
   pub local : Bool
 
--- `true` or `[]` is no specification, `false` disables
+-- `true` or `[]` is no specification, for send and receive too (own); `false` disables
 abbrev pub setting_of : Dialect → Tree → Reads Setting
 setting_of d t =
     if same t (word "true") || same t (list none) then Ok plain else
@@ -38,7 +39,7 @@ setting_of d t =
 
 -- {M,F,A} or {M,F,'_'}
 abbrev pub with_arity : Name → Name → Tree → Option Covered
-with_arity m f (int (pos n)) = if nat_le n 255 then Some (one (record { module_name = m; function_name = f; arity = n })) else None
+with_arity m f (int (pos n)) = if nat_le n PARAMETERS then Some (one (record { module_name = m; function_name = f; arity = n })) else None
 with_arity m f (atom s) = if is_wildcard s then Some (any_arity m f) else None
 with_arity m f _ = None
 

@@ -1,9 +1,9 @@
--- The state of one session.
--- Stands on flags, on settings and on who lives (module `trace`: session_create/3, process/4).
+-- The state of one session (trace:session_create/3, process/4).
+-- Stands on flags, on settings and on who lives.
 use Rattle.std.specs.Prelude.{ℕ, ◌-◌, Bool, true, false, List, [], ◌++◌, replicate, slice_get, slice_set}
 use Rattle.std.specs.Option.{unwrap_or}
-use Rattle.def_term.specs.Alive.{Alive, with_alive}
-use Rattle.def_term.specs.Names.{Mfa}
+use Rattle.def_term.specs.Alive.{FIRST_PID, PROCESSES, Alive, with_alive}
+use Rattle.def_script.specs.Opening.{Opening}
 use Rattle.def_spec.specs.Flags.{Flags, no_flags}
 use Rattle.def_session.specs.Settings.{Covering, Setting, plain}
 use Rattle.def_node.specs.Event.{Event, spawned, exited}
@@ -16,7 +16,7 @@ pub data Phase : Type 0 where
 pub record Session : Type 0 where
   pub phase : Phase
   pub alive : Alive
-  -- of the processes 100 to 163
+  -- of the processes from the first pid on
   pub flags : List Flags
   pub for_new : Flags
   -- accepted function commands, the newest first
@@ -26,18 +26,13 @@ pub record Session : Type 0 where
   -- the frames that are marked, by process and depth
   pub marks : List (ℕ × ℕ)
 
--- what every session knows of the program: the functions with their visibility, and how many processes it begins with
-pub record Opening : Type 0 where
-  pub functions : List (Mfa × Bool)
-  pub processes : ℕ
-
--- the first of the pids from 100 on live
+-- the first of the processes live
 abbrev pub alive_at_start : ℕ → Alive
-alive_at_start n = replicate n true ++ replicate (64 - n) false
+alive_at_start n = replicate n true ++ replicate (PROCESSES - n) false
 
--- a session without settings: no flags, no function settings, send and receive `true` (own)
+-- a session without settings: no flags, no function settings, send and receive `true`
 abbrev pub unset : Phase → Alive → Session
-unset phase alive = record { phase = phase; alive = alive; flags = replicate 64 no_flags; for_new = no_flags; functions = []; sending = plain; receiving = plain; marks = [] }
+unset phase alive = record { phase = phase; alive = alive; flags = replicate PROCESSES no_flags; for_new = no_flags; functions = []; sending = plain; receiving = plain; marks = [] }
 
 -- before the session is created
 abbrev pub absent_session : Opening → Session
@@ -45,11 +40,11 @@ absent_session o = unset absent (alive_at_start o.processes)
 
 -- the flags of a process
 abbrev pub flags_at : Session → ℕ → Flags
-flags_at s n = unwrap_or (slice_get s.flags (n - 100)) no_flags
+flags_at s n = unwrap_or (slice_get s.flags (n - FIRST_PID)) no_flags
 
 -- the flags of a process changed
 abbrev pub with_flags : Session → ℕ → Flags → Session
-with_flags s n f = record s { flags = slice_set s.flags (n - 100) f }
+with_flags s n f = record s { flags = slice_set s.flags (n - FIRST_PID) f }
 
 -- who lives after an event
 abbrev pub alive_after : Alive → Event → Alive

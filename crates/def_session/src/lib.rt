@@ -7,7 +7,7 @@
 //! the process's flags and marks; a destroyed session tells nothing, and nothing brings it back.
 #![tactic(auto)]
 
-ghost use Rattle.def_session.specs.Laws.{NewestSettingWins, FalseRemoves, NoSetting, FunctionCommandIsNewest, RefusedChangesNothing, OtherCommandsKeepSettings, EventsKeepSettings, MessageIsOfItsEvent, DestructionTakesAll, EventAfterDestruction, CommandAfterDestruction, DestroyedAgain, ReturnEndsTheMark, ExitEndsTheFlags, ExitEndsTheMarks, ExitEndsTheLife, CreationMakesLive, CommandBeforeCreation, EventBeforeCreation, LifeGoesByEvents, EventKeepsThePhase};
+ghost use Rattle.def_session.specs.Laws.{NewestSettingWins, FalseRemoves, NoSetting, FunctionCommandIsNewest, RefusedChangesNothing, OtherCommandsKeepSettings, EventsKeepSettings, MessageIsOfItsEvent, ShortCallHasItsArity, PlainCallHasItsArguments, DestructionTakesAll, EventAfterDestruction, CommandAfterDestruction, DestroyedAgain, ReturnEndsTheMark, ExitEndsTheFlags, ExitEndsTheMarks, ExitEndsTheLife, CreationMakesLive, CommandBeforeCreation, EventBeforeCreation, LifeGoesByEvents, EventKeepsThePhase};
 
 /// The newest function command that has a function among its own decides its setting, whichever kind it
 /// is: an older one never shows through, and `false` removes. An accepted command is the newest
@@ -24,9 +24,13 @@ pub fn newest_setting_wins()
 {}
 
 /// A message is told by a live session alone, of a process that has the flag that the event needs, and it
-/// is that event's message, plain or with one more element ("trace messages").
+/// is that event's message (`trace:process/4`), plain or with the term that the effects give last as one
+/// more element. A call's has {M,F,Arity} where the process has the flag `arity` after inheritance and the
+/// effects, and else {M,F,Args}.
 pub fn message_is_of_its_event()
-    ensures { MessageIsOfItsEvent }
+    ensures message { MessageIsOfItsEvent }
+    ensures short { ShortCallHasItsArity }
+    ensures plain { PlainCallHasItsArguments }
 {}
 
 /// A destruction takes all settings away. Afterwards an event gives no message, a command changes

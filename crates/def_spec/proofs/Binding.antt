@@ -9,7 +9,7 @@ use Rattle.std.specs.Option.{option_and_then}
 use Rattle.def_term.specs.Tree.{Tree, tuple, list, Trees, none, more}
 use Rattle.def_term.specs.Order.{same}
 use Rattle.def_term.proofs.Same.{tied_self, same-is, same-self}
-use Rattle.def_spec.specs.Matching.{Pattern, Patterns, variable, anything, only_term, in_tuple, in_list, no_patterns, and_pattern, Bindings, bound, occurs, occurs_in_some, here, past, Fill, subst_in, subst_each, Matches, met, bind_on, bind_each, bindings_of}
+use Rattle.def_spec.specs.Matching.{Pattern, Patterns, variable, anything, only_term, in_tuple, in_list, no_patterns, and_pattern, Bindings, value_bound, occurs, occurs_in_some, here, past, Fill, subst_in, subst_each, Matches, met, bind_on, bind_each, bindings_of}
 
 to_T : (b : Bool) → b ≡ true → T b
 to_T b e = subst T (sym e) tt
@@ -22,16 +22,16 @@ of_T false h = absurd h
 tied_is : (q k : ℕ) → eq_by_cmp nat_cmp q k ≡ (q == k)
 tied_is q k = both_ways _ _ (λ e. eq-eqb q k (nat_cmp-IsAntisymmetric q k ((Equal-is (nat_cmp q k)).0 e))) (λ e. subst (λ x. eq_by_cmp nat_cmp q x ≡ true) (eqb-true q k e) (ap is_eq (tied_self nat_cmp_total q)))
 
-get_put : (q k : ℕ) (t : Tree) (b : Bindings) → bound (put nat_cmp k t b) q ≡ cond (q == k) (Some t) (bound b q)
-get_put q k t b = find-put nat_cmp nat_cmp_total q k t b ∙ ap (λ s. cond s (Some t) (bound b q)) (tied_is q k)
+get_put : (q k : ℕ) (t : Tree) (b : Bindings) → value_bound (put nat_cmp k t b) q ≡ cond (q == k) (Some t) (value_bound b q)
+get_put q k t b = find-put nat_cmp nat_cmp_total q k t b ∙ ap (λ s. cond s (Some t) (value_bound b q)) (tied_is q k)
 
 -- what b binds, c binds to the same
 abbrev Extends : Bindings → Bindings → Type 0
-Extends b c = (n : ℕ) (t : Tree) → bound b n ≡ Some t → bound c n ≡ Some t
+Extends b c = (n : ℕ) (t : Tree) → value_bound b n ≡ Some t → value_bound c n ≡ Some t
 
 abbrev mutual
   Fits : Pattern → Bindings → Tree → Type 0
-  Fits (variable n) b t = bound b n ≡ Some t
+  Fits (variable n) b t = value_bound b n ≡ Some t
   Fits anything b t = ⊤
   Fits (only_term c) b t = c ≡ t
   Fits (in_tuple ps) b (tuple ts) = FitEach ps b ts
@@ -47,8 +47,8 @@ abbrev mutual
 
 abbrev split : Fill → Fill → Fill
 split f g [] = f []
-split f g (here ∷ place) = f place
-split f g (past ∷ place) = g place
+split f g (here ∷ path) = f path
+split f g (past ∷ path) = g path
 
 mutual
   fill_of : (p : Pattern) (b : Bindings) (t : Tree) → Fits p b t → (fill : Fill) × (subst_in p b fill ≡ t)
@@ -81,14 +81,14 @@ self_equal : (n : ℕ) → (n == n) ≡ true
 self_equal n = eq-eqb n n refl
 
 mutual
-  fits_filled : (p : Pattern) (b : Bindings) (fill : Fill) → ((n : ℕ) → occurs n p ≡ true → is_some (bound b n) ≡ true) → Fits p b (subst_in p b fill)
-  fits_filled (variable n) b fill h = there (bound b n) (h n (self_equal n))
+  fits_filled : (p : Pattern) (b : Bindings) (fill : Fill) → ((n : ℕ) → occurs n p ≡ true → is_some (value_bound b n) ≡ true) → Fits p b (subst_in p b fill)
+  fits_filled (variable n) b fill h = there (value_bound b n) (h n (self_equal n))
   fits_filled anything b fill h = tt
   fits_filled (only_term c) b fill h = refl
   fits_filled (in_tuple ps) b fill h = fit_filled ps b fill h
   fits_filled (in_list ps) b fill h = fit_filled ps b fill h
 
-  fit_filled : (ps : Patterns) (b : Bindings) (fill : Fill) → ((n : ℕ) → occurs_in_some n ps ≡ true → is_some (bound b n) ≡ true) → FitEach ps b (subst_each ps b fill)
+  fit_filled : (ps : Patterns) (b : Bindings) (fill : Fill) → ((n : ℕ) → occurs_in_some n ps ≡ true → is_some (value_bound b n) ≡ true) → FitEach ps b (subst_each ps b fill)
   fit_filled no_patterns b fill h = tt
   fit_filled (and_pattern p ps) b fill h = (fits_filled p b _ (λ n e. h n (or_left (occurs n p) (occurs_in_some n ps) e)), fit_filled ps b _ (λ n e. h n (or_right (occurs n p) (occurs_in_some n ps) e)))
 
@@ -111,8 +111,8 @@ mutual
 -- what a walk from b to c has done, for what occurs and what fits
 record Walked (b c : Bindings) (occurring : ℕ → Bool) (Fitting : Type 0) : Type 0 where
   rising : T (is_sorted nat_cmp c)
-  keeps : (n : ℕ) (u : Tree) → bound b n ≡ Some u → bound c n ≡ Some u
-  exact : (n : ℕ) → is_some (bound c n) ≡ (is_some (bound b n) || occurring n)
+  keeps : (n : ℕ) (u : Tree) → value_bound b n ≡ Some u → value_bound c n ≡ Some u
+  exact : (n : ℕ) → is_some (value_bound c n) ≡ (is_some (value_bound b n) || occurring n)
   fits : Fitting
 
 or_false : (a : Bool) → a ≡ (a || false)
@@ -135,8 +135,8 @@ not_both o u e h = absurd (subst (λ (x : Option Tree). T (is_some x)) (sym h �
 untouched : (b c : Bindings) (F : Type 0) → b ≡ c → T (is_sorted nat_cmp b) → F → Walked b c (λ n. false) F
 untouched b c F e s f = record {
   rising = subst (λ x. T (is_sorted nat_cmp x)) e s;
-  keeps = λ n u h. subst (λ x. bound x n ≡ Some u) e h;
-  exact = λ n. ap (λ x. is_some (bound x n)) (sym e) ∙ or_false (is_some (bound b n));
+  keeps = λ n u h. subst (λ x. value_bound x n ≡ Some u) e h;
+  exact = λ n. ap (λ x. is_some (value_bound x n)) (sym e) ∙ or_false (is_some (value_bound b n));
   fits = f;
 }
 
@@ -144,8 +144,8 @@ if_some : (s : Bool) (b c : Bindings) → (if s then Some b else None) ≡ Some 
 if_some true b c e = (refl, bindings_in b c e)
 if_some false b c e = cc
 
-keeps_put : (n : ℕ) (t : Tree) (b : Bindings) → bound b n ≡ None → (m : ℕ) (u : Tree) (s : Bool) → (m == n) ≡ s → bound b m ≡ Some u → cond s (Some t) (bound b m) ≡ Some u
-keeps_put n t b absent m u true e h = not_both (bound b n) u absent (subst (λ x. bound b x ≡ Some u) (eqb-true m n e) h)
+keeps_put : (n : ℕ) (t : Tree) (b : Bindings) → value_bound b n ≡ None → (m : ℕ) (u : Tree) (s : Bool) → (m == n) ≡ s → value_bound b m ≡ Some u → cond s (Some t) (value_bound b m) ≡ Some u
+keeps_put n t b absent m u true e h = not_both (value_bound b n) u absent (subst (λ x. value_bound b x ≡ Some u) (eqb-true m n e) h)
 keeps_put n t b absent m u false e h = h
 
 some_put : (t : Tree) (o : Option Tree) (s : Bool) → is_some (cond s (Some t) o) ≡ (is_some o || s)
@@ -154,20 +154,20 @@ some_put t None false = refl
 some_put t (Some u) true = refl
 some_put t (Some u) false = refl
 
-some_kept : (n : ℕ) (b : Bindings) (u : Tree) (m : ℕ) (s : Bool) → bound b n ≡ Some u → (m == n) ≡ s → is_some (bound b m) ≡ (is_some (bound b m) || s)
-some_kept n b u m true e h = let is : is_some (bound b m) ≡ true = ap (λ x. is_some (bound b x)) (eqb-true m n h) ∙ ap is_some e in is ∙ sym (ap (λ x. x || true) is)
-some_kept n b u m false e h = or_false (is_some (bound b m))
+some_kept : (n : ℕ) (b : Bindings) (u : Tree) (m : ℕ) (s : Bool) → value_bound b n ≡ Some u → (m == n) ≡ s → is_some (value_bound b m) ≡ (is_some (value_bound b m) || s)
+some_kept n b u m true e h = let is : is_some (value_bound b m) ≡ true = ap (λ x. is_some (value_bound b x)) (eqb-true m n h) ∙ ap is_some e in is ∙ sym (ap (λ x. x || true) is)
+some_kept n b u m false e h = or_false (is_some (value_bound b m))
 
-met_sound : (n : ℕ) (t : Tree) (b c : Bindings) (o : Option Tree) → bound b n ≡ o → T (is_sorted nat_cmp b) → met n t b o ≡ Some c → Walked b c (λ m. m == n) (bound c n ≡ Some t)
-met_sound n t b c None e s h = subst (λ x. Walked b x (λ m. m == n) (bound x n ≡ Some t)) (bindings_in (put nat_cmp n t b) c h) (record {
+met_sound : (n : ℕ) (t : Tree) (b c : Bindings) (o : Option Tree) → value_bound b n ≡ o → T (is_sorted nat_cmp b) → met n t b o ≡ Some c → Walked b c (λ m. m == n) (value_bound c n ≡ Some t)
+met_sound n t b c None e s h = subst (λ x. Walked b x (λ m. m == n) (value_bound x n ≡ Some t)) (bindings_in (put nat_cmp n t b) c h) (record {
   rising = is_sorted-put nat_cmp nat_cmp_total n t b s;
   keeps = λ m u f. get_put m n t b ∙ keeps_put n t b e m u (m == n) refl f;
-  exact = λ m. ap is_some (get_put m n t b) ∙ some_put t (bound b m) (m == n);
-  fits = get_put n n t b ∙ ap (λ q. cond q (Some t) (bound b n)) (self_equal n);
+  exact = λ m. ap is_some (get_put m n t b) ∙ some_put t (value_bound b m) (m == n);
+  fits = get_put n n t b ∙ ap (λ q. cond q (Some t) (value_bound b n)) (self_equal n);
 })
 met_sound n t b c (Some u) e s h =
     let r : (same u t ≡ true) × (b ≡ c) = if_some (same u t) b c h in
-    subst (λ x. Walked b x (λ m. m == n) (bound x n ≡ Some t)) r.1 (record {
+    subst (λ x. Walked b x (λ m. m == n) (value_bound x n ≡ Some t)) r.1 (record {
       rising = s;
       keeps = λ m v f. f;
       exact = λ m. some_kept n b u m (m == n) e refl;
@@ -182,13 +182,13 @@ walked_both : {b m c : Bindings} {f g : ℕ → Bool} {F G H : Type 0} → (Exte
 walked_both {b} {m} {c} {f} {g} join v w = record {
   rising = w.rising;
   keeps = λ n u e. w.keeps n u (v.keeps n u e);
-  exact = λ n. w.exact n ∙ ap (λ x. x || g n) (v.exact n) ∙ or_assoc (is_some (bound b n)) (f n) (g n);
+  exact = λ n. w.exact n ∙ ap (λ x. x || g n) (v.exact n) ∙ or_assoc (is_some (value_bound b n)) (f n) (g n);
   fits = join w.keeps v.fits w.fits;
 }
 
 mutual
   sound : (p : Pattern) (t : Tree) (b c : Bindings) → T (is_sorted nat_cmp b) → bind_on p t b ≡ Some c → Walked b c (λ n. occurs n p) (Fits p c t)
-  sound (variable n) t b c s h = met_sound n t b c (bound b n) refl s h
+  sound (variable n) t b c s h = met_sound n t b c (value_bound b n) refl s h
   sound anything t b c s h = untouched b c ⊤ (bindings_in b c h) s tt
   sound (only_term x) t b c s h = untouched b c (x ≡ t) (if_some (same x t) b c h).1 s (same-is x t (if_some (same x t) b c h).0)
   sound (in_tuple ps) (tuple ts) b c s h = sound_each ps ts b c s h
@@ -206,11 +206,11 @@ mutual
       let w : Walked r.0 c (λ n. occurs_in_some n ps) (FitEach ps c ts) = sound_each ps ts r.0 c v.rising r.2 in
       walked_both (λ e x y. (fits_on p r.0 c t e x, y)) v w
 
-extends_put : (n : ℕ) (t : Tree) (b c : Bindings) → Extends b c → bound c n ≡ Some t → (m : ℕ) (u : Tree) (s : Bool) → (m == n) ≡ s → cond s (Some t) (bound b m) ≡ Some u → bound c m ≡ Some u
-extends_put n t b c e h m u true is f = subst (λ x. bound c x ≡ Some t) (sym (eqb-true m n is)) h ∙ f
+extends_put : (n : ℕ) (t : Tree) (b c : Bindings) → Extends b c → value_bound c n ≡ Some t → (m : ℕ) (u : Tree) (s : Bool) → (m == n) ≡ s → cond s (Some t) (value_bound b m) ≡ Some u → value_bound c m ≡ Some u
+extends_put n t b c e h m u true is f = subst (λ x. value_bound c x ≡ Some t) (sym (eqb-true m n is)) h ∙ f
 extends_put n t b c e h m u false is f = e m u f
 
-met_complete : (n : ℕ) (t : Tree) (b c : Bindings) (o : Option Tree) → bound b n ≡ o → Extends b c → bound c n ≡ Some t → (d : Bindings) × (met n t b o ≡ Some d) × Extends d c
+met_complete : (n : ℕ) (t : Tree) (b c : Bindings) (o : Option Tree) → value_bound b n ≡ o → Extends b c → value_bound c n ≡ Some t → (d : Bindings) × (met n t b o ≡ Some d) × Extends d c
 met_complete n t b c None is e h = (put nat_cmp n t b, refl, λ m u f. extends_put n t b c e h m u (m == n) refl (sym (get_put m n t b) ∙ f))
 met_complete n t b c (Some u) is e h =
     let equal : u ≡ t = value_in u t (sym (e n u is) ∙ h) in
@@ -218,7 +218,7 @@ met_complete n t b c (Some u) is e h =
 
 mutual
   complete : (p : Pattern) (t : Tree) (b c : Bindings) → T (is_sorted nat_cmp b) → Extends b c → Fits p c t → (d : Bindings) × (bind_on p t b ≡ Some d) × Extends d c
-  complete (variable n) t b c s e h = met_complete n t b c (bound b n) refl e h
+  complete (variable n) t b c s e h = met_complete n t b c (value_bound b n) refl e h
   complete anything t b c s e h = (b, refl, e)
   complete (only_term x) t b c s e h = (b, ap (λ s. if s then Some b else None) (subst (λ y. same x y ≡ true) h (same-self x)), e)
   complete (in_tuple ps) (tuple ts) b c s e h = complete_each ps ts b c s e h
@@ -251,4 +251,4 @@ matches-bind p t b m =
     let fits : Fits p b t = subst (λ x. Fits p b x) m.filled.1 (fits_filled p b m.filled.0 (λ n e. m.exact n ∙ e)) in
     let r : (d : Bindings) × (bind_on p t [] ≡ Some d) × Extends d b = complete p t [] b tt (λ n u e. cc) fits in
     let w : Walked [] r.0 (λ n. occurs n p) (Fits p r.0 t) = sound p t [] r.0 tt r.1 in
-    r.1 ∙ ap Some (same_entries nat_cmp nat_cmp_total nat_cmp-IsAntisymmetric r.0 b w.rising (to_T (is_sorted nat_cmp b) m.rising) (λ n. same_option (bound r.0 n) (bound b n) (r.2 n) (m.exact n ∙ sym (w.exact n))))
+    r.1 ∙ ap Some (same_entries nat_cmp nat_cmp_total nat_cmp-IsAntisymmetric r.0 b w.rising (to_T (is_sorted nat_cmp b) m.rising) (λ n. same_option (value_bound r.0 n) (value_bound b n) (r.2 n) (m.exact n ∙ sym (w.exact n))))

@@ -8,9 +8,9 @@ use Rattle.def_term.specs.Tree.{Tree, int, atom, pid, tuple, list, Trees, none, 
 use Rattle.def_term.specs.Names.{Name}
 use Rattle.def_term.specs.Text.{is_among}
 use Rattle.def_spec.specs.Matching.{Pattern, occurs}
-use Rattle.def_spec.specs.Expressions.{Dialect, Expr, bound_to, whole_list, all_bound, constant, tuple_of, list_of, Exprs, no_exprs, and_expr, Place, in_condition, in_body}
+use Rattle.def_spec.specs.Expressions.{Dialect, Expr, bound_to, whole_list, all_bound, constant, tuple_of, list_of, Exprs, no_exprs, and_expr, Part, in_condition, in_body}
 use Rattle.def_spec.specs.Outcome.{Clause, Spec}
-use Rattle.def_spec.specs.Reading.{SpecFault, badarg, unsupported, Reads, then_read, AtomKind, a_variable, a_wrong_variable, a_plain_atom, atom_kind, Called, a_function, an_and_also, an_or_else, an_action, Row, table, unsupported_names, found_in, is_allowed, takes, called_of, named_call, call_of, atom_expr_of_kind, is_constant, only_element, expr_of, exprs_of, head_of, clause_of_parts, clause_of, clauses_of, spec_of}
+use Rattle.def_spec.specs.Reading.{SpecFault, badarg, unsupported, Reads, then_read, AtomKind, a_variable, a_wrong_variable, a_plain_atom, atom_kind, Called, a_function, an_and_also, an_or_else, an_action, Row, table, unsupported_names, found_in, is_allowed, is_at_most, takes, called_of, named_call, call_of, atom_expr_of_kind, is_constant, only_element, expr_of, exprs_of, head_of, clause_of_parts, clause_of, clauses_of, spec_of}
 use Rattle.def_spec.specs.Laws.{IsCovered, AreCovered, count_of, numbers_of, IsAllowed, IsFitting, AllCallsFit, CallsOfAllFit, IsSoundClause, AreSoundClauses, IsSound, ReadSpecsAreSound, trees_before, AreRead, FirstFaultyClause, HeadFaultFirst, ConditionFaultNext, BodyFaultLast, FirstFaultyExpression, UnsupportedFirst}
 
 pub then_ok : {X Y : Type 0} (r : Reads X) (f : X → Reads Y) (y : Y) → then_read r f ≡ Ok y → (x : X) × (r ≡ Ok x) × (f x ≡ Ok y)
@@ -29,9 +29,21 @@ both_true false b e = cc
 
 -- ---- the table
 
+abbrev same_most : Option ℕ → Option ℕ → Bool
+same_most None None = true
+same_most None (Some m) = false
+same_most (Some n) None = false
+same_most (Some n) (Some m) = n == m
+
+most_is : (o p : Option ℕ) → same_most o p ≡ true → o ≡ p
+most_is None None h = refl
+most_is None (Some m) h = cc
+most_is (Some n) None h = cc
+most_is (Some n) (Some m) h = ap Some (eqb-true n m h)
+
 -- each row has the numbers of arguments of what it calls
 abbrev is_right : Row → Bool
-is_right r = (r.least == (numbers_of r.called).0) && (r.most == (numbers_of r.called).1)
+is_right r = (r.least == (numbers_of r.called).0) && same_most r.most (numbers_of r.called).1
 
 abbrev are_right : List Row → Bool
 are_right [] = true
@@ -48,52 +60,52 @@ found_right (q ∷ qs) s r h e = go (bytes_eq q.name s) (both_true (is_right q) 
     go true g k f = let same : q ≡ r = cc in subst (λ x. is_right x ≡ true) same g.0
     go false g k f = k g.1 f
 
-allowed_is : (d : Dialect) (place : Place) (f : Called) → is_allowed d place f ≡ true → IsAllowed d place f
+allowed_is : (d : Dialect) (part : Part) (f : Called) → is_allowed d part f ≡ true → IsAllowed d part f
 allowed_is d in_condition (an_action a) h = cc
 allowed_is d in_body (an_action a) h = h
-allowed_is d place (a_function f) h = tt
-allowed_is d place an_and_also h = tt
-allowed_is d place an_or_else h = tt
+allowed_is d part (a_function f) h = tt
+allowed_is d part an_and_also h = tt
+allowed_is d part an_or_else h = tt
 
-module _ (d : Dialect) (place : Place) where
-  row_fits : (r : Row) (n : ℕ) (f : Called) → is_right r ≡ true → called_of d place n (Some r) ≡ Ok f → IsFitting d place f n
-  row_fits r n f right h = go (takes r n && is_allowed d place r.called) refl h
+module _ (d : Dialect) (part : Part) where
+  row_fits : (r : Row) (n : ℕ) (f : Called) → is_right r ≡ true → called_of d part n (Some r) ≡ Ok f → IsFitting d part f n
+  row_fits r n f right h = go (takes r n && is_allowed d part r.called) refl h
     where
       numbers : (r.least ≡ (numbers_of r.called).0) × (r.most ≡ (numbers_of r.called).1)
       numbers =
-          let q : ((r.least == (numbers_of r.called).0) ≡ true) × ((r.most == (numbers_of r.called).1) ≡ true) = both_true _ _ right in
-          (eqb-true _ _ q.0, eqb-true _ _ q.1)
+          let q : ((r.least == (numbers_of r.called).0) ≡ true) × (same_most r.most (numbers_of r.called).1 ≡ true) = both_true _ _ right in
+          (eqb-true _ _ q.0, most_is _ _ q.1)
 
-      go : (b : Bool) → (takes r n && is_allowed d place r.called) ≡ b → (if b then Ok r.called else Err badarg) ≡ Ok f → IsFitting d place f n
+      go : (b : Bool) → (takes r n && is_allowed d part r.called) ≡ b → (if b then Ok r.called else Err badarg) ≡ Ok f → IsFitting d part f n
       go true e g =
-          let taken : (takes r n ≡ true) × (is_allowed d place r.called ≡ true) = both_true _ _ e in
-          let within : (nat_le r.least n ≡ true) × (nat_le n r.most ≡ true) = both_true _ _ taken.0 in
-          subst (λ x. IsFitting d place x n) (ok_is r.called f g) (record {
+          let taken : (takes r n ≡ true) × (is_allowed d part r.called ≡ true) = both_true _ _ e in
+          let within : (nat_le r.least n ≡ true) × (is_at_most r.most n ≡ true) = both_true _ _ taken.0 in
+          subst (λ x. IsFitting d part x n) (ok_is r.called f g) (record {
             least = subst (λ m. nat_le m n ≡ true) numbers.0 within.0;
-            most = subst (λ m. nat_le n m ≡ true) numbers.1 within.1;
-            allowed = allowed_is d place r.called taken.1;
+            most = subst (λ m. is_at_most m n ≡ true) numbers.1 within.1;
+            allowed = allowed_is d part r.called taken.1;
           })
       go false e g = cc
 
-  named_fits : (s : Name) (n : ℕ) (f : Called) → named_call d place s n ≡ Ok f → IsFitting d place f n
+  named_fits : (s : Name) (n : ℕ) (f : Called) → named_call d part s n ≡ Ok f → IsFitting d part f n
   named_fits s n f h = go (is_among unsupported_names s) h
     where
-      found : (o : Option Row) → found_in table s ≡ o → called_of d place n o ≡ Ok f → IsFitting d place f n
+      found : (o : Option Row) → found_in table s ≡ o → called_of d part n o ≡ Ok f → IsFitting d part f n
       found None e g = cc
       found (Some r) e g = row_fits r n f (found_right table s r table_right e) g
 
-      go : (b : Bool) → (if b then Err (unsupported s) else called_of d place n (found_in table s)) ≡ Ok f → IsFitting d place f n
+      go : (b : Bool) → (if b then Err (unsupported s) else called_of d part n (found_in table s)) ≡ Ok f → IsFitting d part f n
       go true g = cc
       go false g = found (found_in table s) refl g
 
 -- ---- expressions
 
-module _ (d : Dialect) (place : Place) (head : Pattern) where
+module _ (d : Dialect) (part : Part) (head : Pattern) where
   abbrev Good : Expr → Type 0
-  Good e = IsCovered head e × AllCallsFit d place e
+  Good e = IsCovered head e × AllCallsFit d part e
 
   abbrev AllGood : ℕ → Exprs → Type 0
-  AllGood n es = AreCovered head es × CallsOfAllFit d place es × (count_of es ≡ n)
+  AllGood n es = AreCovered head es × CallsOfAllFit d part es × (count_of es ≡ n)
 
   variable_good : (n : ℕ) (e : Expr) (b : Bool) → occurs n head ≡ b → (if b then Ok (bound_to n) else Err badarg) ≡ Ok e → Good e
   variable_good n e true o h = subst Good (ok_is (bound_to n) e h) (o, tt)
@@ -109,42 +121,42 @@ module _ (d : Dialect) (place : Place) (head : Pattern) where
   atom_good s a_wrong_variable e h = cc
   atom_good s a_plain_atom e h = plain_good s e (bytes_eq s (codes "$_")) (bytes_eq s (codes "$$")) h
 
-  call_good : (f : Called) (es : Exprs) → IsFitting d place f (count_of es) → AreCovered head es → CallsOfAllFit d place es → Good (call_of f es)
+  call_good : (f : Called) (es : Exprs) → IsFitting d part f (count_of es) → AreCovered head es → CallsOfAllFit d part es → Good (call_of f es)
   call_good (a_function f) es h c g = (c, (h, g))
   call_good an_and_also es h c g = (c, (h, g))
   call_good an_or_else es h c g = (c, (h, g))
   call_good (an_action a) es h c g = (c, (h, g))
 
-  tuple_good : (s : Name) (ts : Trees) (e : Expr) (b : Bool) → ((es : Exprs) → exprs_of d place head ts ≡ Ok es → AllGood (count ts) es)
-      → (if b then Ok (constant (only_element ts)) else then_read (named_call d place s (count ts)) (λ f. then_read (exprs_of d place head ts) (λ es. Ok (call_of f es)))) ≡ Ok e → Good e
+  tuple_good : (s : Name) (ts : Trees) (e : Expr) (b : Bool) → ((es : Exprs) → exprs_of d part head ts ≡ Ok es → AllGood (count ts) es)
+      → (if b then Ok (constant (only_element ts)) else then_read (named_call d part s (count ts)) (λ f. then_read (exprs_of d part head ts) (λ es. Ok (call_of f es)))) ≡ Ok e → Good e
   tuple_good s ts e true ih h = subst Good (ok_is (constant (only_element ts)) e h) (tt, tt)
   tuple_good s ts e false ih h =
-      let r : (f : Called) × (named_call d place s (count ts) ≡ Ok f) × (then_read (exprs_of d place head ts) (λ es. Ok (call_of f es)) ≡ Ok e) = then_ok _ _ e h in
-      let q : (es : Exprs) × (exprs_of d place head ts ≡ Ok es) × (read (call_of r.0 es) ≡ Ok e) = then_ok _ _ e r.2 in
+      let r : (f : Called) × (named_call d part s (count ts) ≡ Ok f) × (then_read (exprs_of d part head ts) (λ es. Ok (call_of f es)) ≡ Ok e) = then_ok _ _ e h in
+      let q : (es : Exprs) × (exprs_of d part head ts ≡ Ok es) × (read (call_of r.0 es) ≡ Ok e) = then_ok _ _ e r.2 in
       let g : AllGood (count ts) q.0 = ih q.0 q.1 in
-      subst Good (ok_is (call_of r.0 q.0) e q.2) (call_good r.0 q.0 (subst (λ n. IsFitting d place r.0 n) (sym g.2) (named_fits d place s (count ts) r.0 r.1)) g.0 g.1)
+      subst Good (ok_is (call_of r.0 q.0) e q.2) (call_good r.0 q.0 (subst (λ n. IsFitting d part r.0 n) (sym g.2) (named_fits d part s (count ts) r.0 r.1)) g.0 g.1)
 
   mutual
-    good_of : (t : Tree) (e : Expr) → expr_of d place head t ≡ Ok e → Good e
+    good_of : (t : Tree) (e : Expr) → expr_of d part head t ≡ Ok e → Good e
     good_of (int z) e h = subst Good (ok_is (constant (int z)) e h) (tt, tt)
     good_of (atom s) e h = atom_good s (atom_kind s) e h
     good_of (pid n) e h = subst Good (ok_is (constant (pid n)) e h) (tt, tt)
     good_of (list ts) e h =
-        let q : (es : Exprs) × (exprs_of d place head ts ≡ Ok es) × (read (list_of es) ≡ Ok e) = then_ok _ _ e h in
+        let q : (es : Exprs) × (exprs_of d part head ts ≡ Ok es) × (read (list_of es) ≡ Ok e) = then_ok _ _ e h in
         let g : AllGood (count ts) q.0 = all_good ts q.0 q.1 in
         subst Good (ok_is (list_of q.0) e q.2) (g.0, g.1)
     good_of (tuple (more (tuple ts) none)) e h =
-        let q : (es : Exprs) × (exprs_of d place head ts ≡ Ok es) × (read (tuple_of es) ≡ Ok e) = then_ok _ _ e h in
+        let q : (es : Exprs) × (exprs_of d part head ts ≡ Ok es) × (read (tuple_of es) ≡ Ok e) = then_ok _ _ e h in
         let g : AllGood (count ts) q.0 = all_good ts q.0 q.1 in
         subst Good (ok_is (tuple_of q.0) e q.2) (g.0, g.1)
     good_of (tuple (more (atom s) ts)) e h = tuple_good s ts e (is_constant s ts) (λ es k. all_good ts es k) h
     good_of (tuple _) e h = cc
 
-    all_good : (ts : Trees) (es : Exprs) → exprs_of d place head ts ≡ Ok es → AllGood (count ts) es
+    all_good : (ts : Trees) (es : Exprs) → exprs_of d part head ts ≡ Ok es → AllGood (count ts) es
     all_good none es h = subst (AllGood 0) (ok_is no_exprs es h) (tt, tt, refl)
     all_good (more t ts) es h =
-        let r : (e : Expr) × (expr_of d place head t ≡ Ok e) × (then_read (exprs_of d place head ts) (λ us. Ok (and_expr e us)) ≡ Ok es) = then_ok _ _ es h in
-        let q : (us : Exprs) × (exprs_of d place head ts ≡ Ok us) × (read (and_expr r.0 us) ≡ Ok es) = then_ok _ _ es r.2 in
+        let r : (e : Expr) × (expr_of d part head t ≡ Ok e) × (then_read (exprs_of d part head ts) (λ us. Ok (and_expr e us)) ≡ Ok es) = then_ok _ _ es h in
+        let q : (us : Exprs) × (exprs_of d part head ts ≡ Ok us) × (read (and_expr r.0 us) ≡ Ok es) = then_ok _ _ es r.2 in
         let g : Good r.0 = good_of t r.0 r.1 in
         let gs : AllGood (count ts) q.0 = all_good ts q.0 q.1 in
         let counted : suc (count_of q.0) ≡ count ts + 1 = (let e : count_of q.0 ≡ count ts = gs.2 in omega arith) in
@@ -217,7 +229,7 @@ body_fault_last d h p cs bs es e f g k =
     ap (after_head d cs bs) f ∙ ap (after_conditions d bs p) g ∙ ap (λ r. then_read r (λ body. Ok (record { head = p; conditions = es; body = body }))) k
 
 pub first_faulty_expression : FirstFaultyExpression
-first_faulty_expression d place p t ts e f = ap (λ r. then_read r (λ x. then_read (exprs_of d place p ts) (λ xs. Ok (and_expr x xs)))) f
+first_faulty_expression d part p t ts e f = ap (λ r. then_read r (λ x. then_read (exprs_of d part p ts) (λ xs. Ok (and_expr x xs)))) f
 
 -- `const` is no unsupported name
 never_const : (s : Name) (b : Bool) → bytes_eq s (codes "const") ≡ b → is_among unsupported_names s ≡ true → b ≡ false
@@ -228,6 +240,6 @@ never_const s true e h =
     cc
 
 pub unsupported_first : UnsupportedFirst
-unsupported_first d place p s ts h =
-    ap (λ b. if b && (count ts == 1) then Ok (constant (only_element ts)) else then_read (named_call d place s (count ts)) (λ f. then_read (exprs_of d place p ts) (λ es. Ok (call_of f es)))) (never_const s (bytes_eq s (codes "const")) refl h)
-    ∙ ap (λ b. then_read (if b then Err (unsupported s) else called_of d place (count ts) (found_in table s)) (λ f. then_read (exprs_of d place p ts) (λ es. Ok (call_of f es)))) h
+unsupported_first d part p s ts h =
+    ap (λ b. if b && (count ts == 1) then Ok (constant (only_element ts)) else then_read (named_call d part s (count ts)) (λ f. then_read (exprs_of d part p ts) (λ es. Ok (call_of f es)))) (never_const s (bytes_eq s (codes "const")) refl h)
+    ∙ ap (λ b. then_read (if b then Err (unsupported s) else called_of d part (count ts) (found_in table s)) (λ f. then_read (exprs_of d part p ts) (λ es. Ok (call_of f es)))) h

@@ -4,7 +4,7 @@ use Rattle.std.specs.Option.{option_map}
 use Rattle.def_term.specs.Tree.{Tree, tuple, list, of_elements}
 use Rattle.def_spec.specs.Matching.{Pattern, Bindings, Matches}
 use Rattle.def_spec.specs.Functions.{is_true, truth}
-use Rattle.def_spec.specs.Expressions.{Dialect, Expr, bound_to, whole_list, all_bound, constant, tuple_of, list_of, call, and_also, or_else, perform, Exprs, no_exprs, and_expr, Context, Place, in_body, value, values, all_in_turn, one_in_turn, if_true, unless_true, before, settled}
+use Rattle.def_spec.specs.Expressions.{Dialect, Expr, bound_to, whole_list, all_bound, constant, tuple_of, list_of, call, and_also, or_else, perform, Exprs, no_exprs, and_expr, Context, Part, in_body, value, values, all_in_turn, one_in_turn, if_true, unless_true, before, settled}
 use Rattle.def_spec.specs.Laws.{IsCovered, AreCovered, BodiesHaveValues, EachValue, EffectsChangeNoValue}
 
 settled-some : (r : Option Tree) → is_some (settled in_body r) ≡ true
@@ -78,20 +78,20 @@ never_empty None p e = cc
 never_empty (Some u) None e = cc
 never_empty (Some u) (Some us) e = cc
 
-module _ (d : Dialect) (place : Place) (b : Bindings) (c : Context) where
-  each-of : (es : Exprs) (ts : List Tree) → values d place b c es ≡ Some ts → EachValue d place b c es ts
+module _ (d : Dialect) (part : Part) (b : Bindings) (c : Context) where
+  each-of : (es : Exprs) (ts : List Tree) → values d part b c es ≡ Some ts → EachValue d part b c es ts
   each-of no_exprs [] h = tt
   each-of no_exprs (t ∷ ts) h = cc
   each-of (and_expr e es) [] h = never_empty _ _ h
   each-of (and_expr e es) (t ∷ ts) h =
-      let r : (value d place b c e ≡ Some t) × (values d place b c es ≡ Some ts) = first_of_both _ _ t ts h in
+      let r : (value d part b c e ≡ Some t) × (values d part b c es ≡ Some ts) = first_of_both _ _ t ts h in
       (r.0, each-of es ts r.1)
 
-  of-each : (es : Exprs) (ts : List Tree) → EachValue d place b c es ts → values d place b c es ≡ Some ts
+  of-each : (es : Exprs) (ts : List Tree) → EachValue d part b c es ts → values d part b c es ≡ Some ts
   of-each no_exprs [] h = refl
   of-each no_exprs (t ∷ ts) h = absurd h
   of-each (and_expr e es) [] h = absurd h
   of-each (and_expr e es) (t ∷ ts) h = λ i. before (h.0 i) (of-each es ts h.1 i)
 
 pub effects_change_no_value : EffectsChangeNoValue
-effects_change_no_value d place b c es ts = (each-of d place b c es ts, of-each d place b c es ts)
+effects_change_no_value d part b c es ts = (each-of d part b c es ts, of-each d part b c es ts)

@@ -1,4 +1,4 @@
--- Expressions of conditions and bodies, their values and their effects ("Match Specifications in Erlang", "Variables and Literals" and "Functions").
+-- Expressions of conditions and bodies, their values and their effects ("Match Specifications in Erlang", "Variables and Literals" and "Function Descriptions").
 -- Stands on bindings, on functions of values and on flags. Values don't use effects.
 use Rattle.std.specs.Prelude.{ℕ, Bool, true, false, if◌then◌else◌, List, [], ◌∷◌, ◌++◌, Option, Some, None}
 use Rattle.std.specs.Option.{option_and_then, option_map}
@@ -7,7 +7,7 @@ use Rattle.def_term.specs.Order.{same}
 use Rattle.def_term.specs.Names.{Mfa, word, mfa_term}
 use Rattle.def_term.specs.Alive.{Alive, is_alive}
 use Rattle.def_spec.specs.Flags.{Flag, Flags, no_flags, only, flag_named}
-use Rattle.def_spec.specs.Matching.{Bindings, bound}
+use Rattle.def_spec.specs.Matching.{Bindings, value_bound}
 use Rattle.def_spec.specs.Functions.{Func, truth, is_true, apply}
 
 -- what a specification is for: calls, sends or receives
@@ -57,12 +57,12 @@ pub data Effect : Type 0 where
   silences : Bool → Effect
   changes : (of_pid : ℕ) → (off on : Flags) → Effect
 
--- the pid of a living process
+-- the pid of a living process; of no other is a flag changed (own)
 abbrev pub living_pid : Alive → Tree → Option ℕ
 living_pid alive (pid n) = if is_alive alive n then Some n else None
 living_pid alive _ = None
 
--- the change of one flag of one process, where both are there
+-- the change of one flag of one process, where both are there; else the call faults and has no effect (own)
 abbrev pub change : Bool → Option ℕ → Option Flag → Option (List Effect)
 change on (Some n) (Some f) = Some (changes n (if on then no_flags else only f) (if on then only f else no_flags) ∷ [])
 change on _ _ = None
@@ -90,26 +90,26 @@ caller_term None = word "undefined"
 caller_term (Some f) = mfa_term f
 
 -- the value and the effects of an action on its arguments' values; None is a fault
-abbrev pub act : Dialect → Action → List Tree → Context → Option (Tree × List Effect)
-act d message (t ∷ []) c = Some (word "true", gives_message t ∷ [])
-act d message _ c = None
-act d return_trace ts c = Some (word "true", of_calls d traces_return)
-act d exception_trace ts c = Some (word "true", of_calls d traces_exception)
-act d silent (t ∷ []) c = Some (word "true", silence t)
-act d silent _ c = None
-act d enable_trace ts c = option_map (λ es. (word "true", es)) (change_by true c ts)
-act d disable_trace ts c = option_map (λ es. (word "true", es)) (change_by false c ts)
-act d caller ts c = Some (caller_term c.caller_mfa, [])
+abbrev pub action_done : Dialect → Action → List Tree → Context → Option (Tree × List Effect)
+action_done d message (t ∷ []) c = Some (word "true", gives_message t ∷ [])
+action_done d message _ c = None
+action_done d return_trace ts c = Some (word "true", of_calls d traces_return)
+action_done d exception_trace ts c = Some (word "true", of_calls d traces_exception)
+action_done d silent (t ∷ []) c = Some (word "true", silence t)
+action_done d silent _ c = None
+action_done d enable_trace ts c = option_map (λ es. (word "true", es)) (change_by true c ts)
+action_done d disable_trace ts c = option_map (λ es. (word "true", es)) (change_by false c ts)
+action_done d caller ts c = Some (caller_term c.caller_mfa, [])
 
 -- ---- values
 
 -- where a fault is a fault of the whole, and where it is 'EXIT'
-pub data Place : Type 0 where
-  in_condition : Place
-  in_body : Place
+pub data Part : Type 0 where
+  in_condition : Part
+  in_body : Part
 
 -- in a condition a fault is the fault of the whole, in a body a call that faults has the value 'EXIT' (own)
-abbrev pub settled : Place → Option Tree → Option Tree
+abbrev pub settled : Part → Option Tree → Option Tree
 settled in_condition r = r
 settled in_body None = Some (word "EXIT")
 settled in_body (Some t) = Some t
@@ -139,20 +139,20 @@ before None ts = None
 before (Some t) None = None
 before (Some t) (Some ts) = Some (t ∷ ts)
 
-module _ (d : Dialect) (place : Place) (b : Bindings) (c : Context) where
+module _ (d : Dialect) (part : Part) (b : Bindings) (c : Context) where
   abbrev mutual
     -- the value of an expression; None is a fault
     pub value : Expr → Option Tree
-    value (bound_to n) = bound b n
+    value (bound_to n) = value_bound b n
     value whole_list = Some (list (of_elements c.matched_list))
     value all_bound = Some (list (of_elements (values_bound b)))
     value (constant t) = Some t
     value (tuple_of es) = option_map (λ ts. tuple (of_elements ts)) (values es)
     value (list_of es) = option_map (λ ts. list (of_elements ts)) (values es)
-    value (call f es) = settled place (option_and_then (λ ts. apply f ts c.me) (values es))
+    value (call f es) = settled part (option_and_then (λ ts. apply f ts c.me) (values es))
     value (and_also es) = all_in_turn es
     value (or_else es) = one_in_turn es
-    value (perform a es) = settled place (option_and_then (λ ts. value_part (act d a ts c)) (values es))
+    value (perform a es) = settled part (option_and_then (λ ts. value_part (action_done d a ts c)) (values es))
 
     -- left to right (own)
     pub values : Exprs → Option (List Tree)
@@ -194,7 +194,7 @@ module _ (d : Dialect) (b : Bindings) (c : Context) where
     effects (call f es) = effects_of_all es
     effects (and_also es) = effects_while_true es
     effects (or_else es) = effects_until_true es
-    effects (perform a es) = effects_of_all es ++ own_effects (option_and_then (λ ts. act d a ts c) (values d in_body b c es))
+    effects (perform a es) = effects_of_all es ++ own_effects (option_and_then (λ ts. action_done d a ts c) (values d in_body b c es))
 
     -- those of several expressions, left to right
     pub effects_of_all : Exprs → List Effect

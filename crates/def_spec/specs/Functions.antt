@@ -1,4 +1,4 @@
--- The functions of conditions and bodies ("Match Specifications in Erlang", "Functions Allowed in All Types of Match Specifications"), and the value of one on values.
+-- The functions of conditions and bodies ("Match Specifications in Erlang", "Function Descriptions", "Functions Allowed in All Types of Match Specifications"), and the value of one on values.
 -- Stands on terms and their order. None is a fault.
 use Rattle.std.specs.Prelude.{ℕ, zero, suc, ◌-◌, ◌^◌, Bool, true, false, not, ◌&&◌, ◌||◌, if◌then◌else◌, List, [], ◌∷◌, Option, Some, None, ℤ, pos, negsuc, ◌+ℤ◌, ◌-ℤ◌, ◌*ℤ◌, neg_ℤ, int_le, int_div, int_rem}
 use Rattle.std.specs.Int.{w64, int_bit_and, int_bit_or, int_bit_xor}
@@ -9,8 +9,9 @@ use Rattle.def_term.specs.Names.{word}
 
 -- tests of kinds, functions of lists and tuples, arithmetic, comparisons, the own pid and node, and logic
 pub data Func : Type 0 where
+  -- that is_boolean is allowed is (own)
   is_atom is_integer is_list is_tuple is_pid is_number is_boolean : Func
-  -- there are no such terms here
+  -- there are no such terms here; that is_bitstring is allowed is (own)
   is_float is_port is_reference is_map is_binary is_bitstring is_function : Func
   head tail length size tuple_size element : Func
   absolute add subtract multiply divide remainder : Func
@@ -84,12 +85,12 @@ boolean_test t = same t (word "true") || same t (word "false")
 -- ---- integers
 
 -- a whole number, which is a fault outside signed 64 bits (own)
-abbrev pub fitting : ℤ → Option Tree
-fitting z = if int_le (negsuc (2 ^ 63 - 1)) z && int_le z (pos (2 ^ 63 - 1)) then Some (int z) else None
+abbrev pub in_64_bits : ℤ → Option Tree
+in_64_bits z = if int_le (negsuc (2 ^ 63 - 1)) z && int_le z (pos (2 ^ 63 - 1)) then Some (int z) else None
 
 -- of an integer; of another term a fault
 abbrev pub of_integer : (ℤ → ℤ) → Tree → Option Tree
-of_integer f (int a) = fitting (f a)
+of_integer f (int a) = in_64_bits (f a)
 of_integer f _ = None
 
 -- of two integers; of other terms a fault
@@ -105,16 +106,16 @@ magnitude (negsuc n) = pos (suc n)
 -- toward zero; divisor 0 is a fault
 abbrev pub quotient : ℤ → ℤ → Option Tree
 quotient a (pos zero) = None
-quotient a b = fitting (int_div a b)
+quotient a b = in_64_bits (int_div a b)
 
 -- with the dividend's sign; divisor 0 is a fault
 abbrev pub rest_of : ℤ → ℤ → Option Tree
 rest_of a (pos zero) = None
-rest_of a b = fitting (int_rem a b)
+rest_of a b = in_64_bits (int_rem a b)
 
 -- a function of two integers with an integer as its value
 abbrev pub whole : (ℤ → ℤ → ℤ) → List Tree → Option Tree
-whole f ts = on_two (of_integers (λ a b. fitting (f a b))) ts
+whole f ts = on_two (of_integers (λ a b. in_64_bits (f a b))) ts
 
 -- ---- lists and tuples
 
@@ -149,19 +150,19 @@ abbrev pub element_of : Tree → Tree → Option Tree
 element_of (int (pos (suc n))) (tuple ts) = nth ts n
 element_of _ _ = None
 
--- ---- logic, where anything but `true` counts as not true (own)
+-- ---- logic; what its functions are where an argument is neither `true` nor `false` is this profile's (own)
 
--- and: where all are `true`
+-- and: where all are `true`; any other term counts as `false`
 abbrev pub all_true : List Tree → Bool
 all_true [] = true
 all_true (t ∷ ts) = is_true t && all_true ts
 
--- or: where one is `true`
+-- or: where one is `true`; any other term counts as `false`
 abbrev pub some_true : List Tree → Bool
 some_true [] = false
 some_true (t ∷ ts) = is_true t || some_true ts
 
--- `true` where one is `true` and the other `false`
+-- xor: where one is `true` and the other `false`
 abbrev pub differ : Tree → Tree → Bool
 differ t u = (same t (word "true") && same u (word "false")) || (same t (word "false") && same u (word "true"))
 

@@ -1,6 +1,6 @@
 -- What is promised of specifications ("Match Specifications in Erlang") and of flags (trace:process/4).
 -- Stands on all definitions of specifications.
-use Rattle.std.specs.Prelude.{◌≡◌, ◌↔◌, ◌≤◌, ℕ, suc, nat_le, true, false, not, ◌&&◌, ◌||◌, List, [], ◌∷◌, length, Some, None, is_some, Ok, Err}
+use Rattle.std.specs.Prelude.{◌≡◌, ◌↔◌, ◌≤◌, ℕ, suc, nat_le, true, false, not, ◌&&◌, ◌||◌, List, [], ◌∷◌, length, Option, Some, None, is_some, Ok, Err}
 use Rattle.std.specs.Bool.{⊤}
 use Rattle.def_term.specs.Tree.{Tree, atom, tuple, list, Trees, none, more}
 use Rattle.def_term.specs.Text.{is_among}
@@ -9,9 +9,9 @@ use Rattle.def_spec.specs.Flags.{Flag, Flags, only, set_on_spawn, set_on_first_s
 use Rattle.def_spec.specs.Matching.{Pattern, Bindings, Matches, bindings_of, occurs}
 use Rattle.def_spec.specs.Functions as fn
 use Rattle.def_spec.specs.Functions.{Func}
-use Rattle.def_spec.specs.Expressions.{Dialect, Action, message, return_trace, exception_trace, silent, enable_trace, disable_trace, caller, Expr, bound_to, whole_list, all_bound, constant, tuple_of, list_of, call, and_also, or_else, perform, Exprs, no_exprs, and_expr, Context, Place, in_condition, in_body, value, values}
+use Rattle.def_spec.specs.Expressions.{Dialect, Action, message, return_trace, exception_trace, silent, enable_trace, disable_trace, caller, Expr, bound_to, whole_list, all_bound, constant, tuple_of, list_of, call, and_also, or_else, perform, Exprs, no_exprs, and_expr, Context, Part, in_condition, in_body, value, values}
 use Rattle.def_spec.specs.Outcome.{Clause, Spec, Outcome, IsOutcome, outcome_of}
-use Rattle.def_spec.specs.Reading.{SpecFault, unsupported, Called, a_function, an_and_also, an_or_else, an_action, has_action, any_number, unsupported_names, expr_of, exprs_of, head_of, clause_of, spec_of}
+use Rattle.def_spec.specs.Reading.{SpecFault, unsupported, Called, a_function, an_and_also, an_or_else, an_action, has_action, is_at_most, unsupported_names, expr_of, exprs_of, head_of, clause_of, spec_of}
 
 -- ---- matching
 
@@ -65,15 +65,15 @@ BodiesHaveValues =
     is_some (value d in_body b c e) ≡ true
 
 -- each expression has the value that it has alone
-abbrev pub EachValue : Dialect → Place → Bindings → Context → Exprs → List Tree → Type 0
-EachValue d place b c no_exprs [] = ⊤
-EachValue d place b c no_exprs (t ∷ ts) = ⊥
-EachValue d place b c (and_expr e es) [] = ⊥
-EachValue d place b c (and_expr e es) (t ∷ ts) = (value d place b c e ≡ Some t) × EachValue d place b c es ts
+abbrev pub EachValue : Dialect → Part → Bindings → Context → Exprs → List Tree → Type 0
+EachValue d part b c no_exprs [] = ⊤
+EachValue d part b c no_exprs (t ∷ ts) = ⊥
+EachValue d part b c (and_expr e es) [] = ⊥
+EachValue d part b c (and_expr e es) (t ∷ ts) = (value d part b c e ≡ Some t) × EachValue d part b c es ts
 
 -- the values of several expressions are the values of each by itself: what was evaluated before, and the effects that it had, change none
 abbrev pub EffectsChangeNoValue : Type 0
-EffectsChangeNoValue = (d : Dialect) (place : Place) (b : Bindings) (c : Context) (es : Exprs) (ts : List Tree) → (values d place b c es ≡ Some ts) ↔ EachValue d place b c es ts
+EffectsChangeNoValue = (d : Dialect) (part : Part) (b : Bindings) (c : Context) (es : Exprs) (ts : List Tree) → (values d part b c es ≡ Some ts) ↔ EachValue d part b c es ts
 
 -- ---- reading
 
@@ -82,81 +82,81 @@ abbrev pub count_of : Exprs → ℕ
 count_of no_exprs = 0
 count_of (and_expr e es) = suc (count_of es)
 
--- the least and the greatest number of arguments
-abbrev pub numbers_of_function : Func → ℕ × ℕ
-numbers_of_function fn.own_pid = (0, 0)
-numbers_of_function fn.own_node = (0, 1)
-numbers_of_function fn.element = (2, 2)
-numbers_of_function fn.add = (2, 2)
-numbers_of_function fn.subtract = (2, 2)
-numbers_of_function fn.multiply = (2, 2)
-numbers_of_function fn.divide = (2, 2)
-numbers_of_function fn.remainder = (2, 2)
-numbers_of_function fn.bit_and = (2, 2)
-numbers_of_function fn.bit_or = (2, 2)
-numbers_of_function fn.bit_xor = (2, 2)
-numbers_of_function fn.greater = (2, 2)
-numbers_of_function fn.greater_or_equal = (2, 2)
-numbers_of_function fn.less = (2, 2)
-numbers_of_function fn.less_or_equal = (2, 2)
-numbers_of_function fn.equal = (2, 2)
-numbers_of_function fn.exactly_equal = (2, 2)
-numbers_of_function fn.not_equal = (2, 2)
-numbers_of_function fn.exactly_not_equal = (2, 2)
-numbers_of_function fn.just_one_of = (2, 2)
-numbers_of_function fn.all_of = (1, any_number)
-numbers_of_function fn.one_of = (1, any_number)
-numbers_of_function _ = (1, 1)
+-- the least and the greatest number of arguments, where there is a greatest
+abbrev pub numbers_of_function : Func → ℕ × Option ℕ
+numbers_of_function fn.own_pid = (0, Some 0)
+numbers_of_function fn.own_node = (0, Some 1)
+numbers_of_function fn.element = (2, Some 2)
+numbers_of_function fn.add = (2, Some 2)
+numbers_of_function fn.subtract = (2, Some 2)
+numbers_of_function fn.multiply = (2, Some 2)
+numbers_of_function fn.divide = (2, Some 2)
+numbers_of_function fn.remainder = (2, Some 2)
+numbers_of_function fn.bit_and = (2, Some 2)
+numbers_of_function fn.bit_or = (2, Some 2)
+numbers_of_function fn.bit_xor = (2, Some 2)
+numbers_of_function fn.greater = (2, Some 2)
+numbers_of_function fn.greater_or_equal = (2, Some 2)
+numbers_of_function fn.less = (2, Some 2)
+numbers_of_function fn.less_or_equal = (2, Some 2)
+numbers_of_function fn.equal = (2, Some 2)
+numbers_of_function fn.exactly_equal = (2, Some 2)
+numbers_of_function fn.not_equal = (2, Some 2)
+numbers_of_function fn.exactly_not_equal = (2, Some 2)
+numbers_of_function fn.just_one_of = (2, Some 2)
+numbers_of_function fn.all_of = (1, None)
+numbers_of_function fn.one_of = (1, None)
+numbers_of_function _ = (1, Some 1)
 
 -- those of an action
-abbrev pub numbers_of_action : Action → ℕ × ℕ
-numbers_of_action message = (1, 1)
-numbers_of_action return_trace = (0, 0)
-numbers_of_action exception_trace = (0, 0)
-numbers_of_action silent = (1, 1)
-numbers_of_action enable_trace = (1, 2)
-numbers_of_action disable_trace = (1, 2)
-numbers_of_action caller = (0, 0)
+abbrev pub numbers_of_action : Action → ℕ × Option ℕ
+numbers_of_action message = (1, Some 1)
+numbers_of_action return_trace = (0, Some 0)
+numbers_of_action exception_trace = (0, Some 0)
+numbers_of_action silent = (1, Some 1)
+numbers_of_action enable_trace = (1, Some 2)
+numbers_of_action disable_trace = (1, Some 2)
+numbers_of_action caller = (0, Some 0)
 
 -- those of what is called
-abbrev pub numbers_of : Called → ℕ × ℕ
+abbrev pub numbers_of : Called → ℕ × Option ℕ
 numbers_of (a_function f) = numbers_of_function f
-numbers_of an_and_also = (1, any_number)
-numbers_of an_or_else = (1, any_number)
+numbers_of an_and_also = (1, None)
+numbers_of an_or_else = (1, None)
 numbers_of (an_action a) = numbers_of_action a
 
--- a call with a number of arguments that fits, and in a place where it is allowed: no action stands in a condition, nor one that the dialect lacks
-abbrev pub IsAllowed : Dialect → Place → Called → Type 0
+-- a call with a number of arguments that fits, and in a part where it is allowed: no action stands in a condition, nor one that the dialect lacks
+abbrev pub IsAllowed : Dialect → Part → Called → Type 0
 IsAllowed d in_condition (an_action a) = ⊥
 IsAllowed d in_body (an_action a) = has_action d a ≡ true
-IsAllowed d place (a_function f) = ⊤
-IsAllowed d place an_and_also = ⊤
-IsAllowed d place an_or_else = ⊤
+IsAllowed d part (a_function f) = ⊤
+IsAllowed d part an_and_also = ⊤
+IsAllowed d part an_or_else = ⊤
 
 -- the number of arguments is one that the function has, and the call may stand there
-pub record IsFitting (d : Dialect) (place : Place) (f : Called) (n : ℕ) : Type 0 where
+pub record IsFitting (d : Dialect) (part : Part) (f : Called) (n : ℕ) : Type 0 where
   pub least : nat_le (numbers_of f).0 n ≡ true
-  pub most : nat_le n (numbers_of f).1 ≡ true
-  pub allowed : IsAllowed d place f
+  pub most : is_at_most (numbers_of f).1 n ≡ true
+  pub allowed : IsAllowed d part f
 
 abbrev mutual
   -- each call in the expression fits
-  pub AllCallsFit : Dialect → Place → Expr → Type 0
-  AllCallsFit d place (bound_to n) = ⊤
-  AllCallsFit d place whole_list = ⊤
-  AllCallsFit d place all_bound = ⊤
-  AllCallsFit d place (constant t) = ⊤
-  AllCallsFit d place (tuple_of es) = CallsOfAllFit d place es
-  AllCallsFit d place (list_of es) = CallsOfAllFit d place es
-  AllCallsFit d place (call f es) = IsFitting d place (a_function f) (count_of es) × CallsOfAllFit d place es
-  AllCallsFit d place (and_also es) = IsFitting d place an_and_also (count_of es) × CallsOfAllFit d place es
-  AllCallsFit d place (or_else es) = IsFitting d place an_or_else (count_of es) × CallsOfAllFit d place es
-  AllCallsFit d place (perform a es) = IsFitting d place (an_action a) (count_of es) × CallsOfAllFit d place es
+  pub AllCallsFit : Dialect → Part → Expr → Type 0
+  AllCallsFit d part (bound_to n) = ⊤
+  AllCallsFit d part whole_list = ⊤
+  AllCallsFit d part all_bound = ⊤
+  AllCallsFit d part (constant t) = ⊤
+  AllCallsFit d part (tuple_of es) = CallsOfAllFit d part es
+  AllCallsFit d part (list_of es) = CallsOfAllFit d part es
+  AllCallsFit d part (call f es) = IsFitting d part (a_function f) (count_of es) × CallsOfAllFit d part es
+  AllCallsFit d part (and_also es) = IsFitting d part an_and_also (count_of es) × CallsOfAllFit d part es
+  AllCallsFit d part (or_else es) = IsFitting d part an_or_else (count_of es) × CallsOfAllFit d part es
+  AllCallsFit d part (perform a es) = IsFitting d part (an_action a) (count_of es) × CallsOfAllFit d part es
 
   -- of several expressions
-  pub CallsOfAllFit : Dialect → Place → Exprs → Type 0
-  CallsOfAllFit d place no_exprs = ⊤
-  CallsOfAllFit d place (and_expr e es) = AllCallsFit d place e × CallsOfAllFit d place es
+  pub CallsOfAllFit : Dialect → Part → Exprs → Type 0
+  CallsOfAllFit d part no_exprs = ⊤
+  CallsOfAllFit d part (and_expr e es) = AllCallsFit d part e × CallsOfAllFit d part es
 
 -- variables that the head binds, and calls that fit, in conditions and in the body
 pub record IsSoundClause (d : Dialect) (k : Clause) : Type 0 where
@@ -198,7 +198,7 @@ FirstFaultyClause =
     (d : Dialect) (before : List Tree) (t : Tree) (after : Trees) (e : SpecFault) → AreRead d before → clause_of d t ≡ Err e →
     spec_of d (list (trees_before before (more t after))) ≡ Err e
 
--- of a clause the head's comes first, then that of the conditions, then that of the body
+-- of a clause the head's comes first
 abbrev pub HeadFaultFirst : Type 0
 HeadFaultFirst = (d : Dialect) (h : Tree) (cs bs : Trees) (e : SpecFault) → head_of h ≡ Err e → clause_of d (tuple (more h (more (list cs) (more (list bs) none)))) ≡ Err e
 
@@ -217,11 +217,11 @@ BodyFaultLast =
 -- of several expressions the first fault
 abbrev pub FirstFaultyExpression : Type 0
 FirstFaultyExpression =
-    (d : Dialect) (place : Place) (p : Pattern) (t : Tree) (ts : Trees) (e : SpecFault) → expr_of d place p t ≡ Err e → exprs_of d place p (more t ts) ≡ Err e
+    (d : Dialect) (part : Part) (p : Pattern) (t : Tree) (ts : Trees) (e : SpecFault) → expr_of d part p t ≡ Err e → exprs_of d part p (more t ts) ≡ Err e
 
 -- an unsupported name is a fault of its own, whatever its arguments
 abbrev pub UnsupportedFirst : Type 0
-UnsupportedFirst = (d : Dialect) (place : Place) (p : Pattern) (s : Name) (ts : Trees) → is_among unsupported_names s ≡ true → expr_of d place p (tuple (more (atom s) ts)) ≡ Err (unsupported s)
+UnsupportedFirst = (d : Dialect) (part : Part) (p : Pattern) (s : Name) (ts : Trees) → is_among unsupported_names s ≡ true → expr_of d part p (tuple (more (atom s) ts)) ≡ Err (unsupported s)
 
 -- ---- inheritance
 

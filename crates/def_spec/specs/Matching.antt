@@ -21,13 +21,13 @@ mutual
     no_patterns : Patterns
     and_pattern : Pattern → Patterns → Patterns
 
--- terms by the numbers of variables, in rising tree_cmp
+-- terms by the numbers of variables, in rising order
 abbrev pub Bindings : Type 0
 Bindings = List (ℕ × Tree)
 
 -- the term that is bound to a variable, where one is
-abbrev pub bound : Bindings → ℕ → Option Tree
-bound b n = find nat_cmp n b
+abbrev pub value_bound : Bindings → ℕ → Option Tree
+value_bound b n = find nat_cmp n b
 
 -- the variable stands in the pattern
 abbrev mutual
@@ -44,18 +44,18 @@ abbrev mutual
   occurs_in_some n (and_pattern p ps) = occurs n p || occurs_in_some n ps
 
 -- a step on the way to a part of a pattern: into the first of some patterns, or past it
-pub data Turn : Type 0 where
-  here : Turn
-  past : Turn
+pub data PathStep : Type 0 where
+  here : PathStep
+  past : PathStep
 
 -- a term of its own for each place of a pattern
 abbrev pub Fill : Type 0
-Fill = List Turn → Tree
+Fill = List PathStep → Tree
 
 -- the pattern with each variable replaced by what b gives, and each '_' by a term of its own
 abbrev mutual
   pub subst_in : Pattern → Bindings → Fill → Tree
-  subst_in (variable n) b fill = unwrap_or (bound b n) (list none)
+  subst_in (variable n) b fill = unwrap_or (value_bound b n) (list none)
   subst_in anything b fill = fill []
   subst_in (only_term t) b fill = t
   subst_in (in_tuple ps) b fill = tuple (subst_each ps b fill)
@@ -64,12 +64,12 @@ abbrev mutual
   -- each pattern so
   pub subst_each : Patterns → Bindings → Fill → Trees
   subst_each no_patterns b fill = none
-  subst_each (and_pattern p ps) b fill = more (subst_in p b (λ place. fill (here ∷ place))) (subst_each ps b (λ place. fill (past ∷ place)))
+  subst_each (and_pattern p ps) b fill = more (subst_in p b (λ path. fill (here ∷ path))) (subst_each ps b (λ path. fill (past ∷ path)))
 
 -- b binds exactly the pattern's variables, and for some fill the pattern becomes the term
 pub record Matches (p : Pattern) (t : Tree) (b : Bindings) : Type 0 where
   pub rising : IsTrue (is_sorted nat_cmp b)
-  pub exact : (n : ℕ) → is_some (bound b n) ≡ occurs n p
+  pub exact : (n : ℕ) → is_some (value_bound b n) ≡ occurs n p
   pub filled : (fill : Fill) × (subst_in p b fill ≡ t)
 
 -- what is bound once t was met at the variable n, where it had that value
@@ -80,7 +80,7 @@ met n t b (Some u) = if same u t then Some b else None
 -- the bindings after a pattern was held against a term, from those before
 abbrev mutual
   pub bind_on : Pattern → Tree → Bindings → Option Bindings
-  bind_on (variable n) t b = met n t b (bound b n)
+  bind_on (variable n) t b = met n t b (value_bound b n)
   bind_on anything t b = Some b
   bind_on (only_term c) t b = if same c t then Some b else None
   bind_on (in_tuple ps) (tuple ts) b = bind_each ps ts b

@@ -1,4 +1,4 @@
--- The outcome of a specification ("Match Specifications in Erlang", "Match Specification Operation").
+-- The outcome of a specification ("Match Specifications in Erlang", "Execution of the Match").
 -- Stands on matching, values and effects.
 -- Above the computed outcome stands `IsOutcome`: the least-numbered clause that fires.
 use Rattle.std.specs.Prelude.{◌≡◌, Bool, true, ◌⊎◌, ◌&&◌, if◌then◌else◌, List, [], ◌∷◌, Option, Some, None}

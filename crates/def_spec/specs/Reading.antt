@@ -9,7 +9,7 @@ use Rattle.def_term.specs.Text.{is_digit, is_among}
 use Rattle.def_spec.specs.Matching.{Pattern, variable, anything, only_term, in_tuple, in_list, Patterns, no_patterns, and_pattern, occurs}
 use Rattle.def_spec.specs.Functions as fn
 use Rattle.def_spec.specs.Functions.{Func}
-use Rattle.def_spec.specs.Expressions.{Dialect, for_calls, for_sends, for_receives, Action, message, return_trace, exception_trace, silent, enable_trace, disable_trace, caller, Expr, bound_to, whole_list, all_bound, constant, tuple_of, list_of, call, and_also, or_else, perform, Exprs, no_exprs, and_expr, Place, in_condition, in_body}
+use Rattle.def_spec.specs.Expressions.{Dialect, for_calls, for_sends, for_receives, Action, message, return_trace, exception_trace, silent, enable_trace, disable_trace, caller, Expr, bound_to, whole_list, all_bound, constant, tuple_of, list_of, call, and_also, or_else, perform, Exprs, no_exprs, and_expr, Part, in_condition, in_body}
 use Rattle.def_spec.specs.Outcome.{Clause, Spec}
 
 -- `badarg`, or `{unsupported,Name}`
@@ -35,9 +35,9 @@ all_digits [] = true
 all_digits (c ∷ cs) = is_digit c && all_digits cs
 
 -- the number that decimal digits spell behind a number
-abbrev pub number_from : ℕ → List ℕ → ℕ
-number_from n [] = n
-number_from n (d ∷ ds) = number_from (n * 10 + (d - 48)) ds
+abbrev pub decimal_from : ℕ → List ℕ → ℕ
+decimal_from n [] = n
+decimal_from n (d ∷ ds) = decimal_from (n * 10 + (d - 48)) ds
 
 -- `$` and one or more digits
 abbrev pub is_dollar_number : Name → Bool
@@ -67,7 +67,7 @@ digits_of (c ∷ cs) = cs
 abbrev pub atom_kind : Name → AtomKind
 atom_kind s =
     if is_dollar_number s
-    then (if is_plain_number (digits_of s) then a_variable (number_from 0 (digits_of s)) else a_wrong_variable)
+    then (if is_plain_number (digits_of s) then a_variable (decimal_from 0 (digits_of s)) else a_wrong_variable)
     else a_plain_atom
 
 -- the atom '_'
@@ -117,26 +117,26 @@ pub data Called : Type 0 where
   an_or_else : Called
   an_action : Action → Called
 
--- a name with what it calls, and the least and greatest number of arguments
+-- a name with what it calls, and the least and the greatest number of arguments, where there is a greatest. The numbers are this profile's (own)
 pub record Row : Type 0 where
   pub name : Name
   pub called : Called
   pub least : ℕ
-  pub most : ℕ
-
--- as many arguments as there may be elements
-abbrev pub any_number : ℕ
-any_number = 4096
+  pub most : Option ℕ
 
 -- a row of the table
-abbrev pub row : Name → Called → ℕ → ℕ → Row
+abbrev pub row : Name → Called → ℕ → Option ℕ → Row
 row s c least most = record { name = s; called = c; least = least; most = most }
 
 -- a function with so many arguments
 abbrev pub with_args : ℕ → Name → Func → Row
-with_args n s f = row s (a_function f) n n
+with_args n s f = row s (a_function f) n (Some n)
 
--- the functions of conditions and bodies, and the actions of bodies
+-- with one argument or more
+abbrev pub with_some : Name → Called → Row
+with_some s c = row s c 1 None
+
+-- the functions of conditions and bodies, and the actions of bodies; that is_boolean and is_bitstring are allowed is (own)
 abbrev pub table : List Row
 table =
     with_args 1 (codes "is_atom") fn.is_atom ∷ with_args 1 (codes "is_integer") fn.is_integer ∷ with_args 1 (codes "is_list") fn.is_list ∷ with_args 1 (codes "is_tuple") fn.is_tuple ∷ with_args 1 (codes "is_pid") fn.is_pid
@@ -147,11 +147,11 @@ table =
     ∷ with_args 2 (codes "band") fn.bit_and ∷ with_args 2 (codes "bor") fn.bit_or ∷ with_args 2 (codes "bxor") fn.bit_xor ∷ with_args 1 (codes "bnot") fn.bit_not
     ∷ with_args 2 (codes ">") fn.greater ∷ with_args 2 (codes ">=") fn.greater_or_equal ∷ with_args 2 (codes "<") fn.less ∷ with_args 2 (codes "=<") fn.less_or_equal
     ∷ with_args 2 (codes "==") fn.equal ∷ with_args 2 (codes "=:=") fn.exactly_equal ∷ with_args 2 (codes "/=") fn.not_equal ∷ with_args 2 (codes "=/=") fn.exactly_not_equal
-    ∷ with_args 0 (codes "self") fn.own_pid ∷ row (codes "node") (a_function fn.own_node) 0 1
-    ∷ row (codes "and") (a_function fn.all_of) 1 any_number ∷ row (codes "or") (a_function fn.one_of) 1 any_number ∷ row (codes "andalso") an_and_also 1 any_number ∷ row (codes "orelse") an_or_else 1 any_number
+    ∷ with_args 0 (codes "self") fn.own_pid ∷ row (codes "node") (a_function fn.own_node) 0 (Some 1)
+    ∷ with_some (codes "and") (a_function fn.all_of) ∷ with_some (codes "or") (a_function fn.one_of) ∷ with_some (codes "andalso") an_and_also ∷ with_some (codes "orelse") an_or_else
     ∷ with_args 2 (codes "xor") fn.just_one_of ∷ with_args 1 (codes "not") fn.is_false
-    ∷ row (codes "message") (an_action message) 1 1 ∷ row (codes "return_trace") (an_action return_trace) 0 0 ∷ row (codes "exception_trace") (an_action exception_trace) 0 0 ∷ row (codes "silent") (an_action silent) 1 1
-    ∷ row (codes "enable_trace") (an_action enable_trace) 1 2 ∷ row (codes "disable_trace") (an_action disable_trace) 1 2 ∷ row (codes "caller") (an_action caller) 0 0
+    ∷ row (codes "message") (an_action message) 1 (Some 1) ∷ row (codes "return_trace") (an_action return_trace) 0 (Some 0) ∷ row (codes "exception_trace") (an_action exception_trace) 0 (Some 0) ∷ row (codes "silent") (an_action silent) 1 (Some 1)
+    ∷ row (codes "enable_trace") (an_action enable_trace) 1 (Some 2) ∷ row (codes "disable_trace") (an_action disable_trace) 1 (Some 2) ∷ row (codes "caller") (an_action caller) 0 (Some 0)
     ∷ []
 
 -- functions of the OTP documentation that this profile leaves out
@@ -176,23 +176,28 @@ has_action for_sends a = true
 has_action for_receives a = false
 
 -- whether a call may stand there: actions in bodies alone
-abbrev pub is_allowed : Dialect → Place → Called → Bool
+abbrev pub is_allowed : Dialect → Part → Called → Bool
 is_allowed d in_condition (an_action a) = false
 is_allowed d in_body (an_action a) = has_action d a
-is_allowed d place _ = true
+is_allowed d part _ = true
+
+-- so many arguments are no more than the greatest number, where there is one
+abbrev pub is_at_most : Option ℕ → ℕ → Bool
+is_at_most None n = true
+is_at_most (Some most) n = nat_le n most
 
 -- so many arguments are allowed
 abbrev pub takes : Row → ℕ → Bool
-takes r n = nat_le r.least n && nat_le n r.most
+takes r n = nat_le r.least n && is_at_most r.most n
 
 -- a name that isn't in the table, a wrong number of arguments, or a call that isn't allowed there is a fault
-abbrev pub called_of : Dialect → Place → ℕ → Option Row → Reads Called
-called_of d place n None = Err badarg
-called_of d place n (Some r) = if takes r n && is_allowed d place r.called then Ok r.called else Err badarg
+abbrev pub called_of : Dialect → Part → ℕ → Option Row → Reads Called
+called_of d part n None = Err badarg
+called_of d part n (Some r) = if takes r n && is_allowed d part r.called then Ok r.called else Err badarg
 
 -- what a name with so many arguments calls; an unsupported name is a fault of its own
-abbrev pub named_call : Dialect → Place → Name → ℕ → Reads Called
-named_call d place s n = if is_among unsupported_names s then Err (unsupported s) else called_of d place n (found_in table s)
+abbrev pub named_call : Dialect → Part → Name → ℕ → Reads Called
+named_call d part s n = if is_among unsupported_names s then Err (unsupported s) else called_of d part n (found_in table s)
 
 -- the expression of a call
 abbrev pub call_of : Called → Exprs → Expr
@@ -219,7 +224,7 @@ abbrev pub only_element : Trees → Tree
 only_element none = tuple none
 only_element (more t ts) = t
 
-module _ (d : Dialect) (place : Place) (head : Pattern) where
+module _ (d : Dialect) (part : Part) (head : Pattern) where
   abbrev mutual
     -- integers and pids are themselves
     pub expr_of : Tree → Reads Expr
@@ -232,7 +237,7 @@ module _ (d : Dialect) (place : Place) (head : Pattern) where
     -- {const,T} is T, and {F,E1,..} a call; any other tuple is a fault
     expr_of (tuple (more (atom s) ts)) =
         if is_constant s ts then Ok (constant (only_element ts)) else
-        then_read (named_call d place s (count ts)) (λ f. then_read (exprs_of ts) (λ es. Ok (call_of f es)))
+        then_read (named_call d part s (count ts)) (λ f. then_read (exprs_of ts) (λ es. Ok (call_of f es)))
     expr_of (tuple _) = Err badarg
 
     -- several expressions, left to right

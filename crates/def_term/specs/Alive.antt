@@ -1,19 +1,31 @@
--- Which of the pids 100 to 163 live: those of the processes that one run may start (own).
+-- The pids of the processes that one run may start, and which of them live (own).
 -- Stands on nothing.
-use Rattle.std.specs.Prelude.{ℕ, ◌-◌, nat_le, Bool, false, ◌&&◌, List, count_by, slice_get, slice_set}
+use Rattle.std.specs.Prelude.{ℕ, ◌+◌, ◌-◌, nat_le, Bool, false, ◌&&◌, if◌then◌else◌, List, count_by, slice_get, slice_set}
 use Rattle.std.specs.Option.{unwrap_or}
 
--- for each of the pids from 100 on, whether it lives
+-- the first pid
+abbrev pub FIRST_PID : ℕ
+FIRST_PID = 100
+
+-- how many processes one run may start
+abbrev pub PROCESSES : ℕ
+PROCESSES = 64
+
+-- the last pid
+abbrev pub LAST_PID : ℕ
+LAST_PID = FIRST_PID + PROCESSES - 1
+
+-- for each of the pids from the first on, whether it lives
 abbrev pub Alive : Type 0
 Alive = List Bool
 
--- a pid outside 100 to 163 is no living process's
+-- a pid outside the first to the last is no living process's
 abbrev pub is_alive : Alive → ℕ → Bool
-is_alive alive n = nat_le 100 n && unwrap_or (slice_get alive (n - 100)) false
+is_alive alive n = nat_le FIRST_PID n && unwrap_or (slice_get alive (n - FIRST_PID)) false
 
--- one more process lives, or one less
+-- one more process lives, or one less; a pid that no process may have changes nothing
 abbrev pub with_alive : Alive → ℕ → Bool → Alive
-with_alive alive n b = slice_set alive (n - 100) b
+with_alive alive n b = if nat_le FIRST_PID n then slice_set alive (n - FIRST_PID) b else alive
 
 -- how many live
 abbrev pub living_count : Alive → ℕ

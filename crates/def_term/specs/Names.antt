@@ -1,5 +1,5 @@
 -- Names: atoms that name a module, a function, a variable or a session, and the functions that they name.
--- Stands on terms. {M,F,Arity} is that of the module `trace`.
+-- Stands on terms. {M,F,Arity} is that of trace:process/4.
 use Rattle.std.specs.Prelude.{ℕ, ◌==◌, Bool, ◌&&◌, List, codes, pos}
 use Prim.Native.String.{String}
 use Rattle.std.specs.Str.{bytes_eq}

@@ -31,7 +31,7 @@ abbrev pub is_among : List (List ℕ) → List ℕ → Bool
 is_among [] s = false
 is_among (w ∷ ws) s = bytes_eq s w || is_among ws s
 
--- the words that are no bare atoms ("Reserved Words" of the Erlang Reference Manual)
+-- the words that are no bare atoms ("Reserved Words" of the Erlang Reference Manual); `maybe` and `else` are none of them (own)
 abbrev pub reserved_words : List (List ℕ)
 reserved_words =
     codes "after" ∷ codes "and" ∷ codes "andalso" ∷ codes "band" ∷ codes "begin" ∷ codes "bnot" ∷ codes "bor" ∷ codes "bsl" ∷ codes "bsr" ∷ codes "bxor" ∷ codes "case" ∷ codes "catch" ∷ codes "cond" ∷ codes "div" ∷ codes "end"

@@ -5,8 +5,8 @@ use Rattle.def_term.specs.Tree.{Tree}
 use Rattle.def_text.specs.Tokens.{Token, Spanned, Tokens}
 use Rattle.def_text.specs.Grammar.{DerivesScript}
 use Rattle.def_text.specs.Limits.{DEPTH}
-use Rattle.def_text.specs.Faults.{Kind, Refusal, IsFirstFault}
-use Rattle.def_text.specs.Spelling.{LENGTH, Spells, Refused, tokens_of, place}
+use Rattle.def_text.specs.Faults.{Kind, Fault, IsFirstFault}
+use Rattle.def_text.specs.Spelling.{LENGTH, Spells, Refused, tokens_of, offset_of}
 use Rattle.def_text.specs.Reading.{read}
 use Rattle.def_text.specs.Scripts.{EachFits, IsFirstScriptFault, SpellsTerms, ScriptRefused}
 use Rattle.def_text.specs.ScriptReading.{read_script}
@@ -38,10 +38,10 @@ same_rest f r g s e same =
 abbrev pub ReadOrRefused : List ℕ → Type 0
 ReadOrRefused bytes = ((t : Tree) × Spells bytes t) ⊎ ((kind : Kind) × (at : ℕ) × Refused bytes kind at)
 
-pub refused_there : (bytes : List ℕ) (xs : List Spanned) (r : Refusal) → length bytes ≤ LENGTH → Tokens bytes xs → IsFirstFault DEPTH (tokens_of xs) r → (at : ℕ) × Refused bytes r.0 at
+pub refused_there : (bytes : List ℕ) (xs : List Spanned) (r : Fault) → length bytes ≤ LENGTH → Tokens bytes xs → IsFirstFault DEPTH (tokens_of xs) r → (at : ℕ) × Refused bytes r.0 at
 refused_there bytes xs r short are h =
     let p = part_at xs h.0 r.1 h.1 in (
-      place (length bytes) p.1,
+      offset_of (length bytes) p.1,
       record {
         short = short;
         front = p.0;
@@ -52,7 +52,7 @@ refused_there bytes xs r short are h =
       },
     )
 
-by_reading : (bytes : List ℕ) (xs : List Spanned) (q : Result Tree Refusal) → length bytes ≤ LENGTH → Tokens bytes xs → read DEPTH true (tokens_of xs) ≡ q → ReadOrRefused bytes
+by_reading : (bytes : List ℕ) (xs : List Spanned) (q : Result Tree Fault) → length bytes ≤ LENGTH → Tokens bytes xs → read DEPTH true (tokens_of xs) ≡ q → ReadOrRefused bytes
 by_reading bytes xs (Ok t) short are e = let f = found DEPTH (tokens_of xs) t e in inl (t, record { short = short; tokens = xs; are = are; derives = f.0; fits = f.1 })
 by_reading bytes xs (Err r) short are e = let there = refused_there bytes xs r short are (refused DEPTH (tokens_of xs) r e) in inr (r.0, there.0, there.1)
 
@@ -63,13 +63,13 @@ pub once : (bytes : List ℕ) (kind other : Kind) (at there : ℕ) → Refused b
 once bytes kind other at there r q =
     let same = same_tokens 0 bytes (r.front ++ r.rest) (q.front ++ q.rest) r.are q.are in
     let one = one_fault DEPTH (tokens_of (r.front ++ r.rest)) (kind, tokens_of r.rest) (other, tokens_of q.rest) r.first (subst (λ ys. IsFirstFault DEPTH (tokens_of ys) (other, tokens_of q.rest)) (sym same) q.first) in
-    (one.0, r.offset ∙ ap (place (length bytes)) (same_rest r.front r.rest q.front q.rest same one.1) ∙ sym q.offset)
+    (one.0, r.offset ∙ ap (offset_of (length bytes)) (same_rest r.front r.rest q.front q.rest same one.1) ∙ sym q.offset)
 
 -- scripts
-pub script_refused_there : (bytes : List ℕ) (xs : List Spanned) (r : Refusal) → length bytes ≤ LENGTH → Tokens bytes xs → IsFirstScriptFault DEPTH (tokens_of xs) r → (at : ℕ) × ScriptRefused bytes r.0 at
+pub script_refused_there : (bytes : List ℕ) (xs : List Spanned) (r : Fault) → length bytes ≤ LENGTH → Tokens bytes xs → IsFirstScriptFault DEPTH (tokens_of xs) r → (at : ℕ) × ScriptRefused bytes r.0 at
 script_refused_there bytes xs r short are h =
     let p = part_at xs h.0 r.1 h.1 in (
-      place (length bytes) p.1,
+      offset_of (length bytes) p.1,
       record {
         short = short;
         front = p.0;
@@ -83,7 +83,7 @@ script_refused_there bytes xs r short are h =
 abbrev pub ScriptReadOrRefused : List ℕ → Type 0
 ScriptReadOrRefused bytes = ((ts : List Tree) × SpellsTerms bytes ts) ⊎ ((kind : Kind) × (at : ℕ) × ScriptRefused bytes kind at)
 
-by_script_reading : (bytes : List ℕ) (xs : List Spanned) (q : Result (List Tree) Refusal) → length bytes ≤ LENGTH → Tokens bytes xs → read_script DEPTH true (tokens_of xs) ≡ q → ScriptReadOrRefused bytes
+by_script_reading : (bytes : List ℕ) (xs : List Spanned) (q : Result (List Tree) Fault) → length bytes ≤ LENGTH → Tokens bytes xs → read_script DEPTH true (tokens_of xs) ≡ q → ScriptReadOrRefused bytes
 by_script_reading bytes xs (Ok ts) short are e = let f = script.found DEPTH (tokens_of xs) ts e in inl (ts, record { short = short; tokens = xs; are = are; derives = f.0; fits = f.1 })
 by_script_reading bytes xs (Err r) short are e = let there = script_refused_there bytes xs r short are (script.refused DEPTH (tokens_of xs) r e) in inr (r.0, there.0, there.1)
 
@@ -94,7 +94,7 @@ pub script_once : (bytes : List ℕ) (kind other : Kind) (at there : ℕ) → Sc
 script_once bytes kind other at there r q =
     let same = same_tokens 0 bytes (r.front ++ r.rest) (q.front ++ q.rest) r.are q.are in
     let one = one_script_fault DEPTH (tokens_of (r.front ++ r.rest)) (kind, tokens_of r.rest) (other, tokens_of q.rest) r.first (subst (λ ys. IsFirstScriptFault DEPTH (tokens_of ys) (other, tokens_of q.rest)) (sym same) q.first) in
-    (one.0, r.offset ∙ ap (place (length bytes)) (same_rest r.front r.rest q.front q.rest same one.1) ∙ sym q.offset)
+    (one.0, r.offset ∙ ap (offset_of (length bytes)) (same_rest r.front r.rest q.front q.rest same one.1) ∙ sym q.offset)
 
 one_list : (xs : List Token) (ts us : List Tree) → DerivesScript xs ts → EachFits DEPTH true ts → DerivesScript xs us → EachFits DEPTH true us → ts ≡ us
 one_list xs ts us d f e g = let a = script.only DEPTH xs ts d f in let b = script.only DEPTH xs us e g in let both = sym a ∙ b in cc

@@ -5,13 +5,13 @@ use Rattle.def_term.specs.Tree.{Tree, depth}
 use Rattle.def_text.specs.Tokens.{Token}
 use Rattle.def_text.specs.Grammar.{Derives}
 use Rattle.def_text.specs.Limits.{Fits}
-use Rattle.def_text.specs.Faults.{Kind, misplaced, too_deep, too_large, Begins, Refusal, FaultAt, IsFirstFault}
-use Rattle.def_text.specs.Reading.{Bracket, brace, bracket, Sort, leaf, opens, closes, separates, sort, Place, first, next, behind, Frame, frame, State, inside, done, put, leaf_at, open_at, close_top, act, step, after_step, start, run, finish, read}
+use Rattle.def_text.specs.Faults.{Kind, misplaced, too_deep, too_large, Begins, Fault, FaultAt, IsFirstFault}
+use Rattle.def_text.specs.Reading.{Bracket, brace, bracket, Sort, leaf, opens, closes, separates, sort, Position, first, next, behind, Frame, frame, State, inside, done, put, leaf_at, open_at, close_top, step_by_sort, step, after_step, start, run, finish, read}
 use Rattle.def_text.proofs.Steps.{leaf_ok, open_ok, comma_ok, stands, opens as does_open}
 use Rattle.def_text.proofs.Complete.{reads}
 use Rattle.def_text.proofs.Runs.{went_on, run_led, run_append, run_stops, run_fits, can_end}
 
-finished : (r : Result State Refusal) (t : Tree) → finish r ≡ Ok t → r ≡ Ok (done t)
+finished : (r : Result State Fault) (t : Tree) → finish r ≡ Ok t → r ≡ Ok (done t)
 finished (Err q) t h = absurd (cc)
 finished (Ok (done u)) t h = cc
 finished (Ok (inside p fs)) t h = absurd (cc)
@@ -35,21 +35,21 @@ begins limit sized front s e =
     (c.0, c.1, run_led limit sized s front c.0 (done c.1) led c.2, run_fits limit sized s c.0 (done c.1) fits c.2)
 
 -- looser limits take the same steps
-pub act_higher : (limit m : ℕ) (sized : Bool) (s : State) (k : Sort) (s' : State) → limit ≤ m → act limit sized s k ≡ Ok s' → act m sized s k ≡ Ok s'
+pub act_higher : (limit m : ℕ) (sized : Bool) (s : State) (k : Sort) (s' : State) → limit ≤ m → step_by_sort limit sized s k ≡ Ok s' → step_by_sort m sized s k ≡ Ok s'
 act_higher limit m sized (inside first fs) (leaf t) s' above e = let h = leaf_ok limit sized t fs s' e in let n = h.0 in stands m sized t fs (omega (arith, above, n)) h.1 ∙ ap (λ z. Ok z) h.2
 act_higher limit m sized (inside next fs) (leaf t) s' above e = let h = leaf_ok limit sized t fs s' e in let n = h.0 in stands m sized t fs (omega (arith, above, n)) h.1 ∙ ap (λ z. Ok z) h.2
 act_higher limit m sized (inside first fs) (opens b) s' above e = let h = open_ok limit b fs s' e in let n = h.0 in does_open m b fs (omega (arith, above, n)) ∙ ap (λ z. Ok z) h.1
 act_higher limit m sized (inside next fs) (opens b) s' above e = let h = open_ok limit b fs s' e in let n = h.0 in does_open m b fs (omega (arith, above, n)) ∙ ap (λ z. Ok z) h.1
 act_higher limit m sized s k s' above e = e
 
-pub act_unsized : (limit : ℕ) (s : State) (k : Sort) (s' : State) → act limit true s k ≡ Ok s' → act limit false s k ≡ Ok s'
+pub act_unsized : (limit : ℕ) (s : State) (k : Sort) (s' : State) → step_by_sort limit true s k ≡ Ok s' → step_by_sort limit false s k ≡ Ok s'
 act_unsized limit (inside first fs) (leaf t) s' e = let h = leaf_ok limit true t fs s' e in stands limit false t fs h.0 refl ∙ ap (λ z. Ok z) h.2
 act_unsized limit (inside next fs) (leaf t) s' e = let h = leaf_ok limit true t fs s' e in stands limit false t fs h.0 refl ∙ ap (λ z. Ok z) h.2
 act_unsized limit (inside behind []) separates s' e = e
 act_unsized limit (inside behind (frame b f ∷ fs)) separates s' e = let h = comma_ok true b f fs s' e in ap (λ z. Ok z) h.1
 act_unsized limit s k s' e = e
 
-run_looser : (limit m : ℕ) (a b : Bool) → ((s : State) (k : Sort) (s' : State) → act limit a s k ≡ Ok s' → act m b s k ≡ Ok s') → (s : State) (xs : List Token) (s' : State) → run limit a s xs ≡ Ok s' → run m b s xs ≡ Ok s'
+run_looser : (limit m : ℕ) (a b : Bool) → ((s : State) (k : Sort) (s' : State) → step_by_sort limit a s k ≡ Ok s' → step_by_sort m b s k ≡ Ok s') → (s : State) (xs : List Token) (s' : State) → run limit a s xs ≡ Ok s' → run m b s xs ≡ Ok s'
 run_looser limit m a b f s [] s' e = e
 run_looser limit m a b f s (x ∷ xs) s' e =
     let w = went_on (step limit a s x) (λ z. run limit a z xs) (x ∷ xs) s' e in
@@ -93,7 +93,7 @@ apart_dl e = cc
 apart_ld : too_large ≡ too_deep → ⊥
 apart_ld e = cc
 
-pub act_misplaced : (limit m : ℕ) (a b : Bool) (s : State) (k : Sort) → act limit a s k ≡ Err misplaced → act m b s k ≡ Err misplaced
+pub act_misplaced : (limit m : ℕ) (a b : Bool) (s : State) (k : Sort) → step_by_sort limit a s k ≡ Err misplaced → step_by_sort m b s k ≡ Err misplaced
 act_misplaced limit m a b (inside first fs) (leaf t) e = absurd (leaf_never _ _ _ e)
 act_misplaced limit m a b (inside next fs) (leaf t) e = absurd (leaf_never _ _ _ e)
 act_misplaced limit m a b (inside first fs) (opens c) e = absurd (one_never _ _ too_deep misplaced apart_dm e)
@@ -121,7 +121,7 @@ close_only bracket (frame brace f ∷ fs) k e = cc
 close_only bracket (frame bracket f ∷ fs) k e = absurd (cc)
 
 abbrev pub Deep : ℕ → State → Sort → Type 0
-Deep limit s k = (act limit false s k ≡ Err too_deep) × (m : ℕ) × (limit ≤ m) × (s' : State) × (act m false s k ≡ Ok s')
+Deep limit s k = (step_by_sort limit false s k ≡ Err too_deep) × (m : ℕ) × (limit ≤ m) × (s' : State) × (step_by_sort m false s k ≡ Ok s')
 
 leaf_is_deep : (limit : ℕ) (t : Tree) (fs : List Frame) → nat_le (length fs + depth t) limit ≡ false → (leaf_at limit false t fs ≡ Err too_deep) × (m : ℕ) × (limit ≤ m) × (s' : State) × (leaf_at m false t fs ≡ Ok s')
 leaf_is_deep limit t fs h =
@@ -133,7 +133,7 @@ open_is_deep limit b fs e =
     let above = ltb-false (length fs) limit (one_refused (nat_lt (length fs) limit) _ too_deep e) in
     (e, suc (length fs), omega (arith, above), inside first (frame b [] ∷ fs), does_open (suc (length fs)) b fs (omega arith))
 
-pub deep : (limit : ℕ) (a : Bool) (s : State) (k : Sort) → act limit a s k ≡ Err too_deep → Deep limit s k
+pub deep : (limit : ℕ) (a : Bool) (s : State) (k : Sort) → step_by_sort limit a s k ≡ Err too_deep → Deep limit s k
 deep limit a (inside first fs) (leaf t) e = leaf_is_deep limit t fs (leaf_deep _ _ _ e)
 deep limit a (inside next fs) (leaf t) e = leaf_is_deep limit t fs (leaf_deep _ _ _ e)
 deep limit a (inside first fs) (opens b) e = open_is_deep limit b fs e
@@ -144,7 +144,7 @@ deep limit a (inside behind []) separates e = absurd (cc)
 deep limit a (inside behind (frame c f ∷ fs)) separates e = absurd (one_never _ _ too_large too_deep apart_ld e)
 deep limit a s k e = absurd (cc)
 
-pub large : (limit : ℕ) (a : Bool) (s : State) (k : Sort) → act limit a s k ≡ Err too_large → (s' : State) × (act limit false s k ≡ Ok s')
+pub large : (limit : ℕ) (a : Bool) (s : State) (k : Sort) → step_by_sort limit a s k ≡ Err too_large → (s' : State) × (step_by_sort limit false s k ≡ Ok s')
 large limit a (inside first fs) (leaf t) e = (put t fs, stands limit false t fs (leb-true _ _ (leaf_large _ _ _ e)) refl)
 large limit a (inside next fs) (leaf t) e = (put t fs, stands limit false t fs (leb-true _ _ (leaf_large _ _ _ e)) refl)
 large limit a (inside first fs) (opens b) e = absurd (one_never _ _ too_deep too_large apart_dl e)
@@ -170,7 +170,7 @@ fault_at limit front x rest z too_large e refused =
     let d = large limit true z (sort x) refused in
     (begins limit false (front ++ x ∷ []) d.0 (goes_on limit false front x z d.0 (loosest limit limit front z (omega arith) e) d.1), λ h. stuck limit true front x z too_large h.0 h.1 e refused h.2 h.3)
 
-unfinished : (limit : ℕ) (ts : List Token) (p : Place) (fs : List Frame) → run limit true start ts ≡ Ok (inside p fs) → IsFirstFault limit ts (misplaced, [])
+unfinished : (limit : ℕ) (ts : List Token) (p : Position) (fs : List Frame) → run limit true start ts ≡ Ok (inside p fs) → IsFirstFault limit ts (misplaced, [])
 unfinished limit ts p fs e = (
   ts,
   sym (append-nil ts),
@@ -182,7 +182,7 @@ unfinished limit ts p fs e = (
       cc,
 )
 
-refused_by : (limit : ℕ) (ts : List Token) (r : Refusal) (q : Result State Refusal) → run limit true start ts ≡ q → finish q ≡ Err r → IsFirstFault limit ts r
+refused_by : (limit : ℕ) (ts : List Token) (r : Fault) (q : Result State Fault) → run limit true start ts ≡ q → finish q ≡ Err r → IsFirstFault limit ts r
 refused_by limit ts r (Ok (done t)) e h = absurd (cc)
 refused_by limit ts r (Ok (inside p fs)) e h = let is : (misplaced, []) ≡ r = cc in subst (IsFirstFault limit ts) is (unfinished limit ts p fs e)
 refused_by limit ts r (Err q) e h =
@@ -190,5 +190,5 @@ refused_by limit ts r (Err q) e h =
     let w = run_stops limit true start ts q e in
     subst (IsFirstFault limit ts) is (w.0, w.4 ∙ ap (λ ys. w.0 ++ ys) (sym w.5), begins limit true w.0 w.3 w.6, subst (FaultAt limit w.0 q.0) (sym w.5) (fault_at limit w.0 w.1 w.2 w.3 q.0 w.6 w.7))
 
-pub refused : (limit : ℕ) (ts : List Token) (r : Refusal) → read limit true ts ≡ Err r → IsFirstFault limit ts r
+pub refused : (limit : ℕ) (ts : List Token) (r : Fault) → read limit true ts ≡ Err r → IsFirstFault limit ts r
 refused limit ts r h = refused_by limit ts r (run limit true start ts) refl h

@@ -4,7 +4,7 @@ use Rattle.def_term.specs.Tree.{Tree, of_elements, greatest_depth}
 use Rattle.def_text.specs.Tokens.{Token, comma}
 use Rattle.def_text.specs.Grammar.{Derives}
 use Rattle.def_text.specs.Limits.{Fits, sizes_ok}
-use Rattle.def_text.specs.Reading.{Bracket, node, opening, first, next, behind, Frame, frame, State, inside, done, has_room}
+use Rattle.def_text.specs.Reading.{Bracket, node, open_token, first, next, behind, Frame, frame, State, inside, done, has_room}
 
 -- the terms, each with a comma behind it
 abbrev pub CommaEach : List Tree → List Token → Type 0
@@ -14,7 +14,7 @@ CommaEach (t ∷ f) ts = (front : List Token) × (rest : List Token) × (ts ≡ 
 -- the tokens up to a place where a term may stand
 abbrev pub Open : List Frame → List Token → Type 0
 Open [] ts = ts ≡ []
-Open (frame b f ∷ fs) ts = (outer : List Token) × (inner : List Token) × (ts ≡ outer ++ opening b ∷ inner) × Open fs outer × CommaEach f inner
+Open (frame b f ∷ fs) ts = (outer : List Token) × (inner : List Token) × (ts ≡ outer ++ open_token b ∷ inner) × Open fs outer × CommaEach f inner
 
 abbrev pub LedFirst : List Frame → List Token → Type 0
 LedFirst [] ts = ⊥

@@ -4,18 +4,18 @@ use Rattle.std.proofs.lemmas.Bool.{ltb-true}
 use Rattle.def_term.specs.Tree.{Tree, int, none, depth, greatest_depth, of_elements}
 use Rattle.def_text.specs.Tokens.{Token, integer}
 use Rattle.def_text.specs.Limits.{sizes_ok}
-use Rattle.def_text.specs.Faults.{Kind, Refusal}
-use Rattle.def_text.specs.Reading.{Bracket, brace, bracket, node, closing, most, Sort, leaf, opens, closes, separates, nothing, first, next, behind, Frame, frame, State, inside, done, put, close_top, has_room, act, step, sort, after_step, run}
+use Rattle.def_text.specs.Faults.{Kind, Fault}
+use Rattle.def_text.specs.Reading.{Bracket, brace, bracket, node, close_token, most, Sort, leaf, opens, closes, separates, nothing, first, next, behind, Frame, frame, State, inside, done, put, close_top, has_room, step_by_sort, step, sort, after_step, run}
 use Rattle.def_text.proofs.Led.{Led, NodeFits, OpenFits, BehindFits, StateFits}
 use Rattle.def_text.proofs.Steps.{leaf_ok, open_ok, comma_ok, close_ok, stands}
 use Rattle.def_text.proofs.Sound.{step_led}
 use Rattle.def_text.proofs.Complete.{count_of, all_push, node_parts, node_from, closes_first, closes_behind}
 
-pub went_on : (r : Result State Kind) (go : State → Result State Refusal) (ts : List Token) (s : State) → after_step r go ts ≡ Ok s → (z : State) × (r ≡ Ok z) × (go z ≡ Ok s)
+pub went_on : (r : Result State Kind) (go : State → Result State Fault) (ts : List Token) (s : State) → after_step r go ts ≡ Ok s → (z : State) × (r ≡ Ok z) × (go z ≡ Ok s)
 went_on (Ok z) go ts s h = (z, refl, h)
 went_on (Err k) go ts s h = absurd (cc)
 
-pub stopped : (r : Result State Kind) (go : State → Result State Refusal) (ts : List Token) (q : Refusal) → after_step r go ts ≡ Err q
+pub stopped : (r : Result State Kind) (go : State → Result State Fault) (ts : List Token) (q : Fault) → after_step r go ts ≡ Err q
     → ((z : State) × (r ≡ Ok z) × (go z ≡ Err q)) ⊎ ((k : Kind) × (r ≡ Err k) × (q ≡ (k, ts)))
 stopped (Ok z) go ts q h = inl (z, refl, h)
 stopped (Err k) go ts q h = inr (k, refl, let e : q ≡ (k, ts) = cc in e)
@@ -33,13 +33,13 @@ run_append limit sized s (x ∷ xs) ys s' e =
     ap (λ r. after_step r (λ z. run limit sized z (xs ++ ys)) (x ∷ (xs ++ ys))) w.1 ∙ run_append limit sized w.0 xs ys s' w.2
 
 -- where a run stops
-pub run_stops : (limit : ℕ) (sized : Bool) (s : State) (xs : List Token) (q : Refusal) → run limit sized s xs ≡ Err q
+pub run_stops : (limit : ℕ) (sized : Bool) (s : State) (xs : List Token) (q : Fault) → run limit sized s xs ≡ Err q
     → (front : List Token) × (x : Token) × (rest : List Token) × (z : State) × (xs ≡ front ++ x ∷ rest) × (q.1 ≡ x ∷ rest) × (run limit sized s front ≡ Ok z) × (step limit sized z x ≡ Err q.0)
 run_stops limit sized s [] q e = absurd (cc)
 run_stops limit sized s (x ∷ xs) q e =
     elim (stopped (step limit sized s x) (λ z. run limit sized z xs) (x ∷ xs) q e) [
       | inl w ↦ let r = run_stops limit sized w.0 xs q w.2 in (x ∷ r.0, r.1, r.2, r.3, ap (λ zs. x ∷ zs) r.4, r.5, ap (λ a. after_step a (λ z. run limit sized z r.0) (x ∷ r.0)) w.1 ∙ r.6, r.7)
-      | inr w ↦ ([], x, xs, s, refl, ap (λ (p : Refusal). p.1) w.2, refl, w.1 ∙ ap (λ (p : Refusal). Err p.0) (sym w.2))
+      | inr w ↦ ([], x, xs, s, refl, ap (λ (p : Fault). p.1) w.2, refl, w.1 ∙ ap (λ (p : Fault). Err p.0) (sym w.2))
     ]
 
 -- limits
@@ -68,7 +68,7 @@ put_fits limit sized (frame b f ∷ fs) t h below z =
     let node_fits : NodeFits limit sized b (f ++ t ∷ []) fs = record { nests = omega (arith, greatest_push f t, n); sizes = node_push sized b f t h.1 h.0.sizes z } in
     (node_fits, h.2)
 
-leaf_fits : (limit : ℕ) (sized : Bool) (t : Tree) (fs : List Frame) (s : State) → OpenFits limit sized fs → act limit sized (inside next fs) (leaf t) ≡ Ok s → StateFits limit sized s
+leaf_fits : (limit : ℕ) (sized : Bool) (t : Tree) (fs : List Frame) (s : State) → OpenFits limit sized fs → step_by_sort limit sized (inside next fs) (leaf t) ≡ Ok s → StateFits limit sized s
 leaf_fits limit sized t fs s h e = let k = leaf_ok limit sized t fs s e in let below = k.0 in subst (StateFits limit sized) k.2 (put_fits limit sized fs t h (omega (arith, below)) k.1)
 
 empty_ok : (sized : Bool) (b : Bracket) → sizes_ok sized (node b none) ≡ true
@@ -81,7 +81,7 @@ empty_room false b = refl
 empty_room true brace = refl
 empty_room true bracket = refl
 
-open_fits : (limit : ℕ) (sized : Bool) (b : Bracket) (fs : List Frame) (s : State) → OpenFits limit sized fs → act limit sized (inside next fs) (opens b) ≡ Ok s → StateFits limit sized s
+open_fits : (limit : ℕ) (sized : Bool) (b : Bracket) (fs : List Frame) (s : State) → OpenFits limit sized fs → step_by_sort limit sized (inside next fs) (opens b) ≡ Ok s → StateFits limit sized s
 open_fits limit sized b fs s h e =
     let k = open_ok limit b fs s e in
     let below = k.0 in
@@ -97,11 +97,11 @@ close_open limit sized b fs s h e = let k = close_ok b fs s e in let h' : OpenFi
 close_behind : (limit : ℕ) (sized : Bool) (b : Bracket) (fs : List Frame) (s : State) → BehindFits limit sized fs → close_top b fs ≡ Ok s → StateFits limit sized s
 close_behind limit sized b fs s h e = let k = close_ok b fs s e in let h' : BehindFits limit sized (frame b k.0 ∷ k.1) = subst (BehindFits limit sized) k.2 h in subst (StateFits limit sized) k.3 (node_closes limit sized b k.0 k.1 h'.0 h'.1)
 
-comma_fits : (limit : ℕ) (sized : Bool) (fs : List Frame) (s : State) → BehindFits limit sized fs → act limit sized (inside behind fs) separates ≡ Ok s → StateFits limit sized s
+comma_fits : (limit : ℕ) (sized : Bool) (fs : List Frame) (s : State) → BehindFits limit sized fs → step_by_sort limit sized (inside behind fs) separates ≡ Ok s → StateFits limit sized s
 comma_fits limit sized [] s h e = absurd (cc)
 comma_fits limit sized (frame b f ∷ fs) s h e = let k = comma_ok sized b f fs s e in subst (StateFits limit sized) k.1 (h.0, k.0, h.1)
 
-pub act_fits : (limit : ℕ) (sized : Bool) (s : State) (k : Sort) (s' : State) → StateFits limit sized s → act limit sized s k ≡ Ok s' → StateFits limit sized s'
+pub act_fits : (limit : ℕ) (sized : Bool) (s : State) (k : Sort) (s' : State) → StateFits limit sized s → step_by_sort limit sized s k ≡ Ok s' → StateFits limit sized s'
 act_fits limit sized (done t) k s' h e = absurd (cc)
 act_fits limit sized (inside first fs) (leaf t) s' h e = leaf_fits limit sized t fs s' h e
 act_fits limit sized (inside first fs) (opens b) s' h e = open_fits limit sized b fs s' h e
@@ -128,7 +128,7 @@ run_fits limit sized s (x ∷ xs) s' h e =
 -- each state that tokens lead to can be ended
 abbrev pub closers : List Frame → List Token
 closers [] = []
-closers (frame b f ∷ fs) = closing b ∷ closers fs
+closers (frame b f ∷ fs) = close_token b ∷ closers fs
 
 ends : (limit : ℕ) (sized : Bool) (fs : List Frame) (t : Tree) → (u : Tree) × (run limit sized (put t fs) (closers fs) ≡ Ok (done u))
 ends limit sized [] t = (t, refl)
@@ -144,11 +144,11 @@ zero_ok true = refl
 pub can_end : (limit : ℕ) (sized : Bool) (s : State) (ts : List Token) → Led s ts → StateFits limit sized s → (further : List Token) × (t : Tree) × (run limit sized s further ≡ Ok (done t))
 can_end limit sized (done t) ts h k = ([], t, refl)
 can_end limit sized (inside first []) ts h k = absurd h
-can_end limit sized (inside first (frame b f ∷ fs)) ts h k = let e = ends limit sized fs (node b (of_elements f)) in (closing b ∷ closers fs, e.0, closes_first limit sized b f fs (closers fs) ∙ e.1)
+can_end limit sized (inside first (frame b f ∷ fs)) ts h k = let e = ends limit sized fs (node b (of_elements f)) in (close_token b ∷ closers fs, e.0, closes_first limit sized b f fs (closers fs) ∙ e.1)
 can_end limit sized (inside next fs) ts h k =
     let e = ends limit sized fs (int (pos 0)) in
     let short = frames_short limit sized fs k in
     let x = integer (pos 0) in
     (x ∷ closers fs, e.0, ap (λ r. after_step r (λ z. run limit sized z (closers fs)) (x ∷ closers fs)) (stands limit sized (int (pos 0)) fs (omega (arith, short)) (zero_ok sized)) ∙ e.1)
 can_end limit sized (inside behind []) ts h k = absurd h
-can_end limit sized (inside behind (frame b f ∷ fs)) ts h k = let e = ends limit sized fs (node b (of_elements f)) in (closing b ∷ closers fs, e.0, closes_behind limit sized b f fs (closers fs) ∙ e.1)
+can_end limit sized (inside behind (frame b f ∷ fs)) ts h k = let e = ends limit sized fs (node b (of_elements f)) in (close_token b ∷ closers fs, e.0, closes_behind limit sized b f fs (closers fs) ∙ e.1)

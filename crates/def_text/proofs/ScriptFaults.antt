@@ -4,7 +4,7 @@ use Rattle.def_term.specs.Tree.{Tree, greatest_depth, of_elements}
 use Rattle.def_text.specs.Tokens as text
 use Rattle.def_text.specs.Tokens.{Token, stop}
 use Rattle.def_text.specs.Grammar.{DerivesScript}
-use Rattle.def_text.specs.Faults.{Kind, misplaced, too_deep, too_large, Refusal}
+use Rattle.def_text.specs.Faults.{Kind, misplaced, too_deep, too_large, Fault}
 use Rattle.def_text.specs.Reading.{first, next, behind, State, inside, done, start, step, sort}
 use Rattle.def_text.specs.Scripts.{EachFits, BeginsScript, ScriptFaultAt, IsFirstScriptFault}
 use Rattle.def_text.specs.ScriptReading.{ScriptState, reading, script_start, behind_term, with_terms, script_step, after_script_step, script_run, script_end, script_finish, read_script}
@@ -25,14 +25,14 @@ ends_at (reading us (inside next [])) ts h = let e : us ≡ ts = cc in ap (λ x.
 ends_at (reading us (inside next (f ∷ fs))) ts h = absurd (cc)
 
 -- a state that cannot end leaves nothing
-ends_misplaced : (s : ScriptState) (r : Refusal) → script_end s ≡ Err r → (misplaced, []) ≡ r
+ends_misplaced : (s : ScriptState) (r : Fault) → script_end s ≡ Err r → (misplaced, []) ≡ r
 ends_misplaced (reading us (done t)) r h = cc
 ends_misplaced (reading us (inside first fs)) r h = cc
 ends_misplaced (reading us (inside behind fs)) r h = cc
 ends_misplaced (reading us (inside next [])) r h = absurd (cc)
 ends_misplaced (reading us (inside next (f ∷ fs))) r h = cc
 
-finished : (q : Result ScriptState Refusal) (ts : List Tree) → script_finish q ≡ Ok ts → q ≡ Ok (reading ts start)
+finished : (q : Result ScriptState Fault) (ts : List Tree) → script_finish q ≡ Ok ts → q ≡ Ok (reading ts start)
 finished (Err r) ts h = absurd (cc)
 finished (Ok s) ts h = ap (λ x. Ok x) (ends_at s ts h)
 
@@ -125,7 +125,7 @@ fault_at limit front x rest z too_large e refused =
     let d = step_large limit z x refused in
     (begins limit false (front ++ x ∷ []) d.0 (goes_on limit false front x z d.0 (loosest limit limit script_start front z (omega arith) e) d.1), λ h. stuck limit true front x z too_large h.0 h.1 e refused h.2 h.3)
 
-unfinished : (limit : ℕ) (xs : List Token) (s : ScriptState) (r : Refusal) → script_run limit true script_start xs ≡ Ok s → script_end s ≡ Err r → IsFirstScriptFault limit xs (misplaced, [])
+unfinished : (limit : ℕ) (xs : List Token) (s : ScriptState) (r : Fault) → script_run limit true script_start xs ≡ Ok s → script_end s ≡ Err r → IsFirstScriptFault limit xs (misplaced, [])
 unfinished limit xs s r e h = (
   xs,
   sym (append-nil xs),
@@ -139,12 +139,12 @@ unfinished limit xs s r e h = (
       cc,
 )
 
-refused_by : (limit : ℕ) (xs : List Token) (r : Refusal) (q : Result ScriptState Refusal) → script_run limit true script_start xs ≡ q → script_finish q ≡ Err r → IsFirstScriptFault limit xs r
+refused_by : (limit : ℕ) (xs : List Token) (r : Fault) (q : Result ScriptState Fault) → script_run limit true script_start xs ≡ q → script_finish q ≡ Err r → IsFirstScriptFault limit xs r
 refused_by limit xs r (Ok s) e h = subst (IsFirstScriptFault limit xs) (ends_misplaced s r h) (unfinished limit xs s r e h)
 refused_by limit xs r (Err q) e h =
     let is : q ≡ r = cc in
     let w = script_run_stops limit true script_start xs q e in
     subst (IsFirstScriptFault limit xs) is (w.0, w.4 ∙ ap (λ ys. w.0 ++ ys) (sym w.5), begins limit true w.0 w.3 w.6, subst (ScriptFaultAt limit w.0 q.0) (sym w.5) (fault_at limit w.0 w.1 w.2 w.3 q.0 w.6 w.7))
 
-pub refused : (limit : ℕ) (xs : List Token) (r : Refusal) → read_script limit true xs ≡ Err r → IsFirstScriptFault limit xs r
+pub refused : (limit : ℕ) (xs : List Token) (r : Fault) → read_script limit true xs ≡ Err r → IsFirstScriptFault limit xs r
 refused limit xs r h = refused_by limit xs r (script_run limit true script_start xs) refl h

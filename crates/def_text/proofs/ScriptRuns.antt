@@ -5,7 +5,7 @@ use Rattle.def_text.specs.Tokens as text
 use Rattle.def_text.specs.Tokens.{Token, stop}
 use Rattle.def_text.specs.Grammar.{Derives, DerivesScript}
 use Rattle.def_text.specs.Limits.{Fits}
-use Rattle.def_text.specs.Faults.{Kind, Refusal}
+use Rattle.def_text.specs.Faults.{Kind, Fault}
 use Rattle.def_text.specs.Reading.{State, inside, done, start, step, sort, run}
 use Rattle.def_text.proofs.Led.{Led, StateFits}
 use Rattle.def_text.specs.Scripts.{EachFits}
@@ -61,11 +61,11 @@ script_step_fits limit sized (reading ts (inside p fs)) x s' h e =
     let w = with_ok ts (step limit sized (inside p fs) x) s' e in
     subst (ScriptFits limit sized) w.2 (h.0, act_fits limit sized (inside p fs) (sort x) w.0 h.1 w.1)
 
-pub script_went_on : (r : Result ScriptState Kind) (go : ScriptState → Result ScriptState Refusal) (xs : List Token) (s : ScriptState) → after_script_step r go xs ≡ Ok s → (z : ScriptState) × (r ≡ Ok z) × (go z ≡ Ok s)
+pub script_went_on : (r : Result ScriptState Kind) (go : ScriptState → Result ScriptState Fault) (xs : List Token) (s : ScriptState) → after_script_step r go xs ≡ Ok s → (z : ScriptState) × (r ≡ Ok z) × (go z ≡ Ok s)
 script_went_on (Ok z) go xs s h = (z, refl, h)
 script_went_on (Err k) go xs s h = absurd (cc)
 
-pub script_stopped : (r : Result ScriptState Kind) (go : ScriptState → Result ScriptState Refusal) (xs : List Token) (q : Refusal) → after_script_step r go xs ≡ Err q
+pub script_stopped : (r : Result ScriptState Kind) (go : ScriptState → Result ScriptState Fault) (xs : List Token) (q : Fault) → after_script_step r go xs ≡ Err q
     → ((z : ScriptState) × (r ≡ Ok z) × (go z ≡ Err q)) ⊎ ((k : Kind) × (r ≡ Err k) × (q ≡ (k, xs)))
 script_stopped (Ok z) go xs q h = inl (z, refl, h)
 script_stopped (Err k) go xs q h = inr (k, refl, let e : q ≡ (k, xs) = cc in e)
@@ -89,7 +89,7 @@ script_run_append limit sized s (x ∷ xs) ys s' e =
     ap (λ r. after_script_step r (λ z. script_run limit sized z (xs ++ ys)) (x ∷ (xs ++ ys))) w.1 ∙ script_run_append limit sized w.0 xs ys s' w.2
 
 -- where a run stops
-pub script_run_stops : (limit : ℕ) (sized : Bool) (s : ScriptState) (xs : List Token) (q : Refusal) → script_run limit sized s xs ≡ Err q
+pub script_run_stops : (limit : ℕ) (sized : Bool) (s : ScriptState) (xs : List Token) (q : Fault) → script_run limit sized s xs ≡ Err q
     → (front : List Token) × (x : Token) × (rest : List Token) × (z : ScriptState) × (xs ≡ front ++ x ∷ rest) × (q.1 ≡ x ∷ rest) × (script_run limit sized s front ≡ Ok z) × (script_step limit sized z x ≡ Err q.0)
 script_run_stops limit sized s [] q e = absurd (cc)
 script_run_stops limit sized s (x ∷ xs) q e =
@@ -97,7 +97,7 @@ script_run_stops limit sized s (x ∷ xs) q e =
       | inl w ↦
           let r = script_run_stops limit sized w.0 xs q w.2 in
           (x ∷ r.0, r.1, r.2, r.3, ap (λ zs. x ∷ zs) r.4, r.5, ap (λ a. after_script_step a (λ z. script_run limit sized z r.0) (x ∷ r.0)) w.1 ∙ r.6, r.7)
-      | inr w ↦ ([], x, xs, s, refl, ap (λ (p : Refusal). p.1) w.2, refl, w.1 ∙ ap (λ (p : Refusal). Err p.0) (sym w.2))
+      | inr w ↦ ([], x, xs, s, refl, ap (λ (p : Fault). p.1) w.2, refl, w.1 ∙ ap (λ (p : Fault). Err p.0) (sym w.2))
     ]
 
 -- a run within one term is a run of the script

@@ -4,7 +4,7 @@ use Rattle.def_term.specs.Tree.{Tree, int, atom, pid, list, of_elements}
 use Rattle.def_text.specs.Tokens as text
 use Rattle.def_text.specs.Tokens.{Token, comma}
 use Rattle.def_text.specs.Grammar.{of_codes, Derives, DerivesAll, DerivesRest}
-use Rattle.def_text.specs.Reading.{Bracket, brace, bracket, node, opening, closing, first, next, behind, Frame, frame, State, inside, done, put, leaf_at, open_at, close_top, comma_at, step}
+use Rattle.def_text.specs.Reading.{Bracket, brace, bracket, node, open_token, close_token, first, next, behind, Frame, frame, State, inside, done, put, leaf_at, open_at, close_top, comma_at, step}
 use Rattle.def_text.proofs.Led.{CommaEach, Open, LedFirst, LedBehind, Led}
 use Rattle.def_text.proofs.Steps.{leaf_ok, open_ok, comma_ok, close_ok}
 
@@ -25,7 +25,7 @@ all_ends c [] ts t last h d = (last, c ∷ [], ap (λ xs. xs ++ (last ++ c ∷ [
 all_ends c (s ∷ f) ts t last h d =
     (h.0, comma ∷ (h.1 ++ (last ++ c ∷ [])), ap (λ xs. xs ++ (last ++ c ∷ [])) h.2 ∙ append_assoc h.0 (comma ∷ h.1) (last ++ c ∷ []), h.3, rest_ends c f h.1 t last h.4 d)
 
-node_derives : (b : Bracket) (inner : List Token) (f : List Tree) → DerivesAll (closing b) inner (of_elements f) → Derives (opening b ∷ inner) (node b (of_elements f))
+node_derives : (b : Bracket) (inner : List Token) (f : List Tree) → DerivesAll (close_token b) inner (of_elements f) → Derives (open_token b ∷ inner) (node b (of_elements f))
 node_derives brace inner f d = (inner, refl, d)
 node_derives bracket inner f d = inl (inner, refl, d)
 
@@ -40,11 +40,11 @@ first_opens (frame b f ∷ fs) ts h = h.1
 leaf_led : (limit : ℕ) (sized : Bool) (t : Tree) (fs : List Frame) (ts : List Token) (x : Token) (s : State) → Open fs ts → Derives (x ∷ []) t → leaf_at limit sized t fs ≡ Ok s → Led s (ts ++ x ∷ [])
 leaf_led limit sized t fs ts x s o d e = let h = leaf_ok limit sized t fs s e in subst (λ z. Led z (ts ++ x ∷ [])) h.2 (put_led fs ts t (x ∷ []) o d)
 
-opened_led : (limit : ℕ) (b : Bracket) (fs : List Frame) (ts : List Token) (s : State) → Open fs ts → open_at limit b fs ≡ Ok s → Led s (ts ++ opening b ∷ [])
-opened_led limit b fs ts s o e = let h = open_ok limit b fs s e in subst (λ z. Led z (ts ++ opening b ∷ [])) h.1 (refl, (ts, [], refl, o, refl))
+opened_led : (limit : ℕ) (b : Bracket) (fs : List Frame) (ts : List Token) (s : State) → Open fs ts → open_at limit b fs ≡ Ok s → Led s (ts ++ open_token b ∷ [])
+opened_led limit b fs ts s o e = let h = open_ok limit b fs s e in subst (λ z. Led z (ts ++ open_token b ∷ [])) h.1 (refl, (ts, [], refl, o, refl))
 
 -- the bracket behind the first or a later term
-closed_first : (b : Bracket) (fs : List Frame) (ts : List Token) (s : State) → LedFirst fs ts → close_top b fs ≡ Ok s → Led s (ts ++ closing b ∷ [])
+closed_first : (b : Bracket) (fs : List Frame) (ts : List Token) (s : State) → LedFirst fs ts → close_top b fs ≡ Ok s → Led s (ts ++ close_token b ∷ [])
 closed_first b fs ts s h e =
     let k = close_ok b fs s e in
     let f = k.0 in
@@ -52,13 +52,13 @@ closed_first b fs ts s h e =
     let h' : LedFirst (frame b f ∷ gs) ts = subst (λ x. LedFirst x ts) k.2 h in
     let outer = h'.1.0 in
     let inner = h'.1.1 in
-    let c = closing b in
+    let c = close_token b in
     let none_in : inner ≡ [] = subst (λ g. CommaEach g inner) h'.0 h'.1.4 in
-    let d : Derives (opening b ∷ c ∷ []) (node b (of_elements f)) = node_derives b (c ∷ []) f (subst (λ g. DerivesAll c (c ∷ []) (of_elements g)) (sym h'.0) refl) in
-    let whole : ts ++ c ∷ [] ≡ outer ++ (opening b ∷ c ∷ []) = ap (λ xs. xs ++ c ∷ []) (h'.1.2 ∙ ap (λ xs. outer ++ opening b ∷ xs) none_in) ∙ append_assoc outer (opening b ∷ []) (c ∷ []) in
-    subst (λ x. Led x (ts ++ c ∷ [])) k.3 (subst (λ xs. Led (put (node b (of_elements f)) gs) xs) (sym whole) (put_led gs outer (node b (of_elements f)) (opening b ∷ c ∷ []) h'.1.3 d))
+    let d : Derives (open_token b ∷ c ∷ []) (node b (of_elements f)) = node_derives b (c ∷ []) f (subst (λ g. DerivesAll c (c ∷ []) (of_elements g)) (sym h'.0) refl) in
+    let whole : ts ++ c ∷ [] ≡ outer ++ (open_token b ∷ c ∷ []) = ap (λ xs. xs ++ c ∷ []) (h'.1.2 ∙ ap (λ xs. outer ++ open_token b ∷ xs) none_in) ∙ append_assoc outer (open_token b ∷ []) (c ∷ []) in
+    subst (λ x. Led x (ts ++ c ∷ [])) k.3 (subst (λ xs. Led (put (node b (of_elements f)) gs) xs) (sym whole) (put_led gs outer (node b (of_elements f)) (open_token b ∷ c ∷ []) h'.1.3 d))
 
-closed_behind : (b : Bracket) (fs : List Frame) (ts : List Token) (s : State) → LedBehind fs ts → close_top b fs ≡ Ok s → Led s (ts ++ closing b ∷ [])
+closed_behind : (b : Bracket) (fs : List Frame) (ts : List Token) (s : State) → LedBehind fs ts → close_top b fs ≡ Ok s → Led s (ts ++ close_token b ∷ [])
 closed_behind b fs ts s h e =
     let k = close_ok b fs s e in
     let g = k.0 in
@@ -70,12 +70,12 @@ closed_behind b fs ts s h e =
     let o = h'.6 in
     let outer = o.0 in
     let inner = o.1 in
-    let c = closing b in
+    let c = close_token b in
     let body = inner ++ (last ++ c ∷ []) in
-    let whole : Derives (opening b ∷ body) (node b (of_elements g)) = node_derives b body g (subst (λ x. DerivesAll c body (of_elements x)) (sym h'.4) (all_ends c f inner t last o.4 h'.7)) in
-    let split : ts ++ c ∷ [] ≡ outer ++ (opening b ∷ body) =
-    ap (λ xs. xs ++ c ∷ []) (h'.5 ∙ ap (λ xs. xs ++ last) o.2) ∙ append_assoc (outer ++ opening b ∷ inner) last (c ∷ []) ∙ append_assoc outer (opening b ∷ inner) (last ++ c ∷ []) in
-    subst (λ x. Led x (ts ++ c ∷ [])) k.3 (subst (λ xs. Led (put (node b (of_elements g)) gs) xs) (sym split) (put_led gs outer (node b (of_elements g)) (opening b ∷ body) o.3 whole))
+    let whole : Derives (open_token b ∷ body) (node b (of_elements g)) = node_derives b body g (subst (λ x. DerivesAll c body (of_elements x)) (sym h'.4) (all_ends c f inner t last o.4 h'.7)) in
+    let split : ts ++ c ∷ [] ≡ outer ++ (open_token b ∷ body) =
+    ap (λ xs. xs ++ c ∷ []) (h'.5 ∙ ap (λ xs. xs ++ last) o.2) ∙ append_assoc (outer ++ open_token b ∷ inner) last (c ∷ []) ∙ append_assoc outer (open_token b ∷ inner) (last ++ c ∷ []) in
+    subst (λ x. Led x (ts ++ c ∷ [])) k.3 (subst (λ xs. Led (put (node b (of_elements g)) gs) xs) (sym split) (put_led gs outer (node b (of_elements g)) (open_token b ∷ body) o.3 whole))
 
 comma_behind : (sized : Bool) (fs : List Frame) (ts : List Token) (s : State) → LedBehind fs ts → comma_at sized fs ≡ Ok s → Led s (ts ++ comma ∷ [])
 comma_behind sized [] ts s h e = absurd h
@@ -84,7 +84,7 @@ comma_behind sized (frame b g ∷ fs) ts s (f, t, front, last, g_is, ts_is, o, d
     let more : Open (frame b g ∷ fs) (ts ++ comma ∷ []) = (
       o.0,
       o.1 ++ (last ++ comma ∷ []),
-      ap (λ xs. xs ++ comma ∷ []) (ts_is ∙ ap (λ xs. xs ++ last) o.2) ∙ append_assoc (o.0 ++ opening b ∷ o.1) last (comma ∷ []) ∙ append_assoc o.0 (opening b ∷ o.1) (last ++ comma ∷ []),
+      ap (λ xs. xs ++ comma ∷ []) (ts_is ∙ ap (λ xs. xs ++ last) o.2) ∙ append_assoc (o.0 ++ open_token b ∷ o.1) last (comma ∷ []) ∙ append_assoc o.0 (open_token b ∷ o.1) (last ++ comma ∷ []),
       o.3,
       subst (λ x. CommaEach x (o.1 ++ (last ++ comma ∷ []))) (sym g_is) (each_more f o.1 t last o.4 d),
     ) in

@@ -21,8 +21,8 @@ abbrev pub BeginsAtAll : List Token → Type 0
 BeginsAtAll front = (further : List Token) × (t : Tree) × Derives (front ++ further) t
 
 -- a refusal, with the tokens from the refused one on; none are left where the whole text is only a beginning
-abbrev pub Refusal : Type 0
-Refusal = Kind × List Token
+abbrev pub Fault : Type 0
+Fault = Kind × List Token
 
 -- which refusal it is behind a front that begins a term within the limits: with the next token it begins none even without limits; else none within the depth; else none within the sizes
 abbrev pub FaultAt : ℕ → List Token → Kind → List Token → Type 0
@@ -34,5 +34,5 @@ FaultAt limit front too_deep (x ∷ rest) = BeginsAtAll (front ++ x ∷ []) × (
 FaultAt limit front too_large (x ∷ rest) = Begins limit false (front ++ x ∷ []) × (Begins limit true (front ++ x ∷ []) → ⊥)
 
 -- the refused token is the last of the shortest front that begins no term within the limits
-abbrev pub IsFirstFault : ℕ → List Token → Refusal → Type 0
+abbrev pub IsFirstFault : ℕ → List Token → Fault → Type 0
 IsFirstFault limit ts r = (front : List Token) × (ts ≡ front ++ r.1) × Begins limit true front × FaultAt limit front r.0 r.1

@@ -7,7 +7,7 @@ use Rattle.def_term.specs.Text.{is_digit, is_name_byte, w}
 use Rattle.def_text.specs.Tokens.{Token, integer, atom, pid, all_are, is_printable, stops, IsToken, Spanned, Tokens}
 use Rattle.def_text.specs.Grammar.{Derives, DerivesScript}
 use Rattle.def_text.specs.Limits.{DEPTH, Fits, in_range}
-use Rattle.def_text.specs.Faults.{Kind, Refusal, IsFirstFault}
+use Rattle.def_text.specs.Faults.{Kind, Fault, IsFirstFault}
 use Rattle.def_text.specs.Reading.{read}
 use Rattle.def_text.specs.Spelling.{LENGTH, Spells, Refused}
 use Rattle.def_text.specs.Scripts.{EachFits, IsFirstScriptFault, SpellsTerms, ScriptRefused}
@@ -36,7 +36,7 @@ DerivedTermIsRead = (limit : ℕ) (ts : List Token) (t : Tree) → Derives ts t 
 
 -- a refusal is that of the shortest front that begins no term within the limits
 abbrev pub TermFaultIsFirst : Type 0
-TermFaultIsFirst = (limit : ℕ) (ts : List Token) (r : Refusal) → read limit true ts ≡ Err r → IsFirstFault limit ts r
+TermFaultIsFirst = (limit : ℕ) (ts : List Token) (r : Fault) → read limit true ts ≡ Err r → IsFirstFault limit ts r
 
 -- ---- reading a script
 
@@ -50,7 +50,7 @@ DerivedScriptIsRead = (limit : ℕ) (xs : List Token) (ts : List Tree) → Deriv
 
 -- a refusal is that of the shortest front that begins no script within the limits
 abbrev pub ScriptFaultIsFirst : Type 0
-ScriptFaultIsFirst = (limit : ℕ) (xs : List Token) (r : Refusal) → read_script limit true xs ≡ Err r → IsFirstScriptFault limit xs r
+ScriptFaultIsFirst = (limit : ℕ) (xs : List Token) (r : Fault) → read_script limit true xs ≡ Err r → IsFirstScriptFault limit xs r
 
 -- ---- texts of one term
 

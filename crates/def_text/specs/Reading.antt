@@ -5,8 +5,8 @@ use Rattle.def_term.specs.Tree.{Tree, int, atom, pid, tuple, list, Trees, of_ele
 use Rattle.def_text.specs.Tokens as text
 use Rattle.def_text.specs.Tokens.{Token}
 use Rattle.def_text.specs.Grammar.{of_codes}
-use Rattle.def_text.specs.Limits.{sizes_ok}
-use Rattle.def_text.specs.Faults.{Kind, misplaced, too_deep, too_large, Refusal}
+use Rattle.def_text.specs.Limits.{TUPLE_LENGTH, LIST_LENGTH, sizes_ok}
+use Rattle.def_text.specs.Faults.{Kind, misplaced, too_deep, too_large, Fault}
 
 -- the brackets of a tuple, and those of a list
 pub data Bracket : Type 0 where
@@ -19,19 +19,19 @@ node brace us = tuple us
 node bracket us = list us
 
 -- the bracket that opens it
-abbrev pub opening : Bracket → Token
-opening brace = text.open_brace
-opening bracket = text.open_bracket
+abbrev pub open_token : Bracket → Token
+open_token brace = text.open_brace
+open_token bracket = text.open_bracket
 
 -- the bracket that closes it
-abbrev pub closing : Bracket → Token
-closing brace = text.close_brace
-closing bracket = text.close_bracket
+abbrev pub close_token : Bracket → Token
+close_token brace = text.close_brace
+close_token bracket = text.close_bracket
 
 -- a tuple has at most 255 elements, a list 4,096
 abbrev pub most : Bracket → ℕ
-most brace = 255
-most bracket = 4096
+most brace = TUPLE_LENGTH
+most bracket = LIST_LENGTH
 
 -- what a token does: it is a term, opens or closes a bracket, separates terms, or has no place in a term
 pub data Sort : Type 0 where
@@ -56,10 +56,10 @@ sort (text.pid n) = leaf (pid n)
 sort text.bad = nothing
 
 -- the place of the next token: behind an opening bracket, where a term must come, or behind a term
-pub data Place : Type 0 where
-  first : Place
-  next : Place
-  behind : Place
+pub data Position : Type 0 where
+  first : Position
+  next : Position
+  behind : Position
 
 -- the elements so far of a tuple or list that is open
 pub data Frame : Type 0 where
@@ -67,7 +67,7 @@ pub data Frame : Type 0 where
 
 -- within the open tuples and lists, the innermost first; or at the term's end
 pub data State : Type 0 where
-  inside : Place → List Frame → State
+  inside : Position → List Frame → State
   done : Tree → State
 
 -- nothing is read yet
@@ -106,44 +106,44 @@ comma_at sized [] = Err misplaced
 comma_at sized (frame b f ∷ fs) = cond (has_room sized b (length f)) (Ok (inside next (frame b f ∷ fs))) (Err too_large)
 
 -- by cases on the place and on what the token does
-abbrev pub act : ℕ → Bool → State → Sort → Result State Kind
-act limit sized (done t) k = Err misplaced
-act limit sized (inside first fs) (leaf t) = leaf_at limit sized t fs
-act limit sized (inside first fs) (opens b) = open_at limit b fs
-act limit sized (inside first fs) (closes b) = close_top b fs
-act limit sized (inside first fs) separates = Err misplaced
-act limit sized (inside first fs) nothing = Err misplaced
-act limit sized (inside next fs) (leaf t) = leaf_at limit sized t fs
-act limit sized (inside next fs) (opens b) = open_at limit b fs
-act limit sized (inside next fs) (closes b) = Err misplaced
-act limit sized (inside next fs) separates = Err misplaced
-act limit sized (inside next fs) nothing = Err misplaced
-act limit sized (inside behind fs) (leaf t) = Err misplaced
-act limit sized (inside behind fs) (opens b) = Err misplaced
-act limit sized (inside behind fs) (closes b) = close_top b fs
-act limit sized (inside behind fs) separates = comma_at sized fs
-act limit sized (inside behind fs) nothing = Err misplaced
+abbrev pub step_by_sort : ℕ → Bool → State → Sort → Result State Kind
+step_by_sort limit sized (done t) k = Err misplaced
+step_by_sort limit sized (inside first fs) (leaf t) = leaf_at limit sized t fs
+step_by_sort limit sized (inside first fs) (opens b) = open_at limit b fs
+step_by_sort limit sized (inside first fs) (closes b) = close_top b fs
+step_by_sort limit sized (inside first fs) separates = Err misplaced
+step_by_sort limit sized (inside first fs) nothing = Err misplaced
+step_by_sort limit sized (inside next fs) (leaf t) = leaf_at limit sized t fs
+step_by_sort limit sized (inside next fs) (opens b) = open_at limit b fs
+step_by_sort limit sized (inside next fs) (closes b) = Err misplaced
+step_by_sort limit sized (inside next fs) separates = Err misplaced
+step_by_sort limit sized (inside next fs) nothing = Err misplaced
+step_by_sort limit sized (inside behind fs) (leaf t) = Err misplaced
+step_by_sort limit sized (inside behind fs) (opens b) = Err misplaced
+step_by_sort limit sized (inside behind fs) (closes b) = close_top b fs
+step_by_sort limit sized (inside behind fs) separates = comma_at sized fs
+step_by_sort limit sized (inside behind fs) nothing = Err misplaced
 
 -- one token
 abbrev pub step : ℕ → Bool → State → Token → Result State Kind
-step limit sized s x = act limit sized s (sort x)
+step limit sized s x = step_by_sort limit sized s (sort x)
 
 -- goes on, or is refused at the first of these tokens
-abbrev pub after_step : Result State Kind → (State → Result State Refusal) → List Token → Result State Refusal
+abbrev pub after_step : Result State Kind → (State → Result State Fault) → List Token → Result State Fault
 after_step (Ok s) go ts = go s
 after_step (Err k) go ts = Err (k, ts)
 
 -- one token after the other
-abbrev pub run : ℕ → Bool → State → List Token → Result State Refusal
+abbrev pub run : ℕ → Bool → State → List Token → Result State Fault
 run limit sized s [] = Ok s
 run limit sized s (x ∷ xs) = after_step (step limit sized s x) (λ s'. run limit sized s' xs) (x ∷ xs)
 
 -- where the tokens end before the term does, the refusal has none left
-abbrev pub finish : Result State Refusal → Result Tree Refusal
+abbrev pub finish : Result State Fault → Result Tree Fault
 finish (Err r) = Err r
 finish (Ok (done t)) = Ok t
 finish (Ok (inside p fs)) = Err (misplaced, [])
 
 -- the term that the tokens derive, or the refusal
-abbrev pub read : ℕ → Bool → List Token → Result Tree Refusal
+abbrev pub read : ℕ → Bool → List Token → Result Tree Fault
 read limit sized ts = finish (run limit sized start ts)

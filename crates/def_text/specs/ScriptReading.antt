@@ -4,7 +4,7 @@ use Rattle.std.specs.Prelude.{ℕ, List, [], ◌∷◌, ◌++◌, Result, Ok, Er
 use Rattle.def_term.specs.Tree.{Tree}
 use Rattle.def_text.specs.Tokens as text
 use Rattle.def_text.specs.Tokens.{Token}
-use Rattle.def_text.specs.Faults.{Kind, misplaced, Refusal}
+use Rattle.def_text.specs.Faults.{Kind, misplaced, Fault}
 use Rattle.def_text.specs.Reading.{first, next, behind, State, inside, done, start, step}
 
 -- the terms so far, and how far the next one is read; between terms that is its start
@@ -31,17 +31,17 @@ script_step limit sized (reading ts (done t)) x = behind_term ts t x
 script_step limit sized (reading ts (inside p fs)) x = with_terms ts (step limit sized (inside p fs) x)
 
 -- goes on, or is refused at the first of these tokens
-abbrev pub after_script_step : Result ScriptState Kind → (ScriptState → Result ScriptState Refusal) → List Token → Result ScriptState Refusal
+abbrev pub after_script_step : Result ScriptState Kind → (ScriptState → Result ScriptState Fault) → List Token → Result ScriptState Fault
 after_script_step (Ok s) go xs = go s
 after_script_step (Err k) go xs = Err (k, xs)
 
 -- one token after the other
-abbrev pub script_run : ℕ → Bool → ScriptState → List Token → Result ScriptState Refusal
+abbrev pub script_run : ℕ → Bool → ScriptState → List Token → Result ScriptState Fault
 script_run limit sized s [] = Ok s
 script_run limit sized s (x ∷ xs) = after_script_step (script_step limit sized s x) (λ z. script_run limit sized z xs) (x ∷ xs)
 
 -- a script ends between terms; elsewhere the whole text is only a beginning, and no token is left
-abbrev pub script_end : ScriptState → Result (List Tree) Refusal
+abbrev pub script_end : ScriptState → Result (List Tree) Fault
 script_end (reading ts (done t)) = Err (misplaced, [])
 script_end (reading ts (inside first fs)) = Err (misplaced, [])
 script_end (reading ts (inside behind fs)) = Err (misplaced, [])
@@ -49,10 +49,10 @@ script_end (reading ts (inside next [])) = Ok ts
 script_end (reading ts (inside next (f ∷ fs))) = Err (misplaced, [])
 
 -- the end of a run
-abbrev pub script_finish : Result ScriptState Refusal → Result (List Tree) Refusal
+abbrev pub script_finish : Result ScriptState Fault → Result (List Tree) Fault
 script_finish (Err r) = Err r
 script_finish (Ok s) = script_end s
 
 -- the terms that the tokens derive as a script, or the refusal
-abbrev pub read_script : ℕ → Bool → List Token → Result (List Tree) Refusal
+abbrev pub read_script : ℕ → Bool → List Token → Result (List Tree) Fault
 read_script limit sized xs = script_finish (script_run limit sized script_start xs)

@@ -5,8 +5,8 @@ use Rattle.def_term.specs.Tree.{Tree}
 use Rattle.def_text.specs.Tokens.{Token, Spanned, Tokens}
 use Rattle.def_text.specs.Grammar.{DerivesScript}
 use Rattle.def_text.specs.Limits.{DEPTH, Fits}
-use Rattle.def_text.specs.Faults.{Kind, misplaced, too_deep, too_large, Refusal}
-use Rattle.def_text.specs.Spelling.{LENGTH, tokens_of, place}
+use Rattle.def_text.specs.Faults.{Kind, misplaced, too_deep, too_large, Fault}
+use Rattle.def_text.specs.Spelling.{LENGTH, tokens_of, offset_of}
 
 -- each term is within the limits
 abbrev pub EachFits : ℕ → Bool → List Tree → Type 0
@@ -31,7 +31,7 @@ ScriptFaultAt limit front too_deep (x ∷ rest) = BeginsAnyScript (front ++ x �
 ScriptFaultAt limit front too_large (x ∷ rest) = BeginsScript limit false (front ++ x ∷ []) × (BeginsScript limit true (front ++ x ∷ []) → ⊥)
 
 -- the refused token is the last of the shortest front that begins no script within the limits
-abbrev pub IsFirstScriptFault : ℕ → List Token → Refusal → Type 0
+abbrev pub IsFirstScriptFault : ℕ → List Token → Fault → Type 0
 IsFirstScriptFault limit xs r = (front : List Token) × (xs ≡ front ++ r.1) × BeginsScript limit true front × ScriptFaultAt limit front r.0 r.1
 
 -- the tokens of the bytes derive the terms, each with a full stop behind it, within the limits
@@ -49,4 +49,4 @@ pub record ScriptRefused (bytes : List ℕ) (kind : Kind) (at : ℕ) : Type 0 wh
   pub rest : List Spanned
   pub are : Tokens bytes (front ++ rest)
   pub first : IsFirstScriptFault DEPTH (tokens_of (front ++ rest)) (kind, tokens_of rest)
-  pub offset : at ≡ place (length bytes) rest
+  pub offset : at ≡ offset_of (length bytes) rest

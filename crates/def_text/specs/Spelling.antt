@@ -24,9 +24,9 @@ pub record Spells (bytes : List ℕ) (t : Tree) : Type 0 where
   pub fits : Fits DEPTH true t
 
 -- the offset of the first byte of the first of these tokens, or the text's length where none is left
-abbrev pub place : ℕ → List Spanned → ℕ
-place end [] = end
-place end (x ∷ xs) = x.from
+abbrev pub offset_of : ℕ → List Spanned → ℕ
+offset_of end [] = end
+offset_of end (x ∷ xs) = x.from
 
 -- refused so at that offset, that of the first byte of the refused token
 pub record Refused (bytes : List ℕ) (kind : Kind) (at : ℕ) : Type 0 where
@@ -35,4 +35,4 @@ pub record Refused (bytes : List ℕ) (kind : Kind) (at : ℕ) : Type 0 where
   pub rest : List Spanned
   pub are : Tokens bytes (front ++ rest)
   pub first : IsFirstFault DEPTH (tokens_of (front ++ rest)) (kind, tokens_of rest)
-  pub offset : at ≡ place (length bytes) rest
+  pub offset : at ≡ offset_of (length bytes) rest
