@@ -15,9 +15,10 @@ use Rattle.tn_spec.specs.declared.expr.Expr as code
 use Rattle.tn_guard.specs.Views.{value_seen}
 use Rattle.tn_head.specs.Views.{binding_seen}
 use Rattle.tn_head.specs.declared.bindings.Binding.{Binding}
-use Rattle.tn_action.specs.declared.scene.Place.{Place}
-use Rattle.tn_action.specs.declared.scene.Place.TheVariants.{Condition, Body}
-use Rattle.tn_action.specs.Scenes.{place_seen, placed, unless_faulted}
+use Rattle.tn_action.specs.declared.scene.Part.{Part}
+use Rattle.tn_action.specs.declared.scene.Part.TheVariants.{Condition, Body}
+use Rattle.tn_action.specs.Parts.{part_seen}
+use Rattle.tn_action.specs.Scenes.{effects_of_part, unless_faulted}
 
 -- ---- the expressions of a vector
 
@@ -79,16 +80,16 @@ each_bound (b ∷ bs) = ap (λ ts. value_seen b.value ∷ ts) (each_bound bs)
 
 -- ---- effects
 
-pub placed_append : (p : Place) (xs ys : List Effect) → placed p (xs ++ ys) ≡ placed p xs ++ placed p ys
-placed_append Condition xs ys = refl
-placed_append Body xs ys = refl
+pub of_part_append : (p : Part) (xs ys : List Effect) → effects_of_part p (xs ++ ys) ≡ effects_of_part p xs ++ effects_of_part p ys
+of_part_append Condition xs ys = refl
+of_part_append Body xs ys = refl
 
-pub placed_none : (p : Place) → placed p [] ≡ []
-placed_none Condition = refl
-placed_none Body = refl
+pub of_part_none : (p : Part) → effects_of_part p [] ≡ []
+of_part_none Condition = refl
+of_part_none Body = refl
 
-pub nothing : (p : Place) (xs es : List Effect) → es ≡ [] → xs ≡ xs ++ placed p es
-nothing p xs es e = sym (ap (λ ys. xs ++ placed p ys) e ∙ ap (λ ys. xs ++ ys) (placed_none p) ∙ append-nil xs)
+pub nothing : (p : Part) (xs es : List Effect) → es ≡ [] → xs ≡ xs ++ effects_of_part p es
+nothing p xs es e = sym (ap (λ ys. xs ++ effects_of_part p ys) e ∙ ap (λ ys. xs ++ ys) (of_part_none p) ∙ append-nil xs)
 
 -- one expression's effects, and then the others'
 pub further : (old new here rest all : List Effect) → new ≡ old ++ here → all ≡ here ++ rest → new ++ rest ≡ old ++ all
@@ -99,8 +100,8 @@ pub at_last : (old new here all : List Effect) → new ≡ old ++ here → all �
 at_last old new here all e a = e ∙ ap (λ xs. old ++ xs) (sym (a ∙ append-nil here))
 
 module _ (d : ex.Dialect) (b : Bindings) (c : ex.Context) where
-  pub while_here : (p : Place) (e : Expr) (es : Exprs) (v : Option Tree) → ex.value d (place_seen p) b c e ≡ v
-      → placed p (ex.effects_while_true d b c (and_expr e es)) ≡ placed p (ex.effects d b c e) ++ (if is_true_value v then placed p (ex.effects_while_true d b c es) else [])
+  pub while_here : (p : Part) (e : Expr) (es : Exprs) (v : Option Tree) → ex.value d (part_seen p) b c e ≡ v
+      → effects_of_part p (ex.effects_while_true d b c (and_expr e es)) ≡ effects_of_part p (ex.effects d b c e) ++ (if is_true_value v then effects_of_part p (ex.effects_while_true d b c es) else [])
   while_here Condition e es v h = none_either (is_true_value v)
     where
       none_either : (t : Bool) → ◌≡◌ {A = List Effect} [] (if t then [] else [])
@@ -108,8 +109,8 @@ module _ (d : ex.Dialect) (b : Bindings) (c : ex.Context) where
       none_either false = refl
   while_here Body e es v h = ap (λ w. ex.effects d b c e ++ (if is_true_value w then ex.effects_while_true d b c es else [])) h
 
-  pub until_here : (p : Place) (e : Expr) (es : Exprs) (v : Option Tree) → ex.value d (place_seen p) b c e ≡ v
-      → placed p (ex.effects_until_true d b c (and_expr e es)) ≡ placed p (ex.effects d b c e) ++ (if is_true_value v then [] else placed p (ex.effects_until_true d b c es))
+  pub until_here : (p : Part) (e : Expr) (es : Exprs) (v : Option Tree) → ex.value d (part_seen p) b c e ≡ v
+      → effects_of_part p (ex.effects_until_true d b c (and_expr e es)) ≡ effects_of_part p (ex.effects d b c e) ++ (if is_true_value v then [] else effects_of_part p (ex.effects_until_true d b c es))
   until_here Condition e es v h = none_either (is_true_value v)
     where
       none_either : (t : Bool) → ◌≡◌ {A = List Effect} [] (if t then [] else [])
@@ -118,50 +119,50 @@ module _ (d : ex.Dialect) (b : Bindings) (c : ex.Context) where
   until_here Body e es v h = ap (λ w. ex.effects d b c e ++ (if is_true_value w then [] else ex.effects_until_true d b c es)) h
 
   -- with all expressions, the first of them, and those behind it
-  pub until_stops : (p : Place) (all : Exprs) (e : Expr) (es : Exprs) (t : Tree) (old new : List Effect) → all ≡ and_expr e es → ex.value d (place_seen p) b c e ≡ Some t → is_true t ≡ true
-      → new ≡ old ++ placed p (ex.effects d b c e) → new ≡ old ++ placed p (ex.effects_until_true d b c all)
+  pub until_stops : (p : Part) (all : Exprs) (e : Expr) (es : Exprs) (t : Tree) (old new : List Effect) → all ≡ and_expr e es → ex.value d (part_seen p) b c e ≡ Some t → is_true t ≡ true
+      → new ≡ old ++ effects_of_part p (ex.effects d b c e) → new ≡ old ++ effects_of_part p (ex.effects_until_true d b c all)
   until_stops p all e es t old new a v h n =
-      at_last old new _ _ n (ap (λ x. placed p (ex.effects_until_true d b c x)) a ∙ until_here p e es (Some t) v
-      ∙ ap (λ q. placed p (ex.effects d b c e) ++ (if q then [] else placed p (ex.effects_until_true d b c es))) h)
+      at_last old new _ _ n (ap (λ x. effects_of_part p (ex.effects_until_true d b c x)) a ∙ until_here p e es (Some t) v
+      ∙ ap (λ q. effects_of_part p (ex.effects d b c e) ++ (if q then [] else effects_of_part p (ex.effects_until_true d b c es))) h)
 
-  pub until_goes_on : (p : Place) (all : Exprs) (e : Expr) (es : Exprs) (v : Option Tree) (old new : List Effect) → all ≡ and_expr e es → ex.value d (place_seen p) b c e ≡ v → is_true_value v ≡ false
-      → new ≡ old ++ placed p (ex.effects d b c e) → new ++ placed p (ex.effects_until_true d b c es) ≡ old ++ placed p (ex.effects_until_true d b c all)
+  pub until_goes_on : (p : Part) (all : Exprs) (e : Expr) (es : Exprs) (v : Option Tree) (old new : List Effect) → all ≡ and_expr e es → ex.value d (part_seen p) b c e ≡ v → is_true_value v ≡ false
+      → new ≡ old ++ effects_of_part p (ex.effects d b c e) → new ++ effects_of_part p (ex.effects_until_true d b c es) ≡ old ++ effects_of_part p (ex.effects_until_true d b c all)
   until_goes_on p all e es v old new a is h n =
-      further old new _ _ _ n (ap (λ x. placed p (ex.effects_until_true d b c x)) a ∙ until_here p e es v is
-      ∙ ap (λ q. placed p (ex.effects d b c e) ++ (if q then [] else placed p (ex.effects_until_true d b c es))) h)
+      further old new _ _ _ n (ap (λ x. effects_of_part p (ex.effects_until_true d b c x)) a ∙ until_here p e es v is
+      ∙ ap (λ q. effects_of_part p (ex.effects d b c e) ++ (if q then [] else effects_of_part p (ex.effects_until_true d b c es))) h)
 
-  pub while_stops : (p : Place) (all : Exprs) (e : Expr) (es : Exprs) (v : Option Tree) (old new : List Effect) → all ≡ and_expr e es → ex.value d (place_seen p) b c e ≡ v → is_true_value v ≡ false
-      → new ≡ old ++ placed p (ex.effects d b c e) → new ≡ old ++ placed p (ex.effects_while_true d b c all)
+  pub while_stops : (p : Part) (all : Exprs) (e : Expr) (es : Exprs) (v : Option Tree) (old new : List Effect) → all ≡ and_expr e es → ex.value d (part_seen p) b c e ≡ v → is_true_value v ≡ false
+      → new ≡ old ++ effects_of_part p (ex.effects d b c e) → new ≡ old ++ effects_of_part p (ex.effects_while_true d b c all)
   while_stops p all e es v old new a is h n =
-      at_last old new _ _ n (ap (λ x. placed p (ex.effects_while_true d b c x)) a ∙ while_here p e es v is
-      ∙ ap (λ q. placed p (ex.effects d b c e) ++ (if q then placed p (ex.effects_while_true d b c es) else [])) h)
+      at_last old new _ _ n (ap (λ x. effects_of_part p (ex.effects_while_true d b c x)) a ∙ while_here p e es v is
+      ∙ ap (λ q. effects_of_part p (ex.effects d b c e) ++ (if q then effects_of_part p (ex.effects_while_true d b c es) else [])) h)
 
-  pub while_goes_on : (p : Place) (all : Exprs) (e : Expr) (es : Exprs) (t : Tree) (old new : List Effect) → all ≡ and_expr e es → ex.value d (place_seen p) b c e ≡ Some t → is_true t ≡ true
-      → new ≡ old ++ placed p (ex.effects d b c e) → new ++ placed p (ex.effects_while_true d b c es) ≡ old ++ placed p (ex.effects_while_true d b c all)
+  pub while_goes_on : (p : Part) (all : Exprs) (e : Expr) (es : Exprs) (t : Tree) (old new : List Effect) → all ≡ and_expr e es → ex.value d (part_seen p) b c e ≡ Some t → is_true t ≡ true
+      → new ≡ old ++ effects_of_part p (ex.effects d b c e) → new ++ effects_of_part p (ex.effects_while_true d b c es) ≡ old ++ effects_of_part p (ex.effects_while_true d b c all)
   while_goes_on p all e es t old new a v h n =
-      further old new _ _ _ n (ap (λ x. placed p (ex.effects_while_true d b c x)) a ∙ while_here p e es (Some t) v
-      ∙ ap (λ q. placed p (ex.effects d b c e) ++ (if q then placed p (ex.effects_while_true d b c es) else [])) h)
+      further old new _ _ _ n (ap (λ x. effects_of_part p (ex.effects_while_true d b c x)) a ∙ while_here p e es (Some t) v
+      ∙ ap (λ q. effects_of_part p (ex.effects d b c e) ++ (if q then effects_of_part p (ex.effects_while_true d b c es) else [])) h)
 
-  pub all_go_on : (p : Place) (all : Exprs) (e : Expr) (es : Exprs) (old new : List Effect) → all ≡ and_expr e es
-      → new ≡ old ++ placed p (ex.effects d b c e) → new ++ placed p (ex.effects_of_all d b c es) ≡ old ++ placed p (ex.effects_of_all d b c all)
+  pub all_go_on : (p : Part) (all : Exprs) (e : Expr) (es : Exprs) (old new : List Effect) → all ≡ and_expr e es
+      → new ≡ old ++ effects_of_part p (ex.effects d b c e) → new ++ effects_of_part p (ex.effects_of_all d b c es) ≡ old ++ effects_of_part p (ex.effects_of_all d b c all)
   all_go_on p all e es old new a n =
-      further old new _ _ _ n (ap (λ x. placed p (ex.effects_of_all d b c x)) a ∙ placed_append p (ex.effects d b c e) (ex.effects_of_all d b c es))
+      further old new _ _ _ n (ap (λ x. effects_of_part p (ex.effects_of_all d b c x)) a ∙ of_part_append p (ex.effects d b c e) (ex.effects_of_all d b c es))
 
   -- at the end of the expressions
-  pub all_done : (p : Place) (all : Exprs) (xs : List Effect) → all ≡ no_exprs → xs ≡ xs ++ placed p (ex.effects_of_all d b c all)
+  pub all_done : (p : Part) (all : Exprs) (xs : List Effect) → all ≡ no_exprs → xs ≡ xs ++ effects_of_part p (ex.effects_of_all d b c all)
   all_done p all xs a = nothing p xs (ex.effects_of_all d b c all) (ap (ex.effects_of_all d b c) a)
 
-  pub while_done : (p : Place) (all : Exprs) (xs : List Effect) → all ≡ no_exprs → xs ≡ xs ++ placed p (ex.effects_while_true d b c all)
+  pub while_done : (p : Part) (all : Exprs) (xs : List Effect) → all ≡ no_exprs → xs ≡ xs ++ effects_of_part p (ex.effects_while_true d b c all)
   while_done p all xs a = nothing p xs (ex.effects_while_true d b c all) (ap (ex.effects_while_true d b c) a)
 
-  pub until_done : (p : Place) (all : Exprs) (xs : List Effect) → all ≡ no_exprs → xs ≡ xs ++ placed p (ex.effects_until_true d b c all)
+  pub until_done : (p : Part) (all : Exprs) (xs : List Effect) → all ≡ no_exprs → xs ≡ xs ++ effects_of_part p (ex.effects_until_true d b c all)
   until_done p all xs a = nothing p xs (ex.effects_until_true d b c all) (ap (ex.effects_until_true d b c) a)
 
   -- an action's own effects after its arguments'
-  pub performed_here : (p : Place) (a : ex.Action) (es : Exprs) (vs : Option (List Tree)) → ex.values d (place_seen p) b c es ≡ vs
-      → placed p (ex.effects d b c (ex.perform a es)) ≡ placed p (ex.effects_of_all d b c es) ++ placed p (ex.own_effects (option_and_then (λ ts. ex.act d a ts c) vs))
+  pub performed_here : (p : Part) (a : ex.Action) (es : Exprs) (vs : Option (List Tree)) → ex.values d (part_seen p) b c es ≡ vs
+      → effects_of_part p (ex.effects d b c (ex.perform a es)) ≡ effects_of_part p (ex.effects_of_all d b c es) ++ effects_of_part p (ex.own_effects (option_and_then (λ ts. ex.action_done d a ts c) vs))
   performed_here Condition a es vs h = refl
-  performed_here Body a es vs h = ap (λ ws. ex.effects_of_all d b c es ++ ex.own_effects (option_and_then (λ ts. ex.act d a ts c) ws)) h
+  performed_here Body a es vs h = ap (λ ws. ex.effects_of_all d b c es ++ ex.own_effects (option_and_then (λ ts. ex.action_done d a ts c) ws)) h
 
   -- ---- conditions
 

@@ -1,2 +1,4 @@
+pub mod Parts
 pub mod Scenes
+pub mod Steps
 pub mod Views

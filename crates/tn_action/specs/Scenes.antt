@@ -6,19 +6,16 @@ use Rattle.def_spec.specs.Expressions as ex
 use Rattle.def_spec.specs.Outcome as definition
 use Rattle.tn_spec.specs.Views.{dialect_of}
 use Rattle.tn_head.specs.Views.{bindings_seen}
+use Rattle.tn_action.specs.Parts.{part_seen}
 use Rattle.tn_action.specs.Views.{context_seen}
-use Rattle.tn_action.specs.declared.scene.Place.{Place}
-use Rattle.tn_action.specs.declared.scene.Place.TheVariants.{Condition, Body}
+use Rattle.tn_action.specs.declared.scene.Part.{Part}
+use Rattle.tn_action.specs.declared.scene.Part.TheVariants.{Condition, Body}
 use Rattle.tn_action.specs.declared.scene.Scene.{Scene}
 
-abbrev pub place_seen : Place → ex.Place
-place_seen Condition = ex.in_condition
-place_seen Body = ex.in_body
-
 -- effects count in bodies alone
-abbrev pub placed : Place → List ex.Effect → List ex.Effect
-placed Condition es = []
-placed Body es = es
+abbrev pub effects_of_part : Part → List ex.Effect → List ex.Effect
+effects_of_part Condition es = []
+effects_of_part Body es = es
 
 -- a value, but a fault where one was met before
 abbrev pub unless_faulted : Bool → Tree → Option Tree
@@ -32,31 +29,31 @@ taken (Some es) o = definition.matched es
 
 module _ {A : Type 0} {G : Ghosts A} (s : Scene A G) where
   abbrev pub value_in : ex.Expr → Option Tree
-  value_in = ex.value (dialect_of s.dialect) (place_seen s.place) (bindings_seen s.bindings.now) (context_seen s.context.now)
+  value_in = ex.value (dialect_of s.dialect) (part_seen s.part) (bindings_seen s.bindings.now) (context_seen s.context.now)
 
   abbrev pub values_in : ex.Exprs → Option (List Tree)
-  values_in = ex.values (dialect_of s.dialect) (place_seen s.place) (bindings_seen s.bindings.now) (context_seen s.context.now)
+  values_in = ex.values (dialect_of s.dialect) (part_seen s.part) (bindings_seen s.bindings.now) (context_seen s.context.now)
 
   abbrev pub all_in : ex.Exprs → Option Tree
-  all_in = ex.all_in_turn (dialect_of s.dialect) (place_seen s.place) (bindings_seen s.bindings.now) (context_seen s.context.now)
+  all_in = ex.all_in_turn (dialect_of s.dialect) (part_seen s.part) (bindings_seen s.bindings.now) (context_seen s.context.now)
 
   abbrev pub one_in : ex.Exprs → Option Tree
-  one_in = ex.one_in_turn (dialect_of s.dialect) (place_seen s.place) (bindings_seen s.bindings.now) (context_seen s.context.now)
+  one_in = ex.one_in_turn (dialect_of s.dialect) (part_seen s.part) (bindings_seen s.bindings.now) (context_seen s.context.now)
 
   abbrev pub act_in : ex.Action → List Tree → Option (Tree × List ex.Effect)
-  act_in a ts = ex.act (dialect_of s.dialect) a ts (context_seen s.context.now)
+  act_in a ts = ex.action_done (dialect_of s.dialect) a ts (context_seen s.context.now)
 
   abbrev pub effects_in : ex.Expr → List ex.Effect
-  effects_in e = placed s.place (ex.effects (dialect_of s.dialect) (bindings_seen s.bindings.now) (context_seen s.context.now) e)
+  effects_in e = effects_of_part s.part (ex.effects (dialect_of s.dialect) (bindings_seen s.bindings.now) (context_seen s.context.now) e)
 
   abbrev pub effects_of_all_in : ex.Exprs → List ex.Effect
-  effects_of_all_in es = placed s.place (ex.effects_of_all (dialect_of s.dialect) (bindings_seen s.bindings.now) (context_seen s.context.now) es)
+  effects_of_all_in es = effects_of_part s.part (ex.effects_of_all (dialect_of s.dialect) (bindings_seen s.bindings.now) (context_seen s.context.now) es)
 
   abbrev pub effects_while_true_in : ex.Exprs → List ex.Effect
-  effects_while_true_in es = placed s.place (ex.effects_while_true (dialect_of s.dialect) (bindings_seen s.bindings.now) (context_seen s.context.now) es)
+  effects_while_true_in es = effects_of_part s.part (ex.effects_while_true (dialect_of s.dialect) (bindings_seen s.bindings.now) (context_seen s.context.now) es)
 
   abbrev pub effects_until_true_in : ex.Exprs → List ex.Effect
-  effects_until_true_in es = placed s.place (ex.effects_until_true (dialect_of s.dialect) (bindings_seen s.bindings.now) (context_seen s.context.now) es)
+  effects_until_true_in es = effects_of_part s.part (ex.effects_until_true (dialect_of s.dialect) (bindings_seen s.bindings.now) (context_seen s.context.now) es)
 
   abbrev pub each_true_in : ex.Exprs → Bool
   each_true_in = definition.each_true (dialect_of s.dialect) (bindings_seen s.bindings.now) (context_seen s.context.now)

@@ -1,14 +1,16 @@
 // The actions of bodies ("Match Specifications in Erlang", "Functions Allowed Only for Tracing").
-ghost use Rattle.std.specs.Prelude.{◌≡◌, ◌∷◌, [], IfOk, map, if◌then◌else◌};
+ghost use Rattle.std.specs.Prelude.{◌≡◌, ◌∷◌, [], IfOk, map};
 ghost use Rattle.std.specs.Option.{option_map};
 ghost use Rattle.def_term.specs.Tree.{Tree};
 ghost use Rattle.def_term.specs.Names.{word};
 ghost use Rattle.def_spec.specs.Expressions as ex;
-ghost use Rattle.def_spec.specs.Flags.{flag_named, no_flags, only};
+ghost use Rattle.def_spec.specs.Flags.{flag_named, only};
 ghost use Rattle.tn_flags.specs.Views.{flags_of};
 ghost use Rattle.tn_guard.specs.Views.{value_seen, pid_in};
 ghost use Rattle.tn_spec.specs.Views.{action_of, dialect_of};
 ghost use Rattle.tn_term.specs.Views.{alive_of};
+ghost use Rattle.tn_action.specs.Scenes.{act_in};
+ghost use Rattle.tn_action.specs.Steps.{IsDone, change_seen, two_seen, flags_changed};
 ghost use Rattle.tn_action.specs.Views.{acted, context_seen, effect_seen, effect_list};
 
 use crate::context::Context;
@@ -28,12 +30,12 @@ pub struct Acted<'a, A: Allocator> {
 }
 
 /// The value of an action on its arguments' values, with its effect; None is a fault.
-pub fn act<'a, A: Allocator + Copy>(
+pub fn perform<'a, A: Allocator + Copy>(
     action: Action,
     args: &[Value<'a, A>],
     scene: &Scene<'a, '_, A>,
 ) -> Result<Option<Acted<'a, A>>, AllocError>
-    ensures { IfOk result (λ r. option_map acted r ≡ ex.act (dialect_of scene.now.dialect) (action_of action) (map value_seen args.now) (context_seen scene.now.context.now)) }
+    ensures { IfOk result (λ r. option_map acted r ≡ act_in scene.now (action_of action) (map value_seen args.now)) }
 {
     match action {
         Action::Message => Ok(message(args, scene.alloc)?),
@@ -64,7 +66,7 @@ fn message<'a, A: Allocator + Copy>(
     args: &[Value<'a, A>],
     alloc: A,
 ) -> Result<Option<Acted<'a, A>>, AllocError>
-    ensures { (d : ex.Dialect) → (c : ex.Context) → IfOk result (λ r. option_map acted r ≡ ex.act d ex.message (map value_seen args.now) c) }
+    ensures { IfOk result (λ r. IsDone ex.message args.now r) }
 {
     if args.len() != 1 {
         return Ok(None);
@@ -85,7 +87,7 @@ fn marking<'a, A: Allocator>(dialect: Dialect, effect: Effect<A>) -> Acted<'a, A
 
 /// `silent`
 fn silent<'a, A: Allocator>(args: &[Value<'a, A>]) -> Option<Acted<'a, A>>
-    ensures { (d : ex.Dialect) → (c : ex.Context) → option_map acted result ≡ ex.act d ex.silent (map value_seen args.now) c }
+    ensures { IsDone ex.silent args.now result }
 {
     if args.len() == 1 {
         Some(done(silence(args[0])))
@@ -123,7 +125,7 @@ fn change<A: Allocator>(
     args: &[Value<'_, A>],
     context: &Context<'_, A>,
 ) -> Option<Effect<A>>
-    ensures { option_map (λ e. effect_seen e ∷ []) result ≡ ex.change_by on (context_seen context.now) (map value_seen args.now) }
+    ensures { change_seen result ≡ ex.change_by on (context_seen context.now) (map value_seen args.now) }
 {
     if args.len() == 1 {
         change_own(on, args[0], context)
@@ -140,7 +142,7 @@ fn change_own<A: Allocator>(
     flag: Value<'_, A>,
     context: &Context<'_, A>,
 ) -> Option<Effect<A>>
-    ensures { option_map (λ e. effect_seen e ∷ []) result ≡ ex.change_by on (context_seen context.now) (value_seen flag.entry ∷ []) }
+    ensures { change_seen result ≡ ex.change_by on (context_seen context.now) (value_seen flag.entry ∷ []) }
 {
     change_flag(on, living(Some(context.me), context.alive), flag)
 }
@@ -152,7 +154,7 @@ fn change_other<A: Allocator>(
     flag: Value<'_, A>,
     context: &Context<'_, A>,
 ) -> Option<Effect<A>>
-    ensures { option_map (λ e. effect_seen e ∷ []) result ≡ ex.change_by on (context_seen context.now) (value_seen process.entry ∷ value_seen flag.entry ∷ []) }
+    ensures { change_seen result ≡ ex.change_by on (context_seen context.now) (two_seen process.entry flag.entry) }
 {
     change_flag(on, living(process.pid(), context.alive), flag)
 }
@@ -179,7 +181,7 @@ fn flag_in<A: Allocator>(value: Value<'_, A>) -> Option<Flags>
 
 /// The change of one flag of one process; None where the process or the flag isn't there.
 fn change_flag<A: Allocator>(on: bool, pid: Option<u32>, flag: Value<'_, A>) -> Option<Effect<A>>
-    ensures { option_map (λ e. effect_seen e ∷ []) result ≡ ex.change on pid (flag_named (value_seen flag.entry)) }
+    ensures { change_seen result ≡ ex.change on pid (flag_named (value_seen flag.entry)) }
 {
     match (pid, flag_in(flag)) {
         (Some(pid), Some(flag)) => Some(change_of(on, pid, flag)),
@@ -189,7 +191,7 @@ fn change_flag<A: Allocator>(on: bool, pid: Option<u32>, flag: Value<'_, A>) -> 
 
 /// The change of one flag of one process.
 fn change_of<A: Allocator>(on: bool, pid: u32, flag: Flags) -> Effect<A>
-    ensures { effect_seen result ≡ ex.changes pid (if on then no_flags else flags_of flag) (if on then flags_of flag else no_flags) }
+    ensures { effect_seen result ≡ flags_changed on pid (flags_of flag) }
 {
     if on {
         Effect::Change {

@@ -1,18 +1,15 @@
 // The first clause that fires.
 ghost use Rattle.std.specs.Prelude.{◌≡◌, IfOk, map};
-ghost use Rattle.std.specs.Option.{option_map};
-ghost use Rattle.def_spec.specs.Expressions as ex;
 ghost use Rattle.def_spec.specs.Outcome as definition;
-ghost use Rattle.tn_spec.specs.Views.{dialect_of, clause_seen, exprs_seen};
-ghost use Rattle.tn_spec.specs.Wholes.{spec_seen};
-ghost use Rattle.tn_head.specs.Views.{bindings_seen};
+ghost use Rattle.tn_spec.specs.Views.{exprs_seen};
 ghost use Rattle.tn_action.specs.Scenes.{each_true_in, body_effects_in, taken};
-ghost use Rattle.tn_action.specs.Views.{context_seen, effect_seen, outcome_seen};
+ghost use Rattle.tn_action.specs.Steps.{outcome_in, IsOutcomeIn, fired_or, effects_seen};
+ghost use Rattle.tn_action.specs.Views.{effect_seen, outcome_seen};
 
 use crate::context::Context;
 use crate::effect::{Effect, Outcome};
-use crate::scene::{Place, Scene};
-use crate::values::{value, values};
+use crate::scene::{Part, Scene};
+use crate::values::value;
 use bumpalo::Bump;
 use std::alloc::{AllocError, Allocator};
 use tn_head::bind;
@@ -20,14 +17,14 @@ use tn_spec::{Clause, Dialect, Expr, Spec};
 
 /// What a specification gives in a context: the effects of the body of the least-numbered clause whose
 /// head matches the list and whose conditions are all `true`, or no match ("Match Specifications in
-/// Erlang", "Match Specification Operation"). An error is refused memory.
+/// Erlang", "Execution of the Match"). An error is refused memory.
 pub fn outcome<A: Allocator + Copy>(
     alloc: A,
     spec: &Spec<A>,
     context: &Context<'_, A>,
 ) -> Result<Outcome<A>, AllocError>
-    ensures answer { IfOk result (λ o. definition.IsOutcome (spec_seen spec.now) (context_seen context.now) (outcome_seen o)) }
-    ensures computed { IfOk result (λ o. outcome_seen o ≡ definition.outcome_of (spec_seen spec.now) (context_seen context.now)) }
+    ensures answer { IfOk result (λ o. IsOutcomeIn spec.now context.now (outcome_seen o)) }
+    ensures computed { IfOk result (λ o. outcome_seen o ≡ outcome_in spec.now context.now) }
 {
     let arena = Bump::new(alloc);
     Ok(first_fired(alloc, &arena, spec, context)?)
@@ -40,7 +37,7 @@ fn first_fired<'a, A: Allocator + Copy>(
     spec: &'a Spec<A>,
     context: &Context<'a, A>,
 ) -> Result<Outcome<A>, AllocError>
-    ensures { IfOk result (λ o. outcome_seen o ≡ definition.outcome_of (spec_seen spec.now) (context_seen context.now)) }
+    ensures { IfOk result (λ o. outcome_seen o ≡ outcome_in spec.now context.now) }
 {
     for clause in &spec.clauses {
         if let Some(effects) = fired(alloc, arena, spec.dialect, clause, context)? {
@@ -59,8 +56,7 @@ fn fired<'a, A: Allocator + Copy>(
     context: &Context<'a, A>,
 ) -> Result<Option<Vec<Effect<A>, A>>, AllocError>
     ensures { IfOk result (λ r. (next : definition.Outcome) →
-        definition.or_next (dialect_of dialect) (definition.firing (dialect_of dialect) (clause_seen clause.now) (context_seen context.now)) (context_seen context.now) (exprs_seen clause.now.body.items) next
-        ≡ taken (option_map (λ v. map effect_seen v.items) r) next) }
+        fired_or dialect clause.now context.now next ≡ taken (effects_seen r) next) }
 {
     let Some(bindings) = bind(arena, &clause.head, context.list)? else {
         return Ok(None);
@@ -69,7 +65,7 @@ fn fired<'a, A: Allocator + Copy>(
         alloc,
         arena,
         dialect,
-        place: Place::Condition,
+        part: Part::Condition,
         bindings: &bindings,
         context,
     };
@@ -88,7 +84,7 @@ fn each_true<'a, A: Allocator + Copy>(
     ensures { IfOk result (λ holds. holds ≡ each_true_in scene.now (exprs_seen conditions.now.items)) }
 {
     let in_condition = Scene {
-        place: Place::Condition,
+        part: Part::Condition,
         ..*scene
     };
     let mut effects = Vec::new(scene.alloc);
@@ -113,10 +109,12 @@ fn body_effects<'a, A: Allocator + Copy>(
     ensures { IfOk result (λ v. map effect_seen v.items ≡ body_effects_in scene.now (exprs_seen body.now.items)) }
 {
     let in_body = Scene {
-        place: Place::Body,
+        part: Part::Body,
         ..*scene
     };
     let mut effects = Vec::new(scene.alloc);
-    values(body, &in_body, &mut effects)?;
+    for i in 0..body.len() {
+        value(&body[i], &in_body, &mut effects)?;
+    }
     Ok(effects)
 }

@@ -1,12 +1,12 @@
 // What the expressions of one clause are evaluated in.
 ghost use Rattle.std.specs.Prelude.{◌≡◌, IfOk, map, pos};
 ghost use Rattle.std.specs.Option.{option_map};
-ghost use Rattle.def_term.specs.Tree.{int, atom, list, none, more, of_elements};
-ghost use Rattle.def_spec.specs.Expressions.{caller_term, settled, values_bound};
+ghost use Rattle.def_term.specs.Tree.{int, atom, list, none, more};
+ghost use Rattle.def_spec.specs.Expressions.{caller_term};
 ghost use Rattle.tn_guard.specs.Views.{value_seen};
 ghost use Rattle.tn_head.specs.Views.{binding_seen, bindings_seen};
 ghost use Rattle.tn_action.specs.Views.{context_seen};
-ghost use Rattle.tn_action.specs.Scenes.{place_seen};
+ghost use Rattle.tn_action.specs.Parts.{list_bound, settled_in};
 
 use crate::context::Context;
 use bumpalo::Bump;
@@ -19,7 +19,7 @@ use tn_term::Atom;
 
 /// Where a fault is a fault of the whole, and where it is `'EXIT'`.
 #[derive(Clone, Copy)]
-pub enum Place {
+pub enum Part {
     Condition,
     Body,
 }
@@ -32,7 +32,7 @@ pub struct Scene<'a, 'b, A: Allocator + Copy> {
     /// For the tuples and lists that expressions make.
     pub arena: &'a Bump<A>,
     pub dialect: Dialect,
-    pub place: Place,
+    pub part: Part,
     pub bindings: &'b Bindings<'a, A, &'a Bump<A>>,
     pub context: &'b Context<'a, A>,
 }
@@ -40,11 +40,11 @@ pub struct Scene<'a, 'b, A: Allocator + Copy> {
 impl<'a, 'b, A: Allocator + Copy> Scene<'a, 'b, A> {
     /// `'$$'`
     pub fn all_bound(&self) -> Result<Value<'a, A>, AllocError>
-        ensures { IfOk result (λ v. value_seen v ≡ list (of_elements (values_bound (bindings_seen self.now.bindings.now)))) }
+        ensures { IfOk result (λ v. value_seen v ≡ list_bound (bindings_seen self.now.bindings.now)) }
     {
         match self.bindings {
             Bindings::Whole(_, list) => Ok(list_of_one(list.list(), self.arena)?),
-            Bindings::Each(bindings) => Ok(list_of_bound(bindings, self.arena)?),
+            Bindings::Each(bindings) => Ok(list_of_bound(bindings.as_slice(), self.arena)?),
         }
     }
 
@@ -65,10 +65,10 @@ impl<'a, 'b, A: Allocator + Copy> Scene<'a, 'b, A> {
 
     /// The value of a call: in a body `'EXIT'` where it faults.
     pub fn settled(&self, value: Option<Value<'a, A>>) -> Option<Value<'a, A>>
-        ensures { option_map value_seen result ≡ settled (place_seen self.now.place) (option_map value_seen value.entry) }
+        ensures { option_map value_seen result ≡ settled_in self.now.part (option_map value_seen value.entry) }
     {
-        match (self.place, value) {
-            (Place::Body, None) => Some(Value::Word(Word::Exit)),
+        match (self.part, value) {
+            (Part::Body, None) => Some(Value::Word(Word::Exit)),
             _ => value,
         }
     }
@@ -85,13 +85,13 @@ fn list_of_one<'a, A: Allocator>(
 }
 
 /// The list of the values that are bound, by rising number.
-fn list_of_bound<'a, A: Allocator, B: Allocator>(
-    bindings: &Vec<Binding<'a, A>, B>,
+fn list_of_bound<'a, A: Allocator>(
+    bindings: &[Binding<'a, A>],
     arena: &'a Bump<A>,
 ) -> Result<Value<'a, A>, AllocError>
-    ensures { IfOk result (λ v. value_seen v ≡ list (of_elements (values_bound (map binding_seen bindings.now.items)))) }
+    ensures { IfOk result (λ v. value_seen v ≡ list_bound (map binding_seen bindings.now)) }
 {
-    let mut values = Vec::new(arena);
+    let mut values = Vec::with_capacity(arena, bindings.len())?;
     for binding in bindings {
         values.push(binding.value)?;
     }

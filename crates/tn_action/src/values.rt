@@ -1,22 +1,27 @@
 // Values and effects of expressions.
-ghost use Rattle.std.specs.Prelude.{◌≡◌, ◌++◌, IfOk, map};
-ghost use Rattle.std.specs.Option.{option_map, option_and_then};
-ghost use Rattle.def_term.specs.Tree.{tuple, list, of_elements};
-ghost use Rattle.def_spec.specs.Functions as table;
+ghost use Rattle.std.specs.Prelude.{◌≡◌, IfOk};
+ghost use Rattle.std.specs.Option.{option_map};
 ghost use Rattle.def_spec.specs.Functions.{truth};
-ghost use Rattle.def_spec.specs.Expressions as ex;
 ghost use Rattle.tn_guard.specs.Views.{value_seen};
-ghost use Rattle.tn_spec.specs.Views.{action_of, func_of, expr_seen, exprs_seen};
-ghost use Rattle.tn_action.specs.Scenes.{value_in, values_in, all_in, one_in, effects_in, effects_of_all_in, effects_while_true_in, effects_until_true_in, act_in, placed, unless_faulted};
-ghost use Rattle.tn_action.specs.Views.{effect_seen, effect_list};
+ghost use Rattle.tn_spec.specs.Views.{expr_seen, exprs_seen};
+ghost use Rattle.tn_action.specs.Scenes.{value_in, values_in, all_in, one_in, effects_of_part, unless_faulted};
+ghost use Rattle.tn_action.specs.Steps.{AddsOf, AddsOfAll, AddsWhileTrue, AddsUntilTrue, AreBehind};
+ghost use Rattle.tn_action.specs.Steps.{several_seen, tuple_seen, list_seen, called_on};
+ghost use Rattle.tn_action.specs.Steps.{value_performed, AddsPerformed};
+ghost use Rattle.tn_action.specs.Views.{effect_list};
 
-use crate::actions::act;
+use crate::actions::perform;
 use crate::effect::Effect;
-use crate::scene::{Place, Scene};
-use bumpalo::collections::into_bump_slice;
+use crate::scene::{Part, Scene};
+use bumpalo::Bump;
+use smallvec::SmallVec;
 use std::alloc::{AllocError, Allocator};
 use tn_guard::{Value, apply};
 use tn_spec::{Action, Expr, Func};
+
+/// Values of the arguments of a call, or of elements: a few of them lie in the value itself, more in an
+/// arena.
+type SomeValues<'a, A> = SmallVec<Value<'a, A>, 4, &'a Bump<A>>;
 
 /// The value of an expression, with the effects that a body's expression has behind the others; None is
 /// a fault.
@@ -27,15 +32,15 @@ pub fn value<'a, A: Allocator + Copy>(
     effects: &mut Vec<Effect<A>, A>,
 ) -> Result<Option<Value<'a, A>>, AllocError>
     ensures value { IfOk result (λ v. option_map value_seen v ≡ value_in scene.now (expr_seen expr.now)) }
-    ensures effects { IfOk result (λ v. map effect_seen effects.new.items ≡ map effect_seen effects.old.items ++ effects_in scene.now (expr_seen expr.now)) }
+    ensures effects { IfOk result (λ _. AddsOf scene.now expr.now effects.old effects.new) }
 {
     match expr {
         Expr::Variable(number) => Ok(scene.bindings.get(*number)),
         Expr::WholeList => Ok(Some(scene.context.list.list())),
         Expr::AllBound => Ok(Some(scene.all_bound()?)),
         Expr::Constant(term) => Ok(Some(Value::Lent(term))),
-        Expr::Tuple(exprs) => Ok(tuple_of(values(exprs, scene, effects)?)),
-        Expr::List(exprs) => Ok(list_of(values(exprs, scene, effects)?)),
+        Expr::Tuple(exprs) => Ok(tuple_of(values(exprs, scene, effects)?, scene.arena)?),
+        Expr::List(exprs) => Ok(list_of(values(exprs, scene, effects)?, scene.arena)?),
         Expr::Call(func, exprs) => {
             let args = values(exprs, scene, effects)?;
             Ok(scene.settled(called(*func, args, scene.context.me)))
@@ -51,15 +56,15 @@ pub fn value<'a, A: Allocator + Copy>(
 
 /// The values of several expressions, left to right; None where one is a fault.
 #[cycle(value)]
-pub fn values<'a, A: Allocator + Copy>(
+fn values<'a, A: Allocator + Copy>(
     exprs: &'a Vec<Expr<A>, A>,
     scene: &Scene<'a, '_, A>,
     effects: &mut Vec<Effect<A>, A>,
-) -> Result<Option<&'a [Value<'a, A>]>, AllocError>
-    ensures value { IfOk result (λ vs. option_map (λ v. map value_seen v.now) vs ≡ values_in scene.now (exprs_seen exprs.now.items)) }
-    ensures effects { IfOk result (λ vs. map effect_seen effects.new.items ≡ map effect_seen effects.old.items ++ effects_of_all_in scene.now (exprs_seen exprs.now.items)) }
+) -> Result<Option<SomeValues<'a, A>>, AllocError>
+    ensures value { IfOk result (λ vs. several_seen vs ≡ values_in scene.now (exprs_seen exprs.now.items)) }
+    ensures effects { IfOk result (λ _. AddsOfAll scene.now exprs.now effects.old effects.new) }
 {
-    let mut parts = Vec::new(scene.arena);
+    let mut parts = SmallVec::with_capacity(scene.arena, exprs.len())?;
     let mut faulted = false;
     for i in 0..exprs.len() {
         match value(&exprs[i], scene, effects)? {
@@ -67,11 +72,7 @@ pub fn values<'a, A: Allocator + Copy>(
             None => faulted = true,
         }
     }
-    if faulted {
-        Ok(None)
-    } else {
-        Ok(Some(into_bump_slice(parts)))
-    }
+    if faulted { Ok(None) } else { Ok(Some(parts)) }
 }
 
 /// `andalso`: stops at the first that isn't `true`.
@@ -82,7 +83,7 @@ fn all_in_turn<'a, A: Allocator + Copy>(
     effects: &mut Vec<Effect<A>, A>,
 ) -> Result<Option<Value<'a, A>>, AllocError>
     ensures value { IfOk result (λ v. option_map value_seen v ≡ all_in scene.now (exprs_seen exprs.now.items)) }
-    ensures effects { IfOk result (λ v. map effect_seen effects.new.items ≡ map effect_seen effects.old.items ++ effects_while_true_in scene.now (exprs_seen exprs.now.items)) }
+    ensures effects { IfOk result (λ _. AddsWhileTrue scene.now exprs.now effects.old effects.new) }
 {
     for i in 0..exprs.len() {
         match value(&exprs[i], scene, effects)? {
@@ -105,7 +106,7 @@ fn one_in_turn<'a, A: Allocator + Copy>(
     effects: &mut Vec<Effect<A>, A>,
 ) -> Result<Option<Value<'a, A>>, AllocError>
     ensures value { IfOk result (λ v. option_map value_seen v ≡ one_in scene.now (exprs_seen exprs.now.items)) }
-    ensures effects { IfOk result (λ v. map effect_seen effects.new.items ≡ map effect_seen effects.old.items ++ effects_until_true_in scene.now (exprs_seen exprs.now.items)) }
+    ensures effects { IfOk result (λ _. AddsUntilTrue scene.now exprs.now effects.old effects.new) }
 {
     let mut faulted = false;
     for i in 0..exprs.len() {
@@ -133,35 +134,41 @@ fn truth_unless<'a, A: Allocator>(faulted: bool, holds: bool) -> Option<Value<'a
 }
 
 /// The tuple of these values.
-fn tuple_of<'a, A: Allocator>(parts: Option<&'a [Value<'a, A>]>) -> Option<Value<'a, A>>
-    ensures { option_map value_seen result ≡ option_map (λ ts. tuple (of_elements ts)) (option_map (λ v. map value_seen v.now) parts.entry) }
+fn tuple_of<'a, A: Allocator + Copy>(
+    parts: Option<SomeValues<'a, A>>,
+    arena: &'a Bump<A>,
+) -> Result<Option<Value<'a, A>>, AllocError>
+    ensures { IfOk result (λ v. option_map value_seen v ≡ tuple_seen parts.entry) }
 {
     match parts {
-        Some(parts) => Some(Value::Tuple(parts)),
-        None => None,
+        Some(parts) => Ok(Some(Value::Tuple(arena.try_alloc_slice_copy(parts.as_slice())?))),
+        None => Ok(None),
     }
 }
 
 /// The list of these values.
-fn list_of<'a, A: Allocator>(parts: Option<&'a [Value<'a, A>]>) -> Option<Value<'a, A>>
-    ensures { option_map value_seen result ≡ option_map (λ ts. list (of_elements ts)) (option_map (λ v. map value_seen v.now) parts.entry) }
+fn list_of<'a, A: Allocator + Copy>(
+    parts: Option<SomeValues<'a, A>>,
+    arena: &'a Bump<A>,
+) -> Result<Option<Value<'a, A>>, AllocError>
+    ensures { IfOk result (λ v. option_map value_seen v ≡ list_seen parts.entry) }
 {
     match parts {
-        Some(parts) => Some(Value::List(parts)),
-        None => None,
+        Some(parts) => Ok(Some(Value::List(arena.try_alloc_slice_copy(parts.as_slice())?))),
+        None => Ok(None),
     }
 }
 
 /// The value of a function on these values.
-fn called<'a, A: Allocator>(
+fn called<'a, A: Allocator + Copy>(
     func: Func,
-    args: Option<&'a [Value<'a, A>]>,
+    args: Option<SomeValues<'a, A>>,
     me: u32,
 ) -> Option<Value<'a, A>>
-    ensures { option_map value_seen result ≡ option_and_then (λ ts. table.apply (func_of func) ts me) (option_map (λ v. map value_seen v.now) args.entry) }
+    ensures { option_map value_seen result ≡ called_on func args.entry me }
 {
     match args {
-        Some(args) => apply(func, args, me),
+        Some(args) => apply(func, args.as_slice(), me),
         None => None,
     }
 }
@@ -169,34 +176,33 @@ fn called<'a, A: Allocator>(
 /// The value of an action on these values; in a body its effect goes behind the others.
 fn performed<'a, A: Allocator + Copy>(
     action: Action,
-    args: Option<&'a [Value<'a, A>]>,
+    args: Option<SomeValues<'a, A>>,
     scene: &Scene<'a, '_, A>,
     effects: &mut Vec<Effect<A>, A>,
 ) -> Result<Option<Value<'a, A>>, AllocError>
-    ensures value { IfOk result (λ v. option_map value_seen v ≡ option_and_then (λ ts. ex.value_part (act_in scene.now (action_of action) ts)) (option_map (λ vs. map value_seen vs.now) args.entry)) }
-    ensures effects { IfOk result (λ v. map effect_seen effects.new.items ≡ map effect_seen effects.old.items
-        ++ placed scene.now.place (ex.own_effects (option_and_then (act_in scene.now (action_of action)) (option_map (λ vs. map value_seen vs.now) args.entry)))) }
+    ensures value { IfOk result (λ v. option_map value_seen v ≡ value_performed scene.now action args.entry) }
+    ensures effects { IfOk result (λ _. AddsPerformed scene.now action args.entry effects.old effects.new) }
 {
     let Some(args) = args else {
         return Ok(None);
     };
-    let Some(acted) = act(action, args, scene)? else {
+    let Some(acted) = perform(action, args.as_slice(), scene)? else {
         return Ok(None);
     };
-    add(scene.place, acted.effect, effects)?;
+    add(scene.part, acted.effect, effects)?;
     Ok(Some(acted.value))
 }
 
 /// Puts an effect behind the others, in a body.
 fn add<A: Allocator>(
-    place: Place,
+    part: Part,
     effect: Option<Effect<A>>,
     effects: &mut Vec<Effect<A>, A>,
 ) -> Result<(), AllocError>
-    ensures { IfOk result (λ _. map effect_seen effects.new.items ≡ map effect_seen effects.old.items ++ placed place (effect_list effect)) }
+    ensures { IfOk result (λ _. AreBehind (effects_of_part part (effect_list effect)) effects.old effects.new) }
 {
-    match (place, effect) {
-        (Place::Body, Some(effect)) => effects.push(effect)?,
+    match (part, effect) {
+        (Part::Body, Some(effect)) => effects.push(effect)?,
         _ => {}
     }
     Ok(())

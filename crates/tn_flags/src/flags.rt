@@ -1,9 +1,10 @@
 // Sets of flags, and how they are inherited.
 ghost use Rattle.std.specs.Prelude.{◌≡◌, ◌||◌, ◌&&◌, not};
 ghost use Rattle.std.specs.Option.{option_map};
-ghost use Rattle.def_spec.specs.Flags.{Flag, no_flags, only, joined, without, has_all, flag_named, given_and_kept, after_spawn, after_link};
 ghost use Rattle.def_term.specs.Tree.{atom};
+ghost use Rattle.def_spec.specs.Flags.{no_flags, only, joined, without, has_all, flag_named, after_spawn, after_link};
 ghost use Rattle.tn_term.specs.Views.{tree_of};
+ghost use Rattle.tn_flags.specs.Inheritance.{GivesAndKeeps};
 ghost use Rattle.tn_flags.specs.Views.{flags_of};
 
 use std::alloc::Allocator;
@@ -24,19 +25,21 @@ pub struct Flags {
     pub set_on_first_link: bool,
 }
 
-// Plain functions on truth values, so that a set of ten is made without branches.
+/// One of the two. These are plain functions on truth values, so that a set of ten is made without branches.
 fn either(a: bool, b: bool) -> bool
     ensures { result ≡ (a || b) }
 {
     a || b
 }
 
+/// The first, and not the other.
 fn but_not(a: bool, b: bool) -> bool
     ensures { result ≡ (a && not b) }
 {
     a && !b
 }
 
+/// The first, wherever the other is.
 fn holds_if(a: bool, b: bool) -> bool
     ensures { result ≡ (a || not b) }
 {
@@ -170,10 +173,10 @@ pub fn flag_of<A: Allocator>(term: &Term<A>) -> Option<Flags>
     }
 }
 
-// What a process gives on, and what it keeps, by its flag that gives always and its flag that gives the first time.
+/// What a process gives on, and what it keeps, by its flag that gives always and its flag that gives the
+/// first time.
 fn given_and_kept(flags: Flags, always: bool, first: bool, both: Flags) -> (Flags, Flags)
-    ensures { (a f : Flag) → flags_of both ≡ joined (only a) (only f) → always ≡ flags_of flags a → first ≡ flags_of flags f →
-        (flags_of result.0, flags_of result.1) ≡ given_and_kept a f (flags_of flags) }
+    ensures { GivesAndKeeps flags always first both result }
 {
     if first {
         let rest = flags.without(both);

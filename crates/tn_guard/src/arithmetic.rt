@@ -3,7 +3,7 @@ ghost use Rattle.std.specs.Prelude.{◌≡◌, pos, ◌+ℤ◌, ◌-ℤ◌, ◌*
 ghost use Rattle.std.specs.Int.{w64, int_bit_and, int_bit_or, int_bit_xor};
 ghost use Rattle.std.specs.Option.{option_map};
 ghost use Rattle.def_term.specs.Tree.{int};
-ghost use Rattle.def_spec.specs.Functions.{fitting, magnitude, quotient, rest_of, of_integer};
+ghost use Rattle.def_spec.specs.Functions.{in_64_bits, magnitude, quotient, rest_of, of_integer};
 ghost use Rattle.tn_guard.specs.Views.{value_seen, shape_seen};
 
 use crate::shape::Shape;
@@ -12,21 +12,21 @@ use std::alloc::Allocator;
 
 /// `+`
 pub fn sum(a: i64, b: i64) -> Option<i64>
-    ensures { option_map int result ≡ fitting (a +ℤ b) }
+    ensures { option_map int result ≡ in_64_bits (a +ℤ b) }
 {
     a.checked_add(b)
 }
 
 /// `-`
 pub fn difference(a: i64, b: i64) -> Option<i64>
-    ensures { option_map int result ≡ fitting (a -ℤ b) }
+    ensures { option_map int result ≡ in_64_bits (a -ℤ b) }
 {
     a.checked_sub(b)
 }
 
 /// `*`
 pub fn product(a: i64, b: i64) -> Option<i64>
-    ensures { option_map int result ≡ fitting (a *ℤ b) }
+    ensures { option_map int result ≡ in_64_bits (a *ℤ b) }
 {
     a.checked_mul(b)
 }
@@ -51,21 +51,21 @@ pub fn remainder(a: i64, b: i64) -> Option<i64>
 
 /// `band`, in two's complement as the others of bits.
 pub fn bits_of_both(a: i64, b: i64) -> Option<i64>
-    ensures { option_map int result ≡ fitting (int_bit_and w64 a b) }
+    ensures { option_map int result ≡ in_64_bits (int_bit_and w64 a b) }
 {
     Some(a & b)
 }
 
 /// `bor`
 pub fn bits_of_either(a: i64, b: i64) -> Option<i64>
-    ensures { option_map int result ≡ fitting (int_bit_or w64 a b) }
+    ensures { option_map int result ≡ in_64_bits (int_bit_or w64 a b) }
 {
     Some(a | b)
 }
 
 /// `bxor`
 pub fn bits_of_one(a: i64, b: i64) -> Option<i64>
-    ensures { option_map int result ≡ fitting (int_bit_xor w64 a b) }
+    ensures { option_map int result ≡ in_64_bits (int_bit_xor w64 a b) }
 {
     Some(a ^ b)
 }

@@ -9,6 +9,7 @@ use std::alloc::{AllocError, Allocator};
 use tn_term::{Atom, Term};
 
 impl Word {
+    /// The atom in another allocator.
     fn copy_into<B: Allocator>(self, alloc: B) -> Result<Atom<B>, AllocError>
         ensures { IfOk result (λ a. atom a ≡ word_seen self) }
     {
@@ -28,6 +29,7 @@ impl<'a, A: Allocator> Value<'a, A> {
     }
 }
 
+/// The value as a term in another allocator.
 #[cycle(copy)]
 fn copy_value<A: Allocator, B: Allocator + Copy>(
     value: Value<'_, A>,
@@ -47,6 +49,7 @@ fn copy_value<A: Allocator, B: Allocator + Copy>(
     }
 }
 
+/// The values as terms in another allocator.
 #[cycle(copy)]
 fn copy_values<A: Allocator, B: Allocator + Copy>(
     items: &[Value<'_, A>],
@@ -54,20 +57,21 @@ fn copy_values<A: Allocator, B: Allocator + Copy>(
 ) -> Result<Vec<Term<B>, B>, AllocError>
     ensures { IfOk result (λ v. trees_of v.items ≡ values_seen items.now) }
 {
-    let mut copies = Vec::new(alloc);
+    let mut copies = Vec::with_capacity(alloc, items.len())?;
     for i in 0..items.len() {
         copies.push(copy_value(items[i], alloc)?)?;
     }
     Ok(copies)
 }
 
+/// The terms in another allocator.
 fn copy_terms<A: Allocator, B: Allocator + Copy>(
     items: &[Term<A>],
     alloc: B,
 ) -> Result<Vec<Term<B>, B>, AllocError>
     ensures { IfOk result (λ v. trees_of v.items ≡ trees_of items.now) }
 {
-    let mut copies = Vec::new(alloc);
+    let mut copies = Vec::with_capacity(alloc, items.len())?;
     for item in items {
         copies.push(item.copy_into(alloc)?)?;
     }

@@ -62,6 +62,7 @@ impl<'a, A: Allocator> Shape<'a, A> {
     }
 }
 
+/// The element that has this number, from 1.
 fn element_at<'a, A: Allocator>(number: i64, parts: Parts<'a, A>) -> Option<Value<'a, A>>
     ensures { option_map value_seen result ≡ element_of (int number) (tuple (parts_seen parts.entry)) }
 {

@@ -3,8 +3,9 @@ ghost use Rattle.std.specs.Prelude.{◌≡◌, [], ◌∷◌, map};
 ghost use Rattle.std.specs.Option.{option_map};
 ghost use Rattle.def_term.specs.Tree.{int};
 ghost use Rattle.def_spec.specs.Functions as table;
-ghost use Rattle.def_spec.specs.Functions.{node_of, of_integers};
+ghost use Rattle.def_spec.specs.Functions.{node_of};
 ghost use Rattle.tn_spec.specs.Views.{func_of};
+ghost use Rattle.tn_guard.specs.Calls.{integers_value, two_value};
 ghost use Rattle.tn_guard.specs.Functions.{of_one_or_two, of_two_integers};
 ghost use Rattle.tn_guard.specs.Views.{value_seen, shape_seen};
 
@@ -53,6 +54,7 @@ fn own_node<'a, A: Allocator>(args: &[Value<'a, A>]) -> Option<Value<'a, A>>
     }
 }
 
+/// The value of a function of one value or two.
 fn of_one_or_two<'a, A: Allocator>(func: Func, args: &[Value<'a, A>]) -> Option<Value<'a, A>>
     ensures { option_map value_seen result ≡ of_one_or_two (func_of func) (map value_seen args.now) }
 {
@@ -65,6 +67,7 @@ fn of_one_or_two<'a, A: Allocator>(func: Func, args: &[Value<'a, A>]) -> Option<
     }
 }
 
+/// The value of a function of two integers.
 fn of_integers(func: Func, a: i64, b: i64) -> Option<i64>
     ensures { option_map int result ≡ of_two_integers (func_of func) a b }
 {
@@ -81,12 +84,13 @@ fn of_integers(func: Func, a: i64, b: i64) -> Option<i64>
     }
 }
 
+/// The value of a function of two values that are to be integers.
 fn of_two_integers<'a, A: Allocator>(
     func: Func,
     one: Shape<'a, A>,
     other: Shape<'a, A>,
 ) -> Option<Value<'a, A>>
-    ensures { option_map value_seen result ≡ of_integers (of_two_integers (func_of func)) (shape_seen one.entry) (shape_seen other.entry) }
+    ensures { option_map value_seen result ≡ integers_value func one.entry other.entry }
 {
     match (one, other) {
         (Shape::Int(a), Shape::Int(b)) => Value::integer(of_integers(func, a, b)),
@@ -94,6 +98,7 @@ fn of_two_integers<'a, A: Allocator>(
     }
 }
 
+/// The value of a function of one value.
 fn of_one<'a, A: Allocator>(func: Func, one: Shape<'a, A>) -> Option<Value<'a, A>>
     ensures { option_map value_seen result ≡ of_one_or_two (func_of func) (shape_seen one.entry ∷ []) }
 {
@@ -122,12 +127,13 @@ fn of_one<'a, A: Allocator>(func: Func, one: Shape<'a, A>) -> Option<Value<'a, A
     }
 }
 
+/// The value of a function of two values.
 fn of_two<'a, A: Allocator>(
     func: Func,
     one: Shape<'a, A>,
     other: Shape<'a, A>,
 ) -> Option<Value<'a, A>>
-    ensures { option_map value_seen result ≡ of_one_or_two (func_of func) (shape_seen one.entry ∷ shape_seen other.entry ∷ []) }
+    ensures { option_map value_seen result ≡ two_value func one.entry other.entry }
 {
     match func {
         Func::Element => one.element(other),

@@ -82,6 +82,7 @@ fn count_of<A: Allocator>(items: &[Term<A>]) -> usize
     items.len()
 }
 
+/// The value at this place.
 fn value_at<'a, A: Allocator>(items: &[Value<'a, A>], place: usize) -> Value<'a, A>
     requires { place < length items.now }
     ensures { Some (value_seen result) ≡ nth (values_seen items.now) place }
@@ -89,6 +90,7 @@ fn value_at<'a, A: Allocator>(items: &[Value<'a, A>], place: usize) -> Value<'a,
     items[place]
 }
 
+/// The list of the values behind the first.
 fn values_behind_first<'a, A: Allocator>(items: &'a [Value<'a, A>]) -> Option<Value<'a, A>>
     ensures { option_map value_seen result ≡ tail_of (list (values_seen items.now)) }
 {

@@ -10,6 +10,7 @@ use std::alloc::Allocator;
 use std::cmp::Ordering;
 use tn_term::Term;
 
+/// A value by its kind, with what it is made of.
 #[derive_where(Clone, Copy)]
 pub enum Shape<'a, A: Allocator> {
     Int(i64),
@@ -20,6 +21,7 @@ pub enum Shape<'a, A: Allocator> {
 }
 
 impl<'a, A: Allocator> Shape<'a, A> {
+    /// The shape of a term.
     pub fn of(term: &'a Term<A>) -> Shape<'a, A>
         ensures { shape_seen result ≡ tree_of term.now }
     {
@@ -32,6 +34,7 @@ impl<'a, A: Allocator> Shape<'a, A> {
         }
     }
 
+    /// The number of the kind, in the order of the kinds.
     fn rank(self) -> u8
         ensures { result ≡ rank (shape_seen self.entry) }
     {
@@ -44,7 +47,7 @@ impl<'a, A: Allocator> Shape<'a, A> {
         }
     }
 
-    /// The order of terms ("Expressions", "Term Comparisons").
+    /// The order of terms ("Term Comparisons" of the Erlang Reference Manual).
     pub fn order<'b, B: Allocator>(self, other: Shape<'b, B>) -> Ordering
         ensures { result ≡ tree_cmp (shape_seen self.entry) (shape_seen other.entry) }
     {
@@ -62,6 +65,7 @@ impl<'a, A: Allocator> Shape<'a, A> {
     }
 }
 
+/// The order of two values.
 #[cycle(order)]
 fn order_shapes<A: Allocator, B: Allocator>(one: Shape<'_, A>, other: Shape<'_, B>) -> Ordering
     ensures { result ≡ tree_cmp (shape_seen one.entry) (shape_seen other.entry) }
@@ -79,6 +83,7 @@ fn order_shapes<A: Allocator, B: Allocator>(one: Shape<'_, A>, other: Shape<'_, 
     }
 }
 
+/// The order of two lists of elements, a beginning first.
 #[cycle(order)]
 fn order_parts<A: Allocator, B: Allocator>(v: Parts<'_, A>, w: Parts<'_, B>) -> Ordering
     ensures { result ≡ trees_cmp (parts_seen v.entry) (parts_seen w.entry) }

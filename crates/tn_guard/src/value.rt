@@ -5,7 +5,9 @@ ghost use Rattle.def_term.specs.Tree.{int, atom};
 ghost use Rattle.def_term.specs.Atoms.{IsAtomText};
 ghost use Rattle.def_term.specs.Order.{same};
 ghost use Rattle.def_spec.specs.Functions.{truth};
-ghost use Rattle.tn_guard.specs.Views.{word_seen, value_seen, shape_seen, parts_seen, text_in, pid_in, tuple_in, list_in};
+ghost use Rattle.tn_term.specs.Views.{tree_of};
+ghost use Rattle.tn_guard.specs.Views.{word_seen, value_seen, shape_seen, parts_seen};
+ghost use Rattle.tn_guard.specs.Views.{text_in, pid_in, tuple_in, list_in};
 
 use crate::parts::Parts;
 use crate::shape::Shape;
@@ -59,6 +61,13 @@ impl Word {
     }
 }
 
+impl<'a, A: Allocator> Default for Value<'a, A> {
+    /// `false`
+    fn default() -> Value<'a, A> {
+        Value::Word(Word::False)
+    }
+}
+
 impl<'a, A: Allocator> Value<'a, A> {
     /// `true` or `false`.
     pub fn truth(holds: bool) -> Value<'a, A>
@@ -85,7 +94,20 @@ impl<'a, A: Allocator> Value<'a, A> {
     pub fn same<'b, B: Allocator>(self, other: Value<'b, B>) -> bool
         ensures { result ≡ same (value_seen self.entry) (value_seen other.entry) }
     {
-        self.shape().order(other.shape()).is_eq()
+        match self {
+            Value::Lent(term) => other.is_term(term),
+            _ => self.shape().order(other.shape()).is_eq(),
+        }
+    }
+
+    /// Whether it is that term.
+    pub fn is_term<B: Allocator>(self, term: &Term<B>) -> bool
+        ensures { result ≡ same (tree_of term.now) (value_seen self.entry) }
+    {
+        match self {
+            Value::Lent(own) => term.same(own),
+            _ => Shape::of(term).order(self.shape()).is_eq(),
+        }
     }
 
     /// The text of an atom; None of any other term.
@@ -128,6 +150,7 @@ impl<'a, A: Allocator> Value<'a, A> {
         }
     }
 
+    /// What kind of term it is, with what it is made of.
     pub(crate) fn shape(self) -> Shape<'a, A>
         ensures { shape_seen result ≡ value_seen self.entry }
     {

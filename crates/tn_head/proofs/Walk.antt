@@ -10,7 +10,7 @@ use Rattle.std.proofs.lemmas.List.{drop_more, drop_all}
 use Rattle.def_term.specs.Tree.{Tree, int, atom, pid, tuple, list, Trees, none, more, count}
 use Rattle.def_term.specs.Order.{same}
 use Rattle.def_spec.specs.Functions.{nth}
-use Rattle.def_spec.specs.Matching.{Pattern, Patterns, variable, only_term, in_tuple, in_list, no_patterns, and_pattern, Bindings, bound, met, bind_on, bind_each, bindings_of}
+use Rattle.def_spec.specs.Matching.{Pattern, Patterns, variable, only_term, in_tuple, in_list, no_patterns, and_pattern, Bindings, value_bound, met, bind_on, bind_each, bindings_of}
 use Rattle.def_spec.proofs.Binding.{bind-matches, matches-bind}
 use Rattle.tn_term.specs.Views.{tree_of}
 use Rattle.tn_term.specs.declared.term.Term.{Term}
@@ -24,10 +24,10 @@ use Rattle.tn_head.specs.declared.bindings.Binding.{Binding}
 
 -- ---- variables
 
-pub met_again : (n : ℕ) (t u : Tree) (b : Bindings) (s : Bool) → Some u ≡ bound b n → s ≡ same u t → bind_on (variable n) t b ≡ (if s then Some b else None)
+pub met_again : (n : ℕ) (t u : Tree) (b : Bindings) (s : Bool) → Some u ≡ value_bound b n → s ≡ same u t → bind_on (variable n) t b ≡ (if s then Some b else None)
 met_again n t u b s e h = ap (met n t b) (sym e) ∙ ap (λ x. if x then Some b else None) (sym h)
 
-pub met_first : (n : ℕ) (t : Tree) (b c : Bindings) → None ≡ bound b n → c ≡ put nat_cmp n t b → bind_on (variable n) t b ≡ Some c
+pub met_first : (n : ℕ) (t : Tree) (b c : Bindings) → None ≡ value_bound b n → c ≡ put nat_cmp n t b → bind_on (variable n) t b ≡ Some c
 met_first n t b c e h = ap (met n t b) (sym e) ∙ ap Some (sym h)
 
 module _ {A : Type 0} (b : Binding A) where
@@ -35,8 +35,8 @@ module _ {A : Type 0} (b : Binding A) where
   place_in xs = position_or_len (λ x. nat_lt b.number x.number) xs
 
   inserted_by : (x : Binding A) (xs : List (Binding A)) (lt eq : Bool)
-      → (None ≡ bound (map binding_seen xs) b.number → map binding_seen (insert xs (place_in xs) b) ≡ put nat_cmp b.number (value_seen b.value) (map binding_seen xs))
-      → None ≡ cond (is_eq (cond lt Less (cond eq Equal Greater))) (Some (value_seen x.value)) (bound (map binding_seen xs) b.number)
+      → (None ≡ value_bound (map binding_seen xs) b.number → map binding_seen (insert xs (place_in xs) b) ≡ put nat_cmp b.number (value_seen b.value) (map binding_seen xs))
+      → None ≡ cond (is_eq (cond lt Less (cond eq Equal Greater))) (Some (value_seen x.value)) (value_bound (map binding_seen xs) b.number)
       → map binding_seen (insert (x ∷ xs) (cond (not lt) (1 + place_in xs) 0) b)
       ≡ by_order (cond lt Less (cond eq Equal Greater)) (binding_seen b ∷ map binding_seen (x ∷ xs)) ((x.number, value_seen b.value) ∷ map binding_seen xs) (binding_seen x ∷ put nat_cmp b.number (value_seen b.value) (map binding_seen xs))
   inserted_by x xs true eq rest h = refl
@@ -46,7 +46,7 @@ module _ {A : Type 0} (b : Binding A) where
       ap (λ i. map binding_seen (insert (x ∷ xs) i b)) next ∙ ap (λ es. binding_seen x ∷ es) (rest h)
 
   -- an entry before the first of a greater number
-  pub inserted : (xs : List (Binding A)) → None ≡ bound (map binding_seen xs) b.number → map binding_seen (insert xs (place_in xs) b) ≡ put nat_cmp b.number (value_seen b.value) (map binding_seen xs)
+  pub inserted : (xs : List (Binding A)) → None ≡ value_bound (map binding_seen xs) b.number → map binding_seen (insert xs (place_in xs) b) ≡ put nat_cmp b.number (value_seen b.value) (map binding_seen xs)
   inserted [] e = refl
   inserted (x ∷ xs) e = inserted_by x xs (nat_lt b.number x.number) (b.number == x.number) (inserted xs) e
 

@@ -4,10 +4,10 @@ use Rattle.std.specs.Prelude.{Ok, Err}
 use Rattle.std.proofs.lemmas.List.{drop_more, drop_all, append-nil, map-append}
 use Rattle.def_term.specs.Tree.{Tree, of_elements}
 use Rattle.def_spec.specs.Matching.{Pattern, and_pattern}
-use Rattle.def_spec.specs.Expressions.{Dialect, Place, Expr, and_expr}
+use Rattle.def_spec.specs.Expressions.{Dialect, Part, Expr, and_expr}
 use Rattle.def_spec.specs.Reading.{Reads, then_read, pattern_of, patterns_of, expr_of, exprs_of, clause_of, clauses_of}
 use Rattle.tn_spec.specs.declared.fault.SpecFault.{SpecFault}
-use Rattle.tn_spec.specs.declared.fault.SpecFault.TheVariants.{Badarg, Unsupported, OutOfMemory}
+use Rattle.tn_spec.specs.declared.fault.SpecFault.TheVariants.{Badarg, Unsupported, TooLarge, OutOfMemory}
 use Rattle.tn_spec.specs.Views.{patterns_from, exprs_from}
 use Rattle.tn_spec.specs.Answers.{IsFaultOf, each_read}
 
@@ -16,6 +16,7 @@ use Rattle.tn_spec.specs.Answers.{IsFaultOf, each_read}
 pub fault_then : {A X Y : Type 0} (r : Reads X) (k : X → Reads Y) (e : SpecFault A) → IsFaultOf r e → IsFaultOf (then_read r k) e
 fault_then r k Badarg h = ap (λ q. then_read q k) h
 fault_then r k (Unsupported s) h = ap (λ q. then_read q k) h
+fault_then r k TooLarge h = h
 fault_then r k OutOfMemory h = tt
 
 pub ok_then : {X Y : Type 0} (r : Reads X) (k : X → Reads Y) (x : X) → r ≡ Ok x → then_read r k ≡ k x
@@ -81,16 +82,16 @@ patterns_read ts ps e = patterns_each ts ∙ ok_then _ _ ps e
 pub patterns_fail : {A : Type 0} (ts : List Tree) (e : SpecFault A) → IsFaultOf (each_read pattern_of ts) e → IsFaultOf (patterns_of (of_elements ts)) e
 patterns_fail ts e h = subst (λ r. IsFaultOf r e) (sym (patterns_each ts)) (fault_then _ _ e h)
 
-module _ (d : Dialect) (place : Place) (head : Pattern) where
-  exprs_each : (ts : List Tree) → exprs_of d place head (of_elements ts) ≡ then_read (each_read (expr_of d place head) ts) (λ es. Ok (exprs_from es))
+module _ (d : Dialect) (part : Part) (head : Pattern) where
+  exprs_each : (ts : List Tree) → exprs_of d part head (of_elements ts) ≡ then_read (each_read (expr_of d part head) ts) (λ es. Ok (exprs_from es))
   exprs_each [] = refl
   exprs_each (t ∷ ts) =
-      fold_one and_expr exprs_from (expr_of d place head t) (each_read (expr_of d place head) ts) (exprs_of d place head (of_elements ts)) (λ z zs. refl) (exprs_each ts)
+      fold_one and_expr exprs_from (expr_of d part head t) (each_read (expr_of d part head) ts) (exprs_of d part head (of_elements ts)) (λ z zs. refl) (exprs_each ts)
 
-  pub exprs_read : (ts : List Tree) (es : List Expr) → each_read (expr_of d place head) ts ≡ Ok es → exprs_of d place head (of_elements ts) ≡ Ok (exprs_from es)
+  pub exprs_read : (ts : List Tree) (es : List Expr) → each_read (expr_of d part head) ts ≡ Ok es → exprs_of d part head (of_elements ts) ≡ Ok (exprs_from es)
   exprs_read ts es e = exprs_each ts ∙ ok_then _ _ es e
 
-  pub exprs_fail : {A : Type 0} (ts : List Tree) (e : SpecFault A) → IsFaultOf (each_read (expr_of d place head) ts) e → IsFaultOf (exprs_of d place head (of_elements ts)) e
+  pub exprs_fail : {A : Type 0} (ts : List Tree) (e : SpecFault A) → IsFaultOf (each_read (expr_of d part head) ts) e → IsFaultOf (exprs_of d part head (of_elements ts)) e
   exprs_fail ts e h = subst (λ r. IsFaultOf r e) (sym (exprs_each ts)) (fault_then _ _ e h)
 
 pub clauses_each : (d : Dialect) (ts : List Tree) → clauses_of d (of_elements ts) ≡ each_read (clause_of d) ts

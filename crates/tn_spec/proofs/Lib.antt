@@ -1,5 +1,6 @@
 pub mod Calls
 pub mod Each
+pub mod Marked
 pub mod Parts
 pub mod Sizes
 pub mod Tables

@@ -5,7 +5,7 @@ use Rattle.std.specs.Str.{bytes_eq}
 use Rattle.def_term.specs.Tree.{Tree, int, atom, pid, tuple, list, Trees, none, more, count, size, sum_of_sizes}
 use Rattle.def_term.specs.Names.{Name}
 use Rattle.def_spec.specs.Matching.{Pattern, variable, anything, only_term, in_tuple, in_list, Patterns, no_patterns, and_pattern, occurs}
-use Rattle.def_spec.specs.Expressions.{Dialect, Expr, bound_to, whole_list, all_bound, constant, tuple_of, list_of, Exprs, no_exprs, and_expr, Place, in_condition, in_body}
+use Rattle.def_spec.specs.Expressions.{Dialect, Expr, bound_to, whole_list, all_bound, constant, tuple_of, list_of, Exprs, no_exprs, and_expr, Part, in_condition, in_body}
 use Rattle.def_spec.specs.Outcome.{Clause, Spec}
 use Rattle.def_spec.specs.Reading.{badarg, then_read, AtomKind, a_variable, a_wrong_variable, a_plain_atom, atom_kind, Called, a_function, an_and_also, an_or_else, an_action, named_call, call_of, atom_expr_of_kind, is_constant, only_element, expr_of, exprs_of, pattern_of_kind, pattern_of, patterns_of, head_of_kind, head_of, is_wildcard, clause_of_parts, clause_of, clauses_of, spec_of}
 use Rattle.def_spec.proofs.Reading.{then_ok, read, ok_is}
@@ -69,7 +69,7 @@ call_size an_and_also es = refl
 call_size an_or_else es = refl
 call_size (an_action a) es = refl
 
-module _ (d : Dialect) (place : Place) (head : Pattern) where
+module _ (d : Dialect) (part : Part) (head : Pattern) where
   variable_small : (n : ℕ) (e : Expr) (b : Bool) → (if b then Ok (bound_to n) else Err badarg) ≡ Ok e → expr_size e ≤ 1
   variable_small n e true h = subst (λ x. expr_size x ≤ 1) (ok_is (bound_to n) e h) (omega arith)
   variable_small n e false h = cc
@@ -84,37 +84,37 @@ module _ (d : Dialect) (place : Place) (head : Pattern) where
   atom_small s a_wrong_variable e h = cc
   atom_small s a_plain_atom e h = plain_small s e (bytes_eq s (codes "$_")) (bytes_eq s (codes "$$")) h
 
-  tuple_small : (s : Name) (ts : Trees) (e : Expr) (b : Bool) → ((es : Exprs) → exprs_of d place head ts ≡ Ok es → exprs_size es ≤ sum_of_sizes ts)
-      → (if b then Ok (constant (only_element ts)) else then_read (named_call d place s (count ts)) (λ f. then_read (exprs_of d place head ts) (λ es. Ok (call_of f es)))) ≡ Ok e → expr_size e ≤ 1 + (1 + sum_of_sizes ts)
+  tuple_small : (s : Name) (ts : Trees) (e : Expr) (b : Bool) → ((es : Exprs) → exprs_of d part head ts ≡ Ok es → exprs_size es ≤ sum_of_sizes ts)
+      → (if b then Ok (constant (only_element ts)) else then_read (named_call d part s (count ts)) (λ f. then_read (exprs_of d part head ts) (λ es. Ok (call_of f es)))) ≡ Ok e → expr_size e ≤ 1 + (1 + sum_of_sizes ts)
   tuple_small s ts e true ih h = subst (λ x. expr_size x ≤ 1 + (1 + sum_of_sizes ts)) (ok_is (constant (only_element ts)) e h) (omega arith)
   tuple_small s ts e false ih h =
-      let r : (f : Called) × (named_call d place s (count ts) ≡ Ok f) × (then_read (exprs_of d place head ts) (λ es. Ok (call_of f es)) ≡ Ok e) = then_ok _ _ e h in
-      let q : (es : Exprs) × (exprs_of d place head ts ≡ Ok es) × (read (call_of r.0 es) ≡ Ok e) = then_ok _ _ e r.2 in
+      let r : (f : Called) × (named_call d part s (count ts) ≡ Ok f) × (then_read (exprs_of d part head ts) (λ es. Ok (call_of f es)) ≡ Ok e) = then_ok _ _ e h in
+      let q : (es : Exprs) × (exprs_of d part head ts ≡ Ok es) × (read (call_of r.0 es) ≡ Ok e) = then_ok _ _ e r.2 in
       let within : exprs_size q.0 ≤ sum_of_sizes ts = ih q.0 q.1 in
       let counted : expr_size (call_of r.0 q.0) ≡ 1 + exprs_size q.0 = call_size r.0 q.0 in
       subst (λ x. expr_size x ≤ 1 + (1 + sum_of_sizes ts)) (ok_is (call_of r.0 q.0) e q.2) (omega (arith, within, counted))
 
   mutual
-    expr_small : (t : Tree) (e : Expr) → expr_of d place head t ≡ Ok e → expr_size e ≤ size t
+    expr_small : (t : Tree) (e : Expr) → expr_of d part head t ≡ Ok e → expr_size e ≤ size t
     expr_small (int z) e h = subst (λ x. expr_size x ≤ 1) (ok_is (constant (int z)) e h) (omega arith)
     expr_small (atom s) e h = atom_small s (atom_kind s) e h
     expr_small (pid n) e h = subst (λ x. expr_size x ≤ 1) (ok_is (constant (pid n)) e h) (omega arith)
     expr_small (list ts) e h =
-        let q : (es : Exprs) × (exprs_of d place head ts ≡ Ok es) × (read (list_of es) ≡ Ok e) = then_ok _ _ e h in
+        let q : (es : Exprs) × (exprs_of d part head ts ≡ Ok es) × (read (list_of es) ≡ Ok e) = then_ok _ _ e h in
         let within : exprs_size q.0 ≤ sum_of_sizes ts = exprs_small ts q.0 q.1 in
         subst (λ x. expr_size x ≤ 1 + sum_of_sizes ts) (ok_is (list_of q.0) e q.2) (omega (arith, within))
     expr_small (tuple (more (tuple ts) none)) e h =
-        let q : (es : Exprs) × (exprs_of d place head ts ≡ Ok es) × (read (tuple_of es) ≡ Ok e) = then_ok _ _ e h in
+        let q : (es : Exprs) × (exprs_of d part head ts ≡ Ok es) × (read (tuple_of es) ≡ Ok e) = then_ok _ _ e h in
         let within : exprs_size q.0 ≤ sum_of_sizes ts = exprs_small ts q.0 q.1 in
         subst (λ x. expr_size x ≤ 1 + ((1 + sum_of_sizes ts) + 0)) (ok_is (tuple_of q.0) e q.2) (omega (arith, within))
     expr_small (tuple (more (atom s) ts)) e h = tuple_small s ts e (is_constant s ts) (λ es k. exprs_small ts es k) h
     expr_small (tuple _) e h = cc
 
-    exprs_small : (ts : Trees) (es : Exprs) → exprs_of d place head ts ≡ Ok es → exprs_size es ≤ sum_of_sizes ts
+    exprs_small : (ts : Trees) (es : Exprs) → exprs_of d part head ts ≡ Ok es → exprs_size es ≤ sum_of_sizes ts
     exprs_small none es h = subst (λ x. exprs_size x ≤ 0) (ok_is no_exprs es h) (omega arith)
     exprs_small (more t ts) es h =
-        let r : (e : Expr) × (expr_of d place head t ≡ Ok e) × (then_read (exprs_of d place head ts) (λ us. Ok (and_expr e us)) ≡ Ok es) = then_ok _ _ es h in
-        let q : (us : Exprs) × (exprs_of d place head ts ≡ Ok us) × (read (and_expr r.0 us) ≡ Ok es) = then_ok _ _ es r.2 in
+        let r : (e : Expr) × (expr_of d part head t ≡ Ok e) × (then_read (exprs_of d part head ts) (λ us. Ok (and_expr e us)) ≡ Ok es) = then_ok _ _ es h in
+        let q : (us : Exprs) × (exprs_of d part head ts ≡ Ok us) × (read (and_expr r.0 us) ≡ Ok es) = then_ok _ _ es r.2 in
         let first : expr_size r.0 ≤ size t = expr_small t r.0 r.1 in
         let others : exprs_size q.0 ≤ sum_of_sizes ts = exprs_small ts q.0 q.1 in
         subst (λ x. exprs_size x ≤ size t + sum_of_sizes ts) (ok_is (and_expr r.0 q.0) es q.2) (omega (arith, first, others))

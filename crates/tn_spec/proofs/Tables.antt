@@ -31,7 +31,7 @@ found_is (r ∷ rs) s = ap (λ b. option_map row_of (if b then Some r else found
     go true e = refl
     go false e = e
 
-split : (rs qs : List Row) (s : Name) (os : List (Option (Called × ℕ × ℕ))) → row_in qs s ≡ first_of os → row_in (rs ++ qs) s ≡ first_of (row_in rs s ∷ os)
+split : (rs qs : List Row) (s : Name) (os : List (Option (Called × ℕ × Option ℕ))) → row_in qs s ≡ first_of os → row_in (rs ++ qs) s ≡ first_of (row_in rs s ∷ os)
 split [] qs s os e = e
 split (r ∷ rs) qs s os e = go (bytes_eq s r.name) (split rs qs s os e)
   where

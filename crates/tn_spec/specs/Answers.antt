@@ -4,12 +4,13 @@ use Rattle.def_term.specs.Tree.{Tree, list, Trees}
 use Rattle.def_spec.specs.Reading as reading
 use Rattle.def_spec.specs.Reading.{Reads, then_read}
 use Rattle.tn_spec.specs.declared.fault.SpecFault.{SpecFault}
-use Rattle.tn_spec.specs.declared.fault.SpecFault.TheVariants.{Badarg, Unsupported, OutOfMemory}
+use Rattle.tn_spec.specs.declared.fault.SpecFault.TheVariants.{Badarg, Unsupported, TooLarge, OutOfMemory}
 
 -- the fault is what is read; want of memory tells nothing of it
 abbrev pub IsFaultOf : {A Y : Type 0} → Reads Y → SpecFault A → Type 0
 IsFaultOf r Badarg = r ≡ Err reading.badarg
 IsFaultOf r (Unsupported s) = r ≡ Err (reading.unsupported s)
+IsFaultOf r TooLarge = ⊥
 IsFaultOf r OutOfMemory = Unit {0}
 
 -- the answer, as it is seen, is what is read

@@ -1,14 +1,15 @@
 -- What the code's answers on names stand for.
-use Rattle.std.specs.Prelude.{ℕ, if◌then◌else◌, List, [], ◌∷◌, take, drop, Option, Some, None}
+use Rattle.std.specs.Prelude.{ℕ, ◌≤◌, nat_le, Bool, ◌&&◌, if◌then◌else◌, List, [], ◌∷◌, take, drop, Option, Some, None}
+use Rattle.std.specs.Bool.{⊤}
 use Rattle.std.specs.Str.{bytes_eq}
 use Rattle.def_term.specs.Names.{Name}
 use Rattle.def_spec.specs.Expressions as ex
 use Rattle.def_spec.specs.Reading as reading
-use Rattle.def_spec.specs.Reading.{Row, table}
+use Rattle.def_spec.specs.Reading.{Row, table, is_at_most, is_allowed}
 use Rattle.tn_spec.specs.declared.names.AtomKind.{AtomKind}
 use Rattle.tn_spec.specs.declared.names.AtomKind.TheVariants as kinds
-use Rattle.tn_spec.specs.declared.called.Place.{Place}
-use Rattle.tn_spec.specs.declared.called.Place.TheVariants as places
+use Rattle.tn_spec.specs.declared.called.Part.{Part}
+use Rattle.tn_spec.specs.declared.called.Part.TheVariants as parts
 use Rattle.tn_spec.specs.declared.table.Called.{Called}
 use Rattle.tn_spec.specs.declared.table.Called.TheVariants as calls
 use Rattle.tn_spec.specs.declared.table.Row as code
@@ -19,9 +20,9 @@ kind_seen (kinds.Variable n) = reading.a_variable n
 kind_seen kinds.WrongVariable = reading.a_wrong_variable
 kind_seen kinds.Plain = reading.a_plain_atom
 
-abbrev pub place_seen : Place → ex.Place
-place_seen places.Condition = ex.in_condition
-place_seen places.Body = ex.in_body
+abbrev pub part_seen : Part → ex.Part
+part_seen parts.Condition = ex.in_condition
+part_seen parts.Body = ex.in_body
 
 abbrev pub called_seen : Called → reading.Called
 called_seen (calls.Func f) = reading.a_function (func_of f)
@@ -29,16 +30,26 @@ called_seen calls.AndAlso = reading.an_and_also
 called_seen calls.OrElse = reading.an_or_else
 called_seen (calls.Action a) = reading.an_action (action_of a)
 
+-- a variable's number is at most 999
+abbrev pub IsNumbered : AtomKind → Type 0
+IsNumbered (kinds.Variable n) = n ≤ 999
+IsNumbered kinds.WrongVariable = ⊤
+IsNumbered kinds.Plain = ⊤
+
 -- ---- the table of names, without the names
 
-abbrev pub row_seen : code.Row → reading.Called × ℕ × ℕ
+abbrev pub row_seen : code.Row → reading.Called × ℕ × Option ℕ
 row_seen r = (called_seen r.called, r.least, r.most)
 
-abbrev pub row_of : Row → reading.Called × ℕ × ℕ
+abbrev pub row_of : Row → reading.Called × ℕ × Option ℕ
 row_of r = (r.called, r.least, r.most)
 
+-- what the row calls may stand there, with so many arguments
+abbrev pub row_allows : code.Row → ex.Dialect → ex.Part → ℕ → Bool
+row_allows r d part n = (nat_le r.least n && is_at_most r.most n) && is_allowed d part (called_seen r.called)
+
 -- the first row of this name
-abbrev pub row_in : List Row → Name → Option (reading.Called × ℕ × ℕ)
+abbrev pub row_in : List Row → Name → Option (reading.Called × ℕ × Option ℕ)
 row_in [] s = None
 row_in (r ∷ rs) s = if bytes_eq s r.name then Some (row_of r) else row_in rs s
 

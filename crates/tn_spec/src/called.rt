@@ -1,8 +1,8 @@
 // What a name calls where it stands.
-ghost use Rattle.std.specs.Prelude.{◌≡◌, ◌&&◌, nat_le};
-ghost use Rattle.def_spec.specs.Reading.{has_action, is_allowed, named_call};
+ghost use Rattle.std.specs.Prelude.{◌≡◌};
+ghost use Rattle.def_spec.specs.Reading.{has_action, is_allowed, is_at_most, named_call};
 ghost use Rattle.tn_spec.specs.Answers.{IsRead};
-ghost use Rattle.tn_spec.specs.Names.{called_seen, place_seen};
+ghost use Rattle.tn_spec.specs.Names.{called_seen, part_seen, row_allows};
 ghost use Rattle.tn_spec.specs.Views.{dialect_of, action_of};
 
 use crate::fault::SpecFault;
@@ -13,7 +13,7 @@ use tn_term::Atom;
 
 /// Where an expression stands.
 #[derive(Clone, Copy)]
-pub enum Place {
+pub enum Part {
     Condition,
     Body,
 }
@@ -36,21 +36,31 @@ fn has(dialect: Dialect, action: Action) -> bool
 }
 
 /// Whether the call may stand there: actions in bodies alone.
-fn may_stand(dialect: Dialect, place: Place, called: Called) -> bool
-    ensures { result ≡ is_allowed (dialect_of dialect) (place_seen place) (called_seen called) }
+fn may_stand(dialect: Dialect, part: Part, called: Called) -> bool
+    ensures { result ≡ is_allowed (dialect_of dialect) (part_seen part) (called_seen called) }
 {
-    match (place, called) {
-        (Place::Condition, Called::Action(_)) => false,
-        (Place::Body, Called::Action(action)) => has(dialect, action),
+    match (part, called) {
+        (Part::Condition, Called::Action(_)) => false,
+        (Part::Body, Called::Action(action)) => has(dialect, action),
         _ => true,
     }
 }
 
-/// Whether what the row calls may stand there, with so many arguments.
-fn fits(row: Row, dialect: Dialect, place: Place, args: usize) -> bool
-    ensures { result ≡ ((nat_le row.least args && nat_le args row.most) && is_allowed (dialect_of dialect) (place_seen place) (called_seen row.called)) }
+/// Whether so many arguments are no more than the greatest number, where there is one.
+fn is_few(most: Option<usize>, args: usize) -> bool
+    ensures { result ≡ is_at_most most args }
 {
-    row.least <= args && args <= row.most && may_stand(dialect, place, row.called)
+    match most {
+        Some(most) => args <= most,
+        None => true,
+    }
+}
+
+/// Whether what the row calls may stand there, with so many arguments.
+fn fits(row: Row, dialect: Dialect, part: Part, args: usize) -> bool
+    ensures { result ≡ row_allows row (dialect_of dialect) (part_seen part) args }
+{
+    row.least <= args && is_few(row.most, args) && may_stand(dialect, part, row.called)
 }
 
 /// What the name calls there with so many arguments. An unsupported name is a fault of its own, with
@@ -58,11 +68,11 @@ fn fits(row: Row, dialect: Dialect, place: Place, args: usize) -> bool
 pub fn called<A: Allocator>(
     alloc: A,
     dialect: Dialect,
-    place: Place,
+    part: Part,
     name: &Atom<A>,
     args: usize,
 ) -> Result<Called, SpecFault<A>>
-    ensures { IsRead called_seen (named_call (dialect_of dialect) (place_seen place) name.now args) result }
+    ensures { IsRead called_seen (named_call (dialect_of dialect) (part_seen part) name.now args) result }
 {
     let text = name.text();
     if is_unsupported(text) {
@@ -71,7 +81,7 @@ pub fn called<A: Allocator>(
     let Some(row) = row_named(text) else {
         return Err(SpecFault::Badarg);
     };
-    if fits(row, dialect, place, args) {
+    if fits(row, dialect, part, args) {
         Ok(row.called)
     } else {
         Err(SpecFault::Badarg)

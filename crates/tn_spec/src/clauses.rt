@@ -1,15 +1,15 @@
 // Specifications, read from terms.
-ghost use Rattle.std.specs.Prelude.{◌≡◌, MatchResult, Ok};
+ghost use Rattle.std.specs.Prelude.{◌≡◌};
 ghost use Rattle.std.specs.Option.{option_map};
 ghost use Rattle.def_term.specs.Tree.{tuple};
-ghost use Rattle.def_spec.specs.Reading.{clause_of_parts, clause_of, clauses_of, spec_of};
+ghost use Rattle.def_spec.specs.Reading.{clause_of, clauses_of};
 ghost use Rattle.tn_term.specs.Views.{tree_of, trees_of};
-ghost use Rattle.tn_spec.specs.Answers.{IsFaultOf, IsRead, elements_in};
+ghost use Rattle.tn_spec.specs.Answers.{IsRead, elements_in};
+ghost use Rattle.tn_spec.specs.Readings.{IsSpecRead, clause_in};
 ghost use Rattle.tn_spec.specs.Views.{dialect_of, clause_seen, clause_list};
-ghost use Rattle.tn_spec.specs.Wholes.{spec_seen};
 
-use crate::called::Place;
-use crate::exprs::exprs;
+use crate::called::Part;
+use crate::exprs::exprs_of;
 use crate::fault::SpecFault;
 use crate::func::Dialect;
 use crate::heads::head;
@@ -38,11 +38,11 @@ fn clause_of_three<A: Allocator + Copy>(
     body: &Vec<Term<A>, A>,
     dialect: Dialect,
 ) -> Result<Clause<A>, SpecFault<A>>
-    ensures { IsRead clause_seen (clause_of_parts (dialect_of dialect) (tree_of term.now) (trees_of conditions.now.items) (trees_of body.now.items)) result }
+    ensures { IsRead clause_seen (clause_in dialect term.now conditions.now body.now) result }
 {
     let head = head(alloc, term)?;
-    let conditions = exprs(alloc, conditions, 0, dialect, Place::Condition, &head)?;
-    let body = exprs(alloc, body, 0, dialect, Place::Body, &head)?;
+    let conditions = exprs_of(alloc, conditions, dialect, Part::Condition, &head)?;
+    let body = exprs_of(alloc, body, dialect, Part::Body, &head)?;
     Ok(Clause {
         head,
         conditions,
@@ -101,15 +101,14 @@ fn clauses<A: Allocator + Copy>(
 
 /// The specification that the term is in that dialect, or its first fault: clauses in order; of a
 /// clause its shape, then its head, its conditions and its body, left to right; of an expression
-/// first itself, then its arguments. Memory that runs out is `OutOfMemory` and says nothing of the
-/// term; so is a term of more than 4,294,967,295 parts, which no script spells.
+/// first itself, then its arguments. A nonempty list of more than 4,294,967,295 parts is `TooLarge`,
+/// and nothing else is. Memory that runs out is `OutOfMemory` and says nothing of the term.
 pub fn spec_of<A: Allocator + Copy>(
     alloc: A,
     term: &Term<A>,
     dialect: Dialect,
 ) -> Result<Spec<A>, SpecFault<A>>
-    ensures { let read = spec_of (dialect_of dialect) (tree_of term.now) in
-        MatchResult result (λ spec. read ≡ Ok (spec_seen spec)) (λ fault. IsFaultOf read fault) }
+    ensures { IsSpecRead dialect (tree_of term.now) result }
 {
     let Some(terms) = elements(term) else {
         return Err(SpecFault::Badarg);
@@ -118,7 +117,7 @@ pub fn spec_of<A: Allocator + Copy>(
         return Err(SpecFault::Badarg);
     }
     if term.size() > LARGEST {
-        return Err(SpecFault::OutOfMemory);
+        return Err(SpecFault::TooLarge);
     }
     let clauses = clauses(alloc, terms, dialect)?;
     Ok(Spec { dialect, clauses })

@@ -1,21 +1,23 @@
 // Expressions, read from terms.
-ghost use Rattle.std.specs.Prelude.{◌≡◌, ◌==◌, ◌<◌, ◌&&◌, length, drop, codes};
+ghost use Rattle.std.specs.Prelude.{◌≡◌, ◌==◌, ◌<◌, ◌&&◌, length, codes};
 ghost use Rattle.std.specs.Str.{bytes_eq};
-ghost use Rattle.def_term.specs.Tree.{tuple, atom, more};
-ghost use Rattle.def_spec.specs.Reading.{a_plain_atom, atom_kind, atom_expr_of_kind, call_of, expr_of, exprs_of};
+ghost use Rattle.def_term.specs.Tree.{tuple};
+ghost use Rattle.def_spec.specs.Reading.{a_plain_atom, atom_kind, atom_expr_of_kind, call_of};
 ghost use Rattle.def_spec.specs.Matching.{Pattern};
 ghost use Rattle.tn_term.specs.Views.{tree_of, trees_of};
 ghost use Rattle.tn_spec.specs.Answers.{IsRead};
-ghost use Rattle.tn_spec.specs.Names.{called_seen, place_seen};
-ghost use Rattle.tn_spec.specs.Views.{dialect_of, head_seen, expr_seen, expr_list};
+ghost use Rattle.tn_spec.specs.Names.{called_seen};
+ghost use Rattle.tn_spec.specs.Readings.{head_in, expr_in, call_in, exprs_in, part_in};
+ghost use Rattle.tn_spec.specs.Views.{expr_seen, expr_list};
 
-use crate::called::{Place, called};
+use crate::called::{Part, called};
 use crate::expr::Expr;
 use crate::fault::SpecFault;
 use crate::func::Dialect;
 use crate::names::{AtomKind, kind_of};
 use crate::pattern::Head;
 use crate::table::Called;
+use crate::variables::Variables;
 use std::alloc::Allocator;
 use tn_term::{Atom, Term};
 
@@ -34,13 +36,13 @@ fn plain_expr<A: Allocator>(alloc: A, name: &Atom<A>) -> Result<Expr<A>, SpecFau
 fn atom_expr<A: Allocator>(
     alloc: A,
     name: &Atom<A>,
-    head: &Head<A>,
+    head: &Variables<'_, A>,
 ) -> Result<Expr<A>, SpecFault<A>>
-    ensures { IsRead expr_seen (atom_expr_of_kind (head_seen head.now) name.now (atom_kind name.now)) result }
+    ensures { IsRead expr_seen (atom_expr_of_kind (head_in head.now) name.now (atom_kind name.now)) result }
 {
     match kind_of(name.text()) {
         AtomKind::Variable(n) => {
-            if head.binds(n) {
+            if head.has(n) {
                 Ok(Expr::Variable(n))
             } else {
                 Err(SpecFault::Badarg)
@@ -76,17 +78,17 @@ fn expr<A: Allocator + Copy>(
     alloc: A,
     term: &Term<A>,
     dialect: Dialect,
-    place: Place,
-    head: &Head<A>,
+    part: Part,
+    head: &Variables<'_, A>,
 ) -> Result<Expr<A>, SpecFault<A>>
-    ensures { IsRead expr_seen (expr_of (dialect_of dialect) (place_seen place) (head_seen head.now) (tree_of term.now)) result }
+    ensures { IsRead expr_seen (expr_in dialect part head.now (tree_of term.now)) result }
 {
     match term {
         Term::Int(n) => Ok(Expr::Constant(Term::Int(*n))),
         Term::Atom(name) => atom_expr(alloc, name, head),
         Term::Pid(n) => Ok(Expr::Constant(Term::Pid(*n))),
-        Term::Tuple(v) => tuple_expr(alloc, v, dialect, place, head),
-        Term::List(v) => Ok(Expr::List(exprs(alloc, v, 0, dialect, place, head)?)),
+        Term::Tuple(v) => tuple_expr(alloc, v, dialect, part, head),
+        Term::List(v) => Ok(Expr::List(exprs(alloc, v, 0, dialect, part, head)?)),
     }
 }
 
@@ -96,10 +98,10 @@ fn tuple_expr<A: Allocator + Copy>(
     alloc: A,
     terms: &Vec<Term<A>, A>,
     dialect: Dialect,
-    place: Place,
-    head: &Head<A>,
+    part: Part,
+    head: &Variables<'_, A>,
 ) -> Result<Expr<A>, SpecFault<A>>
-    ensures { IsRead expr_seen (expr_of (dialect_of dialect) (place_seen place) (head_seen head.now) (tuple (trees_of terms.now.items))) result }
+    ensures { IsRead expr_seen (expr_in dialect part head.now (tuple (trees_of terms.now.items))) result }
 {
     if terms.len() == 0 {
         return Err(SpecFault::Badarg);
@@ -107,12 +109,12 @@ fn tuple_expr<A: Allocator + Copy>(
     match &terms[0] {
         Term::Tuple(v) => {
             if terms.len() == 1 {
-                Ok(Expr::Tuple(exprs(alloc, v, 0, dialect, place, head)?))
+                Ok(Expr::Tuple(exprs(alloc, v, 0, dialect, part, head)?))
             } else {
                 Err(SpecFault::Badarg)
             }
         }
-        Term::Atom(name) => call_expr(alloc, terms, name, dialect, place, head),
+        Term::Atom(name) => call_expr(alloc, terms, name, dialect, part, head),
         Term::Int(_) | Term::Pid(_) | Term::List(_) => Err(SpecFault::Badarg),
     }
 }
@@ -124,36 +126,50 @@ fn call_expr<A: Allocator + Copy>(
     terms: &Vec<Term<A>, A>,
     name: &Atom<A>,
     dialect: Dialect,
-    place: Place,
-    head: &Head<A>,
+    part: Part,
+    head: &Variables<'_, A>,
 ) -> Result<Expr<A>, SpecFault<A>>
     requires { 0 < length terms.now.items }
-    ensures { IsRead expr_seen (expr_of (dialect_of dialect) (place_seen place) (head_seen head.now) (tuple (more (atom name.now) (trees_of (drop 1 terms.now.items))))) result }
+    ensures { IsRead expr_seen (call_in dialect part head.now name.now terms.now) result }
 {
     let args = terms.len() - 1;
     if is_const(name.text(), args) {
         return Ok(Expr::Constant(terms[1].copy_into(alloc)?));
     }
-    let called = called(alloc, dialect, place, name, args)?;
-    let args = exprs(alloc, terms, 1, dialect, place, head)?;
+    let called = called(alloc, dialect, part, name, args)?;
+    let args = exprs(alloc, terms, 1, dialect, part, head)?;
     Ok(call(called, args))
+}
+
+/// The expressions that the terms are in that part of a clause with this head.
+pub fn exprs_of<A: Allocator + Copy>(
+    alloc: A,
+    terms: &Vec<Term<A>, A>,
+    dialect: Dialect,
+    part: Part,
+    head: &Head<A>,
+) -> Result<Vec<Expr<A>, A>, SpecFault<A>>
+    ensures { IsRead expr_list (part_in dialect part head.now terms.now) result }
+{
+    let variables = Variables::of(head);
+    exprs(alloc, terms, 0, dialect, part, &variables)
 }
 
 /// The expression that each of the terms is, from that place on.
 #[cycle(expr)]
-pub fn exprs<A: Allocator + Copy>(
+fn exprs<A: Allocator + Copy>(
     alloc: A,
     terms: &Vec<Term<A>, A>,
     from: usize,
     dialect: Dialect,
-    place: Place,
-    head: &Head<A>,
+    part: Part,
+    head: &Variables<'_, A>,
 ) -> Result<Vec<Expr<A>, A>, SpecFault<A>>
-    ensures { IsRead expr_list (exprs_of (dialect_of dialect) (place_seen place) (head_seen head.now) (trees_of (drop from terms.now.items))) result }
+    ensures { IsRead expr_list (exprs_in dialect part head.now terms.now from) result }
 {
     let mut exprs = Vec::new(alloc);
     for i in from..terms.len() {
-        exprs.push(expr(alloc, &terms[i], dialect, place, head)?)?;
+        exprs.push(expr(alloc, &terms[i], dialect, part, head)?)?;
     }
     Ok(exprs)
 }

@@ -16,6 +16,9 @@ pub enum SpecFault<A: Allocator> {
     /// It calls a function of this name, which is not supported.
     #[error("unsupported function {}", .0.text())]
     Unsupported(Atom<A>),
+    /// The term has 4,294,967,296 parts or more, which no script spells.
+    #[error("too large")]
+    TooLarge,
     /// The allocator refused memory. It says nothing of the term.
     #[error("out of memory")]
     OutOfMemory,
@@ -26,6 +29,7 @@ impl<A: Allocator> fmt::Debug for SpecFault<A> {
         match self {
             SpecFault::Badarg => write!(f, "Badarg"),
             SpecFault::Unsupported(name) => write!(f, "Unsupported({:?})", name.text()),
+            SpecFault::TooLarge => write!(f, "TooLarge"),
             SpecFault::OutOfMemory => write!(f, "OutOfMemory"),
         }
     }

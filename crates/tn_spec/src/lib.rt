@@ -4,7 +4,6 @@
 //! specification that a term spells in a dialect, or its first fault.
 #![tactic(auto)]
 
-mod binds;
 mod called;
 mod clauses;
 mod expr;
@@ -16,6 +15,7 @@ mod names;
 mod pattern;
 mod spec;
 mod table;
+mod variables;
 
 pub use clauses::spec_of;
 pub use expr::Expr;

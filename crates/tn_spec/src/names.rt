@@ -1,8 +1,9 @@
 // What atoms are in heads and expressions.
 ghost use Rattle.std.specs.Prelude.{◌≡◌, ◌≤◌, length, IsTrue, codes};
-ghost use Rattle.def_spec.specs.Reading.{all_digits, number_from, is_dollar_number, is_plain_number, atom_kind, is_wildcard};
 ghost use Rattle.std.specs.Str.{bytes_eq};
-ghost use Rattle.tn_spec.specs.Names.{kind_seen};
+ghost use Rattle.def_spec.specs.Reading.{all_digits, decimal_from, is_dollar_number, is_plain_number};
+ghost use Rattle.def_spec.specs.Reading.{atom_kind, is_wildcard};
+ghost use Rattle.tn_spec.specs.Names.{IsNumbered, kind_seen};
 
 /// What an atom is in a head or an expression.
 #[derive(Clone, Copy)]
@@ -14,6 +15,7 @@ pub enum AtomKind {
     Plain,
 }
 
+/// Whether each byte is a digit.
 fn are_digits(bytes: &[u8]) -> bool
     ensures { result ≡ all_digits bytes.now }
 {
@@ -50,7 +52,7 @@ fn is_number(digits: &[u8]) -> bool
 fn number(digits: &[u8]) -> u16
     requires digits { IsTrue (all_digits digits.now) }
     requires short { length digits.now ≤ 3 }
-    ensures { result ≡ number_from 0 digits.now }
+    ensures { result ≡ decimal_from 0 digits.now }
 {
     let mut n: u16 = 0;
     for digit in digits {
@@ -61,7 +63,8 @@ fn number(digits: &[u8]) -> u16
 
 /// What an atom of this text is.
 pub fn kind_of(text: &str) -> AtomKind
-    ensures { kind_seen result ≡ atom_kind text.now }
+    ensures seen { kind_seen result ≡ atom_kind text.now }
+    ensures numbered { IsNumbered result }
 {
     let bytes = text.as_bytes();
     if !is_numbered(bytes) {

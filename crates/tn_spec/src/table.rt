@@ -1,9 +1,10 @@
 // What names call, and with which numbers of arguments.
-ghost use Rattle.std.specs.Prelude.{◌≡◌};
+ghost use Rattle.std.specs.Prelude.{◌≡◌, Some};
 ghost use Rattle.std.specs.Option.{option_map};
 ghost use Rattle.def_term.specs.Text.{is_among};
 ghost use Rattle.def_spec.specs.Reading.{table, unsupported_names, found_in};
-ghost use Rattle.tn_spec.specs.Names.{row_seen, row_of, row_in, tests, of_lists, of_integers, comparisons, others, actions};
+ghost use Rattle.tn_spec.specs.Names.{row_seen, row_of, row_in};
+ghost use Rattle.tn_spec.specs.Names.{tests, of_lists, of_integers, comparisons, others, actions};
 
 use crate::func::{Action, Func};
 
@@ -16,18 +17,16 @@ pub enum Called {
     Action(Action),
 }
 
-/// What a name calls, and the least and the greatest number of its arguments.
+/// What a name calls, and the least and the greatest number of its arguments, where there is a greatest.
 #[derive(Clone, Copy)]
 pub struct Row {
     pub called: Called,
     pub least: usize,
-    pub most: usize,
+    pub most: Option<usize>,
 }
 
-/// As many arguments as there may be.
-const ANY_NUMBER: usize = 4096;
-
-fn taking(called: Called, least: usize, most: usize) -> Option<Row>
+/// What is called with so many arguments.
+fn taking(called: Called, least: usize, most: Option<usize>) -> Option<Row>
     ensures { result ≡ Some (record { called = called; least = least; most = most }) }
 {
     Some(Row {
@@ -37,10 +36,11 @@ fn taking(called: Called, least: usize, most: usize) -> Option<Row>
     })
 }
 
+/// A function of so many arguments.
 fn function(func: Func, args: usize) -> Option<Row>
-    ensures { result ≡ Some (record { called = Called.Func func; least = args; most = args }) }
+    ensures { result ≡ Some (record { called = Called.Func func; least = args; most = Some args }) }
 {
-    taking(Called::Func(func), args, args)
+    taking(Called::Func(func), args, Some(args))
 }
 
 /// A test of the kind of a term.
@@ -123,11 +123,11 @@ fn other(text: &str) -> Option<Row>
 {
     match text {
         "self" => function(Func::OwnPid, 0),
-        "node" => taking(Called::Func(Func::OwnNode), 0, 1),
-        "and" => taking(Called::Func(Func::AllOf), 1, ANY_NUMBER),
-        "or" => taking(Called::Func(Func::OneOf), 1, ANY_NUMBER),
-        "andalso" => taking(Called::AndAlso, 1, ANY_NUMBER),
-        "orelse" => taking(Called::OrElse, 1, ANY_NUMBER),
+        "node" => taking(Called::Func(Func::OwnNode), 0, Some(1)),
+        "and" => taking(Called::Func(Func::AllOf), 1, None),
+        "or" => taking(Called::Func(Func::OneOf), 1, None),
+        "andalso" => taking(Called::AndAlso, 1, None),
+        "orelse" => taking(Called::OrElse, 1, None),
         "xor" => function(Func::JustOneOf, 2),
         "not" => function(Func::IsFalse, 1),
         _ => None,
@@ -139,13 +139,13 @@ fn action(text: &str) -> Option<Row>
     ensures { option_map row_seen result ≡ row_in actions text.now }
 {
     match text {
-        "message" => taking(Called::Action(Action::Message), 1, 1),
-        "return_trace" => taking(Called::Action(Action::ReturnTrace), 0, 0),
-        "exception_trace" => taking(Called::Action(Action::ExceptionTrace), 0, 0),
-        "silent" => taking(Called::Action(Action::Silent), 1, 1),
-        "enable_trace" => taking(Called::Action(Action::EnableTrace), 1, 2),
-        "disable_trace" => taking(Called::Action(Action::DisableTrace), 1, 2),
-        "caller" => taking(Called::Action(Action::Caller), 0, 0),
+        "message" => taking(Called::Action(Action::Message), 1, Some(1)),
+        "return_trace" => taking(Called::Action(Action::ReturnTrace), 0, Some(0)),
+        "exception_trace" => taking(Called::Action(Action::ExceptionTrace), 0, Some(0)),
+        "silent" => taking(Called::Action(Action::Silent), 1, Some(1)),
+        "enable_trace" => taking(Called::Action(Action::EnableTrace), 1, Some(2)),
+        "disable_trace" => taking(Called::Action(Action::DisableTrace), 1, Some(2)),
+        "caller" => taking(Called::Action(Action::Caller), 0, Some(0)),
         _ => None,
     }
 }

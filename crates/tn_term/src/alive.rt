@@ -1,5 +1,6 @@
 // Which processes live.
-ghost use Rattle.std.specs.Prelude.{◌≡◌, ◌≤◌, ◌-◌, ◌++◌, true, false, replicate, slice_get, unwrap_or};
+ghost use Rattle.std.specs.Prelude.{◌≡◌, ◌≤◌, ◌-◌, ◌++◌, true, false, replicate};
+ghost use Rattle.std.specs.Prelude.{slice_get, unwrap_or};
 ghost use Rattle.def_term.specs.Alive.{is_alive, with_alive, living_count};
 ghost use Rattle.tn_term.specs.Views.{alive_of};
 
@@ -56,14 +57,14 @@ impl Alive {
         }
     }
 
-    /// The process with this pid lives from now on. A pid past 163 changes nothing; no run has one below 100.
+    /// The process with this pid lives from now on. A pid outside 100 to 163 changes nothing.
     pub fn add(&mut self, pid: u32)
         ensures { alive_of self.new ≡ with_alive (alive_of self.old) pid true }
     {
         self.put(pid, true);
     }
 
-    /// The process with this pid lives no longer. A pid past 163 changes nothing; no run has one below 100.
+    /// The process with this pid lives no longer. A pid outside 100 to 163 changes nothing.
     pub fn remove(&mut self, pid: u32)
         ensures { alive_of self.new ≡ with_alive (alive_of self.old) pid false }
     {
@@ -78,10 +79,14 @@ impl Alive {
         living as u8
     }
 
+    /// Whether the process with this pid lives from now on. A pid outside 100 to 163 changes nothing.
     fn put(&mut self, pid: u32, lives: bool)
         ensures { alive_of self.new ≡ with_alive (alive_of self.old) pid lives }
     {
-        let place = pid.saturating_sub(FIRST_PID) as usize;
+        if pid < FIRST_PID {
+            return;
+        }
+        let place = (pid - FIRST_PID) as usize;
         if place < self.slots.len() {
             self.slots[place] = lives;
         }

@@ -1,10 +1,12 @@
 // A name of at most 255 characters.
-ghost use Rattle.std.specs.Prelude.{◌≡◌, ℕ, MatchOption, IfOk, List, IsTrue, ◌↔◌};
+ghost use Rattle.std.specs.Prelude.{◌≡◌, ℕ, IfOk, List, IsTrue, ◌↔◌};
 ghost use Rattle.def_term.specs.Atoms.{IsAtomText};
+ghost use Rattle.tn_term.specs.Atoms.{IsAtomOf};
 
 use std::alloc::{AllocError, Allocator};
 use std::marker::Model;
 
+/// An atom, by its characters.
 #[derive(Drop)]
 pub struct Atom<A: Allocator> {
     text: String<A>,
@@ -21,16 +23,20 @@ impl<A: Allocator> Model for Atom<A> {
     ghost invariant = { λ a. IsAtomText (string_bytes a.text) };
 }
 
+/// The most characters of an atom.
+const MOST: usize = 255;
+
+/// Whether these are the characters of an atom.
 fn is_atom_text(text: &str) -> bool
     ensures { IsTrue result ↔ IsAtomText text.now }
 {
-    text.len() <= 255 && text.bytes().all(|b| 32 <= b && b <= 126)
+    text.len() <= MOST && text.bytes().all(|b| 32 <= b && b <= 126)
 }
 
 impl<A: Allocator> Atom<A> {
     /// None where the text has other characters than 32 to 126, or more than 255.
     pub fn new(alloc: A, text: &str) -> Result<Option<Atom<A>>, AllocError>
-        ensures { IfOk result (λ o. MatchOption o (¬ IsAtomText text.now) (λ a. (a ≡ text.now) × IsAtomText text.now)) }
+        ensures { IfOk result (λ o. IsAtomOf text.now o) }
     {
         if is_atom_text(text) {
             Ok(Some(Atom {
@@ -41,6 +47,7 @@ impl<A: Allocator> Atom<A> {
         }
     }
 
+    /// Its characters.
     pub fn text(&self) -> &str
         ensures text { result.now ≡ self.now }
         ensures valid { IsAtomText self.now }

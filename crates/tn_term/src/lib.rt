@@ -9,6 +9,7 @@
 mod alive;
 mod atom;
 mod compare;
+mod known;
 mod measure;
 mod mfa;
 mod term;

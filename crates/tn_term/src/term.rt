@@ -38,6 +38,7 @@ impl<A: Allocator> Term<A> {
     }
 }
 
+/// A copy of a term in another allocator.
 #[cycle(copy)]
 fn copy_term<A: Allocator, B: Allocator + Copy>(term: &Term<A>, b: B) -> Result<Term<B>, AllocError>
     ensures { IfOk result (λ t. tree_of t ≡ tree_of term.now) }
@@ -59,7 +60,7 @@ pub fn copy_terms<A: Allocator, B: Allocator + Copy>(
 ) -> Result<Vec<Term<B>, B>, AllocError>
     ensures { IfOk result (λ v. map tree_of v.items ≡ map tree_of items.now.items) }
 {
-    let mut copies = Vec::new(b);
+    let mut copies = Vec::with_capacity(b, items.len())?;
     for item in items {
         copies.push(copy_term(item, b)?)?;
     }

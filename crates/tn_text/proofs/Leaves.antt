@@ -14,7 +14,7 @@ use Rattle.tn_term.specs.Views.{tree_of}
 use Rattle.tn_term.proofs.Views.{tree_of_list}
 use Rattle.def_text.specs.Tokens.{all_are, is_printable, quoted, escaped_in, IsQuoted}
 use Rattle.def_text.specs.Grammar.{of_codes}
-use Rattle.def_text.specs.Limits.{sizes_fit, all_fit}
+use Rattle.def_text.specs.Limits.{sizes_fit, all_sizes_fit}
 use Rattle.def_text.specs.Faults.{too_deep, too_large}
 use Rattle.def_text.specs.Reading.{Frame, put, leaf_at}
 use Rattle.def_text.specs.Scan.{unescaped}
@@ -56,18 +56,18 @@ pub codes_count : (s : List ℕ) → count (of_codes s) ≡ length s
 codes_count [] = refl
 codes_count (c ∷ s) = omega (arith, codes_count s)
 
-pub codes_fit : (s : List ℕ) → all_are is_printable s ≡ true → all_fit (of_codes s) ≡ true
+pub codes_fit : (s : List ℕ) → all_are is_printable s ≡ true → all_sizes_fit (of_codes s) ≡ true
 codes_fit [] h = refl
 codes_fit (c ∷ s) h =
     let p = and_parts (is_printable c) (all_are is_printable s) h in
     let small = printable_small c p.0 in
-    and_from (nat_lt c 9223372036854775808) (all_fit (of_codes s)) (lt-ltb c 9223372036854775808 (omega (arith, small))) (codes_fit s p.1)
+    and_from (nat_lt c 9223372036854775808) (all_sizes_fit (of_codes s)) (lt-ltb c 9223372036854775808 (omega (arith, small))) (codes_fit s p.1)
 
 pub string_fits : (s : List ℕ) → length s ≤ 4096 → all_are is_printable s ≡ true → sizes_fit (list (of_codes s)) ≡ true
-string_fits s few h = and_from (nat_le (count (of_codes s)) 4096) (all_fit (of_codes s)) (le-leb (count (of_codes s)) 4096 (omega (arith, few, codes_count s))) (codes_fit s h)
+string_fits s few h = and_from (nat_le (count (of_codes s)) 4096) (all_sizes_fit (of_codes s)) (le-leb (count (of_codes s)) 4096 (omega (arith, few, codes_count s))) (codes_fit s h)
 
 pub string_large : (s : List ℕ) → 4096 < length s → sizes_fit (list (of_codes s)) ≡ false
-string_large s many = and_left (nat_le (count (of_codes s)) 4096) (all_fit (of_codes s)) (lt-leb (count (of_codes s)) 4096 (omega (arith, many, codes_count s)))
+string_large s many = and_left (nat_le (count (of_codes s)) 4096) (all_sizes_fit (of_codes s)) (lt-leb (count (of_codes s)) 4096 (omega (arith, many, codes_count s)))
 
 pub codes_seen : (s : List ℕ) → of_elements (map (λ c. int (pos c)) s) ≡ of_codes s
 codes_seen [] = refl

@@ -1,4 +1,4 @@
-pub mod Reserved
+pub mod AsciiWords
 pub mod Listing
 pub mod Numbers
 pub mod Content

@@ -5,15 +5,15 @@ use Rattle.def_term.specs.Tree.{Tree}
 use Rattle.tn_term.specs.Views.{tree_of}
 use Rattle.tn_term.specs.declared.term.Term.{Term}
 use Rattle.def_text.specs.Limits.{DEPTH}
-use Rattle.def_text.specs.Faults.{Kind, misplaced, too_deep, too_large, Refusal}
+use Rattle.def_text.specs.Faults.{Kind, misplaced, too_deep, too_large, Fault}
 use Rattle.def_text.specs.Reading as folds
 use Rattle.def_text.specs.Reading.{State, inside, done}
 use Rattle.def_text.specs.ScriptReading.{ScriptState, reading}
 use Rattle.tn_text.specs.declared.stack.Bracket.{Bracket}
 use Rattle.tn_text.specs.declared.stack.Bracket.TheVariants as brackets
 use Rattle.tn_text.specs.declared.stack.Frame.{Frame}
-use Rattle.tn_text.specs.declared.stack.Place.{Place}
-use Rattle.tn_text.specs.declared.stack.Place.TheVariants as places
+use Rattle.tn_text.specs.declared.stack.Position.{Position}
+use Rattle.tn_text.specs.declared.stack.Position.TheVariants as positions
 use Rattle.tn_text.specs.declared.stack.Progress.{Progress}
 use Rattle.tn_text.specs.declared.stack.Progress.TheVariants as progress
 use Rattle.tn_text.specs.declared.stack.StepError.{StepError}
@@ -25,10 +25,10 @@ abbrev pub bracket_of : Bracket → folds.Bracket
 bracket_of brackets.Brace = folds.brace
 bracket_of brackets.Square = folds.bracket
 
-abbrev pub place_of : Place → folds.Place
-place_of places.First = folds.first
-place_of places.Next = folds.next
-place_of places.Behind = folds.behind
+abbrev pub position_of : Position → folds.Position
+position_of positions.First = folds.first
+position_of positions.Next = folds.next
+position_of positions.Behind = folds.behind
 
 abbrev pub frame_of : {A : Type 0} → Frame A → folds.Frame
 frame_of f = folds.frame (bracket_of f.bracket) (map tree_of f.items.items)
@@ -42,7 +42,7 @@ abbrev pub frames_of : {A : Type 0} → List (Frame A) → List folds.Frame
 frames_of vs = frames_onto vs []
 
 abbrev pub state_of : {A : Type 0} → Progress A → State
-state_of (progress.Inside p v) = inside (place_of p) (frames_of v.items)
+state_of (progress.Inside p v) = inside (position_of p) (frames_of v.items)
 state_of (progress.Done t) = done (tree_of t)
 
 -- no more tuples and lists are open than may nest
@@ -86,7 +86,7 @@ ScriptStepsAt (Ok p) terms from r = r ≡ Ok (reading (map tree_of terms) (state
 ScriptStepsAt (Err f) terms from r = IsFaultOf f from r
 
 -- at the end of the text it is only a beginning
-abbrev pub IsBeginning : {S : Type 0} → TextFault → ℕ → Result S Refusal → Type 0
+abbrev pub IsBeginning : {S : Type 0} → TextFault → ℕ → Result S Fault → Type 0
 IsBeginning faults.TooLong end r = ⊥
 IsBeginning (faults.Token at) end r = (at ≡ end) × (r ≡ Err (misplaced, []))
 IsBeginning (faults.TooDeep at) end r = ⊥
@@ -94,10 +94,10 @@ IsBeginning (faults.TooLarge at) end r = ⊥
 IsBeginning faults.OutOfMemory end r = ⊥
 
 -- what is read at the end of the text
-abbrev pub Finishes : {A : Type 0} → Result (Term A) TextFault → ℕ → Result Tree Refusal → Type 0
+abbrev pub Finishes : {A : Type 0} → Result (Term A) TextFault → ℕ → Result Tree Fault → Type 0
 Finishes (Ok t) end r = r ≡ Ok (tree_of t)
 Finishes (Err f) end r = IsBeginning f end r
 
-abbrev pub ScriptFinishes : {A : Type 0} → Result (Vec (Term A) A) TextFault → ℕ → Result (List Tree) Refusal → Type 0
+abbrev pub ScriptFinishes : {A : Type 0} → Result (Vec (Term A) A) TextFault → ℕ → Result (List Tree) Fault → Type 0
 ScriptFinishes (Ok v) end r = r ≡ Ok (map tree_of v.items)
 ScriptFinishes (Err f) end r = IsBeginning f end r

@@ -8,7 +8,7 @@ use crate::scan::{Kind, gap_len, next_token};
 use std::alloc::Allocator;
 
 /// How many bytes a text may have.
-pub const MAX_LEN: usize = 1_048_576;
+pub const MAX_TEXT: usize = 1_048_576;
 
 /// A token of a text (own): what it is, and the offsets in bytes of its first byte and of the byte
 /// behind it.
@@ -53,7 +53,7 @@ pub fn next_at(bytes: &[u8], at: usize) -> Found
 pub fn tokens<A: Allocator>(alloc: A, bytes: &[u8]) -> Result<Vec<Token, A>, TextFault>
     ensures { IsListed bytes.now result }
 {
-    if bytes.len() > MAX_LEN {
+    if bytes.len() > MAX_TEXT {
         return Err(TextFault::TooLong);
     }
     let mut found = Vec::new(alloc);

@@ -2,8 +2,8 @@
 //!
 //! Stands on `def_text` (tokens, grammar, limits, refusals) and `tn_term`. Promises: `tokens` gives
 //! exactly the tokens of a text; `read_term` and `read_terms` answer what the text spells, or its
-//! refusal with its place; `write_term` appends the one written text of a term; a `Watched` reader or
-//! writer remembers whether a call of it failed.
+//! refusal with its place; `write_term` and `write_atom` append the one written text of a term and of an
+//! atom; a `Watched` reader or writer remembers whether a call of it failed.
 #![tactic(auto)]
 
 mod fault;
@@ -11,6 +11,7 @@ mod leaf;
 mod lexer;
 mod name;
 mod reader;
+mod reserved;
 mod scan;
 mod stack;
 mod value;
@@ -18,8 +19,8 @@ mod watched;
 mod write;
 
 pub use fault::TextFault;
-pub use lexer::{Token, tokens};
+pub use lexer::{MAX_TEXT, Token, tokens};
 pub use reader::{read_term, read_terms};
 pub use scan::Kind;
 pub use watched::Watched;
-pub use write::write_term;
+pub use write::{write_atom, write_term};

@@ -2,12 +2,16 @@
 ghost use Rattle.std.specs.Prelude.{◌≡◌, codes, ◌∷◌};
 ghost use Rattle.def_term.specs.Text.{is_among, reserved_words, is_name, is_name_byte, are_name_bytes, is_lower, is_written_bare};
 
+use crate::reserved::is_reserved;
+
+/// Whether the byte may follow the first letter of a bare atom.
 pub fn is_name_byte_of(b: u8) -> bool
     ensures { result ≡ is_name_byte b }
 {
     b.is_ascii_lowercase() || b.is_ascii_uppercase() || b.is_ascii_digit() || b == b'_' || b == b'@'
 }
 
+/// Whether the bytes are a small letter and then a run of such bytes.
 fn is_name_of(bytes: &[u8]) -> bool
     ensures { result ≡ is_name bytes.now }
 {
@@ -17,6 +21,7 @@ fn is_name_of(bytes: &[u8]) -> bool
     }
 }
 
+/// Whether each byte may follow the first letter of a bare atom.
 fn all_name_bytes(bytes: &[u8]) -> bool
     ensures { result ≡ are_name_bytes bytes.now }
 {
@@ -28,46 +33,17 @@ fn all_name_bytes(bytes: &[u8]) -> bool
     true
 }
 
-fn is_reserved(text: &str) -> bool
+/// Whether the text is a reserved word, or one of the two that are quoted like them.
+fn is_set_apart(text: &str) -> bool
     ensures { result ≡ is_among (codes "maybe" ∷ codes "else" ∷ reserved_words) text.now }
 {
-    matches!(
-        text,
-        "maybe"
-            | "else"
-            | "after"
-            | "and"
-            | "andalso"
-            | "band"
-            | "begin"
-            | "bnot"
-            | "bor"
-            | "bsl"
-            | "bsr"
-            | "bxor"
-            | "case"
-            | "catch"
-            | "cond"
-            | "div"
-            | "end"
-            | "fun"
-            | "if"
-            | "let"
-            | "not"
-            | "of"
-            | "or"
-            | "orelse"
-            | "receive"
-            | "rem"
-            | "try"
-            | "when"
-            | "xor"
-    )
+    text == "maybe" || text == "else" || is_reserved(text)
 }
 
+/// Whether an atom of this text is written without quotes.
 #[tactic(auto, unfolding(def_term::specs::Text::is_written_bare))]
 pub fn is_bare(text: &str) -> bool
     ensures { result ≡ is_written_bare text.now }
 {
-    is_name_of(text.as_bytes()) && !is_reserved(text)
+    is_name_of(text.as_bytes()) && !is_set_apart(text)
 }

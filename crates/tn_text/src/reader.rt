@@ -13,9 +13,9 @@ ghost use Rattle.tn_text.specs.Answers.{IsRead, IsReadScript};
 
 use crate::fault::TextFault;
 use crate::leaf::{put_atom, put_integer, put_pid, put_quoted, put_string};
-use crate::lexer::{Found, MAX_LEN, Token, next_at};
+use crate::lexer::{Found, MAX_TEXT, Token, next_at};
 use crate::scan::Kind;
-use crate::stack::{Bracket, Frame, Place, Progress, StepError, close, comma, open};
+use crate::stack::{Bracket, Frame, Position, Progress, StepError, close, comma, open};
 use std::alloc::Allocator;
 use tn_term::Term;
 
@@ -23,7 +23,7 @@ use tn_term::Term;
 fn at_start<A: Allocator>(alloc: A) -> Progress<A>
     ensures { state_of result ≡ start }
 {
-    Progress::Inside(Place::Next, Vec::new(alloc))
+    Progress::Inside(Position::Next, Vec::new(alloc))
 }
 
 /// A token where a term may stand.
@@ -64,13 +64,13 @@ fn step_on<A: Allocator + Copy>(
 {
     match progress {
         Progress::Done(_) => Err(StepError::Misplaced),
-        Progress::Inside(Place::Next, frames) => enter(alloc, kind, bytes, frames),
-        Progress::Inside(Place::First, frames) => match kind {
+        Progress::Inside(Position::Next, frames) => enter(alloc, kind, bytes, frames),
+        Progress::Inside(Position::First, frames) => match kind {
             Kind::CloseBrace => close(Bracket::Brace, frames),
             Kind::CloseBracket => close(Bracket::Square, frames),
             _ => enter(alloc, kind, bytes, frames),
         },
-        Progress::Inside(Place::Behind, frames) => match kind {
+        Progress::Inside(Position::Behind, frames) => match kind {
             Kind::CloseBrace => close(Bracket::Brace, frames),
             Kind::CloseBracket => close(Bracket::Square, frames),
             Kind::Comma => comma(frames),
@@ -127,7 +127,7 @@ fn finished<A: Allocator>(progress: Progress<A>, end: usize) -> Result<Term<A>, 
 pub fn read_term<A: Allocator + Copy>(alloc: A, bytes: &[u8]) -> Result<Term<A>, TextFault>
     ensures { IsRead bytes.now result }
 {
-    if bytes.len() > MAX_LEN {
+    if bytes.len() > MAX_TEXT {
         return Err(TextFault::TooLong);
     }
     let mut progress = at_start(alloc);
@@ -185,15 +185,15 @@ fn all_finished<A: Allocator>(
     ensures { ScriptFinishes result end (script_end (reading (map tree_of terms.items) (state_of progress))) }
 {
     match progress {
-        Progress::Inside(Place::Next, frames) => {
+        Progress::Inside(Position::Next, frames) => {
             if frames.is_empty() {
                 Ok(terms)
             } else {
                 Err(TextFault::Token { at: end })
             }
         }
-        Progress::Inside(Place::First, _) => Err(TextFault::Token { at: end }),
-        Progress::Inside(Place::Behind, _) => Err(TextFault::Token { at: end }),
+        Progress::Inside(Position::First, _) => Err(TextFault::Token { at: end }),
+        Progress::Inside(Position::Behind, _) => Err(TextFault::Token { at: end }),
         Progress::Done(_) => Err(TextFault::Token { at: end }),
     }
 }
@@ -203,7 +203,7 @@ fn all_finished<A: Allocator>(
 pub fn read_terms<A: Allocator + Copy>(alloc: A, bytes: &[u8]) -> Result<Vec<Term<A>, A>, TextFault>
     ensures { IsReadScript bytes.now result }
 {
-    if bytes.len() > MAX_LEN {
+    if bytes.len() > MAX_TEXT {
         return Err(TextFault::TooLong);
     }
     let mut terms = Vec::new(alloc);

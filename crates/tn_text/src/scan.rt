@@ -6,6 +6,7 @@ ghost use Rattle.def_text.specs.Scan.{run_len, quoted_end, pid_end, token_at, Is
 ghost use Rattle.tn_text.specs.Kinds.{kind_of, found_of, longer_at, enclosed_at};
 
 use crate::name::is_name_byte_of;
+use crate::reserved::is_reserved;
 
 /// What a token is (own). Its bytes say which integer, atom, string or pid.
 #[derive(Clone, Copy, Debug, PartialEq, Eq)]
@@ -23,6 +24,7 @@ pub enum Kind {
     Pid,
 }
 
+/// Whether the byte is a blank.
 fn is_blank_byte(b: u8) -> bool
     ensures { result ≡ is_blank b }
 {
@@ -47,6 +49,7 @@ pub fn gap_len(bytes: &[u8]) -> usize
     bytes.len()
 }
 
+/// How many digits stand at the front.
 fn digits_len(bytes: &[u8]) -> usize
     ensures value { result ≡ run_len is_digit bytes.now }
     ensures fits { result ≤ length bytes.now }
@@ -59,6 +62,7 @@ fn digits_len(bytes: &[u8]) -> usize
     bytes.len()
 }
 
+/// How many bytes at the front may go on a bare atom.
 fn name_len(bytes: &[u8]) -> usize
     ensures value { result ≡ run_len is_name_byte bytes.now }
     ensures fits { result ≤ length bytes.now }
@@ -71,48 +75,14 @@ fn name_len(bytes: &[u8]) -> usize
     bytes.len()
 }
 
-fn is_reserved(text: &[u8]) -> bool
-    ensures { result ≡ is_among reserved_words text.now }
+/// Whether the bytes are a reserved word.
+fn is_reserved_word(bytes: &[u8]) -> bool
+    ensures { result ≡ is_among reserved_words bytes.now }
 {
-    match std::str::from_utf8(text) {
-        Ok(word) => is_reserved_word(word),
+    match std::str::from_utf8(bytes) {
+        Ok(word) => is_reserved(word),
         Err(_) => false,
     }
-}
-
-fn is_reserved_word(text: &str) -> bool
-    ensures { result ≡ is_among reserved_words text.now }
-{
-    matches!(
-        text,
-        "after"
-            | "and"
-            | "andalso"
-            | "band"
-            | "begin"
-            | "bnot"
-            | "bor"
-            | "bsl"
-            | "bsr"
-            | "bxor"
-            | "case"
-            | "catch"
-            | "cond"
-            | "div"
-            | "end"
-            | "fun"
-            | "if"
-            | "let"
-            | "not"
-            | "of"
-            | "or"
-            | "orelse"
-            | "receive"
-            | "rem"
-            | "try"
-            | "when"
-            | "xor"
-    )
 }
 
 // The length up to the closing quote and with it. The opening quote stands before these bytes.
@@ -158,6 +128,7 @@ fn pid_len(bytes: &[u8]) -> Option<usize>
     Some(n + 5)
 }
 
+/// Whether a form may end before these bytes.
 fn ends(bytes: &[u8]) -> bool
     ensures { result ≡ ends_form bytes.now }
 {
@@ -167,6 +138,7 @@ fn ends(bytes: &[u8]) -> bool
     }
 }
 
+/// The atom in quotes, the string or the pid at the front, and its length.
 fn enclosed(bytes: &[u8]) -> Option<(Kind, usize)>
     ensures value { found_of result ≡ enclosed_at bytes.now }
     ensures fits { IfSome result (λ p. p.1 ≤ length bytes.now) }
@@ -196,6 +168,7 @@ fn enclosed(bytes: &[u8]) -> Option<(Kind, usize)>
     None
 }
 
+/// The full stop, the integer, the bare atom or what is enclosed, at the front, and its length.
 fn longer(bytes: &[u8]) -> Option<(Kind, usize)>
     ensures value { found_of result ≡ longer_at bytes.now }
     ensures fits { IfSome result (λ p. p.1 ≤ length bytes.now) }
@@ -224,7 +197,7 @@ fn longer(bytes: &[u8]) -> Option<(Kind, usize)>
     }
     if b.is_ascii_lowercase() {
         let n = name_len(rest) + 1;
-        return if is_reserved(&bytes[..n]) {
+        return if is_reserved_word(&bytes[..n]) {
             None
         } else {
             Some((Kind::Bare, n))
@@ -233,6 +206,7 @@ fn longer(bytes: &[u8]) -> Option<(Kind, usize)>
     enclosed(bytes)
 }
 
+/// The token at the front, and its length.
 fn found(bytes: &[u8]) -> Option<(Kind, usize)>
     ensures value { found_of result ≡ token_at bytes.now }
     ensures fits { IfSome result (λ p. p.1 ≤ length bytes.now) }

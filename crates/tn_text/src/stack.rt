@@ -27,7 +27,7 @@ pub struct Frame<A: Allocator> {
 /// What may stand next in the innermost frame: its first element or its end, an element behind a
 /// comma, or what follows an element.
 #[derive(Clone, Copy)]
-pub enum Place {
+pub enum Position {
     First,
     Next,
     Behind,
@@ -35,7 +35,7 @@ pub enum Place {
 
 #[derive(Drop)]
 pub enum Progress<A: Allocator> {
-    Inside(Place, Vec<Frame<A>, A>),
+    Inside(Position, Vec<Frame<A>, A>),
     Done(Term<A>),
 }
 
@@ -65,7 +65,7 @@ pub fn put_term<A: Allocator>(
             if frames.push(top).is_err() {
                 return Err(StepError::OutOfMemory);
             }
-            Ok(Progress::Inside(Place::Behind, frames))
+            Ok(Progress::Inside(Position::Behind, frames))
         }
     }
 }
@@ -86,7 +86,7 @@ pub fn open<A: Allocator>(
         bracket,
         items: Vec::new(alloc),
     }) {
-        Ok(()) => Ok(Progress::Inside(Place::First, frames)),
+        Ok(()) => Ok(Progress::Inside(Position::First, frames)),
         Err(_) => Err(StepError::OutOfMemory),
     }
 }
@@ -132,7 +132,7 @@ pub fn comma<A: Allocator>(frames: Vec<Frame<A>, A>) -> Result<Progress<A>, Step
                 return Err(StepError::TooLarge);
             }
             match frames.push(top) {
-                Ok(()) => Ok(Progress::Inside(Place::Next, frames)),
+                Ok(()) => Ok(Progress::Inside(Position::Next, frames)),
                 Err(_) => Err(StepError::OutOfMemory),
             }
         }

@@ -8,7 +8,7 @@ ghost use Rattle.tn_text.specs.Writes.{Grows};
 use crate::name::is_bare;
 use itoa::Buffer;
 use std::alloc::{AllocError, Allocator};
-use tn_term::Term;
+use tn_term::{Atom, Term};
 
 /// Appends the one written text of a term, as `~w` of `io_lib` writes it: no blanks, strings as lists,
 /// atoms quoted where they need it; `maybe` and `else` are quoted too (own). After an `Err` the vector
@@ -28,6 +28,24 @@ pub fn write_term<A: Allocator, B: Allocator>(
     done
 }
 
+/// Appends the one written text of an atom, in quotes where it needs them. After an `Err` the vector is
+/// as it was.
+pub fn write_atom<A: Allocator, B: Allocator>(
+    atom: &Atom<A>,
+    out: &mut Vec<u8, B>,
+) -> Result<(), AllocError>
+    ensures ok { OnOk result (out.new.items ≡ out.old.items ++ atom_text atom.now) }
+    ensures err { OnErr result (out.new.items ≡ out.old.items) }
+{
+    let len = out.len();
+    let done = put_atom(atom.text(), out);
+    if done.is_err() {
+        out.truncate(len);
+    }
+    done
+}
+
+/// Appends the text of a term; after an `Err` a part of it may stand there.
 #[cycle(put)]
 fn put<A: Allocator, B: Allocator>(term: &Term<A>, out: &mut Vec<u8, B>) -> Result<(), AllocError>
     ensures ok { OnOk result (out.new.items ≡ out.old.items ++ w (tree_of term.now)) }
@@ -52,6 +70,7 @@ fn put<A: Allocator, B: Allocator>(term: &Term<A>, out: &mut Vec<u8, B>) -> Resu
     }
 }
 
+/// Appends the texts of terms, with a comma between any two.
 #[cycle(put)]
 fn put_all<A: Allocator, B: Allocator>(
     items: &Vec<Term<A>, A>,
@@ -71,6 +90,7 @@ fn put_all<A: Allocator, B: Allocator>(
     Ok(())
 }
 
+/// Appends the digits of an integer.
 fn put_integer<B: Allocator>(n: i64, out: &mut Vec<u8, B>) -> Result<(), AllocError>
     ensures ok { OnOk result (out.new.items ≡ out.old.items ++ signed_decimal n) }
     ensures grows { Grows out.old.items out.new.items }
@@ -79,6 +99,7 @@ fn put_integer<B: Allocator>(n: i64, out: &mut Vec<u8, B>) -> Result<(), AllocEr
     out.extend_from_slice(buffer.format(n).as_bytes())
 }
 
+/// Appends the text of a pid.
 fn put_pid<B: Allocator>(n: u32, out: &mut Vec<u8, B>) -> Result<(), AllocError>
     ensures ok { OnOk result (out.new.items ≡ out.old.items ++ pid_text n) }
     ensures grows { Grows out.old.items out.new.items }
@@ -89,6 +110,7 @@ fn put_pid<B: Allocator>(n: u32, out: &mut Vec<u8, B>) -> Result<(), AllocError>
     out.extend_from_slice(b".0>")
 }
 
+/// Appends the text of an atom.
 fn put_atom<B: Allocator>(text: &str, out: &mut Vec<u8, B>) -> Result<(), AllocError>
     ensures ok { OnOk result (out.new.items ≡ out.old.items ++ atom_text text.now) }
     ensures grows { Grows out.old.items out.new.items }
@@ -102,6 +124,7 @@ fn put_atom<B: Allocator>(text: &str, out: &mut Vec<u8, B>) -> Result<(), AllocE
     Ok(())
 }
 
+/// Appends the bytes, with a backslash before each quote and backslash.
 fn put_escaped<B: Allocator>(bytes: &[u8], out: &mut Vec<u8, B>) -> Result<(), AllocError>
     ensures ok { OnOk result (out.new.items ≡ out.old.items ++ flat_map escaped bytes.now) }
     ensures grows { Grows out.old.items out.new.items }
@@ -112,6 +135,7 @@ fn put_escaped<B: Allocator>(bytes: &[u8], out: &mut Vec<u8, B>) -> Result<(), A
     Ok(())
 }
 
+/// Appends a byte, with a backslash before it where it is a quote or a backslash.
 fn put_byte<B: Allocator>(b: u8, out: &mut Vec<u8, B>) -> Result<(), AllocError>
     ensures ok { OnOk result (out.new.items ≡ out.old.items ++ escaped b) }
     ensures grows { Grows out.old.items out.new.items }

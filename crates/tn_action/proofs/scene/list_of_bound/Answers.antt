@@ -8,7 +8,7 @@ use Rattle.tn_action.proofs.scene.list_of_bound.Goals as goal
 
 pub returns : goal.returns
 returns g c =
-    let bs = c.args.bindings.now.items in
+    let bs = c.args.bindings.now in
     value_seen_list c.into_bump_slice.result
     ∙ ap (λ vs. list (values_seen vs)) c.into_bump_slice.ensures
-    ∙ ap (λ ts. list (of_elements ts)) (c.loop-binding.invariant ∙ ap (map (λ b. value_seen b.value)) (take_all c.loop-binding.binding-index c.deref-binding-items.result.now c.loop-binding-test.false ∙ c.deref-binding-items.ensures.value) ∙ sym (each_bound bs))
+    ∙ ap (λ ts. list (of_elements ts)) (c.loop-binding.invariant ∙ ap (map (λ b. value_seen b.value)) (take_all c.loop-binding.binding-index bs c.loop-binding-test.false) ∙ sym (each_bound bs))

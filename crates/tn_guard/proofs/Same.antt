@@ -1,0 +1,13 @@
+-- Equality of terms as a test, by what it decides.
+use Rattle.std.proofs.Common.{◌≡◌, ◌↔◌, Bool, true, false, IsTrue, refl, sym, subst}
+use Rattle.def_term.specs.Tree.{Tree}
+use Rattle.def_term.specs.Order.{same}
+use Rattle.def_term.proofs.Same.{same-is, same-self}
+
+pub decided : (b : Bool) (t u : Tree) → IsTrue b ↔ (t ≡ u) → b ≡ same t u
+decided true t u h = sym (subst (λ x. same t x ≡ true) (h.0 refl) (same-self t))
+decided false t u h = go (same t u) refl
+  where
+    go : (s : Bool) → same t u ≡ s → false ≡ s
+    go true e = h.1 (same-is t u e)
+    go false e = refl
