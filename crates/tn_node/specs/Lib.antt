@@ -1,2 +1,3 @@
+pub mod Happened
 pub mod Worlds
 pub mod Nodes

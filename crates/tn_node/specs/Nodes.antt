@@ -1,7 +1,8 @@
 -- What the code's node stands for.
-use Rattle.std.specs.Prelude.{◌≡◌, length, map, Option, Some, None}
+use Rattle.std.specs.Prelude.{◌≡◌, ℕ, length, map, Option, Some, None, Result, IfOk}
 use Rattle.def_script.specs.Program.{Program}
 use Rattle.def_node.specs.Node as node
+use Rattle.def_node.specs.Node.{next}
 use Rattle.tn_flags.specs.Views.{event_of}
 use Rattle.tn_script.specs.Views.{functions_of}
 use Rattle.tn_node.specs.Worlds.{world_of}
@@ -34,3 +35,16 @@ abbrev pub next_seen : {A : Type 0} → node.State → Moved A → node.Next
 next_seen s (code.TheVariants.Moved es) = node.gives_events s (map event_of es.items)
 next_seen s (code.TheVariants.Control n) = node.gives_command s n
 next_seen s code.TheVariants.Idle = node.gives_nothing s
+
+-- what the pick gives in the state s, with the code's state after it
+abbrev pub StepsTo : {A : Type 0} → Program → node.State → State A → ℕ → Moved A → Type 0
+StepsTo p s new pick m = Holds p (state_of new) new × (next_seen (state_of new) m ≡ next p s pick)
+
+-- whatever program the code's state runs, and in whatever state: the pick gives what the definition gives
+abbrev pub StateGoesOn : {A E : Type 0} → State A → State A → ℕ → Result (Moved A) E → Type 0
+StateGoesOn old new pick r = (p : Program) (s : node.State) → Holds p s old → IfOk r (StepsTo p s new pick)
+
+-- the same of a node
+abbrev pub GoesOn : {A E : Type 0} → Node A → Node A → ℕ → Result (Moved A) E → Type 0
+GoesOn old new pick r =
+    (p : Program) (s : node.State) → IsAt p s old → IfOk r (λ m. (t : node.State) × IsAt p t new × (next_seen t m ≡ next p s pick))

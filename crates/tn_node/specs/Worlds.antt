@@ -1,12 +1,18 @@
 -- What the code's processes stand for.
-use Rattle.std.specs.Prelude.{ℕ, ◌<◌, map, Option, Some, None}
+use Rattle.std.specs.Prelude.{◌≡◌, ℕ, ◌<◌, Bool, List, map, slice_get, Option, Some, None, Result, IfOk}
 use Rattle.std.specs.Option.{option_map}
 use Rattle.def_node.specs.Process as process
+use Rattle.def_node.specs.Process.{act}
 use Rattle.def_node.specs.Node as node
+use Rattle.def_node.specs.Node.{change_at, put_at, partners_told, ended, acted}
 use Rattle.tn_flags.specs.Views.{event_of}
 use Rattle.tn_flags.specs.declared.event.Event.{Event}
 use Rattle.std.specs.declared.vec.Vec.{Vec}
-use Rattle.tn_process.specs.Views.{process_of}
+use Rattle.tn_term.specs.Views.{tree_of}
+use Rattle.tn_term.specs.declared.term.Term.{Term}
+use Rattle.tn_script.specs.Views.{functions_of}
+use Rattle.tn_script.specs.declared.form.Function.{Function}
+use Rattle.tn_process.specs.Views.{process_of, act_seen}
 use Rattle.tn_process.specs.declared.process.Process.{Process}
 use Rattle.tn_process.specs.declared.act.Act.{Act}
 use Rattle.tn_process.specs.declared.act.Act.TheVariants.{Waits, Continues, Sends, LinksTo, UnlinksFrom, Spawns, Exits}
@@ -32,3 +38,35 @@ IsRoomFor (LinksTo m) n = Unit {0}
 IsRoomFor (UnlinksFrom m) n = Unit {0}
 IsRoomFor (Spawns child e) n = n < 64
 IsRoomFor (Exits r e) n = Unit {0}
+
+-- the processes, by their places
+abbrev pub slots_of : {A : Type 0} → World A → List (Option process.Process)
+slots_of w = (world_of w).slots
+
+-- the slots, where the partners of the process with this pid were told that it has ended
+abbrev pub tells_partners : {A : Type 0} → World A → ℕ → List Bool → Term A → List (Option process.Process)
+tells_partners w pid partners reason = partners_told pid (tree_of reason) partners (slots_of w)
+
+-- the end of the process with this pid, at this place
+abbrev pub ends_at : {A : Type 0} → World A → ℕ → ℕ → List Bool → Term A → Option (Event A) → node.Move
+ends_at w place pid partners reason event = ended (world_of w) place pid partners (tree_of reason) (option_map event_of event)
+
+-- with the processes after it, the answer is this move
+abbrev pub Moves : {A E : Type 0} → World A → Result (Vec (Event A) A) E → node.Move → Type 0
+Moves w r move = IfOk r (λ es. node.moved (world_of w) (map event_of es.items) ≡ move)
+
+-- the process at the place changes so, and no other
+abbrev pub ChangesAt : {A : Type 0} → World A → World A → ℕ → (process.Process → process.Process) → Type 0
+ChangesAt old new place f = world_of new ≡ change_at (world_of old) place f
+
+-- the process at the place acts; the others stay
+abbrev pub ActsAt : {A : Type 0} → World A → World A → List (Function A) → ℕ → ℕ → Option ℕ → Act A → Type 0
+ActsAt old new functions place pid child a =
+    (q : process.Process) → slice_get (world_of old).slots place ≡ Some (Some q)
+    → (r : process.Process) × (world_of new ≡ put_at (world_of old) place r) × (act_seen r a ≡ act (functions_of functions) pid child q)
+
+-- what the act of the process at the place does, where the change in the process itself is made already
+abbrev pub CarriesOut : {A E : Type 0} → World A → World A → ℕ → ℕ → Act A → Result (Option (Vec (Event A) A)) E → Type 0
+CarriesOut old new place pid a result =
+    (before : node.World) → (q r : process.Process) → slice_get before.slots place ≡ Some (Some q) → world_of old ≡ put_at before place r
+    → IfOk result (λ o. move_of new o ≡ acted before place pid (act_seen r a))

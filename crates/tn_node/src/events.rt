@@ -1,12 +1,11 @@
 // The events of spawns and exits.
-ghost use Rattle.std.specs.Prelude.{◌≡◌, IfOk, List, [], ◌∷◌, ◌++◌, map, option_to_list};
+ghost use Rattle.std.specs.Prelude.{◌≡◌, IfOk, ◌++◌, map, option_to_list};
 ghost use Rattle.def_script.specs.Program.{entry_mfa};
-ghost use Rattle.def_node.specs.Event.{spawning, spawned, exited, getting_unlinked};
-ghost use Rattle.def_node.specs.Node.{partner_pids};
 ghost use Rattle.std.specs.Option.{option_map};
 ghost use Rattle.tn_term.specs.Views.{mfa_seen, tree_of};
 ghost use Rattle.tn_flags.specs.Views.{event_of};
 ghost use Rattle.tn_script.specs.Views.{entry_of};
+ghost use Rattle.tn_node.specs.Happened.{seen_events, events_of_spawn, partings, events_of_exit};
 
 use std::alloc::{AllocError, Allocator};
 use tn_flags::Event;
@@ -48,7 +47,7 @@ pub fn start_events<A: Allocator + Copy>(
     child: u32,
     entry: &Entry<A>,
 ) -> Result<Vec<Event<A>, A>, AllocError>
-    ensures { IfOk result (λ es. let e = entry_of entry.now in map event_of es.items ≡ spawning pid child (entry_mfa e) e.args ∷ spawned child pid (entry_mfa e) e.args ∷ []) }
+    ensures { IfOk result (λ es. map event_of es.items ≡ events_of_spawn pid child (entry_of entry.now)) }
 {
     let mut events = Vec::new(alloc);
     events.push(Event::Spawn {
@@ -72,7 +71,7 @@ fn push_partings<A: Allocator>(
     pid: u32,
     partners: &[bool; 64],
 ) -> Result<(), AllocError>
-    ensures { IfOk result (λ _. map event_of events.new.items ≡ map event_of events.old.items ++ map (λ m. getting_unlinked m pid) (partner_pids 100 partners.now)) }
+    ensures { IfOk result (λ _. seen_events events.new ≡ seen_events events.old ++ partings pid partners.now) }
 {
     for place in 0..partners.len() {
         if !partners[place] {
@@ -94,7 +93,7 @@ pub fn exit_events<A: Allocator>(
     reason: Term<A>,
     before: Option<Event<A>>,
 ) -> Result<Vec<Event<A>, A>, AllocError>
-    ensures { IfOk result (λ es. map event_of es.items ≡ option_to_list (option_map event_of before) ++ exited pid (tree_of reason) ∷ map (λ m. getting_unlinked m pid) (partner_pids 100 partners.now)) }
+    ensures { IfOk result (λ es. seen_events es ≡ events_of_exit pid partners.now reason before) }
 {
     let mut events = Vec::new(alloc);
     match before {

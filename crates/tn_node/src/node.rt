@@ -2,9 +2,8 @@
 use crate::moved::Moved;
 use crate::world::World;
 use std::alloc::{AllocError, Allocator};
-use tn_process::copy_functions;
 use tn_program::Program;
-use tn_script::Function;
+use tn_script::{Function, copy_functions};
 
 /// The processes, and how many commands of the control list were taken.
 #[derive(Drop)]
@@ -26,10 +25,10 @@ impl<A: Allocator + Copy> State<A> {
     ghost use Rattle.std.specs.Prelude.{◌≡◌, ◌<◌, IfOk};
     ghost use Rattle.def_script.specs.Program as program;
     ghost use Rattle.def_node.specs.Node as node;
-    ghost use Rattle.def_node.specs.Node.{next};
     ghost use Rattle.tn_program.specs.Views.{program_of};
-    ghost use Rattle.tn_node.specs.Nodes.{Holds, next_seen, state_of};
+    ghost use Rattle.tn_node.specs.Nodes.{Holds, StepsTo, StateGoesOn};
 
+    /// The state before any pick.
     fn new(alloc: A, program: &Program<A>) -> Result<State<A>, AllocError>
         ensures { IfOk result (λ s. Holds (program_of program.now) (node.opening_state (program_of program.now)) s) }
     {
@@ -46,7 +45,7 @@ impl<A: Allocator + Copy> State<A> {
 
     /// Takes the next command of the control list.
     fn step_control(&mut self) -> Moved<A>
-        ensures { (p : program.Program) → (s : node.State) → Holds p s self.old → Holds p (state_of self.new) self.new × (next_seen (state_of self.new) result ≡ next p s 0) }
+        ensures { (p : program.Program) (s : node.State) → Holds p s self.old → StepsTo p s self.new 0 result }
     {
         if self.taken < self.commands {
             self.taken += 1;
@@ -56,9 +55,10 @@ impl<A: Allocator + Copy> State<A> {
         }
     }
 
+    /// A step of the process with this pid.
     fn step_process(&mut self, pid: u32) -> Result<Moved<A>, AllocError>
         requires { 0 < pid }
-        ensures { (p : program.Program) → (s : node.State) → Holds p s self.old → IfOk result (λ m. Holds p (state_of self.new) self.new × (next_seen (state_of self.new) m ≡ next p s pid)) }
+        ensures { StateGoesOn self.old self.new pid result }
     {
         match self.world.step(self.alloc, &self.functions, pid)? {
             Some(events) => Ok(Moved::Moved(events)),
@@ -66,8 +66,9 @@ impl<A: Allocator + Copy> State<A> {
         }
     }
 
+    /// One pick.
     fn step(&mut self, pick: u32) -> Result<Moved<A>, AllocError>
-        ensures { (p : program.Program) → (s : node.State) → Holds p s self.old → IfOk result (λ m. Holds p (state_of self.new) self.new × (next_seen (state_of self.new) m ≡ next p s pick)) }
+        ensures { StateGoesOn self.old self.new pick result }
     {
         if pick == 0 {
             Ok(self.step_control())
@@ -81,9 +82,8 @@ impl<A: Allocator + Copy> Node<A> {
     ghost use Rattle.std.specs.Prelude.{◌≡◌, IfOk, IsErr, OnErr};
     ghost use Rattle.def_script.specs.Program as program;
     ghost use Rattle.def_node.specs.Node as node;
-    ghost use Rattle.def_node.specs.Node.{next};
     ghost use Rattle.tn_program.specs.Views.{program_of};
-    ghost use Rattle.tn_node.specs.Nodes.{IsAt, IsSpent, next_seen};
+    ghost use Rattle.tn_node.specs.Nodes.{IsAt, IsSpent, GoesOn};
 
     /// The node of the program, before any pick.
     pub fn new(alloc: A, program: &Program<A>) -> Result<Node<A>, AllocError>
@@ -101,7 +101,7 @@ impl<A: Allocator + Copy> Node<A> {
     ///
     /// AllocError where memory was refused, in this step or an earlier one: the node is spent.
     pub fn step(&mut self, pick: u32) -> Result<Moved<A>, AllocError>
-        ensures moved { (p : program.Program) → (s : node.State) → IsAt p s self.old → IfOk result (λ m. (t : node.State) × IsAt p t self.new × (next_seen t m ≡ next p s pick)) }
+        ensures moved { GoesOn self.old self.new pick result }
         ensures spent { IsSpent self.old → IsErr result }
         ensures refused { OnErr result (IsSpent self.new) }
     {

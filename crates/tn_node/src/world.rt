@@ -4,8 +4,8 @@ ghost use Rattle.std.specs.Prelude.{◌≤◌, length};
 use crate::events::{exit_events, own_events, start_events};
 use std::alloc::{AllocError, Allocator};
 use tn_flags::Event;
-use tn_process::{Act, Process, atom_of, copy_entry};
-use tn_script::{Entry, Function};
+use tn_process::{Act, Process};
+use tn_script::{Entry, Function, copy_entry};
 use tn_term::{FIRST_PID, PROCESSES, Term};
 
 /// The processes from pid 100 on; none where one has exited.
@@ -17,17 +17,14 @@ pub struct World<A: Allocator> {
 
 impl<A: Allocator + Copy> World<A> {
     ghost use Rattle.std.specs.Prelude.{◌≡◌, ℕ, ◌+◌, ◌<◌, IfOk, IfSome, IsTrue, map, Some, slice_get};
-    ghost use Rattle.std.specs.Option.{option_map};
-    ghost use Rattle.def_term.specs.Tree.{Tree};
     ghost use Rattle.tn_term.specs.Views.{tree_of};
-    ghost use Rattle.tn_flags.specs.Views.{event_of};
     ghost use Rattle.tn_script.specs.Views.{entry_of, functions_of};
     ghost use Rattle.def_node.specs.Process as process;
-    ghost use Rattle.def_node.specs.Process.{act};
-    ghost use Rattle.def_node.specs.Node as node;
-    ghost use Rattle.def_node.specs.Node.{opening_world, living, next_pid, change_at, put_at, with_message, with_link, with_signal, parted, linked_at, delivered, linked_to, link_made, unlinked_from, link_removed, partners_told, ended, started, acted, next_of};
-    ghost use Rattle.tn_process.specs.Views.{act_seen};
-    ghost use Rattle.tn_node.specs.Worlds.{world_of, move_of, IsRoomFor};
+    ghost use Rattle.def_node.specs.Node.{opening_world, living, next_pid, with_message, with_link, with_signal};
+    ghost use Rattle.def_node.specs.Node.{parted, linked_at, delivered, linked_to, link_made, unlinked_from};
+    ghost use Rattle.def_node.specs.Node.{link_removed, started, next_of};
+    ghost use Rattle.tn_node.specs.Worlds.{world_of, move_of, IsRoomFor, slots_of, tells_partners, ends_at};
+    ghost use Rattle.tn_node.specs.Worlds.{Moves, ChangesAt, ActsAt, CarriesOut};
 
     /// The processes before any step.
     pub fn new(alloc: A, entries: &[Entry<A>]) -> Result<World<A>, AllocError>
@@ -84,7 +81,7 @@ impl<A: Allocator + Copy> World<A> {
 
     fn put_message(&mut self, place: usize, message: Term<A>) -> Result<(), AllocError>
         requires { place < length self.old.slots.items }
-        ensures { IfOk result (λ _. world_of self.new ≡ change_at (world_of self.old) place (with_message (tree_of message))) }
+        ensures { IfOk result (λ _. ChangesAt self.old self.new place (with_message (tree_of message))) }
     {
         match &mut self.slots[place] {
             Some(process) => {
@@ -99,7 +96,7 @@ impl<A: Allocator + Copy> World<A> {
         requires place_within { place < length self.old.slots.items }
         requires low { 100 ≤ pid }
         requires high { pid ≤ 163 }
-        ensures change { world_of self.new ≡ change_at (world_of self.old) place (with_link pid linked) }
+        ensures change { ChangesAt self.old self.new place (with_link pid linked) }
         ensures size { length self.new.slots.items ≡ length self.old.slots.items }
     {
         match &mut self.slots[place] {
@@ -110,7 +107,7 @@ impl<A: Allocator + Copy> World<A> {
 
     fn put_signal(&mut self, place: usize, reason: Term<A>)
         requires { place < length self.old.slots.items }
-        ensures { world_of self.new ≡ change_at (world_of self.old) place (with_signal (tree_of reason)) }
+        ensures { ChangesAt self.old self.new place (with_signal (tree_of reason)) }
     {
         match &mut self.slots[place] {
             Some(process) => process.put_signal(reason),
@@ -123,7 +120,7 @@ impl<A: Allocator + Copy> World<A> {
         requires place_within { place < length self.old.slots.items }
         requires low { 100 ≤ pid }
         requires high { pid ≤ 163 }
-        ensures change { IfOk result (λ _. world_of self.new ≡ change_at (world_of self.old) place (parted pid (tree_of reason.now))) }
+        ensures change { IfOk result (λ _. ChangesAt self.old self.new place (parted pid (tree_of reason.now))) }
         ensures size { length self.new.slots.items ≡ length self.old.slots.items }
     {
         match &mut self.slots[place] {
@@ -143,7 +140,7 @@ impl<A: Allocator + Copy> World<A> {
         to: u32,
         message: Term<A>,
     ) -> Result<Vec<Event<A>, A>, AllocError>
-        ensures { IfOk result (λ es. node.moved (world_of self.new) (map event_of es.items) ≡ delivered (world_of self.old) pid to (tree_of message)) }
+        ensures { Moves self.new result (delivered (world_of self.old) pid to (tree_of message)) }
     {
         let mut events = Vec::new(alloc);
         match self.living(to) {
@@ -188,13 +185,13 @@ impl<A: Allocator + Copy> World<A> {
         requires place_within { place < length self.old.slots.items }
         requires at { pid ≡ 100 + place }
         requires partner_at { IfSome partner (λ j. (j < length self.old.slots.items) × (other ≡ 100 + j)) }
-        ensures { IfOk result (λ es. node.moved (world_of self.new) (map event_of es.items) ≡ linked_to (world_of self.old) place pid other partner) }
+        ensures { Moves self.new result (linked_to (world_of self.old) place pid other partner) }
     {
         let mut events = Vec::new(alloc);
         events.push(Event::Linked { pid, other })?;
         match partner {
             None => {
-                let reason = Term::Atom(atom_of(alloc, "noproc")?);
+                let reason = Term::word(alloc, "noproc")?;
                 self.put_signal(place, reason);
                 Ok(events)
             }
@@ -220,7 +217,7 @@ impl<A: Allocator + Copy> World<A> {
     ) -> Result<Vec<Event<A>, A>, AllocError>
         requires place_within { place < length self.old.slots.items }
         requires at { pid ≡ 100 + place }
-        ensures { IfOk result (λ es. node.moved (world_of self.new) (map event_of es.items) ≡ link_made (world_of self.old) place pid other) }
+        ensures { Moves self.new result (link_made (world_of self.old) place pid other) }
     {
         if pid == other {
             return Ok(Vec::new(alloc));
@@ -248,7 +245,7 @@ impl<A: Allocator + Copy> World<A> {
         requires low { 100 ≤ other }
         requires high { other ≤ 163 }
         requires partner_at { IfSome partner (λ j. (j < length self.old.slots.items) × (other ≡ 100 + j)) }
-        ensures { IfOk result (λ es. node.moved (world_of self.new) (map event_of es.items) ≡ unlinked_from (world_of self.old) place pid other partner) }
+        ensures { Moves self.new result (unlinked_from (world_of self.old) place pid other partner) }
     {
         let mut events = Vec::new(alloc);
         events.push(Event::Unlinked { pid, other })?;
@@ -276,7 +273,7 @@ impl<A: Allocator + Copy> World<A> {
     ) -> Result<Vec<Event<A>, A>, AllocError>
         requires place_within { place < length self.old.slots.items }
         requires at { pid ≡ 100 + place }
-        ensures { IfOk result (λ es. node.moved (world_of self.new) (map event_of es.items) ≡ link_removed (world_of self.old) place pid other) }
+        ensures { Moves self.new result (link_removed (world_of self.old) place pid other) }
     {
         if pid == other {
             return Ok(Vec::new(alloc));
@@ -300,7 +297,7 @@ impl<A: Allocator + Copy> World<A> {
     ) -> Result<(), AllocError>
         requires low { 100 ≤ pid }
         requires high { pid ≤ 163 }
-        ensures { IfOk result (λ _. (world_of self.new).slots ≡ partners_told pid (tree_of reason.now) partners.now (world_of self.old).slots) }
+        ensures { IfOk result (λ _. slots_of self.new ≡ tells_partners self.old pid partners.now reason.now) }
     {
         for place in 0..self.slots.len() {
             if !partners[place] {
@@ -323,7 +320,7 @@ impl<A: Allocator + Copy> World<A> {
     ) -> Result<Vec<Event<A>, A>, AllocError>
         requires place_within { place < length self.old.slots.items }
         requires at { pid ≡ 100 + place }
-        ensures { IfOk result (λ es. node.moved (world_of self.new) (map event_of es.items) ≡ ended (world_of self.old) place pid partners.now (tree_of reason) (option_map event_of event)) }
+        ensures { Moves self.new result (ends_at self.old place pid partners.now reason event) }
     {
         self.slots[place] = None;
         self.tell_partners(alloc, pid, partners, &reason)?;
@@ -339,7 +336,7 @@ impl<A: Allocator + Copy> World<A> {
         entry: Entry<A>,
     ) -> Result<Vec<Event<A>, A>, AllocError>
         requires { length self.old.slots.items < 64 }
-        ensures { IfOk result (λ es. node.moved (world_of self.new) (map event_of es.items) ≡ started (world_of self.old) pid child (entry_of entry)) }
+        ensures { Moves self.new result (started (world_of self.old) pid child (entry_of entry)) }
     {
         let events = start_events(alloc, pid, child, &entry)?;
         let process = Process::new(alloc, entry);
@@ -369,7 +366,7 @@ impl<A: Allocator + Copy> World<A> {
     ) -> Result<Act<A>, AllocError>
         requires { place < length self.old.slots.items }
         ensures size { length self.new.slots.items ≡ length self.old.slots.items }
-        ensures acts { IfOk result (λ a. (q : process.Process) → slice_get (world_of self.old).slots place ≡ Some (Some q) → (r : process.Process) × (world_of self.new ≡ put_at (world_of self.old) place r) × (act_seen r a ≡ act (functions_of functions.now) pid child q)) }
+        ensures acts { IfOk result (ActsAt self.old self.new functions.now place pid child) }
     {
         match &mut self.slots[place] {
             Some(process) => Ok(process.act(alloc, functions, pid, child)?),
@@ -388,7 +385,7 @@ impl<A: Allocator + Copy> World<A> {
         requires place_within { place < length self.old.slots.items }
         requires at { pid ≡ 100 + place }
         requires room { IsRoomFor act (length self.old.slots.items) }
-        ensures { (before : node.World) → (q r : process.Process) → slice_get before.slots place ≡ Some (Some q) → world_of self.old ≡ put_at before place r → IfOk result (λ o. move_of self.new o ≡ acted before place pid (act_seen r act)) }
+        ensures { CarriesOut self.old self.new place pid act result }
     {
         match act {
             Act::Waits => Ok(None),

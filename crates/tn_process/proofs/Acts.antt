@@ -8,7 +8,7 @@ use Rattle.def_term.specs.Tree.{Tree}
 use Rattle.def_term.specs.Names.{Name, Mfa}
 use Rattle.def_script.specs.Program.{Function}
 use Rattle.def_node.specs.Event.{called}
-use Rattle.def_node.specs.Values.{Env, bound_all}
+use Rattle.def_node.specs.Values.{Env, params_bound}
 use Rattle.def_node.specs.Process.{Process, Frame, Act, waits, mfa_at, caller_of, within, with_frames, performs, runs, runs_in}
 
 last_caller : {X : Type 0} (h : X → Frame) (ks : List Function) (xs : List X) (i : ℕ) (x : X) (acc : List Frame)
@@ -24,7 +24,7 @@ pub caller_last : {X : Type 0} (h : X → Frame) (ks : List Function) (xs : List
 caller_last h ks [] x p = absurd (let r : None ≡ Some x = p in cc)
 caller_last h ks (y ∷ ys) x p = last_caller h ks (y ∷ ys) (length (y ∷ ys) - 1) x [] (omega arith) p
 
-pub none_bound : (env : Env) (ps : List Name) → bound_all env ps [] ≡ env
+pub none_bound : (env : Env) (ps : List Name) → params_bound env ps [] ≡ env
 none_bound env [] = refl
 none_bound env (p ∷ ps) = refl
 

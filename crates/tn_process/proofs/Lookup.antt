@@ -12,7 +12,7 @@ use Rattle.std.proofs.Common.{drop}
 use Rattle.std.proofs.lemmas.List.{drop_more}
 use Rattle.def_term.specs.Names.{Name, Mfa, same_mfa}
 use Rattle.def_script.specs.Program.{Function, mfa_of, number_from}
-use Rattle.def_node.specs.Values.{Env, found, bound}
+use Rattle.def_node.specs.Values.{Env, found, rebound}
 
 pub found_at : {X : Type 0} (f : X → Name × Tree) (xs : List X) (x : Name) (i : ℕ) (d : X)
     → i < length xs → bytes_eq (f (get_or xs i d)).0 x ≡ true → ((k : ℕ) → k < i → bytes_eq (f (get_or xs k d)).0 x ≡ false)
@@ -36,13 +36,13 @@ found_none f xs x e = found_none_from f xs x 0 (sym (position_from-zero (λ y. b
 
 pub bound_at : {X : Type 0} (f : X → Name × Tree) (xs : List X) (x : Name) (t : Tree) (i : ℕ) (d y : X)
     → i < length xs → bytes_eq (f (get_or xs i d)).0 x ≡ true → ((k : ℕ) → k < i → bytes_eq (f (get_or xs k d)).0 x ≡ false)
-    → f y ≡ ((f (get_or xs i d)).0, t) → map f (set xs i y) ≡ bound (map f xs) x t
+    → f y ≡ ((f (get_or xs i d)).0, t) → map f (set xs i y) ≡ rebound (map f xs) x t
 bound_at f [] x t i d y below here before new = absurd (omega arith)
 bound_at f (z ∷ zs) x t zero d y below here before new =
-    ap (λ e. e ∷ map f zs) new ∙ sym (ap (λ b. cond b (((f z).0, t) ∷ map f zs) (f z ∷ bound (map f zs) x t)) here)
+    ap (λ e. e ∷ map f zs) new ∙ sym (ap (λ b. cond b (((f z).0, t) ∷ map f zs) (f z ∷ rebound (map f zs) x t)) here)
 bound_at f (z ∷ zs) x t (suc i) d y below here before new =
     ap (λ es. f z ∷ es) (bound_at f zs x t i d y (omega arith) here (λ k h. before (suc k) (omega arith)) new)
-    ∙ sym (ap (λ b. cond b (((f z).0, t) ∷ map f zs) (f z ∷ bound (map f zs) x t)) (before 0 (omega arith)))
+    ∙ sym (ap (λ b. cond b (((f z).0, t) ∷ map f zs) (f z ∷ rebound (map f zs) x t)) (before 0 (omega arith)))
 
 new_step : (b : Bool) (i : ℕ) (o : Option ℕ) (e : Name × Tree) (es new : Env) (all changed : Env) → cond b (Some i) o ≡ None
     → (o ≡ None → new ≡ changed) → e ∷ new ≡ cond b all (e ∷ changed)
@@ -50,13 +50,13 @@ new_step true i o e es new all changed n h = absurd (let k : Some i ≡ None = n
 new_step false i o e es new all changed n h = ap (λ rest. e ∷ rest) (h n)
 
 bound_none_from : {X : Type 0} (f : X → Name × Tree) (xs : List X) (x : Name) (t : Tree) (j : ℕ) (y : X)
-    → position_from (λ y. bytes_eq (f y).0 x) j xs ≡ None → f y ≡ (x, t) → map f (xs ++ y ∷ []) ≡ bound (map f xs) x t
+    → position_from (λ y. bytes_eq (f y).0 x) j xs ≡ None → f y ≡ (x, t) → map f (xs ++ y ∷ []) ≡ rebound (map f xs) x t
 bound_none_from f [] x t j y e new = ap (λ z. z ∷ []) new
 bound_none_from f (z ∷ zs) x t j y e new =
     new_step (bytes_eq (f z).0 x) j _ (f z) (map f zs) _ (((f z).0, t) ∷ map f zs) _ e (λ n. bound_none_from f zs x t (j + 1) y n new)
 
 pub bound_none : {X : Type 0} (f : X → Name × Tree) (xs : List X) (x : Name) (t : Tree) (y : X)
-    → position (λ y. bytes_eq (f y).0 x) xs ≡ None → f y ≡ (x, t) → map f (xs ++ y ∷ []) ≡ bound (map f xs) x t
+    → position (λ y. bytes_eq (f y).0 x) xs ≡ None → f y ≡ (x, t) → map f (xs ++ y ∷ []) ≡ rebound (map f xs) x t
 bound_none f xs x t y e new = bound_none_from f xs x t 0 y (sym (position_from-zero (λ y. bytes_eq (f y).0 x) xs) ∙ e) new
 
 pub number_here : {X : Type 0} (h : X → Function) (xs : List X) (f : Mfa) (i : ℕ) (x : X) → i < length xs → x ≡ get_or xs i x

@@ -4,18 +4,20 @@ ghost use Rattle.def_script.specs.Program.{number_from, mfa_of};
 ghost use Rattle.def_term.specs.Names.{same_mfa};
 ghost use Rattle.tn_term.specs.Views.{mfa_seen};
 ghost use Rattle.tn_script.specs.Views.{function_of, functions_of};
+ghost use Rattle.tn_process.specs.Acting.{mfa_from};
 
 use std::alloc::{AllocError, Allocator};
 use tn_script::Function;
 use tn_term::Mfa;
 
+/// Whether the function has this name and number of parameters.
 fn is_named<A: Allocator>(
     function: &Function<A>,
     module_name: &str,
     name: &str,
     arity: usize,
 ) -> bool
-    ensures { result ≡ same_mfa (mfa_of (function_of function.now)) (record { module_name = module_name.now; function_name = name.now; arity = arity }) }
+    ensures { result ≡ same_mfa (mfa_of (function_of function.now)) (mfa_from module_name.now name.now arity) }
 {
     function.module.text() == module_name
         && function.name.text() == name
@@ -43,7 +45,7 @@ pub fn find_function<A: Allocator>(
     name: &str,
     arity: usize,
 ) -> Option<usize>
-    ensures number { result ≡ number_from 0 (functions_of functions.now) (record { module_name = module_name.now; function_name = name.now; arity = arity }) }
+    ensures number { result ≡ number_from 0 (functions_of functions.now) (mfa_from module_name.now name.now arity) }
     ensures within { IfSome result (λ i. i < length functions.now) }
 {
     for i in 0..functions.len() {

@@ -8,13 +8,12 @@
 #![tactic(auto)]
 
 mod act;
-mod copies;
+mod context;
 mod function;
 mod neighbours;
 mod process;
 mod values;
 
 pub use act::Act;
-pub use copies::{copy_entry, copy_functions};
+pub use function::function_mfa;
 pub use process::Process;
-pub use values::atom_of;

@@ -1,24 +1,29 @@
 // One process, and its next step.
-ghost use Rattle.std.specs.Prelude.{◌≡◌, ◌+◌, ◌<◌, IfOk, MatchOption, codes, List, [], ◌∷◌, map, None, Some, slice_get};
+ghost use Rattle.std.specs.Prelude.{◌≡◌, ◌+◌, ◌<◌, IfOk, codes, None, Some};
 ghost use Rattle.std.specs.Option.{option_map};
 ghost use Rattle.def_term.specs.Tree.{atom};
 ghost use Rattle.def_term.specs.Atoms.{IsAtomText};
 ghost use Rattle.tn_term.specs.Views.{tree_of, mfa_seen};
-ghost use Rattle.tn_script.specs.Views.{args_of, step_of, entry_of, function_of, functions_of};
-ghost use Rattle.def_node.specs.Values.{built, bound_to, fitting};
+ghost use Rattle.tn_script.specs.Views.{step_of, functions_of};
+ghost use Rattle.def_node.specs.Values.{fitting};
 ghost use Rattle.def_node.specs.Process as World;
-ghost use Rattle.def_node.specs.Process.{with_frames, with_env, advanced, act, runs, receives, sends_to, leaves, mfa_at, caller_of, enters, enters_at, calls, within, links_with, unlinks_with, spawns_with, performs, begins};
+ghost use Rattle.def_node.specs.Process.{advanced, act, mfa_at, within};
+ghost use Rattle.tn_process.specs.Views.{frame_of, process_of, act_of};
 ghost use Rattle.tn_process.specs.declared.process.Process.{Process};
-ghost use Rattle.tn_process.specs.Views.{env_of, frame_of, process_of, act_of};
+ghost use Rattle.tn_process.specs.Templates.{built_in};
+ghost use Rattle.tn_process.specs.Acting.{Does, Ends, Pops, with_target, with_newest, caller_in};
+ghost use Rattle.tn_process.specs.Acting.{leaves_in, enters_in, enters_function_in, calls_in, spawns_in};
+ghost use Rattle.tn_process.specs.Acting.{sends_in, receives_in, gives_back_in, relinks, relinks_in};
+ghost use Rattle.tn_process.specs.Acting.{performs_in, runs_frame_in, runs_in, begins_in};
 
 use crate::act::Act;
-use crate::copies::copy_target;
+use crate::context::{Callee, Calling, StepContext};
 use crate::function::{find_function, function_mfa};
-use crate::values::{Env, atom_of, pid_in};
+use crate::values::{Env, pid_in};
 use std::alloc::{AllocError, Allocator};
 use std::collections::VecDeque;
 use tn_flags::{Call, Event};
-use tn_script::{Arguments, Entry, Function, Step};
+use tn_script::{Entry, Function, Step, copy_target};
 use tn_term::{Atom, Mfa, Term, copy_terms};
 
 /// How many frames a process may have.
@@ -43,28 +48,31 @@ pub struct Process<A: Allocator> {
     pub(crate) links: [bool; 64],
 }
 
+/// The process ends with the atom of this text as its reason.
 fn ends_with<A: Allocator + Copy>(alloc: A, reason: &str) -> Result<Act<A>, AllocError>
     requires { IsAtomText reason.now }
-    ensures { IfOk result (λ a. (p : Process A) → act_of p a ≡ World.exits p.links (atom reason.now) None) }
+    ensures { Ends result (λ ls. World.exits ls (atom reason.now) None) }
 {
     Ok(Act::Exits {
-        reason: Term::Atom(atom_of(alloc, reason)?),
+        reason: Term::word(alloc, reason)?,
         event: None,
     })
 }
 
+/// The process ends, since the step goes past a limit.
 fn over_limit<A: Allocator + Copy>(alloc: A) -> Result<Act<A>, AllocError>
-    ensures { IfOk result (λ a. (p : Process A) → act_of p a ≡ World.exits p.links (atom (codes "system_limit")) None) }
+    ensures { Ends result (λ ls. World.exits ls (atom (codes "system_limit")) None) }
 {
     Ok(ends_with(alloc, "system_limit")?)
 }
 
+/// The step of an exit.
 fn exit<A: Allocator + Copy>(
     alloc: A,
     frame: &Frame<A>,
     template: &Term<A>,
 ) -> Result<Act<A>, AllocError>
-    ensures { IfOk result (λ a. (p : Process A) → act_of p a ≡ within p.links (fitting (built (env_of frame.now.env) (tree_of template.now))) (λ t. World.exits p.links t None)) }
+    ensures { Ends result (λ ls. within ls (fitting (built_in frame.now template.now)) (λ t. World.exits ls t None)) }
 {
     match frame.env.fitting(alloc, template)? {
         None => Ok(over_limit(alloc)?),
@@ -75,6 +83,7 @@ fn exit<A: Allocator + Copy>(
     }
 }
 
+/// The function with this number.
 fn mfa_at<A: Allocator + Copy>(
     alloc: A,
     functions: &[Function<A>],
@@ -88,6 +97,17 @@ fn mfa_at<A: Allocator + Copy>(
     }
 }
 
+/// The act of a link, or of an unlink.
+fn relinking<A: Allocator>(other: u32, linked: bool) -> Act<A>
+    ensures { (p : Process A) → act_of p result ≡ relinks linked (process_of p) other }
+{
+    if linked {
+        Act::LinksTo(other)
+    } else {
+        Act::UnlinksFrom(other)
+    }
+}
+
 impl<A: Allocator + Copy> Frame<A> {
     /// One step on.
     fn advance(&mut self)
@@ -97,8 +117,9 @@ impl<A: Allocator + Copy> Frame<A> {
         self.place += 1;
     }
 
+    /// The value goes to the target.
     fn bind(&mut self, alloc: A, target: &Option<Atom<A>>, value: Term<A>) -> Result<(), AllocError>
-        ensures { IfOk result (λ _. frame_of self.new ≡ with_env (frame_of self.old) (bound_to target.now (tree_of value) (frame_of self.old).env)) }
+        ensures { IfOk result (λ _. frame_of self.new ≡ with_target (frame_of self.old) target.now (tree_of value)) }
     {
         match target {
             Some(name) => self.env.bind(alloc, name, value)?,
@@ -109,15 +130,17 @@ impl<A: Allocator + Copy> Frame<A> {
 }
 
 impl<A: Allocator + Copy> Process<A> {
+    /// The frame is the newest from now on.
     fn push_frame(&mut self, frame: Frame<A>) -> Result<(), AllocError>
-        ensures { IfOk result (λ _. process_of self.new ≡ with_frames (process_of self.old) (frame_of frame ∷ (process_of self.old).frames)) }
+        ensures { IfOk result (λ _. process_of self.new ≡ with_newest (process_of self.old) (frame_of frame)) }
     {
         self.frames.push(frame)?;
         Ok(())
     }
 
+    /// Takes the newest frame off.
     fn pop_frame(&mut self) -> Option<Frame<A>>
-        ensures { MatchOption result ((process_of self.new ≡ process_of self.old) × ((process_of self.old).frames ≡ [])) (λ f. process_of self.old ≡ with_frames (process_of self.new) (frame_of f ∷ (process_of self.new).frames)) }
+        ensures { Pops self.old self.new result }
     {
         self.frames.pop()
     }
@@ -130,7 +153,7 @@ impl<A: Allocator + Copy> Process<A> {
         target: &Option<Atom<A>>,
     ) -> Result<Act<A>, AllocError>
         requires { frame.place < usize.MAX }
-        ensures { IfOk result (λ a. act_of self.new a ≡ receives (process_of self.old) (frame_of frame) (process_of self.old).frames target.now (process_of self.old).mailbox) }
+        ensures { Does self.new result (receives_in self.old frame target.now) }
     {
         match self.mailbox.pop_front() {
             None => {
@@ -146,6 +169,7 @@ impl<A: Allocator + Copy> Process<A> {
         }
     }
 
+    /// The step of a send.
     fn send(
         &mut self,
         alloc: A,
@@ -154,7 +178,7 @@ impl<A: Allocator + Copy> Process<A> {
         message: &Term<A>,
     ) -> Result<Act<A>, AllocError>
         requires { frame.place < usize.MAX }
-        ensures { IfOk result (λ a. act_of self.new a ≡ sends_to (process_of self.old) (frame_of frame) (process_of self.old).frames (built (env_of frame.env) (tree_of to.now)) (built (env_of frame.env) (tree_of message.now))) }
+        ensures { Does self.new result (sends_in self.old frame to.now message.now) }
     {
         let to = match frame.env.fitting(alloc, to)? {
             Some(to) => to,
@@ -177,35 +201,35 @@ impl<A: Allocator + Copy> Process<A> {
     /// The newest frame has gone, and its value goes to the one beneath.
     fn leave(
         &mut self,
-        alloc: A,
-        pid: u32,
+        context: &StepContext<'_, A>,
         function: &Function<A>,
         target: &Option<Atom<A>>,
         value: Term<A>,
     ) -> Result<Act<A>, AllocError>
-        ensures { IfOk result (λ a. act_of self.new a ≡ leaves pid (process_of self.old) (function_of function.now) target.now (process_of self.old).frames (tree_of value)) }
+        ensures { Does self.new result (leaves_in context.now self.old function.now target.now (tree_of value)) }
     {
         let event = Event::Returned {
-            pid,
-            mfa: function_mfa(alloc, function)?,
-            value: value.copy_into(alloc)?,
+            pid: context.pid,
+            mfa: function_mfa(context.alloc, function)?,
+            value: value.copy_into(context.alloc)?,
             depth: self.frames.len() + 1,
         };
         match self.pop_frame() {
             Some(mut caller) => {
-                caller.bind(alloc, target, value)?;
+                caller.bind(context.alloc, target, value)?;
                 self.push_frame(caller)?;
                 Ok(Act::Continues(Some(event)))
             }
             None => Ok(Act::Exits {
-                reason: Term::Atom(atom_of(alloc, "normal")?),
+                reason: Term::word(context.alloc, "normal")?,
                 event: Some(event),
             }),
         }
     }
 
+    /// The function of the newest frame.
     fn caller(&self, alloc: A, functions: &[Function<A>]) -> Result<Option<Mfa<A>>, AllocError>
-        ensures { IfOk result (λ o. option_map mfa_seen o ≡ caller_of (functions_of functions.now) (process_of self.now).frames) }
+        ensures { IfOk result (λ o. option_map mfa_seen o ≡ caller_in functions.now self.now) }
     {
         match self.frames.last() {
             None => Ok(None),
@@ -216,113 +240,119 @@ impl<A: Allocator + Copy> Process<A> {
     /// A call over the frames that there are.
     fn enter(
         &mut self,
-        alloc: A,
-        functions: &[Function<A>],
-        pid: u32,
-        target: Option<Atom<A>>,
-        named: bool,
+        context: &StepContext<'_, A>,
+        calling: Calling<A>,
         number: Option<usize>,
-        args: Arguments<A>,
     ) -> Result<Act<A>, AllocError>
-        ensures { IfOk result (λ a. act_of self.new a ≡ enters (functions_of functions.now) pid (process_of self.old) (process_of self.old).frames target named (args_of args) number) }
+        ensures { Does self.new result (enters_in context.now self.old calling number) }
     {
         let Some(number) = number else {
-            return Ok(ends_with(alloc, "undef")?);
+            return Ok(ends_with(context.alloc, "undef")?);
         };
-        match functions.get(number) {
-            None => Ok(ends_with(alloc, "undef")?),
-            Some(function) => Ok(self.enter_function(
-                alloc, functions, pid, target, named, number, function, args,
-            )?),
+        match context.functions.get(number) {
+            None => Ok(ends_with(context.alloc, "undef")?),
+            Some(function) => Ok(self.enter_function(context, calling, number, function)?),
         }
     }
 
+    /// A call of the function with this number over the frames that there are.
     fn enter_function(
         &mut self,
-        alloc: A,
-        functions: &[Function<A>],
-        pid: u32,
-        target: Option<Atom<A>>,
-        named: bool,
+        context: &StepContext<'_, A>,
+        calling: Calling<A>,
         number: usize,
         function: &Function<A>,
-        args: Arguments<A>,
     ) -> Result<Act<A>, AllocError>
-        ensures { IfOk result (λ a. act_of self.new a ≡ enters_at (functions_of functions.now) pid (process_of self.old) (process_of self.old).frames target named (args_of args) number (Some (function_of function.now))) }
+        ensures { Does self.new result (enters_function_in context.now self.old calling number function.now) }
     {
         if self.frames.len() >= FRAMES {
-            return Ok(over_limit(alloc)?);
+            return Ok(over_limit(context.alloc)?);
         }
         let call = Call {
-            mfa: function_mfa(alloc, function)?,
-            args: copy_terms(&args.terms, alloc)?,
-            named,
+            mfa: function_mfa(context.alloc, function)?,
+            args: copy_terms(&calling.args.terms, context.alloc)?,
+            named: calling.named,
             exported: function.exported,
-            caller: self.caller(alloc, functions)?,
+            caller: self.caller(context.alloc, context.functions)?,
             depth: self.frames.len() + 1,
         };
-        let env = Env::for_call(alloc, pid, &function.params, args.terms)?;
+        let env = Env::for_call(
+            context.alloc,
+            context.pid,
+            &function.params,
+            calling.args.terms,
+        )?;
         let frame = Frame {
             function: number,
             place: 0,
             env,
-            target,
+            target: calling.target,
         };
         self.push_frame(frame)?;
         self.entry = None;
+        let pid = context.pid;
         Ok(Act::Continues(Some(Event::Called { pid, call })))
     }
 
+    /// The step of a call.
     fn call(
         &mut self,
-        alloc: A,
-        functions: &[Function<A>],
-        pid: u32,
+        context: &StepContext<'_, A>,
         mut frame: Frame<A>,
-        target: Option<Atom<A>>,
-        named: bool,
-        module_name: &str,
-        function_name: &str,
-        templates: &Arguments<A>,
+        callee: &Callee<'_, A>,
     ) -> Result<Act<A>, AllocError>
         requires { frame.place < usize.MAX }
-        ensures { IfOk result (λ a. act_of self.new a ≡ calls (functions_of functions.now) pid (process_of self.old) (frame_of frame) (process_of self.old).frames target named module_name.now function_name.now (map (λ t. built (env_of frame.env) (tree_of t)) templates.now.terms.items)) }
+        ensures { Does self.new result (calls_in context.now self.old frame callee.now) }
     {
-        match frame.env.fitting_all(alloc, templates)? {
-            None => Ok(over_limit(alloc)?),
+        match frame.env.fitting_all(context.alloc, callee.templates)? {
+            None => Ok(over_limit(context.alloc)?),
             Some(args) => {
-                let number = find_function(functions, module_name, function_name, args.terms.len());
+                let number = find_function(
+                    context.functions,
+                    callee.home.text(),
+                    callee.name.text(),
+                    args.terms.len(),
+                );
+                let target = copy_target(context.alloc, callee.target)?;
                 frame.advance();
                 self.push_frame(frame)?;
-                Ok(self.enter(alloc, functions, pid, target, named, number, args)?)
+                let named = callee.named;
+                let calling = Calling {
+                    target,
+                    named,
+                    args,
+                };
+                Ok(self.enter(context, calling, number)?)
             }
         }
     }
 
+    /// The step of a return.
     fn give_back(
         &mut self,
-        alloc: A,
-        pid: u32,
+        context: &StepContext<'_, A>,
         function: &Function<A>,
         frame: Frame<A>,
         template: &Term<A>,
     ) -> Result<Act<A>, AllocError>
-        ensures { IfOk result (λ a. act_of self.new a ≡ within self.old.links (fitting (built (env_of frame.env) (tree_of template.now))) (leaves pid (process_of self.old) (function_of function.now) frame.target (process_of self.old).frames)) }
+        ensures { Does self.new result (gives_back_in context.now self.old function.now frame template.now) }
     {
-        match frame.env.fitting(alloc, template)? {
-            None => Ok(over_limit(alloc)?),
-            Some(value) => Ok(self.leave(alloc, pid, function, &frame.target, value)?),
+        match frame.env.fitting(context.alloc, template)? {
+            None => Ok(over_limit(context.alloc)?),
+            Some(value) => Ok(self.leave(context, function, &frame.target, value)?),
         }
     }
 
-    fn link(
+    /// The step of a link, or of an unlink.
+    fn relink(
         &mut self,
         alloc: A,
         mut frame: Frame<A>,
         template: &Term<A>,
+        linked: bool,
     ) -> Result<Act<A>, AllocError>
         requires { frame.place < usize.MAX }
-        ensures { IfOk result (λ a. act_of self.new a ≡ links_with (process_of self.old) (frame_of frame) (process_of self.old).frames (built (env_of frame.env) (tree_of template.now))) }
+        ensures { Does self.new result (relinks_in linked self.old frame template.now) }
     {
         let other = match frame.env.fitting(alloc, template)? {
             Some(other) => other,
@@ -332,61 +362,35 @@ impl<A: Allocator + Copy> Process<A> {
             Some(other) => {
                 frame.advance();
                 self.push_frame(frame)?;
-                Ok(Act::LinksTo(other))
+                Ok(relinking(other, linked))
             }
             None => Ok(ends_with(alloc, "badarg")?),
         }
     }
 
-    fn unlink(
-        &mut self,
-        alloc: A,
-        mut frame: Frame<A>,
-        template: &Term<A>,
-    ) -> Result<Act<A>, AllocError>
-        requires { frame.place < usize.MAX }
-        ensures { IfOk result (λ a. act_of self.new a ≡ unlinks_with (process_of self.old) (frame_of frame) (process_of self.old).frames (built (env_of frame.env) (tree_of template.now))) }
-    {
-        let other = match frame.env.fitting(alloc, template)? {
-            Some(other) => other,
-            None => return Ok(over_limit(alloc)?),
-        };
-        match pid_in(&other) {
-            Some(other) => {
-                frame.advance();
-                self.push_frame(frame)?;
-                Ok(Act::UnlinksFrom(other))
-            }
-            None => Ok(ends_with(alloc, "badarg")?),
-        }
-    }
-
+    /// The step of a spawn.
     fn spawn(
         &mut self,
-        alloc: A,
-        child: Option<u32>,
+        context: &StepContext<'_, A>,
         mut frame: Frame<A>,
-        target: &Option<Atom<A>>,
-        module_name: &Atom<A>,
-        function_name: &Atom<A>,
-        templates: &Arguments<A>,
+        callee: &Callee<'_, A>,
     ) -> Result<Act<A>, AllocError>
         requires { frame.place < usize.MAX }
-        ensures { IfOk result (λ a. act_of self.new a ≡ spawns_with (process_of self.old) (frame_of frame) (process_of self.old).frames target.now module_name.now function_name.now (map (λ t. built (env_of frame.env) (tree_of t)) templates.now.terms.items) child) }
+        ensures { Does self.new result (spawns_in context.now self.old frame callee.now) }
     {
-        let args = match frame.env.fitting_all(alloc, templates)? {
+        let args = match frame.env.fitting_all(context.alloc, callee.templates)? {
             Some(args) => args,
-            None => return Ok(over_limit(alloc)?),
+            None => return Ok(over_limit(context.alloc)?),
         };
-        match child {
-            None => Ok(over_limit(alloc)?),
+        match context.child {
+            None => Ok(over_limit(context.alloc)?),
             Some(child) => {
                 frame.advance();
-                frame.bind(alloc, target, Term::Pid(child))?;
+                frame.bind(context.alloc, callee.target, Term::Pid(child))?;
                 self.push_frame(frame)?;
                 let entry = Entry {
-                    module: module_name.copy_into(alloc)?,
-                    name: function_name.copy_into(alloc)?,
+                    module: callee.home.copy_into(context.alloc)?,
+                    name: callee.name.copy_into(context.alloc)?,
                     args,
                 };
                 Ok(Act::Spawns { child, entry })
@@ -394,127 +398,122 @@ impl<A: Allocator + Copy> Process<A> {
         }
     }
 
+    /// The step of this function, of which the frame is.
     fn perform(
         &mut self,
-        alloc: A,
-        functions: &[Function<A>],
-        pid: u32,
-        child: Option<u32>,
+        context: &StepContext<'_, A>,
         function: &Function<A>,
         frame: Frame<A>,
         step: &Step<A>,
     ) -> Result<Act<A>, AllocError>
         requires { frame.place < usize.MAX }
-        ensures { IfOk result (λ a. act_of self.new a ≡ performs (functions_of functions.now) pid child (process_of self.old) (function_of function.now) (frame_of frame) (process_of self.old).frames (Some (step_of step.now))) }
+        ensures { Does self.new result (performs_in context.now self.old function.now frame (Some (step_of step.now))) }
     {
         match step {
-            Step::Send { to, message } => Ok(self.send(alloc, frame, to, message)?),
-            Step::Receive { target } => Ok(self.receive(alloc, frame, target)?),
+            Step::Send { to, message } => Ok(self.send(context.alloc, frame, to, message)?),
+            Step::Receive { target } => Ok(self.receive(context.alloc, frame, target)?),
             Step::CallRemote {
                 target,
-                module,
+                module: home,
                 name,
-                args,
+                args: templates,
             } => {
-                let target = copy_target(alloc, target)?;
-                Ok(self.call(
-                    alloc,
-                    functions,
-                    pid,
-                    frame,
+                let callee = Callee {
                     target,
-                    true,
-                    module.text(),
-                    name.text(),
-                    args,
-                )?)
+                    named: true,
+                    home,
+                    name,
+                    templates,
+                };
+                Ok(self.call(context, frame, &callee)?)
             }
-            Step::CallLocal { target, name, args } => {
-                let target = copy_target(alloc, target)?;
-                Ok(self.call(
-                    alloc,
-                    functions,
-                    pid,
-                    frame,
+            Step::CallLocal {
+                target,
+                name,
+                args: templates,
+            } => {
+                let callee = Callee {
                     target,
-                    false,
-                    function.module.text(),
-                    name.text(),
-                    args,
-                )?)
+                    named: false,
+                    home: &function.module,
+                    name,
+                    templates,
+                };
+                Ok(self.call(context, frame, &callee)?)
             }
             Step::Spawn {
                 target,
-                module,
+                module: home,
                 name,
-                args,
-            } => Ok(self.spawn(alloc, child, frame, target, module, name, args)?),
-            Step::Link(other) => Ok(self.link(alloc, frame, other)?),
-            Step::Unlink(other) => Ok(self.unlink(alloc, frame, other)?),
-            Step::Return(value) => Ok(self.give_back(alloc, pid, function, frame, value)?),
-            Step::Exit(reason) => Ok(exit(alloc, &frame, reason)?),
+                args: templates,
+            } => {
+                let callee = Callee {
+                    target,
+                    named: true,
+                    home,
+                    name,
+                    templates,
+                };
+                Ok(self.spawn(context, frame, &callee)?)
+            }
+            Step::Link(other) => Ok(self.relink(context.alloc, frame, other, true)?),
+            Step::Unlink(other) => Ok(self.relink(context.alloc, frame, other, false)?),
+            Step::Return(value) => Ok(self.give_back(context, function, frame, value)?),
+            Step::Exit(reason) => Ok(exit(context.alloc, &frame, reason)?),
         }
     }
 
     /// The next step of the newest frame, which has been taken off.
     fn run_frame(
         &mut self,
-        alloc: A,
-        functions: &[Function<A>],
-        pid: u32,
-        child: Option<u32>,
+        context: &StepContext<'_, A>,
         function: &Function<A>,
         frame: Frame<A>,
     ) -> Result<Act<A>, AllocError>
-        ensures { IfOk result (λ a. act_of self.new a ≡ performs (functions_of functions.now) pid child (process_of self.old) (function_of function.now) (frame_of frame) (process_of self.old).frames (slice_get (function_of function.now).steps frame.place)) }
+        ensures { Does self.new result (runs_frame_in context.now self.old function.now frame) }
     {
         match function.steps.get(frame.place) {
             None => {
-                let value = Term::Atom(atom_of(alloc, "ok")?);
-                Ok(self.leave(alloc, pid, function, &frame.target, value)?)
+                let value = Term::word(context.alloc, "ok")?;
+                Ok(self.leave(context, function, &frame.target, value)?)
             }
-            Some(step) => Ok(self.perform(alloc, functions, pid, child, function, frame, step)?),
+            Some(step) => Ok(self.perform(context, function, frame, step)?),
         }
     }
 
-    fn run(
-        &mut self,
-        alloc: A,
-        functions: &[Function<A>],
-        pid: u32,
-        child: Option<u32>,
-    ) -> Result<Act<A>, AllocError>
-        ensures { IfOk result (λ a. act_of self.new a ≡ runs (functions_of functions.now) pid child (process_of self.old) (process_of self.old).frames) }
+    /// The next step of the newest frame.
+    fn run(&mut self, context: &StepContext<'_, A>) -> Result<Act<A>, AllocError>
+        ensures { Does self.new result (runs_in context.now self.old) }
     {
         let frame = match self.pop_frame() {
             Some(frame) => frame,
             None => return Ok(Act::Waits),
         };
-        match functions.get(frame.function) {
+        match context.functions.get(frame.function) {
             None => {
                 self.push_frame(frame)?;
                 Ok(Act::Waits)
             }
-            Some(function) => Ok(self.run_frame(alloc, functions, pid, child, function, frame)?),
+            Some(function) => Ok(self.run_frame(context, function, frame)?),
         }
     }
 
-    fn begin(
-        &mut self,
-        alloc: A,
-        functions: &[Function<A>],
-        pid: u32,
-        entry: Entry<A>,
-    ) -> Result<Act<A>, AllocError>
-        ensures { IfOk result (λ a. act_of self.new a ≡ begins (functions_of functions.now) pid None (process_of self.old) (Some (entry_of entry))) }
+    /// The entry call.
+    fn begin(&mut self, context: &StepContext<'_, A>, entry: Entry<A>) -> Result<Act<A>, AllocError>
+        ensures { Does self.new result (begins_in context.now self.old entry) }
     {
         let number = find_function(
-            functions,
+            context.functions,
             entry.module.text(),
             entry.name.text(),
             entry.args.terms.len(),
         );
-        Ok(self.enter(alloc, functions, pid, None, true, number, entry.args)?)
+        let calling = Calling {
+            target: None,
+            named: true,
+            args: entry.args,
+        };
+        Ok(self.enter(context, calling, number)?)
     }
 
     /// The next step of the process with this pid. `child` is the pid that a spawn would give.
@@ -525,7 +524,7 @@ impl<A: Allocator + Copy> Process<A> {
         pid: u32,
         child: Option<u32>,
     ) -> Result<Act<A>, AllocError>
-        ensures { IfOk result (λ a. act_of self.new a ≡ act (functions_of functions.now) pid child (process_of self.old)) }
+        ensures { Does self.new result (act (functions_of functions.now) pid child (process_of self.old)) }
     {
         if let Some(reason) = self.signal.take() {
             return Ok(Act::Exits {
@@ -533,9 +532,15 @@ impl<A: Allocator + Copy> Process<A> {
                 event: None,
             });
         }
+        let context = StepContext {
+            alloc,
+            functions,
+            pid,
+            child,
+        };
         match self.entry.take() {
-            Some(entry) => Ok(self.begin(alloc, functions, pid, entry)?),
-            None => Ok(self.run(alloc, functions, pid, child)?),
+            Some(entry) => Ok(self.begin(&context, entry)?),
+            None => Ok(self.run(&context)?),
         }
     }
 }

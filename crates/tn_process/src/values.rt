@@ -4,19 +4,19 @@ ghost use Rattle.std.specs.List.{position};
 ghost use Rattle.std.specs.Option.{option_map};
 ghost use Rattle.std.specs.Str.{bytes_eq};
 ghost use Rattle.def_term.specs.Tree as Tree;
-ghost use Rattle.def_term.specs.Atoms.{IsAtomText};
 ghost use Rattle.def_term.specs.Tree.{depth as nesting, greatest_depth, size as extent, sum_of_sizes};
 ghost use Rattle.tn_term.specs.Views.{tree_of, trees_of};
-ghost use Rattle.def_script.specs.Program.{is_variable};
-ghost use Rattle.def_node.specs.Values.{found, value_of, bound, built, all_built, fits, all_fit, fitting, fitting_all, pid_in, bound_all};
+ghost use Rattle.def_node.specs.Values.{found, value_of, rebound, built, all_built, fits, all_fit, fitting, fitting_all, pid_in, params_bound};
 ghost use Rattle.tn_script.specs.Views.{args_of};
 ghost use Rattle.tn_process.specs.Views.{env_of};
+ghost use Rattle.tn_process.specs.Templates.{all_built_by, args_built_by, env_for_call, BindsNext};
 
 use std::alloc::{AllocError, Allocator};
 use std::collections::VecDeque;
-use tn_script::Arguments;
+use tn_script::{Arguments, is_variable};
 use tn_term::{Atom, Term};
 
+/// A variable and its value.
 #[derive(Drop)]
 pub struct Binding<A: Allocator> {
     pub(crate) name: Atom<A>,
@@ -29,32 +29,16 @@ pub struct Env<A: Allocator> {
     pub(crate) values: Vec<Binding<A>, A>,
 }
 
+/// How deep a term may be.
 const GREATEST_DEPTH: u64 = 32;
 
+/// How large a term may be.
 const GREATEST_SIZE: u64 = 65536;
 
+/// The least size past that.
 const TOO_LARGE: u64 = 65537;
 
-fn is_capitalized(name: &str) -> bool
-    ensures { result ≡ is_variable name.now }
-{
-    match name.as_bytes() {
-        [first, ..] => 65 <= *first && *first <= 90,
-        [] => false,
-    }
-}
-
-/// The atom of a text that may be one.
-pub fn atom_of<A: Allocator + Copy>(alloc: A, text: &str) -> Result<Atom<A>, AllocError>
-    requires { IsAtomText text.now }
-    ensures { IfOk result (λ a. a ≡ text.now) }
-{
-    match Atom::new(alloc, text)? {
-        Some(name) => Ok(name),
-        None => unreachable!(),
-    }
-}
-
+/// The number, where the term is a pid.
 pub fn pid_in<A: Allocator>(term: &Term<A>) -> Option<u32>
     ensures { result ≡ pid_in (tree_of term.now) }
 {
@@ -65,6 +49,7 @@ pub fn pid_in<A: Allocator>(term: &Term<A>) -> Option<u32>
 }
 
 impl<A: Allocator + Copy> Env<A> {
+    /// No variable has a value.
     pub fn new(alloc: A) -> Env<A>
         ensures { env_of result ≡ [] }
     {
@@ -73,12 +58,14 @@ impl<A: Allocator + Copy> Env<A> {
         }
     }
 
+    /// The place of the variable.
     fn place(&self, name: &str) -> Option<usize>
         ensures { result ≡ position (λ b. bytes_eq b.name name.now) self.now.values.items }
     {
         self.values.iter().position(|b| b.name.text() == name)
     }
 
+    /// The value of the variable.
     pub fn get(&self, name: &str) -> Option<&Term<A>>
         ensures { option_map (λ t. tree_of t.now) result ≡ found (env_of self.now) name.now }
     {
@@ -88,10 +75,11 @@ impl<A: Allocator + Copy> Env<A> {
         }
     }
 
+    /// The value of the name, where it is a variable that has one.
     fn value_of(&self, name: &str) -> Option<&Term<A>>
         ensures { option_map (λ t. tree_of t.now) result ≡ value_of (env_of self.now) name.now }
     {
-        if is_capitalized(name) {
+        if is_variable(name) {
             self.get(name)
         } else {
             None
@@ -105,14 +93,16 @@ impl<A: Allocator + Copy> Env<A> {
         built_size(template, self) <= GREATEST_SIZE && built_depth(template, self) <= GREATEST_DEPTH
     }
 
+    /// What the template stands for.
     pub fn build(&self, alloc: A, template: &Term<A>) -> Result<Term<A>, AllocError>
         ensures { IfOk result (λ t. tree_of t ≡ built (env_of self.now) (tree_of template.now)) }
     {
         build_term(template, self, alloc)
     }
 
+    /// Whether what each template stands for is within the limits.
     pub fn all_fit(&self, templates: &Vec<Term<A>, A>) -> bool
-        ensures { result ≡ all_fit (map (λ t. built (env_of self.now) (tree_of t)) templates.now.items) }
+        ensures { result ≡ all_fit (all_built_by self.now templates.now.items) }
     {
         for template in templates {
             if !self.fits(template) {
@@ -122,12 +112,13 @@ impl<A: Allocator + Copy> Env<A> {
         true
     }
 
+    /// What all templates stand for.
     pub fn build_all(
         &self,
         alloc: A,
         templates: &Vec<Term<A>, A>,
     ) -> Result<Vec<Term<A>, A>, AllocError>
-        ensures { IfOk result (λ v. map tree_of v.items ≡ map (λ t. built (env_of self.now) (tree_of t)) templates.now.items) }
+        ensures { IfOk result (λ v. map tree_of v.items ≡ all_built_by self.now templates.now.items) }
     {
         build_terms(templates, self, alloc)
     }
@@ -149,7 +140,7 @@ impl<A: Allocator + Copy> Env<A> {
         alloc: A,
         templates: &Arguments<A>,
     ) -> Result<Option<Arguments<A>>, AllocError>
-        ensures { IfOk result (λ o. option_map args_of o ≡ fitting_all (map (λ t. built (env_of self.now) (tree_of t)) templates.now.terms.items)) }
+        ensures { IfOk result (λ o. option_map args_of o ≡ fitting_all (args_built_by self.now templates.now)) }
     {
         if self.all_fit(&templates.terms) {
             let terms = self.build_all(alloc, &templates.terms)?;
@@ -166,10 +157,10 @@ impl<A: Allocator + Copy> Env<A> {
         params: &Vec<Atom<A>, A>,
         args: Vec<Term<A>, A>,
     ) -> Result<Env<A>, AllocError>
-        ensures { IfOk result (λ e. env_of e ≡ bound_all ((codes "Self", Tree.pid pid) ∷ []) params.now.items (map tree_of args.items)) }
+        ensures { IfOk result (λ e. env_of e ≡ env_for_call pid params.now.items (map tree_of args.items)) }
     {
         let mut env = Env::new(alloc);
-        env.bind(alloc, &atom_of(alloc, "Self")?, Term::Pid(pid))?;
+        env.bind(alloc, &Atom::of(alloc, "Self")?, Term::Pid(pid))?;
         let mut args = VecDeque::from(args);
         for param in params {
             env.bind_next(alloc, param, &mut args)?;
@@ -177,13 +168,14 @@ impl<A: Allocator + Copy> Env<A> {
         Ok(env)
     }
 
+    /// The parameter gets the next argument as its value.
     fn bind_next(
         &mut self,
         alloc: A,
         param: &Atom<A>,
         args: &mut VecDeque<Term<A>, A>,
     ) -> Result<(), AllocError>
-        ensures { IfOk result (λ _. (ps : List (List ℕ)) → bound_all (env_of self.new) ps (map tree_of args.new.items) ≡ bound_all (env_of self.old) (param.now ∷ ps) (map tree_of args.old.items)) }
+        ensures { IfOk result (λ _. BindsNext self.old self.new param.now args.old.items args.new.items) }
     {
         match args.pop_front() {
             Some(value) => {
@@ -196,7 +188,7 @@ impl<A: Allocator + Copy> Env<A> {
 
     /// The value takes the place of the variable's earlier one.
     pub fn bind(&mut self, alloc: A, name: &Atom<A>, value: Term<A>) -> Result<(), AllocError>
-        ensures { IfOk result (λ _. env_of self.new ≡ bound (env_of self.old) name.now (tree_of value)) }
+        ensures { IfOk result (λ _. env_of self.new ≡ rebound (env_of self.old) name.now (tree_of value)) }
     {
         match self.place(name.text()) {
             Some(i) => {
@@ -211,6 +203,7 @@ impl<A: Allocator + Copy> Env<A> {
     }
 }
 
+/// The size of what the template stands for, at most `TOO_LARGE`.
 #[cycle(built_size)]
 fn built_size<A: Allocator + Copy>(template: &Term<A>, env: &Env<A>) -> u64
     ensures { result ≡ min (extent (built (env_of env.now) (tree_of template.now))) TOO_LARGE }
@@ -225,6 +218,7 @@ fn built_size<A: Allocator + Copy>(template: &Term<A>, env: &Env<A>) -> u64
     }
 }
 
+/// The sum of the sizes, at most `TOO_LARGE`.
 #[cycle(built_size)]
 fn built_sizes<A: Allocator + Copy>(templates: &Vec<Term<A>, A>, env: &Env<A>) -> u64
     ensures { result ≡ min (sum_of_sizes (all_built (env_of env.now) (trees_of templates.now.items))) TOO_LARGE }
@@ -239,6 +233,7 @@ fn built_sizes<A: Allocator + Copy>(templates: &Vec<Term<A>, A>, env: &Env<A>) -
     total
 }
 
+/// The depth of what the template stands for.
 #[cycle(built_depth)]
 fn built_depth<A: Allocator + Copy>(template: &Term<A>, env: &Env<A>) -> u64
     ensures { result ≡ min (nesting (built (env_of env.now) (tree_of template.now))) u64.MAX }
@@ -253,6 +248,7 @@ fn built_depth<A: Allocator + Copy>(template: &Term<A>, env: &Env<A>) -> u64
     }
 }
 
+/// The greatest depth.
 #[cycle(built_depth)]
 fn built_depths<A: Allocator + Copy>(templates: &Vec<Term<A>, A>, env: &Env<A>) -> u64
     ensures { result ≡ min (greatest_depth (all_built (env_of env.now) (trees_of templates.now.items))) u64.MAX }
@@ -264,6 +260,7 @@ fn built_depths<A: Allocator + Copy>(templates: &Vec<Term<A>, A>, env: &Env<A>) 
     greatest
 }
 
+/// What the template stands for.
 #[cycle(build)]
 fn build_term<A: Allocator + Copy>(
     template: &Term<A>,
@@ -284,13 +281,14 @@ fn build_term<A: Allocator + Copy>(
     }
 }
 
+/// What the templates stand for, in order.
 #[cycle(build)]
 fn build_terms<A: Allocator + Copy>(
     templates: &Vec<Term<A>, A>,
     env: &Env<A>,
     alloc: A,
 ) -> Result<Vec<Term<A>, A>, AllocError>
-    ensures { IfOk result (λ v. map tree_of v.items ≡ map (λ t. built (env_of env.now) (tree_of t)) templates.now.items) }
+    ensures { IfOk result (λ v. map tree_of v.items ≡ all_built_by env.now templates.now.items) }
 {
     let mut terms = Vec::new(alloc);
     for template in templates {

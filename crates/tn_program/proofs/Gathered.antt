@@ -1,5 +1,5 @@
 -- The parts of the forms, gathered form by form.
-use Rattle.std.proofs.Common.{◌≡◌, List, [], ◌∷◌, ◌++◌, length, map, flat_map, sym, ap, ◌∙◌, append_assoc}
+use Rattle.std.proofs.Common.{◌≡◌, ◌↔◌, Bool, IsTrue, List, [], ◌∷◌, ◌++◌, length, map, flat_map, sym, ap, ◌∙◌, append_assoc}
 use Rattle.def_script.specs.Program.{Function, Entry, Command, Program}
 use Rattle.std.proofs.lemmas.List.{append-nil, nil_from_length}
 
@@ -22,3 +22,6 @@ made_of ks es cs = record { functions = ks; entries = es; commands = cs }
 
 pub same_parts : (ks ls : List Function) (es ds : List Entry) (cs bs : List Command) → ks ≡ ls → es ≡ ds → cs ≡ bs → made_of ks es cs ≡ made_of ls ds bs
 same_parts ks ls es ds cs bs a b c = ap (λ x. made_of x es cs) a ∙ ap (λ x. made_of ls x cs) b ∙ ap (λ x. made_of ls ds x) c
+
+pub program_equal : (ks ls : List Function) (es ds : List Entry) (cs bs : List Command) (r : Bool) → ks ≡ ls → es ≡ ds → IsTrue r ↔ (cs ≡ bs) → IsTrue r ↔ (made_of ks es cs ≡ made_of ls ds bs)
+program_equal ks ls es ds cs bs r a b tells = (λ yes. same_parts ks ls es ds cs bs a b (tells.0 yes), λ e. tells.1 (ap (λ p. p.commands) e))

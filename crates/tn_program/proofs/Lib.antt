@@ -1,5 +1,4 @@
 pub mod Any
-pub mod Equal
 pub mod First
 pub mod Gathered
 pub mod Made

@@ -1,7 +1,9 @@
 // How many functions, processes, commands and creations forms hold; u64::MAX stands for any larger number.
 ghost use Rattle.std.specs.Prelude.{◌≡◌, ◌<◌, ℕ, Bool, cond, min, length, map};
 ghost use Rattle.std.specs.List.{count_by};
-ghost use Rattle.def_script.specs.Rules.{is_function as is_function_form, is_process as is_process_form, is_creation as is_creation_command, commands_of, commands_of_form, holds_past as is_past};
+ghost use Rattle.def_script.specs.Rules.{is_function as is_function_form, is_process as is_process_form};
+ghost use Rattle.def_script.specs.Rules.{is_creation as is_creation_command, commands_of, commands_of_form};
+ghost use Rattle.def_script.specs.Rules.{holds_past as is_past};
 ghost use Rattle.tn_flags.specs.Views.{command_of};
 ghost use Rattle.tn_script.specs.Views.{form_of};
 
@@ -115,8 +117,8 @@ pub fn all_creations<A: Allocator>(forms: &[Form<A>]) -> u64
 }
 
 /// Whether `held` further ones, if any, go past the limit.
-pub fn holds_past(limit: u64, earlier: u64, held: u64) -> bool
-    ensures { (m n : ℕ) → limit < u64.MAX → earlier ≡ min m u64.MAX → held ≡ min n u64.MAX → result ≡ is_past limit m n }
+pub fn holds_past(limit: u64, before: u64, held: u64) -> bool
+    ensures { (m n : ℕ) → limit < u64.MAX → before ≡ min m u64.MAX → held ≡ min n u64.MAX → result ≡ is_past limit m n }
 {
-    0 < held && limit < earlier.saturating_add(held)
+    0 < held && limit < before.saturating_add(held)
 }

@@ -1,10 +1,10 @@
 // The program that forms make.
-ghost use Rattle.std.specs.Prelude.{◌≡◌, ◌++◌, IfOk, OnOk, None, map};
-ghost use Rattle.def_script.specs.Rules.{first_broken, function_of_form, entry_of_form, commands_of_form};
+ghost use Rattle.std.specs.Prelude.{◌≡◌, IfOk, OnOk, None, map};
+ghost use Rattle.def_script.specs.Rules.{first_broken};
 ghost use Rattle.def_script.specs.Script.{program_from};
-ghost use Rattle.tn_flags.specs.Views.{command_of};
-ghost use Rattle.tn_script.specs.Views.{function_of, entry_of, form_of};
+ghost use Rattle.tn_script.specs.Views.{form_of};
 ghost use Rattle.tn_program.specs.Views.{program_of};
+ghost use Rattle.tn_program.specs.Gained.{GainsFunction, GainsEntry, GainsCommands};
 ghost use Rattle.tn_program.specs.Faults.{IsProgramOf};
 
 use crate::fault::RuleFault;
@@ -21,9 +21,9 @@ fn add<A: Allocator>(
     commands: &mut Vec<Command<A>, A>,
     form: Form<A>,
 ) -> Result<(), AllocError>
-    ensures functions { OnOk result (map function_of functions.new.items ≡ map function_of functions.old.items ++ function_of_form (form_of form)) }
-    ensures entries { OnOk result (map entry_of entries.new.items ≡ map entry_of entries.old.items ++ entry_of_form (form_of form)) }
-    ensures commands { OnOk result (map command_of commands.new.items ≡ map command_of commands.old.items ++ commands_of_form (form_of form)) }
+    ensures functions { OnOk result (GainsFunction functions.old.items functions.new.items form) }
+    ensures entries { OnOk result (GainsEntry entries.old.items entries.new.items form) }
+    ensures commands { OnOk result (GainsCommands commands.old.items commands.new.items form) }
 {
     match form {
         Form::Function(function) => {

@@ -6,7 +6,6 @@
 //! control list in their order.
 #![tactic(auto)]
 
-mod copies;
 mod counts;
 mod creations;
 mod fault;
@@ -14,7 +13,6 @@ mod gather;
 mod lookup;
 mod parts;
 mod rules;
-mod same;
 mod sessions;
 mod variables;
 

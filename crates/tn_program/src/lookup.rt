@@ -1,12 +1,31 @@
 // The functions that forms declare.
-ghost use Rattle.std.specs.Prelude.{◌≡◌, ◌&&◌, not, map};
-ghost use Rattle.std.specs.Str.{bytes_eq};
-ghost use Rattle.def_script.specs.Rules.{declares_one, is_declared as is_declared_in, is_declared_at_all as is_declared_at_all_in, is_internal as is_internal_in};
+ghost use Rattle.std.specs.Prelude.{◌≡◌, map};
+ghost use Rattle.std.specs.List.{list_any};
+ghost use Rattle.def_script.specs.Rules.{declares_one, is_declared as is_declared_in};
+ghost use Rattle.def_script.specs.Rules.{is_declared_at_all as is_declared_at_all_in, is_internal as is_internal_in};
 ghost use Rattle.tn_script.specs.Views.{function_of, form_of};
-ghost use Rattle.tn_program.specs.Named.{mfa_from, is_it, is_named_so, is_it_internal};
+ghost use Rattle.tn_program.specs.Named.{mfa_from, is_it, is_named_so};
+ghost use Rattle.tn_program.specs.Lookups.{wanted_mfa, passes_as};
 
 use std::alloc::Allocator;
 use tn_script::{Form, Function};
+
+/// The function that is looked for.
+#[derive(Clone, Copy)]
+struct Wanted<'a> {
+    home: &'a str,
+    name: &'a str,
+    arity: usize,
+}
+
+/// Which functions pass for it: those with that number of parameters, all of its module and name, or
+/// those with that number of parameters that aren't exported.
+#[derive(Clone, Copy)]
+enum Sought {
+    Exact,
+    Named,
+    Internal,
+}
 
 /// Whether it is the function of this module, name and number of parameters.
 fn is_same<A: Allocator>(function: &Function<A>, of_module: &str, name: &str, arity: usize) -> bool
@@ -24,39 +43,38 @@ fn is_named<A: Allocator>(function: &Function<A>, of_module: &str, name: &str) -
     function.module.text() == of_module && function.name.text() == name
 }
 
-/// Whether the form declares the function.
-fn declares<A: Allocator>(form: &Form<A>, of_module: &str, name: &str, arity: usize) -> bool
-    ensures { result ≡ declares_one (is_it (mfa_from of_module.now name.now arity)) (form_of form.now) }
+/// Whether it is a function that is looked for.
+fn is_sought<A: Allocator>(function: &Function<A>, sought: Sought, wanted: &Wanted<'_>) -> bool
+    ensures { result ≡ passes_as sought (wanted_mfa wanted.now) (function_of function.now) }
+{
+    match sought {
+        Sought::Exact => is_same(function, wanted.home, wanted.name, wanted.arity),
+        Sought::Named => is_named(function, wanted.home, wanted.name),
+        Sought::Internal => is_same(function, wanted.home, wanted.name, wanted.arity)
+            && !function.exported,
+    }
+}
+
+/// Whether the form declares a function that is looked for.
+fn declares<A: Allocator>(form: &Form<A>, sought: Sought, wanted: &Wanted<'_>) -> bool
+    ensures { result ≡ declares_one (passes_as sought (wanted_mfa wanted.now)) (form_of form.now) }
 {
     match form {
-        Form::Function(function) => is_same(function, of_module, name, arity),
+        Form::Function(function) => is_sought(function, sought, wanted),
         _ => false,
     }
 }
 
-/// Whether the form declares a function of this module and name.
-fn declares_named<A: Allocator>(form: &Form<A>, of_module: &str, name: &str) -> bool
-    ensures { result ≡ declares_one (is_named_so of_module.now name.now) (form_of form.now) }
+/// Whether one of the forms declares a function that is looked for.
+fn any_declares<A: Allocator>(forms: &[Form<A>], sought: Sought, wanted: &Wanted<'_>) -> bool
+    ensures { result ≡ list_any (declares_one (passes_as sought (wanted_mfa wanted.now))) (map form_of forms.now) }
 {
-    match form {
-        Form::Function(function) => is_named(function, of_module, name),
-        _ => false,
+    for form in forms {
+        if declares(form, sought, wanted) {
+            return true;
+        }
     }
-}
-
-/// Whether the form declares the function, and not as exported.
-fn declares_internal<A: Allocator>(
-    form: &Form<A>,
-    of_module: &str,
-    name: &str,
-    arity: usize,
-) -> bool
-    ensures { result ≡ declares_one (is_it_internal (mfa_from of_module.now name.now arity)) (form_of form.now) }
-{
-    match form {
-        Form::Function(function) => is_same(function, of_module, name, arity) && !function.exported,
-        _ => false,
-    }
+    false
 }
 
 /// Whether one of the forms declares the function.
@@ -68,12 +86,15 @@ pub fn is_declared<A: Allocator>(
 ) -> bool
     ensures { result ≡ is_declared_in (map form_of forms.now) (mfa_from of_module.now name.now arity) }
 {
-    for form in forms {
-        if declares(form, of_module, name, arity) {
-            return true;
-        }
-    }
-    false
+    any_declares(
+        forms,
+        Sought::Exact,
+        &Wanted {
+            home: of_module,
+            name,
+            arity,
+        },
+    )
 }
 
 /// Whether one of the forms declares the function with any number of parameters.
@@ -85,12 +106,15 @@ pub fn is_declared_at_all<A: Allocator>(
 ) -> bool
     ensures { result ≡ is_declared_at_all_in (map form_of forms.now) (mfa_from of_module.now name.now arity) }
 {
-    for form in forms {
-        if declares_named(form, of_module, name) {
-            return true;
-        }
-    }
-    false
+    any_declares(
+        forms,
+        Sought::Named,
+        &Wanted {
+            home: of_module,
+            name,
+            arity,
+        },
+    )
 }
 
 /// Whether one of the forms declares the function, and not as exported.
@@ -102,10 +126,13 @@ pub fn is_internal<A: Allocator>(
 ) -> bool
     ensures { result ≡ is_internal_in (map form_of forms.now) (mfa_from of_module.now name.now arity) }
 {
-    for form in forms {
-        if declares_internal(form, of_module, name, arity) {
-            return true;
-        }
-    }
-    false
+    any_declares(
+        forms,
+        Sought::Internal,
+        &Wanted {
+            home: of_module,
+            name,
+            arity,
+        },
+    )
 }

@@ -1,12 +1,13 @@
 // A program, made of forms that keep all rules.
 ghost use Rattle.std.specs.Prelude.{◌≡◌, ◌↔◌, ◌≤◌, IfOk, IsTrue, length, map, slice_get};
 
-use crate::copies::{copy_commands, copy_entries, copy_functions};
 use crate::creations::{count_sessions, find_session};
-use crate::same::{same_commands, same_entries, same_functions};
 use std::alloc::{AllocError, Allocator};
 use tn_flags::Command;
-use tn_script::{Entry, Function};
+use tn_script::{
+    Entry, Function, copy_commands, copy_entries, copy_functions, same_commands, same_entries,
+    same_functions,
+};
 use tn_term::Atom;
 
 /// The functions, the initial processes and the control list of a script.

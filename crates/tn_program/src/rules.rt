@@ -1,14 +1,20 @@
 // The static rules, each in a function, and the first form that breaks one.
-ghost use Rattle.std.specs.Prelude.{◌≡◌, IfOk, ◌&&◌, map, length, nat_le, nat_lt};
+ghost use Rattle.std.specs.Prelude.{◌≡◌, IfOk, map, length, nat_le, nat_lt};
 ghost use Rattle.std.specs.List.{list_any, count_by};
-ghost use Rattle.def_script.specs.Limits.{FUNCTIONS as function_limit, STEPS as step_limit, PROCESSES as process_limit, COMMANDS as command_limit, SESSIONS as session_limit};
-ghost use Rattle.def_script.specs.Rules.{is_function, is_process, is_creation, commands_of, holds_past as is_past};
-ghost use Rattle.tn_flags.specs.Views.{command_of};
 ghost use Rattle.std.specs.Option.{option_map};
-ghost use Rattle.def_script.specs.Rules.{passes, named_by, named_with_module, is_misnamed as is_misnamed_in, is_declared_at_all as is_declared_at_all_in, is_internal as is_internal_in, breaks_duplicate, breaks_undeclared, breaks_not_exported, breaks_unbound, breaks_tracer_taken, breaks_arity, breaks_limit, rule_broken};
-ghost use Rattle.tn_script.specs.Views.{function_of, step_of, form_of};
+ghost use Rattle.def_script.specs.Limits.{FUNCTIONS as function_limit, STEPS as step_limit};
+ghost use Rattle.def_script.specs.Limits.{INITIAL_PROCESSES as process_limit, COMMANDS as command_limit};
+ghost use Rattle.def_script.specs.Limits.{SESSIONS as session_limit};
+ghost use Rattle.def_script.specs.Rules.{is_function, is_process, holds_past as is_past};
+ghost use Rattle.def_script.specs.Rules.{passes, named_by, named_with_module, is_misnamed as is_misnamed_in};
+ghost use Rattle.def_script.specs.Rules.{is_internal as is_internal_in, breaks_duplicate, breaks_undeclared};
+ghost use Rattle.def_script.specs.Rules.{breaks_not_exported, breaks_unbound, breaks_tracer_taken, breaks_arity};
+ghost use Rattle.def_script.specs.Rules.{breaks_limit};
+ghost use Rattle.tn_flags.specs.Views.{command_of};
+ghost use Rattle.tn_script.specs.Views.{step_of, form_of};
 ghost use Rattle.tn_program.specs.Named.{mfa_from};
-ghost use Rattle.tn_program.specs.Naming.{is_unnamed};
+ghost use Rattle.tn_program.specs.Naming.{is_unnamed, step_breaks, rule_broken_in};
+ghost use Rattle.tn_program.specs.Commands.{commands_in, creations_in, creation_count};
 ghost use Rattle.tn_program.specs.Faults.{rule_of, IsKept};
 
 use crate::counts::{
@@ -16,8 +22,8 @@ use crate::counts::{
 };
 use crate::fault::{Rule, RuleFault, fault_in};
 use crate::lookup::{is_declared, is_declared_at_all, is_internal};
-use crate::sessions::{are_unmade, create_again, take_tracer};
-use crate::variables::{args_unbound, is_unbound};
+use crate::sessions::{CommandRule, any_breaks};
+use crate::variables::{has_variable, is_unbound};
 use std::alloc::{AllocError, Allocator};
 use tn_flags::Command;
 use tn_script::{Form, Function, Step};
@@ -36,6 +42,17 @@ const COMMANDS: u64 = 256;
 
 /// The greatest number of sessions.
 const SESSIONS: u64 = 32;
+
+/// The rules on a step.
+#[derive(Clone, Copy)]
+enum StepRule {
+    /// It names a function that no form declares with any number of parameters.
+    Undeclared,
+    /// It spawns an internal function, or calls one with the module.
+    Internal,
+    /// It names a function that is declared, but not with that number of arguments.
+    Misnamed,
+}
 
 /// Whether the step names a function that no form declares with any number of parameters.
 fn step_undeclared<A: Allocator>(forms: &[Form<A>], of_module: &str, step: &Step<A>) -> bool
@@ -119,36 +136,33 @@ fn step_misnamed<A: Allocator>(forms: &[Form<A>], of_module: &str, step: &Step<A
     }
 }
 
-/// Whether a step names a function that no form declares with any number of parameters.
-fn steps_undeclared<A: Allocator>(forms: &[Form<A>], of_module: &str, steps: &[Step<A>]) -> bool
-    ensures { result ≡ list_any (λ s. passes (is_unnamed (map form_of forms.now)) (named_by of_module.now s)) (map step_of steps.now) }
+/// Whether the step breaks the rule.
+fn is_against<A: Allocator>(
+    rule: StepRule,
+    forms: &[Form<A>],
+    of_module: &str,
+    step: &Step<A>,
+) -> bool
+    ensures { result ≡ step_breaks rule (map form_of forms.now) of_module.now (step_of step.now) }
 {
-    for step in steps {
-        if step_undeclared(forms, of_module, step) {
-            return true;
-        }
+    match rule {
+        StepRule::Undeclared => step_undeclared(forms, of_module, step),
+        StepRule::Internal => step_internal(forms, step),
+        StepRule::Misnamed => step_misnamed(forms, of_module, step),
     }
-    false
 }
 
-/// Whether a step spawns an internal function, or calls one with the module.
-fn steps_internal<A: Allocator>(forms: &[Form<A>], steps: &[Step<A>]) -> bool
-    ensures { result ≡ list_any (λ s. passes (is_internal_in (map form_of forms.now)) (named_with_module s)) (map step_of steps.now) }
+/// Whether one of the steps breaks the rule.
+fn any_against<A: Allocator>(
+    rule: StepRule,
+    forms: &[Form<A>],
+    of_module: &str,
+    steps: &[Step<A>],
+) -> bool
+    ensures { result ≡ list_any (step_breaks rule (map form_of forms.now) of_module.now) (map step_of steps.now) }
 {
     for step in steps {
-        if step_internal(forms, step) {
-            return true;
-        }
-    }
-    false
-}
-
-/// Whether a step names a function that is declared, but not with that number of arguments.
-fn steps_misnamed<A: Allocator>(forms: &[Form<A>], of_module: &str, steps: &[Step<A>]) -> bool
-    ensures { result ≡ list_any (λ s. passes (is_misnamed_in (map form_of forms.now)) (named_by of_module.now s)) (map step_of steps.now) }
-{
-    for step in steps {
-        if step_misnamed(forms, of_module, step) {
+        if is_against(rule, forms, of_module, step) {
             return true;
         }
     }
@@ -168,7 +182,7 @@ fn is_duplicate<A: Allocator>(earlier: &[Form<A>], form: &Form<A>) -> bool
             function.params.as_slice().len(),
         ),
         Form::Process(_) => false,
-        Form::Control(commands) => create_again(earlier, commands),
+        Form::Control(commands) => any_breaks(CommandRule::Again, earlier, commands),
     }
 }
 
@@ -178,7 +192,8 @@ fn is_undeclared<A: Allocator>(forms: &[Form<A>], earlier: &[Form<A>], form: &Fo
     ensures { result ≡ breaks_undeclared (map form_of forms.now) (map form_of earlier.now) (form_of form.now) }
 {
     match form {
-        Form::Function(function) => steps_undeclared(
+        Form::Function(function) => any_against(
+            StepRule::Undeclared,
             forms,
             function.module.text(),
             &function.steps,
@@ -189,7 +204,7 @@ fn is_undeclared<A: Allocator>(forms: &[Form<A>], earlier: &[Form<A>], form: &Fo
             entry.name.text(),
             entry.args.terms.len(),
         ),
-        Form::Control(commands) => are_unmade(earlier, commands),
+        Form::Control(commands) => any_breaks(CommandRule::Unmade, earlier, commands),
     }
 }
 
@@ -198,7 +213,12 @@ fn is_not_exported<A: Allocator>(forms: &[Form<A>], form: &Form<A>) -> bool
     ensures { result ≡ breaks_not_exported (map form_of forms.now) (form_of form.now) }
 {
     match form {
-        Form::Function(function) => steps_internal(forms, &function.steps),
+        Form::Function(function) => any_against(
+            StepRule::Internal,
+            forms,
+            function.module.text(),
+            &function.steps,
+        ),
         Form::Process(entry) => is_internal(
             forms,
             entry.module.text(),
@@ -215,7 +235,7 @@ fn has_unbound_variable<A: Allocator + Copy>(alloc: A, form: &Form<A>) -> Result
 {
     match form {
         Form::Function(function) => is_unbound(alloc, function),
-        Form::Process(entry) => Ok(args_unbound(&[], &entry.args.terms)),
+        Form::Process(entry) => Ok(has_variable(alloc, &entry.args.terms)),
         Form::Control(_) => Ok(false),
     }
 }
@@ -225,7 +245,7 @@ fn is_tracer_taken<A: Allocator>(earlier: &[Form<A>], form: &Form<A>) -> bool
     ensures { result ≡ breaks_tracer_taken (map form_of earlier.now) (form_of form.now) }
 {
     match form {
-        Form::Control(commands) => take_tracer(earlier, commands),
+        Form::Control(commands) => any_breaks(CommandRule::TracerTaken, earlier, commands),
         _ => false,
     }
 }
@@ -235,7 +255,12 @@ fn has_wrong_arity<A: Allocator>(forms: &[Form<A>], form: &Form<A>) -> bool
     ensures { result ≡ breaks_arity (map form_of forms.now) (form_of form.now) }
 {
     match form {
-        Form::Function(function) => steps_misnamed(forms, function.module.text(), &function.steps),
+        Form::Function(function) => any_against(
+            StepRule::Misnamed,
+            forms,
+            function.module.text(),
+            &function.steps,
+        ),
         Form::Process(entry) => is_misnamed(
             forms,
             entry.module.text(),
@@ -269,14 +294,14 @@ fn is_crowded<A: Allocator>(earlier: &[Form<A>]) -> bool
 
 /// Whether one of the commands, which follow those of the forms, is past the greatest number of them.
 fn has_late_command<A: Allocator>(earlier: &[Form<A>], commands: &[Command<A>]) -> bool
-    ensures { result ≡ is_past command_limit (length (commands_of (map form_of earlier.now))) (length (map command_of commands.now)) }
+    ensures { result ≡ is_past command_limit (length (commands_in earlier.now)) (length (map command_of commands.now)) }
 {
     holds_past(COMMANDS, all_commands(earlier), commands.len() as u64)
 }
 
 /// Whether one of the commands, which follow those of the forms, is a creation past the greatest number of them.
 fn has_late_creation<A: Allocator>(earlier: &[Form<A>], commands: &[Command<A>]) -> bool
-    ensures { result ≡ is_past session_limit (count_by is_creation (commands_of (map form_of earlier.now))) (count_by is_creation (map command_of commands.now)) }
+    ensures { result ≡ is_past session_limit (creations_in earlier.now) (creation_count (map command_of commands.now)) }
 {
     holds_past(SESSIONS, all_creations(earlier), creation_total(commands))
 }
@@ -300,7 +325,7 @@ fn broken_rule<A: Allocator + Copy>(
     earlier: &[Form<A>],
     form: &Form<A>,
 ) -> Result<Option<Rule>, AllocError>
-    ensures { IfOk result (λ o. option_map rule_of o ≡ rule_broken (map form_of forms.now) (map form_of earlier.now) (form_of form.now)) }
+    ensures { IfOk result (λ o. option_map rule_of o ≡ rule_broken_in forms.now earlier.now form.now) }
 {
     if is_duplicate(earlier, form) {
         return Ok(Some(Rule::Duplicate));

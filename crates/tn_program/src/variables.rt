@@ -1,33 +1,30 @@
 // The variables in steps, and those that are bound there.
-ghost use Rattle.std.specs.Prelude.{◌≡◌, IfOk, OnOk, map, [], ◌∷◌, ◌++◌, option_to_list};
+ghost use Rattle.std.specs.Prelude.{◌≡◌, IfOk, OnOk, map, [], ◌∷◌};
 ghost use Rattle.std.specs.Option.{option_map};
 ghost use Rattle.def_term.specs.Text.{is_among};
 ghost use Rattle.def_script.specs.Shapes.{self_name};
-ghost use Rattle.def_script.specs.Rules.{has_other_variable, have_other_variable, any_has_other, terms_of, target_of_step, any_with_earlier, bound_before};
+ghost use Rattle.def_script.specs.Rules.{has_other_variable, have_other_variable, any_has_other};
+ghost use Rattle.def_script.specs.Rules.{terms_of, target_of_step};
 ghost use Rattle.tn_term.specs.Views.{tree_of, trees_of};
 ghost use Rattle.tn_script.specs.Views.{step_of, function_of};
-ghost use Rattle.tn_program.specs.Bound.{names_of};
+ghost use Rattle.tn_program.specs.Bound.{names_in, HaveSame, Adds, target_names, has_unbound_step};
 
 use std::alloc::{AllocError, Allocator};
+use std::collections::BTreeMap;
 use tn_script::{Function, Step, is_variable};
 use tn_term::{Atom, Term};
 
 /// Whether the name is one of these.
-fn is_bound(bound: &[&str], name: &str) -> bool
-    ensures { result ≡ is_among (names_of bound.now) name.now }
+fn is_bound<A: Allocator>(bound: &BTreeMap<&str, (), A>, name: &str) -> bool
+    ensures { result ≡ is_among (names_in bound.now) name.now }
 {
-    for known in bound {
-        if name == *known {
-            return true;
-        }
-    }
-    false
+    bound.contains_key(name)
 }
 
 /// Whether a variable stands in the term that is none of these.
 #[cycle(unbound)]
-fn has_unbound<A: Allocator>(bound: &[&str], term: &Term<A>) -> bool
-    ensures { result ≡ has_other_variable (names_of bound.now) (tree_of term.now) }
+fn has_unbound<A: Allocator>(bound: &BTreeMap<&str, (), A>, term: &Term<A>) -> bool
+    ensures { result ≡ has_other_variable (names_in bound.now) (tree_of term.now) }
 {
     match term {
         Term::Atom(atom) => is_variable(atom.text()) && !is_bound(bound, atom.text()),
@@ -38,8 +35,8 @@ fn has_unbound<A: Allocator>(bound: &[&str], term: &Term<A>) -> bool
 
 /// Whether a variable stands in one of the terms that is none of these.
 #[cycle(unbound)]
-fn any_unbound<A: Allocator>(bound: &[&str], terms: &Vec<Term<A>, A>) -> bool
-    ensures { result ≡ have_other_variable (names_of bound.now) (trees_of terms.now.items) }
+fn any_unbound<A: Allocator>(bound: &BTreeMap<&str, (), A>, terms: &Vec<Term<A>, A>) -> bool
+    ensures { result ≡ have_other_variable (names_in bound.now) (trees_of terms.now.items) }
 {
     for term in terms {
         if has_unbound(bound, term) {
@@ -50,15 +47,23 @@ fn any_unbound<A: Allocator>(bound: &[&str], terms: &Vec<Term<A>, A>) -> bool
 }
 
 /// The same of arguments.
-pub fn args_unbound<A: Allocator>(bound: &[&str], terms: &Vec<Term<A>, A>) -> bool
-    ensures { result ≡ any_has_other (names_of bound.now) (map tree_of terms.now.items) }
+fn args_unbound<A: Allocator>(bound: &BTreeMap<&str, (), A>, terms: &Vec<Term<A>, A>) -> bool
+    ensures { result ≡ any_has_other (names_in bound.now) (map tree_of terms.now.items) }
 {
     any_unbound(bound, terms)
 }
 
+/// Whether a variable stands in one of the terms.
+pub fn has_variable<A: Allocator>(alloc: A, terms: &Vec<Term<A>, A>) -> bool
+    ensures { result ≡ any_has_other [] (map tree_of terms.now.items) }
+{
+    let none = BTreeMap::new(alloc);
+    args_unbound(&none, terms)
+}
+
 /// Whether a variable stands in the step, its target apart, that is none of these.
-fn step_unbound<A: Allocator>(bound: &[&str], step: &Step<A>) -> bool
-    ensures { result ≡ any_has_other (names_of bound.now) (terms_of (step_of step.now)) }
+fn step_unbound<A: Allocator>(bound: &BTreeMap<&str, (), A>, step: &Step<A>) -> bool
+    ensures { result ≡ any_has_other (names_in bound.now) (terms_of (step_of step.now)) }
 {
     match step {
         Step::Send { to, message } => has_unbound(bound, to) || has_unbound(bound, message),
@@ -90,31 +95,37 @@ fn target_of<A: Allocator>(step: &Step<A>) -> Option<&Atom<A>>
 fn opening<A: Allocator + Copy>(
     alloc: A,
     function: &Function<A>,
-) -> Result<Vec<&str, A>, AllocError>
-    ensures { IfOk result (λ v. names_of v.items ≡ self_name ∷ (function_of function.now).params) }
+) -> Result<BTreeMap<&str, (), A>, AllocError>
+    ensures { IfOk result (λ m. HaveSame (names_in m) (self_name ∷ (function_of function.now).params)) }
 {
-    let mut bound = Vec::new(alloc);
-    bound.push("Self")?;
+    let mut bound = BTreeMap::new(alloc);
+    bound.insert("Self", ())?;
     for param in &function.params {
-        bound.push(param.text())?;
+        bound.insert(param.text(), ())?;
     }
     Ok(bound)
 }
 
 /// The step's target is bound behind it.
-fn bind<'a, A: Allocator>(bound: &mut Vec<&'a str, A>, step: &'a Step<A>) -> Result<(), AllocError>
-    ensures { OnOk result (names_of bound.new.items ≡ names_of bound.old.items ++ option_to_list (target_of_step (step_of step.now))) }
+fn bind<'a, A: Allocator + Copy>(
+    bound: &mut BTreeMap<&'a str, (), A>,
+    step: &'a Step<A>,
+) -> Result<(), AllocError>
+    ensures { OnOk result (Adds bound.old bound.new (target_names (step_of step.now))) }
 {
-    if let Some(target) = target_of(step) {
-        bound.push(target.text())?;
+    match target_of(step) {
+        Some(target) => {
+            bound.insert(target.text(), ())?;
+            Ok(())
+        }
+        None => Ok(()),
     }
-    Ok(())
 }
 
 /// Whether a variable stands in a step of the function, its target apart, that is neither 'Self', nor a
 /// parameter, nor the target of an earlier step.
 pub fn is_unbound<A: Allocator + Copy>(alloc: A, function: &Function<A>) -> Result<bool, AllocError>
-    ensures { IfOk result (λ b. b ≡ any_with_earlier (λ before s. any_has_other (bound_before (function_of function.now).params before) (terms_of s)) [] (function_of function.now).steps) }
+    ensures { IfOk result (λ b. b ≡ has_unbound_step (function_of function.now)) }
 {
     let mut bound = opening(alloc, function)?;
     for step in &function.steps {

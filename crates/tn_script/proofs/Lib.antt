@@ -1,3 +1,4 @@
 pub mod Each
+pub mod Equal
 pub mod OfTerms
 pub mod Spelled

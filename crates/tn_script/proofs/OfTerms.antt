@@ -1,12 +1,14 @@
 -- The parts of a tuple or a list, and the shapes of other lengths.
-use Rattle.std.proofs.Common.{◌≡◌, ◌≢◌, ℕ, suc, false, ◌==◌, ◌<◌, List, [], ◌∷◌, length, get_or, map, Some, None, refl, sym, ap, ◌∙◌, arith}
+use Rattle.std.proofs.Common.{◌≡◌, Bool, ◌≢◌, ℕ, suc, false, ◌==◌, ◌<◌, List, [], ◌∷◌, length, get_or, map, Some, None, refl, sym, ap, ◌∙◌, arith}
 use Rattle.std.proofs.lemmas.List.{length-map}
 use Rattle.std.specs.declared.vec.Vec.{Vec}
-use Rattle.def_term.specs.Tree.{Tree, list}
+use Rattle.def_term.specs.Tree.{Tree, int, atom, pid, tuple, list}
+use Rattle.def_term.specs.Order.{same}
 use Rattle.def_script.specs.Shapes.{is_atom_of, begins_with, tuple_in, list_in, call_in, spawn_in, function_in, is_empty_list}
 use Rattle.tn_term.specs.Views.{tree_of, trees_of}
 use Rattle.tn_term.specs.declared.term.Term.{Term, Tuple, List as ListOf}
 use Rattle.tn_term.proofs.Views.{tree_of_tuple, tree_of_list, elements-of_elements}
+use Rattle.tn_term.proofs.Words.{same-atoms}
 
 pub list_of_list : {A : Type 0} (v : Vec (Term A) A) → list_in (tree_of (ListOf v)) ≡ Some (map tree_of v.items)
 list_of_list v = ap list_in (tree_of_list v) ∙ ap Some (elements-of_elements (map tree_of v.items))
@@ -14,9 +16,16 @@ list_of_list v = ap list_in (tree_of_list v) ∙ ap Some (elements-of_elements (
 pub tuple_of_tuple : {A : Type 0} (v : Vec (Term A) A) → tuple_in (tree_of (Tuple v)) ≡ Some (map tree_of v.items)
 tuple_of_tuple v = ap tuple_in (tree_of_tuple v) ∙ ap Some (elements-of_elements (map tree_of v.items))
 
-pub begins_at : {A : Type 0} (w : List ℕ) (xs : List (Term A)) (x : Term A) → 0 < length xs → x ≡ get_or xs 0 x → is_atom_of w (tree_of x) ≡ begins_with w (map tree_of xs)
-begins_at w [] x some is = absurd (omega (arith, some))
-begins_at w (y ∷ ys) x some is = ap (λ z. is_atom_of w (tree_of z)) is
+same-atom : (w : List ℕ) (t : Tree) → same t (atom w) ≡ is_atom_of w t
+same-atom w (int n) = refl
+same-atom w (atom s) = same-atoms s w
+same-atom w (pid n) = refl
+same-atom w (tuple ts) = refl
+same-atom w (list ts) = refl
+
+pub begins_at : {A : Type 0} (w : List ℕ) (xs : List (Term A)) (x : Term A) (r : Bool) → 0 < length xs → x ≡ get_or xs 0 x → r ≡ same (tree_of x) (atom w) → r ≡ begins_with w (map tree_of xs)
+begins_at w [] x r some is tells = absurd (omega (arith, some))
+begins_at w (y ∷ ys) x r some is tells = tells ∙ same-atom w (tree_of x) ∙ ap (λ z. is_atom_of w (tree_of z)) is
 
 not_four_calls : (ts : List Tree) → length ts ≢ 4 → None ≡ call_in ts
 not_four_calls [] h = refl

@@ -2,21 +2,26 @@
 //!
 //! Stands on tn_text and tn_flags, and on the definitions of def_script. Promises that `forms` answers
 //! exactly the forms that a text spells, or its refusal: of the text (1 to 4), more than 256 forms (6),
-//! or the first form that has no shape (5).
+//! or the first form that has no shape (5); and that copies of the parts of forms stand for the same, and
+//! comparisons tell whether they do.
 #![tactic(auto)]
 
 mod commands;
+mod copies;
 mod fault;
 mod fields;
 mod form;
 mod names;
 mod params;
 mod parts;
+mod same;
 mod script;
 mod shapes;
 mod steps;
 
+pub use copies::{copy_commands, copy_entries, copy_entry, copy_functions, copy_target};
 pub use fault::ScriptFault;
 pub use form::{Arguments, Entry, Form, Function, Step};
 pub use names::is_variable;
+pub use same::{same_commands, same_entries, same_functions};
 pub use script::forms;

@@ -1,7 +1,7 @@
 // The parts of terms that shapes ask for.
 ghost use Rattle.std.specs.Prelude.{◌≡◌, map};
 ghost use Rattle.std.specs.Option.{option_map};
-ghost use Rattle.def_script.specs.Shapes.{is_atom_of, begins_with, is_tuple as is_tuple_tree, is_empty_list as is_empty_tree, tuple_in, list_in, args_in};
+ghost use Rattle.def_script.specs.Shapes.{begins_with, is_tuple as is_tuple_tree, is_empty_list as is_empty_tree, tuple_in, list_in, args_in};
 ghost use Rattle.tn_term.specs.Views.{tree_of};
 ghost use Rattle.tn_script.specs.Views.{args_of};
 
@@ -12,21 +12,11 @@ use tn_term::Term;
 /// The greatest number of arguments.
 const ARGUMENTS: usize = 255;
 
-/// Whether the term is the atom of this text.
-fn is_word<A: Allocator>(term: &Term<A>, word: &str) -> bool
-    ensures { result ≡ is_atom_of word.now (tree_of term.now) }
-{
-    match term {
-        Term::Atom(atom) => atom.text() == word,
-        _ => false,
-    }
-}
-
 /// Whether the first field is this word.
 pub fn is_tagged<A: Allocator>(fields: &[Term<A>], word: &str) -> bool
     ensures { result ≡ begins_with word.now (map tree_of fields.now) }
 {
-    !fields.is_empty() && is_word(&fields[0], word)
+    !fields.is_empty() && fields[0].is_word(word)
 }
 
 /// Whether the term is a tuple.

@@ -8,7 +8,7 @@ use Rattle.tn_program.proofs.rules.has_wrong_arity.Goals as goal
 
 pub returns-in-Function : goal.returns-in-Function
 returns-in-Function g c =
-    c.steps_misnamed.ensures
+    c.any_against.ensures
     ∙ ap (λ m. list_any (λ s. passes (is_misnamed (map (form_of {A = g.row.A.Denot}) c.args.forms.now)) (named_by m s)) (map (step_of {A = g.row.A.Denot}) c.deref.result.now)) c.text.ensures.text
     ∙ ap (λ xs. list_any (λ s. passes (is_misnamed (map (form_of {A = g.row.A.Denot}) c.args.forms.now)) (named_by c.in-Function.function.module s)) (map (step_of {A = g.row.A.Denot}) xs)) c.deref.ensures.value
     ∙ ap (λ f. breaks_arity (map (form_of {A = g.row.A.Denot}) c.args.forms.now) ((form_of {A = g.row.A.Denot}) f)) (sym c.in-Function.is)

@@ -9,7 +9,7 @@ use Rattle.tn_program.proofs.rules.is_undeclared.Goals as goal
 
 pub returns-in-Function : goal.returns-in-Function
 returns-in-Function g c =
-    c.steps_undeclared.ensures
+    c.any_against.ensures
     ∙ ap (λ m. list_any (λ s. passes (is_unnamed (map (form_of {A = g.row.A.Denot}) c.args.forms.now)) (named_by m s)) (map (step_of {A = g.row.A.Denot}) c.deref.result.now)) c.text.ensures.text
     ∙ ap (λ xs. list_any (λ s. passes (is_unnamed (map (form_of {A = g.row.A.Denot}) c.args.forms.now)) (named_by c.in-Function.function.module s)) (map (step_of {A = g.row.A.Denot}) xs)) c.deref.ensures.value
     ∙ ap (λ f. breaks_undeclared (map (form_of {A = g.row.A.Denot}) c.args.forms.now) (map (form_of {A = g.row.A.Denot}) c.args.earlier.now) ((form_of {A = g.row.A.Denot}) f)) (sym c.in-Function.is)

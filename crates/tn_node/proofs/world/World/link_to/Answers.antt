@@ -7,11 +7,11 @@ use Rattle.tn_term.proofs.Views.{tree_of_atom}
 use Rattle.tn_node.specs.Worlds.{world_of}
 use Rattle.tn_node.proofs.world.World.link_to.Goals as goal
 
-pub returns-in_ok-atom_of-in-None : goal.returns-in_ok-atom_of-in-None
-returns-in_ok-atom_of-in-None g c =
+pub returns-in_ok-reason-in-None : goal.returns-in_ok-reason-in-None
+returns-in_ok-reason-in-None g c =
     let w = world_of c.args.self.now in
     let items : map event_of c.push.new.self.items ≡ linked c.args.pid c.args.other ∷ [] = search rules in
     ap₂ moved
-    (c.put_signal.ensures ∙ ap (λ t. change_at w c.args.place (with_signal t)) (tree_of_atom g.row.A.Denot c.in_ok-atom_of-in-None.field-0 ∙ ap atom c.in_ok-atom_of-in-None.ensures))
+    (c.put_signal.ensures ∙ ap (λ t. change_at w c.args.place (with_signal t)) c.in_ok-reason-in-None.ensures)
     items
     ∙ sym (ap (linked_to w c.args.place c.args.pid c.args.other) c.in-None.is)

@@ -11,7 +11,7 @@ returns g c =
     let items = c.args.self.now.frames.items in
     let pushed = c.in_ok-push_frame.ensures in
     let after = ap (λ (p : Process). record p { entry = None }) pushed in
-    let seen = ap (λ (env : Env). record q { entry = None; frames = record { function = c.args.number; place = 0; env = env; target = c.args.target } ∷ q.frames }) c.in_ok-env.ensures in
+    let seen = ap (λ (env : Env). record q { entry = None; frames = record { function = c.args.number; place = 0; env = env; target = c.args.calling.target } ∷ q.frames }) c.in_ok-env.ensures in
     let depth = c.len-2.ensures ∙ c.args.self.now.frames.ok.0 ∙ sym (depth_seen frame_of items) in
     otherwise _ _ _ _ (depth_below frame_of items (omega arith))
     (ap₂ (λ p e. continues p (Some e)) (after ∙ seen)

@@ -1,6 +1,5 @@
 use Rattle.std.proofs.Common.{◌≡◌, ap, sym, ◌∙◌, Some, None, slice_get, map}
-use Rattle.tn_term.proofs.Views.{tree_of_atom}
-use Rattle.def_term.specs.Tree.{Tree, atom}
+use Rattle.def_term.specs.Tree.{Tree}
 use Rattle.def_node.specs.Process.{performs, leaves}
 use Rattle.tn_script.specs.Views.{functions_of, function_of, step_of}
 use Rattle.tn_process.specs.Views.{process_of, frame_of}
@@ -12,11 +11,11 @@ returns-in_ok-leave-in-None g c =
     let q = process_of c.args.self.now in
     let f = frame_of c.args.frame in
     let k = function_of c.args.function.now in
-    let ok = tree_of_atom g.row.A.Denot c.in_ok-atom_of-in-None.field-0 ∙ ap atom c.in_ok-atom_of-in-None.ensures in
+    let ok = c.in_ok-value-in-None.ensures in
     let at : slice_get k.steps f.place ≡ None = ap (λ xs. slice_get (map step_of xs) f.place) (sym c.deref.ensures.value) ∙ none_at step_of c.deref.result.now f.place c.in-None.ensures.lookup.3 in
     c.in_ok-leave-in-None.ensures
-    ∙ ap (λ (t : Tree). leaves c.args.pid q k f.target q.frames t) ok
-    ∙ sym (ap (performs (functions_of c.args.functions.now) c.args.pid c.args.child q k f q.frames) at)
+    ∙ ap (λ (t : Tree). leaves c.args.context.now.pid q k f.target q.frames t) ok
+    ∙ sym (ap (performs (functions_of c.args.context.now.functions.now) c.args.context.now.pid c.args.context.now.child q k f q.frames) at)
 
 pub returns-in_ok-perform-in-Some : goal.returns-in_ok-perform-in-Some
 returns-in_ok-perform-in-Some g c =
@@ -27,4 +26,4 @@ returns-in_ok-perform-in-Some g c =
     let at : slice_get k.steps f.place ≡ Some (step_of step) =
     ap (λ xs. slice_get (map step_of xs) f.place) (sym c.deref.ensures.value) ∙ seen_at step_of c.deref.result.now f.place step c.in-Some.ensures.lookup.3.0 c.in-Some.ensures.lookup.1 in
     c.in_ok-perform-in-Some.ensures
-    ∙ sym (ap (performs (functions_of c.args.functions.now) c.args.pid c.args.child q k f q.frames) at)
+    ∙ sym (ap (performs (functions_of c.args.context.now.functions.now) c.args.context.now.pid c.args.context.now.child q k f q.frames) at)

@@ -1,6 +1,6 @@
 use Rattle.std.proofs.Common.{◌≤◌, length, ap, arith}
 use Rattle.tn_script.specs.Views.{entry_of}
-use Rattle.tn_program.proofs.Equal.{equal_length}
+use Rattle.tn_script.proofs.Equal.{equal_length}
 use Rattle.tn_program.proofs.parts.Program.copy.Goals as goal
 
 pub invariant_of-result : goal.invariant_of-result

@@ -1,0 +1,36 @@
+// What a step of a process is given, and what a call or a spawn names.
+use std::alloc::Allocator;
+use tn_script::{Arguments, Function};
+use tn_term::Atom;
+
+/// What a step of a process is given.
+#[derive_where(Clone, Copy)]
+pub struct StepContext<'a, A: Allocator + Copy> {
+    pub alloc: A,
+    /// The functions of the program.
+    pub functions: &'a [Function<A>],
+    /// The process's own pid.
+    pub pid: u32,
+    /// The pid that a spawn would give.
+    pub child: Option<u32>,
+}
+
+/// What the step of a call or of a spawn names.
+#[derive_where(Clone, Copy)]
+pub struct Callee<'a, A: Allocator + Copy> {
+    pub target: &'a Option<Atom<A>>,
+    /// Whether the step names the module.
+    pub named: bool,
+    pub home: &'a Atom<A>,
+    pub name: &'a Atom<A>,
+    pub templates: &'a Arguments<A>,
+}
+
+/// A call whose arguments are built.
+#[derive(Drop)]
+pub struct Calling<A: Allocator> {
+    pub target: Option<Atom<A>>,
+    /// Whether the call names the module.
+    pub named: bool,
+    pub args: Arguments<A>,
+}

@@ -1,8 +1,0 @@
-use Rattle.std.proofs.Common.{◌≡◌, map, drop}
-use Rattle.std.specs.List.{list_any}
-use Rattle.def_script.specs.Rules.{passes, named_by, is_misnamed}
-use Rattle.tn_script.specs.Views.{step_of, form_of}
-use Rattle.tn_program.proofs.rules.steps_misnamed.Given as goal
-
-abbrev pub invariant-loop-step : goal.invariant-loop-step
-invariant-loop-step g l = list_any (λ s. passes (is_misnamed (map (form_of {A = g.row.A.Denot}) l.fn.forms)) (named_by l.fn.of_module s)) (map (step_of {A = g.row.A.Denot}) l.fn.steps) ≡ list_any (λ s. passes (is_misnamed (map (form_of {A = g.row.A.Denot}) l.fn.forms)) (named_by l.fn.of_module s)) (map (step_of {A = g.row.A.Denot}) (drop l.step-index l.fn.steps))

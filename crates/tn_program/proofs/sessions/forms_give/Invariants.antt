@@ -1,8 +1,0 @@
-use Rattle.std.proofs.Common.{◌≡◌, map, drop}
-use Rattle.std.specs.List.{list_any}
-use Rattle.tn_script.specs.Views.{form_of}
-use Rattle.def_script.specs.Rules.{is_tracer, commands_of_form}
-use Rattle.tn_program.proofs.sessions.forms_give.Given as goal
-
-abbrev pub invariant-loop-form : goal.invariant-loop-form
-invariant-loop-form g l = list_any (λ f. is_tracer (commands_of_form f) l.fn.name) (map (form_of {A = g.row.A.Denot}) l.fn.forms) ≡ list_any (λ f. is_tracer (commands_of_form f) l.fn.name) (map (form_of {A = g.row.A.Denot}) (drop l.form-index l.fn.forms))

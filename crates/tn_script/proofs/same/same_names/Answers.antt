@@ -1,0 +1,15 @@
+use Rattle.std.proofs.Common.{sym, arith, rules, subst, IsTrue}
+use Rattle.tn_script.proofs.Equal.{equal_here, equal_next}
+use Rattle.tn_script.proofs.same.same_names.Goals as goal
+
+pub returns-then-not-same_name : goal.returns-then-not-same_name
+returns-then-not-same_name g c = (
+  λ no. absurd (search rules),
+  λ all. subst IsTrue c.if-not-same_name.true (c.same_name.ensures.1 (equal_here (λ s. s) c.args.one.now c.args.other.now c.loop-i.i c.index-one-i.result c.index-other-i.result (omega (arith, c.loop-i-test.true, c.loop-i.invariant.lengths)) (omega (arith, c.loop-i-test.true, c.loop-i.invariant.lengths)) c.index-one-i.is c.index-other-i.is c.loop-i.invariant.rest all)),
+)
+
+pub loop-i-preserved : goal.loop-i-preserved
+loop-i-preserved g c = record {
+  lengths = c.loop-i.invariant.lengths;
+  rest = equal_next (λ s. s) c.args.one.now c.args.other.now c.loop-i.i c.index-one-i.result c.index-other-i.result (omega (arith, c.loop-i-test.true, c.loop-i.invariant.lengths)) (omega (arith, c.loop-i-test.true, c.loop-i.invariant.lengths)) c.index-one-i.is c.index-other-i.is (c.same_name.ensures.0 (subst IsTrue (sym c.if-not-same_name.false) (search rules))) c.loop-i.invariant.rest;
+}

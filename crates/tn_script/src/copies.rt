@@ -1,0 +1,230 @@
+// Copies of the parts of forms.
+ghost use Rattle.std.specs.Prelude.{◌≡◌, IfOk, map};
+ghost use Rattle.tn_flags.specs.Views.{command_of};
+ghost use Rattle.tn_script.specs.Views.{args_of, entry_of, step_of, function_of, functions_of};
+
+use crate::form::{Arguments, Entry, Function, Step};
+use std::alloc::{AllocError, Allocator};
+use tn_flags::Command;
+use tn_term::{Atom, copy_terms};
+
+/// The same target.
+pub fn copy_target<A: Allocator + Copy>(
+    alloc: A,
+    target: &Option<Atom<A>>,
+) -> Result<Option<Atom<A>>, AllocError>
+    ensures { IfOk result (λ o. o ≡ target.now) }
+{
+    match target {
+        None => Ok(None),
+        Some(name) => Ok(Some(name.copy_into(alloc)?)),
+    }
+}
+
+/// The same arguments.
+fn copy_arguments<A: Allocator + Copy>(
+    alloc: A,
+    args: &Arguments<A>,
+) -> Result<Arguments<A>, AllocError>
+    ensures { IfOk result (λ a. args_of a ≡ args_of args.now) }
+{
+    let terms = copy_terms(&args.terms, alloc)?;
+    Ok(Arguments { terms })
+}
+
+/// The same entry call.
+pub fn copy_entry<A: Allocator + Copy>(alloc: A, entry: &Entry<A>) -> Result<Entry<A>, AllocError>
+    ensures { IfOk result (λ e. entry_of e ≡ entry_of entry.now) }
+{
+    Ok(Entry {
+        module: entry.module.copy_into(alloc)?,
+        name: entry.name.copy_into(alloc)?,
+        args: copy_arguments(alloc, &entry.args)?,
+    })
+}
+
+/// The same step.
+fn copy_step<A: Allocator + Copy>(alloc: A, step: &Step<A>) -> Result<Step<A>, AllocError>
+    ensures { IfOk result (λ s. step_of s ≡ step_of step.now) }
+{
+    match step {
+        Step::Send { to, message } => Ok(Step::Send {
+            to: to.copy_into(alloc)?,
+            message: message.copy_into(alloc)?,
+        }),
+        Step::Receive { target } => Ok(Step::Receive {
+            target: copy_target(alloc, target)?,
+        }),
+        Step::CallRemote {
+            target,
+            module,
+            name,
+            args,
+        } => Ok(Step::CallRemote {
+            target: copy_target(alloc, target)?,
+            module: module.copy_into(alloc)?,
+            name: name.copy_into(alloc)?,
+            args: copy_arguments(alloc, args)?,
+        }),
+        Step::CallLocal { target, name, args } => Ok(Step::CallLocal {
+            target: copy_target(alloc, target)?,
+            name: name.copy_into(alloc)?,
+            args: copy_arguments(alloc, args)?,
+        }),
+        Step::Spawn {
+            target,
+            module,
+            name,
+            args,
+        } => Ok(Step::Spawn {
+            target: copy_target(alloc, target)?,
+            module: module.copy_into(alloc)?,
+            name: name.copy_into(alloc)?,
+            args: copy_arguments(alloc, args)?,
+        }),
+        Step::Link(other) => Ok(Step::Link(other.copy_into(alloc)?)),
+        Step::Unlink(other) => Ok(Step::Unlink(other.copy_into(alloc)?)),
+        Step::Return(value) => Ok(Step::Return(value.copy_into(alloc)?)),
+        Step::Exit(reason) => Ok(Step::Exit(reason.copy_into(alloc)?)),
+    }
+}
+
+/// The same steps.
+fn copy_steps<A: Allocator + Copy>(
+    alloc: A,
+    steps: &[Step<A>],
+) -> Result<Vec<Step<A>, A>, AllocError>
+    ensures { IfOk result (λ v. map step_of v.items ≡ map step_of steps.now) }
+{
+    let mut copies = Vec::new(alloc);
+    for step in steps {
+        copies.push(copy_step(alloc, step)?)?;
+    }
+    Ok(copies)
+}
+
+/// The same names.
+fn copy_names<A: Allocator + Copy>(
+    alloc: A,
+    names: &[Atom<A>],
+) -> Result<Vec<Atom<A>, A>, AllocError>
+    ensures { IfOk result (λ v. v.items ≡ names.now) }
+{
+    let mut copies = Vec::new(alloc);
+    for name in names {
+        copies.push(name.copy_into(alloc)?)?;
+    }
+    Ok(copies)
+}
+
+/// The same function.
+fn copy_function<A: Allocator + Copy>(
+    alloc: A,
+    function: &Function<A>,
+) -> Result<Function<A>, AllocError>
+    ensures { IfOk result (λ k. function_of k ≡ function_of function.now) }
+{
+    Ok(Function {
+        module: function.module.copy_into(alloc)?,
+        name: function.name.copy_into(alloc)?,
+        exported: function.exported,
+        params: copy_names(alloc, &function.params)?,
+        steps: copy_steps(alloc, &function.steps)?,
+    })
+}
+
+/// The same functions.
+pub fn copy_functions<A: Allocator + Copy>(
+    alloc: A,
+    functions: &[Function<A>],
+) -> Result<Vec<Function<A>, A>, AllocError>
+    ensures { IfOk result (λ v. functions_of v.items ≡ functions_of functions.now) }
+{
+    let mut copies = Vec::new(alloc);
+    for function in functions {
+        copies.push(copy_function(alloc, function)?)?;
+    }
+    Ok(copies)
+}
+
+/// The same entry calls.
+pub fn copy_entries<A: Allocator + Copy>(
+    alloc: A,
+    entries: &[Entry<A>],
+) -> Result<Vec<Entry<A>, A>, AllocError>
+    ensures { IfOk result (λ v. map entry_of v.items ≡ map entry_of entries.now) }
+{
+    let mut copies = Vec::new(alloc);
+    for entry in entries {
+        copies.push(copy_entry(alloc, entry)?)?;
+    }
+    Ok(copies)
+}
+
+/// The same command.
+fn copy_command<A: Allocator + Copy>(
+    alloc: A,
+    command: &Command<A>,
+) -> Result<Command<A>, AllocError>
+    ensures { IfOk result (λ c. command_of c ≡ command_of command.now) }
+{
+    match command {
+        Command::SessionCreate { session, tracer } => Ok(Command::SessionCreate {
+            session: session.copy_into(alloc)?,
+            tracer: tracer.copy_into(alloc)?,
+        }),
+        Command::SessionDestroy { session } => Ok(Command::SessionDestroy {
+            session: session.copy_into(alloc)?,
+        }),
+        Command::Process {
+            session,
+            procs,
+            how,
+            flags,
+        } => Ok(Command::Process {
+            session: session.copy_into(alloc)?,
+            procs: procs.copy_into(alloc)?,
+            how: how.copy_into(alloc)?,
+            flags: flags.copy_into(alloc)?,
+        }),
+        Command::Function {
+            session,
+            mfa,
+            specification,
+            options,
+        } => Ok(Command::Function {
+            session: session.copy_into(alloc)?,
+            mfa: mfa.copy_into(alloc)?,
+            specification: specification.copy_into(alloc)?,
+            options: options.copy_into(alloc)?,
+        }),
+        Command::Send {
+            session,
+            specification,
+        } => Ok(Command::Send {
+            session: session.copy_into(alloc)?,
+            specification: specification.copy_into(alloc)?,
+        }),
+        Command::Recv {
+            session,
+            specification,
+        } => Ok(Command::Recv {
+            session: session.copy_into(alloc)?,
+            specification: specification.copy_into(alloc)?,
+        }),
+    }
+}
+
+/// The same commands.
+pub fn copy_commands<A: Allocator + Copy>(
+    alloc: A,
+    commands: &[Command<A>],
+) -> Result<Vec<Command<A>, A>, AllocError>
+    ensures { IfOk result (λ v. map command_of v.items ≡ map command_of commands.now) }
+{
+    let mut copies = Vec::new(alloc);
+    for command in commands {
+        copies.push(copy_command(alloc, command)?)?;
+    }
+    Ok(copies)
+}
