@@ -1,10 +1,10 @@
 // What the command line may say.
-use clap::{Arg, ArgAction, Command};
+use clap::{Arg, ArgAction, Command, value_parser};
 use std::alloc::{AllocError, Global};
 
-/// The command with its subcommand `replay --picks TEXT`. TEXT may begin with a hyphen: the run refuses
-/// it, not the command line.
-pub fn command<'a>(alloc: Global) -> Result<Command<'a>, AllocError> {
+/// The subcommand `replay --picks TEXT`. TEXT may begin with a hyphen: the run refuses it, not the command
+/// line.
+fn replay<'a>(alloc: Global) -> Result<Command<'a>, AllocError> {
     let picks = Arg::new(alloc, "picks")
         .long("picks")
         .value_name("TEXT")
@@ -12,12 +12,31 @@ pub fn command<'a>(alloc: Global) -> Result<Command<'a>, AllocError> {
         .required(true)
         .allow_hyphen_values(true)
         .action(ArgAction::Set);
-    let replay = Command::new(alloc, "replay")
+    Command::new(alloc, "replay")
         .about("Runs the script by the given picks, and prints what its sessions saw")
-        .arg(picks)?;
+        .arg(picks)
+}
+
+/// The subcommand `round [--limit N]`.
+fn round<'a>(alloc: Global) -> Result<Command<'a>, AllocError> {
+    let limit = Arg::new(alloc, "limit")
+        .long("limit")
+        .value_name("N")
+        .help("How many picks may move, from 1 to 65536")
+        .value_parser(value_parser!(u32).range(1..=65536))
+        .default_value("10000")
+        .action(ArgAction::Set);
+    Command::new(alloc, "round")
+        .about("Runs the script in rounds of all processes, until nothing moves")
+        .arg(limit)
+}
+
+/// The command with its subcommands.
+pub fn command<'a>(alloc: Global) -> Result<Command<'a>, AllocError> {
     Command::new(alloc, "tracenode")
         .bin_name("tracenode")?
         .about("Runs a node of scripted processes, read from standard input, under trace sessions")
         .subcommand_required(true)
-        .subcommand(replay)
+        .subcommand(replay(alloc)?)?
+        .subcommand(round(alloc)?)
 }

@@ -5,19 +5,23 @@
 //! fault, with one line on standard error.
 #![tactic(auto)]
 
-ghost use Rattle.std.specs.Prelude.{◌≡◌};
+ghost use Rattle.std.specs.Prelude.{◌≡◌, ◌⊎◌, true, IfErr};
 ghost use Rattle.std.specs.Process.{exit_status};
-ghost use Rattle.tn_cli.specs.Status.{status_of};
+ghost use Rattle.tn_text.specs.Watch.{watched_inner, has_failed};
+ghost use Rattle.tn_run.specs.Out.{asked};
+ghost use Rattle.tn_cli.specs.Status.{status_of, IsStatus, IsFailure, IsWrittenAs, FAULT_STATUS};
 
 mod line;
 
 use clap::ArgMatches;
 use clap::error::ErrorKind;
 use line::command;
+use std::alloc::Allocator;
+use std::io::{Read, Write};
 use std::process::ExitCode;
 use std::rt::Env;
 use std::{env, io};
-use tn_run::{Outcome, RunFault, Schedule, run};
+use tn_run::{Outcome, RunFault, Schedule, run, write_output};
 use tn_text::Watched;
 
 /// The status of a refusal.
@@ -40,25 +44,61 @@ fn report(rt: &impl Eprint, answer: Result<Outcome, RunFault>) -> ExitCode
     }
 }
 
-/// Runs the subcommand over standard input and standard output.
-fn perform<R: Input + Print + Eprint + AllocGlobal>(rt: &R, matches: &ArgMatches<'_>) -> ExitCode {
-    let picks = match matches.subcommand() {
-        Some(("replay", replay)) => replay.get_str("picks").unwrap_or(""),
-        _ => "",
-    };
-    let mut reader = Watched::of(rt.reader());
-    let mut writer = Watched::of(io::writer(rt));
-    let answer = run(
-        rt.alloc(),
-        &mut reader,
-        &mut writer,
-        Schedule::Picks(picks.as_bytes()),
-    );
+/// Runs the script that a reader holds, and says how it went: what the writer gained is what the status
+/// says.
+fn perform_over<A: Allocator + Copy, R: Read, W: Write>(
+    rt: &impl Eprint,
+    alloc: A,
+    reader: &mut Watched<R>,
+    writer: &mut Watched<W>,
+    schedule: Schedule<'_>,
+) -> ExitCode
+    ensures written { IsWrittenAs (exit_status result) (R.remaining (watched_inner reader.old))
+        (asked schedule.entry) (W.contents (watched_inner writer.old)) (W.contents (watched_inner writer.new)) }
+    ensures failed { exit_status result ≡ FAULT_STATUS →
+        (writer.new ≡ writer.old) ⊎ (has_failed writer.new ≡ true) }
+    ensures status { IsStatus (exit_status result) }
+{
+    let answer = run(alloc, reader, writer, schedule);
     report(rt, answer)
 }
 
+/// Runs the subcommand over standard input and standard output.
+fn perform<R: Input + Print + Eprint + AllocGlobal>(rt: &R, matches: &ArgMatches<'_>) -> ExitCode
+    ensures { IsStatus (exit_status result) }
+{
+    let schedule = match matches.subcommand() {
+        Some(("round", round)) => Schedule::Round(round.get_one::<u32>("limit").unwrap_or(0)),
+        Some((_, replay)) => Schedule::Picks(replay.get_str("picks").unwrap_or("").as_bytes()),
+        None => Schedule::Picks(b""),
+    };
+    let mut reader = Watched::of(rt.reader());
+    let mut writer = Watched::of(io::writer(rt));
+    perform_over(rt, rt.alloc(), &mut reader, &mut writer, schedule)
+}
+
+/// Prints the help on standard output, or why the command line is refused on standard error.
+fn explain<R: Print + Eprint + AllocGlobal>(rt: &R, error: &clap::Error) -> ExitCode
+    ensures { IsStatus (exit_status result) }
+{
+    if error.use_stderr() {
+        let _ = error.print(rt);
+        return ExitCode::from(REFUSED);
+    }
+    let Ok(text) = format!(in rt.alloc(); "{error}") else {
+        return report(rt, Err(RunFault::OutOfMemory));
+    };
+    let mut writer = Watched::of(io::writer(rt));
+    match write_output(&mut writer, text.as_bytes()) {
+        Ok(()) => ExitCode::SUCCESS,
+        Err(fault) => report(rt, Err(fault)),
+    }
+}
+
 /// Reads the command line, and does what it says.
-fn program<R: Env + Input + Print + Eprint + AllocGlobal>(rt: &R, words: &[String]) -> ExitCode {
+fn program<R: Env + Input + Print + Eprint + AllocGlobal>(rt: &R, words: &[String]) -> ExitCode
+    ensures { IsStatus (exit_status result) }
+{
     let Ok(command) = command(rt.alloc()) else {
         return report(rt, Err(RunFault::OutOfMemory));
     };
@@ -67,19 +107,14 @@ fn program<R: Env + Input + Print + Eprint + AllocGlobal>(rt: &R, words: &[Strin
         Err(error) if error.kind() == ErrorKind::OutOfMemory => {
             report(rt, Err(RunFault::OutOfMemory))
         }
-        Err(error) => {
-            let _ = error.print(rt);
-            if error.use_stderr() {
-                ExitCode::from(REFUSED)
-            } else {
-                ExitCode::SUCCESS
-            }
-        }
+        Err(error) => explain(rt, &error),
     }
 }
 
 /// The words of the command line, or the status where they can't be had.
-fn words<R: Env + Eprint + AllocGlobal>(rt: &R) -> Result<Vec<String>, ExitCode> {
+fn words<R: Env + Eprint + AllocGlobal>(rt: &R) -> Result<Vec<String>, ExitCode>
+    ensures { IfErr result (λ status. IsFailure (exit_status status)) }
+{
     let args = match env::args(rt) {
         Ok(args) => args,
         Err(error) if error.kind() == io::ErrorKind::OutOfMemory => {
@@ -96,9 +131,16 @@ fn words<R: Env + Eprint + AllocGlobal>(rt: &R) -> Result<Vec<String>, ExitCode>
     }
 }
 
-fn main(rt: HostRuntime) -> ExitCode {
-    match words(&rt) {
-        Ok(words) => program(&rt, &words),
+/// Runs the program, whose status it answers.
+fn start<R: Env + Input + Print + Eprint + AllocGlobal>(rt: &R) -> ExitCode
+    ensures { IsStatus (exit_status result) }
+{
+    match words(rt) {
+        Ok(words) => program(rt, &words),
         Err(status) => status,
     }
+}
+
+fn main(rt: HostRuntime) -> ExitCode {
+    start(&rt)
 }

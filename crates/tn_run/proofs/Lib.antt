@@ -1,6 +1,5 @@
 mod PicksLemmas
 mod EndsLemmas
-mod SettingsLemmas
 mod AcceptLemmas
 mod RunLemmas
 mod LineLemmas

@@ -1,6 +1,6 @@
 pub mod Picks
 pub mod Ends
-pub mod Settings
 pub mod Scripts
 pub mod Out
+pub mod Plans
 pub mod Laws

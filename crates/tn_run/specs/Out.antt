@@ -1,38 +1,59 @@
--- What a run writes, and what it answers (own).
+-- What a run is asked, what it writes, and what it answers (own).
 use Rattle.std.specs.Prelude.{◌≡◌, ℕ, List, [], Option, Some, None, decimal}
 use Rattle.def_script.specs.Program.{Program}
 use Rattle.def_script.specs.Script as script
-use Rattle.def_script.specs.Script.{Refusal}
+use Rattle.def_script.specs.Script.{Refusal, IsScript, IsRefused}
 use Rattle.def_run.specs.Listing.{program_output}
 use Rattle.def_run.specs.Picks.{SpellsPicks}
+use Rattle.def_run.specs.Round.{round}
 use Rattle.def_run.specs.Output.{HasBadPicks, refusal_text}
 use Rattle.tn_run.specs.declared.outcome.Outcome.{Outcome}
 use Rattle.tn_run.specs.declared.outcome.Outcome.TheVariants.{Listed, Refused}
 use Rattle.tn_run.specs.declared.outcome.Schedule.{Schedule}
-use Rattle.tn_run.specs.declared.outcome.Schedule.TheVariants.{Picks}
-use Rattle.tn_run.specs.Scripts.{IsRunScript, IsRunRefusal, refusal_of}
+use Rattle.tn_run.specs.declared.outcome.Schedule.TheVariants.{Picks, Round}
+use Rattle.tn_run.specs.Scripts.{refusal_of}
 
--- the text of picks of a schedule
-abbrev pub picks_of : Schedule → List ℕ
-picks_of (Picks text) = text.now
+-- what a run is asked: the picks of a text, or those of a round with a limit
+pub data Asked : Type 0 where
+  by_picks : List ℕ → Asked
+  by_round : ℕ → Asked
 
--- the output of an accepted script, for the picks that the text spells
-pub record IsListed (bytes text output : List ℕ) : Type 0 where
-  pub picks : List ℕ
-  pub spelled : SpellsPicks text picks
+abbrev pub asked : Schedule → Asked
+asked (Picks text) = by_picks text.now
+asked (Round limit) = by_round limit
+
+-- the picks that are asked of a program
+abbrev pub ArePicks : Asked → Program → List ℕ → Type 0
+ArePicks (by_picks text) p picks = SpellsPicks text picks
+ArePicks (by_round limit) p picks = picks ≡ round p limit
+
+-- the text of picks spells some; a round always has picks
+abbrev pub HasPicks : Asked → Type 0
+HasPicks (by_picks text) = (picks : List ℕ) × SpellsPicks text picks
+HasPicks (by_round limit) = Unit {0}
+
+-- the text of picks spells none
+abbrev pub HasNoPicks : Asked → Type 0
+HasNoPicks (by_picks text) = HasBadPicks text
+HasNoPicks (by_round limit) = ⊥
+
+-- the output of an accepted script, for the picks that are asked
+pub record IsListed (bytes : List ℕ) (a : Asked) (output : List ℕ) : Type 0 where
   pub program : Program
-  pub accepted : IsRunScript bytes program
+  pub accepted : IsScript bytes program
+  pub picks : List ℕ
+  pub given : ArePicks a program picks
   pub listing : output ≡ program_output program picks
 
 -- a text of picks that spells none is refused before the script's bytes are looked at
-abbrev pub IsRefusedSo : List ℕ → List ℕ → Refusal → Type 0
-IsRefusedSo bytes text script.bad_picks = HasBadPicks text
-IsRefusedSo bytes text r = ((picks : List ℕ) × SpellsPicks text picks) × IsRunRefusal bytes r
+abbrev pub IsRefusedSo : List ℕ → Asked → Refusal → Type 0
+IsRefusedSo bytes a script.bad_picks = HasNoPicks a
+IsRefusedSo bytes a r = HasPicks a × IsRefused bytes r
 
--- the outcome and the output of a run over these bytes of a script and this text of picks
-abbrev pub IsRunOf : List ℕ → List ℕ → Outcome → List ℕ → Type 0
-IsRunOf bytes text Listed output = IsListed bytes text output
-IsRunOf bytes text (Refused r) output = IsRefusedSo bytes text (refusal_of r) × (output ≡ refusal_text (refusal_of r))
+-- the outcome and the output of a run over these bytes of a script
+abbrev pub IsRunOf : List ℕ → Asked → Outcome → List ℕ → Type 0
+IsRunOf bytes a Listed output = IsListed bytes a output
+IsRunOf bytes a (Refused r) output = IsRefusedSo bytes a (refusal_of r) × (output ≡ refusal_text (refusal_of r))
 
 -- a number at the end of a line, where there is one
 abbrev pub number_text : Option ℕ → List ℕ

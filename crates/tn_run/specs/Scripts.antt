@@ -1,13 +1,8 @@
--- Which program a text is run as, and how a text is refused that isn't run (own): the refusals of a script, and for now that of a script that sets a specification.
-use Rattle.std.specs.Prelude.{◌≡◌, ℕ, ◌≤◌, true, ◌⊎◌, List, length, Result, Ok, Err}
-use Rattle.std.specs.List.{list_all}
-use Rattle.def_script.specs.Limits.{FORMS}
-use Rattle.def_script.specs.Program.{Form, Program}
+-- Which program a text is run as, or how it is refused (own).
+use Rattle.std.specs.Prelude.{ℕ, List, Result, Ok, Err}
 use Rattle.def_script.specs.Rules as rules
-use Rattle.def_script.specs.Rules.{Rule, IsFirstBroken}
 use Rattle.def_script.specs.Script as script
-use Rattle.def_script.specs.Script.{Refusal, IsScript, IsRefused, SpellsForms, HasShapeless}
-use Rattle.tn_session.specs.Views.{sets_no_specification}
+use Rattle.def_script.specs.Script.{Refusal, IsScript, IsRefused}
 use Rattle.tn_script.specs.declared.fault.ScriptFault.{ScriptFault}
 use Rattle.tn_script.specs.declared.fault.ScriptFault.TheVariants as read
 use Rattle.tn_program.specs.declared.fault.RuleFault.{RuleFault}
@@ -18,38 +13,6 @@ use Rattle.tn_run.specs.declared.outcome.Refusal as told
 use Rattle.tn_run.specs.declared.outcome.Refusal.TheVariants.{TooLong, Token, TooDeep, TooLarge, Form as Shapeless, TooManyForms, Duplicate, Undeclared, NotExported, Unbound, TracerTaken, Arity, Limit, BadPicks}
 use Rattle.tn_run.specs.declared.acceptance.Denial.{Denial}
 use Rattle.tn_run.specs.declared.acceptance.Denial.TheVariants.{Refused, OutOfMemory}
-use Rattle.tn_run.specs.Settings.{sets_none, IsFirstSetting}
-
--- the text is a script, and no command of it sets a specification
-pub record IsRunScript (bytes : List ℕ) (p : Program) : Type 0 where
-  pub script : IsScript bytes p
-  pub unset : list_all sets_no_specification p.commands ≡ true
-
--- the text spells at most 256 forms, of which n is the first with a command that sets a specification
-pub record HasUnrun (bytes : List ℕ) (n : ℕ) : Type 0 where
-  pub forms : List Form
-  pub spelled : SpellsForms bytes forms
-  pub few : length forms ≤ FORMS
-  pub first : IsFirstSetting forms n
-
--- the text spells at most 256 forms, none with such a command; n is the first that breaks a rule, and r the least that it breaks
-pub record HasBrokenUnset (bytes : List ℕ) (n : ℕ) (r : Rule) : Type 0 where
-  pub forms : List Form
-  pub spelled : SpellsForms bytes forms
-  pub few : length forms ≤ FORMS
-  pub unset : list_all sets_none forms ≡ true
-  pub first : IsFirstBroken forms n r
-
--- the refusals of a script; that of a form with a command that sets a specification is that of a form without shape. It comes after those of all forms without shape, and before those of the rules
-abbrev pub IsRunRefusal : List ℕ → Refusal → Type 0
-IsRunRefusal bytes script.too_long = IsRefused bytes script.too_long
-IsRunRefusal bytes (script.token at) = IsRefused bytes (script.token at)
-IsRunRefusal bytes (script.too_deep at) = IsRefused bytes (script.too_deep at)
-IsRunRefusal bytes (script.too_large at) = IsRefused bytes (script.too_large at)
-IsRunRefusal bytes (script.form n) = HasShapeless bytes n ⊎ HasUnrun bytes n
-IsRunRefusal bytes script.too_many_forms = IsRefused bytes script.too_many_forms
-IsRunRefusal bytes (script.broken r n) = HasBrokenUnset bytes n r
-IsRunRefusal bytes script.bad_picks = IsRefused bytes script.bad_picks
 
 -- what the code's refusal stands for
 abbrev pub refusal_of : told.Refusal → Refusal
@@ -70,8 +33,8 @@ refusal_of BadPicks = script.bad_picks
 
 -- the program that the text is run as, or its refusal; want of memory says nothing of the text
 abbrev pub IsAccepted : {A : Type 0} → List ℕ → Result (code.Program A) Denial → Type 0
-IsAccepted bytes (Ok p) = IsRunScript bytes (program_of p)
-IsAccepted bytes (Err (Refused r)) = IsRunRefusal bytes (refusal_of r)
+IsAccepted bytes (Ok p) = IsScript bytes (program_of p)
+IsAccepted bytes (Err (Refused r)) = IsRefused bytes (refusal_of r)
 IsAccepted bytes (Err OutOfMemory) = Unit {0}
 
 -- the same denial as that of the forms, or of the rules

@@ -3,7 +3,6 @@ ghost use Rattle.std.specs.Prelude.{◌≡◌};
 ghost use Rattle.tn_run.specs.Scripts.{IsAccepted, of_forms, of_rules};
 
 use crate::outcome::Refusal;
-use crate::settings::first_setting;
 use std::alloc::Allocator;
 use tn_program::{Program, RuleFault, program};
 use tn_script::{ScriptFault, forms};
@@ -49,8 +48,7 @@ fn of_rule_fault(fault: RuleFault) -> Denial
 }
 
 /// The program of a script, or its refusal: of the text (1 to 4), of the number of forms (6), of a form
-/// without shape (5), then of a form with a command that sets a specification (5), and of the rules (7
-/// to 13).
+/// without shape (5), and of the rules (7 to 13).
 pub fn accept<A: Allocator + Copy>(alloc: A, bytes: &[u8]) -> Result<Program<A>, Denial>
     ensures { IsAccepted bytes.now result }
 {
@@ -58,9 +56,6 @@ pub fn accept<A: Allocator + Copy>(alloc: A, bytes: &[u8]) -> Result<Program<A>,
         Ok(forms) => forms,
         Err(fault) => return Err(of_script_fault(fault)),
     };
-    if let Some(form) = first_setting(&forms) {
-        return Err(Denial::Refused(Refusal::Form { form }));
-    }
     match program(alloc, forms) {
         Ok(program) => Ok(program),
         Err(fault) => Err(of_rule_fault(fault)),

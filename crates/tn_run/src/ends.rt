@@ -7,10 +7,10 @@ ghost use Rattle.tn_run.specs.Ends.{TakesText, WritesFront};
 use crate::fault::RunFault;
 use std::alloc::Allocator;
 use std::io::{Read, Write};
-use tn_text::Watched;
+use tn_text::{MAX_TEXT, Watched};
 
 /// The most bytes that are read: those of the longest text, and one more.
-const FULL: usize = 1_048_577;
+const FULL: usize = MAX_TEXT + 1;
 
 /// Reads to the reader's end, or to byte `FULL`.
 pub fn read_text<A: Allocator, R: Read>(
@@ -21,6 +21,7 @@ pub fn read_text<A: Allocator, R: Read>(
         (R.remaining (watched_inner reader.new)) v.items) }
     ensures unfailed { OnOk result (has_failed reader.new ≡ has_failed reader.old) }
     ensures read { IsErrOf result RunFault.Read → has_failed reader.new ≡ true }
+    ensures memory { IsErrOf result RunFault.OutOfMemory → has_failed reader.new ≡ has_failed reader.old }
     ensures faults { IfErr result (λ e. (n : ℕ) → e ≢ RunFault.Write n) }
 {
     let mut text = Vec::new(alloc);
@@ -29,9 +30,11 @@ pub fn read_text<A: Allocator, R: Read>(
         let room = (FULL - text.len()).min(chunk.len());
         match reader.read(&mut chunk[..room]) {
             Ok(0) => return Ok(text),
-            Ok(n) => text
-                .extend_from_slice(&chunk[..n])
-                .map_err(|_| RunFault::OutOfMemory)?,
+            Ok(n) => {
+                if text.extend_from_slice(&chunk[..n]).is_err() {
+                    return Err(RunFault::OutOfMemory);
+                }
+            }
             Err(_) => return Err(RunFault::Read),
         }
     }

@@ -1,7 +1,9 @@
 // What is promised of runs, beside the contract of `run`.
-ghost use Rattle.tn_run.specs.Laws.{RunIsAsDefined};
+ghost use Rattle.tn_run.specs.Laws.{RunIsAsDefined, RoundIsAsDefined};
 
-/// What is written for a script is the defined output, unless a form of it sets a specification.
+/// What is written for any bytes and any text of picks, or any limit of a round, is the one output that
+/// is defined for them.
 pub fn a_run_is_as_defined()
-    ensures { RunIsAsDefined }
+    ensures picks { RunIsAsDefined }
+    ensures round { RoundIsAsDefined }
 {}

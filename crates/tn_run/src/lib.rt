@@ -2,12 +2,8 @@
 //!
 //! Stands on tn_text (watched ends), tn_script, tn_program and tn_trace, and on the definitions of
 //! def_script and def_run. Promises that `run` writes exactly the output that def_run defines for the
-//! script and the picks, or the line of the one refusal, and nothing else; that a fault says which end
+//! script and the picks, or for the script and the limit of a round, or the line of the one refusal, and nothing else; that a fault says which end
 //! failed, and how many bytes of that output were taken.
-//!
-//! For now specifications aren't evaluated: a script that keeps the shapes, but has a command `function`,
-//! `send` or `recv`, is refused `refused 5 form N` with the first form that holds one. This comes after
-//! the refusals 1 to 6 and before the rules 7 to 13.
 #![tactic(auto)]
 
 mod acceptance;
@@ -17,9 +13,10 @@ mod laws;
 mod line;
 mod outcome;
 mod picks;
+mod plan;
 mod runs;
-mod settings;
 
+pub use ends::write_output;
 pub use fault::RunFault;
 pub use laws::a_run_is_as_defined;
 pub use outcome::{Outcome, Refusal, Schedule};

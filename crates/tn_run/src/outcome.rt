@@ -1,6 +1,4 @@
 // What a run is asked, and what it answers.
-ghost use Rattle.std.specs.Prelude.{◌≡◌};
-ghost use Rattle.tn_run.specs.Out.{picks_of};
 
 /// Which picks a run takes.
 #[derive(Clone, Copy)]
@@ -9,17 +7,9 @@ pub enum Schedule<'a> {
     /// 4,294,967,295, with one space between each two, in at most 1,048,576 bytes. The empty text is no
     /// picks.
     Picks(&'a [u8]),
-}
-
-impl Schedule<'_> {
-    /// The text of the picks.
-    pub(crate) fn picks(&self) -> &[u8]
-        ensures { result.now ≡ picks_of self.now }
-    {
-        match self {
-            Schedule::Picks(text) => text,
-        }
-    }
+    /// The picks of a round: 0, 100, 101, .., 163 again and again, until a pass moves nothing or so many
+    /// have moved; a limit past 65,536 counts as that.
+    Round(u32),
 }
 
 /// Why a script or a text of picks is refused (own); the numbers are those of the refusals' lines. A
@@ -34,8 +24,7 @@ pub enum Refusal {
     TooDeep { at: usize },
     /// 4: this token passes another limit on terms.
     TooLarge { at: usize },
-    /// 5: the first form that has no shape; for now also the first form with a command `function`,
-    /// `send` or `recv`, where all forms have shapes.
+    /// 5: the first form that has no shape.
     Form { form: usize },
     /// 6: there are more than 256 forms.
     TooManyForms,

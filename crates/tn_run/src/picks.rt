@@ -6,8 +6,7 @@ ghost use Rattle.def_run.specs.Picks.{SpellsPicks};
 use std::alloc::Allocator;
 use std::str::from_utf8;
 use thiserror::Error;
-
-const MAX_TEXT: usize = 1_048_576;
+use tn_text::MAX_TEXT;
 
 #[derive(Clone, Copy, Debug, PartialEq, Eq, Drop, Error)]
 pub enum PicksFault {

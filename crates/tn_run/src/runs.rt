@@ -1,13 +1,13 @@
 // A run: a script and its picks in, an output out.
-ghost use Rattle.std.specs.Prelude.{◌≡◌, ◌≢◌, ◌≤◌, ℕ, List, true, IfOk, IfErr, MatchResult, IfSome, OnOk, IsErrOf, length};
-ghost use Rattle.std.specs.Io.KnownBytes.{Appends};
+ghost use Rattle.std.specs.Prelude.{◌≡◌, ◌≢◌, ℕ, true, IfOk, IfErr, MatchResult, OnOk, IsErrOf};
 ghost use Rattle.tn_text.specs.Watch.{watched_inner, has_failed, is_flushed};
-ghost use Rattle.def_run.specs.Picks.{SpellsPicks};
-ghost use Rattle.tn_run.specs.Ends.{WritesFront, TakesText};
+ghost use Rattle.def_run.specs.Listing.{program_output};
+ghost use Rattle.def_run.specs.Output.{refusal_text};
+ghost use Rattle.tn_program.specs.Views.{program_of};
 ghost use Rattle.tn_run.specs.declared.outcome.Outcome.{Outcome};
 ghost use Rattle.tn_run.specs.Scripts.{refusal_of};
-ghost use Rattle.def_run.specs.Output.{HasBadPicks, refusal_text};
-ghost use Rattle.tn_run.specs.Out.{IsRunOf, picks_of};
+ghost use Rattle.tn_run.specs.Out.{Asked, asked, HasNoPicks, IsRunOf};
+ghost use Rattle.tn_run.specs.Plans.{IsPlanOf, planned, Gives, GivesAsPlanned, Writes, WritesSome, TakesSome, TakesFor};
 
 use crate::acceptance::{Denial, accept};
 use crate::ends::{read_text, write_output};
@@ -15,17 +15,17 @@ use crate::fault::RunFault;
 use crate::line::refusal_bytes;
 use crate::outcome::{Outcome, Refusal, Schedule};
 use crate::picks::{PicksFault, parse_picks};
-use std::alloc::Allocator;
+use crate::plan::Plan;
+use std::alloc::{AllocError, Allocator};
 use std::io::{Read, Write};
-use tn_text::Watched;
-use tn_trace::replay;
-
-/// The greatest length of a script, in bytes.
-const MAX_TEXT: usize = 1_048_576;
+use tn_program::Program;
+use tn_text::{MAX_TEXT, Watched};
+use tn_trace::{replay, round};
 
 /// The outcome and the line of a refusal.
 fn refused<A: Allocator>(alloc: A, refusal: Refusal) -> Result<(Outcome, Vec<u8, A>), RunFault>
-    ensures { MatchResult result (λ r. (r.0 ≡ Outcome.Refused refusal) × (r.1.items ≡ refusal_text (refusal_of refusal)))
+    ensures { MatchResult result
+        (λ r. (r.0 ≡ Outcome.Refused refusal) × (r.1.items ≡ refusal_text (refusal_of refusal)))
         (λ e. e ≡ RunFault.OutOfMemory) }
 {
     let Ok(line) = refusal_bytes(alloc, refusal) else {
@@ -34,13 +34,29 @@ fn refused<A: Allocator>(alloc: A, refusal: Refusal) -> Result<(Outcome, Vec<u8,
     Ok((Outcome::Refused(refusal), line))
 }
 
+/// The output of a program by a plan.
+fn listed<A: Allocator + Copy>(
+    alloc: A,
+    program: &Program<A>,
+    plan: Plan<'_>,
+) -> Result<Vec<u8, A>, AllocError>
+    ensures { IfOk result (λ v. v.items ≡
+        program_output (program_of program.now) (planned (program_of program.now) plan.entry)) }
+{
+    match plan {
+        Plan::Picks(picks) => Ok(replay(alloc, program, picks)?),
+        Plan::Round(limit) => Ok(round(alloc, program, limit)?),
+    }
+}
+
 /// The outcome and the output of a whole script.
 fn output_of<A: Allocator + Copy>(
     alloc: A,
     text: &[u8],
-    picks: &[u32],
+    plan: Plan<'_>,
 ) -> Result<(Outcome, Vec<u8, A>), RunFault>
-    ensures { MatchResult result (λ r. (spelling : List ℕ) → SpellsPicks spelling picks.now → IsRunOf text.now spelling r.0 r.1.items)
+    ensures { MatchResult result
+        (λ r. (a : Asked) → IsPlanOf a plan.entry → IsRunOf text.now a r.0 r.1.items)
         (λ e. e ≡ RunFault.OutOfMemory) }
 {
     let program = match accept(alloc, text) {
@@ -48,67 +64,58 @@ fn output_of<A: Allocator + Copy>(
         Err(Denial::Refused(refusal)) => return refused(alloc, refusal),
         Err(Denial::OutOfMemory) => return Err(RunFault::OutOfMemory),
     };
-    let Ok(output) = replay(alloc, &program, picks) else {
+    let Ok(output) = listed(alloc, &program, plan) else {
         return Err(RunFault::OutOfMemory);
     };
     Ok((Outcome::Listed, output))
+}
+
+/// The outcome and the output of a run by a plan, before any of it is written.
+fn prepare_plan<A: Allocator + Copy, R: Read>(
+    alloc: A,
+    reader: &mut Watched<R>,
+    plan: Plan<'_>,
+) -> Result<(Outcome, Vec<u8, A>), RunFault>
+    ensures output { IfOk result
+        (λ r. GivesAsPlanned (R.remaining (watched_inner reader.old)) plan.entry r.0 r.1.items) }
+    ensures taken { OnOk result
+        (TakesSome (R.remaining (watched_inner reader.old)) (R.remaining (watched_inner reader.new))) }
+    ensures unfailed { OnOk result (has_failed reader.new ≡ has_failed reader.old) }
+    ensures read { IsErrOf result RunFault.Read → has_failed reader.new ≡ true }
+    ensures memory { IsErrOf result RunFault.OutOfMemory → has_failed reader.new ≡ has_failed reader.old }
+    ensures faults { IfErr result (λ e. (n : ℕ) → e ≢ RunFault.Write n) }
+{
+    let text = read_text(alloc, reader)?;
+    if text.len() > MAX_TEXT {
+        return refused(alloc, Refusal::TooLong);
+    }
+    output_of(alloc, &text, plan)
 }
 
 /// The outcome and the output of a run, before any of it is written.
 fn prepare<A: Allocator + Copy, R: Read>(
     alloc: A,
     reader: &mut Watched<R>,
-    picks: &[u8],
+    schedule: Schedule<'_>,
 ) -> Result<(Outcome, Vec<u8, A>), RunFault>
-    ensures output { IfOk result (λ r. IfSome (R.remaining (watched_inner reader.old))
-        (λ bytes. IsRunOf bytes picks.now r.0 r.1.items)) }
-    ensures taken { OnOk result (((spelled : List ℕ) × SpellsPicks picks.now spelled) → (text : List ℕ)
-        × TakesText (R.remaining (watched_inner reader.old)) (R.remaining (watched_inner reader.new)) text) }
-    ensures unread { HasBadPicks picks.now → reader.new ≡ reader.old }
+    ensures output { IfOk result
+        (λ r. Gives (R.remaining (watched_inner reader.old)) (asked schedule.entry) r.0 r.1.items) }
+    ensures taken { OnOk result (TakesFor (asked schedule.entry)
+        (R.remaining (watched_inner reader.old)) (R.remaining (watched_inner reader.new))) }
+    ensures unread { HasNoPicks (asked schedule.entry) → reader.new ≡ reader.old }
     ensures unfailed { OnOk result (has_failed reader.new ≡ has_failed reader.old) }
     ensures read { IsErrOf result RunFault.Read → has_failed reader.new ≡ true }
+    ensures memory { IsErrOf result RunFault.OutOfMemory → has_failed reader.new ≡ has_failed reader.old }
     ensures faults { IfErr result (λ e. (n : ℕ) → e ≢ RunFault.Write n) }
 {
-    let picks = match parse_picks(alloc, picks) {
-        Ok(picks) => picks,
-        Err(PicksFault::OutOfMemory) => return Err(RunFault::OutOfMemory),
-        Err(PicksFault::BadPicks) => return refused(alloc, Refusal::BadPicks),
+    let text = match schedule {
+        Schedule::Round(limit) => return prepare_plan(alloc, reader, Plan::Round(limit)),
+        Schedule::Picks(text) => text,
     };
-    let text = read_text(alloc, reader)?;
-    if text.len() > MAX_TEXT {
-        return refused(alloc, Refusal::TooLong);
-    }
-    output_of(alloc, &text, &picks)
-}
-
-/// Writes what the script and the text of picks give.
-fn run_picks<A: Allocator + Copy, R: Read, W: Write>(
-    alloc: A,
-    reader: &mut Watched<R>,
-    writer: &mut Watched<W>,
-    picks: &[u8],
-) -> Result<Outcome, RunFault>
-    ensures done { IfOk result (λ outcome. IfSome (R.remaining (watched_inner reader.old)) (λ bytes.
-        (output : List ℕ) × IsRunOf bytes picks.now outcome output
-        × Appends (W.contents (watched_inner writer.old)) (W.contents (watched_inner writer.new)) output)) }
-    ensures unread { HasBadPicks picks.now → reader.new ≡ reader.old }
-    ensures taken { OnOk result (((spelled : List ℕ) × SpellsPicks picks.now spelled) → (text : List ℕ)
-        × TakesText (R.remaining (watched_inner reader.old)) (R.remaining (watched_inner reader.new)) text) }
-    ensures unfailed { OnOk result ((has_failed reader.new ≡ has_failed reader.old)
-        × (has_failed writer.new ≡ has_failed writer.old)) }
-    ensures flushed { OnOk result (is_flushed writer.new ≡ true) }
-    ensures read { IsErrOf result RunFault.Read →
-        (has_failed reader.new ≡ true) × (writer.new ≡ writer.old) }
-    ensures write { (n : ℕ) → IsErrOf result (RunFault.Write n) →
-        (has_failed writer.new ≡ true) × IfSome (R.remaining (watched_inner reader.old)) (λ bytes.
-        (outcome : Outcome) × (output : List ℕ) × IsRunOf bytes picks.now outcome output
-        × WritesFront (W.contents (watched_inner writer.old)) (W.contents (watched_inner writer.new)) output n) }
-    ensures memory { IsErrOf result RunFault.OutOfMemory → writer.new ≡ writer.old }
-{
-    let (outcome, output) = prepare(alloc, reader, picks)?;
-    match write_output(writer, &output) {
-        Ok(()) => Ok(outcome),
-        Err(fault) => Err(fault),
+    match parse_picks(alloc, text) {
+        Ok(picks) => prepare_plan(alloc, reader, Plan::Picks(&picks)),
+        Err(PicksFault::OutOfMemory) => Err(RunFault::OutOfMemory),
+        Err(PicksFault::BadPicks) => refused(alloc, Refusal::BadPicks),
     }
 }
 
@@ -124,23 +131,31 @@ pub fn run<A: Allocator + Copy, R: Read, W: Write>(
     schedule: Schedule<'_>,
 ) -> Result<Outcome, RunFault>
     // Where the reader tells its bytes; where the writer does too, it gained the output alone.
-    ensures done { IfOk result (λ outcome. IfSome (R.remaining (watched_inner reader.old)) (λ bytes.
-        (output : List ℕ) × IsRunOf bytes (picks_of schedule.entry) outcome output
-        × Appends (W.contents (watched_inner writer.old)) (W.contents (watched_inner writer.new)) output)) }
+    ensures done { IfOk result (Writes (R.remaining (watched_inner reader.old)) (asked schedule.entry)
+        (W.contents (watched_inner writer.old)) (W.contents (watched_inner writer.new))) }
     // Where the picks are none, nothing was read; else all, up to one byte past the limit.
-    ensures unread { HasBadPicks (picks_of schedule.entry) → reader.new ≡ reader.old }
-    ensures taken { OnOk result (((spelled : List ℕ) × SpellsPicks (picks_of schedule.entry) spelled) → (text : List ℕ)
-        × TakesText (R.remaining (watched_inner reader.old)) (R.remaining (watched_inner reader.new)) text) }
-    ensures unfailed { OnOk result ((has_failed reader.new ≡ has_failed reader.old)
-        × (has_failed writer.new ≡ has_failed writer.old)) }
+    ensures unread { HasNoPicks (asked schedule.entry) → reader.new ≡ reader.old }
+    ensures taken { OnOk result (TakesFor (asked schedule.entry)
+        (R.remaining (watched_inner reader.old)) (R.remaining (watched_inner reader.new))) }
+    ensures reader_unfailed { OnOk result (has_failed reader.new ≡ has_failed reader.old) }
+    ensures writer_unfailed { OnOk result (has_failed writer.new ≡ has_failed writer.old) }
     ensures flushed { OnOk result (is_flushed writer.new ≡ true) }
-    ensures read { IsErrOf result RunFault.Read →
-        (has_failed reader.new ≡ true) × (writer.new ≡ writer.old) }
-    ensures write { (n : ℕ) → IsErrOf result (RunFault.Write n) →
-        (has_failed writer.new ≡ true) × IfSome (R.remaining (watched_inner reader.old)) (λ bytes.
-        (outcome : Outcome) × (output : List ℕ) × IsRunOf bytes (picks_of schedule.entry) outcome output
-        × WritesFront (W.contents (watched_inner writer.old)) (W.contents (watched_inner writer.new)) output n) }
-    ensures memory { IsErrOf result RunFault.OutOfMemory → writer.new ≡ writer.old }
+
+    // A fault says which end failed; only a failed write has written anything.
+    ensures read { IsErrOf result RunFault.Read → has_failed reader.new ≡ true }
+    ensures read_wrote_nothing { IsErrOf result RunFault.Read → writer.new ≡ writer.old }
+    ensures write { (n : ℕ) → IsErrOf result (RunFault.Write n) → has_failed writer.new ≡ true }
+    ensures written { (n : ℕ) → IsErrOf result (RunFault.Write n) →
+        WritesSome (R.remaining (watched_inner reader.old)) (asked schedule.entry)
+        (W.contents (watched_inner writer.old)) (W.contents (watched_inner writer.new)) n }
+    ensures write_took { (n : ℕ) → IsErrOf result (RunFault.Write n) → TakesFor (asked schedule.entry)
+        (R.remaining (watched_inner reader.old)) (R.remaining (watched_inner reader.new)) }
+    ensures memory { IsErrOf result RunFault.OutOfMemory → has_failed reader.new ≡ has_failed reader.old }
+    ensures memory_wrote_nothing { IsErrOf result RunFault.OutOfMemory → writer.new ≡ writer.old }
 {
-    run_picks(alloc, reader, writer, schedule.picks())
+    let (outcome, output) = prepare(alloc, reader, schedule)?;
+    match write_output(writer, &output) {
+        Ok(()) => Ok(outcome),
+        Err(fault) => Err(fault),
+    }
 }

@@ -1,7 +1,7 @@
 -- Lists of flags, read from the last on.
-use Rattle.std.proofs.Common.{◌≡◌, ◌∙◌, ◌+◌, ◌<◌, ℕ, zero, suc, List, [], ◌∷◌, length, get_or, drop, map, Option, Some, None, refl, sym, ap, subst}
+use Rattle.std.proofs.Common.{◌≡◌, ◌∙◌, ◌+◌, ◌<◌, ℕ, zero, suc, List, [], ◌∷◌, length, get_or, drop, Option, Some, None, refl, sym, ap}
 use Rattle.std.specs.Option.{option_map}
-use Rattle.def_term.specs.Tree.{Tree, Trees, more, of_elements}
+use Rattle.def_term.specs.Tree.{Tree}
 use Rattle.def_spec.specs.Flags.{Flag, Flags, only, joined, flag_named, flags_named, and_flag}
 use Rattle.tn_term.proofs.Trees.{seen, here}
 

@@ -1,4 +1,13 @@
-pub mod Longer
-pub mod Sessions
-pub mod FlagNames
+pub mod Commands
+pub mod Dones
 pub mod Existing
+pub mod FlagNames
+pub mod States
+pub mod Effects
+pub mod Marks
+pub mod Evaluations
+pub mod Telling
+pub mod Texts
+pub mod Longer
+pub mod Holding
+pub mod Silence

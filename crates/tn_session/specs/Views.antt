@@ -1,46 +1,69 @@
--- What the code's session stands for.
-use Rattle.std.specs.Prelude.{Bool, true, false, map, Option, Some, None}
-use Rattle.def_term.specs.Tree.{Tree, int, atom, pid, tuple, list}
-use Rattle.def_session.specs.Commands as commands
-use Rattle.def_script.specs.Program.{Command, create, destroy, set_processes, set_function, set_send, set_receive}
-use Rattle.def_session.specs.State as state
-use Rattle.def_session.specs.State.{unset}
-use Rattle.tn_term.specs.Views.{alive_of}
+-- What the code's state of a session stands for.
+use Rattle.std.specs.Prelude.{◌≡◌, ℕ, Bool, List, map, reverse, Option}
+use Rattle.std.specs.Option.{option_map}
+use Rattle.def_term.specs.Names as names
+use Rattle.def_session.specs.State as definition
+use Rattle.def_session.specs.Settings as settings
+use Rattle.tn_term.specs.Views.{mfa_seen, alive_of}
 use Rattle.tn_flags.specs.Views.{flags_of}
-use Rattle.tn_session.specs.declared.session.Phase.{Phase}
-use Rattle.tn_session.specs.declared.session.Phase.TheVariants.{Absent, Live, Destroyed}
-use Rattle.tn_session.specs.declared.session.Session.{Session}
-use Rattle.tn_session.specs.declared.command.Procs.{Procs}
-use Rattle.tn_session.specs.declared.command.Procs.TheVariants.{One, Existing, New, All}
+use Rattle.tn_spec.specs.Wholes.{spec_seen}
+use Rattle.tn_term.specs.declared.mfa.Mfa.{Mfa}
+use Rattle.tn_session.specs.declared.setting.Setting.{Setting}
+use Rattle.tn_session.specs.declared.setting.Setting.TheVariants.{Off, Plain, By}
+use Rattle.tn_session.specs.declared.setting.Covered.{Covered}
+use Rattle.tn_session.specs.declared.setting.Covered.TheVariants.{One, AnyArity, WholeModule, Every}
+use Rattle.tn_session.specs.declared.setting.Covering.{Covering}
+use Rattle.tn_session.specs.declared.setting.Settings.{Settings}
+use Rattle.tn_session.specs.declared.state.Phase.{Phase}
+use Rattle.tn_session.specs.declared.state.Phase.TheVariants.{Live, Destroyed}
+use Rattle.tn_session.specs.declared.state.Mark.{Mark}
+use Rattle.tn_session.specs.declared.state.State.{State}
 
-abbrev pub phase_of : Phase → state.Phase
-phase_of Absent = state.absent
-phase_of Live = state.live
-phase_of Destroyed = state.destroyed
+abbrev pub setting_seen : {A : Type 0} → Setting A → settings.Setting
+setting_seen Off = settings.off
+setting_seen Plain = settings.plain
+setting_seen (By s) = settings.by (spec_seen s)
 
--- a session without settings of functions, sends and receives
-abbrev pub session_of : Session → state.Session
-session_of s = record (unset (phase_of s.phase) (alive_of s.alive)) { flags = map flags_of s.flags; for_new = flags_of s.for_new }
+abbrev pub covered_seen : {A : Type 0} → Covered A → settings.Covered
+covered_seen (One f) = settings.one (mfa_seen f)
+covered_seen (AnyArity m f) = settings.any_arity m f
+covered_seen (WholeModule m) = settings.whole_module m
+covered_seen Every = settings.every
 
--- creations, destructions and flags of processes: the commands that set no specification
-abbrev pub sets_no_specification : Command → Bool
-sets_no_specification (create s t) = true
-sets_no_specification (destroy s) = true
-sets_no_specification (set_processes s procs how flags) = true
-sets_no_specification (set_function s mfa spec options) = false
-sets_no_specification (set_send s spec) = false
-sets_no_specification (set_receive s spec) = false
+abbrev pub covering_seen : {A : Type 0} → Covering A → settings.Covering
+covering_seen k = record { covered = covered_seen k.covered; setting = setting_seen k.setting; local = k.local }
 
-abbrev pub procs_seen : Procs → commands.Procs
-procs_seen (One n) = commands.one_process n
-procs_seen Existing = commands.existing
-procs_seen New = commands.new_processes
-procs_seen All = commands.all_processes
+-- the newest first
+abbrev pub settings_seen : {A : Type 0} → Settings A → List settings.Covering
+settings_seen s = reverse (map covering_seen s.entries.items)
 
--- the process of a pid; no other term is one
-abbrev pub only_pid : Tree → Option commands.Procs
-only_pid (int z) = None
-only_pid (atom s) = None
-only_pid (pid n) = Some (commands.one_process n)
-only_pid (tuple ts) = None
-only_pid (list ts) = None
+abbrev pub phase_seen : Phase → definition.Phase
+phase_seen Live = definition.live
+phase_seen Destroyed = definition.destroyed
+
+abbrev pub mark_seen : Mark → ℕ × ℕ
+mark_seen m = (m.pid, m.depth)
+
+-- the newest first
+abbrev pub marks_seen : List Mark → List (ℕ × ℕ)
+marks_seen ms = reverse (map mark_seen ms)
+
+-- a function of the program, with whether it is exported
+abbrev pub function_seen : {A : Type 0} → Mfa A × Bool → names.Mfa × Bool
+function_seen f = (mfa_seen f.0, f.1)
+
+abbrev pub state_seen : {A : Type 0} → State A → definition.Session
+state_seen s = record {
+  phase = phase_seen s.phase;
+  alive = alive_of s.alive;
+  flags = map flags_of s.flags;
+  for_new = flags_of s.for_new;
+  functions = settings_seen s.settings;
+  sending = setting_seen s.sending;
+  receiving = setting_seen s.receiving;
+  marks = marks_seen s.marks.items;
+}
+
+-- the functions that are read, or none
+abbrev pub Covers : {A : Type 0} → Option settings.Covered → Option (Covered A) → Type 0
+Covers read found = option_map covered_seen found ≡ read

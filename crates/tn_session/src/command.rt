@@ -1,22 +1,27 @@
 // What a command does to its session, and its reply.
-ghost use Rattle.std.specs.Prelude.{◌≡◌, ℕ, IfOk, MatchOption, IsTrue, Some, None, map, [], ◌∷◌, true, false, if◌then◌else◌};
+ghost use Rattle.std.specs.Prelude.{◌≡◌, ◌<◌, ◌^◌, ℕ, IfOk, OnOk, map};
+ghost use Rattle.def_term.specs.Alive.{living_count};
 ghost use Rattle.std.specs.Option.{option_map};
-ghost use Rattle.def_term.specs.Tree.{atom, tuple, of_elements};
-ghost use Rattle.def_term.specs.Order.{same};
-ghost use Rattle.def_term.specs.Names.{word};
 ghost use Rattle.def_spec.specs.Flags.{flags_named};
-ghost use Rattle.def_session.specs.State.{Opening};
-ghost use Rattle.def_session.specs.State.{Session as State};
-ghost use Rattle.def_session.specs.Commands.{procs_of, how_of, flags_of, flags_set, flags_set_if, refused, number, all_changed, existing_changed, changed_flags, done_absent, done_live, done_destroyed, command_done};
+ghost use Rattle.def_session.specs.State as definition;
+ghost use Rattle.def_session.specs.State.{destroyed, unset};
+ghost use Rattle.def_session.specs.Commands.{procs_of, how_of, flags_of, all_changed, existing_changed};
+ghost use Rattle.def_session.specs.Commands.{one_process, changed_flags, matching_count, number, done_destroyed};
 ghost use Rattle.tn_term.specs.Views.{tree_of, trees_of, alive_of};
 ghost use Rattle.tn_flags.specs.Views.{flags_of as flags_view, command_of};
-ghost use Rattle.tn_session.specs.Views.{session_of, procs_seen, only_pid, sets_no_specification};
+ghost use Rattle.tn_session.specs.Views.{covering_seen, state_seen};
+ghost use Rattle.tn_session.specs.Procs.{procs_seen, only_pid};
+ghost use Rattle.tn_session.specs.Replies.{reply_seen, opening_in, AreFlagsSet, IsProcessDone, IsCovered};
+ghost use Rattle.tn_session.specs.Replies.{IsFunctionDone, IsSendDone, IsReceiveDone, IsLiveDone, IsCommandDone};
 
-use crate::message::word;
-use crate::session::{Phase, Session};
+use crate::covered::{covered_of, options_of, setting_of};
+use crate::reply::{Reply, counted, reply_to};
+use crate::setting::{Covering, Setting, Settings};
+use crate::state::{Phase, State};
 use std::alloc::{AllocError, Allocator};
 use tn_flags::{Command, Flags, flag_of};
-use tn_term::{Alive, Atom, Term};
+use tn_spec::Dialect;
+use tn_term::{Alive, Term};
 
 /// Which processes a command is about.
 #[derive(Clone, Copy, Debug, PartialEq, Eq)]
@@ -27,6 +32,7 @@ pub(crate) enum Procs {
     All,
 }
 
+/// The process of a pid; None of any other term.
 fn pid_in<A: Allocator>(term: &Term<A>) -> Option<Procs>
     ensures { option_map procs_seen result ≡ only_pid (tree_of term.now) }
 {
@@ -36,6 +42,7 @@ fn pid_in<A: Allocator>(term: &Term<A>) -> Option<Procs>
     }
 }
 
+/// The processes that the term names: a pid, `existing`, `new` or `all`; None of any other.
 fn procs_of<A: Allocator>(term: &Term<A>) -> Option<Procs>
     ensures { option_map procs_seen result ≡ procs_of (tree_of term.now) }
 {
@@ -50,6 +57,7 @@ fn procs_of<A: Allocator>(term: &Term<A>) -> Option<Procs>
     }
 }
 
+/// Whether a command sets, `true`, or clears, `false`; None of any other term.
 fn how_of<A: Allocator>(term: &Term<A>) -> Option<bool>
     ensures { result ≡ how_of (tree_of term.now) }
 {
@@ -62,7 +70,7 @@ fn how_of<A: Allocator>(term: &Term<A>) -> Option<bool>
     }
 }
 
-// The flags that the terms name, from the last on; none where one is no flag.
+/// The flags that the terms name, from the last on; None where one is no flag.
 fn flags_in<A: Allocator>(items: &Vec<Term<A>, A>) -> Option<Flags>
     ensures { option_map flags_view result ≡ flags_named (trees_of items.now.items) }
 {
@@ -78,6 +86,7 @@ fn flags_in<A: Allocator>(items: &Vec<Term<A>, A>) -> Option<Flags>
     Some(flags)
 }
 
+/// The flags of a list of them; None of any other term.
 fn flags_of<A: Allocator>(term: &Term<A>) -> Option<Flags>
     ensures { option_map flags_view result ≡ flags_of (tree_of term.now) }
 {
@@ -87,145 +96,7 @@ fn flags_of<A: Allocator>(term: &Term<A>) -> Option<Flags>
     }
 }
 
-impl Session {
-    // Sets or clears flags, and counts the processes; none where an argument is no good.
-    fn set_process<A: Allocator>(
-        &mut self,
-        procs: &Term<A>,
-        how: &Term<A>,
-        flags: &Term<A>,
-    ) -> Option<u8>
-        ensures { MatchOption result
-            ((flags_set_if (session_of self.old) (procs_of (tree_of procs.now)) (how_of (tree_of how.now)) (flags_of (tree_of flags.now)) ≡ refused (session_of self.old)) × (self.new ≡ self.old))
-            (λ n. flags_set_if (session_of self.old) (procs_of (tree_of procs.now)) (how_of (tree_of how.now)) (flags_of (tree_of flags.now)) ≡ (session_of self.new, number n)) }
-    {
-        let procs = procs_of(procs)?;
-        let on = how_of(how)?;
-        let flags = flags_of(flags)?;
-        match self.set_flags_of(procs, on, flags) {
-            Some(count) => Some(count),
-            None => None,
-        }
-    }
-
-    fn set_flags_of(&mut self, procs: Procs, on: bool, flags: Flags) -> Option<u8>
-        ensures { MatchOption result
-            ((flags_set (session_of self.old) (procs_seen procs) on (flags_view flags) ≡ refused (session_of self.old)) × (self.new ≡ self.old))
-            (λ n. flags_set (session_of self.old) (procs_seen procs) on (flags_view flags) ≡ (session_of self.new, number n)) }
-    {
-        match procs {
-            Procs::One(pid) => {
-                if !self.alive.has(pid) {
-                    return None;
-                }
-                self.set_flags(pid, changed(on, flags, self.flags_at(pid)));
-                Some(1)
-            }
-            Procs::Existing => {
-                let count = self.alive.count();
-                self.change_existing(on, flags);
-                Some(count)
-            }
-            Procs::New => {
-                self.for_new = changed(on, flags, self.for_new);
-                Some(0)
-            }
-            Procs::All => {
-                let count = self.alive.count();
-                self.for_new = changed(on, flags, self.for_new);
-                self.change_existing(on, flags);
-                Some(count)
-            }
-        }
-    }
-
-    // Changes the flags of each living process.
-    fn change_existing(&mut self, on: bool, flags: Flags)
-        ensures { session_of self.new ≡ existing_changed on (flags_view flags) (session_of self.old) }
-    {
-        let alive = self.alive;
-        change_living(&mut self.flags, alive, on, flags);
-    }
-
-    fn live_command<A: Allocator, B: Allocator + Copy>(
-        &mut self,
-        alloc: B,
-        command: &Command<A>,
-    ) -> Result<Term<B>, AllocError>
-        requires { IsTrue (sets_no_specification (command_of command.now)) }
-        ensures { IfOk result (λ t. (o : Opening) → done_live o (session_of self.old) (command_of command.now) ≡ (session_of self.new, tree_of t)) }
-    {
-        match command {
-            Command::SessionDestroy { .. } => {
-                let reply = word(alloc, "true")?;
-                *self = Session::unset(Phase::Destroyed, self.alive);
-                Ok(reply)
-            }
-            Command::Process {
-                procs,
-                how,
-                flags,
-                ..
-            } => match self.set_process(procs, how, flags) {
-                Some(count) => Ok(number_term(count)),
-                None => Ok(word(alloc, "badarg")?),
-            },
-            Command::SessionCreate { .. } => Ok(word(alloc, "badarg")?),
-            Command::Function { .. } | Command::Send { .. } | Command::Recv { .. } =>
-                unreachable!(),
-        }
-    }
-
-    fn absent_command<A: Allocator, B: Allocator + Copy>(
-        &mut self,
-        alloc: B,
-        command: &Command<A>,
-    ) -> Result<Term<B>, AllocError>
-        ensures { IfOk result (λ t. done_absent (session_of self.old) (command_of command.now) ≡ (session_of self.new, tree_of t)) }
-    {
-        match command {
-            Command::SessionCreate { session, .. } => {
-                let reply = created(alloc, session)?;
-                self.phase = Phase::Live;
-                Ok(reply)
-            }
-            Command::SessionDestroy { .. } => Ok(word(alloc, "badarg")?),
-            Command::Process { .. } => Ok(word(alloc, "badarg")?),
-            Command::Function { .. } => Ok(word(alloc, "badarg")?),
-            Command::Send { .. } => Ok(word(alloc, "badarg")?),
-            Command::Recv { .. } => Ok(word(alloc, "badarg")?),
-        }
-    }
-
-    /// What a command of the session does, and its reply: a creation where the session is absent, a
-    /// destruction, or flags of processes. The command's session name isn't looked at.
-    pub fn command<A: Allocator, B: Allocator + Copy>(
-        &mut self,
-        alloc: B,
-        command: &Command<A>,
-    ) -> Result<Term<B>, AllocError>
-        requires { IsTrue (sets_no_specification (command_of command.now)) }
-        ensures { IfOk result (λ t. (o : Opening) → command_done o (session_of self.old) (command_of command.now) ≡ (session_of self.new, tree_of t)) }
-    {
-        match self.phase {
-            Phase::Absent => Ok(self.absent_command(alloc, command)?),
-            Phase::Live => Ok(self.live_command(alloc, command)?),
-            Phase::Destroyed => Ok(destroyed_reply(alloc, command)?),
-        }
-    }
-}
-
-// Changes the flags of each process that lives.
-fn change_living(all: &mut [Flags], alive: Alive, on: bool, flags: Flags)
-    ensures { map flags_view all.new ≡ all_changed on (flags_view flags) (alive_of alive) (map flags_view all.old) }
-{
-    for (place, old) in all.iter_mut().enumerate() {
-        if alive.has_place(place) {
-            *old = changed(on, flags, *old);
-        }
-    }
-}
-
+/// These flags set or cleared.
 fn changed(on: bool, flags: Flags, old: Flags) -> Flags
     ensures { flags_view result ≡ changed_flags on (flags_view flags) (flags_view old) }
 {
@@ -236,40 +107,238 @@ fn changed(on: bool, flags: Flags, old: Flags) -> Flags
     }
 }
 
-fn number_term<B: Allocator>(n: u8) -> Term<B>
-    ensures { tree_of result ≡ number n }
+/// Changes the flags of each process that lives.
+fn change_living(all: &mut [Flags], alive: Alive, on: bool, flags: Flags)
+    ensures { map flags_view all.new ≡ all_changed on (flags_view flags) (alive_of alive) (map flags_view all.old) }
 {
-    Term::Int(i64::from(n))
+    for (place, old) in all.iter_mut().enumerate() {
+        if alive.has_place(place) {
+            *old = changed(on, flags, *old);
+        }
+    }
 }
 
-// {session,Name}
-fn created<A: Allocator, B: Allocator + Copy>(
-    alloc: B,
-    name: &Atom<A>,
-) -> Result<Term<B>, AllocError>
-    ensures { IfOk result (λ t. tree_of t ≡ tuple (of_elements (word "session" ∷ atom name.now ∷ []))) }
-{
-    let session = word(alloc, "session")?;
-    let name = name.copy_into(alloc)?;
-    let mut items = Vec::with_capacity(alloc, 2)?;
-    items.push(session)?;
-    items.push(Term::Atom(name))?;
-    Ok(Term::Tuple(items))
+impl<A: Allocator + Copy> State<A> {
+    /// Changes the flags of each living process.
+    fn change_existing(&mut self, on: bool, flags: Flags)
+        ensures done { state_seen self.new ≡ existing_changed on (flags_view flags) (state_seen self.old) }
+        ensures kept { self.new.functions ≡ self.old.functions }
+    {
+        let alive = self.alive;
+        change_living(&mut self.flags, alive, on, flags);
+    }
+
+    /// How many processes live, as a reply.
+    fn living(&self) -> Reply<A>
+        ensures { reply_seen result ≡ number (living_count (alive_of self.now.alive)) }
+    {
+        counted(usize::from(self.alive.count()))
+    }
+
+    /// Changes the flags of one process, where it lives.
+    fn change_one(&mut self, pid: u32, on: bool, flags: Flags) -> Reply<A>
+        ensures done { AreFlagsSet self.old (one_process pid) on (flags_view flags) self.new (reply_seen result) }
+        ensures kept { self.new.functions ≡ self.old.functions }
+    {
+        if !self.alive.has(pid) {
+            return Reply::Badarg;
+        }
+        self.set_flags(pid, changed(on, flags, self.flags_at(pid)));
+        counted(1)
+    }
+
+    /// Changes flags, and counts the processes.
+    fn change_flags(&mut self, procs: Procs, on: bool, flags: Flags) -> Reply<A>
+        ensures done { AreFlagsSet self.old (procs_seen procs) on (flags_view flags) self.new (reply_seen result) }
+        ensures kept { self.new.functions ≡ self.old.functions }
+    {
+        match procs {
+            Procs::One(pid) => self.change_one(pid, on, flags),
+            Procs::Existing => {
+                let count = self.living();
+                self.change_existing(on, flags);
+                count
+            }
+            Procs::New => {
+                self.for_new = changed(on, flags, self.for_new);
+                counted(0)
+            }
+            Procs::All => {
+                let count = self.living();
+                self.for_new = changed(on, flags, self.for_new);
+                self.change_existing(on, flags);
+                count
+            }
+        }
+    }
+
+    /// `{process,Name,Procs,How,Flags}` (`trace:process/4`)
+    fn process(&mut self, procs: &Term<A>, how: &Term<A>, flags: &Term<A>) -> Reply<A>
+        ensures done { IsProcessDone self.old (tree_of procs.now) (tree_of how.now) (tree_of flags.now)
+            self.new (reply_seen result) }
+        ensures kept { self.new.functions ≡ self.old.functions }
+    {
+        match (procs_of(procs), how_of(how), flags_of(flags)) {
+            (Some(procs), Some(on), Some(flags)) => self.change_flags(procs, on, flags),
+            _ => Reply::Badarg,
+        }
+    }
+
+    /// How many functions the command matches.
+    fn matching(&self, covering: &Covering<A>) -> usize
+        ensures value { (n : ℕ) → result ≡ matching_count (opening_in self.now n) (covering_seen covering.now) }
+        ensures small { result < 2 ^ 63 }
+    {
+        let mut count = 0;
+        for function in &self.functions {
+            if covering.has_among(&function.0, function.1) {
+                count += 1;
+            }
+        }
+        count
+    }
+
+    /// An accepted function command is the newest.
+    fn cover(&mut self, covering: Covering<A>) -> Result<Reply<A>, AllocError>
+        ensures done { IfOk result (λ r. IsCovered self.old (covering_seen covering) self.new (reply_seen r)) }
+        ensures kept { self.new.functions ≡ self.old.functions }
+    {
+        let count = self.matching(&covering);
+        self.settings.set(covering)?;
+        Ok(counted(count))
+    }
+
+    /// `{function,Name,MFA,Spec,Opts}` (`trace:function/4`)
+    fn function(
+        &mut self,
+        functions: &Term<A>,
+        specification: &Term<A>,
+        options: &Term<A>,
+    ) -> Result<Reply<A>, AllocError>
+        ensures done { IfOk result (λ r. IsFunctionDone self.old
+            (tree_of functions.now) (tree_of specification.now) (tree_of options.now) self.new (reply_seen r)) }
+        ensures kept { OnOk result (self.new.functions ≡ self.old.functions) }
+    {
+        let Some(local) = options_of(options) else {
+            return Ok(Reply::Badarg);
+        };
+        let Some(covered) = covered_of(self.alloc, functions)? else {
+            return Ok(Reply::Badarg);
+        };
+        match setting_of(self.alloc, specification, Dialect::Call) {
+            Ok(setting) => Ok(self.cover(Covering {
+                covered,
+                setting,
+                local,
+            })?),
+            Err(fault) => Ok(reply_to(fault)?),
+        }
+    }
+
+    /// `{send,Name,Spec,[]}` (`trace:send/3`)
+    fn send(&mut self, specification: &Term<A>) -> Result<Reply<A>, AllocError>
+        ensures done { IfOk result (λ r. IsSendDone self.old (tree_of specification.now) self.new (reply_seen r)) }
+        ensures kept { self.new.functions ≡ self.old.functions }
+    {
+        match setting_of(self.alloc, specification, Dialect::Send) {
+            Ok(setting) => {
+                self.sending = setting;
+                Ok(counted(1))
+            }
+            Err(fault) => Ok(reply_to(fault)?),
+        }
+    }
+
+    /// `{recv,Name,Spec,[]}` (`trace:recv/3`)
+    fn receive(&mut self, specification: &Term<A>) -> Result<Reply<A>, AllocError>
+        ensures done { IfOk result (λ r. IsReceiveDone self.old (tree_of specification.now) self.new (reply_seen r)) }
+        ensures kept { self.new.functions ≡ self.old.functions }
+    {
+        match setting_of(self.alloc, specification, Dialect::Recv) {
+            Ok(setting) => {
+                self.receiving = setting;
+                Ok(counted(1))
+            }
+            Err(fault) => Ok(reply_to(fault)?),
+        }
+    }
+
+    /// Takes all settings, flags and marks away (`trace:session_destroy/1`).
+    fn destroy(&mut self)
+        ensures done { state_seen self.new ≡ unset destroyed (alive_of self.old.alive) }
+        ensures kept { self.new.functions ≡ self.old.functions }
+    {
+        let none = Flags::none();
+        self.phase = Phase::Destroyed;
+        self.flags = [none; 64];
+        self.for_new = none;
+        self.settings = Settings {
+            entries: Vec::new(self.alloc),
+        };
+        self.sending = Setting::Plain;
+        self.receiving = Setting::Plain;
+        self.marks = Vec::new(self.alloc);
+    }
+
+    /// What a command does to a live session.
+    fn live_command(&mut self, command: &Command<A>) -> Result<Reply<A>, AllocError>
+        ensures done { IfOk result (λ r. IsLiveDone self.old (command_of command.now) self.new (reply_seen r)) }
+        ensures kept { OnOk result (self.new.functions ≡ self.old.functions) }
+    {
+        match command {
+            Command::SessionCreate { .. } => Ok(Reply::Badarg),
+            Command::SessionDestroy { .. } => {
+                self.destroy();
+                Ok(Reply::True)
+            }
+            Command::Process {
+                procs,
+                how,
+                flags,
+                ..
+            } => Ok(self.process(procs, how, flags)),
+            Command::Function {
+                mfa,
+                specification,
+                options,
+                ..
+            } => Ok(self.function(mfa, specification, options)?),
+            Command::Send { specification, .. } => Ok(self.send(specification)?),
+            Command::Recv { specification, .. } => Ok(self.receive(specification)?),
+        }
+    }
+
+    /// What a command does to the session, and its reply.
+    fn done(&mut self, command: &Command<A>) -> Result<Reply<A>, AllocError>
+        ensures done { IfOk result (λ r. IsCommandDone self.old (command_of command.now) self.new (reply_seen r)) }
+        ensures kept { OnOk result (self.new.functions ≡ self.old.functions) }
+    {
+        match self.phase {
+            Phase::Live => Ok(self.live_command(command)?),
+            Phase::Destroyed => Ok(destroyed_reply(command)),
+        }
+    }
+
+    /// What a command does to the session, and its reply. An error is refused memory.
+    pub fn command(&mut self, command: &Command<A>) -> Result<Term<A>, AllocError>
+        ensures done { IfOk result (λ t. IsCommandDone self.old (command_of command.now) self.new (tree_of t)) }
+        ensures kept { OnOk result (self.new.functions ≡ self.old.functions) }
+    {
+        let reply = self.done(command)?;
+        Ok(reply.term(self.alloc)?)
+    }
 }
 
-// The reply of a destroyed session, which nothing changes.
-fn destroyed_reply<A: Allocator, B: Allocator + Copy>(
-    alloc: B,
-    command: &Command<A>,
-) -> Result<Term<B>, AllocError>
-    ensures { IfOk result (λ t. (s : State) → done_destroyed s (command_of command.now) ≡ (s, tree_of t)) }
+/// The reply of a destroyed session, which nothing changes.
+fn destroyed_reply<A: Allocator>(command: &Command<A>) -> Reply<A>
+    ensures { (s : definition.Session) → done_destroyed s (command_of command.now) ≡ (s, reply_seen result) }
 {
     match command {
-        Command::SessionDestroy { .. } => Ok(word(alloc, "false")?),
-        Command::SessionCreate { .. } => Ok(word(alloc, "badarg")?),
-        Command::Process { .. } => Ok(word(alloc, "badarg")?),
-        Command::Function { .. } => Ok(word(alloc, "badarg")?),
-        Command::Send { .. } => Ok(word(alloc, "badarg")?),
-        Command::Recv { .. } => Ok(word(alloc, "badarg")?),
+        Command::SessionDestroy { .. } => Reply::False,
+        Command::SessionCreate { .. }
+        | Command::Process { .. }
+        | Command::Function { .. }
+        | Command::Send { .. }
+        | Command::Recv { .. } => Reply::Badarg,
     }
 }

@@ -8,13 +8,15 @@ use Rattle.def_term.specs.Tree.{Tree}
 use Rattle.def_script.specs.Program.{Function, Command, create, destroy, set_processes, set_function, set_send, set_receive, session_of}
 use Rattle.def_node.specs.Event.{Event}
 use Rattle.def_node.specs.Node.{Move, moved, idle, next_of}
-use Rattle.def_session.specs.State.{Opening, Session, absent, absent_session}
+use Rattle.def_script.specs.Opening.{Opening}
+use Rattle.def_session.specs.State.{Session, absent, absent_session}
 use Rattle.def_session.specs.Session.{event_told, told_in}
 use Rattle.def_session.specs.Commands.{command_done, done_in, done_absent}
-use Rattle.def_run.specs.Run.{Item, happened, commanded, Place, takes_command, goes_to, turn_with, shown_from}
+use Rattle.def_run.specs.Run.{Shown, happened, commanded, Place, takes_command, goes_to, turn_with, shown_from}
 use Rattle.def_run.specs.View.{is_own}
-use Rattle.def_run.specs.Listing.{state_after, creations}
-use Rattle.tn_trace.specs.Tracked.{tracked_after, all_after, reply_from}
+use Rattle.def_run.specs.Listing.{session_after}
+use Rattle.def_script.specs.Script.{creations}
+use Rattle.tn_trace.specs.Tracks.{track_after, tracks_from, reply_from}
 
 pub name_is : (a b : Name) → bytes_eq a b ≡ true → a ≡ b
 name_is a b e = (bytes_eq-Decides a b).0 e
@@ -28,27 +30,26 @@ is_created [] n = false
 is_created (s ∷ ss) n = bytes_eq s.0 n || is_created ss n
 
 -- the reply of the session that the command names
-abbrev pub reply_of : Opening → List Item → Command → Tree
-reply_of o items c = (command_done o (state_after o (absent_session o) (filter (is_own (session_of c)) items)) c).1
+abbrev pub reply_of : Opening → List Shown → Command → Tree
+reply_of o items c = (command_done o (session_after o (absent_session o) (filter (is_own (session_of c)) items)) c).1
 
-reply_head : (o : Opening) (items : List Item) (c : Command) (s : Name × Name) (ss : List (Name × Name)) (r : Option Tree) (b : Bool) → bytes_eq s.0 (session_of c) ≡ b
-    → ((q : Option Tree) → reply_from o c q (all_after o items ss) ≡ (if is_created ss (session_of c) then Some (reply_of o items c) else q))
-    → reply_from o c (if b then Some (command_done o (tracked_after o items s).session c).1 else r) (all_after o items ss) ≡ (if b || is_created ss (session_of c) then Some (reply_of o items c) else r)
-reply_head o items c s ss r true is rest =
-    rest (Some (command_done o (tracked_after o items s).session c).1)
-    ∙ ap (λ n. if is_created ss (session_of c) then Some (reply_of o items c) else Some (command_done o (state_after o (absent_session o) (filter (is_own n) items)) c).1) (name_is s.0 (session_of c) is)
+reply_head : (o : Opening) (items : List Shown) (c : Command) (n : ℕ) (s : Name) (ss : List (Name × Name)) (r : Option Tree) (b : Bool) → bytes_eq s (session_of c) ≡ b
+    → ((q : Option Tree) → reply_from o c q (tracks_from o items (suc n) ss) ≡ (if is_created ss (session_of c) then Some (reply_of o items c) else q))
+    → reply_from o c (if b then Some (command_done o (track_after o items n s).session c).1 else r) (tracks_from o items (suc n) ss) ≡ (if b || is_created ss (session_of c) then Some (reply_of o items c) else r)
+reply_head o items c n s ss r true is rest =
+    rest (Some (command_done o (track_after o items n s).session c).1)
+    ∙ ap (λ m. if is_created ss (session_of c) then Some (reply_of o items c) else Some (command_done o (session_after o (absent_session o) (filter (is_own m) items)) c).1) (name_is s (session_of c) is)
     ∙ go (is_created ss (session_of c))
   where
     go : (q : Bool) → (if q then Some (reply_of o items c) else Some (reply_of o items c)) ≡ Some (reply_of o items c)
     go true = refl
     go false = refl
-reply_head o items c s ss r false is rest = rest r
+reply_head o items c n s ss r false is rest = rest r
 
-pub reply_is : (o : Opening) (items : List Item) (c : Command) (ss : List (Name × Name)) (r : Option Tree)
-    → reply_from o c r (all_after o items ss) ≡ (if is_created ss (session_of c) then Some (reply_of o items c) else r)
-reply_is o items c [] r = refl
-reply_is o items c (s ∷ ss) r =
-    reply_head o items c s ss r (bytes_eq s.0 (session_of c)) refl (reply_is o items c ss)
+pub reply_is : (o : Opening) (items : List Shown) (c : Command) (n : ℕ) (ss : List (Name × Name)) (r : Option Tree)
+    → reply_from o c r (tracks_from o items n ss) ≡ (if is_created ss (session_of c) then Some (reply_of o items c) else r)
+reply_is o items c n [] r = refl
+reply_is o items c n (s ∷ ss) r = reply_head o items c n s.0 ss r (bytes_eq s.0 (session_of c)) refl (reply_is o items c (suc n) ss)
 
 -- ---- a session that is never created
 
@@ -60,7 +61,7 @@ abbrev NeverIn : Name → List Command → Type 0
 NeverIn n [] = Unit {0}
 NeverIn n (c ∷ cs) = (creates n c ≡ false) × NeverIn n cs
 
-abbrev NeverShown : Name → List Item → Type 0
+abbrev NeverShown : Name → List Shown → Type 0
 NeverShown n [] = Unit {0}
 NeverShown n (happened e ∷ items) = NeverShown n items
 NeverShown n (commanded c ∷ items) = (creates n c ≡ false) × NeverShown n items
@@ -78,21 +79,21 @@ never_in n (set_function s m p f ∷ cs) e = (refl, never_in n cs e)
 never_in n (set_send s p ∷ cs) e = (refl, never_in n cs e)
 never_in n (set_receive s p ∷ cs) e = (refl, never_in n cs e)
 
-never_happened : (n : Name) (es : List Event) (items : List Item) → NeverShown n items → NeverShown n (map happened es ++ items)
+never_happened : (n : Name) (es : List Event) (items : List Shown) → NeverShown n items → NeverShown n (map happened es ++ items)
 never_happened n [] items h = h
 never_happened n (e ∷ es) items h = never_happened n es items h
 
-never_command : (n : Name) (p : Place) (room : ℕ) (cs : List Command) (rest : Place → List Item) → ((q : Place) → NeverIn n q.commands → NeverShown n (rest q))
+never_command : (n : Name) (p : Place) (room : ℕ) (cs : List Command) (rest : Place → List Shown) → ((q : Place) → NeverIn n q.commands → NeverShown n (rest q))
     → NeverIn n p.commands → NeverIn n cs → NeverShown n ((takes_command p room cs).shown ++ rest (takes_command p room cs).after)
 never_command n p room [] rest go h k = go p h
 never_command n p room (c ∷ cs) rest go h k = (k.0, go (record { world = p.world; commands = cs; room = room }) k.1)
 
-never_move : (n : Name) (p : Place) (room : ℕ) (m : Move) (rest : Place → List Item) → ((q : Place) → NeverIn n q.commands → NeverShown n (rest q))
+never_move : (n : Name) (p : Place) (room : ℕ) (m : Move) (rest : Place → List Shown) → ((q : Place) → NeverIn n q.commands → NeverShown n (rest q))
     → NeverIn n p.commands → NeverShown n ((goes_to p room m).shown ++ rest (goes_to p room m).after)
 never_move n p room (idle w) rest go h = go p h
 never_move n p room (moved w es) rest go h = never_happened n es (rest (record { world = w; commands = p.commands; room = room })) (go (record { world = w; commands = p.commands; room = room }) h)
 
-never_turn : (ks : List Function) (n : Name) (p : Place) (room pick : ℕ) (rest : Place → List Item) → ((q : Place) → NeverIn n q.commands → NeverShown n (rest q))
+never_turn : (ks : List Function) (n : Name) (p : Place) (room pick : ℕ) (rest : Place → List Shown) → ((q : Place) → NeverIn n q.commands → NeverShown n (rest q))
     → NeverIn n p.commands → NeverShown n ((turn_with ks p room pick).shown ++ rest (turn_with ks p room pick).after)
 never_turn ks n p zero pick rest go h = go p h
 never_turn ks n p (suc room) zero rest go h = never_command n p room p.commands rest go h h
@@ -111,13 +112,13 @@ absent_command s n (set_send t p) e b = (refl, refl)
 absent_command s n (set_receive t p) e b = (refl, refl)
 
 -- an absent session that no command creates stays absent
-stays_absent : (o : Opening) (n : Name) (s : Session) (items : List Item) → s.phase ≡ absent → NeverShown n items → (state_after o s (filter (is_own n) items)).phase ≡ absent
+stays_absent : (o : Opening) (n : Name) (s : Session) (items : List Shown) → s.phase ≡ absent → NeverShown n items → (session_after o s (filter (is_own n) items)).phase ≡ absent
 stays_absent o n s [] a h = a
 stays_absent o n s (happened e ∷ items) a h = stays_absent o n (event_told s e).0 items (ap (λ p. (told_in p s e).0.phase) a ∙ a) h
 stays_absent o n s (commanded c ∷ items) a h = go (bytes_eq n (session_of c)) refl (stays_absent o n s items a h.1) (λ k. stays_absent o n (command_done o s c).0 items k h.1)
   where
-    go : (b : Bool) → bytes_eq n (session_of c) ≡ b → (state_after o s (filter (is_own n) items)).phase ≡ absent → ((command_done o s c).0.phase ≡ absent → (state_after o (command_done o s c).0 (filter (is_own n) items)).phase ≡ absent)
-        → (state_after o s (cond b (commanded c ∷ filter (is_own n) items) (filter (is_own n) items))).phase ≡ absent
+    go : (b : Bool) → bytes_eq n (session_of c) ≡ b → (session_after o s (filter (is_own n) items)).phase ≡ absent → ((command_done o s c).0.phase ≡ absent → (session_after o (command_done o s c).0 (filter (is_own n) items)).phase ≡ absent)
+        → (session_after o s (cond b (commanded c ∷ filter (is_own n) items) (filter (is_own n) items))).phase ≡ absent
     go true e other own = own (ap (λ p. (done_in p o s c).0.phase) a ∙ ap (λ (x : Session). x.phase) (absent_command s n c h.0 e).0 ∙ a)
     go false e other own = other
 
@@ -126,7 +127,7 @@ pub never_created : (o : Opening) (ks : List Function) (p : Place) (picks : List
     → reply_of o (shown_from ks p picks) c ≡ word "badarg"
 never_created o ks p picks c e k =
     let n : Name = session_of c in
-    let s : Session = state_after o (absent_session o) (filter (is_own n) (shown_from ks p picks)) in
+    let s : Session = session_after o (absent_session o) (filter (is_own n) (shown_from ks p picks)) in
     ap (λ q. (done_in q o s c).1) (stays_absent o n (absent_session o) (shown_from ks p picks) refl (never_from ks n p picks (never_in n p.commands e)))
     ∙ (absent_command s n c k (name_self n)).1
 

@@ -1,8 +1,12 @@
+pub mod Places
 pub mod Tracking
 pub mod Created
-pub mod Turns
 pub mod Moves
+pub mod Creating
+pub mod Telling
+pub mod Stepping
+pub mod KeptLemmas
 pub mod CoreLemmas
-pub mod CoreSteps
-pub mod Places
+pub mod PicksLemmas
 pub mod OutputLemmas
+pub mod Following

@@ -1,29 +1,84 @@
--- What the code's core stands for.
-use Rattle.std.specs.Prelude.{◌≡◌, ℕ, zero, suc, List, [], ◌∷◌, ◌++◌, map, Option, None, slice_get}
-use Rattle.def_script.specs.Program.{Command, Program}
-use Rattle.def_node.specs.Node.{State}
-use Rattle.def_session.specs.State.{Opening}
-use Rattle.def_run.specs.Listing.{line_of}
-use Rattle.tn_node.specs.Nodes.{IsAt}
-use Rattle.tn_trace.specs.Tracked.{with_command}
-use Rattle.tn_trace.specs.After.{IsAfter, reply_in}
-use Rattle.tn_trace.specs.Views.{tracked_of}
-use Rattle.tn_trace.specs.declared.engine.Core.{Core}
+-- What is promised of a core.
+use Rattle.std.specs.Prelude.{◌≡◌, ℕ, zero, suc, ◌<◌, List, [], ◌∷◌, ◌++◌, false, length, map, slice_get, Option, Some, None, Result, Ok, Err}
+use Rattle.std.specs.Str.{bytes_eq}
+use Rattle.def_term.specs.Names.{Name}
+use Rattle.def_script.specs.Program.{Program}
+use Rattle.def_run.specs.Run.{moves}
+use Rattle.def_run.specs.View.{view, strike_program, strike_picks}
+use Rattle.def_run.specs.Listing.{Item as Told, answer, messages, replies}
+use Rattle.def_script.specs.Script.{creations}
+use Rattle.def_run.specs.Laws.{IsIdleAfter, IsDestroyedAfter}
+use Rattle.tn_term.specs.Views.{tree_of}
+use Rattle.tn_term.specs.declared.term.Term.{Term}
+use Rattle.tn_program.specs.Views.{program_of}
+use Rattle.tn_trace.specs.Items.{item_seen, AreTerms}
+use Rattle.tn_trace.specs.Runs.{IsRun}
+use Rattle.tn_trace.specs.declared.engine.Engine.{Engine}
+use Rattle.tn_trace.specs.declared.keeping.Terms.{Terms}
+use Rattle.tn_trace.specs.declared.recording.Core.{Core}
+use Rattle.tn_trace.specs.declared.item.Answer.{Answer}
+use Rattle.tn_trace.specs.declared.item.Answer.TheVariants.{Moved, Idle}
+use Rattle.tn_trace.specs.declared.item.StepFault.{StepFault}
+use Rattle.tn_trace.specs.declared.item.StepFault.TheVariants.{LimitReached, Spent, OutOfMemory}
+use denote.Ref.{Bor}
 
--- the core is that of the program after these picks
-pub record IsCore {A : Type 0} (p : Program) (picks : List ℕ) (core : Core A) : Type 0 where
-  pub state : State
-  pub node : IsAt p state core.node
-  pub after : IsAfter p picks state (map tracked_of core.sessions.items) core.replies.items core.journal.items
+abbrev pub HoldsIn : {A : Type 0} → Program → List ℕ → Option (Engine A (Terms A)) → Type 0
+HoldsIn p picks None = ⊥
+HoldsIn p picks (Some e) = IsRun AreTerms p picks e
 
--- a command was taken by this pick
-pub record Takes {A : Type 0} (c : Command) (pick : ℕ) (old new : Core A) : Type 0 where
-  pub node : new.node ≡ old.node
-  pub sessions : (o : Opening) → map tracked_of new.sessions.items ≡ map (with_command o c) (map tracked_of old.sessions.items)
-  pub replies : (o : Opening) → new.replies.items ≡ old.replies.items ++ line_of (reply_in o c (map tracked_of old.sessions.items))
-  pub journal : new.journal.items ≡ old.journal.items ++ pick ∷ []
+-- the core is that of the program and of this journal, each pick of which moved
+pub record IsCore {A : Type 0} (p : Program) (picks : List ℕ) (c : Core A) : Type 0 where
+  pub program : program_of c.program ≡ p
+  pub engine : HoldsIn p picks c.engine
 
--- the command of this number, counted from 1
-abbrev pub command_numbered : List Command → ℕ → Option Command
-command_numbered cs zero = None
-command_numbered cs (suc n) = slice_get cs n
+-- the core was refused memory
+abbrev pub IsSpent : {A : Type 0} → Core A → Type 0
+IsSpent c = c.engine ≡ None
+
+-- the pick moved: the journal has it at its end, and the items are the answer of its move
+pub record MovesOn {A : Type 0} (p : Program) (picks : List ℕ) (pick : ℕ) (new : Core A) (items : List Told) : Type 0 where
+  pub room : length picks < 65536
+  pub after : IsCore p (picks ++ pick ∷ []) new
+  pub moved : moves p (picks ++ pick ∷ []) ≡ picks ++ pick ∷ []
+  pub answered : items ≡ answer p (picks ++ pick ∷ []) (length picks)
+
+-- the pick moves nothing, and the core is that of the same journal
+pub record RestsOn {A : Type 0} (p : Program) (picks : List ℕ) (pick : ℕ) (new : Core A) : Type 0 where
+  pub room : length picks < 65536
+  pub after : IsCore p picks new
+  pub idle : IsIdleAfter p picks pick
+
+-- what a step answers, and the core afterwards
+abbrev pub Stepped : {A : Type 0} → Program → List ℕ → ℕ → Core A → Core A → Result (Answer A) StepFault → Type 0
+Stepped p picks pick old new (Ok (Moved items)) = MovesOn p picks pick new (map item_seen items.items)
+Stepped p picks pick old new (Ok Idle) = RestsOn p picks pick new
+Stepped p picks pick old new (Err LimitReached) = (length picks ≡ 65536) × (new ≡ old)
+Stepped p picks pick old new (Err Spent) = ⊥
+Stepped p picks pick old new (Err OutOfMemory) = (length picks < 65536) × IsSpent new
+
+-- the listing of a destroyed session is the same before and after the pick
+abbrev pub DestroyedStay : Program → List ℕ → ℕ → Type 0
+DestroyedStay p picks pick = (s : Name) → IsDestroyedAfter s p picks → messages s p (picks ++ pick ∷ []) ≡ messages s p picks
+
+-- the creation of this number, counted from 1
+abbrev pub creation_numbered : Program → ℕ → Option (Name × Name)
+creation_numbered p zero = None
+creation_numbered p (suc n) = slice_get (creations p.commands) n
+
+-- the terms are the messages of the session of this number; none where there is no such session
+abbrev pub Lists : {A : Type 0} → Program → List ℕ → ℕ → Option (Bor (List (Term A))) → Type 0
+Lists p picks n None = creation_numbered p n ≡ None
+Lists p picks n (Some v) = (s : Name × Name) × (creation_numbered p n ≡ Some s) × (map tree_of v.now ≡ messages s.0 p picks)
+
+-- with an equal view of a session another run has the same messages
+abbrev pub ListsByView : Program → List ℕ → Type 0
+ListsByView p picks = (s : Name) (q : Program) (others : List ℕ) → view s p picks ≡ view s q others → messages s p picks ≡ messages s q others
+
+-- without another session's commands, and the picks that took them, the view is the same, where the run did not meet the limit
+abbrev pub StruckLeave : Program → List ℕ → Type 0
+StruckLeave p picks =
+    (s r : Name) → bytes_eq r s ≡ false → length (moves p picks) < 65536 → view s (strike_program r p) (strike_picks r picks p.commands) ≡ view s p picks
+
+-- the terms are the replies
+abbrev pub AreReplies : {A : Type 0} → Program → List ℕ → List (Term A) → Type 0
+AreReplies p picks ts = map tree_of ts ≡ replies p picks

@@ -1,4 +1,9 @@
-pub mod Tracked
-pub mod After
-pub mod Views
+pub mod Tracks
+pub mod Starts
+pub mod Slots
+pub mod Runs
+pub mod Items
+pub mod Advances
 pub mod Cores
+pub mod Outputs
+pub mod Follows

@@ -1,169 +1,116 @@
-// The core of a run: the node, the sessions, the replies and the journal.
-ghost use Rattle.std.specs.Prelude.{◌≡◌, ◌++◌, ◌∷◌, [], ℕ, List, IfOk, IsTrue};
-ghost use Rattle.std.specs.List.{list_all};
-ghost use Rattle.std.specs.Prelude.{codes};
-ghost use Rattle.def_run.specs.Listing.{program_output, picks_text};
-ghost use Rattle.tn_program.specs.Views.{program_of};
-ghost use Rattle.tn_session.specs.Views.{sets_no_specification};
-ghost use Rattle.def_run.specs.Run.{opening};
-ghost use Rattle.def_run.specs.Listing.{creations};
-ghost use Rattle.tn_trace.specs.Tracked.{all_after, listings_of};
-ghost use Rattle.tn_trace.specs.Views.{tracked_of};
-ghost use Rattle.std.specs.Prelude.{map};
-ghost use Rattle.std.specs.Option.{option_map};
-ghost use Rattle.def_term.specs.Names.{word};
-ghost use Rattle.tn_term.specs.Views.{tree_of};
-ghost use Rattle.tn_flags.specs.Views.{command_of};
-ghost use Rattle.tn_trace.specs.Cores.{IsCore, Takes, command_numbered};
-
-use crate::output::{append_listings, append_picks};
-use crate::tracked::{Tracked, obey_all, tell_events, write_line};
+// What moves the node and tells the sessions.
+use crate::functions::command_at;
+use crate::item::Item;
+use crate::kept::Kept;
+use crate::reply::reply_or_badarg;
+use crate::sessions::{absent_sessions, living_after, obey_each, tell_each};
+use crate::slot::Slot;
 use std::alloc::{AllocError, Allocator};
-use tn_flags::Command;
+use tn_flags::{Command, Event};
 use tn_node::{Moved, Node};
 use tn_program::Program;
-use tn_session::Session;
-use tn_term::{Atom, Term};
+use tn_term::Alive;
 
-/// The greatest number of journal entries.
-const JOURNAL: usize = 65536;
-
-/// The node of a program with its sessions, the lines of the replies, and the picks that moved.
+/// The node of a program with its sessions, who lives, what is kept of the sessions and of the replies,
+/// and the picks that moved.
 #[derive(Drop)]
-pub struct Core<A: Allocator> {
+pub(crate) struct Engine<A: Allocator, K> {
+    pub alloc: A,
     pub node: Node<A>,
-    pub sessions: Vec<Tracked<A>, A>,
-    pub replies: Vec<u8, A>,
+    pub living: Alive,
+    pub slots: Vec<Slot<A, K>, A>,
+    pub replies: K,
     pub journal: Vec<u32, A>,
 }
 
-// The sessions of the control list, before any of them is created.
-fn absent_sessions<A: Allocator + Copy>(
-    alloc: A,
-    program: &Program<A>,
-) -> Result<Vec<Tracked<A>, A>, AllocError>
-    ensures { IfOk result (λ v. map tracked_of v.items ≡ all_after (opening (program_of program.now)) [] (creations (program_of program.now).commands)) }
-{
-    let processes = program.entries().len();
-    let mut sessions = Vec::new(alloc);
-    for command in program.commands() {
-        if let Command::SessionCreate { session, tracer } = command {
-            sessions.push(Tracked {
-                name: session.copy_into(alloc)?,
-                tracer: tracer.copy_into(alloc)?,
-                session: Session::absent(processes),
-                text: Vec::new(alloc),
-            })?;
-        }
-    }
-    Ok(sessions)
-}
+impl<A: Allocator + Copy, K: Kept<A> + Drop> Engine<A, K> {
+    ghost use Rattle.std.specs.Prelude.{◌≡◌, ◌<◌, List, ℕ, [], IfOk, flat_map, map, length};
+    ghost use Rattle.def_script.specs.Program as program;
+    ghost use Rattle.def_script.specs.Opening.{Opening};
+    ghost use Rattle.tn_flags.specs.Views.{event_of, command_of};
+    ghost use Rattle.tn_script.specs.Views.{functions_of};
+    ghost use Rattle.tn_program.specs.Views.{program_of};
+    ghost use Rattle.tn_trace.specs.Tracks.{Track, with_event, with_events, told_to, told_by, AreMore, visible};
+    ghost use Rattle.tn_trace.specs.Runs.{AreTracked, IsRun, Takes, Steps};
 
-fn badarg<A: Allocator>(alloc: A) -> Result<Term<A>, AllocError>
-    ensures { IfOk result (λ t. tree_of t ≡ word "badarg") }
-{
-    match Atom::new(alloc, "badarg")? {
-        Some(name) => Ok(Term::Atom(name)),
-        None => unreachable!(),
-    }
-}
-
-// The command of this number, from 1.
-fn command_at<A: Allocator>(program: &Program<A>, number: u64) -> Option<&Command<A>>
-    ensures { option_map (λ c. command_of c.now) result ≡ command_numbered (program_of program.now).commands number }
-{
-    if number == 0 {
-        return None;
-    }
-    match program.commands().get((number - 1) as usize) {
-        Some(command) => Some(command),
-        None => None,
-    }
-}
-
-impl<A: Allocator + Copy> Core<A> {
-    // A command of the control list goes to its session, and its reply to the replies.
-    fn take_command(&mut self, alloc: A, command: &Command<A>, pick: u32) -> Result<(), AllocError>
-        requires { IsTrue (sets_no_specification (command_of command.now)) }
-        ensures { IfOk result (λ _. Takes (command_of command.now) pick self.old self.new) }
+    /// The engine of a program before any pick.
+    pub fn new(alloc: A, program: &Program<A>) -> Result<Engine<A, K>, AllocError>
+        ensures { IfOk result (λ e. IsRun K.keeps (program_of program.now) [] e) }
     {
-        let reply = match obey_all(&mut self.sessions, alloc, command)? {
-            Some(reply) => reply,
-            None => badarg(alloc)?,
-        };
-        write_line(&reply, &mut self.replies)?;
-        self.journal.push(pick)?;
-        Ok(())
-    }
-
-    /// The core of a program before any pick.
-    fn new(alloc: A, program: &Program<A>) -> Result<Core<A>, AllocError>
-        ensures { IfOk result (λ c. IsCore (program_of program.now) [] c) }
-    {
-        Ok(Core {
+        Ok(Engine {
+            alloc,
             node: Node::new(alloc, program)?,
-            sessions: absent_sessions(alloc, program)?,
-            replies: Vec::new(alloc),
+            living: Alive::first(program.entries().len()),
+            slots: absent_sessions(alloc, program)?,
+            replies: K::nothing(alloc),
             journal: Vec::new(alloc),
         })
     }
 
-    /// One more pick: idle picks, and all picks once the journal is full, change nothing.
-    fn step(&mut self, alloc: A, program: &Program<A>, pick: u32) -> Result<(), AllocError>
-        requires { IsTrue (list_all sets_no_specification (program_of program.now).commands) }
-        ensures { (picks : List ℕ) → IsCore (program_of program.now) picks self.old → IfOk result (λ _. IsCore (program_of program.now) (picks ++ pick ∷ []) self.new) }
+    /// Each session sees an event.
+    fn tell(&mut self, event: &Event<A>, given: &mut Vec<Item<A>, A>) -> Result<(), AllocError>
+        ensures sessions { (o : Opening) (ts : List Track) → AreTracked K.keeps o ts self.old → IfOk result (λ _. AreTracked K.keeps o (map (with_event (event_of event.now)) ts) self.new) }
+        ensures given { (o : Opening) (ts : List Track) → AreTracked K.keeps o ts self.old → IfOk result (λ _. AreMore K.gives (flat_map (told_to (event_of event.now)) ts) given.old given.new) }
+        ensures others { IfOk result (λ _. self.new ≡ record self.old { living = self.new.living; slots = self.new.slots }) }
     {
-        if self.journal.len() >= JOURNAL {
-            return Ok(());
+        tell_each(&mut self.slots, self.alloc, event, given)?;
+        self.living = living_after(self.living, event);
+        Ok(())
+    }
+
+    /// Each session sees the events of a move, in order.
+    fn tell_all(
+        &mut self,
+        events: &Vec<Event<A>, A>,
+        given: &mut Vec<Item<A>, A>,
+    ) -> Result<(), AllocError>
+        ensures sessions { (o : Opening) (ts : List Track) → AreTracked K.keeps o ts self.old → IfOk result (λ _. AreTracked K.keeps o (with_events (map event_of events.now.items) ts) self.new) }
+        ensures given { (o : Opening) (ts : List Track) → AreTracked K.keeps o ts self.old → IfOk result (λ _. AreMore K.gives (told_by (map event_of events.now.items) ts) given.old given.new) }
+        ensures others { IfOk result (λ _. self.new ≡ record self.old { living = self.new.living; slots = self.new.slots }) }
+    {
+        for event in events {
+            self.tell(event, given)?;
         }
+        Ok(())
+    }
+
+    /// A command goes to its session, and the reply to the replies.
+    fn take_command(&mut self, program: &Program<A>, command: &Command<A>) -> Result<(), AllocError>
+        ensures { (o : Opening) (ts : List Track) → o.functions ≡ visible (program_of program.now).functions → AreTracked K.keeps o ts self.old →
+            IfOk result (λ _. Takes K.keeps o ts (command_of command.now) self.old self.new) }
+    {
+        let functions = program.functions();
+        let reply = obey_each(&mut self.slots, self.alloc, functions, self.living, command)?;
+        let reply = reply_or_badarg(self.alloc, reply)?;
+        self.replies.keep_reply(self.alloc, &reply)?;
+        Ok(())
+    }
+
+    /// One more pick: whether it moved. What its messages hand out is added to `given`.
+    pub fn step(
+        &mut self,
+        program: &Program<A>,
+        pick: u32,
+        given: &mut Vec<Item<A>, A>,
+    ) -> Result<bool, AllocError>
+        ensures { (picks : List ℕ) → IsRun K.keeps (program_of program.now) picks self.old → length picks < 65536 →
+            IfOk result (λ moved. Steps K.keeps K.gives (program_of program.now) picks pick moved self.new given.old given.new) }
+    {
         match self.node.step(pick)? {
-            Moved::Idle => Ok(()),
+            Moved::Idle => Ok(false),
             Moved::Control(number) => match command_at(program, number) {
-                Some(command) => Ok(self.take_command(alloc, command, pick)?),
-                None => Ok(()),
+                Some(command) => {
+                    self.take_command(program, command)?;
+                    self.journal.push(pick)?;
+                    Ok(true)
+                }
+                None => Ok(false),
             },
             Moved::Moved(events) => {
-                tell_events(&mut self.sessions, alloc, &events)?;
+                self.tell_all(&events, given)?;
                 self.journal.push(pick)?;
-                Ok(())
+                Ok(true)
             }
         }
     }
-}
-
-impl<A: Allocator + Copy> Core<A> {
-    // The listings, the replies and the journal as one text.
-    fn output(&self, alloc: A) -> Result<Vec<u8, A>, AllocError>
-        ensures { IfOk result (λ v. v.items ≡ listings_of (map tracked_of self.now.sessions.items) ++ codes "== replies\n" ++ self.now.replies.items ++ codes "== journal\n" ++ picks_text self.now.journal.items ++ 10 ∷ []) }
-    {
-        let mut output = Vec::new(alloc);
-        append_listings(&mut output, alloc, &self.sessions)?;
-        output.extend_from_slice(b"== replies\n")?;
-        output.extend_from_slice(&self.replies)?;
-        output.extend_from_slice(b"== journal\n")?;
-        append_picks(&mut output, &self.journal)?;
-        output.push(b'\n')?;
-        Ok(output)
-    }
-}
-
-/// The output of a program for these picks: each session's listing, the replies and the journal.
-/// Specifications aren't evaluated, so no command may set one.
-///
-/// # Errors
-///
-/// AllocError where memory was refused.
-pub fn replay<A: Allocator + Copy>(
-    alloc: A,
-    program: &Program<A>,
-    picks: &[u32],
-) -> Result<Vec<u8, A>, AllocError>
-    requires { IsTrue (list_all sets_no_specification (program_of program.now).commands) }
-    ensures { IfOk result (λ v. v.items ≡ program_output (program_of program.now) picks.now) }
-{
-    let mut core = Core::new(alloc, program)?;
-    for pick in picks {
-        core.step(alloc, program, *pick)?;
-    }
-    Ok(core.output(alloc)?)
 }

@@ -1,15 +1,25 @@
-//! The sessions of a run side by side, and the texts of its output.
+//! The core of a run: the node, its sessions, what each of them told, the replies and the journal.
 //!
-//! Stands on tn_session. Promises that each session of a run tells of each event and does each of its own
-//! commands as the definition of a session says, its messages' lines growing by exactly those messages,
-//! and that the listings' text is each session's header with its lines. Its lemmas say what one more
-//! pick is for the sessions, the replies and the journal of a run.
+//! Stands on tn_node and tn_session, and on the definitions of def_run. Promises that a core that isn't
+//! spent is the core of its journal: its node, listings and replies are those that def_run defines for
+//! its program and its journal's picks, each of which moved; that a step adds exactly the answer of its
+//! move; that a listing goes by the session's view, which no other session changes; and that a run which
+//! keeps text alone gives exactly the defined output.
 #![tactic(auto)]
 
+mod advancing;
 mod engine;
+mod functions;
+mod item;
+mod keeping;
+mod kept;
 mod output;
-mod tracked;
+mod recording;
+mod reply;
+mod sessions;
+mod slot;
+mod texts;
 
-pub use engine::{Core, replay};
-pub use output::{append_listings, append_picks};
-pub use tracked::{Tracked, obey_all, tell_all, tell_events, write_line};
+pub use item::{Answer, Item, StepFault};
+pub use output::{replay, round};
+pub use recording::Core;

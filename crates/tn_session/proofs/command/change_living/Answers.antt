@@ -1,4 +1,4 @@
-use Rattle.std.proofs.Common.{◌≡◌, ◌<◌, ◌∙◌, length, map, false, sym, arith}
+use Rattle.std.proofs.Common.{◌<◌, ◌∙◌, length, map, false, sym, arith}
 use Rattle.std.proofs.lemmas.List.{length-map}
 use Rattle.tn_term.specs.Views.{alive_of}
 use Rattle.tn_flags.specs.Views.{flags_of}

@@ -1,4 +1,4 @@
-use Rattle.std.proofs.Common.{◌≡◌, ◌≤◌, ◌<◌, ◌+◌, ◌-◌, ◌∙◌, length, drop, Some, None, sym, ap, arith}
+use Rattle.std.proofs.Common.{◌≡◌, ◌+◌, ◌-◌, ◌∙◌, drop, Some, sym, ap, arith}
 use Rattle.def_spec.specs.Flags.{flags_named}
 use Rattle.tn_term.specs.Views.{tree_of}
 use Rattle.tn_term.proofs.Trees.{seen, past}

@@ -1,7 +1,11 @@
-use Rattle.tn_trace.specs.Views.{tracked_of}
-use Rattle.tn_trace.proofs.Places.{one_more_listing}
+use Rattle.tn_program.specs.Views.{program_of}
+use Rattle.tn_trace.proofs.OutputLemmas.{one_more_listing, all_are_listed}
 use Rattle.tn_trace.proofs.output.append_listings.Goals as goal
 
-pub loop-session-preserved : goal.loop-session-preserved
-loop-session-preserved g c =
-    one_more_listing tracked_of c.deref-session-items.result.now c.loop-session.session-index c.session-item.result c.args.output.now.items c.loop-session.output.items _ c.loop-session-test.true c.session-item.is c.loop-session.invariant c.in_ok-append_listing.ensures
+pub loop-number-preserved : goal.loop-number-preserved
+loop-number-preserved g c = λ picks run.
+    one_more_listing (program_of c.args.program.now) picks c.loop-number.number c.args.text.now.items c.loop-number.text.items c.append_listing.new.text.items (c.loop-number.invariant picks run) (c.in_ok-append_listing.ensures picks run)
+
+pub returns : goal.returns
+returns g c = λ picks run.
+    all_are_listed (program_of c.args.program.now) picks c.loop-number.number c.session_count-number-end.result c.args.text.now.items c.loop-number.text.items c.session_count-number-end.ensures c.loop-number-test.false (c.loop-number.invariant picks run)

@@ -1,7 +1,11 @@
-use Rattle.std.proofs.Common.{◌≡◌, ◌++◌, map, take}
-use Rattle.tn_trace.specs.Tracked.{listings_of}
-use Rattle.tn_trace.specs.Views.{tracked_of}
+use Rattle.std.proofs.Common.{◌≡◌, ℕ, List, ◌++◌, take}
+use Rattle.def_script.specs.Script.{creations}
+use Rattle.def_run.specs.Listing.{messages, listings_text}
+use Rattle.tn_program.specs.Views.{program_of}
+use Rattle.tn_trace.specs.Items.{AreLines}
+use Rattle.tn_trace.specs.Runs.{IsRun}
 use Rattle.tn_trace.proofs.output.append_listings.Given as goal
 
-abbrev pub invariant-loop-session : goal.invariant-loop-session
-invariant-loop-session g l = l.output.items ≡ l.initial.output.items ++ listings_of (map tracked_of (take l.session-index l.session-items))
+abbrev pub invariant-loop-number : goal.invariant-loop-number
+invariant-loop-number g l = (picks : List ℕ) → IsRun AreLines (program_of l.program) picks l.engine →
+    l.text.items ≡ l.initial.text.items ++ listings_text (λ s. messages s (program_of l.program) picks) (take l.number (creations (program_of l.program).commands))

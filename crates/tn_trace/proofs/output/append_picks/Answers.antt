@@ -1,5 +1,5 @@
 use Rattle.std.proofs.Common.{◌≡◌, ◌<◌, ◌++◌, length, decimal, slice_index_or, ◌∙◌, ap, rules, arith}
-use Rattle.tn_trace.proofs.OutputLemmas.{first_step, next_step}
+use Rattle.tn_trace.proofs.PicksLemmas.{first_step, next_step}
 use Rattle.tn_trace.proofs.output.append_picks.Goals as goal
 use Rattle.tn_trace.proofs.output.append_picks.Goals.{then-i-gt0+in_ok-push, else-i-gt0}
 
@@ -7,10 +7,10 @@ pub loop-i-preserved : goal.loop-i-preserved
 loop-i-preserved g c =
     let bytes : c.as_bytes.result.now ≡ decimal (slice_index_or c.args.picks.now c.loop-i.i 0) = c.as_bytes.ensures.value ∙ c.format.ensures.text in
     let inside : c.loop-i.i < length c.args.picks.now = search rules in
-    let after : c.extend_from_slice.new.self.items ≡ c.if-i-gt0.output.items ++ c.as_bytes.result.now = c.in_ok-extend_from_slice.ensures.items in
+    let after : c.extend_from_slice.new.self.items ≡ c.if-i-gt0.text.items ++ c.as_bytes.result.now = c.in_ok-extend_from_slice.ensures.items in
     elim c.if-i-gt0.branch [
-      | then-i-gt0+in_ok-push w ↦ next_step c.args.output.now.items c.loop-i.output.items _ c.as_bytes.result.now c.extend_from_slice.new.self.items c.args.picks.now c.loop-i.i
-          (omega arith) inside c.loop-i.invariant (ap (λ o. o.items) w.output-is ∙ w.in_ok-push.ensures.items) bytes after
-      | else-i-gt0 w ↦ first_step c.args.output.now.items c.if-i-gt0.output.items c.as_bytes.result.now c.extend_from_slice.new.self.items c.args.picks.now c.loop-i.i
-          (omega arith) inside (ap (λ o. o.items) w.output-is ∙ c.loop-i.invariant) bytes after
+      | then-i-gt0+in_ok-push w ↦ next_step c.args.text.now.items c.loop-i.text.items _ c.as_bytes.result.now c.extend_from_slice.new.self.items c.args.picks.now c.loop-i.i
+          (omega arith) inside c.loop-i.invariant (ap (λ o. o.items) w.text-is ∙ w.in_ok-push.ensures.items) bytes after
+      | else-i-gt0 w ↦ first_step c.args.text.now.items c.if-i-gt0.text.items c.as_bytes.result.now c.extend_from_slice.new.self.items c.args.picks.now c.loop-i.i
+          (omega arith) inside (ap (λ o. o.items) w.text-is ∙ c.loop-i.invariant) bytes after
     ]

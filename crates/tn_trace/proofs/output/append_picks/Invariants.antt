@@ -3,4 +3,4 @@ use Rattle.std.specs.List.{join_with_byte}
 use Rattle.tn_trace.proofs.output.append_picks.Given as goal
 
 abbrev pub invariant-loop-i : goal.invariant-loop-i
-invariant-loop-i g l = l.output.items ≡ l.fn.output.items ++ join_with_byte 32 (map decimal (take l.i l.picks))
+invariant-loop-i g l = l.text.items ≡ l.fn.text.items ++ join_with_byte 32 (map decimal (take l.i l.picks))

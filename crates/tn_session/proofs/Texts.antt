@@ -1,0 +1,76 @@
+-- The texts of the elements of a message.
+use Rattle.std.proofs.Common.{◌≡◌, ◌∙◌, ℕ, List, [], ◌∷◌, ◌++◌, Bool, true, false, append_assoc, refl, sym, ap, codes}
+use Rattle.std.proofs.lemmas.List.{append-nil}
+use Rattle.def_term.specs.Tree.{Tree, atom, pid, of_elements}
+use Rattle.def_term.specs.Names.{Mfa, word}
+use Rattle.def_term.specs.Text.{w, is_written_bare, atom_text, joined, each_after_comma}
+use Rattle.def_node.specs.Event.{Event, sent, received, called, returned, spawning, spawned, exited, linked, unlinked, getting_linked, getting_unlinked}
+use Rattle.def_session.specs.Messages.{elements_of, process_of}
+use Rattle.tn_session.specs.Messages.{kind_of, details_of, front_text, names_text}
+
+-- the elements by their parts
+pub parts_are : (short : Bool) (e : Event) → elements_of short e ≡ word "trace" ∷ pid (process_of e) ∷ atom (kind_of e) ∷ details_of short e
+parts_are short (sent p t to true) = refl
+parts_are short (sent p t to false) = refl
+parts_are short (received p sender t) = refl
+parts_are short (called p c) = refl
+parts_are short (returned p f t depth) = refl
+parts_are short (spawning p child f args) = refl
+parts_are short (spawned p parent f args) = refl
+parts_are short (exited p r) = refl
+parts_are short (linked p q) = refl
+parts_are short (unlinked p q) = refl
+parts_are short (getting_linked p q) = refl
+parts_are short (getting_unlinked p q) = refl
+
+after_more : (ts us : List Tree) → each_after_comma (of_elements (ts ++ us)) ≡ each_after_comma (of_elements ts) ++ each_after_comma (of_elements us)
+after_more [] us = refl
+after_more (t ∷ ts) us = ap (λ s. 44 ∷ (w t ++ s)) (after_more ts us) ∙ ap (λ s. 44 ∷ s) (sym (append_assoc (w t) (each_after_comma (of_elements ts)) (each_after_comma (of_elements us))))
+
+joined_more : (t : Tree) (ts us : List Tree) → joined (of_elements (t ∷ ts ++ us)) ≡ joined (of_elements (t ∷ ts)) ++ each_after_comma (of_elements us)
+joined_more t ts us = ap (λ s. w t ++ s) (after_more ts us) ∙ sym (append_assoc (w t) (each_after_comma (of_elements ts)) (each_after_comma (of_elements us)))
+
+trace_text : atom_text (codes "trace") ≡ codes "trace"
+unfolding is_written_bare
+trace_text = refl
+
+after_a_comma : (s t : List ℕ) → (s ++ 44 ∷ []) ++ t ≡ s ++ 44 ∷ (t ++ [])
+after_a_comma s t = append_assoc s (44 ∷ []) t ∙ ap (λ u. s ++ 44 ∷ u) (sym (append-nil t))
+
+front_is : (e : Event) → front_text e ≡ 123 ∷ joined (of_elements (word "trace" ∷ pid (process_of e) ∷ atom (kind_of e) ∷ []))
+front_is e =
+    let p = w (pid (process_of e)) in
+    let k = atom_text (kind_of e) in
+    ap (λ s. codes "{trace," ++ s) (after_a_comma p k) ∙ ap (λ s. 123 ∷ (s ++ 44 ∷ (p ++ 44 ∷ (k ++ [])))) (sym trace_text)
+
+-- the front, and then the rest
+pub front_and_details : (short : Bool) (e : Event) → 123 ∷ joined (of_elements (elements_of short e)) ≡ front_text e ++ each_after_comma (of_elements (details_of short e))
+front_and_details short e =
+    ap (λ s. 123 ∷ s) (ap (λ ts. joined (of_elements ts)) (parts_are short e) ∙ joined_more (word "trace") (pid (process_of e) ∷ atom (kind_of e) ∷ []) (details_of short e))
+    ∙ ap (λ s. s ++ each_after_comma (of_elements (details_of short e))) (sym (front_is e))
+
+pub details_of_send : (short : Bool) (p : ℕ) (t : Tree) (to : ℕ) (alive : Bool) → details_of short (sent p t to alive) ≡ t ∷ pid to ∷ []
+details_of_send short p t to true = refl
+details_of_send short p t to false = refl
+
+pub two_details : (t u : Tree) → each_after_comma (of_elements (t ∷ u ∷ [])) ≡ (44 ∷ w t) ++ 44 ∷ w u
+two_details t u = ap (λ s. 44 ∷ (w t ++ 44 ∷ s)) (append-nil (w u))
+
+-- `,{M,F,`, what stands there, and `}`
+pub names_closed : (f : Mfa) (s : List ℕ) → 44 ∷ 123 ∷ ((atom_text f.module_name ++ 44 ∷ (atom_text f.function_name ++ 44 ∷ (s ++ []))) ++ 125 ∷ []) ≡ (names_text f ++ s) ++ 125 ∷ []
+names_closed f s = simp (append_assoc, append-nil)
+
+-- ---- what is written piece by piece
+
+pub twice : (o x y z b c : List ℕ) → b ≡ o ++ x → c ≡ b ++ y → z ≡ x ++ y → c ≡ o ++ z
+twice o x y z b c first second whole = second ∙ ap (λ s. s ++ y) first ∙ append_assoc o x y ∙ ap (λ s. o ++ s) (sym whole)
+
+pub thrice : (o x y z u b c d : List ℕ) → b ≡ o ++ x → c ≡ b ++ y → d ≡ c ++ z → u ≡ (x ++ y) ++ z → d ≡ o ++ u
+thrice o x y z u b c d first second third whole = twice o (x ++ y) z u c d (twice o x y (x ++ y) b c first second refl) third whole
+
+-- more elements at the end
+pub more_at_the_end : (short : Bool) (e : Event) (us : List Tree) → joined (of_elements (elements_of short e)) ++ each_after_comma (of_elements us) ≡ joined (of_elements (elements_of short e ++ us))
+more_at_the_end short e us =
+    ap (λ ts. joined (of_elements ts) ++ each_after_comma (of_elements us)) (parts_are short e)
+    ∙ sym (joined_more (word "trace") (pid (process_of e) ∷ atom (kind_of e) ∷ details_of short e) us)
+    ∙ ap (λ ts. joined (of_elements (ts ++ us))) (sym (parts_are short e))

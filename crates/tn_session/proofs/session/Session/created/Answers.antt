@@ -1,0 +1,21 @@
+use Rattle.std.proofs.Common.{replicate, reverse, map, refl}
+use Rattle.def_session.specs.State.{live}
+use Rattle.def_session.specs.Settings.{plain}
+use Rattle.tn_term.specs.Views.{alive_of}
+use Rattle.tn_session.specs.Views.{covering_seen, mark_seen}
+use Rattle.tn_session.proofs.session.Session.created.Goals as goal
+
+pub returns : goal.returns
+returns g c = record {
+  functions = refl;
+  state = λ i. record {
+    phase = live;
+    alive = alive_of c.args.alive;
+    flags = replicate 64 (c.none-none.ensures i);
+    for_new = c.none-none.ensures i;
+    functions = reverse (map covering_seen (c.new.ensures.items i));
+    sending = plain;
+    receiving = plain;
+    marks = reverse (map mark_seen (c.new-2.ensures.items i));
+  };
+}

@@ -1,0 +1,19 @@
+use Rattle.std.proofs.Common.{◌∙◌, ◌+◌, ◌∷◌, sym, ap, arith, map, drop}
+use Rattle.std.proofs.lemmas.List.{drop_more}
+use Rattle.def_session.specs.Session.{all_affected}
+use Rattle.tn_action.specs.Views.{effect_seen}
+use Rattle.tn_session.specs.Views.{state_seen}
+use Rattle.tn_session.proofs.state.State.affect_all.Goals as goal
+
+pub loop-effect-preserved : goal.loop-effect-preserved
+loop-effect-preserved g c =
+    let es = c.args.effects.now in
+    let i = c.loop-effect.effect-index in
+    let me = c.args.me in
+    let rest = map effect_seen (drop (i + 1) es) in
+    let here = drop_more es i c.effect-item.result (omega arith) ∙ ap (λ e. e ∷ drop (i + 1) es) (sym c.effect-item.is) in
+    record {
+      state = ap (λ s. all_affected me s rest) c.affect.ensures.state
+          ∙ sym (ap (λ xs. all_affected me (state_seen c.loop-effect.self) (map effect_seen xs)) here) ∙ c.loop-effect.invariant.state;
+      functions = c.affect.ensures.functions ∙ c.loop-effect.invariant.functions;
+    }

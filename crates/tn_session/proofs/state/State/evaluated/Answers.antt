@@ -1,0 +1,8 @@
+use Rattle.tn_term.specs.Views.{tree_of, mfa_seen}
+use Rattle.tn_session.proofs.state.State.evaluated.Goals as goal
+
+pub returns-in_ok-evaluated_send-in-Sent : goal.returns-in_ok-evaluated_send-in-Sent
+returns-in_ok-evaluated_send-in-Sent g c = rw c.in-Sent.is (c.in_ok-evaluated_send-in-Sent.ensures c.in-Sent.alive)
+
+pub returns-in-Returned : goal.returns-in-Returned
+returns-in-Returned g c = rw c.in-Returned.is (c.evaluated_return.ensures (mfa_seen c.in-Returned.mfa) (tree_of c.in-Returned.value))

@@ -1,0 +1,7 @@
+use Rattle.def_spec.specs.Flags.{no_flags}
+use Rattle.tn_flags.specs.Views.{flags_of}
+use Rattle.tn_session.proofs.States.{past_is}
+use Rattle.tn_session.proofs.state.State.flags_at.Goals as goal
+
+pub returns-in-None : goal.returns-in-None
+returns-in-None g c = past_is flags_of c.args.self.now.flags c.place_of.result _ no_flags _ c.in-None.ensures.lookup.3 c.place_of.ensures c.none.ensures

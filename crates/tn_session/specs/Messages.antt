@@ -1,0 +1,73 @@
+-- What a message of the code stands for, and the parts of its text.
+use Rattle.std.specs.Prelude.{ℕ, List, [], ◌∷◌, ◌++◌, Bool, true, false, codes, drop, map, Option, option_to_list}
+use Rattle.std.specs.Option.{option_map}
+use Rattle.std.specs.declared.vec.Vec.{Vec}
+use Rattle.def_term.specs.Tree.{Tree, atom, pid, tuple, of_elements}
+use Rattle.def_term.specs.Names.{Name, Mfa, word}
+use Rattle.def_term.specs.Text.{w, joined, each_after_comma, atom_text}
+use Rattle.def_node.specs.Event.{Event, sent, received, called, returned, spawning, spawned, exited, linked, unlinked, getting_linked, getting_unlinked}
+use Rattle.def_session.specs.Messages.{call_term, elements_of, process_of}
+use Rattle.tn_term.specs.Views.{tree_of, mfa_seen}
+use Rattle.tn_term.specs.declared.mfa.Mfa as mfas
+use Rattle.tn_term.specs.declared.term.Term.{Term}
+use Rattle.tn_flags.specs.Views.{event_of}
+use Rattle.tn_session.specs.declared.message.Message.{Message}
+
+-- the terms of a list
+abbrev pub trees : {A : Type 0} → Vec (Term A) A → List Tree
+trees v = map tree_of v.items
+
+-- `{M,F,Args}`
+abbrev pub call_seen : {A : Type 0} → mfas.Mfa A → Vec (Term A) A → Tree
+call_seen f args = call_term (mfa_seen f) (trees args)
+
+-- the last term, where there is one
+abbrev pub last_seen : {A : Type 0} → Option (Term A) → List Tree
+last_seen t = option_to_list (option_map tree_of t)
+
+-- the elements of the message of a return
+abbrev pub elements_of_return : {A B : Type 0} → ℕ → mfas.Mfa A → Term B → List Tree
+elements_of_return p f t = elements_of false (returned p (mfa_seen f) (tree_of t) 0)
+
+-- the first three elements of a message
+abbrev pub first_three : ℕ → Name → List Tree
+first_three p kind = word "trace" ∷ pid p ∷ atom kind ∷ []
+
+-- the event's elements, and the last term where there is one
+abbrev pub message_seen : {A : Type 0} → Message A → Tree
+message_seen m = tuple (of_elements (elements_of m.short (event_of m.event.now) ++ last_seen m.last))
+
+-- the third element of an event's message
+abbrev pub kind_of : Event → Name
+kind_of (sent p t to true) = codes "send"
+kind_of (sent p t to false) = codes "send_to_non_existing_process"
+kind_of (received p sender t) = codes "receive"
+kind_of (called p c) = codes "call"
+kind_of (returned p f t depth) = codes "return_from"
+kind_of (spawning p child f args) = codes "spawn"
+kind_of (spawned p parent f args) = codes "spawned"
+kind_of (exited p r) = codes "exit"
+kind_of (linked p q) = codes "link"
+kind_of (unlinked p q) = codes "unlink"
+kind_of (getting_linked p q) = codes "getting_linked"
+kind_of (getting_unlinked p q) = codes "getting_unlinked"
+
+-- the elements behind it
+abbrev pub details_of : Bool → Event → List Tree
+details_of short e = drop 3 (elements_of short e)
+
+-- `{trace,<0.N.0>,` and the third element
+abbrev pub front_text : Event → List ℕ
+front_text e = codes "{trace," ++ w (pid (process_of e)) ++ codes "," ++ atom_text (kind_of e)
+
+-- a brace and the elements with a comma between any two
+abbrev pub elements_text : Bool → Event → List ℕ
+elements_text short e = 123 ∷ joined (of_elements (elements_of short e))
+
+-- the elements behind the kind, each with a comma before it
+abbrev pub details_text : Bool → Event → List ℕ
+details_text short e = each_after_comma (of_elements (details_of short e))
+
+-- `,{M,F,`
+abbrev pub names_text : Mfa → List ℕ
+names_text f = codes ",{" ++ atom_text f.module_name ++ codes "," ++ atom_text f.function_name ++ codes ","

@@ -1,0 +1,19 @@
+-- The newest of the function commands that were accepted.
+use Rattle.std.specs.Prelude.{Bool, ◌||◌, List, [], ◌∷◌, Option, Some, None, if◌then◌else◌}
+use Rattle.def_term.specs.Names.{Mfa}
+use Rattle.def_session.specs.Settings.{Covering, Setting, off, has_among}
+
+-- the first of these, which are the newest first, that has the function among its own
+abbrev pub newest_with : List Covering → Mfa → Bool → Option Covering
+newest_with [] f exported = None
+newest_with (k ∷ ks) f exported = if has_among k f exported then Some k else newest_with ks f exported
+
+-- no setting is a disabled one
+abbrev pub setting_in : Option Setting → Setting
+setting_in None = off
+setting_in (Some s) = s
+
+-- the setting of a command, where it concerns a call that names the module or not
+abbrev pub concerning : Option Covering → Bool → Setting
+concerning None named = off
+concerning (Some k) named = if k.local || named then k.setting else off

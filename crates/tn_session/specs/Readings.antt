@@ -1,0 +1,23 @@
+-- What a term is read as where a command sets something.
+use Rattle.std.specs.Prelude.{◌≡◌, ◌≤◌, MatchResult, Result, Ok, Err}
+use Rattle.def_term.specs.Tree.{Tree, size}
+use Rattle.def_spec.specs.Reading as reading
+use Rattle.def_session.specs.Settings.{setting_of}
+use Rattle.tn_spec.specs.declared.fault.SpecFault.{SpecFault}
+use Rattle.tn_spec.specs.declared.fault.SpecFault.TheVariants.{Badarg, Unsupported, TooLarge, OutOfMemory}
+use Rattle.tn_spec.specs.declared.func.Dialect.{Dialect}
+use Rattle.tn_spec.specs.Views.{dialect_of}
+use Rattle.tn_spec.specs.Readings.{TOO_LARGE}
+use Rattle.tn_session.specs.Views.{setting_seen}
+use Rattle.tn_session.specs.declared.setting.Setting.{Setting}
+
+-- a fault of a term that is read as a setting: its first, or that it is too large; want of memory tells nothing of it
+abbrev pub IsFaultIn : {A : Type 0} → Dialect → Tree → SpecFault A → Type 0
+IsFaultIn d t Badarg = setting_of (dialect_of d) t ≡ Err reading.badarg
+IsFaultIn d t (Unsupported s) = setting_of (dialect_of d) t ≡ Err (reading.unsupported s)
+IsFaultIn d t TooLarge = TOO_LARGE ≤ size t
+IsFaultIn d t OutOfMemory = Unit {0}
+
+-- the setting that the term spells, or its fault
+abbrev pub IsSettingRead : {A : Type 0} → Dialect → Tree → Result (Setting A) (SpecFault A) → Type 0
+IsSettingRead d t result = MatchResult result (λ s. setting_of (dialect_of d) t ≡ Ok (setting_seen s)) (λ fault. IsFaultIn d t fault)

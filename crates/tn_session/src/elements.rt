@@ -1,0 +1,268 @@
+// The elements of the message of an event, as terms.
+ghost use Rattle.std.specs.Prelude.{◌≡◌, ◌++◌, [], ◌∷◌, Bool, IsTrue, IfOk};
+ghost use Rattle.def_term.specs.Tree.{pid as pid_tree, tuple, list, of_elements};
+ghost use Rattle.def_term.specs.Names.{mfa_term};
+ghost use Rattle.def_node.specs.Event.{sent as send, called as call_event};
+ghost use Rattle.def_session.specs.Messages.{elements_of};
+ghost use Rattle.tn_term.specs.Views.{tree_of, mfa_seen};
+ghost use Rattle.tn_flags.specs.Views.{event_of, call_of};
+ghost use Rattle.tn_session.specs.Messages.{first_three, trees, call_seen, last_seen, elements_of_return};
+ghost use Rattle.tn_session.specs.Words.{is_atom_text};
+
+use crate::message::word;
+use std::alloc::{AllocError, Allocator};
+use tn_flags::{Call, Event};
+use tn_term::{Mfa, Term, copy_terms};
+
+/// The elements of the message of an event; a call's names the arity alone where `short`. There is room
+/// for one more.
+pub(crate) fn elements<A: Allocator, B: Allocator + Copy>(
+    alloc: B,
+    event: &Event<A>,
+    short: bool,
+) -> Result<Vec<Term<B>, B>, AllocError>
+    ensures { IfOk result (λ v. trees v ≡ elements_of short (event_of event.now)) }
+{
+    match event {
+        Event::Sent {
+            pid,
+            message,
+            to,
+            alive,
+        } => Ok(sent(alloc, *pid, message, *to, *alive)?),
+        Event::Received { pid, message, .. } => Ok(with_copy(alloc, *pid, "receive", message)?),
+        Event::Called { pid, call } => Ok(called(alloc, *pid, call, short)?),
+        Event::Returned {
+            pid,
+            mfa,
+            value,
+            ..
+        } => Ok(returned(alloc, *pid, mfa, value)?),
+        Event::Spawn {
+            pid,
+            child,
+            mfa,
+            args,
+        } => Ok(with_call(alloc, *pid, "spawn", *child, mfa, args)?),
+        Event::Spawned {
+            pid,
+            parent,
+            mfa,
+            args,
+        } => Ok(with_call(alloc, *pid, "spawned", *parent, mfa, args)?),
+        Event::Exited { pid, reason } => Ok(with_copy(alloc, *pid, "exit", reason)?),
+        Event::Linked { pid, other } => Ok(with_one(alloc, *pid, "link", Term::Pid(*other))?),
+        Event::Unlinked { pid, other } => Ok(with_one(alloc, *pid, "unlink", Term::Pid(*other))?),
+        Event::GettingLinked { pid, other } => Ok(with_one(
+            alloc,
+            *pid,
+            "getting_linked",
+            Term::Pid(*other),
+        )?),
+        Event::GettingUnlinked { pid, other } => Ok(with_one(
+            alloc,
+            *pid,
+            "getting_unlinked",
+            Term::Pid(*other),
+        )?),
+    }
+}
+
+/// `trace`, the pid and the kind, with room for three more elements.
+fn front<B: Allocator + Copy>(alloc: B, pid: u32, kind: &str) -> Result<Vec<Term<B>, B>, AllocError>
+    requires { IsTrue (is_atom_text kind.now) }
+    ensures { IfOk result (λ v. trees v ≡ first_three pid kind.now) }
+{
+    let trace = word(alloc, "trace")?;
+    let kind = word(alloc, kind)?;
+    let mut items = Vec::with_capacity(alloc, 6)?;
+    items.push(trace)?;
+    items.push(Term::Pid(pid))?;
+    items.push(kind)?;
+    Ok(items)
+}
+
+/// `trace`, the pid, the kind and one more element.
+fn with_one<B: Allocator + Copy>(
+    alloc: B,
+    pid: u32,
+    kind: &str,
+    detail: Term<B>,
+) -> Result<Vec<Term<B>, B>, AllocError>
+    requires { IsTrue (is_atom_text kind.now) }
+    ensures { IfOk result (λ v. trees v ≡ first_three pid kind.now ++ tree_of detail ∷ []) }
+{
+    let mut items = front(alloc, pid, kind)?;
+    items.push(detail)?;
+    Ok(items)
+}
+
+/// `trace`, the pid, the kind and two more elements.
+fn with_two<B: Allocator + Copy>(
+    alloc: B,
+    pid: u32,
+    kind: &str,
+    detail: Term<B>,
+    other: Term<B>,
+) -> Result<Vec<Term<B>, B>, AllocError>
+    requires { IsTrue (is_atom_text kind.now) }
+    ensures { IfOk result (λ v. trees v ≡ first_three pid kind.now ++ tree_of detail ∷ tree_of other ∷ []) }
+{
+    let mut items = front(alloc, pid, kind)?;
+    items.push(detail)?;
+    items.push(other)?;
+    Ok(items)
+}
+
+/// `trace`, the pid, the kind and a copy of a term.
+fn with_copy<A: Allocator, B: Allocator + Copy>(
+    alloc: B,
+    pid: u32,
+    kind: &str,
+    detail: &Term<A>,
+) -> Result<Vec<Term<B>, B>, AllocError>
+    requires { IsTrue (is_atom_text kind.now) }
+    ensures { IfOk result (λ v. trees v ≡ first_three pid kind.now ++ tree_of detail.now ∷ []) }
+{
+    let detail = detail.copy_into(alloc)?;
+    Ok(with_one(alloc, pid, kind, detail)?)
+}
+
+/// `trace`, the pid, the kind, another pid and `{M,F,Args}`.
+fn with_call<A: Allocator, B: Allocator + Copy>(
+    alloc: B,
+    pid: u32,
+    kind: &str,
+    to: u32,
+    mfa: &Mfa<A>,
+    args: &Vec<Term<A>, A>,
+) -> Result<Vec<Term<B>, B>, AllocError>
+    requires { IsTrue (is_atom_text kind.now) }
+    ensures { IfOk result (λ v. trees v ≡ first_three pid kind.now ++ pid_tree to ∷ call_seen mfa.now args.now ∷ []) }
+{
+    let call = call_with_args(alloc, mfa, args)?;
+    Ok(with_two(alloc, pid, kind, Term::Pid(to), call)?)
+}
+
+/// The elements of the message of a send.
+fn sent<A: Allocator, B: Allocator + Copy>(
+    alloc: B,
+    pid: u32,
+    message: &Term<A>,
+    to: u32,
+    alive: bool,
+) -> Result<Vec<Term<B>, B>, AllocError>
+    ensures { (s : Bool) → IfOk result (λ v. trees v ≡ elements_of s (send pid (tree_of message.now) to alive)) }
+{
+    let message = message.copy_into(alloc)?;
+    if alive {
+        Ok(with_two(alloc, pid, "send", message, Term::Pid(to))?)
+    } else {
+        Ok(with_two(
+            alloc,
+            pid,
+            "send_to_non_existing_process",
+            message,
+            Term::Pid(to),
+        )?)
+    }
+}
+
+/// The elements of the message of a call.
+fn called<A: Allocator, B: Allocator + Copy>(
+    alloc: B,
+    pid: u32,
+    call: &Call<A>,
+    short: bool,
+) -> Result<Vec<Term<B>, B>, AllocError>
+    ensures { IfOk result (λ v. trees v ≡ elements_of short (call_event pid (call_of call.now))) }
+{
+    if short {
+        let name = name_with_arity(alloc, &call.mfa)?;
+        Ok(with_one(alloc, pid, "call", name)?)
+    } else {
+        let whole = call_with_args(alloc, &call.mfa, &call.args)?;
+        Ok(with_one(alloc, pid, "call", whole)?)
+    }
+}
+
+/// The elements of the message of a return.
+fn returned<A: Allocator, B: Allocator + Copy>(
+    alloc: B,
+    pid: u32,
+    mfa: &Mfa<A>,
+    value: &Term<A>,
+) -> Result<Vec<Term<B>, B>, AllocError>
+    ensures { IfOk result (λ v. trees v ≡ elements_of_return pid mfa.now value.now) }
+{
+    let name = name_with_arity(alloc, mfa)?;
+    let value = value.copy_into(alloc)?;
+    Ok(with_two(alloc, pid, "return_from", name, value)?)
+}
+
+/// A tuple of three terms.
+fn tuple_of_three<B: Allocator + Copy>(
+    alloc: B,
+    first: Term<B>,
+    second: Term<B>,
+    third: Term<B>,
+) -> Result<Term<B>, AllocError>
+    ensures { IfOk result (λ t. tree_of t ≡ tuple (of_elements (tree_of first ∷ tree_of second ∷ tree_of third ∷ []))) }
+{
+    let mut items = Vec::with_capacity(alloc, 3)?;
+    items.push(first)?;
+    items.push(second)?;
+    items.push(third)?;
+    Ok(Term::Tuple(items))
+}
+
+/// `{M,F,Arity}`
+fn name_with_arity<A: Allocator, B: Allocator + Copy>(
+    alloc: B,
+    mfa: &Mfa<A>,
+) -> Result<Term<B>, AllocError>
+    ensures { IfOk result (λ t. tree_of t ≡ mfa_term (mfa_seen mfa.now)) }
+{
+    let module = Term::Atom(mfa.module.copy_into(alloc)?);
+    let name = Term::Atom(mfa.name.copy_into(alloc)?);
+    Ok(tuple_of_three(alloc, module, name, Term::Int(i64::from(mfa.arity)))?)
+}
+
+/// The list of copies of these terms.
+fn list_of<A: Allocator, B: Allocator + Copy>(
+    alloc: B,
+    items: &Vec<Term<A>, A>,
+) -> Result<Term<B>, AllocError>
+    ensures { IfOk result (λ t. tree_of t ≡ list (of_elements (trees items.now))) }
+{
+    let copies = copy_terms(items, alloc)?;
+    Ok(Term::List(copies))
+}
+
+/// `{M,F,Args}`
+fn call_with_args<A: Allocator, B: Allocator + Copy>(
+    alloc: B,
+    mfa: &Mfa<A>,
+    args: &Vec<Term<A>, A>,
+) -> Result<Term<B>, AllocError>
+    ensures { IfOk result (λ t. tree_of t ≡ call_seen mfa.now args.now) }
+{
+    let module = Term::Atom(mfa.module.copy_into(alloc)?);
+    let name = Term::Atom(mfa.name.copy_into(alloc)?);
+    let args = list_of(alloc, args)?;
+    Ok(tuple_of_three(alloc, module, name, args)?)
+}
+
+/// Puts a copy of the last term behind the others, where there is one.
+pub(crate) fn push_last<A: Allocator, B: Allocator + Copy>(
+    alloc: B,
+    last: &Option<Term<A>>,
+    items: &mut Vec<Term<B>, B>,
+) -> Result<(), AllocError>
+    ensures { IfOk result (λ _. trees items.new ≡ trees items.old ++ last_seen last.now) }
+{
+    if let Some(term) = last {
+        items.push(term.copy_into(alloc)?)?;
+    }
+    Ok(())
+}

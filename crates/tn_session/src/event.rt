@@ -1,0 +1,512 @@
+// What a session makes of an event.
+ghost use Rattle.std.specs.Prelude.{◌≡◌, ◌-◌, ◌==◌, ℕ, Bool, not, ◌&&◌, if◌then◌else◌, List, [], map, filter, IfOk};
+ghost use Rattle.std.specs.List.{list_any};
+ghost use Rattle.std.specs.Option.{option_map};
+ghost use Rattle.def_term.specs.Names as names;
+ghost use Rattle.def_term.specs.Tree.{Tree};
+ghost use Rattle.def_spec.specs.Expressions.{Effect as Asked, silences};
+ghost use Rattle.def_node.specs.Event.{sent, received, called, returned, exited};
+ghost use Rattle.def_session.specs.State as definition;
+ghost use Rattle.def_session.specs.Messages as messages;
+ghost use Rattle.def_session.specs.Messages.{elements_of};
+ghost use Rattle.def_session.specs.Session as session;
+ghost use Rattle.def_session.specs.Session.{message_after};
+ghost use Rattle.tn_term.specs.Views.{tree_of};
+ghost use Rattle.tn_flags.specs.Views.{event_of, call_of};
+ghost use Rattle.tn_guard.specs.Views.{value_seen};
+ghost use Rattle.tn_action.specs.Views.{context_seen, effect_seen};
+ghost use Rattle.tn_session.specs.Views.{setting_seen, state_seen};
+ghost use Rattle.tn_session.specs.Told.{told, told_as_term, telling, telling_live, telling_by, following, finishing};
+ghost use Rattle.tn_session.specs.Told.{asked, given, evaluating, evaluating_by, on_values, message_in};
+
+use crate::message::Message;
+use crate::setting::Setting;
+use crate::state::{Mark, Phase, State};
+use std::alloc::{AllocError, Allocator};
+use tn_action::{Context, Effect, Outcome, outcome};
+use tn_flags::{Call, Event, Flags, inherit_link, inherit_spawn};
+use tn_guard::{Parts, Value, Word};
+use tn_term::Term;
+
+// ---- one event
+
+impl<A: Allocator + Copy> State<A> {
+    /// What the session makes of an event: the state afterwards, and at most one message. A destroyed
+    /// session follows who lives, and tells nothing.
+    pub(crate) fn tell<'a>(
+        &mut self,
+        event: &'a Event<A>,
+    ) -> Result<Option<Message<'a, A>>, AllocError>
+        ensures told { IfOk result (λ m. telling self.old event.now ≡ told self.new m) }
+        ensures functions { self.new.functions ≡ self.old.functions }
+    {
+        match self.phase {
+            Phase::Live => Ok(self.tell_live(event)?),
+            Phase::Destroyed => {
+                self.follow(event);
+                Ok(None)
+            }
+        }
+    }
+
+    /// What the session makes of an event, with the message as a term.
+    pub(crate) fn event(&mut self, event: &Event<A>) -> Result<Option<Term<A>>, AllocError>
+        ensures told { IfOk result (λ m. telling self.old event.now ≡ told_as_term self.new m) }
+        ensures functions { self.new.functions ≡ self.old.functions }
+    {
+        let alloc = self.alloc;
+        match self.tell(event)? {
+            Some(message) => Ok(Some(message.term(alloc)?)),
+            None => Ok(None),
+        }
+    }
+
+    /// What a live session makes of an event.
+    fn tell_live<'a>(&mut self, event: &'a Event<A>) -> Result<Option<Message<'a, A>>, AllocError>
+        ensures told { IfOk result (λ m. telling_live self.old event.now ≡ told self.new m) }
+        ensures functions { self.new.functions ≡ self.old.functions }
+    {
+        self.inherit(event);
+        match self.evaluated(event)? {
+            Some(effects) => Ok(self.tell_by(event, effects)?),
+            None => {
+                self.finish(event, false)?;
+                Ok(None)
+            }
+        }
+    }
+
+    /// The effects, then the message, then marks.
+    fn tell_by<'a>(
+        &mut self,
+        event: &'a Event<A>,
+        effects: Vec<Effect<A>, A>,
+    ) -> Result<Option<Message<'a, A>>, AllocError>
+        ensures told { IfOk result (λ m. telling_by effects.items self.old event.now ≡ told self.new m) }
+        ensures functions { self.new.functions ≡ self.old.functions }
+    {
+        self.affect_all(process_of(event), &effects);
+        let marks = marks_frame(&effects);
+        let message = self.message_after(event, effects);
+        self.finish(event, marks)?;
+        Ok(message)
+    }
+
+    /// A session that was destroyed follows who lives, and nothing else.
+    fn follow(&mut self, event: &Event<A>)
+        ensures state { state_seen self.new ≡ following (state_seen self.old) (event_of event.now) }
+        ensures functions { self.new.functions ≡ self.old.functions }
+    {
+        match event {
+            Event::Spawned { pid, .. } => self.alive.add(*pid),
+            Event::Exited { pid, .. } => self.alive.remove(*pid),
+            _ => {}
+        }
+    }
+
+    /// What the child or the partner inherits, before the events `spawned` and `getting_linked`.
+    fn inherit(&mut self, event: &Event<A>)
+        ensures state { state_seen self.new ≡ session.inherited (state_seen self.old) (event_of event.now) }
+        ensures functions { self.new.functions ≡ self.old.functions }
+    {
+        match event {
+            Event::Spawned { pid, parent, .. } => {
+                self.alive.add(*pid);
+                let (kept, child) = inherit_spawn(self.flags_at(*parent), self.for_new);
+                self.set_flags(*parent, kept);
+                self.set_flags(*pid, child);
+            }
+            Event::GettingLinked { pid, other } => {
+                let (kept, partner) = inherit_link(self.flags_at(*other), self.flags_at(*pid));
+                self.set_flags(*other, kept);
+                self.set_flags(*pid, partner);
+            }
+            _ => {}
+        }
+    }
+}
+
+/// The process that the event is about.
+pub(crate) fn process_of<A: Allocator>(event: &Event<A>) -> u32
+    ensures { result ≡ messages.process_of (event_of event.now) }
+{
+    match event {
+        Event::Sent { pid, .. }
+        | Event::Received { pid, .. }
+        | Event::Called { pid, .. }
+        | Event::Returned { pid, .. }
+        | Event::Spawn { pid, .. }
+        | Event::Spawned { pid, .. }
+        | Event::Exited { pid, .. }
+        | Event::Linked { pid, .. }
+        | Event::Unlinked { pid, .. }
+        | Event::GettingLinked { pid, .. }
+        | Event::GettingUnlinked { pid, .. } => *pid,
+    }
+}
+
+// ---- what is evaluated
+
+impl<A: Allocator + Copy> State<A> {
+    /// The effects of an event; None where it gives no message.
+    fn evaluated(&self, event: &Event<A>) -> Result<Option<Vec<Effect<A>, A>>, AllocError>
+        ensures { IfOk result (λ r. given r ≡ evaluating self.now (event_of event.now)) }
+    {
+        match event {
+            Event::Sent {
+                pid,
+                message,
+                to,
+                ..
+            } => Ok(self.evaluated_send(*pid, message, *to)?),
+            Event::Received {
+                pid,
+                sender,
+                message,
+            } => Ok(self.evaluated_receive(*pid, *sender, message)?),
+            Event::Called { pid, call } => Ok(self.evaluated_call(*pid, call)?),
+            Event::Returned { pid, depth, .. } => Ok(self.evaluated_return(*pid, *depth)),
+            Event::Spawn { pid, .. }
+            | Event::Spawned { pid, .. }
+            | Event::Exited { pid, .. }
+            | Event::Linked { pid, .. }
+            | Event::Unlinked { pid, .. }
+            | Event::GettingLinked { pid, .. }
+            | Event::GettingUnlinked { pid, .. } => Ok(self.plainly(self.flags_at(*pid).procs)),
+        }
+    }
+
+    /// No effects, where the message is told.
+    fn plainly(&self, told: bool) -> Option<Vec<Effect<A>, A>>
+        ensures { given result ≡ (if told then Some [] else None) }
+    {
+        if told {
+            Some(Vec::new(self.alloc))
+        } else {
+            None
+        }
+    }
+
+    /// The effects of a send, by the send setting.
+    fn evaluated_send(
+        &self,
+        pid: u32,
+        message: &Term<A>,
+        to: u32,
+    ) -> Result<Option<Vec<Effect<A>, A>>, AllocError>
+        ensures { (b : Bool) → IfOk result (λ r. given r ≡ evaluating self.now (sent pid (tree_of message.now) to b)) }
+    {
+        if !self.flags_at(pid).send {
+            return Ok(None);
+        }
+        let list = [Value::Pid(to), Value::Lent(message)];
+        Ok(self.evaluated_values(&self.sending, pid, &list)?)
+    }
+
+    /// The effects of a receive, by the receive setting.
+    fn evaluated_receive(
+        &self,
+        pid: u32,
+        sender: u32,
+        message: &Term<A>,
+    ) -> Result<Option<Vec<Effect<A>, A>>, AllocError>
+        ensures { IfOk result (λ r. given r ≡ evaluating self.now (received pid sender (tree_of message.now))) }
+    {
+        if !self.flags_at(pid).receive {
+            return Ok(None);
+        }
+        let list = [
+            Value::Word(Word::Node),
+            Value::Pid(sender),
+            Value::Lent(message),
+        ];
+        Ok(self.evaluated_values(&self.receiving, pid, &list)?)
+    }
+
+    /// The effects by a setting, on these values.
+    fn evaluated_values<'a>(
+        &'a self,
+        setting: &Setting<A>,
+        me: u32,
+        list: &'a [Value<'a, A>],
+    ) -> Result<Option<Vec<Effect<A>, A>>, AllocError>
+        ensures { IfOk result (λ r. given r ≡ evaluating_by setting.now (on_values self.now me list.now)) }
+    {
+        let context = Context {
+            list: Parts::Values(list),
+            me,
+            caller: None,
+            alive: &self.alive,
+        };
+        Ok(evaluated_by(self.alloc, setting, &context)?)
+    }
+
+    /// The effects of a call, by the setting of its function.
+    fn evaluated_call(
+        &self,
+        pid: u32,
+        call: &Call<A>,
+    ) -> Result<Option<Vec<Effect<A>, A>>, AllocError>
+        ensures { IfOk result (λ r. given r ≡ evaluating self.now (called pid (call_of call.now))) }
+    {
+        if !self.flags_at(pid).call {
+            return Ok(None);
+        }
+        match self.settings.setting_for(call) {
+            Some(setting) => {
+                let context = Context {
+                    list: Parts::Terms(call.args.as_slice()),
+                    me: pid,
+                    caller: call.caller.as_ref(),
+                    alive: &self.alive,
+                };
+                Ok(evaluated_by(self.alloc, setting, &context)?)
+            }
+            None => Ok(None),
+        }
+    }
+
+    /// The effects of a return, where its frame is marked: none.
+    fn evaluated_return(&self, pid: u32, depth: usize) -> Option<Vec<Effect<A>, A>>
+        ensures { (f : names.Mfa) (t : Tree) → given result ≡ evaluating self.now (returned pid f t depth) }
+    {
+        let told = self.flags_at(pid).call && self.is_marked(pid, depth);
+        self.plainly(told)
+    }
+
+    /// Whether the frame is marked.
+    fn is_marked(&self, pid: u32, depth: usize) -> bool
+        ensures { result ≡ session.is_marked (state_seen self.now) pid depth }
+    {
+        has_mark(&self.marks, pid, depth)
+    }
+}
+
+/// Whether one of the marks is that of the frame.
+fn has_mark(marks: &[Mark], pid: u32, depth: usize) -> bool
+    ensures { result ≡ list_any (λ m. m.pid == pid && m.depth == depth) marks.now }
+{
+    marks
+        .iter()
+        .any(|mark| mark.pid == pid && mark.depth == depth)
+}
+
+/// The effects by a setting; None where it is off, or where no clause of its specification fires.
+fn evaluated_by<A: Allocator + Copy>(
+    alloc: A,
+    setting: &Setting<A>,
+    context: &Context<'_, A>,
+) -> Result<Option<Vec<Effect<A>, A>>, AllocError>
+    ensures { IfOk result (λ r. given r ≡ evaluating_by setting.now (context_seen context.now)) }
+{
+    match setting {
+        Setting::Off => Ok(None),
+        Setting::Plain => Ok(Some(Vec::new(alloc))),
+        Setting::By(spec) => match outcome(alloc, spec, context)? {
+            Outcome::Matched(effects) => Ok(Some(effects)),
+            Outcome::NoMatch => Ok(None),
+        },
+    }
+}
+
+// ---- effects
+
+const SILENT: Flags = Flags {
+    send: false,
+    receive: false,
+    call: false,
+    procs: false,
+    silent: true,
+    arity: false,
+    set_on_spawn: false,
+    set_on_first_spawn: false,
+    set_on_link: false,
+    set_on_first_link: false,
+};
+
+impl<A: Allocator> State<A> {
+    /// The effects, in order, of an event of this process.
+    fn affect_all(&mut self, me: u32, effects: &[Effect<A>])
+        ensures state { state_seen self.new ≡ session.all_affected me (state_seen self.old) (asked effects.now) }
+        ensures functions { self.new.functions ≡ self.old.functions }
+    {
+        for effect in effects {
+            self.affect(me, effect);
+        }
+    }
+
+    /// One effect: `silent` of the process itself, or flags of a process.
+    fn affect(&mut self, me: u32, effect: &Effect<A>)
+        ensures state { state_seen self.new ≡ session.affected me (state_seen self.old) (effect_seen effect.now) }
+        ensures functions { self.new.functions ≡ self.old.functions }
+    {
+        match effect {
+            Effect::Message(_) | Effect::ReturnTrace | Effect::ExceptionTrace => {}
+            Effect::Silent(on) => self.silence(me, *on),
+            Effect::Change { pid, off, on } => {
+                let flags = self.flags_at(*pid).without(*off).join(*on);
+                self.set_flags(*pid, flags);
+            }
+        }
+    }
+
+    /// Sets or clears `silent` of a process.
+    fn silence(&mut self, me: u32, on: bool)
+        ensures state { state_seen self.new ≡ session.affected me (state_seen self.old) (silences on) }
+        ensures functions { self.new.functions ≡ self.old.functions }
+    {
+        let flags = self.flags_at(me);
+        if on {
+            self.set_flags(me, flags.join(SILENT));
+        } else {
+            self.set_flags(me, flags.without(SILENT));
+        }
+    }
+}
+
+/// Whether the effects mark the frame of the call.
+fn marks_frame<A: Allocator>(effects: &[Effect<A>]) -> bool
+    ensures { result ≡ session.marks_frame (asked effects.now) }
+{
+    for effect in effects {
+        match effect {
+            Effect::ReturnTrace | Effect::ExceptionTrace => return true,
+            Effect::Message(_) | Effect::Silent(_) | Effect::Change { .. } => {}
+        }
+    }
+    false
+}
+
+// ---- the message
+
+impl<A: Allocator> State<A> {
+    /// The message, after the effects.
+    fn message_after<'a>(
+        &self,
+        event: &'a Event<A>,
+        effects: Vec<Effect<A>, A>,
+    ) -> Option<Message<'a, A>>
+        ensures { message_in result ≡ message_after (state_seen self.now) (event_of event.now) (asked effects.items) }
+    {
+        if self.is_silenced(event) {
+            return None;
+        }
+        let short = self.flags_at(process_of(event)).arity;
+        decided(event, short, last_message(effects))
+    }
+
+    /// Whether `silent` inhibits the event's message: that of a call or of a return.
+    fn is_silenced(&self, event: &Event<A>) -> bool
+        ensures { result ≡ session.is_silenced (state_seen self.now) (event_of event.now) }
+    {
+        match event {
+            Event::Called { pid, .. } | Event::Returned { pid, .. } => self.flags_at(*pid).silent,
+            _ => false,
+        }
+    }
+}
+
+/// The term of the last `message`, where there is one.
+fn last_message<A: Allocator>(mut effects: Vec<Effect<A>, A>) -> Option<Term<A>>
+    ensures { option_map tree_of result ≡ messages.last_message (asked effects.items) }
+{
+    while let Some(effect) = effects.pop() {
+        if let Effect::Message(term) = effect {
+            return Some(term);
+        }
+    }
+    None
+}
+
+/// The message by the last term that an effect gives: `false` suppresses it, `true` or none tells it
+/// plain, any other is its last element.
+fn decided<'a, A: Allocator>(
+    event: &'a Event<A>,
+    short: bool,
+    last: Option<Term<A>>,
+) -> Option<Message<'a, A>>
+    ensures { message_in result ≡ messages.decided (option_map tree_of last) (elements_of short (event_of event.now)) }
+{
+    match last {
+        Some(term) => {
+            if term.is_word("true") {
+                Some(Message {
+                    event,
+                    short,
+                    last: None,
+                })
+            } else if term.is_word("false") {
+                None
+            } else {
+                Some(Message {
+                    event,
+                    short,
+                    last: Some(term),
+                })
+            }
+        }
+        None => Some(Message {
+            event,
+            short,
+            last: None,
+        }),
+    }
+}
+
+// ---- marks, and the end of a process
+
+impl<A: Allocator> State<A> {
+    /// A call marks its frame, a return removes the mark; after an exit the process's flags and marks are gone.
+    fn finish(&mut self, event: &Event<A>, marks: bool) -> Result<(), AllocError>
+        ensures state { (es : List Asked) → session.marks_frame es ≡ marks →
+            IfOk result (λ _. state_seen self.new ≡ session.finished (state_seen self.old) (event_of event.now) es) }
+        ensures functions { self.new.functions ≡ self.old.functions }
+    {
+        match event {
+            Event::Called { pid, call } => {
+                if marks {
+                    self.marks.push(Mark {
+                        pid: *pid,
+                        depth: call.depth,
+                    })?;
+                }
+            }
+            Event::Returned { pid, depth, .. } => self.unmark(*pid, *depth),
+            Event::Exited { pid, .. } => self.forget(*pid),
+            _ => {}
+        }
+        Ok(())
+    }
+
+    /// Removes the marks of a frame.
+    fn unmark(&mut self, pid: u32, depth: usize)
+        ensures state { (f : names.Mfa) (t : Tree) → state_seen self.new ≡ finishing self.old (returned pid f t depth) }
+        ensures functions { self.new.functions ≡ self.old.functions }
+    {
+        drop_marks(&mut self.marks, pid, depth);
+    }
+
+    /// The flags and marks of a process that ended are gone.
+    fn forget(&mut self, pid: u32)
+        ensures state { (t : Tree) → state_seen self.new ≡ finishing self.old (exited pid t) }
+        ensures functions { self.new.functions ≡ self.old.functions }
+    {
+        self.alive.remove(pid);
+        self.set_flags(pid, Flags::none());
+        drop_all_marks(&mut self.marks, pid);
+    }
+}
+
+/// Removes the marks of a frame.
+fn drop_marks<A: Allocator>(marks: &mut Vec<Mark, A>, pid: u32, depth: usize)
+    ensures { marks.new.items ≡ filter (λ m. not (m.pid == pid && m.depth == depth)) marks.old.items }
+{
+    marks.retain(|mark| !(mark.pid == pid && mark.depth == depth));
+}
+
+/// Removes the marks of a process.
+fn drop_all_marks<A: Allocator>(marks: &mut Vec<Mark, A>, pid: u32)
+    ensures { marks.new.items ≡ filter (λ m. not (m.pid == pid)) marks.old.items }
+{
+    marks.retain(|mark| !(mark.pid == pid));
+}

@@ -1,0 +1,73 @@
+// The state of a session that was created.
+ghost use Rattle.std.specs.Prelude.{◌≡◌, ◌-◌};
+ghost use Rattle.def_session.specs.State as definition;
+ghost use Rattle.tn_flags.specs.Views.{flags_of};
+ghost use Rattle.tn_session.specs.Views.{state_seen};
+
+use crate::setting::{Setting, Settings};
+use std::alloc::Allocator;
+use tn_flags::Flags;
+use tn_term::{Alive, FIRST_PID, Mfa};
+
+/// Whether the session was destroyed.
+#[derive(Clone, Copy, Debug, PartialEq, Eq)]
+pub(crate) enum Phase {
+    Live,
+    Destroyed,
+}
+
+/// A frame whose return is told.
+#[derive(Clone, Copy)]
+pub(crate) struct Mark {
+    pub pid: u32,
+    pub depth: usize,
+}
+
+/// What a session knows and was told to show.
+#[derive(Drop)]
+pub(crate) struct State<A: Allocator> {
+    pub alloc: A,
+    pub phase: Phase,
+    /// The functions of the program, each with whether it is exported.
+    pub functions: Vec<(Mfa<A>, bool), A>,
+    pub alive: Alive,
+    /// Of the processes 100 to 163.
+    pub flags: [Flags; 64],
+    /// Of new processes.
+    pub for_new: Flags,
+    pub settings: Settings<A>,
+    pub sending: Setting<A>,
+    pub receiving: Setting<A>,
+    /// The frames that are marked, the newest last.
+    pub marks: Vec<Mark, A>,
+}
+
+/// The place of a process among the flags: that of pid 100 is 0.
+fn place_of(pid: u32) -> usize
+    ensures { result ≡ pid - 100 }
+{
+    pid.saturating_sub(FIRST_PID) as usize
+}
+
+impl<A: Allocator> State<A> {
+    /// The flags of the process with this pid.
+    pub(crate) fn flags_at(&self, pid: u32) -> Flags
+        ensures { flags_of result ≡ definition.flags_at (state_seen self.now) pid }
+    {
+        match self.flags.get(place_of(pid)) {
+            Some(flags) => *flags,
+            None => Flags::none(),
+        }
+    }
+
+    /// Changes the flags of the process with this pid.
+    pub(crate) fn set_flags(&mut self, pid: u32, flags: Flags)
+        ensures state { state_seen self.new ≡ definition.with_flags (state_seen self.old) pid (flags_of flags) }
+        ensures functions { self.new.functions ≡ self.old.functions }
+    {
+        let place = place_of(pid);
+        if place < self.flags.len() {
+            self.flags[place] = flags;
+        }
+    }
+}

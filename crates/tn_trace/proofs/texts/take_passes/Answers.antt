@@ -1,0 +1,24 @@
+use Rattle.std.proofs.Common.{◌≡◌, ◌++◌, sym, subst, append-nil, arith}
+use Rattle.def_run.specs.Laws.{repeated}
+use Rattle.def_run.specs.Round.{pass}
+use Rattle.tn_program.specs.Views.{program_of}
+use Rattle.tn_trace.specs.Follows.{Follows}
+use Rattle.tn_trace.proofs.Following.{passes_more}
+use Rattle.tn_trace.proofs.texts.take_passes.Goals as goal
+
+pub loop-turn-init : goal.loop-turn-init
+loop-turn-init g c = λ before bound run. subst (λ xs. Follows (program_of c.args.program.now) c.args.limit xs c.args.engine.now) (sym (append-nil before)) run
+
+pub loop-turn-preserved : goal.loop-turn-preserved
+loop-turn-preserved g c = λ before bound run.
+    let l = c.loop-turn in
+    subst (λ xs. Follows (program_of c.args.program.now) c.args.limit xs c.take_pass.new.engine) (passes_more before pass l.turn)
+    (c.in_ok-take_pass.ensures (before ++ repeated pass l.turn) bound (l.invariant before bound run))
+
+pub returns : goal.returns
+returns g c = λ before bound run.
+    let l = c.loop-turn in
+    let past = c.loop-turn-test.false in
+    let within = l.auto.turn-end in
+    let all : l.turn ≡ c.args.count = omega arith in
+    subst (λ k. Follows (program_of c.args.program.now) c.args.limit (before ++ repeated pass k) l.engine) all (l.invariant before bound run)

@@ -1,0 +1,18 @@
+-- The parts of an output, and what adds them to a text.
+use Rattle.std.specs.Prelude.{◌≡◌, ℕ, List, ◌++◌, option_to_list, slice_get}
+use Rattle.std.specs.declared.vec.Vec.{Vec}
+use Rattle.def_script.specs.Program.{Program}
+use Rattle.def_script.specs.Script.{creations}
+use Rattle.def_run.specs.Listing.{messages, listings_text}
+
+-- the new text is the old one with these bytes behind it
+abbrev pub Adds : {A : Type 0} → List ℕ → Vec ℕ A → Vec ℕ A → Type 0
+Adds bytes old new = new.items ≡ old.items ++ bytes
+
+-- the listing of the session with this number, from 0; nothing where there is none
+abbrev pub listing_numbered : Program → List ℕ → ℕ → List ℕ
+listing_numbered p picks n = listings_text (λ s. messages s p picks) (option_to_list (slice_get (creations p.commands) n))
+
+-- the listings of all sessions
+abbrev pub all_listings : Program → List ℕ → List ℕ
+all_listings p picks = listings_text (λ s. messages s p picks) (creations p.commands)

@@ -1,0 +1,93 @@
+-- The sessions of a run side by side, each with its state and its messages so far, as the definitions give them.
+use Rattle.std.specs.Prelude.{ℕ, zero, suc, ◌∷◌, [], ◌++◌, List, Bool, map, filter, flat_map, length, Option, Some, None, option_to_list, slice_get, if◌then◌else◌}
+use Rattle.std.specs.Option.{unwrap_or}
+use Rattle.std.specs.Str.{bytes_eq}
+use Rattle.def_term.specs.Tree.{Tree}
+use Rattle.def_term.specs.Names.{Name, Mfa, word}
+use Rattle.def_script.specs.Program.{Function, mfa_of, Command, session_of}
+use Rattle.def_node.specs.Event.{Event}
+use Rattle.def_script.specs.Opening.{Opening}
+use Rattle.def_session.specs.State.{Session, absent_session}
+use Rattle.def_session.specs.Session.{event_told}
+use Rattle.def_session.specs.Commands.{command_done}
+use Rattle.def_run.specs.Run.{Shown}
+use Rattle.def_run.specs.View.{is_own}
+use Rattle.def_run.specs.Listing.{Item as Told, messages_from, session_after}
+
+-- a session of the control list, its state and its messages
+pub record Track : Type 0 where
+  pub number : ℕ
+  pub name : Name
+  pub session : Session
+  pub messages : List Tree
+
+-- the functions with their visibility
+abbrev pub visible : List Function → List (Mfa × Bool)
+visible ks = map (λ k. (mfa_of k, k.exported)) ks
+
+-- what the session of this number and name is after these items
+abbrev pub track_after : Opening → List Shown → ℕ → Name → Track
+track_after o items n s = record {
+  number = n;
+  name = s;
+  session = session_after o (absent_session o) (filter (is_own s) items);
+  messages = messages_from o (absent_session o) (filter (is_own s) items);
+}
+
+-- those of the control list, numbered from n
+abbrev pub tracks_from : Opening → List Shown → ℕ → List (Name × Name) → List Track
+tracks_from o items n [] = []
+tracks_from o items n (s ∷ ss) = track_after o items n s.0 ∷ tracks_from o items (suc n) ss
+
+-- a message of the session of this number, at this index
+abbrev pub item_at : ℕ → ℕ → Tree → Told
+item_at n i m = record { session = n; index = i; message = m }
+
+-- after one more event
+abbrev pub with_event : Event → Track → Track
+with_event e t = record t { session = (event_told t.session e).0; messages = t.messages ++ option_to_list (event_told t.session e).1 }
+
+-- what the event adds to the session's messages
+abbrev pub told_to : Event → Track → List Told
+told_to e t = map (item_at t.number (length t.messages)) (option_to_list (event_told t.session e).1)
+
+-- after one more command, where it is the session's own
+abbrev pub with_command : Opening → Command → Track → Track
+with_command o c t = if bytes_eq t.name (session_of c) then record t { session = (command_done o t.session c).0 } else t
+
+-- the reply of the session that a command names: of the last of that name
+abbrev pub reply_from : Opening → Command → Option Tree → List Track → Option Tree
+reply_from o c r [] = r
+reply_from o c r (t ∷ ts) = reply_from o c (if bytes_eq t.name (session_of c) then Some (command_done o t.session c).1 else r) ts
+
+-- the reply to a command
+abbrev pub reply_in : Opening → Command → List Track → Tree
+reply_in o c ts = unwrap_or (reply_from o c None ts) (word "badarg")
+
+-- the later of two replies
+abbrev pub newer_of : Option Tree → Option Tree → Option Tree
+newer_of (Some t) r = Some t
+newer_of None r = r
+
+-- the sessions after some events
+abbrev pub with_events : List Event → List Track → List Track
+with_events [] ts = ts
+with_events (e ∷ es) ts = with_events es (map (with_event e) ts)
+
+-- what the events add, by their order, and for one event by rising session number
+abbrev pub told_by : List Event → List Track → List Told
+told_by [] ts = []
+told_by (e ∷ es) ts = flat_map (told_to e) ts ++ told_by es (map (with_event e) ts)
+
+-- the list of the value is that of the value before with one more
+abbrev pub IsOneMore : {K X : Type 0} → (K → List X → Type 0) → X → K → K → Type 0
+IsOneMore {K} {X} Of x old new = (xs : List X) → Of old xs → Of new (xs ++ x ∷ [])
+
+-- the same, with several more
+abbrev pub AreMore : {K X : Type 0} → (K → List X → Type 0) → List X → K → K → Type 0
+AreMore {K} {X} Of more old new = (xs : List X) → Of old xs → Of new (xs ++ more)
+
+-- the command of this number, counted from 1
+abbrev pub command_numbered : List Command → ℕ → Option Command
+command_numbered cs zero = None
+command_numbered cs (suc n) = slice_get cs n

@@ -1,0 +1,119 @@
+// The core of a run.
+use crate::advancing::advance;
+use crate::engine::Engine;
+use crate::item::{Answer, StepFault};
+use crate::keeping::Terms;
+use std::alloc::{AllocError, Allocator};
+use tn_program::Program;
+use tn_term::Term;
+
+/// A program, and its node, sessions, listings, replies and journal after the picks that moved. It has
+/// none of these but the program once it was refused memory: it is spent.
+#[derive(Drop)]
+pub struct Core<A: Allocator> {
+    program: Program<A>,
+    engine: Option<Engine<A, Terms<A>>>,
+}
+
+impl<A: Allocator + Copy> Core<A> {
+    ghost use Rattle.std.specs.Prelude.{◌≡◌, List, ℕ, [], IfOk, MatchResult};
+    ghost use Rattle.def_script.specs.Program as definition;
+    ghost use Rattle.tn_program.specs.Views.{program_of};
+    ghost use Rattle.tn_trace.specs.Cores.{IsCore, IsSpent, Stepped, DestroyedStay, Lists, ListsByView, StruckLeave, AreReplies};
+
+    /// The core of the program and the empty journal.
+    pub fn new(alloc: A, program: Program<A>) -> Result<Core<A>, AllocError>
+        ensures { IfOk result (λ c. IsCore (program_of program) [] c) }
+    {
+        let engine = Engine::new(alloc, &program)?;
+        Ok(Core {
+            program,
+            engine: Some(engine),
+        })
+    }
+
+    /// The program.
+    pub fn program(&self) -> &Program<A>
+        ensures { (p : definition.Program) (picks : List ℕ) → IsCore p picks self.now → program_of result.now ≡ p }
+    {
+        &self.program
+    }
+
+    /// One more pick.
+    ///
+    /// # Errors
+    ///
+    /// Spent after a step that was refused memory; else LimitReached where the journal is full; else
+    /// OutOfMemory where memory was refused: the core is spent.
+    pub fn step(&mut self, pick: u32) -> Result<Answer<A>, StepFault>
+        ensures step { (p : definition.Program) (picks : List ℕ) → IsCore p picks self.old → Stepped p picks pick self.old self.new result }
+        ensures spent { IsSpent self.old → (result ≡ Err StepFault.Spent) × (self.new ≡ self.old) }
+        ensures destroyed { (p : definition.Program) (picks : List ℕ) → DestroyedStay p picks pick }
+    {
+        match &mut self.engine {
+            None => Err(StepFault::Spent),
+            Some(engine) => match advance(engine, &self.program, pick) {
+                Ok(answer) => Ok(answer),
+                Err(StepFault::OutOfMemory) => {
+                    self.engine = None;
+                    Err(StepFault::OutOfMemory)
+                }
+                Err(StepFault::LimitReached) => Err(StepFault::LimitReached),
+                Err(StepFault::Spent) => Err(StepFault::Spent),
+            },
+        }
+    }
+
+    /// The picks that moved, in order.
+    ///
+    /// # Errors
+    ///
+    /// Spent after a step that was refused memory.
+    pub fn journal(&self) -> Result<&[u32], StepFault>
+        ensures journal { (p : definition.Program) (picks : List ℕ) → IsCore p picks self.now → MatchResult result (λ v. v.now ≡ picks) (λ _. ⊥) }
+        ensures spent { IsSpent self.now → result ≡ Err StepFault.Spent }
+    {
+        match &self.engine {
+            Some(engine) => Ok(&engine.journal),
+            None => Err(StepFault::Spent),
+        }
+    }
+
+    /// The replies to the commands that were taken, in order.
+    ///
+    /// # Errors
+    ///
+    /// Spent after a step that was refused memory.
+    pub fn replies(&self) -> Result<&[Term<A>], StepFault>
+        ensures replies { (p : definition.Program) (picks : List ℕ) → IsCore p picks self.now → MatchResult result (λ v. AreReplies p picks v.now) (λ _. ⊥) }
+        ensures spent { IsSpent self.now → result ≡ Err StepFault.Spent }
+    {
+        match &self.engine {
+            Some(engine) => Ok(&engine.replies.terms),
+            None => Err(StepFault::Spent),
+        }
+    }
+
+    /// The messages of the session with this number, from 1, in order; None for another number.
+    ///
+    /// # Errors
+    ///
+    /// Spent after a step that was refused memory.
+    pub fn listing(&self, session: u32) -> Result<Option<&[Term<A>]>, StepFault>
+        ensures listing { (p : definition.Program) (picks : List ℕ) → IsCore p picks self.now → MatchResult result (Lists p picks session) (λ _. ⊥) }
+        ensures by_view { (p : definition.Program) (picks : List ℕ) → ListsByView p picks }
+        ensures isolated { (p : definition.Program) (picks : List ℕ) → StruckLeave p picks }
+        ensures spent { IsSpent self.now → result ≡ Err StepFault.Spent }
+    {
+        let Some(engine) = &self.engine else {
+            return Err(StepFault::Spent);
+        };
+        if session == 0 {
+            return Ok(None);
+        }
+        match engine.slots.get((session - 1) as usize) {
+            Some(slot) => Ok(Some(&slot.kept.terms)),
+            None => Ok(None),
+        }
+    }
+}
