@@ -1,4 +1,5 @@
 // Runs over ends that fail in mid-stream, and over memory that is refused.
+use crate::rows::ROWS;
 use std::alloc::Global;
 use std::io;
 use std::io::{ErrorKind, Read, Write};
@@ -145,20 +146,29 @@ fn a_failing_writer(rt: HostRuntime) -> Result<(), Fail> {
     check_written(&rt, rt.alloc(), OUTPUT.len(), false)
 }
 
-#[test]
-fn each_growth_refused(rt: HostRuntime) -> Result<(), Fail> {
-    let alloc = rt.alloc();
+/// A run of the script is its output, or refused memory with nothing written, whichever growth is refused.
+fn check_growths(
+    rt: &impl Abort,
+    alloc: Global,
+    script: &str,
+    schedule: Schedule<'_>,
+    output: &str,
+) -> Result<(), Fail> {
     for served in 0..10_000u64 {
         let heap = Refusing::after(alloc, served);
-        let mut reader = Watched::of(SCRIPT.as_bytes());
+        let mut reader = Watched::of(script.as_bytes());
         let mut writer = Watched::of(Vec::new(alloc));
-        let answer = run(&heap, &mut reader, &mut writer, PICKS);
+        let answer = run(&heap, &mut reader, &mut writer, schedule);
         let written = writer.into_inner();
         if !heap.has_refused() {
             assert_eq!(rt; answer, Ok(Outcome::Listed));
-            assert_eq!(rt; written.as_slice(), OUTPUT.as_bytes());
+            assert_eq!(rt; written.as_slice(), output.as_bytes());
             assert!(rt; served > 2, "only {served} growths");
             return Ok(());
+        }
+        if answer == Ok(Outcome::Listed) {
+            assert_eq!(rt; written.as_slice(), output.as_bytes());
+            continue;
         }
         assert_eq!(rt;
             answer,
@@ -168,4 +178,15 @@ fn each_growth_refused(rt: HostRuntime) -> Result<(), Fail> {
         assert!(rt; written.is_empty());
     }
     panic!(rt; "each run was refused memory")
+}
+
+#[test]
+fn each_growth_refused(rt: HostRuntime) -> Result<(), Fail> {
+    let alloc = rt.alloc();
+    check_growths(&rt, alloc, SCRIPT, PICKS, OUTPUT)?;
+    for row in &ROWS {
+        let picks = Schedule::Picks(row.picks.as_bytes());
+        check_growths(&rt, alloc, row.script, picks, row.output)?;
+    }
+    Ok(())
 }

@@ -2,9 +2,9 @@
 use std::alloc::Global;
 use std::test::Fail;
 use tn_flags::Event;
-use tn_process::{Act, Process, copy_entry, copy_functions};
+use tn_process::{Act, Process};
 use tn_program::{Program, program};
-use tn_script::forms;
+use tn_script::{copy_entry, copy_functions, forms};
 use tn_term::Term;
 use tn_text::read_term;
 

@@ -1,120 +1,155 @@
-// The sessions of a run side by side, and the text of an output.
-ghost use Rattle.std.specs.Prelude.{IfOk, IsTrue};
-ghost use Rattle.tn_flags.specs.Views.{command_of};
-ghost use Rattle.tn_session.specs.Views.{sets_no_specification};
-
+// The core of a run: its steps, its journal, its listings and its replies.
 use std::alloc::Global;
+use std::process::Abort;
 use std::test::Fail;
-use tn_flags::{Command, Event};
-use tn_session::Session;
-use tn_term::Atom;
-use tn_text::read_term;
-use tn_trace::{
-    Tracked, append_listings, append_picks, obey_all, tell_all, tell_events, write_line,
-};
+use tn_program::{Program, program};
+use tn_script::forms;
+use tn_text::write_term;
+use tn_trace::{Answer, Core, StepFault};
 
-fn atom(alloc: Global, text: &str) -> Result<Atom<Global>, Fail> {
-    match Atom::new(alloc, text)? {
-        Some(atom) => Ok(atom),
-        None => Err(Fail::new("no atom")),
-    }
-}
-
-fn tracked(alloc: Global, name: &str, tracer: &str) -> Result<Tracked<Global>, Fail> {
-    Ok(Tracked {
-        name: atom(alloc, name)?,
-        tracer: atom(alloc, tracer)?,
-        session: Session::absent(2),
-        text: Vec::new(alloc),
-    })
-}
-
-/// Two sessions before their creation.
-fn two(alloc: Global) -> Result<Vec<Tracked<Global>>, Fail> {
-    let mut sessions = Vec::new(alloc);
-    sessions.push(tracked(alloc, "s1", "t1")?)?;
-    sessions.push(tracked(alloc, "s2", "t 2")?)?;
-    Ok(sessions)
-}
-
-fn creation(alloc: Global, name: &str) -> Result<Command<Global>, Fail>
-    ensures { IfOk result (λ c. IsTrue (sets_no_specification (command_of c))) }
-{
-    Ok(Command::SessionCreate {
-        session: atom(alloc, name)?,
-        tracer: atom(alloc, "t1")?,
-    })
-}
-
-fn setting(alloc: Global, name: &str) -> Result<Command<Global>, Fail>
-    ensures { IfOk result (λ c. IsTrue (sets_no_specification (command_of c))) }
-{
-    Ok(Command::Process {
-        session: atom(alloc, name)?,
-        procs: read_term(alloc, b"all")?,
-        how: read_term(alloc, b"true")?,
-        flags: read_term(alloc, b"[procs]")?,
-    })
-}
-
-#[test]
-fn lines_and_picks(rt: HostRuntime) -> Result<(), Fail> {
-    let alloc = rt.alloc();
-    let mut text = Vec::new(alloc);
-    write_line(&read_term(alloc, b"{ a , 'B' }")?, &mut text)?;
-    append_picks(&mut text, &[])?;
-    append_picks(&mut text, &[0, 100, 4_294_967_295])?;
-    assert_eq!(rt; text.as_slice(), "{a,'B'}\n0 100 4294967295".as_bytes());
-    Ok(())
-}
-
-#[test]
-fn each_session_takes_its_own_commands(rt: HostRuntime) -> Result<(), Fail> {
-    let alloc = rt.alloc();
-    let mut sessions = two(alloc)?;
-    let creation = creation(alloc, "s1")?;
-    let foreign = setting(alloc, "s3")?;
-    let Some(created) = obey_all(&mut sessions, alloc, &creation)? else {
-        return Err(Fail::new("no reply"));
-    };
-    assert!(rt; created.same(&read_term(alloc, b"{session,s1}")?));
-    assert!(rt; obey_all(&mut sessions, alloc, &foreign)?.is_none());
-    Ok(())
-}
-
-/// Two sessions, of which the first is created and has the flag `procs` for all.
-fn one_watches(alloc: Global) -> Result<Vec<Tracked<Global>>, Fail> {
-    let mut sessions = two(alloc)?;
-    let creation = creation(alloc, "s1")?;
-    let setting = setting(alloc, "s1")?;
-    let _created = obey_all(&mut sessions, alloc, &creation)?;
-    let _set = obey_all(&mut sessions, alloc, &setting)?;
-    Ok(sessions)
-}
-
-#[test]
-fn each_session_has_its_listing(rt: HostRuntime) -> Result<(), Fail> {
-    let alloc = rt.alloc();
-    let mut sessions = one_watches(alloc)?;
-    let linked = Event::Linked {
-        pid: 100,
-        other: 101,
-    };
-    let getting_linked = Event::GettingLinked {
-        pid: 101,
-        other: 100,
-    };
-    tell_all(&mut sessions, alloc, &linked)?;
-    let mut events = Vec::new(alloc);
-    events.push(getting_linked)?;
-    tell_events(&mut sessions, alloc, &events)?;
-    let mut output = Vec::new(alloc);
-    append_listings(&mut output, alloc, &sessions)?;
-    let listings = "== session s1 tracer t1
-{trace,<0.100.0>,link,<0.101.0>}
-{trace,<0.101.0>,getting_linked,<0.100.0>}
-== session s2 tracer 't 2'
+/// Two sessions over a process that sends to another.
+const TWO: &str = "{function,m,go,exported,['To'],[{send,'To',{hi,1}}]}.
+{function,m,rest,exported,[],[{'receive','X'}]}.
+{process,m,go,[<0.101.0>]}.
+{process,m,rest,[]}.
+{control,[{session_create,s1,t1,[]},{session_create,s2,t2,[]},{process,s1,all,true,[send]},
+  {process,s2,all,true,['receive']},{session_destroy,s2}]}.
 ";
-    assert_eq!(rt; output.as_slice(), listings.as_bytes());
+
+/// The same without the commands of s2.
+const ONE: &str = "{function,m,go,exported,['To'],[{send,'To',{hi,1}}]}.
+{function,m,rest,exported,[],[{'receive','X'}]}.
+{process,m,go,[<0.101.0>]}.
+{process,m,rest,[]}.
+{control,[{session_create,s1,t1,[]},{process,s1,all,true,[send]}]}.
+";
+
+/// A script without processes.
+const NOBODY: &str = "{function,m,a,exported,[],[]}.
+{control,[]}.
+";
+
+/// A script of one process that makes 64 calls, each of which makes 64, three deep.
+fn long_calls(alloc: Global) -> Result<String, Fail> {
+    let mut script = String::new(alloc);
+    for (name, below) in [("a", "b"), ("b", "c"), ("c", "d")] {
+        write!(
+            script,
+            "{{function,m,{name},exported,[],[{{call,'_',{below},[]}}"
+        )?;
+        for _ in 0..63 {
+            write!(script, ",{{call,'_',{below},[]}}")?;
+        }
+        script.push_str("]}.\n")?;
+    }
+    script.push_str("{function,m,d,exported,[],[]}.\n{process,m,a,[]}.\n")?;
+    Ok(script)
+}
+
+fn program_of(alloc: Global, script: &str) -> Result<Program<Global>, Fail> {
+    let forms = forms(alloc, script.as_bytes())?;
+    Ok(program(alloc, forms)?)
+}
+
+/// The core after these picks, each of which moves.
+fn after(
+    rt: &impl Abort,
+    alloc: Global,
+    script: &str,
+    picks: &[u32],
+) -> Result<Core<Global>, Fail> {
+    let mut core = Core::new(alloc, program_of(alloc, script)?)?;
+    for pick in picks {
+        let answer = core.step(*pick)?;
+        assert!(rt; matches!(&answer, Answer::Moved { items: _ }));
+    }
+    Ok(core)
+}
+
+/// The listing of the session is written so.
+fn check_listing(
+    rt: &impl Abort,
+    alloc: Global,
+    core: &Core<Global>,
+    session: u32,
+    wanted: &str,
+) -> Result<(), Fail> {
+    let mut text = Vec::new(alloc);
+    let Some(messages) = core.listing(session)? else {
+        return Err(Fail::new("no listing"));
+    };
+    for message in messages {
+        write_term(message, &mut text)?;
+    }
+    assert_eq!(rt; text.as_slice(), wanted.as_bytes());
+    Ok(())
+}
+
+#[test]
+fn steps_and_what_they_leave(rt: HostRuntime) -> Result<(), Fail> {
+    let alloc = rt.alloc();
+    let mut core = after(&rt, alloc, TWO, &[0, 0, 0, 0, 100])?;
+    match core.step(100)? {
+        Answer::Moved { items } => {
+            assert_eq!(rt; items.len(), 2);
+            assert!(rt; items[0].session == 1 && items[0].index == 0);
+            assert!(rt; items[1].session == 2 && items[1].index == 0);
+        }
+        Answer::Idle => panic!(rt; "idle"),
+    }
+    let idle = core.step(999)?;
+    assert!(rt; matches!(&idle, Answer::Idle));
+    assert_eq!(rt; core.journal()?, [0, 0, 0, 0, 100, 100].as_slice());
+    assert_eq!(rt; core.replies()?.len(), 4);
+    check_listing(
+        &rt,
+        alloc,
+        &core,
+        1,
+        "{trace,<0.100.0>,send,{hi,1},<0.101.0>}",
+    )?;
+    check_listing(&rt, alloc, &core, 2, "{trace,<0.101.0>,'receive',{hi,1}}")?;
+    assert!(rt; core.listing(0)?.is_none() && core.listing(3)?.is_none());
+    assert!(rt; core.program().same(&program_of(alloc, TWO)?));
+    Ok(())
+}
+
+/// Without the other session's commands, and the picks that took them, the listing is the same.
+#[test]
+fn one_session_without_the_other(rt: HostRuntime) -> Result<(), Fail> {
+    let alloc = rt.alloc();
+    let wanted = "{trace,<0.100.0>,send,{hi,1},<0.101.0>}";
+    let two = after(&rt, alloc, TWO, &[0, 0, 0, 0, 100, 0, 100])?;
+    check_listing(&rt, alloc, &two, 1, wanted)?;
+    check_listing(&rt, alloc, &two, 2, "")?;
+    let one = after(&rt, alloc, ONE, &[0, 0, 100, 100])?;
+    check_listing(&rt, alloc, &one, 1, wanted)
+}
+
+#[test]
+fn nothing_moves_without_processes(rt: HostRuntime) -> Result<(), Fail> {
+    let alloc = rt.alloc();
+    let mut core = Core::new(alloc, program_of(alloc, NOBODY)?)?;
+    for pick in [0, 100, 163, 164, 4_294_967_295] {
+        let answer = core.step(pick)?;
+        assert!(rt; matches!(&answer, Answer::Idle));
+    }
+    assert!(rt; core.journal()?.is_empty() && core.replies()?.is_empty());
+    Ok(())
+}
+
+/// A core with 65,536 entries takes no further pick, and stays as it is.
+#[test]
+fn a_full_journal(rt: HostRuntime) -> Result<(), Fail> {
+    let alloc = rt.alloc();
+    let script = long_calls(alloc)?;
+    let mut core = Core::new(alloc, program_of(alloc, script.as_str())?)?;
+    for _ in 0..65_536u32 {
+        let answer = core.step(100)?;
+        assert!(rt; matches!(&answer, Answer::Moved { items: _ }));
+    }
+    assert_eq!(rt; core.step(100).err(), Some(StepFault::LimitReached));
+    assert_eq!(rt; core.step(999).err(), Some(StepFault::LimitReached));
+    assert_eq!(rt; core.journal()?.len(), 65_536);
     Ok(())
 }

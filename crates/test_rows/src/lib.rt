@@ -9,3 +9,5 @@ mod limits;
 mod rows;
 #[cfg(test)]
 mod tests;
+#[cfg(test)]
+mod worked;

@@ -279,7 +279,7 @@ true
 ];
 
 /// Refused scripts and picks.
-pub const REFUSED: [Row; 13] = [
+pub const REFUSED: [Row; 15] = [
     Row {
         name: "bad-picks-leading-zero",
         script: SCRIPT_A,
@@ -374,6 +374,22 @@ pub const REFUSED: [Row; 13] = [
         picks: "",
         outcome: Outcome::Refused(Refusal::Arity { form: 2 }),
         output: "refused 12 arity in form 2
+",
+    },
+    Row {
+        name: "refused-internal-and-exported",
+        script: "{function,m,go,exported,[],[{call,'_',{m,f},[]}]}. {function,m,f,exported,[],[]}. {function,m,f,internal,[],[]}.",
+        picks: "",
+        outcome: Outcome::Refused(Refusal::NotExported { form: 1 }),
+        output: "refused 9 not exported in form 1
+",
+    },
+    Row {
+        name: "refused-declared-again-as-internal",
+        script: "{function,m,f,exported,[],[]}. {function,m,f,internal,[],[]}.",
+        picks: "",
+        outcome: Outcome::Refused(Refusal::Duplicate { form: 2 }),
+        output: "refused 7 duplicate in form 2
 ",
     },
     Row {

@@ -1,5 +1,6 @@
 // Each row by `run`, over a reader of its bytes and a writer to a vector.
 use crate::rows::{LISTED, REFUSED, Row};
+use crate::worked::WORKED;
 use std::alloc::Global;
 use std::process::Abort;
 use std::test::Fail;
@@ -71,15 +72,22 @@ fn blanks_1048577(rt: HostRuntime) -> Result<(), Fail> {
     check(&rt, alloc, &script, "", outcome, "refused 1 too long\n")
 }
 
-/// Specifications aren't evaluated yet, so a form that sets one is refused, before the static rules.
+/// Sessions that set match specifications, and rounds.
 #[test]
-fn specifications_are_refused(rt: HostRuntime) -> Result<(), Fail> {
-    check(
-        &rt,
-        rt.alloc(),
-        b"{process,m,go,[]}. {control,[{session_create,s1,t1,[]},{send,s1,true,[]}]}.",
-        "0 0",
-        Outcome::Refused(Refusal::Form { form: 2 }),
-        "refused 5 form 2\n",
-    )
+fn worked_runs(rt: HostRuntime) -> Result<(), Fail> {
+    let alloc = rt.alloc();
+    for worked in &WORKED {
+        let mut reader = Watched::of(worked.script.as_bytes());
+        let mut writer = Watched::of(Vec::new(alloc));
+        let answer = run(alloc, &mut reader, &mut writer, worked.asked);
+        assert_eq!(rt; answer, Ok(Outcome::Listed), "{}", worked.name);
+        let written = writer.into_inner();
+        assert_eq!(rt;
+            written.as_slice(),
+            worked.output.as_bytes(),
+            "{}",
+            worked.name
+        );
+    }
+    Ok(())
 }

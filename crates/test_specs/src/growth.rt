@@ -209,8 +209,8 @@ fn bindings(rt: HostRuntime) -> Result<(), Fail> {
 #[test]
 fn no_bindings(rt: HostRuntime) -> Result<(), Fail> {
     let alloc = rt.alloc();
-    let spec = with_head(alloc, "['$2','$1','$2']")?;
-    let list = elements(alloc, "[a,b,c]")?;
+    let spec = with_head(alloc, "['$2','$1','$3','$4','$5','$2']")?;
+    let list = elements(alloc, "[a,b,c,d,e,f]")?;
     assert_eq!(rt; spec.clauses.len(), 1);
     for served in 0..ENOUGH {
         let heap = Refusing::after(alloc, served);

@@ -24,9 +24,9 @@ pub fn elements<A: Allocator + Copy>(alloc: A, text: &str) -> Result<Vec<Term<A>
 }
 
 /// `{Number,Value}` of each binding.
-fn pairs<A: Allocator, B: Allocator>(
+fn pairs<A: Allocator>(
     alloc: Global,
-    bindings: &Vec<Binding<'_, A>, B>,
+    bindings: &[Binding<'_, A>],
 ) -> Result<Vec<Term<Global>, Global>, AllocError> {
     let mut pairs = Vec::new(alloc);
     for binding in bindings {
@@ -44,7 +44,7 @@ pub fn as_term<A: Allocator, B: Allocator>(
     found: &Bindings<'_, A, B>,
 ) -> Result<Term<Global>, AllocError> {
     match found {
-        Bindings::Each(bindings) => Ok(Term::List(pairs(alloc, bindings)?)),
+        Bindings::Each(bindings) => Ok(Term::List(pairs(alloc, bindings.as_slice())?)),
         Bindings::Whole(number, list) => {
             let mut whole = Vec::new(alloc);
             whole.push(Term::Int(i64::from(*number)))?;

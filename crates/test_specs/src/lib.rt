@@ -13,6 +13,8 @@ mod head;
 #[cfg(test)]
 mod large;
 #[cfg(test)]
+mod memory;
+#[cfg(test)]
 mod outcome;
 #[cfg(test)]
 mod spec;

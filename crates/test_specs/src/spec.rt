@@ -124,6 +124,7 @@ fn answer(alloc: Global, text: &str, dialect: Dialect) -> Result<String, Fail> {
         Ok(_) => Ok(String::from_str(alloc, "ok")?),
         Err(SpecFault::Badarg) => Ok(String::from_str(alloc, "badarg")?),
         Err(SpecFault::Unsupported(name)) => Ok(String::from_str(alloc, name.text())?),
+        Err(SpecFault::TooLarge) => Err(Fail::new("too large")),
         Err(SpecFault::OutOfMemory) => Err(Fail::new("out of memory")),
     }
 }
