@@ -7,7 +7,8 @@
 //! All else is definition, for every crate above.
 #![tactic(auto)]
 
-ghost use Rattle.def_node.specs.Laws.{IdleLeavesTheProcesses, IdleLeavesTheState, OpeningIsWithin, StepsStayWithin, NoPidIsUsedAgain, ControlChangesNoProcess, EventsAreOfTheRun};
+ghost use Rattle.def_node.specs.Laws.{IdleLeavesTheProcesses, IdleLeavesTheState, OpeningIsWithin, StepsStayWithin};
+ghost use Rattle.def_node.specs.Laws.{NoPidIsUsedAgain, ControlChangesNoProcess, EventsAreOfTheRun};
 
 /// A pick that gives nothing leaves all processes, and the place in the control list, as they were.
 pub fn idle_changes_nothing()

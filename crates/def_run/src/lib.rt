@@ -9,7 +9,13 @@
 //! any text of picks there is exactly one output.
 #![tactic(auto)]
 
-ghost use Rattle.def_run.specs.Laws.{IdleLeavesThePlace, IdleShowsNothing, IdleIsNotJournaled, IdleChangesNoOutput, JournalShowsTheSame, JournalMovesAgain, JournalGivesTheOutput, JournalIsBounded, RunsGrow, EventAddsOneAtMost, CommandAddsNone, ListingGoesByTheView, StrikingLeavesTheView, SessionsAreIsolated, DestroyedListingStays, DestroyedStays, MoveAddsItsAnswer, AnswerIsNumbered, AnswersAreListings, PickIsItsStep, PickTakesACommand, FullJournalStays, PickIsNext, RoundMoves, RoundIsShort, RoundIsInOrder, RoundRests, PicksAreOne, OutputIsOne, RoundOutputIsOne};
+ghost use Rattle.def_run.specs.Laws.{IdleLeavesThePlace, IdleShowsNothing, IdleIsNotJournaled, IdleChangesNoOutput};
+ghost use Rattle.def_run.specs.Laws.{JournalShowsTheSame, JournalMovesAgain, JournalGivesTheOutput, JournalIsBounded};
+ghost use Rattle.def_run.specs.Laws.{RunsGrow, EventAddsOneAtMost, CommandAddsNone, ListingGoesByTheView};
+ghost use Rattle.def_run.specs.Laws.{StrikingLeavesTheView, SessionsAreIsolated, DestroyedListingStays, DestroyedStays};
+ghost use Rattle.def_run.specs.Laws.{MoveAddsItsAnswer, AnswerIsNumbered, AnswersAreListings, PickIsItsStep};
+ghost use Rattle.def_run.specs.Laws.{PickTakesACommand, FullJournalStays, PickIsNext, RoundMoves, RoundIsShort};
+ghost use Rattle.def_run.specs.Laws.{RoundIsInOrder, RoundRests, PicksAreOne, OutputIsOne, RoundOutputIsOne};
 
 /// A pick that moves nothing changes nothing. Put anywhere among the picks it leaves no trace in what is
 /// shown, in the journal or in the output.

@@ -1,5 +1,6 @@
 // The laws of the definitions.
-ghost use Rattle.def_script.specs.Laws.{ScriptHasOneProgram, ScriptIsNotRefused, RefusalIsOne, EachTextIsEither, ExactlyOneAnswer, FirstBrokenIsFound, FirstBrokenIsOnly, NoneIsBroken};
+ghost use Rattle.def_script.specs.Laws.{ScriptHasOneProgram, ScriptIsNotRefused, RefusalIsOne, EachTextIsEither};
+ghost use Rattle.def_script.specs.Laws.{ExactlyOneAnswer, FirstBrokenIsFound, FirstBrokenIsOnly, NoneIsBroken};
 
 /// A text is the script of one program, or is refused in one way, and never both: exactly one of 'is a
 /// script with this program' and 'is refused with this line' holds of any bytes.

@@ -7,7 +7,13 @@
 //! the process's flags and marks; a destroyed session tells nothing, and nothing brings it back.
 #![tactic(auto)]
 
-ghost use Rattle.def_session.specs.Laws.{NewestSettingWins, FalseRemoves, NoSetting, FunctionCommandIsNewest, RefusedChangesNothing, OtherCommandsKeepSettings, EventsKeepSettings, MessageIsOfItsEvent, ShortCallHasItsArity, PlainCallHasItsArguments, DestructionTakesAll, EventAfterDestruction, CommandAfterDestruction, DestroyedAgain, ReturnEndsTheMark, ExitEndsTheFlags, ExitEndsTheMarks, ExitEndsTheLife, CreationMakesLive, CommandBeforeCreation, EventBeforeCreation, LifeGoesByEvents, EventKeepsThePhase};
+ghost use Rattle.def_session.specs.Laws.{NewestSettingWins, FalseRemoves, NoSetting, FunctionCommandIsNewest};
+ghost use Rattle.def_session.specs.Laws.{RefusedChangesNothing, OtherCommandsKeepSettings, EventsKeepSettings};
+ghost use Rattle.def_session.specs.Laws.{MessageIsOfItsEvent, ShortCallHasItsArity, PlainCallHasItsArguments};
+ghost use Rattle.def_session.specs.Laws.{DestructionTakesAll, EventAfterDestruction, CommandAfterDestruction};
+ghost use Rattle.def_session.specs.Laws.{DestroyedAgain, ReturnEndsTheMark, ExitEndsTheFlags, ExitEndsTheMarks};
+ghost use Rattle.def_session.specs.Laws.{ExitEndsTheLife, CreationMakesLive, CommandBeforeCreation};
+ghost use Rattle.def_session.specs.Laws.{EventBeforeCreation, LifeGoesByEvents, EventKeepsThePhase};
 
 /// The newest function command that has a function among its own decides its setting, whichever kind it
 /// is: an older one never shows through, and `false` removes. An accepted command is the newest

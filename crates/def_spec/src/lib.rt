@@ -7,7 +7,11 @@
 //! one; and inheritance gives what the manual says in each case of the two flags.
 #![tactic(auto)]
 
-ghost use Rattle.def_spec.specs.Laws.{WalkIsMatching, BindingIsUnique, WalkMissesNone, OutcomeIsComputed, OutcomeIsUnique, BodiesHaveValues, EffectsChangeNoValue, ReadSpecsAreSound, FirstFaultyClause, HeadFaultFirst, ConditionFaultNext, BodyFaultLast, FirstFaultyExpression, UnsupportedFirst, SpawnInherits, LinkInherits, VariablesAreNumbered};
+ghost use Rattle.def_spec.specs.Laws.{WalkIsMatching, BindingIsUnique, WalkMissesNone, OutcomeIsComputed};
+ghost use Rattle.def_spec.specs.Laws.{OutcomeIsUnique, BodiesHaveValues, EffectsChangeNoValue, ReadSpecsAreSound};
+ghost use Rattle.def_spec.specs.Laws.{FirstFaultyClause, HeadFaultFirst, ConditionFaultNext, BodyFaultLast};
+ghost use Rattle.def_spec.specs.Laws.{FirstFaultyExpression, UnsupportedFirst, SpawnInherits, LinkInherits};
+ghost use Rattle.def_spec.specs.Laws.{VariablesAreNumbered};
 
 /// The walk over a head finds the one binding, and none exactly where there is none ("Match
 /// Specifications in Erlang", "Grammar").

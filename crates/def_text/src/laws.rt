@@ -1,5 +1,10 @@
 // The laws of the definitions.
-ghost use Rattle.def_text.specs.Laws.{TokensAreOne, TokensAreThere, ReadTermIsDerived, DerivedTermIsRead, TermFaultIsFirst, ReadScriptIsDerived, DerivedScriptIsRead, ScriptFaultIsFirst, SpelledTermIsOne, SpelledTermIsNotRefused, TermRefusalIsOne, TermOrRefusal, SpelledTermsAreOne, SpelledTermsAreNotRefused, ScriptRefusalIsOne, TermsOrRefusal, IntegerIsItsToken, PidIsItsToken, AtomIsItsToken, WrittenTextSpells};
+ghost use Rattle.def_text.specs.Laws.{TokensAreOne, TokensAreThere, ReadTermIsDerived, DerivedTermIsRead};
+ghost use Rattle.def_text.specs.Laws.{TermFaultIsFirst, ReadScriptIsDerived, DerivedScriptIsRead, ScriptFaultIsFirst};
+ghost use Rattle.def_text.specs.Laws.{SpelledTermIsOne, SpelledTermIsNotRefused, TermRefusalIsOne, TermOrRefusal};
+ghost use Rattle.def_text.specs.Laws.{SpelledTermsAreOne, SpelledTermsAreNotRefused, ScriptRefusalIsOne};
+ghost use Rattle.def_text.specs.Laws.{TermsOrRefusal, IntegerIsItsToken, PidIsItsToken, AtomIsItsToken};
+ghost use Rattle.def_text.specs.Laws.{WrittenTextSpells};
 
 /// A text has one list of tokens.
 pub fn tokens_are_determined()
@@ -29,7 +34,8 @@ pub fn a_text_spells_one_term()
     ensures either { TermOrRefusal }
 {}
 
-/// A text within the length spells one list of terms with full stops, or is refused as a script in one way, and never both.
+/// A text within the length spells one list of terms with full stops, or is refused as a script in one
+/// way, and never both.
 pub fn a_text_spells_one_script()
     ensures one { SpelledTermsAreOne }
     ensures refused { SpelledTermsAreNotRefused }

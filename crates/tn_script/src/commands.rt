@@ -2,7 +2,8 @@
 ghost use Rattle.std.specs.Prelude.{◌≡◌, IfOk, map};
 ghost use Rattle.std.specs.Option.{option_map};
 ghost use Rattle.def_script.specs.Program.{set_processes, set_function, set_send, set_receive};
-ghost use Rattle.def_script.specs.Shapes.{create_in, destroy_in, of_three_in, specified_in, command_of_fields, command_in, commands_in};
+ghost use Rattle.def_script.specs.Shapes.{create_in, destroy_in, of_three_in, specified_in, command_of_fields};
+ghost use Rattle.def_script.specs.Shapes.{command_in, commands_in};
 ghost use Rattle.tn_flags.specs.Views.{command_of};
 ghost use Rattle.tn_term.specs.Views.{tree_of};
 

@@ -1,7 +1,8 @@
 // The parts of terms that shapes ask for.
 ghost use Rattle.std.specs.Prelude.{◌≡◌, map};
 ghost use Rattle.std.specs.Option.{option_map};
-ghost use Rattle.def_script.specs.Shapes.{begins_with, is_tuple as is_tuple_tree, is_empty_list as is_empty_tree, tuple_in, list_in, args_in};
+ghost use Rattle.def_script.specs.Shapes.{begins_with, is_tuple as is_tuple_tree, is_empty_list as is_empty_tree};
+ghost use Rattle.def_script.specs.Shapes.{tuple_in, list_in, args_in};
 ghost use Rattle.tn_term.specs.Views.{tree_of};
 ghost use Rattle.tn_script.specs.Views.{args_of};
 

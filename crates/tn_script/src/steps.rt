@@ -2,7 +2,8 @@
 ghost use Rattle.std.specs.Prelude.{◌≡◌, IfOk, map};
 ghost use Rattle.std.specs.Option.{option_map};
 ghost use Rattle.def_script.specs.Program.{link, unlink, give_back, exit};
-ghost use Rattle.def_script.specs.Shapes.{callee_in, send_in, receive_in, call_in, spawn_in, of_one_in, step_of_fields, step_in, steps_in};
+ghost use Rattle.def_script.specs.Shapes.{callee_in, send_in, receive_in, call_in, spawn_in, of_one_in, step_of_fields};
+ghost use Rattle.def_script.specs.Shapes.{step_in, steps_in};
 ghost use Rattle.tn_term.specs.Views.{tree_of};
 ghost use Rattle.tn_script.specs.Views.{args_of, step_of};
 

@@ -1,8 +1,8 @@
 -- The kinds of tokens, in the code and in the definition.
-use Rattle.std.specs.Prelude.{ℕ, ◌+◌, List, [], ◌∷◌, take, false, if◌then◌else◌, ◌==◌, Option, Some, None}
+use Rattle.std.specs.Prelude.{ℕ, ◌+◌, ◌≤◌, List, [], ◌∷◌, length, take, drop, false, if◌then◌else◌, ◌==◌, codes, Option, Some, None}
 use Rattle.def_term.specs.Text.{is_digit, is_lower, is_name_byte, is_among, reserved_words}
 use Rattle.def_text.specs.Tokens.{ends_form}
-use Rattle.def_text.specs.Scan.{run_len, quoted_end, pid_end, of_kind, TokenKind, left_brace, right_brace, left_bracket, right_bracket, separator, full_stop, numeral, bare_atom, quoted_atom, string, process_identifier}
+use Rattle.def_text.specs.Scan.{IsFound, run_len, quoted_end, pid_end, of_kind, TokenKind, left_brace, right_brace, left_bracket, right_bracket, separator, full_stop, numeral, bare_atom, quoted_atom, string, process_identifier}
 use Rattle.tn_text.specs.declared.scan.Kind.{Kind}
 use Rattle.tn_text.specs.declared.scan.Kind.TheVariants.{OpenBrace, CloseBrace, OpenBracket, CloseBracket, Comma, Stop, Integer, Bare, Quoted, Characters, Pid}
 
@@ -24,6 +24,10 @@ abbrev pub found_of : Option (Kind × ℕ) → Option (TokenKind × ℕ)
 found_of None = None
 found_of (Some p) = Some (kind_of p.0, p.1)
 
+-- the token at the front is of this kind and of this length
+abbrev pub StandsAtFront : List ℕ → Kind × ℕ → Type 0
+StandsAtFront bytes p = (p.1 ≤ length bytes) × IsFound (kind_of p.0) (take p.1 bytes) (drop p.1 bytes)
+
 -- the token at the front, where that begins with a quote or is a pid
 abbrev pub enclosed_at : List ℕ → Option (TokenKind × ℕ)
 enclosed_at [] = None
@@ -42,3 +46,13 @@ longer_at (b ∷ bs) =
     else (if is_digit b then Some (numeral, run_len is_digit bs + 1)
     else (if is_lower b then (if is_among reserved_words (take (run_len is_name_byte bs + 1) (b ∷ bs)) then None else Some (bare_atom, run_len is_name_byte bs + 1))
     else enclosed_at (b ∷ bs))))
+
+-- the reserved words of three letters
+abbrev pub reserved_of_three : List (List ℕ)
+reserved_of_three =
+    codes "and" ∷ codes "bor" ∷ codes "bsl" ∷ codes "bsr" ∷ codes "div" ∷ codes "end"
+    ∷ codes "fun" ∷ codes "let" ∷ codes "not" ∷ codes "rem" ∷ codes "try" ∷ codes "xor" ∷ []
+
+-- the reserved words of four letters
+abbrev pub reserved_of_four : List (List ℕ)
+reserved_of_four = codes "band" ∷ codes "bnot" ∷ codes "bxor" ∷ codes "case" ∷ codes "cond" ∷ codes "when" ∷ []

@@ -1,5 +1,5 @@
 -- What the reader's values stand for.
-use Rattle.std.specs.Prelude.{◌≡◌, ℕ, ◌≤◌, List, [], ◌∷◌, length, map, Result, Ok, Err}
+use Rattle.std.specs.Prelude.{◌≡◌, ℕ, ◌≤◌, List, [], ◌∷◌, length, map, true, Result, Ok, Err}
 use Rattle.std.specs.declared.vec.Vec.{Vec}
 use Rattle.def_term.specs.Tree.{Tree}
 use Rattle.tn_term.specs.Views.{tree_of}
@@ -9,6 +9,8 @@ use Rattle.def_text.specs.Faults.{Kind, misplaced, too_deep, too_large, Fault}
 use Rattle.def_text.specs.Reading as folds
 use Rattle.def_text.specs.Reading.{State, inside, done}
 use Rattle.def_text.specs.ScriptReading.{ScriptState, reading}
+use Rattle.tn_text.specs.Lexing.{Stood}
+use Rattle.tn_text.specs.declared.lexer.Token.{Token}
 use Rattle.tn_text.specs.declared.stack.Bracket.{Bracket}
 use Rattle.tn_text.specs.declared.stack.Bracket.TheVariants as brackets
 use Rattle.tn_text.specs.declared.stack.Frame.{Frame}
@@ -62,6 +64,10 @@ abbrev pub Steps : {A : Type 0} → Result (Progress A) StepError → Result Sta
 Steps (Ok p) r = r ≡ Ok (state_of p)
 Steps (Err e) r = IsErrorOf e r
 
+-- the step puts this tree, which one token spells, onto the frames
+abbrev pub Puts : {A : Type 0} → Result (Progress A) StepError → Tree → List (Frame A) → Type 0
+Puts r t vs = Steps r (folds.leaf_at DEPTH true t (frames_of vs))
+
 abbrev pub fault_of : StepError → ℕ → TextFault
 fault_of step_error.OutOfMemory at = faults.OutOfMemory
 fault_of step_error.Misplaced at = faults.Token at
@@ -79,6 +85,10 @@ IsFaultOf faults.OutOfMemory from r = Unit {0}
 abbrev pub StepsAt : {A : Type 0} → Result (Progress A) TextFault → ℕ → Result State Kind → Type 0
 StepsAt (Ok p) from r = r ≡ Ok (state_of p)
 StepsAt (Err f) from r = IsFaultOf f from r
+
+-- the step that the definition takes with the token that stands there
+abbrev pub TakesToken : {A : Type 0} → Result (Progress A) TextFault → List ℕ → Token → Progress A → Type 0
+TakesToken r bytes v p = (at : ℕ) (s : Stood bytes at v) → StepsAt r v.from (folds.step DEPTH true (state_of p) s.spanned.token)
 
 -- the same within a script, of which these terms are read
 abbrev pub ScriptStepsAt : {A : Type 0} → Result (Progress A) TextFault → List (Term A) → ℕ → Result ScriptState Kind → Type 0

@@ -3,10 +3,9 @@ ghost use Rattle.std.specs.Prelude.{◌≡◌, ℕ, ℤ, ◌≤◌, List, length
 ghost use Rattle.def_term.specs.Tree.{int, atom, pid, list};
 ghost use Rattle.def_text.specs.Grammar.{of_codes};
 ghost use Rattle.def_text.specs.Limits.{DEPTH};
-ghost use Rattle.def_text.specs.Reading.{leaf_at};
 ghost use Rattle.def_text.specs.Tokens.{IsInteger, IsPid, IsQuoted, all_are, is_printable};
 ghost use Rattle.tn_term.specs.Views.{tree_of};
-ghost use Rattle.tn_text.specs.Stack.{frames_of, Steps};
+ghost use Rattle.tn_text.specs.Stack.{frames_of, Puts};
 
 use crate::stack::{Frame, MAX_DEPTH, Progress, StepError, put_term};
 use crate::value::{content, integer_value, pid_value, plain_content};
@@ -20,7 +19,7 @@ pub fn put_integer<A: Allocator>(
     frames: Vec<Frame<A>, A>,
 ) -> Result<Progress<A>, StepError>
     requires { length (frames_of frames.items) ≤ DEPTH }
-    ensures { (rest : List ℕ) (n : ℤ) → IsInteger bytes.now rest n → Steps result (leaf_at DEPTH true (int n) (frames_of frames.items)) }
+    ensures { (rest : List ℕ) (n : ℤ) → IsInteger bytes.now rest n → Puts result (int n) frames.items }
 {
     match integer_value(bytes) {
         Some(n) => put_term(Term::Int(n), frames),
@@ -33,7 +32,7 @@ pub fn put_pid<A: Allocator>(
     frames: Vec<Frame<A>, A>,
 ) -> Result<Progress<A>, StepError>
     requires { length (frames_of frames.items) ≤ DEPTH }
-    ensures { (ds : List ℕ) (n : ℕ) → IsPid bytes.now ds n → Steps result (leaf_at DEPTH true (pid n) (frames_of frames.items)) }
+    ensures { (ds : List ℕ) (n : ℕ) → IsPid bytes.now ds n → Puts result (pid n) frames.items }
 {
     match pid_value(bytes) {
         Some(n) => put_term(Term::Pid(n), frames),
@@ -48,7 +47,7 @@ pub fn put_atom<A: Allocator>(
     frames: Vec<Frame<A>, A>,
 ) -> Result<Progress<A>, StepError>
     requires { length (frames_of frames.items) ≤ DEPTH }
-    ensures { all_are is_printable text.now ≡ true → Steps result (leaf_at DEPTH true (atom text.now) (frames_of frames.items)) }
+    ensures { all_are is_printable text.now ≡ true → Puts result (atom text.now) frames.items }
 {
     match std::str::from_utf8(text) {
         Ok(text) => match Atom::new(alloc, text) {
@@ -66,7 +65,7 @@ pub fn put_quoted<A: Allocator + Copy>(
     frames: Vec<Frame<A>, A>,
 ) -> Result<Progress<A>, StepError>
     requires { length (frames_of frames.items) ≤ DEPTH }
-    ensures { (s : List ℕ) → IsQuoted 39 bytes.now s → Steps result (leaf_at DEPTH true (atom s) (frames_of frames.items)) }
+    ensures { (s : List ℕ) → IsQuoted 39 bytes.now s → Puts result (atom s) frames.items }
 {
     if let Some(text) = plain_content(bytes) {
         return put_atom(alloc, text, frames);
@@ -83,7 +82,7 @@ pub fn put_string<A: Allocator + Copy>(
     frames: Vec<Frame<A>, A>,
 ) -> Result<Progress<A>, StepError>
     requires { length (frames_of frames.items) ≤ DEPTH }
-    ensures { (s : List ℕ) → IsQuoted 34 bytes.now s → Steps result (leaf_at DEPTH true (list (of_codes s)) (frames_of frames.items)) }
+    ensures { (s : List ℕ) → IsQuoted 34 bytes.now s → Puts result (list (of_codes s)) frames.items }
 {
     if let Some(codes) = plain_content(bytes) {
         return put_codes(alloc, codes, frames);
@@ -101,7 +100,7 @@ fn put_codes<A: Allocator + Copy>(
     frames: Vec<Frame<A>, A>,
 ) -> Result<Progress<A>, StepError>
     requires { length (frames_of frames.items) ≤ DEPTH }
-    ensures { all_are is_printable codes.now ≡ true → Steps result (leaf_at DEPTH true (list (of_codes codes.now)) (frames_of frames.items)) }
+    ensures { all_are is_printable codes.now ≡ true → Puts result (list (of_codes codes.now)) frames.items }
 {
     if frames.len() >= MAX_DEPTH {
         return Err(StepError::TooDeep);

@@ -1,6 +1,7 @@
 // Atoms that need no quotes.
 ghost use Rattle.std.specs.Prelude.{◌≡◌, codes, ◌∷◌};
-ghost use Rattle.def_term.specs.Text.{is_among, reserved_words, is_name, is_name_byte, are_name_bytes, is_lower, is_written_bare};
+ghost use Rattle.def_term.specs.Text.{is_among, reserved_words, is_name, is_name_byte};
+ghost use Rattle.def_term.specs.Text.{are_name_bytes, is_written_bare};
 
 use crate::reserved::is_reserved;
 

@@ -8,7 +8,8 @@ ghost use Rattle.def_text.specs.ScriptReading.{reading, script_step, script_end}
 ghost use Rattle.tn_term.specs.Views.{tree_of};
 ghost use Rattle.tn_text.specs.Kinds.{kind_of};
 ghost use Rattle.tn_text.specs.Lexing.{Stood};
-ghost use Rattle.tn_text.specs.Stack.{frames_of, state_of, IsShallow, Steps, fault_of, StepsAt, Finishes, ScriptStepsAt, ScriptFinishes};
+ghost use Rattle.tn_text.specs.Stack.{frames_of, state_of, IsShallow, Steps, fault_of, TakesToken, Finishes};
+ghost use Rattle.tn_text.specs.Stack.{ScriptStepsAt, ScriptFinishes};
 ghost use Rattle.tn_text.specs.Answers.{IsRead, IsReadScript};
 
 use crate::fault::TextFault;
@@ -101,7 +102,7 @@ fn step_at<A: Allocator + Copy>(
     requires start { token.from ≤ token.to }
     requires end { token.to ≤ length bytes.now }
     requires shallow { IsShallow (state_of progress) }
-    ensures { (at : ℕ) (s : Stood bytes.now at token) → StepsAt result token.from (step DEPTH true (state_of progress) s.spanned.token) }
+    ensures { TakesToken result bytes.now token progress }
 {
     match step_on(alloc, token.kind, &bytes[token.from..token.to], progress) {
         Ok(further) => Ok(further),
@@ -198,8 +199,9 @@ fn all_finished<A: Allocator>(
     }
 }
 
-/// All terms of the script that the text spells, each with a full stop behind it. Memory is
-/// as for `read_term`, and the list of terms. Refusals are as those of `read_term`, with scripts for terms: a term without its full stop is only a beginning.
+/// All terms of the script that the text spells, each with a full stop behind it. Memory is as for
+/// `read_term`, and the list of terms. Refusals are as those of `read_term`, with scripts for terms: a
+/// term without its full stop is only a beginning.
 pub fn read_terms<A: Allocator + Copy>(alloc: A, bytes: &[u8]) -> Result<Vec<Term<A>, A>, TextFault>
     ensures { IsReadScript bytes.now result }
 {

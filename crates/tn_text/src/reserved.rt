@@ -1,6 +1,7 @@
 // The reserved words, looked up by their length.
 ghost use Rattle.std.specs.Prelude.{◌≡◌, codes, [], ◌∷◌};
 ghost use Rattle.def_term.specs.Text.{is_among, reserved_words};
+ghost use Rattle.tn_text.specs.Kinds.{reserved_of_three, reserved_of_four};
 
 /// Whether the text is a reserved word.
 pub fn is_reserved(text: &str) -> bool
@@ -26,7 +27,7 @@ fn is_reserved_of_two(text: &str) -> bool
 
 /// Whether it is a reserved word of three letters.
 fn is_reserved_of_three(text: &str) -> bool
-    ensures { result ≡ is_among (codes "and" ∷ codes "bor" ∷ codes "bsl" ∷ codes "bsr" ∷ codes "div" ∷ codes "end" ∷ codes "fun" ∷ codes "let" ∷ codes "not" ∷ codes "rem" ∷ codes "try" ∷ codes "xor" ∷ []) text.now }
+    ensures { result ≡ is_among reserved_of_three text.now }
 {
     matches!(
         text,
@@ -47,7 +48,7 @@ fn is_reserved_of_three(text: &str) -> bool
 
 /// Whether it is a reserved word of four letters.
 fn is_reserved_of_four(text: &str) -> bool
-    ensures { result ≡ is_among (codes "band" ∷ codes "bnot" ∷ codes "bxor" ∷ codes "case" ∷ codes "cond" ∷ codes "when" ∷ []) text.now }
+    ensures { result ≡ is_among reserved_of_four text.now }
 {
     matches!(text, "band" | "bnot" | "bxor" | "case" | "cond" | "when")
 }

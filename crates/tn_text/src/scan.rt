@@ -1,9 +1,9 @@
 // One token, and what stands between tokens.
-ghost use Rattle.std.specs.Prelude.{◌≡◌, ℕ, ◌+◌, ◌≤◌, length, take, drop, false, IfSome, IfNone};
+ghost use Rattle.std.specs.Prelude.{◌≡◌, ◌+◌, ◌≤◌, length, false, IfSome, IfNone};
 ghost use Rattle.def_term.specs.Text.{is_digit, is_name_byte, is_among, reserved_words};
 ghost use Rattle.def_text.specs.Tokens.{is_blank, gap_len as gap_len_of, ends_form, HasNoToken};
-ghost use Rattle.def_text.specs.Scan.{run_len, quoted_end, pid_end, token_at, IsFound};
-ghost use Rattle.tn_text.specs.Kinds.{kind_of, found_of, longer_at, enclosed_at};
+ghost use Rattle.def_text.specs.Scan.{run_len, quoted_end, pid_end, token_at};
+ghost use Rattle.tn_text.specs.Kinds.{found_of, longer_at, enclosed_at, StandsAtFront};
 
 use crate::name::is_name_byte_of;
 use crate::reserved::is_reserved;
@@ -226,7 +226,7 @@ fn found(bytes: &[u8]) -> Option<(Kind, usize)>
 
 /// The token at the front, and its length.
 pub fn next_token(bytes: &[u8]) -> Option<(Kind, usize)>
-    ensures found { IfSome result (λ p. (p.1 ≤ length bytes.now) × IsFound (kind_of p.0) (take p.1 bytes.now) (drop p.1 bytes.now)) }
+    ensures found { IfSome result (StandsAtFront bytes.now) }
     ensures none { IfNone result (HasNoToken bytes.now) }
 {
     found(bytes)
