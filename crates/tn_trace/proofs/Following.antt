@@ -2,7 +2,7 @@
 use Rattle.std.proofs.Common.{◌≡◌, ◌∙◌, ℕ, zero, suc, ◌+◌, ◌-◌, min, ◌<◌, ◌≤◌, Bool, true, false, if◌then◌else◌, List, [], ◌∷◌, ◌++◌, length, take, refl, sym, ap, subst, append-nil, append_assoc, length-append, get_or, add-one, arith}
 use Rattle.std.proofs.lemmas.List.{take_all, take_more}
 use Rattle.def_term.specs.Tree.{Tree}
-use Rattle.def_script.specs.Program.{Program}
+use Rattle.def_script.specs.Program.{Function, Program}
 use Rattle.def_run.specs.Listing.{Item as Told}
 use Rattle.def_run.specs.Run.{Place, moves, moves_from, place_after, start}
 use Rattle.def_run.specs.Round.{pass, pass_from, round}
@@ -106,3 +106,51 @@ passes_more before once n = append_assoc before (repeated once n) once ∙ ap (�
 -- so many passes are a round
 pub round_followed : {A K : Type 0} (Keeps : K → List Tree → Type 0) (p : Program) (limit room : ℕ) (e : Engine A K) → room ≡ min limit 65536 → IsRun Keeps p (take room (moves p (repeated pass (room + 1)))) e → IsRun Keeps p (round p limit) e
 round_followed Keeps p limit room e is run = subst (λ xs. IsRun Keeps p xs e) (ap (λ r. take r (moves p (repeated pass (r + 1)))) is ∙ sym (round_is_in_order p limit)) run
+
+-- ---- a list of picks of which none moves
+
+repeated_sum : (once : List ℕ) (a b : ℕ) → repeated once a ++ repeated once b ≡ repeated once (a + b)
+repeated_sum once zero b =
+    let sum : b ≡ 0 + b = omega arith in
+    ap (repeated once) sum
+repeated_sum once (suc a) b =
+    let sum : suc (a + b) ≡ suc a + b = omega arith in
+    append_assoc once (repeated once a) (repeated once b) ∙ ap (λ ys. once ++ ys) (repeated_sum once a b) ∙ ap (repeated once) sum
+
+-- so many lists, and then the others
+turns_in_all : (before once : List ℕ) (turn count : ℕ) → turn ≤ count → (before ++ repeated once turn) ++ repeated once (count - turn) ≡ before ++ repeated once count
+turns_in_all before once turn count below =
+    let sum : turn + (count - turn) ≡ count = omega (arith, below) in
+    append_assoc before (repeated once turn) (repeated once (count - turn)) ∙ ap (λ ys. before ++ ys) (repeated_sum once turn (count - turn) ∙ ap (repeated once) sum)
+
+-- where none of them moves, none moves later
+still : (ks : List Function) (q : Place) (once : List ℕ) (n : ℕ) → moves_from ks q once ≡ [] → moves_from ks q (repeated once n) ≡ []
+still ks q once zero h = refl
+still ks q once (suc n) h =
+    let rest : Place → List ℕ = λ r. moves_from ks r (repeated once n) in
+    let back : place_after ks q once ≡ q = sym (place_again ks q once) ∙ ap (place_after ks q) h in
+    moves-append ks q once (repeated once n) ∙ ap (λ xs. xs ++ rest (place_after ks q once)) h ∙ ap rest back ∙ still ks q once n h
+
+-- the first of a list are the same with others behind it, where they are as many
+stays_short : (n : ℕ) (xs ys zs : List ℕ) → length (take n (xs ++ ys)) ≡ length (take n xs) → (ys ≡ [] → zs ≡ []) → take n (xs ++ zs) ≡ take n xs
+stays_short zero xs ys zs h none = refl
+stays_short (suc n) [] [] zs h none = ap (take (suc n)) (none refl)
+stays_short (suc n) [] (y ∷ ys) zs h none = absurd (omega (arith, h))
+stays_short (suc n) (x ∷ xs) ys zs h none = ap (λ l. x ∷ l) (stays_short n xs ys zs (omega (arith, h)) none)
+
+-- after a pass that moved nothing the engine is that of all passes
+pub ended : {A K : Type 0} (Keeps : K → List Tree → Type 0) (p : Program) (limit turn count : ℕ) (before once : List ℕ) (old new : Engine A K) → turn ≤ count → length new.journal.items ≡ length old.journal.items
+    → IsRun Keeps p (take limit (moves p (before ++ repeated once turn))) old → IsRun Keeps p (take limit (moves p ((before ++ repeated once turn) ++ once))) new
+    → IsRun Keeps p (take limit (moves p (before ++ repeated once count))) new
+ended Keeps p limit turn count before once old new below same was is =
+    let ks : List Function = p.functions in
+    let reached : List ℕ = before ++ repeated once turn in
+    let place : Place = place_after ks (start p) reached in
+    let made : List ℕ = moves_from ks place once in
+    let later : List ℕ = repeated once (count - turn) in
+    let counted : length (take limit (moves p (reached ++ once))) ≡ length (take limit (moves p reached)) = sym (ap length is.journaled) ∙ same ∙ ap length was.journaled in
+    let short : length (take limit (moves p reached ++ made)) ≡ length (take limit (moves p reached)) = sym (ap (λ xs. length (take limit xs)) (moves-append ks (start p) reached once)) ∙ counted in
+    let here : take limit (moves p (reached ++ once)) ≡ take limit (moves p reached) = ap (take limit) (moves-append ks (start p) reached once) ∙ stays_short limit (moves p reached) made made short (λ e. e) in
+    let there : take limit (moves p (reached ++ later)) ≡ take limit (moves p reached) =
+    ap (take limit) (moves-append ks (start p) reached later) ∙ stays_short limit (moves p reached) made (moves_from ks place later) short (still ks place once (count - turn)) in
+    subst (λ xs. IsRun Keeps p xs new) (here ∙ sym there ∙ ap (λ xs. take limit (moves p xs)) (turns_in_all before once turn count below)) is

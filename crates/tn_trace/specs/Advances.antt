@@ -1,6 +1,7 @@
 -- One more pick of an engine that keeps terms.
 use Rattle.std.specs.Prelude.{◌≡◌, ℕ, ◌<◌, List, [], ◌∷◌, ◌++◌, length, map, Result, Ok, Err}
 use Rattle.def_script.specs.Program.{Program}
+use Rattle.def_run.specs.Run.{JOURNAL}
 use Rattle.def_run.specs.Listing.{answer}
 use Rattle.def_run.specs.Laws.{IsIdleAfter}
 use Rattle.tn_trace.specs.Items.{item_seen, AreTerms}
@@ -14,8 +15,12 @@ use Rattle.tn_trace.specs.declared.item.StepFault.TheVariants.{LimitReached, Spe
 
 -- what the pick came to, and the engine afterwards
 abbrev pub Advanced : {A : Type 0} → Program → List ℕ → ℕ → Engine A (Terms A) → Engine A (Terms A) → Result (Answer A) StepFault → Type 0
-Advanced p picks pick old new (Ok (Moved items)) = (length picks < 65536) × IsRun AreTerms p (picks ++ pick ∷ []) new × (map item_seen items.items ≡ answer p (picks ++ pick ∷ []) (length picks))
-Advanced p picks pick old new (Ok Idle) = (length picks < 65536) × IsRun AreTerms p picks new × IsIdleAfter p picks pick
-Advanced p picks pick old new (Err LimitReached) = (length picks ≡ 65536) × (new ≡ old)
+Advanced p picks pick old new (Ok (Moved items)) = (length picks < JOURNAL) × IsRun AreTerms p (picks ++ pick ∷ []) new × (map item_seen items.items ≡ answer p (picks ++ pick ∷ []) (length picks))
+Advanced p picks pick old new (Ok Idle) = (length picks < JOURNAL) × IsRun AreTerms p picks new × IsIdleAfter p picks pick
+Advanced p picks pick old new (Err LimitReached) = (length picks ≡ JOURNAL) × (new ≡ old)
 Advanced p picks pick old new (Err Spent) = ⊥
-Advanced p picks pick old new (Err OutOfMemory) = length picks < 65536
+Advanced p picks pick old new (Err OutOfMemory) = length picks < JOURNAL
+
+-- whatever picks led to the engine, one more is taken
+abbrev pub Advances : {A : Type 0} → Program → ℕ → Engine A (Terms A) → Engine A (Terms A) → Result (Answer A) StepFault → Type 0
+Advances p pick old new result = (picks : List ℕ) → IsRun AreTerms p picks old → Advanced p picks pick old new result

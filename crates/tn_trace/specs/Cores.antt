@@ -1,9 +1,9 @@
 -- What is promised of a core.
-use Rattle.std.specs.Prelude.{◌≡◌, ℕ, zero, suc, ◌<◌, List, [], ◌∷◌, ◌++◌, false, length, map, slice_get, Option, Some, None, Result, Ok, Err}
+use Rattle.std.specs.Prelude.{◌≡◌, ℕ, zero, suc, ◌<◌, List, [], ◌∷◌, ◌++◌, false, length, map, slice_get, Option, Some, None, Result, Ok, Err, MatchResult}
 use Rattle.std.specs.Str.{bytes_eq}
 use Rattle.def_term.specs.Names.{Name}
 use Rattle.def_script.specs.Program.{Program}
-use Rattle.def_run.specs.Run.{moves}
+use Rattle.def_run.specs.Run.{JOURNAL, moves}
 use Rattle.def_run.specs.View.{view, strike_program, strike_picks}
 use Rattle.def_run.specs.Listing.{Item as Told, answer, messages, replies}
 use Rattle.def_script.specs.Script.{creations}
@@ -37,14 +37,14 @@ IsSpent c = c.engine ≡ None
 
 -- the pick moved: the journal has it at its end, and the items are the answer of its move
 pub record MovesOn {A : Type 0} (p : Program) (picks : List ℕ) (pick : ℕ) (new : Core A) (items : List Told) : Type 0 where
-  pub room : length picks < 65536
+  pub room : length picks < JOURNAL
   pub after : IsCore p (picks ++ pick ∷ []) new
   pub moved : moves p (picks ++ pick ∷ []) ≡ picks ++ pick ∷ []
   pub answered : items ≡ answer p (picks ++ pick ∷ []) (length picks)
 
 -- the pick moves nothing, and the core is that of the same journal
 pub record RestsOn {A : Type 0} (p : Program) (picks : List ℕ) (pick : ℕ) (new : Core A) : Type 0 where
-  pub room : length picks < 65536
+  pub room : length picks < JOURNAL
   pub after : IsCore p picks new
   pub idle : IsIdleAfter p picks pick
 
@@ -52,13 +52,24 @@ pub record RestsOn {A : Type 0} (p : Program) (picks : List ℕ) (pick : ℕ) (n
 abbrev pub Stepped : {A : Type 0} → Program → List ℕ → ℕ → Core A → Core A → Result (Answer A) StepFault → Type 0
 Stepped p picks pick old new (Ok (Moved items)) = MovesOn p picks pick new (map item_seen items.items)
 Stepped p picks pick old new (Ok Idle) = RestsOn p picks pick new
-Stepped p picks pick old new (Err LimitReached) = (length picks ≡ 65536) × (new ≡ old)
+Stepped p picks pick old new (Err LimitReached) = (length picks ≡ JOURNAL) × (new ≡ old)
 Stepped p picks pick old new (Err Spent) = ⊥
-Stepped p picks pick old new (Err OutOfMemory) = (length picks < 65536) × IsSpent new
+Stepped p picks pick old new (Err OutOfMemory) = (length picks < JOURNAL) × IsSpent new
+
+-- whatever journal the core is of, this is what a step of it answers
+abbrev pub StepsOn : {A : Type 0} → ℕ → Core A → Core A → Result (Answer A) StepFault → Type 0
+StepsOn pick old new result = (p : Program) (picks : List ℕ) → IsCore p picks old → Stepped p picks pick old new result
 
 -- the listing of a destroyed session is the same before and after the pick
-abbrev pub DestroyedStay : Program → List ℕ → ℕ → Type 0
-DestroyedStay p picks pick = (s : Name) → IsDestroyedAfter s p picks → messages s p (picks ++ pick ∷ []) ≡ messages s p picks
+abbrev pub DestroyedStay : ℕ → Type 0
+DestroyedStay pick =
+    (p : Program) (picks : List ℕ) (s : Name) → IsDestroyedAfter s p picks
+    → messages s p (picks ++ pick ∷ []) ≡ messages s p picks
+
+-- whatever journal the core is of, this is it
+abbrev pub IsJournal : {A : Type 0} → Core A → Result (Bor (List ℕ)) StepFault → Type 0
+IsJournal core result =
+    (p : Program) (picks : List ℕ) → IsCore p picks core → MatchResult result (λ v. v.now ≡ picks) (λ _. ⊥)
 
 -- the creation of this number, counted from 1
 abbrev pub creation_numbered : Program → ℕ → Option (Name × Name)
@@ -70,15 +81,24 @@ abbrev pub Lists : {A : Type 0} → Program → List ℕ → ℕ → Option (Bor
 Lists p picks n None = creation_numbered p n ≡ None
 Lists p picks n (Some v) = (s : Name × Name) × (creation_numbered p n ≡ Some s) × (map tree_of v.now ≡ messages s.0 p picks)
 
--- with an equal view of a session another run has the same messages
-abbrev pub ListsByView : Program → List ℕ → Type 0
-ListsByView p picks = (s : Name) (q : Program) (others : List ℕ) → view s p picks ≡ view s q others → messages s p picks ≡ messages s q others
+-- whatever journal the core is of, the listing of this number is that of its session
+abbrev pub IsListing : {A : Type 0} → ℕ → Core A → Result (Option (Bor (List (Term A)))) StepFault → Type 0
+IsListing n core result =
+    (p : Program) (picks : List ℕ) → IsCore p picks core → MatchResult result (Lists p picks n) (λ _. ⊥)
+
+-- runs with equal views of a session have the same messages of it
+abbrev pub ListsByView : Type 0
+ListsByView =
+    (p : Program) (picks : List ℕ) (s : Name) (q : Program) (others : List ℕ) → view s p picks ≡ view s q others
+    → messages s p picks ≡ messages s q others
 
 -- without another session's commands, and the picks that took them, the view is the same, where the run did not meet the limit
-abbrev pub StruckLeave : Program → List ℕ → Type 0
-StruckLeave p picks =
-    (s r : Name) → bytes_eq r s ≡ false → length (moves p picks) < 65536 → view s (strike_program r p) (strike_picks r picks p.commands) ≡ view s p picks
+abbrev pub StruckLeave : Type 0
+StruckLeave =
+    (p : Program) (picks : List ℕ) (s r : Name) → bytes_eq r s ≡ false → length (moves p picks) < JOURNAL
+    → view s (strike_program r p) (strike_picks r picks p.commands) ≡ view s p picks
 
--- the terms are the replies
-abbrev pub AreReplies : {A : Type 0} → Program → List ℕ → List (Term A) → Type 0
-AreReplies p picks ts = map tree_of ts ≡ replies p picks
+-- whatever journal the core is of, the terms are its replies
+abbrev pub AreReplies : {A : Type 0} → Core A → Result (Bor (List (Term A))) StepFault → Type 0
+AreReplies core result =
+    (p : Program) (picks : List ℕ) → IsCore p picks core → MatchResult result (λ v. map tree_of v.now ≡ replies p picks) (λ _. ⊥)

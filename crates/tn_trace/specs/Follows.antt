@@ -2,7 +2,7 @@
 use Rattle.std.specs.Prelude.{ℕ, ◌≤◌, List, ◌++◌, take, Result, IfOk}
 use Rattle.std.specs.declared.alloc.AllocError.{AllocError}
 use Rattle.def_script.specs.Program.{Program}
-use Rattle.def_run.specs.Run.{moves}
+use Rattle.def_run.specs.Run.{JOURNAL, moves}
 use Rattle.tn_trace.specs.Items.{AreLines}
 use Rattle.tn_trace.specs.Runs.{IsRun}
 use Rattle.tn_trace.specs.declared.engine.Engine.{Engine}
@@ -14,4 +14,4 @@ Follows p limit picks e = IsRun AreLines p (take limit (moves p picks)) e
 
 -- after more picks it is that of all of them
 abbrev pub FollowsMore : {A : Type 0} → Program → ℕ → List ℕ → Engine A (Lines A) → Engine A (Lines A) → Result (Unit {0}) AllocError → Type 0
-FollowsMore p limit more old new result = (before : List ℕ) → limit ≤ 65536 → Follows p limit before old → IfOk result (λ _. Follows p limit (before ++ more) new)
+FollowsMore p limit more old new result = (before : List ℕ) → limit ≤ JOURNAL → Follows p limit before old → IfOk result (λ _. Follows p limit (before ++ more) new)

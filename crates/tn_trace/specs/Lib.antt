@@ -2,6 +2,8 @@ pub mod Tracks
 pub mod Starts
 pub mod Slots
 pub mod Runs
+pub mod Telling
+pub mod Obeying
 pub mod Items
 pub mod Advances
 pub mod Cores

@@ -3,7 +3,8 @@ use Rattle.std.specs.Prelude.{◌≡◌, ℕ, List, ◌++◌, option_to_list, sl
 use Rattle.std.specs.declared.vec.Vec.{Vec}
 use Rattle.def_script.specs.Program.{Program}
 use Rattle.def_script.specs.Script.{creations}
-use Rattle.def_run.specs.Listing.{messages, listings_text}
+use Rattle.def_run.specs.Listing.{messages, listings_text, program_output}
+use Rattle.def_run.specs.Round.{round}
 
 -- the new text is the old one with these bytes behind it
 abbrev pub Adds : {A : Type 0} → List ℕ → Vec ℕ A → Vec ℕ A → Type 0
@@ -16,3 +17,7 @@ listing_numbered p picks n = listings_text (λ s. messages s p picks) (option_to
 -- the listings of all sessions
 abbrev pub all_listings : Program → List ℕ → List ℕ
 all_listings p picks = listings_text (λ s. messages s p picks) (creations p.commands)
+
+-- the output for the picks of a round with this limit
+abbrev pub output_of_round : Program → ℕ → List ℕ
+output_of_round p limit = program_output p (round p limit)

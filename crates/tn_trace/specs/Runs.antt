@@ -1,9 +1,10 @@
 -- What the code's engine stands for.
-use Rattle.std.specs.Prelude.{◌≡◌, ℕ, List, [], ◌∷◌, ◌++◌, Bool, true, false, length, map}
+use Rattle.std.specs.Prelude.{◌≡◌, ℕ, ◌<◌, List, [], ◌∷◌, ◌++◌, Bool, true, false, length, map, Result, IfOk}
+use Rattle.std.specs.declared.alloc.AllocError.{AllocError}
 use Rattle.def_term.specs.Tree.{Tree}
 use Rattle.def_script.specs.Program.{Command, Program}
 use Rattle.def_script.specs.Opening.{Opening}
-use Rattle.def_run.specs.Run.{Place, start, place_after, events, moves}
+use Rattle.def_run.specs.Run.{JOURNAL, Place, start, place_after, events, moves}
 use Rattle.def_script.specs.Opening.{opening}
 use Rattle.def_run.specs.Listing.{Item as Told, replies, answer}
 use Rattle.def_script.specs.Script.{creations}
@@ -45,3 +46,9 @@ pub record IsRun {A K : Type 0} (Keeps : K → List Tree → Type 0) (p : Progra
 abbrev pub Steps : {A K G : Type 0} → (K → List Tree → Type 0) → (G → List Told → Type 0) → Program → List ℕ → ℕ → Bool → Engine A K → G → G → Type 0
 Steps Keeps Gives p picks pick true new given given' = IsRun Keeps p (picks ++ pick ∷ []) new × AreMore Gives (answer p (picks ++ pick ∷ []) (length picks)) given given'
 Steps Keeps Gives p picks pick false new given given' = IsRun Keeps p picks new × IsIdleAfter p picks pick × AreMore Gives [] given given'
+
+-- whatever picks led to the engine, where they leave room in the journal, one more is taken
+abbrev pub StepsOn : {A K G : Type 0} → (K → List Tree → Type 0) → (G → List Told → Type 0) → Program → ℕ → Engine A K → Engine A K → G → G → Result Bool AllocError → Type 0
+StepsOn Keeps Gives p pick old new given given' result =
+    (picks : List ℕ) → IsRun Keeps p picks old → length picks < JOURNAL
+    → IfOk result (λ moved. Steps Keeps Gives p picks pick moved new given given')

@@ -1,5 +1,6 @@
 -- The sessions of a run side by side, each with its state and its messages so far, as the definitions give them.
-use Rattle.std.specs.Prelude.{ℕ, zero, suc, ◌∷◌, [], ◌++◌, List, Bool, map, filter, flat_map, length, Option, Some, None, option_to_list, slice_get, if◌then◌else◌}
+use Rattle.std.specs.Prelude.{ℕ, zero, suc, ◌∷◌, [], ◌++◌, List, Bool, map, filter, flat_map, length, Option, Some, None, option_to_list, slice_get, if◌then◌else◌, Result, IfOk}
+use Rattle.std.specs.declared.alloc.AllocError.{AllocError}
 use Rattle.std.specs.Option.{unwrap_or}
 use Rattle.std.specs.Str.{bytes_eq}
 use Rattle.def_term.specs.Tree.{Tree}
@@ -86,6 +87,11 @@ IsOneMore {K} {X} Of x old new = (xs : List X) → Of old xs → Of new (xs ++ x
 -- the same, with several more
 abbrev pub AreMore : {K X : Type 0} → (K → List X → Type 0) → List X → K → K → Type 0
 AreMore {K} {X} Of more old new = (xs : List X) → Of old xs → Of new (xs ++ more)
+
+-- a message of the session of this number is handed out, at the index behind what was kept
+abbrev pub IsHandedOut : {K G : Type 0} → (K → List Tree → Type 0) → (G → List Told → Type 0) → ℕ → Tree → K → G → G → Result (Unit {0}) AllocError → Type 0
+IsHandedOut Keeps Gives n m kept given given' result =
+    (ts : List Tree) → Keeps kept ts → IfOk result (λ _. IsOneMore Gives (item_at n (length ts) m) given given')
 
 -- the command of this number, counted from 1
 abbrev pub command_numbered : List Command → ℕ → Option Command

@@ -1,10 +1,6 @@
 // One more pick of an engine that keeps terms.
-ghost use Rattle.std.specs.Prelude.{List, ℕ};
-ghost use Rattle.def_script.specs.Program as definition;
 ghost use Rattle.tn_program.specs.Views.{program_of};
-ghost use Rattle.tn_trace.specs.Items.{AreTerms};
-ghost use Rattle.tn_trace.specs.Runs.{IsRun};
-ghost use Rattle.tn_trace.specs.Advances.{Advanced};
+ghost use Rattle.tn_trace.specs.Advances.{Advances};
 
 use crate::engine::Engine;
 use crate::item::{Answer, StepFault};
@@ -13,7 +9,7 @@ use std::alloc::Allocator;
 use tn_program::Program;
 
 /// The greatest number of journal entries.
-const JOURNAL: usize = 65536;
+pub(crate) const JOURNAL: usize = 65536;
 
 /// One more pick, unless the journal is full.
 pub(crate) fn advance<A: Allocator + Copy>(
@@ -21,7 +17,7 @@ pub(crate) fn advance<A: Allocator + Copy>(
     program: &Program<A>,
     pick: u32,
 ) -> Result<Answer<A>, StepFault>
-    ensures { (picks : List ℕ) → IsRun AreTerms (program_of program.now) picks engine.old → Advanced (program_of program.now) picks pick engine.old engine.new result }
+    ensures { Advances (program_of program.now) pick engine.old engine.new result }
 {
     if engine.journal.len() >= JOURNAL {
         return Err(StepFault::LimitReached);

@@ -24,14 +24,11 @@ pub(crate) struct Engine<A: Allocator, K> {
 }
 
 impl<A: Allocator + Copy, K: Kept<A> + Drop> Engine<A, K> {
-    ghost use Rattle.std.specs.Prelude.{◌≡◌, ◌<◌, List, ℕ, [], IfOk, flat_map, map, length};
-    ghost use Rattle.def_script.specs.Program as program;
-    ghost use Rattle.def_script.specs.Opening.{Opening};
-    ghost use Rattle.tn_flags.specs.Views.{event_of, command_of};
-    ghost use Rattle.tn_script.specs.Views.{functions_of};
+    ghost use Rattle.std.specs.Prelude.{[], IfOk};
     ghost use Rattle.tn_program.specs.Views.{program_of};
-    ghost use Rattle.tn_trace.specs.Tracks.{Track, with_event, with_events, told_to, told_by, AreMore, visible};
-    ghost use Rattle.tn_trace.specs.Runs.{AreTracked, IsRun, Takes, Steps};
+    ghost use Rattle.tn_trace.specs.Runs.{IsRun, StepsOn};
+    ghost use Rattle.tn_trace.specs.Telling.{AllSee, AllHandOut, AllSeeEach, AllHandOutEach, OnlySessions};
+    ghost use Rattle.tn_trace.specs.Obeying.{TakesCommand};
 
     /// The engine of a program before any pick.
     pub fn new(alloc: A, program: &Program<A>) -> Result<Engine<A, K>, AllocError>
@@ -49,9 +46,9 @@ impl<A: Allocator + Copy, K: Kept<A> + Drop> Engine<A, K> {
 
     /// Each session sees an event.
     fn tell(&mut self, event: &Event<A>, given: &mut Vec<Item<A>, A>) -> Result<(), AllocError>
-        ensures sessions { (o : Opening) (ts : List Track) → AreTracked K.keeps o ts self.old → IfOk result (λ _. AreTracked K.keeps o (map (with_event (event_of event.now)) ts) self.new) }
-        ensures given { (o : Opening) (ts : List Track) → AreTracked K.keeps o ts self.old → IfOk result (λ _. AreMore K.gives (flat_map (told_to (event_of event.now)) ts) given.old given.new) }
-        ensures others { IfOk result (λ _. self.new ≡ record self.old { living = self.new.living; slots = self.new.slots }) }
+        ensures sessions { AllSee K.keeps event.now self.old self.new result }
+        ensures given { AllHandOut K.keeps K.gives event.now self.old given.old given.new result }
+        ensures others { OnlySessions self.old self.new result }
     {
         tell_each(&mut self.slots, self.alloc, event, given)?;
         self.living = living_after(self.living, event);
@@ -64,9 +61,9 @@ impl<A: Allocator + Copy, K: Kept<A> + Drop> Engine<A, K> {
         events: &Vec<Event<A>, A>,
         given: &mut Vec<Item<A>, A>,
     ) -> Result<(), AllocError>
-        ensures sessions { (o : Opening) (ts : List Track) → AreTracked K.keeps o ts self.old → IfOk result (λ _. AreTracked K.keeps o (with_events (map event_of events.now.items) ts) self.new) }
-        ensures given { (o : Opening) (ts : List Track) → AreTracked K.keeps o ts self.old → IfOk result (λ _. AreMore K.gives (told_by (map event_of events.now.items) ts) given.old given.new) }
-        ensures others { IfOk result (λ _. self.new ≡ record self.old { living = self.new.living; slots = self.new.slots }) }
+        ensures sessions { AllSeeEach K.keeps events.now.items self.old self.new result }
+        ensures given { AllHandOutEach K.keeps K.gives events.now.items self.old given.old given.new result }
+        ensures others { OnlySessions self.old self.new result }
     {
         for event in events {
             self.tell(event, given)?;
@@ -76,8 +73,7 @@ impl<A: Allocator + Copy, K: Kept<A> + Drop> Engine<A, K> {
 
     /// A command goes to its session, and the reply to the replies.
     fn take_command(&mut self, program: &Program<A>, command: &Command<A>) -> Result<(), AllocError>
-        ensures { (o : Opening) (ts : List Track) → o.functions ≡ visible (program_of program.now).functions → AreTracked K.keeps o ts self.old →
-            IfOk result (λ _. Takes K.keeps o ts (command_of command.now) self.old self.new) }
+        ensures { TakesCommand K.keeps (program_of program.now) command.now self.old self.new result }
     {
         let functions = program.functions();
         let reply = obey_each(&mut self.slots, self.alloc, functions, self.living, command)?;
@@ -93,8 +89,7 @@ impl<A: Allocator + Copy, K: Kept<A> + Drop> Engine<A, K> {
         pick: u32,
         given: &mut Vec<Item<A>, A>,
     ) -> Result<bool, AllocError>
-        ensures { (picks : List ℕ) → IsRun K.keeps (program_of program.now) picks self.old → length picks < 65536 →
-            IfOk result (λ moved. Steps K.keeps K.gives (program_of program.now) picks pick moved self.new given.old given.new) }
+        ensures { StepsOn K.keeps K.gives (program_of program.now) pick self.old self.new given.old given.new result }
     {
         match self.node.step(pick)? {
             Moved::Idle => Ok(false),

@@ -7,12 +7,12 @@ use tn_term::Term;
 
 /// What a run keeps of messages and replies, and what it hands out of a move's messages.
 pub(crate) trait Kept<A: Allocator> {
-    ghost use Rattle.std.specs.Prelude.{List, [], length, IfOk};
+    ghost use Rattle.std.specs.Prelude.{List, [], IfOk};
     ghost use Rattle.def_term.specs.Tree.{Tree};
     ghost use Rattle.def_run.specs.Listing.{Item as Told};
     ghost use Rattle.tn_term.specs.Views.{tree_of};
     ghost use Rattle.tn_session.specs.Messages.{message_seen};
-    ghost use Rattle.tn_trace.specs.Tracks.{IsOneMore, item_at};
+    ghost use Rattle.tn_trace.specs.Tracks.{IsOneMore, IsHandedOut};
     ghost use Rattle.std.specs.declared.vec.Vec.{Vec};
     ghost use Rattle.tn_trace.specs.declared.item.Item.{Item};
 
@@ -39,6 +39,5 @@ pub(crate) trait Kept<A: Allocator> {
         given: &mut Vec<Item<A>, A>,
     ) -> Result<(), AllocError>
         ensures kept { IfOk result (λ _. IsOneMore keeps (message_seen message.now) self.old self.new) }
-        ensures given { (ts : List Tree) → keeps self.old ts →
-            IfOk result (λ _. IsOneMore gives (item_at number (length ts) (message_seen message.now)) given.old given.new) };
+        ensures given { IsHandedOut keeps gives number (message_seen message.now) self.old given.old given.new result };
 }

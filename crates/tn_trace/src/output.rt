@@ -1,12 +1,11 @@
 // The text of an output.
 ghost use Rattle.std.specs.Prelude.{◌≡◌, List, ℕ, IfOk};
-ghost use Rattle.def_run.specs.Round as definition;
 ghost use Rattle.def_run.specs.Picks.{picks_text};
 ghost use Rattle.def_run.specs.Listing.{header_line, program_output};
 ghost use Rattle.tn_program.specs.Views.{program_of};
 ghost use Rattle.tn_trace.specs.Items.{AreLines};
 ghost use Rattle.tn_trace.specs.Runs.{IsRun};
-ghost use Rattle.tn_trace.specs.Outputs.{Adds, listing_numbered, all_listings};
+ghost use Rattle.tn_trace.specs.Outputs.{Adds, listing_numbered, all_listings, output_of_round};
 
 use crate::engine::Engine;
 use crate::keeping::Lines;
@@ -128,7 +127,7 @@ pub fn round<A: Allocator + Copy>(
     program: &Program<A>,
     limit: u32,
 ) -> Result<Vec<u8, A>, AllocError>
-    ensures { IfOk result (λ v. v.items ≡ program_output (program_of program.now) (definition.round (program_of program.now) limit)) }
+    ensures { IfOk result (λ v. v.items ≡ output_of_round (program_of program.now) limit) }
 {
     let engine = followed_round(alloc, program, limit)?;
     output(alloc, &engine, program)

@@ -16,10 +16,11 @@ pub struct Core<A: Allocator> {
 }
 
 impl<A: Allocator + Copy> Core<A> {
-    ghost use Rattle.std.specs.Prelude.{◌≡◌, List, ℕ, [], IfOk, MatchResult};
+    ghost use Rattle.std.specs.Prelude.{◌≡◌, List, ℕ, [], IfOk};
     ghost use Rattle.def_script.specs.Program as definition;
     ghost use Rattle.tn_program.specs.Views.{program_of};
-    ghost use Rattle.tn_trace.specs.Cores.{IsCore, IsSpent, Stepped, DestroyedStay, Lists, ListsByView, StruckLeave, AreReplies};
+    ghost use Rattle.tn_trace.specs.Cores.{IsCore, IsSpent, StepsOn, DestroyedStay, IsJournal, AreReplies};
+    ghost use Rattle.tn_trace.specs.Cores.{IsListing, ListsByView, StruckLeave};
 
     /// The core of the program and the empty journal.
     pub fn new(alloc: A, program: Program<A>) -> Result<Core<A>, AllocError>
@@ -46,9 +47,9 @@ impl<A: Allocator + Copy> Core<A> {
     /// Spent after a step that was refused memory; else LimitReached where the journal is full; else
     /// OutOfMemory where memory was refused: the core is spent.
     pub fn step(&mut self, pick: u32) -> Result<Answer<A>, StepFault>
-        ensures step { (p : definition.Program) (picks : List ℕ) → IsCore p picks self.old → Stepped p picks pick self.old self.new result }
+        ensures step { StepsOn pick self.old self.new result }
         ensures spent { IsSpent self.old → (result ≡ Err StepFault.Spent) × (self.new ≡ self.old) }
-        ensures destroyed { (p : definition.Program) (picks : List ℕ) → DestroyedStay p picks pick }
+        ensures destroyed { DestroyedStay pick }
     {
         match &mut self.engine {
             None => Err(StepFault::Spent),
@@ -70,7 +71,7 @@ impl<A: Allocator + Copy> Core<A> {
     ///
     /// Spent after a step that was refused memory.
     pub fn journal(&self) -> Result<&[u32], StepFault>
-        ensures journal { (p : definition.Program) (picks : List ℕ) → IsCore p picks self.now → MatchResult result (λ v. v.now ≡ picks) (λ _. ⊥) }
+        ensures journal { IsJournal self.now result }
         ensures spent { IsSpent self.now → result ≡ Err StepFault.Spent }
     {
         match &self.engine {
@@ -85,7 +86,7 @@ impl<A: Allocator + Copy> Core<A> {
     ///
     /// Spent after a step that was refused memory.
     pub fn replies(&self) -> Result<&[Term<A>], StepFault>
-        ensures replies { (p : definition.Program) (picks : List ℕ) → IsCore p picks self.now → MatchResult result (λ v. AreReplies p picks v.now) (λ _. ⊥) }
+        ensures replies { AreReplies self.now result }
         ensures spent { IsSpent self.now → result ≡ Err StepFault.Spent }
     {
         match &self.engine {
@@ -100,9 +101,9 @@ impl<A: Allocator + Copy> Core<A> {
     ///
     /// Spent after a step that was refused memory.
     pub fn listing(&self, session: u32) -> Result<Option<&[Term<A>]>, StepFault>
-        ensures listing { (p : definition.Program) (picks : List ℕ) → IsCore p picks self.now → MatchResult result (Lists p picks session) (λ _. ⊥) }
-        ensures by_view { (p : definition.Program) (picks : List ℕ) → ListsByView p picks }
-        ensures isolated { (p : definition.Program) (picks : List ℕ) → StruckLeave p picks }
+        ensures listing { IsListing session self.now result }
+        ensures by_view { ListsByView }
+        ensures isolated { StruckLeave }
         ensures spent { IsSpent self.now → result ≡ Err StepFault.Spent }
     {
         let Some(engine) = &self.engine else {

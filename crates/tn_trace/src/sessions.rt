@@ -1,17 +1,14 @@
 // The sessions of the control list side by side.
-ghost use Rattle.std.specs.Prelude.{◌≡◌, ◌+◌, IfOk, None, List, flat_map, length, map};
+ghost use Rattle.std.specs.Prelude.{◌≡◌, ◌+◌, IfOk};
 ghost use Rattle.std.specs.Option.{option_map};
-ghost use Rattle.def_term.specs.Alive as alive;
-ghost use Rattle.def_script.specs.Opening.{Opening};
-ghost use Rattle.def_session.specs.State.{alive_after, alive_at_start};
-ghost use Rattle.def_script.specs.Opening.{opening};
+ghost use Rattle.def_session.specs.State.{alive_after};
 ghost use Rattle.tn_term.specs.Views.{tree_of, alive_of};
-ghost use Rattle.tn_flags.specs.Views.{event_of, command_of};
-ghost use Rattle.tn_script.specs.Views.{functions_of};
+ghost use Rattle.tn_flags.specs.Views.{event_of};
 ghost use Rattle.tn_program.specs.Views.{program_of};
-ghost use Rattle.tn_trace.specs.Tracks.{Track, with_event, with_events, told_to, told_by, with_command, reply_from, newer_of, AreMore, visible};
-ghost use Rattle.tn_trace.specs.Slots.{IsTracked, Each};
-ghost use Rattle.tn_trace.specs.Starts.{tracks_at_start};
+ghost use Rattle.tn_trace.specs.Tracks.{newer_of};
+ghost use Rattle.tn_trace.specs.Starts.{AreAtStart};
+ghost use Rattle.tn_trace.specs.Telling.{EachSees, EachHandsOut};
+ghost use Rattle.tn_trace.specs.Obeying.{OneObeys, OneReplies};
 
 use crate::item::Item;
 use crate::kept::Kept;
@@ -37,8 +34,7 @@ pub(crate) fn absent_sessions<A: Allocator + Copy, K: Kept<A> + Drop>(
     alloc: A,
     program: &Program<A>,
 ) -> Result<Vec<Slot<A, K>, A>, AllocError>
-    ensures { IfOk result (λ v. Each (IsTracked K.keeps (opening (program_of program.now)) (alive_at_start (length (program_of program.now).entries)))
-        (tracks_at_start (program_of program.now)) v.items) }
+    ensures { IfOk result (λ v. AreAtStart K.keeps (program_of program.now) v.items) }
 {
     let mut slots = Vec::new(alloc);
     for command in program.commands() {
@@ -74,10 +70,8 @@ pub(crate) fn tell_each<A: Allocator + Copy, K: Kept<A> + Drop>(
     event: &Event<A>,
     given: &mut Vec<Item<A>, A>,
 ) -> Result<(), AllocError>
-    ensures sessions { (o : Opening) (living : alive.Alive) (ts : List Track) → Each (IsTracked K.keeps o living) ts slots.old.items →
-        IfOk result (λ _. Each (IsTracked K.keeps o (alive_after living (event_of event.now))) (map (with_event (event_of event.now)) ts) slots.new.items) }
-    ensures given { (o : Opening) (living : alive.Alive) (ts : List Track) → Each (IsTracked K.keeps o living) ts slots.old.items →
-        IfOk result (λ _. AreMore K.gives (flat_map (told_to (event_of event.now)) ts) given.old given.new) }
+    ensures sessions { EachSees K.keeps event.now slots.old.items slots.new.items result }
+    ensures given { EachHandsOut K.keeps K.gives event.now slots.old.items given.old given.new result }
 {
     for place in 0..slots.len() {
         slots[place].tell(alloc, event, given)?;
@@ -93,12 +87,8 @@ pub(crate) fn obey_each<A: Allocator + Copy, K: Kept<A> + Drop>(
     living: Alive,
     command: &Command<A>,
 ) -> Result<Option<Term<A>>, AllocError>
-    ensures sessions { (o : Opening) (ts : List Track) → o.functions ≡ visible (functions_of functions.now) →
-        Each (IsTracked K.keeps o (alive_of living)) ts slots.old.items →
-        IfOk result (λ _. Each (IsTracked K.keeps o (alive_of living)) (map (with_command o (command_of command.now)) ts) slots.new.items) }
-    ensures reply { (o : Opening) (ts : List Track) → o.functions ≡ visible (functions_of functions.now) →
-        Each (IsTracked K.keeps o (alive_of living)) ts slots.old.items →
-        IfOk result (λ r. option_map tree_of r ≡ reply_from o (command_of command.now) None ts) }
+    ensures sessions { OneObeys K.keeps functions.now living command.now slots.old.items slots.new.items result }
+    ensures reply { OneReplies K.keeps functions.now living command.now slots.old.items result }
 {
     let mut reply = None;
     for place in 0..slots.len() {

@@ -20,17 +20,8 @@ pub(crate) struct Slot<A: Allocator, K> {
 }
 
 impl<A: Allocator + Copy, K: Kept<A> + Drop> Slot<A, K> {
-    ghost use Rattle.std.specs.Prelude.{◌≡◌, List, IfOk};
-    ghost use Rattle.std.specs.Option.{option_map};
-    ghost use Rattle.def_term.specs.Alive as alive;
-    ghost use Rattle.def_script.specs.Opening.{Opening};
-    ghost use Rattle.def_session.specs.State.{alive_after};
-    ghost use Rattle.def_run.specs.Listing.{Item as Told};
-    ghost use Rattle.tn_term.specs.Views.{tree_of, alive_of};
-    ghost use Rattle.tn_flags.specs.Views.{event_of, command_of};
-    ghost use Rattle.tn_script.specs.Views.{functions_of};
-    ghost use Rattle.tn_trace.specs.Tracks.{Track, with_event, told_to, AreMore, visible};
-    ghost use Rattle.tn_trace.specs.Slots.{IsTracked, Obeys, ObeysOwn};
+    ghost use Rattle.tn_trace.specs.Telling.{Sees, HandsOut};
+    ghost use Rattle.tn_trace.specs.Obeying.{Replies, RepliesToOwn};
 
     /// The session sees an event.
     pub fn tell(
@@ -39,10 +30,8 @@ impl<A: Allocator + Copy, K: Kept<A> + Drop> Slot<A, K> {
         event: &Event<A>,
         given: &mut Vec<Item<A>, A>,
     ) -> Result<(), AllocError>
-        ensures tracked { (o : Opening) (living : alive.Alive) (t : Track) → IsTracked K.keeps o living t self.old →
-            IfOk result (λ _. IsTracked K.keeps o (alive_after living (event_of event.now)) (with_event (event_of event.now) t) self.new) }
-        ensures given { (o : Opening) (living : alive.Alive) (t : Track) → IsTracked K.keeps o living t self.old →
-            IfOk result (λ _. AreMore K.gives (told_to (event_of event.now) t) given.old given.new) }
+        ensures tracked { Sees K.keeps event.now self.old self.new result }
+        ensures given { HandsOut K.keeps K.gives event.now self.old given.old given.new result }
     {
         let Some(session) = &mut self.session else {
             return Ok(());
@@ -64,8 +53,7 @@ impl<A: Allocator + Copy, K: Kept<A> + Drop> Slot<A, K> {
         living: Alive,
         command: &Command<A>,
     ) -> Result<Term<A>, AllocError>
-        ensures { (o : Opening) (t : Track) → o.functions ≡ visible (functions_of functions.now) → IsTracked K.keeps o (alive_of living) t self.old →
-            IfOk result (λ r. Obeys K.keeps o (alive_of living) t (command_of command.now) self.new (tree_of r)) }
+        ensures { Replies K.keeps functions.now living command.now self.old self.new result }
     {
         if let Some(session) = &mut self.session {
             return Ok(session.command(command)?);
@@ -89,8 +77,7 @@ impl<A: Allocator + Copy, K: Kept<A> + Drop> Slot<A, K> {
         living: Alive,
         command: &Command<A>,
     ) -> Result<Option<Term<A>>, AllocError>
-        ensures { (o : Opening) (t : Track) → o.functions ≡ visible (functions_of functions.now) → IsTracked K.keeps o (alive_of living) t self.old →
-            IfOk result (λ r. ObeysOwn K.keeps o (alive_of living) t (command_of command.now) self.new (option_map tree_of r)) }
+        ensures { RepliesToOwn K.keeps functions.now living command.now self.old self.new result }
     {
         if self.name.text() == command.session().text() {
             Ok(Some(self.reply(alloc, functions, living, command)?))

@@ -8,13 +8,11 @@ ghost use Rattle.tn_trace.specs.Items.{AreLines};
 ghost use Rattle.tn_trace.specs.Runs.{IsRun};
 ghost use Rattle.tn_trace.specs.Follows.{Follows, FollowsMore};
 
+use crate::advancing::JOURNAL;
 use crate::engine::Engine;
 use crate::keeping::Lines;
 use std::alloc::{AllocError, Allocator};
 use tn_program::Program;
-
-/// The greatest number of journal entries.
-const JOURNAL: usize = 65536;
 
 /// One more pick, passed over once the journal has so many entries.
 fn take_pick<A: Allocator + Copy>(
@@ -89,7 +87,7 @@ pub(crate) fn followed_picks<A: Allocator + Copy>(
     Ok(engine)
 }
 
-/// So many passes.
+/// So many passes; after one that moved nothing no other would.
 fn take_passes<A: Allocator + Copy>(
     engine: &mut Engine<A, Lines<A>>,
     program: &Program<A>,
@@ -99,7 +97,12 @@ fn take_passes<A: Allocator + Copy>(
     ensures { FollowsMore (program_of program.now) limit (repeated pass count) engine.old engine.new result }
 {
     for turn in 0..count {
+        let before = engine.journal.len();
         take_pass(engine, program, limit)?;
+        let after = engine.journal.len();
+        if after == before {
+            return Ok(());
+        }
     }
     Ok(())
 }

@@ -1,0 +1,67 @@
+-- What an event does to the sessions of the code, and what is handed out of their messages.
+use Rattle.std.specs.Prelude.{◌≡◌, List, flat_map, map, Result, IfOk}
+use Rattle.std.specs.declared.alloc.AllocError.{AllocError}
+use Rattle.def_term.specs.Alive.{Alive}
+use Rattle.def_term.specs.Tree.{Tree}
+use Rattle.def_script.specs.Opening.{Opening}
+use Rattle.def_session.specs.State.{alive_after}
+use Rattle.def_run.specs.Listing.{Item as Told}
+use Rattle.tn_flags.specs.Views.{event_of}
+use Rattle.tn_flags.specs.declared.event.Event.{Event}
+use Rattle.tn_trace.specs.Tracks.{Track, with_event, with_events, told_to, told_by, AreMore}
+use Rattle.tn_trace.specs.Slots.{IsTracked, Each}
+use Rattle.tn_trace.specs.Runs.{AreTracked}
+use Rattle.tn_trace.specs.declared.slot.Slot.{Slot}
+use Rattle.tn_trace.specs.declared.engine.Engine.{Engine}
+
+-- the session saw the event
+abbrev pub Sees : {A K : Type 0} → (K → List Tree → Type 0) → Event A → Slot A K → Slot A K → Result (Unit {0}) AllocError → Type 0
+Sees Keeps event old new result =
+    (o : Opening) (living : Alive) (t : Track) → IsTracked Keeps o living t old
+    → IfOk result (λ _. IsTracked Keeps o (alive_after living (event_of event)) (with_event (event_of event) t) new)
+
+-- what the session tells of the event was handed out
+abbrev pub HandsOut : {A K G : Type 0} → (K → List Tree → Type 0) → (G → List Told → Type 0) → Event A → Slot A K → G → G → Result (Unit {0}) AllocError → Type 0
+HandsOut Keeps Gives event old given given' result =
+    (o : Opening) (living : Alive) (t : Track) → IsTracked Keeps o living t old
+    → IfOk result (λ _. AreMore Gives (told_to (event_of event) t) given given')
+
+-- each session saw the event
+abbrev pub EachSees : {A K : Type 0} → (K → List Tree → Type 0) → Event A → List (Slot A K) → List (Slot A K) → Result (Unit {0}) AllocError → Type 0
+EachSees Keeps event old new result =
+    (o : Opening) (living : Alive) (ts : List Track) → Each (IsTracked Keeps o living) ts old
+    → IfOk result (λ _. Each (IsTracked Keeps o (alive_after living (event_of event))) (map (with_event (event_of event)) ts) new)
+
+-- what each session tells of the event was handed out, by rising number
+abbrev pub EachHandsOut : {A K G : Type 0} → (K → List Tree → Type 0) → (G → List Told → Type 0) → Event A → List (Slot A K) → G → G → Result (Unit {0}) AllocError → Type 0
+EachHandsOut Keeps Gives event old given given' result =
+    (o : Opening) (living : Alive) (ts : List Track) → Each (IsTracked Keeps o living) ts old
+    → IfOk result (λ _. AreMore Gives (flat_map (told_to (event_of event)) ts) given given')
+
+-- the engine's sessions saw the event
+abbrev pub AllSee : {A K : Type 0} → (K → List Tree → Type 0) → Event A → Engine A K → Engine A K → Result (Unit {0}) AllocError → Type 0
+AllSee Keeps event old new result =
+    (o : Opening) (ts : List Track) → AreTracked Keeps o ts old
+    → IfOk result (λ _. AreTracked Keeps o (map (with_event (event_of event)) ts) new)
+
+-- what they tell of it was handed out
+abbrev pub AllHandOut : {A K G : Type 0} → (K → List Tree → Type 0) → (G → List Told → Type 0) → Event A → Engine A K → G → G → Result (Unit {0}) AllocError → Type 0
+AllHandOut Keeps Gives event old given given' result =
+    (o : Opening) (ts : List Track) → AreTracked Keeps o ts old
+    → IfOk result (λ _. AreMore Gives (flat_map (told_to (event_of event)) ts) given given')
+
+-- the engine's sessions saw the events of a move, in order
+abbrev pub AllSeeEach : {A K : Type 0} → (K → List Tree → Type 0) → List (Event A) → Engine A K → Engine A K → Result (Unit {0}) AllocError → Type 0
+AllSeeEach Keeps events old new result =
+    (o : Opening) (ts : List Track) → AreTracked Keeps o ts old
+    → IfOk result (λ _. AreTracked Keeps o (with_events (map event_of events) ts) new)
+
+-- what they tell of them was handed out
+abbrev pub AllHandOutEach : {A K G : Type 0} → (K → List Tree → Type 0) → (G → List Told → Type 0) → List (Event A) → Engine A K → G → G → Result (Unit {0}) AllocError → Type 0
+AllHandOutEach Keeps Gives events old given given' result =
+    (o : Opening) (ts : List Track) → AreTracked Keeps o ts old
+    → IfOk result (λ _. AreMore Gives (told_by (map event_of events) ts) given given')
+
+-- nothing of the engine changed but its sessions, and who lives
+abbrev pub OnlySessions : {A K : Type 0} → Engine A K → Engine A K → Result (Unit {0}) AllocError → Type 0
+OnlySessions old new result = IfOk result (λ _. new ≡ record old { living = new.living; slots = new.slots })
