@@ -37,11 +37,11 @@ fn check_spent(rt: &impl Abort, core: &mut Core<&Heap>) {
 
 /// Takes the row's picks, until one is refused memory; the core is spent from then on.
 fn take_picks(rt: &impl Abort, heap: &Heap, mut core: Core<&Heap>, row: &Row) {
-    let mut moved = 0;
+    let mut moved = 0usize;
     for word in row.picks.split(' ') {
         let pick: u32 = word.parse().unwrap_or(0);
         match core.step(pick) {
-            Ok(Answer::Moved { items: _ }) => moved += 1,
+            Ok(Answer::Moved { items: _ }) => moved = moved.saturating_add(1),
             Ok(Answer::Idle) => {}
             Err(fault) => {
                 assert_eq!(rt; fault, StepFault::OutOfMemory);

@@ -1,8 +1,45 @@
 // Texts of the limits, of comments and strings, and what is written back.
 use std::alloc::{AllocError, Allocator};
-use std::io::{Read, Write};
+use std::io;
+use std::io::{ErrorKind, Read, Write};
 use std::test::Fail;
 use tn_text::{Kind, TextFault, Watched, read_term, read_terms, tokens, write_term};
+
+/// An end whose first call of each kind fails with an error of its own, and whose other calls work.
+#[derive(Drop)]
+struct Late {
+    reads: u32,
+    writes: u32,
+    flushes: u32,
+}
+
+impl Read for Late {
+    fn read(&mut self, _buf: &mut [u8]) -> io::Result<usize> {
+        self.reads = self.reads.saturating_add(1);
+        if self.reads == 1 {
+            return Err(io::Error::from(ErrorKind::TimedOut));
+        }
+        Ok(0)
+    }
+}
+
+impl Write for Late {
+    fn write(&mut self, buf: &[u8]) -> io::Result<usize> {
+        self.writes = self.writes.saturating_add(1);
+        if self.writes == 1 {
+            return Err(io::Error::from(ErrorKind::BrokenPipe));
+        }
+        Ok(buf.len())
+    }
+
+    fn flush(&mut self) -> io::Result<()> {
+        self.flushes = self.flushes.saturating_add(1);
+        if self.flushes == 1 {
+            return Err(io::Error::from(ErrorKind::Interrupted));
+        }
+        Ok(())
+    }
+}
 
 // the number of the refusal and its place
 fn number(fault: TextFault) -> (u8, usize) {
@@ -216,6 +253,30 @@ fn watched_ends(rt: HostRuntime) -> Result<(), Fail> {
     writer.flush()?;
     assert!(rt; !writer.failed());
     assert_eq!(rt; writer.into_inner().as_slice(), b"xy".as_slice());
+    Ok(())
+}
+
+/// An end that fails once is asked once: its error is handed on, and later calls reach it too.
+#[test]
+fn ends_that_fail_once(rt: HostRuntime) -> Result<(), Fail> {
+    let mut end = Watched::of(Late {
+        reads: 0,
+        writes: 0,
+        flushes: 0,
+    });
+    let mut bytes = [0u8; 2];
+    let read = end.read(&mut bytes);
+    assert!(rt; read.is_err_and(|e| e.kind() == ErrorKind::TimedOut));
+    let written = end.write(b"xy");
+    assert!(rt; written.is_err_and(|e| e.kind() == ErrorKind::BrokenPipe));
+    let flushed = end.flush();
+    assert!(rt; flushed.is_err_and(|e| e.kind() == ErrorKind::Interrupted));
+    assert_eq!(rt; end.read(&mut bytes)?, 0);
+    assert_eq!(rt; end.write(b"xy")?, 2);
+    end.flush()?;
+    assert!(rt; end.failed());
+    let late = end.into_inner();
+    assert_eq!(rt; (late.reads, late.writes, late.flushes), (2, 2, 2));
     Ok(())
 }
 

@@ -1,4 +1,5 @@
-// How many blocks an evaluation takes, beside those of what is read.
+// How many blocks an evaluation takes, beside those of what is read, and that it gives them back.
+use linked_list_allocator::LocalHeap;
 use std::alloc::{Allocator, Global};
 use std::test::Fail;
 use test_allocator::Refusing;
@@ -13,6 +14,10 @@ const ENOUGH: u64 = 10_000;
 
 /// The message of an argument that is greater than 3.
 const GREATER: &str = "[{['$1'],[{'>','$1',3}],[{message,'$1'}]}]";
+
+/// A condition that makes tuples and fails, unless the argument is `go`, and then a head of two arguments.
+const TUPLES: &str =
+    "[{['$1'],[{'=:=',{{'$1',1}},{{go,1}}}],[{message,{{'$1',2}}}]},{['$1','$2'],[],[]}]";
 
 /// Whether the list has an outcome with this memory.
 fn has_outcome<'a, A: Allocator + Copy>(
@@ -31,7 +36,7 @@ fn has_outcome<'a, A: Allocator + Copy>(
 }
 
 /// Whether the specification and the list are read with this memory, and the outcome too where it is asked.
-fn is_enough(heap: &Refusing<Global>, spec: &str, list: &str, evaluates: bool) -> bool {
+fn is_enough<A: Allocator + Copy>(heap: A, spec: &str, list: &str, evaluates: bool) -> bool {
     let Ok(term) = read_term(heap, spec.as_bytes()) else {
         return false;
     };
@@ -81,5 +86,16 @@ fn none_where_a_condition_fails(rt: HostRuntime) -> Result<(), Fail> {
 fn none_where_a_head_fails(rt: HostRuntime) -> Result<(), Fail> {
     let taken = blocks(rt.alloc(), GREATER, "[4,5]")?;
     assert_eq!(rt; taken, 0);
+    Ok(())
+}
+
+#[test]
+fn all_is_given_back(rt: HostRuntime) -> Result<(), Fail> {
+    for list in ["[go]", "[stop]", "[go,on]", "[go,on,4]"] {
+        let heap = LocalHeap::new(rt.alloc(), 1 << 16)?;
+        let before = heap.used();
+        assert!(rt; is_enough(&heap, TUPLES, list, true), "{list}");
+        assert_eq!(rt; heap.used(), before);
+    }
     Ok(())
 }
