@@ -1,12 +1,12 @@
 -- A pick of a run is what the node gives for it.
-use Rattle.std.proofs.Common.{◌≡◌, ◌∙◌, ℕ, zero, suc, ◌+◌, ◌-◌, ◌<◌, ◌≤◌, Bool, true, false, if◌then◌else◌, List, [], ◌∷◌, ◌++◌, length, map, Some, refl, sym, ap, subst, arith, append_assoc, length-append}
+use Rattle.std.proofs.Common.{◌≡◌, ◌∙◌, ℕ, zero, suc, ◌+◌, ◌-◌, ◌<◌, ◌≤◌, Bool, true, false, if◌then◌else◌, List, [], ◌∷◌, ◌++◌, length, Some, refl, sym, ap, subst, arith, append_assoc, length-append}
 use Rattle.std.specs.Prelude.{slice_get, nat_lt}
 use Rattle.std.proofs.lemmas.Bool.{ltb-true, ltb-false}
 use Rattle.def_script.specs.Program.{Function, Command, Program}
 use Rattle.def_node.specs.Limits.{IsStill}
-use Rattle.def_node.specs.Node.{World, Move, moved, idle, next_of, State, gives_events, gives_command, gives_nothing, of_move, next}
+use Rattle.def_node.specs.Node.{World, Move, moved, idle, next_of, State, gives_command, gives_nothing, of_move, next}
 use Rattle.def_node.proofs.Still.{next_still}
-use Rattle.def_run.specs.Run.{Place, Turn, takes_command, goes_to, turn_with, turn_of, start, moves, place_after}
+use Rattle.def_run.specs.Run.{Place, takes_command, goes_to, turn_with, turn_of, start, moves, place_after}
 use Rattle.def_run.specs.Laws.{state_at, IsNext, PickIsNext}
 use Rattle.def_run.proofs.Replay.{room_spent}
 

@@ -1,6 +1,6 @@
 -- The state of one session (trace:session_create/3, process/4).
 -- Stands on flags, on settings and on who lives.
-use Rattle.std.specs.Prelude.{ℕ, ◌-◌, Bool, true, false, List, [], ◌++◌, replicate, slice_get, slice_set}
+use Rattle.std.specs.Prelude.{ℕ, ◌-◌, true, false, List, [], ◌++◌, replicate, slice_get, slice_set}
 use Rattle.std.specs.Option.{unwrap_or}
 use Rattle.def_term.specs.Alive.{FIRST_PID, PROCESSES, Alive, with_alive}
 use Rattle.def_script.specs.Opening.{Opening}

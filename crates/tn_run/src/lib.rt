@@ -2,8 +2,8 @@
 //!
 //! Stands on tn_text (watched ends), tn_script, tn_program and tn_trace, and on the definitions of
 //! def_script and def_run. Promises that `run` writes exactly the output that def_run defines for the
-//! script and the picks, or for the script and the limit of a round, or the line of the one refusal, and nothing else; that a fault says which end
-//! failed, and how many bytes of that output were taken.
+//! script and the picks, or for the script and the limit of a round, or the line of the one refusal, and
+//! nothing else; that a fault says which end failed, and how many bytes of that output were taken.
 #![tactic(auto)]
 
 mod acceptance;

@@ -1,5 +1,6 @@
 // The text of a list of picks.
-ghost use Rattle.std.specs.Prelude.{◌≡◌, ◌≢◌, ℕ, ◌^◌, ◌<◌, ◌==◌, List, position, [], ◌∷◌, MatchOption, IfOk, IfSome, IsErrOf, length, decimal};
+ghost use Rattle.std.specs.Prelude.{◌≡◌, ◌≢◌, ℕ, ◌^◌, ◌<◌, ◌==◌, List, position, [], ◌∷◌, MatchOption, IfOk, IfSome};
+ghost use Rattle.std.specs.Prelude.{IsErrOf, length, decimal};
 ghost use Rattle.tn_run.specs.Picks.{pieces};
 ghost use Rattle.def_run.specs.Picks.{SpellsPicks};
 

@@ -1,9 +1,7 @@
 use Rattle.std.proofs.Common.{◌≡◌, ap, ap₂, sym, ◌∙◌, ◌∷◌, [], map, rules}
-use Rattle.def_term.specs.Tree.{atom}
 use Rattle.def_node.specs.Event.{linked}
 use Rattle.def_node.specs.Node.{moved, linked_to, change_at, with_signal}
 use Rattle.tn_flags.specs.Views.{event_of}
-use Rattle.tn_term.proofs.Views.{tree_of_atom}
 use Rattle.tn_node.specs.Worlds.{world_of}
 use Rattle.tn_node.proofs.world.World.link_to.Goals as goal
 
