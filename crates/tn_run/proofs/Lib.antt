@@ -1,4 +1,3 @@
-mod PicksLemmas
 mod EndsLemmas
 mod AcceptLemmas
 mod RunLemmas

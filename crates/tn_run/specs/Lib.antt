@@ -1,4 +1,3 @@
-pub mod Picks
 pub mod Ends
 pub mod Scripts
 pub mod Out

@@ -14,13 +14,12 @@ use crate::ends::{read_text, write_output};
 use crate::fault::RunFault;
 use crate::line::refusal_bytes;
 use crate::outcome::{Outcome, Refusal, Schedule};
-use crate::picks::{PicksFault, parse_picks};
 use crate::plan::Plan;
 use std::alloc::{AllocError, Allocator};
 use std::io::{Read, Write};
+use tn_listing::{PicksFault, read_picks, replay, round};
 use tn_program::Program;
 use tn_text::{MAX_TEXT, Watched};
-use tn_trace::{replay, round};
 
 /// The outcome and the line of a refusal.
 fn refused<A: Allocator>(alloc: A, refusal: Refusal) -> Result<(Outcome, Vec<u8, A>), RunFault>
@@ -112,7 +111,7 @@ fn prepare<A: Allocator + Copy, R: Read>(
         Schedule::Round(limit) => return prepare_plan(alloc, reader, Plan::Round(limit)),
         Schedule::Picks(text) => text,
     };
-    match parse_picks(alloc, text) {
+    match read_picks(alloc, text) {
         Ok(picks) => prepare_plan(alloc, reader, Plan::Picks(&picks)),
         Err(PicksFault::OutOfMemory) => Err(RunFault::OutOfMemory),
         Err(PicksFault::BadPicks) => refused(alloc, Refusal::BadPicks),

@@ -49,6 +49,20 @@ creation_suc : (p : Program) (n : ℕ) → (n ≡ 0 → ⊥) → creation_number
 creation_suc p zero h = absurd (h refl)
 creation_suc p (suc n) h = ap (slice_get (creations p.commands)) (omega arith)
 
+-- the sessions of an engine by their places
+module _ {A K : Type 0} (Keeps : K → List Tree → Type 0) (p : Program) (picks : List ℕ) (e : Engine A K) (run : IsRun Keeps p picks e) where
+  sessions_in : (xs : List (Slot A K)) → xs ≡ e.slots.items → Each (IsTracked Keeps (opening p) (alive_of e.living)) (tracks_from (opening p) (events p picks) 1 (creations p.commands)) xs
+  sessions_in xs same = subst (Each (IsTracked Keeps (opening p) (alive_of e.living)) (tracks_from (opening p) (events p picks) 1 (creations p.commands))) (sym same) run.sessions
+
+  pub kept_at : (i : ℕ) (xs : List (Slot A K)) (slot : Slot A K) → xs ≡ e.slots.items → i < length xs → slot ≡ get_or xs i slot
+      → (s : Name × Name) × (slice_get (creations p.commands) i ≡ Some s) × Keeps slot.kept (messages s.0 p picks)
+  kept_at i xs slot same below at =
+      let r = each_got (IsTracked Keeps (opening p) (alive_of e.living)) (opening p) (events p picks) 1 i (creations p.commands) xs slot (sessions_in xs same) below at in
+      (r.0, r.2, r.3.kept)
+
+  pub none_at : (i : ℕ) (xs : List (Slot A K)) → xs ≡ e.slots.items → length xs ≤ i → slice_get (creations p.commands) i ≡ None
+  none_at i xs same past = none_got (IsTracked Keeps (opening p) (alive_of e.living)) (opening p) (events p picks) 1 i (creations p.commands) xs (sessions_in xs same) past
+
 module _ {A : Type 0} (p : Program) (picks : List ℕ) (o : Option (Engine A (Terms A))) (e : Engine A (Terms A)) (held : HoldsIn p picks o) (is : o ≡ Some e) where
   pub run_of : IsRun AreTerms p picks e
   run_of = subst (HoldsIn p picks) is held
@@ -56,14 +70,11 @@ module _ {A : Type 0} (p : Program) (picks : List ℕ) (o : Option (Engine A (Te
   pub listed : (n : ℕ) (xs : List (Slot A (Terms A))) (slot : Slot A (Terms A)) (v : List (Term A)) → (n ≡ 0 → ⊥) → xs ≡ e.slots.items → n - 1 < length xs → slot ≡ get_or xs (n - 1) slot → v ≡ slot.kept.terms.items
       → (s : Name × Name) × (creation_numbered p n ≡ Some s) × (map tree_of v ≡ messages s.0 p picks)
   listed n xs slot v positive same below at lent =
-      let all = subst (Each (IsTracked AreTerms (opening p) (alive_of e.living)) (tracks_from (opening p) (events p picks) 1 (creations p.commands))) (sym same) run_of.sessions in
-      let r = each_got (IsTracked AreTerms (opening p) (alive_of e.living)) (opening p) (events p picks) 1 (n - 1) (creations p.commands) xs slot all below at in
-      (r.0, creation_suc p n positive ∙ r.2, ap (map tree_of) lent ∙ r.3.kept)
+      let r = kept_at AreTerms p picks e run_of (n - 1) xs slot same below at in
+      (r.0, creation_suc p n positive ∙ r.1, ap (map tree_of) lent ∙ r.2)
 
   pub unlisted : (n : ℕ) (xs : List (Slot A (Terms A))) → (n ≡ 0 → ⊥) → xs ≡ e.slots.items → length xs ≤ n - 1 → creation_numbered p n ≡ None
-  unlisted n xs positive same past =
-      let all = subst (Each (IsTracked AreTerms (opening p) (alive_of e.living)) (tracks_from (opening p) (events p picks) 1 (creations p.commands))) (sym same) run_of.sessions in
-      creation_suc p n positive ∙ none_got (IsTracked AreTerms (opening p) (alive_of e.living)) (opening p) (events p picks) 1 (n - 1) (creations p.commands) xs all past
+  unlisted n xs positive same past = creation_suc p n positive ∙ none_at AreTerms p picks e run_of (n - 1) xs same past
 
 pub full_length : (n : ℕ) (xs picks : List ℕ) → xs ≡ picks → n ≡ length xs → 65536 ≤ n → 65536 ≤ length picks
 full_length n xs picks same size full = let e : length xs ≡ length picks = ap length same in omega arith

@@ -7,6 +7,5 @@ pub mod Telling
 pub mod Stepping
 pub mod KeptLemmas
 pub mod CoreLemmas
-pub mod PicksLemmas
-pub mod OutputLemmas
+pub mod TranscriptLemmas
 pub mod Following

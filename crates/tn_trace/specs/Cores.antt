@@ -66,6 +66,10 @@ DestroyedStay pick =
     (p : Program) (picks : List ℕ) (s : Name) → IsDestroyedAfter s p picks
     → messages s p (picks ++ pick ∷ []) ≡ messages s p picks
 
+-- whatever journal the core is of, this is its program
+abbrev pub IsProgramOf : {A : Type 0} → Core A → Program → Type 0
+IsProgramOf core q = (p : Program) (picks : List ℕ) → IsCore p picks core → q ≡ p
+
 -- whatever journal the core is of, this is it
 abbrev pub IsJournal : {A : Type 0} → Core A → Result (Bor (List ℕ)) StepFault → Type 0
 IsJournal core result =

@@ -7,5 +7,5 @@ pub mod Obeying
 pub mod Items
 pub mod Advances
 pub mod Cores
-pub mod Outputs
+pub mod Transcripts
 pub mod Follows

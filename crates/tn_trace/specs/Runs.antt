@@ -48,7 +48,7 @@ Steps Keeps Gives p picks pick true new given given' = IsRun Keeps p (picks ++ p
 Steps Keeps Gives p picks pick false new given given' = IsRun Keeps p picks new × IsIdleAfter p picks pick × AreMore Gives [] given given'
 
 -- whatever picks led to the engine, where they leave room in the journal, one more is taken
-abbrev pub StepsOn : {A K G : Type 0} → (K → List Tree → Type 0) → (G → List Told → Type 0) → Program → ℕ → Engine A K → Engine A K → G → G → Result Bool AllocError → Type 0
-StepsOn Keeps Gives p pick old new given given' result =
+abbrev pub TakesPick : {A K G : Type 0} → (K → List Tree → Type 0) → (G → List Told → Type 0) → Program → ℕ → Engine A K → Engine A K → G → G → Result Bool AllocError → Type 0
+TakesPick Keeps Gives p pick old new given given' result =
     (picks : List ℕ) → IsRun Keeps p picks old → length picks < JOURNAL
     → IfOk result (λ moved. Steps Keeps Gives p picks pick moved new given given')

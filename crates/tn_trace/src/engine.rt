@@ -26,7 +26,7 @@ pub(crate) struct Engine<A: Allocator, K> {
 impl<A: Allocator + Copy, K: Kept<A> + Drop> Engine<A, K> {
     ghost use Rattle.std.specs.Prelude.{[], IfOk};
     ghost use Rattle.tn_program.specs.Views.{program_of};
-    ghost use Rattle.tn_trace.specs.Runs.{IsRun, StepsOn};
+    ghost use Rattle.tn_trace.specs.Runs.{IsRun, TakesPick};
     ghost use Rattle.tn_trace.specs.Telling.{AllSee, AllHandOut, AllSeeEach, AllHandOutEach, OnlySessions};
     ghost use Rattle.tn_trace.specs.Obeying.{TakesCommand};
 
@@ -89,7 +89,7 @@ impl<A: Allocator + Copy, K: Kept<A> + Drop> Engine<A, K> {
         pick: u32,
         given: &mut Vec<Item<A>, A>,
     ) -> Result<bool, AllocError>
-        ensures { StepsOn K.keeps K.gives (program_of program.now) pick self.old self.new given.old given.new result }
+        ensures { TakesPick K.keeps K.gives (program_of program.now) pick self.old self.new given.old given.new result }
     {
         match self.node.step(pick)? {
             Moved::Idle => Ok(false),

@@ -3,8 +3,8 @@
 //! Stands on tn_node and tn_session, and on the definitions of def_run. Promises that a core that isn't
 //! spent is the core of its journal: its node, listings and replies are those that def_run defines for
 //! its program and its journal's picks, each of which moved; that a step adds exactly the answer of its
-//! move; that a listing goes by the session's view, which no other session changes; and that a run which
-//! keeps text alone gives exactly the defined output.
+//! move; that a listing goes by the session's view, which no other session changes; and that the transcript of
+//! a run, which keeps text alone, has the lines, the replies and the journal of its picks.
 #![tactic(auto)]
 
 mod advancing;
@@ -13,13 +13,13 @@ mod functions;
 mod item;
 mod keeping;
 mod kept;
-mod output;
 mod recording;
 mod reply;
 mod sessions;
 mod slot;
 mod texts;
+mod transcript;
 
 pub use item::{Answer, Item, StepFault};
-pub use output::{replay, round};
 pub use recording::Core;
+pub use transcript::Transcript;

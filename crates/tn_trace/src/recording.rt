@@ -17,9 +17,9 @@ pub struct Core<A: Allocator> {
 
 impl<A: Allocator + Copy> Core<A> {
     ghost use Rattle.std.specs.Prelude.{◌≡◌, List, ℕ, [], IfOk};
-    ghost use Rattle.def_script.specs.Program as definition;
     ghost use Rattle.tn_program.specs.Views.{program_of};
     ghost use Rattle.tn_trace.specs.Cores.{IsCore, IsSpent, StepsOn, DestroyedStay, IsJournal, AreReplies};
+    ghost use Rattle.tn_trace.specs.Cores.{IsProgramOf};
     ghost use Rattle.tn_trace.specs.Cores.{IsListing, ListsByView, StruckLeave};
 
     /// The core of the program and the empty journal.
@@ -35,7 +35,7 @@ impl<A: Allocator + Copy> Core<A> {
 
     /// The program.
     pub fn program(&self) -> &Program<A>
-        ensures { (p : definition.Program) (picks : List ℕ) → IsCore p picks self.now → program_of result.now ≡ p }
+        ensures { IsProgramOf self.now (program_of result.now) }
     {
         &self.program
     }

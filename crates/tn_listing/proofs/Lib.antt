@@ -1,0 +1,4 @@
+mod LinesLemmas
+mod PiecesLemmas
+mod WrittenLemmas
+mod OutputLemmas

@@ -1,0 +1,77 @@
+-- The listings of an output, session by session, and its parts.
+use Rattle.std.proofs.Common.{Bor, ◌≡◌, ◌∙◌, ℕ, zero, suc, ◌+◌, ◌<◌, ◌≤◌, List, [], ◌∷◌, ◌++◌, length, take, get_or, Some, None, refl, sym, ap, subst, append_assoc, append-nil, add-one, codes, arith}
+use Rattle.std.specs.Prelude.{slice_get, option_to_list}
+use Rattle.def_term.specs.Tree.{Tree}
+use Rattle.def_term.specs.Names.{Name}
+use Rattle.def_script.specs.Program.{Program}
+use Rattle.def_script.specs.Script.{creations}
+use Rattle.def_run.specs.Run.{moves}
+use Rattle.def_run.specs.Picks.{picks_text}
+use Rattle.def_run.specs.Listing.{messages, replies, lines_of, header_line, listing_text, listings_text, program_output}
+use Rattle.tn_trace.specs.Transcripts.{AreLinesOf}
+use Rattle.tn_listing.specs.Outputs.{listing_numbered, all_listings}
+
+-- one more session
+listings_next : (ms : Name → List Tree) (ss : List (Name × Name)) (i : ℕ) → listings_text ms (take (suc i) ss) ≡ listings_text ms (take i ss) ++ listings_text ms (option_to_list (slice_get ss i))
+listings_next ms [] zero = refl
+listings_next ms [] (suc i) = refl
+listings_next ms (s ∷ ss) zero = refl
+listings_next ms (s ∷ ss) (suc i) =
+    ap (λ r. listing_text s.0 s.1 (ms s.0) ++ r) (listings_next ms ss i)
+    ∙ sym (append_assoc (listing_text s.0 s.1 (ms s.0)) (listings_text ms (take i ss)) (listings_text ms (option_to_list (slice_get ss i))))
+
+pub one_more_listing : (p : Program) (picks : List ℕ) (i : ℕ) (before now after : List ℕ)
+    → now ≡ before ++ listings_text (λ s. messages s p picks) (take i (creations p.commands)) → after ≡ now ++ listing_numbered p picks i
+    → after ≡ before ++ listings_text (λ s. messages s p picks) (take (i + 1) (creations p.commands))
+one_more_listing p picks i before now after so_far added =
+    added
+    ∙ ap (λ l. l ++ listing_numbered p picks i) so_far
+    ∙ append_assoc before (listings_text (λ s. messages s p picks) (take i (creations p.commands))) (listing_numbered p picks i)
+    ∙ ap (λ l. before ++ l) (sym (listings_next (λ s. messages s p picks) (creations p.commands) i))
+    ∙ ap (λ n. before ++ listings_text (λ s. messages s p picks) (take n (creations p.commands))) (sym (add-one i))
+
+take_past : {X : Type 0} (xs : List X) (i : ℕ) → length xs ≤ i → take i xs ≡ xs
+take_past [] zero h = refl
+take_past [] (suc i) h = refl
+take_past (x ∷ xs) zero h = absurd (omega arith)
+take_past (x ∷ xs) (suc i) h = ap (λ l. x ∷ l) (take_past xs i (omega arith))
+
+pub all_are_listed : (p : Program) (picks : List ℕ) (i n : ℕ) (before now : List ℕ) → n ≡ length (creations p.commands) → n ≤ i
+    → now ≡ before ++ listings_text (λ s. messages s p picks) (take i (creations p.commands)) → now ≡ before ++ all_listings p picks
+all_are_listed p picks i n before now size past so_far =
+    so_far ∙ ap (λ ss. before ++ listings_text (λ s. messages s p picks) ss) (take_past (creations p.commands) i (omega arith))
+
+-- no session has this number
+pub none_listed : (p : Program) (picks : List ℕ) (i : ℕ) (text : List ℕ) → slice_get (creations p.commands) i ≡ None → text ≡ text ++ listing_numbered p picks i
+none_listed p picks i text none =
+    sym (append-nil text) ∙ ap (λ r. text ++ listings_text (λ s. messages s p picks) (option_to_list r)) (sym none)
+
+headed_lines : (before header told lines headed after : List ℕ) → headed ≡ before ++ header → after ≡ headed ++ lines → lines ≡ told → after ≡ before ++ (header ++ told)
+headed_lines before header told lines headed after head added own =
+    added ∙ ap (λ l. l ++ lines) head ∙ append_assoc before header lines ∙ ap (λ l. before ++ (header ++ l)) own
+
+listed_as : (ms : Name → List Tree) (ss : List (Name × Name)) (i : ℕ) (s : Name × Name) → Some s ≡ slice_get ss i → header_line s.0 s.1 ++ lines_of (ms s.0) ≡ listings_text ms (option_to_list (slice_get ss i))
+listed_as ms ss i s named =
+    sym (append-nil (header_line s.0 s.1 ++ lines_of (ms s.0))) ∙ ap (λ q. listings_text ms (option_to_list q)) named
+
+-- the lines of the session at this place
+pub one_listed : (p : Program) (picks : List ℕ) (i : ℕ) (v : Bor (List ℕ)) (s : Name × Name) (before headed after : List ℕ) → AreLinesOf p picks i (Some v)
+    → Some s ≡ slice_get (creations p.commands) i → headed ≡ before ++ header_line s.0 s.1 → after ≡ headed ++ v.now → after ≡ before ++ listing_numbered p picks i
+one_listed p picks i v s before headed after lent named head added =
+    let which : Some lent.0 ≡ Some s = sym lent.1 ∙ sym named in
+    let own : lent.0 ≡ s = cc in
+    let own_lines : v.now ≡ lines_of (messages s.0 p picks) = lent.2 ∙ ap (λ (n : Name × Name). lines_of (messages n.0 p picks)) own in
+    headed_lines before (header_line s.0 s.1) (lines_of (messages s.0 p picks)) v.now headed after head added own_lines
+    ∙ ap (λ l. before ++ l) (listed_as (λ n. messages n p picks) (creations p.commands) i s named)
+
+pub all_parts : (start l1 l2 l3 l4 l5 l6 a b c d e f : List ℕ) → start ≡ [] → l1 ≡ start ++ a → l2 ≡ l1 ++ b → l3 ≡ l2 ++ c → l4 ≡ l3 ++ d → l5 ≡ l4 ++ e → l6 ≡ l5 ++ f → l6 ≡ a ++ b ++ c ++ d ++ e ++ f
+all_parts start l1 l2 l3 l4 l5 l6 a b c d e f h0 h1 h2 h3 h4 h5 h6 =
+    h6 ∙ ap (λ l. l ++ f) (h5 ∙ ap (λ l. l ++ e) (h4 ∙ ap (λ l. l ++ d) (h3 ∙ ap (λ l. l ++ c) (h2 ∙ ap (λ l. l ++ b) (h1 ∙ ap (λ l. l ++ a) h0)))))
+    ∙ simp append_assoc
+
+pub whole_run : (p : Program) (picks replied journal out : List ℕ) → replied ≡ lines_of (replies p picks) → journal ≡ moves p picks
+    → out ≡ all_listings p picks ++ codes "== replies\n" ++ replied ++ codes "== journal\n" ++ picks_text journal ++ 10 ∷ [] → out ≡ program_output p picks
+whole_run p picks replied journal out are_replies is_journal made =
+    made
+    ∙ ap (λ l. all_listings p picks ++ codes "== replies\n" ++ l ++ codes "== journal\n" ++ picks_text journal ++ 10 ∷ []) are_replies
+    ∙ ap (λ l. all_listings p picks ++ codes "== replies\n" ++ lines_of (replies p picks) ++ codes "== journal\n" ++ picks_text l ++ 10 ∷ []) is_journal

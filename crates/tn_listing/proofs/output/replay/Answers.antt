@@ -1,0 +1,5 @@
+use Rattle.tn_program.specs.Views.{program_of}
+use Rattle.tn_listing.proofs.output.replay.Goals as goal
+
+pub returns : goal.returns
+returns g c = c.output.ensures c.args.picks.now c.in_ok-transcript.ensures

@@ -1,0 +1,10 @@
+-- The text of one session's listing.
+use Rattle.std.specs.Prelude.{ℕ, List, map}
+use Rattle.def_term.specs.Names.{Name}
+use Rattle.def_run.specs.Listing as definition
+use Rattle.tn_term.specs.Views.{tree_of}
+use Rattle.tn_term.specs.declared.term.Term.{Term}
+
+-- the header and the messages
+abbrev pub listing_of : {A : Type 0} → Name → Name → List (Term A) → List ℕ
+listing_of name tracer messages = definition.listing_text name tracer (map tree_of messages)

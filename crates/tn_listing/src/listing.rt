@@ -1,0 +1,87 @@
+// The text of a listing.
+ghost use Rattle.std.specs.Prelude.{◌≡◌, ◌++◌, OnOk, OnErr, map};
+ghost use Rattle.def_run.specs.Listing as definition;
+ghost use Rattle.tn_term.specs.Views.{tree_of};
+ghost use Rattle.tn_text.specs.Writes.{Grows};
+ghost use Rattle.tn_listing.specs.Listings.{listing_of};
+
+use std::alloc::{AllocError, Allocator};
+use tn_term::{Atom, Term};
+use tn_text::{write_atom, write_term};
+
+/// Appends the line `== session NAME tracer TRACER`; after an `Err` a part of it may stand there.
+pub(crate) fn put_header<A: Allocator, B: Allocator>(
+    name: &Atom<A>,
+    tracer: &Atom<A>,
+    out: &mut Vec<u8, B>,
+) -> Result<(), AllocError>
+    ensures ok { OnOk result (out.new.items ≡ out.old.items ++ definition.header_line name.now tracer.now) }
+    ensures grows { Grows out.old.items out.new.items }
+{
+    out.extend_from_slice(b"== session ")?;
+    write_atom(name, out)?;
+    out.extend_from_slice(b" tracer ")?;
+    write_atom(tracer, out)?;
+    out.push(b'\n')?;
+    Ok(())
+}
+
+/// Appends the text of a message with a line feed; after an `Err` a part of it may stand there.
+fn put_line<A: Allocator, B: Allocator>(message: &Term<A>, out: &mut Vec<u8, B>) -> Result<(), AllocError>
+    ensures ok { OnOk result (out.new.items ≡ out.old.items ++ definition.line_of (tree_of message.now)) }
+    ensures grows { Grows out.old.items out.new.items }
+{
+    write_term(message, out)?;
+    out.push(b'\n')?;
+    Ok(())
+}
+
+/// Appends the text of each message with a line feed; after an `Err` a part of it may stand there.
+fn put_lines<A: Allocator, B: Allocator>(
+    messages: &[Term<A>],
+    out: &mut Vec<u8, B>,
+) -> Result<(), AllocError>
+    ensures ok { OnOk result (out.new.items ≡ out.old.items ++ definition.lines_of (map tree_of messages.now)) }
+    ensures grows { Grows out.old.items out.new.items }
+{
+    for message in messages {
+        put_line(message, out)?;
+    }
+    Ok(())
+}
+
+/// Appends the header of a session and its messages; after an `Err` a part of them may stand there.
+fn put_listing<A: Allocator, B: Allocator>(
+    name: &Atom<A>,
+    tracer: &Atom<A>,
+    messages: &[Term<A>],
+    out: &mut Vec<u8, B>,
+) -> Result<(), AllocError>
+    ensures ok { OnOk result (out.new.items ≡ out.old.items ++ listing_of name.now tracer.now messages.now) }
+    ensures grows { Grows out.old.items out.new.items }
+{
+    put_header(name, tracer, out)?;
+    put_lines(messages, out)
+}
+
+/// Appends the line `== session NAME tracer TRACER` and the text of each message, each with a line feed.
+///
+/// # Errors
+///
+/// AllocError where memory was refused: the vector is as it was.
+pub fn listing_text<A: Allocator, B: Allocator>(
+    name: &Atom<A>,
+    tracer: &Atom<A>,
+    messages: &[Term<A>],
+    out: &mut Vec<u8, B>,
+) -> Result<(), AllocError>
+    ensures ok { OnOk result (out.new.items ≡ out.old.items ++ listing_of name.now tracer.now messages.now) }
+    ensures err { OnErr result (out.new.items ≡ out.old.items) }
+{
+    let len = out.len();
+    let done = put_listing(name, tracer, messages, out);
+    if done.is_err() {
+        out.truncate(len);
+    }
+    done
+}

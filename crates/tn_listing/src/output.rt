@@ -1,0 +1,99 @@
+// The text of an output.
+ghost use Rattle.std.specs.Prelude.{◌≡◌, List, ℕ, IfOk};
+ghost use Rattle.def_run.specs.Listing.{program_output};
+ghost use Rattle.tn_program.specs.Views.{program_of};
+ghost use Rattle.tn_trace.specs.Transcripts.{IsTranscript};
+ghost use Rattle.tn_listing.specs.Outputs.{Adds, listing_numbered, all_listings, output_of_round};
+
+use crate::listing::put_header;
+use crate::picks::write_picks;
+use std::alloc::{AllocError, Allocator};
+use tn_program::Program;
+use tn_trace::Transcript;
+
+/// Appends the header and the messages of the session with this number, from 0.
+fn append_listing<A: Allocator + Copy>(
+    text: &mut Vec<u8, A>,
+    transcript: &Transcript<A>,
+    program: &Program<A>,
+    number: usize,
+) -> Result<(), AllocError>
+    ensures { (picks : List ℕ) → IsTranscript (program_of program.now) picks transcript.now →
+        IfOk result (λ _. Adds (listing_numbered (program_of program.now) picks number) text.old text.new) }
+{
+    let Some((name, tracer)) = program.session_at(number) else {
+        return Ok(());
+    };
+    let Some(lines) = transcript.lines(number) else {
+        return Ok(());
+    };
+    put_header(name, tracer, text)?;
+    text.extend_from_slice(lines)?;
+    Ok(())
+}
+
+/// Appends each session's header and messages.
+fn append_listings<A: Allocator + Copy>(
+    text: &mut Vec<u8, A>,
+    transcript: &Transcript<A>,
+    program: &Program<A>,
+) -> Result<(), AllocError>
+    ensures { (picks : List ℕ) → IsTranscript (program_of program.now) picks transcript.now →
+        IfOk result (λ _. Adds (all_listings (program_of program.now) picks) text.old text.new) }
+{
+    for number in 0..program.session_count() {
+        append_listing(text, transcript, program, number)?;
+    }
+    Ok(())
+}
+
+/// The output of a run: each session's listing, the replies and the journal.
+fn output<A: Allocator + Copy>(
+    alloc: A,
+    transcript: &Transcript<A>,
+    program: &Program<A>,
+) -> Result<Vec<u8, A>, AllocError>
+    ensures { (picks : List ℕ) → IsTranscript (program_of program.now) picks transcript.now →
+        IfOk result (λ v. v.items ≡ program_output (program_of program.now) picks) }
+{
+    let mut text = Vec::new(alloc);
+    append_listings(&mut text, transcript, program)?;
+    text.extend_from_slice(b"== replies\n")?;
+    text.extend_from_slice(transcript.replies())?;
+    text.extend_from_slice(b"== journal\n")?;
+    write_picks(transcript.journal(), &mut text)?;
+    text.push(b'\n')?;
+    Ok(text)
+}
+
+/// The output of a program for these picks: each session's listing, the replies and the journal.
+///
+/// # Errors
+///
+/// AllocError where memory was refused.
+pub fn replay<A: Allocator + Copy>(
+    alloc: A,
+    program: &Program<A>,
+    picks: &[u32],
+) -> Result<Vec<u8, A>, AllocError>
+    ensures { IfOk result (λ v. v.items ≡ program_output (program_of program.now) picks.now) }
+{
+    let transcript = Transcript::of_picks(alloc, program, picks)?;
+    output(alloc, &transcript, program)
+}
+
+/// The output of a program for the picks of its round with this limit on the number of moves.
+///
+/// # Errors
+///
+/// AllocError where memory was refused.
+pub fn round<A: Allocator + Copy>(
+    alloc: A,
+    program: &Program<A>,
+    limit: u32,
+) -> Result<Vec<u8, A>, AllocError>
+    ensures { IfOk result (λ v. v.items ≡ output_of_round (program_of program.now) limit) }
+{
+    let transcript = Transcript::of_round(alloc, program, limit)?;
+    output(alloc, &transcript, program)
+}

@@ -1,6 +1,0 @@
-use Rattle.std.proofs.Common.{◌≡◌, ◌++◌, map, decimal, take}
-use Rattle.std.specs.List.{join_with_byte}
-use Rattle.tn_trace.proofs.output.append_picks.Given as goal
-
-abbrev pub invariant-loop-i : goal.invariant-loop-i
-invariant-loop-i g l = l.text.items ≡ l.fn.text.items ++ join_with_byte 32 (map decimal (take l.i l.picks))

@@ -1,0 +1,77 @@
+// A run that kept text alone.
+use crate::engine::Engine;
+use crate::keeping::Lines;
+use crate::texts::{followed_picks, followed_round};
+use std::alloc::{AllocError, Allocator};
+use tn_program::Program;
+
+/// What a run of a program wrote down: the messages of each session and the replies as text, each with
+/// a line feed, and the picks that moved.
+#[derive(Drop)]
+pub struct Transcript<A: Allocator> {
+    engine: Engine<A, Lines<A>>,
+}
+
+impl<A: Allocator + Copy> Transcript<A> {
+    ghost use Rattle.std.specs.Prelude.{IfOk};
+    ghost use Rattle.tn_program.specs.Views.{program_of};
+    ghost use Rattle.tn_trace.specs.Transcripts.{IsTranscript, IsTranscriptOfRound};
+    ghost use Rattle.tn_trace.specs.Transcripts.{LendsLines, LendsReplies, LendsJournal};
+
+    /// The transcript of the run by these picks.
+    ///
+    /// # Errors
+    ///
+    /// AllocError where memory was refused.
+    pub fn of_picks(
+        alloc: A,
+        program: &Program<A>,
+        picks: &[u32],
+    ) -> Result<Transcript<A>, AllocError>
+        ensures { IfOk result (λ t. IsTranscript (program_of program.now) picks.now t) }
+    {
+        let engine = followed_picks(alloc, program, picks)?;
+        Ok(Transcript { engine })
+    }
+
+    /// The transcript of the round with this limit on the number of moves.
+    ///
+    /// # Errors
+    ///
+    /// AllocError where memory was refused.
+    pub fn of_round(
+        alloc: A,
+        program: &Program<A>,
+        limit: u32,
+    ) -> Result<Transcript<A>, AllocError>
+        ensures { IfOk result (λ t. IsTranscriptOfRound (program_of program.now) limit t) }
+    {
+        let engine = followed_round(alloc, program, limit)?;
+        Ok(Transcript { engine })
+    }
+
+    /// The lines of the session at this place among the creations of the control list, from 0, in order;
+    /// None where there is no such session.
+    pub fn lines(&self, place: usize) -> Option<&[u8]>
+        ensures { LendsLines place self.now result }
+    {
+        match self.engine.slots.get(place) {
+            Some(slot) => Some(&slot.kept.text),
+            None => None,
+        }
+    }
+
+    /// The replies to the commands that were taken, a line each, in order.
+    pub fn replies(&self) -> &[u8]
+        ensures { LendsReplies self.now result.now }
+    {
+        &self.engine.replies.text
+    }
+
+    /// The picks that moved, in order.
+    pub fn journal(&self) -> &[u32]
+        ensures { LendsJournal self.now result.now }
+    {
+        &self.engine.journal
+    }
+}
