@@ -8,6 +8,7 @@ status, where it isn't 0 (status). The last line is 'N passed, M failed'.
 import os
 import pathlib
 import resource
+import shlex
 import socket
 import subprocess
 import sys
@@ -17,6 +18,7 @@ TOP = pathlib.Path(__file__).resolve().parent.parent
 PROGRAM = TOP / "crates" / "tn_cli" / "out" / "tn_cli"
 START = TOP / "tracenode"
 ROWS = TOP / "tests" / "rows"
+EXAMPLES = TOP / "examples"
 SECONDS = 60
 
 # The longest script and the longest text of picks, in bytes.
@@ -68,6 +70,16 @@ def rows():
         ran = run(words, (row / "stdin").read_bytes())
         wanted = int(status.read_text()) if status.exists() else 0
         wants(f"row {row.name}", ran, wanted, (row / "stdout").read_bytes())
+
+
+def examples():
+    """Each example, by the command in its comments; where they show a listing, it is that one."""
+    for script in sorted(EXAMPLES.glob("*.term")):
+        notes = [line[4:] for line in script.read_text().splitlines() if line.startswith("%   ")]
+        ran = run(shlex.split(notes[0].partition(" < ")[0])[1:], script.read_bytes())
+        listings = ran.stdout.decode().partition("== replies\n")[0].splitlines()
+        shown = [line for line in listings if not line.startswith("== session ")]
+        check(f"example {script.stem}", ran.returncode == 0 and notes[1:] in ([], shown), ran)
 
 
 def long_texts():

@@ -1,5 +1,6 @@
+use Rattle.std.proofs.Common.{rules}
 use Rattle.tn_trace.proofs.TranscriptLemmas.{journal_lent}
 use Rattle.tn_trace.proofs.transcript.Transcript.journal.Goals as goal
 
 pub returns : goal.returns
-returns g c = λ p picks run. journal_lent p picks c.args.self.now.engine run c.deref.result.now c.deref.ensures.value
+returns g c = λ p picks run. journal_lent p picks c.args.self.now.engine run _ (search rules)
