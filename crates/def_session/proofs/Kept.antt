@@ -11,7 +11,7 @@ use Rattle.def_spec.specs.Reading.{SpecFault, badarg, unsupported, Reads}
 use Rattle.def_session.specs.Settings.{Covered, Setting, setting_of, covered_of, options_of}
 use Rattle.def_session.specs.State.{Phase, absent, live, destroyed, Session}
 use Rattle.def_script.specs.Opening.{Opening}
-use Rattle.def_session.specs.Session.{inherited, evaluated, affected, all_affected, marks_frame, finished, told_for, told_in}
+use Rattle.def_session.specs.Session.{inherited, evaluated, affected, all_affected, marks_frame, marked, finished, told_for, told_in}
 use Rattle.def_session.specs.Messages.{process_of}
 use Rattle.def_session.specs.Commands.{number, refused, fault_term, Procs, one_process, existing, new_processes, all_processes, procs_of, how_of, flags_of, flags_set, flags_set_if, function_set, function_set_if, send_set, receive_set, done_live, done_absent, done_destroyed, done_in}
 use Rattle.def_term.specs.Alive.{is_alive}
@@ -156,12 +156,12 @@ all_functions : (p : ℕ) (s : Session) (es : List Effect) → (all_affected p s
 all_functions p s [] = refl
 all_functions p s (e ∷ es) = all_functions p (affected p s e) es ∙ affected_functions p s e
 
-marked_functions : (b : Bool) (s : Session) (m : ℕ × ℕ) → (if b then record s { marks = m ∷ s.marks } else s).functions ≡ s.functions
-marked_functions true s m = refl
-marked_functions false s m = refl
+marked_functions : (b : Bool) (s : Session) (p depth : ℕ) → (if b then marked s p depth else s).functions ≡ s.functions
+marked_functions true s p depth = refl
+marked_functions false s p depth = refl
 
 finished_functions : (s : Session) (e : Event) (es : List Effect) → (finished s e es).functions ≡ s.functions
-finished_functions s (called p c) es = marked_functions (marks_frame es) s (p, c.depth)
+finished_functions s (called p c) es = marked_functions (marks_frame es) s p c.depth
 finished_functions s (returned p f t depth) es = refl
 finished_functions s (exited p r) es = refl
 finished_functions s _ es = refl

@@ -5,7 +5,7 @@ use Rattle.def_script.specs.Program.{Command, create}
 use Rattle.def_node.specs.Event.{Event, called, returned, spawned, exited, getting_linked}
 use Rattle.def_spec.specs.Expressions.{Effect, gives_message, traces_return, traces_exception, silences, changes}
 use Rattle.def_session.specs.State.{Phase, absent, live, destroyed, Session, alive_after}
-use Rattle.def_session.specs.Session.{inherited, evaluated, affected, all_affected, marks_frame, finished, told_for, told_in}
+use Rattle.def_session.specs.Session.{inherited, evaluated, affected, all_affected, marks_frame, marked, finished, told_for, told_in}
 use Rattle.def_session.specs.Commands.{refused, done_absent, done_in}
 use Rattle.def_session.specs.Messages.{process_of}
 use Rattle.def_session.specs.Laws.{is_creation, CreationMakesLive, CommandBeforeCreation, EventBeforeCreation, LifeGoesByEvents, EventKeepsThePhase}
@@ -53,22 +53,22 @@ abbrev after_end : Alive → Event → Alive
 after_end alive (exited p r) = with_alive alive p false
 after_end alive _ = alive
 
-marked_alive : (b : Bool) (s : Session) (m : ℕ × ℕ) → (if b then record s { marks = m ∷ s.marks } else s).alive ≡ s.alive
-marked_alive true s m = refl
-marked_alive false s m = refl
+marked_alive : (b : Bool) (s : Session) (p depth : ℕ) → (if b then marked s p depth else s).alive ≡ s.alive
+marked_alive true s p depth = refl
+marked_alive false s p depth = refl
 
-marked_phase : (b : Bool) (s : Session) (m : ℕ × ℕ) → (if b then record s { marks = m ∷ s.marks } else s).phase ≡ s.phase
-marked_phase true s m = refl
-marked_phase false s m = refl
+marked_phase : (b : Bool) (s : Session) (p depth : ℕ) → (if b then marked s p depth else s).phase ≡ s.phase
+marked_phase true s p depth = refl
+marked_phase false s p depth = refl
 
 finished_alive : (s : Session) (e : Event) (es : List Effect) → (finished s e es).alive ≡ after_end s.alive e
-finished_alive s (called p c) es = marked_alive (marks_frame es) s (p, c.depth)
+finished_alive s (called p c) es = marked_alive (marks_frame es) s p c.depth
 finished_alive s (returned p f t depth) es = refl
 finished_alive s (exited p r) es = refl
 finished_alive s _ es = refl
 
 finished_phase : (s : Session) (e : Event) (es : List Effect) → (finished s e es).phase ≡ s.phase
-finished_phase s (called p c) es = marked_phase (marks_frame es) s (p, c.depth)
+finished_phase s (called p c) es = marked_phase (marks_frame es) s p c.depth
 finished_phase s (returned p f t depth) es = refl
 finished_phase s (exited p r) es = refl
 finished_phase s _ es = refl

@@ -1,8 +1,8 @@
 -- What is promised of the definitions of a session (trace:session_create/3, session_destroy/1, process/4, function/4, send/3, recv/3).
 -- Stands on all definitions of a session.
-use Rattle.std.specs.Prelude.{◌≡◌, ℕ, Bool, true, false, ◌||◌, ◌⊎◌, if◌then◌else◌, List, [], ◌∷◌, ◌++◌, All, Option, Some, None, Ok, pos}
+use Rattle.std.specs.Prelude.{◌≡◌, ◌≢◌, ◌≤◌, ℕ, Bool, true, false, ◌||◌, ◌⊎◌, if◌then◌else◌, List, [], ◌∷◌, ◌++◌, All, Option, Some, None, Ok, pos}
 use Rattle.def_term.specs.Tree.{Tree, int, atom, pid, tuple, list, of_elements}
-use Rattle.def_term.specs.Alive.{with_alive}
+use Rattle.def_term.specs.Alive.{FIRST_PID, with_alive}
 use Rattle.def_term.specs.Names.{Name, Mfa, word}
 use Rattle.def_script.specs.Program.{Command, create, destroy, set_function}
 use Rattle.def_script.specs.Opening.{Opening}
@@ -137,6 +137,12 @@ DestroyedAgain = (o : Opening) (s : Session) (name : Name) → s.phase ≡ destr
 abbrev pub ReturnEndsTheMark : Type 0
 ReturnEndsTheMark = (s : Session) (p : ℕ) (f : Mfa) (t : Tree) (depth : ℕ) → s.phase ≡ live → is_marked (event_told s (returned p f t depth)).0 p depth ≡ false
 
+-- and no other frame of the process loses its own
+abbrev pub ReturnEndsNoOtherMark : Type 0
+ReturnEndsNoOtherMark =
+    (s : Session) (p : ℕ) (f : Mfa) (t : Tree) (depth other : ℕ) → other ≢ depth →
+    is_marked (event_told s (returned p f t depth)).0 p other ≡ is_marked s p other
+
 -- after a process's exit its flags are gone
 abbrev pub ExitEndsTheFlags : Type 0
 ExitEndsTheFlags = (s : Session) (p : ℕ) (r : Tree) → s.phase ≡ live → flags_at (event_told s (exited p r)).0 p ≡ no_flags
@@ -145,7 +151,13 @@ ExitEndsTheFlags = (s : Session) (p : ℕ) (r : Tree) → s.phase ≡ live → f
 abbrev pub ExitEndsTheMarks : Type 0
 ExitEndsTheMarks = (s : Session) (p : ℕ) (r : Tree) (depth : ℕ) → s.phase ≡ live → is_marked (event_told s (exited p r)).0 p depth ≡ false
 
--- and it no longer lives
+-- no event, whichever it is, marks a frame of a process that it isn't about, or takes such a mark away
+abbrev pub MarksOfOthersStay : Type 0
+MarksOfOthersStay =
+    (s : Session) (e : Event) (q depth : ℕ) → FIRST_PID ≤ process_of e → FIRST_PID ≤ q → process_of e ≢ q →
+    is_marked (event_told s e).0 q depth ≡ is_marked s q depth
+
+-- after its exit a process no longer lives
 abbrev pub ExitEndsTheLife : Type 0
 ExitEndsTheLife = (s : Session) (p : ℕ) (r : Tree) → s.phase ≡ live → (event_told s (exited p r)).0.alive ≡ with_alive s.alive p false
 

@@ -1,17 +1,17 @@
 -- What one session makes of an event: inheritance, whether it is evaluated, the effects, at most one message, marks (trace:process/4, function/4, send/3, recv/3).
 -- Stands on the session's state and settings, on the outcome of specifications and on messages.
 -- It knows no other session, and nothing of how the events came about.
-use Rattle.std.specs.Prelude.{ℕ, ◌-◌, ◌==◌, Bool, true, false, not, ◌&&◌, if◌then◌else◌, List, [], ◌∷◌, filter, Option, Some, None, slice_set}
+use Rattle.std.specs.Prelude.{ℕ, ◌==◌, Bool, true, false, not, if◌then◌else◌, List, [], ◌∷◌, filter, Option, Some, None}
 use Rattle.std.specs.List.{list_any}
 use Rattle.def_term.specs.Tree.{Tree, pid}
 use Rattle.def_term.specs.Names.{Mfa, word}
-use Rattle.def_term.specs.Alive.{FIRST_PID, with_alive}
+use Rattle.def_term.specs.Alive.{with_alive}
 use Rattle.def_spec.specs.Flags.{Flag, Flags, no_flags, only, joined, without, send_flag, receive_flag, call_flag, procs_flag, silent_flag, arity_flag, after_spawn, after_link}
 use Rattle.def_spec.specs.Expressions.{Context, Effect, gives_message, traces_return, traces_exception, silences, changes}
 use Rattle.def_spec.specs.Outcome.{Outcome, no_match, matched, outcome_of}
 use Rattle.def_node.specs.Event.{Event, sent, received, called, returned, spawning, spawned, exited, linked, unlinked, getting_linked, getting_unlinked}
 use Rattle.def_session.specs.Settings.{Setting, off, plain, by, setting_for}
-use Rattle.def_session.specs.State.{Phase, absent, live, destroyed, Session, flags_at, with_flags, alive_after}
+use Rattle.def_session.specs.State.{Phase, absent, live, destroyed, Session, flags_at, with_flags, marks_at, with_marks, alive_after}
 use Rattle.def_session.specs.Messages.{elements_of, process_of, last_message, decided}
 
 -- ---- inheritance
@@ -45,7 +45,7 @@ context s me ts caller = record { matched_list = ts; me = me; caller_mfa = calle
 
 -- the frame of this depth is marked
 abbrev pub is_marked : Session → ℕ → ℕ → Bool
-is_marked s p depth = list_any (λ m. m.0 == p && m.1 == depth) s.marks
+is_marked s p depth = list_any (λ d. d == depth) (marks_at s p)
 
 -- evaluated where the process has the flag
 abbrev pub where_set : Session → ℕ → Flag → Option (List Effect) → Option (List Effect)
@@ -101,11 +101,19 @@ message_after s e es = if is_silenced s e then None else decided (last_message e
 
 -- ---- marks, and the end of a process
 
+-- the frame of this depth gets a mark
+abbrev pub marked : Session → ℕ → ℕ → Session
+marked s p depth = with_marks s p (depth ∷ marks_at s p)
+
+-- and loses it
+abbrev pub unmarked : Session → ℕ → ℕ → Session
+unmarked s p depth = with_marks s p (filter (λ d. not (d == depth)) (marks_at s p))
+
 -- a call marks its frame, a return removes the mark; after an exit the process's flags and marks are gone
 abbrev pub finished : Session → Event → List Effect → Session
-finished s (called p c) es = if marks_frame es then record s { marks = (p, c.depth) ∷ s.marks } else s
-finished s (returned p f t depth) es = record s { marks = filter (λ m. not (m.0 == p && m.1 == depth)) s.marks }
-finished s (exited p r) es = record s { alive = with_alive s.alive p false; flags = slice_set s.flags (p - FIRST_PID) no_flags; marks = filter (λ m. not (m.0 == p)) s.marks }
+finished s (called p c) es = if marks_frame es then marked s p c.depth else s
+finished s (returned p f t depth) es = unmarked s p depth
+finished s (exited p r) es = with_marks (with_flags (record s { alive = with_alive s.alive p false }) p no_flags) p []
 finished s _ es = s
 
 -- ---- one event

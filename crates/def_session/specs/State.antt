@@ -23,8 +23,8 @@ pub record Session : Type 0 where
   pub functions : List Covering
   pub sending : Setting
   pub receiving : Setting
-  -- the frames that are marked, by process and depth
-  pub marks : List (ℕ × ℕ)
+  -- of those processes too, the depths of the frames that are marked, the newest first
+  pub marks : List (List ℕ)
 
 -- the first of the processes live
 abbrev pub alive_at_start : ℕ → Alive
@@ -32,7 +32,7 @@ alive_at_start n = replicate n true ++ replicate (PROCESSES - n) false
 
 -- a session without settings: no flags, no function settings, send and receive `true`
 abbrev pub unset : Phase → Alive → Session
-unset phase alive = record { phase = phase; alive = alive; flags = replicate PROCESSES no_flags; for_new = no_flags; functions = []; sending = plain; receiving = plain; marks = [] }
+unset phase alive = record { phase = phase; alive = alive; flags = replicate PROCESSES no_flags; for_new = no_flags; functions = []; sending = plain; receiving = plain; marks = replicate PROCESSES [] }
 
 -- before the session is created
 abbrev pub absent_session : Opening → Session
@@ -45,6 +45,14 @@ flags_at s n = unwrap_or (slice_get s.flags (n - FIRST_PID)) no_flags
 -- the flags of a process changed
 abbrev pub with_flags : Session → ℕ → Flags → Session
 with_flags s n f = record s { flags = slice_set s.flags (n - FIRST_PID) f }
+
+-- the marks of a process
+abbrev pub marks_at : Session → ℕ → List ℕ
+marks_at s n = unwrap_or (slice_get s.marks (n - FIRST_PID)) []
+
+-- the marks of a process changed
+abbrev pub with_marks : Session → ℕ → List ℕ → Session
+with_marks s n ms = record s { marks = slice_set s.marks (n - FIRST_PID) ms }
 
 -- who lives after an event
 abbrev pub alive_after : Alive → Event → Alive

@@ -11,7 +11,8 @@ ghost use Rattle.def_session.specs.Laws.{NewestSettingWins, FalseRemoves, NoSett
 ghost use Rattle.def_session.specs.Laws.{RefusedChangesNothing, OtherCommandsKeepSettings, EventsKeepSettings};
 ghost use Rattle.def_session.specs.Laws.{MessageIsOfItsEvent, ShortCallHasItsArity, PlainCallHasItsArguments};
 ghost use Rattle.def_session.specs.Laws.{DestructionTakesAll, EventAfterDestruction, CommandAfterDestruction};
-ghost use Rattle.def_session.specs.Laws.{DestroyedAgain, ReturnEndsTheMark, ExitEndsTheFlags, ExitEndsTheMarks};
+ghost use Rattle.def_session.specs.Laws.{DestroyedAgain, ReturnEndsTheMark, ReturnEndsNoOtherMark};
+ghost use Rattle.def_session.specs.Laws.{ExitEndsTheFlags, ExitEndsTheMarks, MarksOfOthersStay};
 ghost use Rattle.def_session.specs.Laws.{ExitEndsTheLife, CreationMakesLive, CommandBeforeCreation};
 ghost use Rattle.def_session.specs.Laws.{EventBeforeCreation, LifeGoesByEvents, EventKeepsThePhase};
 
@@ -48,12 +49,15 @@ pub fn nothing_follows_destruction()
     ensures again { DestroyedAgain }
 {}
 
-/// After a return its frame has no mark. After a process's exit its flags and marks are gone, and it no
-/// longer lives.
+/// After a return its frame has no mark, and the process's other frames are marked as before. After a
+/// process's exit its flags and marks are gone, and it no longer lives. No event changes the marks of a
+/// process that it isn't about.
 pub fn ends_take_marks_and_flags()
     ensures returned { ReturnEndsTheMark }
+    ensures alone { ReturnEndsNoOtherMark }
     ensures flags { ExitEndsTheFlags }
     ensures marks { ExitEndsTheMarks }
+    ensures others { MarksOfOthersStay }
     ensures life { ExitEndsTheLife }
 {}
 

@@ -1,5 +1,5 @@
 -- The listings of an output, session by session, and its parts.
-use Rattle.std.proofs.Common.{Bor, ◌≡◌, ◌∙◌, ℕ, zero, suc, ◌+◌, ◌<◌, ◌≤◌, List, [], ◌∷◌, ◌++◌, length, take, get_or, Some, None, refl, sym, ap, subst, append_assoc, append-nil, add-one, codes, arith}
+use Rattle.std.proofs.Common.{Bor, ◌≡◌, ◌∙◌, ℕ, zero, suc, ◌+◌, ◌≤◌, List, [], ◌∷◌, ◌++◌, length, take, Some, None, refl, sym, ap, append_assoc, append-nil, add-one, codes, arith}
 use Rattle.std.specs.Prelude.{slice_get, option_to_list}
 use Rattle.def_term.specs.Tree.{Tree}
 use Rattle.def_term.specs.Names.{Name}

@@ -27,7 +27,10 @@ pub(crate) fn put_header<A: Allocator, B: Allocator>(
 }
 
 /// Appends the text of a message with a line feed; after an `Err` a part of it may stand there.
-fn put_line<A: Allocator, B: Allocator>(message: &Term<A>, out: &mut Vec<u8, B>) -> Result<(), AllocError>
+fn put_line<A: Allocator, B: Allocator>(
+    message: &Term<A>,
+    out: &mut Vec<u8, B>,
+) -> Result<(), AllocError>
     ensures ok { OnOk result (out.new.items ≡ out.old.items ++ definition.line_of (tree_of message.now)) }
     ensures grows { Grows out.old.items out.new.items }
 {

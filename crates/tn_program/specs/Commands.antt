@@ -1,9 +1,10 @@
 -- Commands, given those before them.
-use Rattle.std.specs.Prelude.{ℕ, Bool, List, ◌++◌, map}
+use Rattle.std.specs.Prelude.{◌≡◌, ℕ, ◌-◌, ◌^◌, min, Bool, List, ◌++◌, map, length}
 use Rattle.std.specs.List.{list_any, count_by}
 use Rattle.def_term.specs.Names.{Name}
 use Rattle.def_script.specs.Program as program
-use Rattle.def_script.specs.Rules.{creates_session, gives_tracer, commands_of, creates_again, commands_unmade, takes_tracer, is_creation}
+use Rattle.def_script.specs.Rules.{creates_session, gives_tracer, commands_of, creates_again, commands_unmade, takes_tracer, is_creation, holds_past}
+use Rattle.def_script.specs.Limits.{COMMANDS, SESSIONS}
 use Rattle.tn_flags.specs.Views.{command_of}
 use Rattle.tn_flags.specs.declared.command.Command.{Command}
 use Rattle.tn_script.specs.Views.{form_of}
@@ -43,3 +44,15 @@ creation_count cs = count_by is_creation cs
 -- how many creations the forms hold
 abbrev pub creations_in : {A : Type 0} → List (Form A) → ℕ
 creations_in fs = creation_count (commands_in fs)
+
+-- the total is this number, or the greatest that a total can be where the number is larger
+abbrev pub Counts : ℕ → ℕ → Type 0
+Counts total n = total ≡ min n (2 ^ 64 - 1)
+
+-- one of the commands, which follow those of the forms, is past the greatest number of commands
+abbrev pub passes_commands : {A B : Type 0} → List (Form A) → List (Command B) → Bool
+passes_commands fs cs = holds_past COMMANDS (length (commands_in fs)) (length (map command_of cs))
+
+-- one is a creation past the greatest number of sessions
+abbrev pub passes_sessions : {A B : Type 0} → List (Form A) → List (Command B) → Bool
+passes_sessions fs cs = holds_past SESSIONS (creations_in fs) (creation_count (map command_of cs))

@@ -6,6 +6,7 @@ ghost use Rattle.def_script.specs.Rules.{is_creation as is_creation_command, com
 ghost use Rattle.def_script.specs.Rules.{holds_past as is_past};
 ghost use Rattle.tn_flags.specs.Views.{command_of};
 ghost use Rattle.tn_script.specs.Views.{form_of};
+ghost use Rattle.tn_program.specs.Commands.{Counts};
 
 use std::alloc::Allocator;
 use tn_flags::Command;
@@ -118,7 +119,7 @@ pub fn all_creations<A: Allocator>(forms: &[Form<A>]) -> u64
 
 /// Whether `held` further ones, if any, go past the limit.
 pub fn holds_past(limit: u64, before: u64, held: u64) -> bool
-    ensures { (m n : ℕ) → limit < u64.MAX → before ≡ min m u64.MAX → held ≡ min n u64.MAX → result ≡ is_past limit m n }
+    ensures { (m n : ℕ) → limit < u64.MAX → Counts before m → Counts held n → result ≡ is_past limit m n }
 {
     0 < held && limit < before.saturating_add(held)
 }

@@ -14,7 +14,7 @@ ghost use Rattle.tn_flags.specs.Views.{command_of};
 ghost use Rattle.tn_script.specs.Views.{step_of, form_of};
 ghost use Rattle.tn_program.specs.Named.{mfa_from};
 ghost use Rattle.tn_program.specs.Naming.{is_unnamed, step_breaks, rule_broken_in};
-ghost use Rattle.tn_program.specs.Commands.{commands_in, creations_in, creation_count};
+ghost use Rattle.tn_program.specs.Commands.{passes_commands, passes_sessions};
 ghost use Rattle.tn_program.specs.Faults.{rule_of, IsKept};
 
 use crate::counts::{
@@ -294,14 +294,14 @@ fn is_crowded<A: Allocator>(earlier: &[Form<A>]) -> bool
 
 /// Whether one of the commands, which follow those of the forms, is past the greatest number of them.
 fn has_late_command<A: Allocator>(earlier: &[Form<A>], commands: &[Command<A>]) -> bool
-    ensures { result ≡ is_past command_limit (length (commands_in earlier.now)) (length (map command_of commands.now)) }
+    ensures { result ≡ passes_commands earlier.now commands.now }
 {
     holds_past(COMMANDS, all_commands(earlier), commands.len() as u64)
 }
 
 /// Whether one of the commands, which follow those of the forms, is a creation past the greatest number of them.
 fn has_late_creation<A: Allocator>(earlier: &[Form<A>], commands: &[Command<A>]) -> bool
-    ensures { result ≡ is_past session_limit (creations_in earlier.now) (creation_count (map command_of commands.now)) }
+    ensures { result ≡ passes_sessions earlier.now commands.now }
 {
     holds_past(SESSIONS, all_creations(earlier), creation_total(commands))
 }

@@ -3,7 +3,7 @@ use Rattle.std.proofs.Common.{ℕ, ◌≤◌, List, length, map, Ok, Err, sym, s
 use Rattle.std.proofs.lemmas.List.{length-map}
 use Rattle.def_script.specs.Limits.{FORMS}
 use Rattle.def_script.specs.Program.{Form}
-use Rattle.def_script.specs.Script.{SpellsForms, program_from}
+use Rattle.def_script.specs.Script.{SpellsForms}
 use Rattle.tn_script.specs.declared.fault.ScriptFault.{ScriptFault}
 use Rattle.tn_script.specs.declared.fault.ScriptFault.TheVariants as read
 use Rattle.tn_script.specs.declared.form.Form as code

@@ -2,7 +2,6 @@
 use Rattle.std.specs.Prelude.{◌≡◌, ℕ, List, IfSome, Option}
 use Rattle.std.specs.Io.KnownBytes.{Appends}
 use Rattle.def_script.specs.Program.{Program}
-use Rattle.def_run.specs.Listing.{program_output}
 use Rattle.def_run.specs.Picks.{SpellsPicks}
 use Rattle.def_run.specs.Round.{round}
 use Rattle.tn_run.specs.Ends.{TakesText, WritesFront}

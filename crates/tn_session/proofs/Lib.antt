@@ -4,10 +4,11 @@ pub mod Existing
 pub mod FlagNames
 pub mod States
 pub mod Effects
-pub mod Marks
+pub mod Marking
 pub mod Evaluations
 pub mod Telling
 pub mod Texts
 pub mod Longer
 pub mod Holding
 pub mod Silence
+pub mod AtomTexts

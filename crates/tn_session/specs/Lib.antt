@@ -5,5 +5,4 @@ pub mod Procs
 pub mod Readings
 pub mod Replies
 pub mod Sessions
-pub mod Words
 pub mod Told

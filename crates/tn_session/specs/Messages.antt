@@ -33,6 +33,14 @@ elements_of_return p f t = elements_of false (returned p (mfa_seen f) (tree_of t
 abbrev pub first_three : ℕ → Name → List Tree
 first_three p kind = word "trace" ∷ pid p ∷ atom kind ∷ []
 
+-- the elements of a message that ends with a pid and `{M,F,Args}`
+abbrev pub elements_with_call : {A : Type 0} → ℕ → Name → ℕ → mfas.Mfa A → Vec (Term A) A → List Tree
+elements_with_call p kind to f args = first_three p kind ++ pid to ∷ call_seen f args ∷ []
+
+-- a tuple of three
+abbrev pub triple : Tree → Tree → Tree → Tree
+triple s t u = tuple (of_elements (s ∷ t ∷ u ∷ []))
+
 -- the event's elements, and the last term where there is one
 abbrev pub message_seen : {A : Type 0} → Message A → Tree
 message_seen m = tuple (of_elements (elements_of m.short (event_of m.event.now) ++ last_seen m.last))

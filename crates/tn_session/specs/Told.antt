@@ -1,11 +1,13 @@
 -- What the steps of telling an event are of, and what they give.
-use Rattle.std.specs.Prelude.{ℕ, List, [], map, Option, None}
+use Rattle.std.specs.Prelude.{ℕ, Bool, List, [], map, Option, None}
 use Rattle.std.specs.Option.{option_map}
 use Rattle.std.specs.declared.vec.Vec.{Vec}
 use Rattle.def_term.specs.Tree.{Tree}
 use Rattle.def_spec.specs.Expressions.{Context, Effect as Asked}
 use Rattle.def_node.specs.Event as node
+use Rattle.def_node.specs.Event.{sent}
 use Rattle.def_session.specs.State.{Session, live, alive_after}
+use Rattle.def_session.specs.Messages.{elements_of, decided}
 use Rattle.def_session.specs.Session.{Answered, context, evaluated, evaluated_by, finished, told_by_effects, told_in, event_told}
 use Rattle.tn_term.specs.Views.{tree_of}
 use Rattle.tn_term.specs.declared.term.Term.{Term}
@@ -67,6 +69,10 @@ finishing s e = finished (state_seen s) e []
 abbrev pub evaluating : {A : Type 0} → State A → node.Event → Option (List Asked)
 evaluating s e = evaluated (state_seen s) e
 
+-- those of a send
+abbrev pub evaluating_send : {A B : Type 0} → State A → ℕ → Term B → ℕ → Bool → Option (List Asked)
+evaluating_send s p t to alive = evaluating s (sent p (tree_of t) to alive)
+
 -- by a setting
 abbrev pub evaluating_by : {A : Type 0} → Setting A → Context → Option (List Asked)
 evaluating_by s c = evaluated_by (setting_seen s) c
@@ -74,3 +80,7 @@ evaluating_by s c = evaluated_by (setting_seen s) c
 -- what a specification is evaluated in, on these values
 abbrev pub on_values : {A B : Type 0} → State A → ℕ → List (Value B) → Context
 on_values s me vs = context (state_seen s) me (map value_seen vs) None
+
+-- the message of an event, by the last term that its effects give
+abbrev pub deciding : {A B : Type 0} → Bool → Event A → Option (Term B) → Option Tree
+deciding short e last = decided (option_map tree_of last) (elements_of short (event_of e))

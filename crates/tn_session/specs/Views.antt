@@ -1,7 +1,9 @@
 -- What the code's state of a session stands for.
-use Rattle.std.specs.Prelude.{◌≡◌, ℕ, Bool, List, map, reverse, Option}
+use Rattle.std.specs.Prelude.{◌≡◌, ℕ, ◌-◌, Bool, List, [], ◌++◌, length, map, replicate, reverse, Option}
 use Rattle.std.specs.Option.{option_map}
+use Rattle.std.specs.declared.vec.Vec.{Vec}
 use Rattle.def_term.specs.Names as names
+use Rattle.def_term.specs.Alive.{PROCESSES}
 use Rattle.def_session.specs.State as definition
 use Rattle.def_session.specs.Settings as settings
 use Rattle.tn_term.specs.Views.{mfa_seen, alive_of}
@@ -16,7 +18,6 @@ use Rattle.tn_session.specs.declared.setting.Covering.{Covering}
 use Rattle.tn_session.specs.declared.setting.Settings.{Settings}
 use Rattle.tn_session.specs.declared.state.Phase.{Phase}
 use Rattle.tn_session.specs.declared.state.Phase.TheVariants.{Live, Destroyed}
-use Rattle.tn_session.specs.declared.state.Mark.{Mark}
 use Rattle.tn_session.specs.declared.state.State.{State}
 
 abbrev pub setting_seen : {A : Type 0} → Setting A → settings.Setting
@@ -41,12 +42,13 @@ abbrev pub phase_seen : Phase → definition.Phase
 phase_seen Live = definition.live
 phase_seen Destroyed = definition.destroyed
 
-abbrev pub mark_seen : Mark → ℕ × ℕ
-mark_seen m = (m.pid, m.depth)
+-- the depths of a process's marked frames, the newest first
+abbrev pub depths_seen : {A : Type 0} → Vec ℕ A → List ℕ
+depths_seen ms = reverse ms.items
 
--- the newest first
-abbrev pub marks_seen : List Mark → List (ℕ × ℕ)
-marks_seen ms = reverse (map mark_seen ms)
+-- the marks of all processes; those past the end have none
+abbrev pub marks_seen : {A : Type 0} → List (Vec ℕ A) → List (List ℕ)
+marks_seen ms = map depths_seen ms ++ replicate (PROCESSES - length ms) []
 
 -- a function of the program, with whether it is exported
 abbrev pub function_seen : {A : Type 0} → Mfa A × Bool → names.Mfa × Bool

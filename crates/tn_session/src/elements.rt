@@ -1,15 +1,15 @@
 // The elements of the message of an event, as terms.
-ghost use Rattle.std.specs.Prelude.{◌≡◌, ◌++◌, [], ◌∷◌, Bool, IsTrue, IfOk};
+ghost use Rattle.std.specs.Prelude.{◌≡◌, ◌++◌, [], ◌∷◌, Bool, IfOk};
 ghost use Rattle.def_term.specs.Tree.{pid as pid_tree, tuple, list, of_elements};
+ghost use Rattle.def_term.specs.Atoms.{IsAtomText};
 ghost use Rattle.def_term.specs.Names.{mfa_term};
 ghost use Rattle.def_node.specs.Event.{sent as send, called as call_event};
 ghost use Rattle.def_session.specs.Messages.{elements_of};
 ghost use Rattle.tn_term.specs.Views.{tree_of, mfa_seen};
 ghost use Rattle.tn_flags.specs.Views.{event_of, call_of};
-ghost use Rattle.tn_session.specs.Messages.{first_three, trees, call_seen, last_seen, elements_of_return};
-ghost use Rattle.tn_session.specs.Words.{is_atom_text};
+ghost use Rattle.tn_session.specs.Messages.{first_three, trees, call_seen, last_seen, triple};
+ghost use Rattle.tn_session.specs.Messages.{elements_of_return, elements_with_call};
 
-use crate::message::word;
 use std::alloc::{AllocError, Allocator};
 use tn_flags::{Call, Event};
 use tn_term::{Mfa, Term, copy_terms};
@@ -70,11 +70,11 @@ pub(crate) fn elements<A: Allocator, B: Allocator + Copy>(
 
 /// `trace`, the pid and the kind, with room for three more elements.
 fn front<B: Allocator + Copy>(alloc: B, pid: u32, kind: &str) -> Result<Vec<Term<B>, B>, AllocError>
-    requires { IsTrue (is_atom_text kind.now) }
+    requires { IsAtomText kind.now }
     ensures { IfOk result (λ v. trees v ≡ first_three pid kind.now) }
 {
-    let trace = word(alloc, "trace")?;
-    let kind = word(alloc, kind)?;
+    let trace = Term::word(alloc, "trace")?;
+    let kind = Term::word(alloc, kind)?;
     let mut items = Vec::with_capacity(alloc, 6)?;
     items.push(trace)?;
     items.push(Term::Pid(pid))?;
@@ -89,7 +89,7 @@ fn with_one<B: Allocator + Copy>(
     kind: &str,
     detail: Term<B>,
 ) -> Result<Vec<Term<B>, B>, AllocError>
-    requires { IsTrue (is_atom_text kind.now) }
+    requires { IsAtomText kind.now }
     ensures { IfOk result (λ v. trees v ≡ first_three pid kind.now ++ tree_of detail ∷ []) }
 {
     let mut items = front(alloc, pid, kind)?;
@@ -105,7 +105,7 @@ fn with_two<B: Allocator + Copy>(
     detail: Term<B>,
     other: Term<B>,
 ) -> Result<Vec<Term<B>, B>, AllocError>
-    requires { IsTrue (is_atom_text kind.now) }
+    requires { IsAtomText kind.now }
     ensures { IfOk result (λ v. trees v ≡ first_three pid kind.now ++ tree_of detail ∷ tree_of other ∷ []) }
 {
     let mut items = front(alloc, pid, kind)?;
@@ -121,7 +121,7 @@ fn with_copy<A: Allocator, B: Allocator + Copy>(
     kind: &str,
     detail: &Term<A>,
 ) -> Result<Vec<Term<B>, B>, AllocError>
-    requires { IsTrue (is_atom_text kind.now) }
+    requires { IsAtomText kind.now }
     ensures { IfOk result (λ v. trees v ≡ first_three pid kind.now ++ tree_of detail.now ∷ []) }
 {
     let detail = detail.copy_into(alloc)?;
@@ -137,8 +137,8 @@ fn with_call<A: Allocator, B: Allocator + Copy>(
     mfa: &Mfa<A>,
     args: &Vec<Term<A>, A>,
 ) -> Result<Vec<Term<B>, B>, AllocError>
-    requires { IsTrue (is_atom_text kind.now) }
-    ensures { IfOk result (λ v. trees v ≡ first_three pid kind.now ++ pid_tree to ∷ call_seen mfa.now args.now ∷ []) }
+    requires { IsAtomText kind.now }
+    ensures { IfOk result (λ v. trees v ≡ elements_with_call pid kind.now to mfa.now args.now) }
 {
     let call = call_with_args(alloc, mfa, args)?;
     Ok(with_two(alloc, pid, kind, Term::Pid(to), call)?)
@@ -207,7 +207,7 @@ fn tuple_of_three<B: Allocator + Copy>(
     second: Term<B>,
     third: Term<B>,
 ) -> Result<Term<B>, AllocError>
-    ensures { IfOk result (λ t. tree_of t ≡ tuple (of_elements (tree_of first ∷ tree_of second ∷ tree_of third ∷ []))) }
+    ensures { IfOk result (λ t. tree_of t ≡ triple (tree_of first) (tree_of second) (tree_of third)) }
 {
     let mut items = Vec::with_capacity(alloc, 3)?;
     items.push(first)?;

@@ -1,6 +1,5 @@
 // What a session makes of an event.
-ghost use Rattle.std.specs.Prelude.{◌≡◌, ◌-◌, ◌==◌, ℕ, Bool, not, ◌&&◌, if◌then◌else◌, List, [], map, filter, IfOk};
-ghost use Rattle.std.specs.List.{list_any};
+ghost use Rattle.std.specs.Prelude.{◌≡◌, ℕ, Bool, if◌then◌else◌, List, [], IfOk};
 ghost use Rattle.std.specs.Option.{option_map};
 ghost use Rattle.def_term.specs.Names as names;
 ghost use Rattle.def_term.specs.Tree.{Tree};
@@ -17,11 +16,12 @@ ghost use Rattle.tn_guard.specs.Views.{value_seen};
 ghost use Rattle.tn_action.specs.Views.{context_seen, effect_seen};
 ghost use Rattle.tn_session.specs.Views.{setting_seen, state_seen};
 ghost use Rattle.tn_session.specs.Told.{told, told_as_term, telling, telling_live, telling_by, following, finishing};
-ghost use Rattle.tn_session.specs.Told.{asked, given, evaluating, evaluating_by, on_values, message_in};
+ghost use Rattle.tn_session.specs.Told.{asked, given, evaluating, evaluating_by, evaluating_send, on_values};
+ghost use Rattle.tn_session.specs.Told.{message_in, deciding};
 
 use crate::message::Message;
 use crate::setting::Setting;
-use crate::state::{Mark, Phase, State};
+use crate::state::{Phase, State};
 use std::alloc::{AllocError, Allocator};
 use tn_action::{Context, Effect, Outcome, outcome};
 use tn_flags::{Call, Event, Flags, inherit_link, inherit_spawn};
@@ -194,7 +194,7 @@ impl<A: Allocator + Copy> State<A> {
         message: &Term<A>,
         to: u32,
     ) -> Result<Option<Vec<Effect<A>, A>>, AllocError>
-        ensures { (b : Bool) → IfOk result (λ r. given r ≡ evaluating self.now (sent pid (tree_of message.now) to b)) }
+        ensures { (b : Bool) → IfOk result (λ r. given r ≡ evaluating_send self.now pid message.now to b) }
     {
         if !self.flags_at(pid).send {
             return Ok(None);
@@ -273,22 +273,6 @@ impl<A: Allocator + Copy> State<A> {
         let told = self.flags_at(pid).call && self.is_marked(pid, depth);
         self.plainly(told)
     }
-
-    /// Whether the frame is marked.
-    fn is_marked(&self, pid: u32, depth: usize) -> bool
-        ensures { result ≡ session.is_marked (state_seen self.now) pid depth }
-    {
-        has_mark(&self.marks, pid, depth)
-    }
-}
-
-/// Whether one of the marks is that of the frame.
-fn has_mark(marks: &[Mark], pid: u32, depth: usize) -> bool
-    ensures { result ≡ list_any (λ m. m.pid == pid && m.depth == depth) marks.now }
-{
-    marks
-        .iter()
-        .any(|mark| mark.pid == pid && mark.depth == depth)
 }
 
 /// The effects by a setting; None where it is off, or where no clause of its specification fires.
@@ -425,7 +409,7 @@ fn decided<'a, A: Allocator>(
     short: bool,
     last: Option<Term<A>>,
 ) -> Option<Message<'a, A>>
-    ensures { message_in result ≡ messages.decided (option_map tree_of last) (elements_of short (event_of event.now)) }
+    ensures { message_in result ≡ deciding short event.now last }
 {
     match last {
         Some(term) => {
@@ -455,7 +439,7 @@ fn decided<'a, A: Allocator>(
 
 // ---- marks, and the end of a process
 
-impl<A: Allocator> State<A> {
+impl<A: Allocator + Copy> State<A> {
     /// A call marks its frame, a return removes the mark; after an exit the process's flags and marks are gone.
     fn finish(&mut self, event: &Event<A>, marks: bool) -> Result<(), AllocError>
         ensures state { (es : List Asked) → session.marks_frame es ≡ marks →
@@ -465,10 +449,7 @@ impl<A: Allocator> State<A> {
         match event {
             Event::Called { pid, call } => {
                 if marks {
-                    self.marks.push(Mark {
-                        pid: *pid,
-                        depth: call.depth,
-                    })?;
+                    self.mark(*pid, call.depth)?;
                 }
             }
             Event::Returned { pid, depth, .. } => self.unmark(*pid, *depth),
@@ -478,14 +459,6 @@ impl<A: Allocator> State<A> {
         Ok(())
     }
 
-    /// Removes the marks of a frame.
-    fn unmark(&mut self, pid: u32, depth: usize)
-        ensures state { (f : names.Mfa) (t : Tree) → state_seen self.new ≡ finishing self.old (returned pid f t depth) }
-        ensures functions { self.new.functions ≡ self.old.functions }
-    {
-        drop_marks(&mut self.marks, pid, depth);
-    }
-
     /// The flags and marks of a process that ended are gone.
     fn forget(&mut self, pid: u32)
         ensures state { (t : Tree) → state_seen self.new ≡ finishing self.old (exited pid t) }
@@ -493,20 +466,6 @@ impl<A: Allocator> State<A> {
     {
         self.alive.remove(pid);
         self.set_flags(pid, Flags::none());
-        drop_all_marks(&mut self.marks, pid);
+        self.unmark_all(pid);
     }
-}
-
-/// Removes the marks of a frame.
-fn drop_marks<A: Allocator>(marks: &mut Vec<Mark, A>, pid: u32, depth: usize)
-    ensures { marks.new.items ≡ filter (λ m. not (m.pid == pid && m.depth == depth)) marks.old.items }
-{
-    marks.retain(|mark| !(mark.pid == pid && mark.depth == depth));
-}
-
-/// Removes the marks of a process.
-fn drop_all_marks<A: Allocator>(marks: &mut Vec<Mark, A>, pid: u32)
-    ensures { marks.new.items ≡ filter (λ m. not (m.pid == pid)) marks.old.items }
-{
-    marks.retain(|mark| !(mark.pid == pid));
 }

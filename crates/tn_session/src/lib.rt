@@ -11,6 +11,7 @@ mod command;
 mod covered;
 mod elements;
 mod event;
+mod marks;
 mod message;
 mod reply;
 mod session;

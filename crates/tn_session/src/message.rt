@@ -1,17 +1,15 @@
 // What a session tells of an event.
-ghost use Rattle.std.specs.Prelude.{◌≡◌, ◌++◌, IsTrue, IfOk, OnOk, OnErr};
-ghost use Rattle.def_term.specs.Tree.{atom};
+ghost use Rattle.std.specs.Prelude.{◌≡◌, ◌++◌, IfOk, OnOk, OnErr};
 ghost use Rattle.def_term.specs.Text.{w};
 ghost use Rattle.tn_term.specs.Views.{tree_of};
 ghost use Rattle.tn_text.specs.Writes.{Grows};
 ghost use Rattle.tn_session.specs.Messages.{message_seen};
-ghost use Rattle.tn_session.specs.Words.{is_atom_text};
 
 use crate::elements::{elements, push_last};
 use crate::text::{put_elements, put_last};
 use std::alloc::{AllocError, Allocator};
 use tn_flags::Event;
-use tn_term::{Atom, Term};
+use tn_term::Term;
 
 /// The message of an event (module `trace`, "trace messages"): it lends the event, and says whether a call
 /// is told by its arity alone, and which term stands at the end, if any.
@@ -54,16 +52,5 @@ impl<A: Allocator> Message<'_, A> {
         put_last(&self.last, out)?;
         out.push(b'}')?;
         Ok(())
-    }
-}
-
-/// The atom of a text of at most 255 printable characters.
-pub(crate) fn word<B: Allocator>(alloc: B, text: &str) -> Result<Term<B>, AllocError>
-    requires { IsTrue (is_atom_text text.now) }
-    ensures { IfOk result (λ t. tree_of t ≡ atom text.now) }
-{
-    match Atom::new(alloc, text)? {
-        Some(name) => Ok(Term::Atom(name)),
-        None => unreachable!(),
     }
 }

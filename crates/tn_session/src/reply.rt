@@ -5,7 +5,6 @@ ghost use Rattle.def_session.specs.Commands.{fault_term, number};
 ghost use Rattle.tn_term.specs.Views.{tree_of};
 ghost use Rattle.tn_session.specs.Replies.{reply_seen, IsReplyTo};
 
-use crate::message::word;
 use std::alloc::{AllocError, Allocator};
 use tn_spec::SpecFault;
 use tn_term::{Atom, Term};
@@ -26,7 +25,7 @@ pub(crate) enum Reply<A: Allocator> {
 fn unsupported<A: Allocator + Copy>(alloc: A, name: Atom<A>) -> Result<Term<A>, AllocError>
     ensures { IfOk result (λ t. tree_of t ≡ fault_term (reading.unsupported name)) }
 {
-    let kind = word(alloc, "unsupported")?;
+    let kind = Term::word(alloc, "unsupported")?;
     let mut items = Vec::with_capacity(alloc, 2)?;
     items.push(kind)?;
     items.push(Term::Atom(name))?;
@@ -39,9 +38,9 @@ impl<A: Allocator + Copy> Reply<A> {
         ensures { IfOk result (λ t. tree_of t ≡ reply_seen self) }
     {
         match self {
-            Reply::True => Ok(word(alloc, "true")?),
-            Reply::False => Ok(word(alloc, "false")?),
-            Reply::Badarg => Ok(word(alloc, "badarg")?),
+            Reply::True => Ok(Term::word(alloc, "true")?),
+            Reply::False => Ok(Term::word(alloc, "false")?),
+            Reply::Badarg => Ok(Term::word(alloc, "badarg")?),
             Reply::Unsupported(name) => Ok(unsupported(alloc, name)?),
             Reply::Count(count) => Ok(Term::Int(count)),
         }

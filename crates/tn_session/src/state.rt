@@ -16,13 +16,6 @@ pub(crate) enum Phase {
     Destroyed,
 }
 
-/// A frame whose return is told.
-#[derive(Clone, Copy)]
-pub(crate) struct Mark {
-    pub pid: u32,
-    pub depth: usize,
-}
-
 /// What a session knows and was told to show.
 #[derive(Drop)]
 pub(crate) struct State<A: Allocator> {
@@ -38,12 +31,13 @@ pub(crate) struct State<A: Allocator> {
     pub settings: Settings<A>,
     pub sending: Setting<A>,
     pub receiving: Setting<A>,
-    /// The frames that are marked, the newest last.
-    pub marks: Vec<Mark, A>,
+    /// Of the processes from 100 on, the depths of the frames whose return is told, the newest last; of
+    /// those past the end there is none.
+    pub marks: Vec<Vec<usize, A>, A>,
 }
 
-/// The place of a process among the flags: that of pid 100 is 0.
-fn place_of(pid: u32) -> usize
+/// The place of a process among the flags and the marks: that of pid 100 is 0.
+pub(crate) fn place_of(pid: u32) -> usize
     ensures { result ≡ pid - 100 }
 {
     pid.saturating_sub(FIRST_PID) as usize

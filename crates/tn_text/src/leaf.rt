@@ -7,12 +7,10 @@ ghost use Rattle.def_text.specs.Tokens.{IsInteger, IsPid, IsQuoted, all_are, is_
 ghost use Rattle.tn_term.specs.Views.{tree_of};
 ghost use Rattle.tn_text.specs.Stack.{frames_of, Puts};
 
-use crate::stack::{Frame, MAX_DEPTH, Progress, StepError, put_term};
+use crate::stack::{Frame, MAX_DEPTH, MAX_LIST, Progress, StepError, put_term};
 use crate::value::{content, integer_value, pid_value, plain_content};
 use std::alloc::{AllocError, Allocator};
 use tn_term::{Atom, Term};
-
-const MAX_STRING: usize = 4096;
 
 pub fn put_integer<A: Allocator>(
     bytes: &[u8],
@@ -105,7 +103,7 @@ fn put_codes<A: Allocator + Copy>(
     if frames.len() >= MAX_DEPTH {
         return Err(StepError::TooDeep);
     }
-    if codes.len() > MAX_STRING {
+    if codes.len() > MAX_LIST {
         return Err(StepError::TooLarge);
     }
     match list_of(alloc, codes) {

@@ -11,6 +11,9 @@ use tn_term::Term;
 /// How deep tuples and lists may nest.
 pub const MAX_DEPTH: usize = 32;
 
+/// The most elements of a list, and the most characters of a string, which is one.
+pub const MAX_LIST: usize = 4096;
+
 #[derive(Clone, Copy)]
 pub enum Bracket {
     Brace,
@@ -116,7 +119,7 @@ fn most_of(bracket: Bracket) -> usize
 {
     match bracket {
         Bracket::Brace => 255,
-        Bracket::Square => 4096,
+        Bracket::Square => MAX_LIST,
     }
 }
 

@@ -9,7 +9,7 @@ use Rattle.def_session.specs.State.{absent_session}
 use Rattle.def_run.specs.Run.{moves}
 use Rattle.def_run.specs.View.{is_own}
 use Rattle.def_run.specs.Listing.{messages, messages_from, replies, replies_from, lines_of}
-use Rattle.def_run.proofs.Replay.{events_again, journal_again}
+use Rattle.def_run.proofs.Replay.{events_again}
 use Rattle.tn_trace.specs.Items.{AreLines}
 use Rattle.tn_trace.specs.Runs.{IsRun}
 use Rattle.tn_trace.specs.declared.slot.Slot.{Slot}

@@ -39,11 +39,7 @@ impl<A: Allocator + Copy> Transcript<A> {
     /// # Errors
     ///
     /// AllocError where memory was refused.
-    pub fn of_round(
-        alloc: A,
-        program: &Program<A>,
-        limit: u32,
-    ) -> Result<Transcript<A>, AllocError>
+    pub fn of_round(alloc: A, program: &Program<A>, limit: u32) -> Result<Transcript<A>, AllocError>
         ensures { IfOk result (λ t. IsTranscriptOfRound (program_of program.now) limit t) }
     {
         let engine = followed_round(alloc, program, limit)?;

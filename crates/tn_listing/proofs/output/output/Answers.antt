@@ -1,5 +1,3 @@
-use Rattle.std.proofs.Common.{◌∙◌, ◌++◌, ap}
-use Rattle.def_run.specs.Picks.{picks_text}
 use Rattle.tn_program.specs.Views.{program_of}
 use Rattle.tn_listing.proofs.OutputLemmas.{all_parts, whole_run}
 use Rattle.tn_listing.proofs.output.output.Goals as goal

@@ -1,4 +1,3 @@
-use Rattle.tn_program.specs.Views.{program_of}
 use Rattle.tn_listing.proofs.output.replay.Goals as goal
 
 pub returns : goal.returns

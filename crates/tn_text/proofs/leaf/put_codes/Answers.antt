@@ -13,8 +13,8 @@ returns-then-len-ge-MAX_DEPTH g c = λ printable.
     let size = c.args.frames.ok.0 in
     deep_here (list (of_codes s)) (frames_of c.args.frames.items) (omega (arith, size, frames_length c.args.frames.items, codes_flat s))
 
-pub returns-then-codes-gt-MAX_STRING : goal.returns-then-codes-gt-MAX_STRING
-returns-then-codes-gt-MAX_STRING g c = λ printable.
+pub returns-then-codes-gt-MAX_LIST : goal.returns-then-codes-gt-MAX_LIST
+returns-then-codes-gt-MAX_LIST g c = λ printable.
     let s = c.args.codes.now in
     let size = c.args.frames.ok.0 in
     large_here (list (of_codes s)) (frames_of c.args.frames.items) (omega (arith, size, frames_length c.args.frames.items, codes_flat s)) (string_large s (omega arith))

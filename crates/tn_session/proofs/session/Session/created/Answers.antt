@@ -2,7 +2,7 @@ use Rattle.std.proofs.Common.{replicate, reverse, map, refl}
 use Rattle.def_session.specs.State.{live}
 use Rattle.def_session.specs.Settings.{plain}
 use Rattle.tn_term.specs.Views.{alive_of}
-use Rattle.tn_session.specs.Views.{covering_seen, mark_seen}
+use Rattle.tn_session.specs.Views.{covering_seen, marks_seen}
 use Rattle.tn_session.proofs.session.Session.created.Goals as goal
 
 pub returns : goal.returns
@@ -16,6 +16,6 @@ returns g c = record {
     functions = reverse (map covering_seen (c.new.ensures.items i));
     sending = plain;
     receiving = plain;
-    marks = reverse (map mark_seen (c.new-2.ensures.items i));
+    marks = marks_seen (c.new-2.ensures.items i);
   };
 }

@@ -1,11 +1,24 @@
-use Rattle.std.proofs.Common.{◌∙◌, ◌==◌, ◌&&◌, not, map, reverse, refl, sym, ap}
-use Rattle.tn_session.specs.Views.{state_seen, mark_seen}
-use Rattle.tn_session.proofs.Marks.{filter_reversed}
+use Rattle.std.proofs.Common.{◌≤◌, ◌<◌, ◌∙◌, ◌-◌, ◌==◌, not, filter, length, reverse, refl, sym, ap, arith}
+use Rattle.tn_session.specs.Views.{state_seen}
+use Rattle.tn_session.proofs.Marking.{changed_at, filter_reversed, unchanged_past}
 use Rattle.tn_session.proofs.state.State.unmark.Goals as goal
 
-pub returns-clause-state : goal.returns-clause-state
-returns-clause-state g c = λ f t.
+pub returns-then-place-len-clause-state : goal.returns-then-place-len-clause-state
+returns-then-place-len-clause-state g c =
     let s = c.args.self.now in
+    let marks = s.marks in
+    let old = c.index_mut.result.now in
+    let whole = marks.ok.0 in
+    let below : c.place_of-place.result < length marks.items = omega (arith, whole, c.len.ensures, c.if-place-len.true) in
     ap (λ ms. record (state_seen s) { marks = ms })
-    (ap (λ ms. reverse (map mark_seen ms)) c.drop_marks.ensures
-    ∙ sym (filter_reversed mark_seen _ (λ m. not (m.0 == c.args.pid && m.1 == c.args.depth)) (λ m. refl) s.marks.items))
+    (changed_at (filter (λ d. not (d == c.args.depth))) marks.items c.place_of-place.result (c.args.pid - 100) old c.drop_marks.new.marks below c.index_mut.ensures.value c.place_of-place.ensures
+    (ap reverse c.drop_marks.ensures ∙ sym (filter_reversed (λ d. not (d == c.args.depth)) old.items)))
+
+pub returns-else-place-len-clause-state : goal.returns-else-place-len-clause-state
+returns-else-place-len-clause-state g c =
+    let s = c.args.self.now in
+    let marks = s.marks in
+    let whole = marks.ok.0 in
+    let past : length marks.items ≤ c.place_of-place.result = omega (arith, whole, c.len.ensures, c.if-place-len.false) in
+    ap (λ ms. record (state_seen s) { marks = ms })
+    (unchanged_past (filter (λ d. not (d == c.args.depth))) marks.items c.place_of-place.result (c.args.pid - 100) refl past c.place_of-place.ensures)

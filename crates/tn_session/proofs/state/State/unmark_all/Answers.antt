@@ -1,0 +1,23 @@
+use Rattle.std.proofs.Common.{◌≤◌, ◌<◌, ◌-◌, [], length, reverse, refl, ap, arith}
+use Rattle.tn_session.specs.Views.{state_seen}
+use Rattle.tn_session.proofs.Marking.{changed_at, unchanged_past}
+use Rattle.tn_session.proofs.state.State.unmark_all.Goals as goal
+
+pub returns-then-place-len-clause-state : goal.returns-then-place-len-clause-state
+returns-then-place-len-clause-state g c =
+    let s = c.args.self.now in
+    let marks = s.marks in
+    let whole = marks.ok.0 in
+    let below : c.place_of-place.result < length marks.items = omega (arith, whole, c.len.ensures, c.if-place-len.true) in
+    ap (λ ms. record (state_seen s) { marks = ms })
+    (changed_at (λ _. []) marks.items c.place_of-place.result (c.args.pid - 100) c.index_mut.result.now c.clear.new.self below c.index_mut.ensures.value c.place_of-place.ensures
+    (ap reverse c.clear.ensures.items))
+
+pub returns-else-place-len-clause-state : goal.returns-else-place-len-clause-state
+returns-else-place-len-clause-state g c =
+    let s = c.args.self.now in
+    let marks = s.marks in
+    let whole = marks.ok.0 in
+    let past : length marks.items ≤ c.place_of-place.result = omega (arith, whole, c.len.ensures, c.if-place-len.false) in
+    ap (λ ms. record (state_seen s) { marks = ms })
+    (unchanged_past (λ _. []) marks.items c.place_of-place.result (c.args.pid - 100) refl past c.place_of-place.ensures)
