@@ -1,12 +1,13 @@
 // Each growth refused in turn: over reading a specification, binding a head and copying a value.
 use crate::head::{as_term, elements, with_head};
+use crate::seen::{Row, at, check_patterns, check_rows, is_seen};
 use std::alloc::{Allocator, Global};
 use std::process::Abort;
 use std::test::Fail;
 use test_allocator::Refusing;
 use tn_guard::{Parts, Value, Word};
 use tn_head::bind;
-use tn_spec::{Action, Clause, Dialect, Expr, Func, Head, Pattern, Spec, SpecFault, spec_of};
+use tn_spec::{Clause, Dialect, Expr, Head, Pattern, Spec, SpecFault, spec_of};
 use tn_term::{Atom, Term};
 use tn_text::read_term;
 
@@ -23,88 +24,114 @@ const SPEC: &str = "[{['$1','_',{a,['$2',0]},<0.100.0>],
  {'$3',[],[{enable_trace,<0.101.0>,call}]},
  {'_',[{'orelse',{is_pid,'$_'}}],[{caller}]}]";
 
+/// `{'andalso',{is_atom,'$1'},{'or',true,{'==','$2',{const,[{x}]}}}}`
+const CONDITION: [Row<'static>; 6] = [
+    (&[0], "andalso", 2),
+    (&[0, 0], "is_atom", 1),
+    (&[0, 1], "or", 2),
+    (&[0, 1, 1], "==", 2),
+    (&[0, 1, 1, 0], "variable", 2),
+    (&[0, 1, 1, 1], "constant", 3),
+];
+
+/// `{message,{{'$1',['$_','$$',{self}]}}}` and `{return_trace}`
+const BODY: [Row<'static>; 8] = [
+    (&[0], "message", 1),
+    (&[0, 0], "tuple", 2),
+    (&[0, 0, 0], "variable", 1),
+    (&[0, 0, 1], "list", 3),
+    (&[0, 0, 1, 0], "whole list", 0),
+    (&[0, 0, 1, 1], "all bound", 0),
+    (&[0, 0, 1, 2], "self", 0),
+    (&[1], "return_trace", 0),
+];
+
+/// What the patterns of `['$1','_',{a,['$2',0]},<0.100.0>]` are: the kind of each, and the variable's number
+/// or the number of fields.
+const PATTERNS: [(&str, usize); 4] = [
+    ("variable", 1),
+    ("anything", 0),
+    ("tuple", 2),
+    ("constant", 0),
+];
+
+/// Whether that constant word stands there.
+fn is_word_at<A: Allocator>(whole: &[Expr<A>], place: &[usize], text: &str) -> bool {
+    match at(whole, place) {
+        Some(Expr::Constant(term)) => term.is_word(text),
+        _ => false,
+    }
+}
+
+/// The pid that a term is.
+fn pid_of<A: Allocator>(term: &Term<A>) -> Option<u32> {
+    match term {
+        Term::Pid(pid) => Some(*pid),
+        _ => None,
+    }
+}
+
+/// The pid that a pattern matches alone.
+fn only_pid<A: Allocator>(pattern: &Pattern<A>) -> Option<u32> {
+    match pattern {
+        Pattern::Only(term) => pid_of(term),
+        _ => None,
+    }
+}
+
+/// The pid that the last pattern matches alone.
+fn last_pid<A: Allocator>(patterns: &[Pattern<A>]) -> Option<u32> {
+    match patterns.last() {
+        Some(pattern) => only_pid(pattern),
+        None => None,
+    }
+}
+
+/// The pid that stands at a place.
+fn pid_at<A: Allocator>(whole: &[Expr<A>], place: &[usize]) -> Option<u32> {
+    match at(whole, place) {
+        Some(Expr::Constant(term)) => pid_of(term),
+        _ => None,
+    }
+}
+
 /// The first clause: its head, its one condition and its body.
 fn check_first<A: Allocator>(rt: &impl Abort, clause: &Clause<A>) {
     let Head::List(patterns) = &clause.head else {
         panic!(rt; "another head");
     };
-    assert_eq!(rt; patterns.len(), 4);
-    assert!(rt; matches!(&patterns[0], Pattern::Variable(1)));
-    assert!(rt; matches!(&patterns[1], Pattern::Anything));
-    assert!(rt; matches!(&patterns[2], Pattern::Tuple(fields) if fields.len() == 2));
-    assert!(rt; matches!(&patterns[3], Pattern::Only(Term::Pid(100))));
-    assert_eq!(rt; clause.conditions.len(), 1);
-    check_condition(rt, &clause.conditions[0]);
-    assert_eq!(rt; clause.body.len(), 2);
-    check_message(rt, &clause.body[0]);
-    assert!(rt;
-        matches!(&clause.body[1], Expr::Perform(Action::ReturnTrace, args) if args.is_empty())
-    );
+    check_patterns(rt, patterns.as_slice(), &PATTERNS);
+    assert_eq!(rt; last_pid(patterns.as_slice()), Some(100));
+    assert_eq!(rt; (clause.conditions.len(), clause.body.len()), (1, 2));
+    check_rows(rt, clause.conditions.as_slice(), &CONDITION);
+    assert!(rt; is_word_at(clause.conditions.as_slice(), &[0, 1, 0], "true"));
+    check_rows(rt, clause.body.as_slice(), &BODY);
 }
 
-/// `{'andalso',{is_atom,'$1'},{'or',true,{'==','$2',{const,[{x}]}}}}`
-fn check_condition<A: Allocator>(rt: &impl Abort, condition: &Expr<A>) {
-    let Expr::AndAlso(parts) = condition else {
-        panic!(rt; "another condition");
-    };
-    assert_eq!(rt; parts.len(), 2);
-    assert!(rt; matches!(&parts[0], Expr::Call(Func::IsAtom, args) if args.len() == 1));
-    let Expr::Call(Func::OneOf, either) = &parts[1] else {
-        panic!(rt; "another part");
-    };
-    assert_eq!(rt; either.len(), 2);
-    assert!(rt; matches!(&either[0], Expr::Constant(term) if term.is_word("true")));
-    let Expr::Call(Func::Equal, both) = &either[1] else {
-        panic!(rt; "another comparison");
-    };
-    assert_eq!(rt; both.len(), 2);
-    assert!(rt; matches!(&both[0], Expr::Variable(2)));
-    assert!(rt; matches!(&both[1], Expr::Constant(term) if term.size() == 3));
+/// The second clause.
+fn check_second<A: Allocator>(rt: &impl Abort, clause: &Clause<A>) {
+    assert!(rt; matches!(&clause.head, Head::Variable(3)));
+    assert_eq!(rt; (clause.conditions.len(), clause.body.len()), (0, 1));
+    let body = clause.body.as_slice();
+    assert!(rt; is_seen(body, (&[0], "enable_trace", 2)));
+    assert_eq!(rt; pid_at(body, &[0, 0]), Some(101));
+    assert!(rt; is_word_at(body, &[0, 1], "call"));
 }
 
-/// `{message,{{'$1',['$_','$$',{self}]}}}`
-fn check_message<A: Allocator>(rt: &impl Abort, expression: &Expr<A>) {
-    let Expr::Perform(Action::Message, args) = expression else {
-        panic!(rt; "another action");
-    };
-    assert_eq!(rt; args.len(), 1);
-    let Expr::Tuple(fields) = &args[0] else {
-        panic!(rt; "no tuple");
-    };
-    assert_eq!(rt; fields.len(), 2);
-    assert!(rt; matches!(&fields[0], Expr::Variable(1)));
-    let Expr::List(items) = &fields[1] else {
-        panic!(rt; "no list");
-    };
-    assert_eq!(rt; items.len(), 3);
-    assert!(rt; matches!(&items[0], Expr::WholeList));
-    assert!(rt; matches!(&items[1], Expr::AllBound));
-    assert!(rt; matches!(&items[2], Expr::Call(Func::OwnPid, args) if args.is_empty()));
-}
-
-/// The second clause and the third.
-fn check_others<A: Allocator>(rt: &impl Abort, second: &Clause<A>, third: &Clause<A>) {
-    assert!(rt; matches!(&second.head, Head::Variable(3)));
-    assert!(rt; second.conditions.is_empty());
-    assert_eq!(rt; second.body.len(), 1);
-    let Expr::Perform(Action::EnableTrace, args) = &second.body[0] else {
-        panic!(rt; "another action");
-    };
-    assert_eq!(rt; args.len(), 2);
-    assert!(rt; matches!(&args[0], Expr::Constant(Term::Pid(101))));
-    assert!(rt; matches!(&args[1], Expr::Constant(term) if term.is_word("call")));
-    assert!(rt; matches!(&third.head, Head::Anything));
-    assert_eq!(rt; third.conditions.len(), 1);
-    assert!(rt; matches!(&third.conditions[0], Expr::OrElse(parts) if parts.len() == 1));
-    assert_eq!(rt; third.body.len(), 1);
-    assert!(rt; matches!(&third.body[0], Expr::Perform(Action::Caller, args) if args.is_empty()));
+/// The third clause.
+fn check_third<A: Allocator>(rt: &impl Abort, clause: &Clause<A>) {
+    assert!(rt; matches!(&clause.head, Head::Anything));
+    assert_eq!(rt; (clause.conditions.len(), clause.body.len()), (1, 1));
+    assert!(rt; is_seen(clause.conditions.as_slice(), (&[0], "orelse", 1)));
+    assert!(rt; is_seen(clause.body.as_slice(), (&[0], "caller", 0)));
 }
 
 fn check_spec<A: Allocator>(rt: &impl Abort, spec: &Spec<A>) {
     assert!(rt; matches!(&spec.dialect, Dialect::Call));
     assert_eq!(rt; spec.clauses.len(), 3);
     check_first(rt, &spec.clauses[0]);
-    check_others(rt, &spec.clauses[1], &spec.clauses[2]);
+    check_second(rt, &spec.clauses[1]);
+    check_third(rt, &spec.clauses[2]);
 }
 
 /// What is answered on the text, or None where memory was refused.
@@ -127,54 +154,58 @@ fn answer<'h>(
     Some(answer)
 }
 
-#[test]
-fn specifications(rt: HostRuntime) -> Result<(), Fail> {
+/// Texts, the answer on each, and how many growths it needs at least.
+const ANSWERS: [(&str, &str, u64); 3] = [
+    (SPEC, "ok", 50),
+    ("[{['$1',{a}],[{is_pid,'$1'},{max,1,2}],[]}]", "max", 10),
+    ("[{['$1',{a}],[{is_pid,'$1'}],[a,'$2']}]", "badarg", 10),
+];
+
+/// The answer is the specification above, that fault, or that name, which isn't supported.
+fn check_answer<'h>(
+    rt: &impl Abort,
+    answer: Result<Spec<&'h Heap>, SpecFault<&'h Heap>>,
+    wanted: &str,
+) {
+    match answer {
+        Ok(spec) => {
+            assert_eq!(rt; "ok", wanted);
+            check_spec(rt, &spec);
+        }
+        Err(SpecFault::Unsupported(name)) => assert_eq!(rt; name.text(), wanted),
+        Err(SpecFault::Badarg) => assert_eq!(rt; "badarg", wanted),
+        Err(_) => panic!(rt; "another fault"),
+    }
+}
+
+/// Whether memory was enough for an answer, which is the one that is wanted.
+fn is_answered(rt: &impl Abort, heap: &Heap, text: &str, wanted: &str) -> bool {
+    match answer(rt, heap, text) {
+        Some(answer) => {
+            check_answer(rt, answer, wanted);
+            true
+        }
+        None => false,
+    }
+}
+
+/// Refuses each growth in turn, until there is an answer.
+fn check_growths(rt: &impl Abort, alloc: Global, row: (&str, &str, u64)) {
     for served in 0..ENOUGH {
-        let heap = Refusing::after(rt.alloc(), served);
-        match answer(&rt, &heap, SPEC) {
-            Some(Ok(spec)) => {
-                check_spec(&rt, &spec);
-                assert!(rt; served > 50, "only {served} growths");
-                return Ok(());
-            }
-            Some(Err(_)) => panic!(rt; "another fault"),
-            None => {}
+        let heap = Refusing::after(alloc, served);
+        if is_answered(rt, &heap, row.0, row.1) {
+            assert!(rt; served > row.2, "only {served} growths");
+            return;
         }
     }
-    panic!(rt; "each specification was refused memory")
+    panic!(rt; "each answer was refused memory")
 }
 
 #[test]
-fn unsupported_names(rt: HostRuntime) -> Result<(), Fail> {
-    for served in 0..ENOUGH {
-        let heap = Refusing::after(rt.alloc(), served);
-        match answer(&rt, &heap, "[{['$1',{a}],[{is_pid,'$1'},{max,1,2}],[]}]") {
-            Some(Err(SpecFault::Unsupported(name))) => {
-                assert_eq!(rt; name.text(), "max");
-                assert!(rt; served > 10, "only {served} growths");
-                return Ok(());
-            }
-            Some(_) => panic!(rt; "another answer"),
-            None => {}
-        }
+fn answers(rt: HostRuntime) {
+    for row in &ANSWERS {
+        check_growths(&rt, rt.alloc(), *row);
     }
-    panic!(rt; "each name was refused memory")
-}
-
-#[test]
-fn other_faults(rt: HostRuntime) -> Result<(), Fail> {
-    for served in 0..ENOUGH {
-        let heap = Refusing::after(rt.alloc(), served);
-        match answer(&rt, &heap, "[{['$1',{a}],[{is_pid,'$1'}],[a,'$2']}]") {
-            Some(Err(SpecFault::Badarg)) => {
-                assert!(rt; served > 10, "only {served} growths");
-                return Ok(());
-            }
-            Some(_) => panic!(rt; "another answer"),
-            None => {}
-        }
-    }
-    panic!(rt; "each fault was refused memory")
 }
 
 #[test]
@@ -272,13 +303,23 @@ fn copies_of_lent(rt: HostRuntime) -> Result<(), Fail> {
     let term = read_term(alloc, b"[{},{a,[b]},<0.163.0>]")?;
     let growths = check_copies(&rt, alloc, Value::Lent(&term), &term);
     assert!(rt; growths > 4, "only {growths} growths");
-    let Term::List(items) = &term else {
-        return Err(Fail::new("no list"));
-    };
+    Ok(())
+}
+
+#[test]
+fn copies_of_rests(rt: HostRuntime) -> Result<(), Fail> {
+    let alloc = rt.alloc();
+    let items = elements(alloc, "[{},{a,[b]},<0.163.0>]")?;
     assert_eq!(rt; items.len(), 3);
     let rest = read_term(alloc, b"[{a,[b]},<0.163.0>]")?;
     let growths = check_copies(&rt, alloc, Value::Rest(&items[1..]), &rest);
     assert!(rt; growths > 4, "only {growths} growths");
+    Ok(())
+}
+
+#[test]
+fn copies_of_names(rt: HostRuntime) -> Result<(), Fail> {
+    let alloc = rt.alloc();
     let name = Atom::new(alloc, "hello")?.ok_or("no atom")?;
     let hello = read_term(alloc, b"hello")?;
     assert!(rt; check_copies(&rt, alloc, Value::Name(&name), &hello) > 0);

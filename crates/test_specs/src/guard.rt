@@ -184,7 +184,12 @@ fn answers<'a, 'b>(
 }
 
 fn is_fault<'a>(func: Func, args: &[Value<'a, Global>]) -> bool {
-    apply(func, args, OWN).is_none()
+    answers(func, args, None)
+}
+
+/// `true` or `false`.
+fn truth<'a>(holds: bool) -> Value<'a, Global> {
+    Value::Word(if holds { Word::True } else { Word::False })
 }
 
 /// The value that a row gives for this place, where one does.
@@ -213,14 +218,14 @@ fn check_each<'a, 'b>(
 fn check_test<'a>(rt: &impl Abort, func: Func, holds: (usize, usize), kinds: &[Value<'a, Global>]) {
     for (place, kind) in kinds.iter().enumerate() {
         let is_true = holds.0 <= place && place < holds.1;
-        let wanted = Some(Value::truth(is_true));
+        let wanted = Some(truth(is_true));
         assert!(rt; answers(func, &[*kind], wanted), "at {place}");
     }
 }
 
 fn check_tests<'a>(rt: &impl Abort, kinds: &[Value<'a, Global>]) {
-    for (func, from, to) in TESTS {
-        check_test(rt, func, (from, to), kinds);
+    for (func, from, to) in &TESTS {
+        check_test(rt, *func, (*from, *to), kinds);
     }
 }
 
@@ -304,7 +309,7 @@ fn check_pair<'a>(
     other: Value<'a, Global>,
 ) {
     let (i, j) = places;
-    for (func, holds) in [
+    for (func, holds) in &[
         (Func::Greater, j < i),
         (Func::GreaterOrEqual, j <= i),
         (Func::Less, i < j),
@@ -317,8 +322,8 @@ fn check_pair<'a>(
         (Func::OneOf, i == 6 || j == 6),
         (Func::JustOneOf, (i == 5 && j == 6) || (i == 6 && j == 5)),
     ] {
-        let wanted = Some(Value::truth(holds));
-        assert!(rt; answers(func, &[one, other], wanted), "of {i} and {j}");
+        let wanted = Some(truth(*holds));
+        assert!(rt; answers(*func, &[one, other], wanted), "of {i} and {j}");
     }
 }
 
@@ -349,8 +354,8 @@ fn check_kinds<'a>(rt: &impl Abort, kinds: &[Value<'a, Global>]) {
     check_elements(rt, kinds);
     check_one_integer(rt, kinds);
     check_node(rt, kinds);
-    for (func, _) in OF_INTEGERS {
-        check_no_integers(rt, func, &kinds[4..]);
+    for (func, _) in &OF_INTEGERS {
+        check_no_integers(rt, *func, &kinds[4..]);
     }
 }
 
@@ -366,7 +371,10 @@ fn check_made<'a>(
     let lent = lent(alloc, terms)?;
     check_order(rt, kinds, &lent);
     check_order(rt, &lent, kinds);
-    for (value, term) in kinds.iter().zip(terms.iter()) {
+    for (place, term) in terms.iter().enumerate() {
+        let Some(value) = kinds.get(place) else {
+            return Err(Fail::new("no such kind"));
+        };
         assert!(rt; value.copy_into(alloc)?.same(term));
     }
     Ok(())
@@ -440,56 +448,57 @@ fn rests_of_lists(rt: HostRuntime) -> Result<(), Fail> {
     check_made(&rt, alloc, &rests(alloc, &terms, &items)?, &terms)
 }
 
+/// What is left of the list behind its first element, which is that term.
+fn tail_of<'a>(list: Value<'a, Global>, wanted: &Term<Global>) -> Result<Value<'a, Global>, Fail> {
+    match apply(Func::Tail, &[list], OWN) {
+        Some(rest) if rest.same(Value::Lent(wanted)) => Ok(rest),
+        Some(_) => Err(Fail::new("another rest")),
+        None => Err(Fail::new("no rest")),
+    }
+}
+
 #[test]
 fn tails_of_tails(rt: HostRuntime) -> Result<(), Fail> {
     let alloc = rt.alloc();
     let whole = read_term(alloc, b"[{},0,'EXIT']")?;
     let wanted = elements(alloc, KINDS)?;
     assert_eq!(rt; wanted.len(), COUNT);
-    let Some(two) = apply(Func::Tail, &[Value::Lent(&whole)], OWN) else {
-        return Err(Fail::new("no rest"));
-    };
-    assert!(rt; two.same(Value::Lent(&wanted[14])));
-    let Some(one) = apply(Func::Tail, &[two], OWN) else {
-        return Err(Fail::new("no rest"));
-    };
-    assert!(rt; one.same(Value::Lent(&wanted[15])));
-    let Some(none) = apply(Func::Tail, &[one], OWN) else {
-        return Err(Fail::new("no rest"));
-    };
-    assert!(rt; none.same(Value::Lent(&wanted[12])));
+    let two = tail_of(Value::Lent(&whole), &wanted[14])?;
+    let one = tail_of(two, &wanted[15])?;
+    let none = tail_of(one, &wanted[12])?;
     assert!(rt; is_fault(Func::Tail, &[none]));
     assert!(rt; is_fault(Func::Head, &[none]));
     Ok(())
 }
 
-fn check_row(rt: &impl Abort, func: Func, one: i64, row: [Option<i64>; 4]) {
-    for (other, wanted) in ENDS.into_iter().zip(row) {
+fn check_row(rt: &impl Abort, func: Func, one: i64, row: &[Option<i64>; 4]) {
+    for (place, wanted) in row.iter().enumerate() {
+        let other = ENDS[place];
         let args = [Value::Int(one), Value::Int(other)];
-        let wanted = Value::<Global>::integer(wanted);
+        let wanted = Value::<Global>::integer(*wanted);
         assert!(rt; answers(func, &args, wanted), "of {one} and {other}");
     }
 }
 
-fn check_table(rt: &impl Abort, func: Func, table: Table) {
-    for (one, row) in ENDS.into_iter().zip(table) {
-        check_row(rt, func, one, row);
+fn check_table(rt: &impl Abort, func: Func, table: &Table) {
+    for (place, row) in table.iter().enumerate() {
+        check_row(rt, func, ENDS[place], row);
     }
 }
 
 #[test]
 fn integers_at_both_ends(rt: HostRuntime) {
-    for (func, table) in OF_INTEGERS {
-        check_table(&rt, func, table);
+    for (func, table) in &OF_INTEGERS {
+        check_table(&rt, *func, table);
     }
 }
 
 #[test]
 fn other_integers(rt: HostRuntime) {
-    for (func, one, other, wanted) in OTHERS {
-        let args = [Value::Int(one), Value::Int(other)];
-        let wanted = Value::<Global>::integer(wanted);
-        assert!(rt; answers(func, &args, wanted), "of {one} and {other}");
+    for (func, one, other, wanted) in &OTHERS {
+        let args = [Value::Int(*one), Value::Int(*other)];
+        let wanted = Value::<Global>::integer(*wanted);
+        assert!(rt; answers(*func, &args, wanted), "of {one} and {other}");
     }
 }
 
@@ -514,18 +523,21 @@ fn logic_of_three(rt: HostRuntime) {
     assert!(rt; answers(Func::OneOf, &[no, number, no], Some(no)));
 }
 
+/// The words that evaluation makes, with the text of each.
+const WORDS: [(Word, &str); 5] = [
+    (Word::True, "true"),
+    (Word::False, "false"),
+    (Word::Node, "nonode@nohost"),
+    (Word::Exit, "'EXIT'"),
+    (Word::Undefined, "undefined"),
+];
+
 #[test]
 fn words(rt: HostRuntime) -> Result<(), Fail> {
     let alloc = rt.alloc();
-    for (word, text) in [
-        (Word::True, "true"),
-        (Word::False, "false"),
-        (Word::Node, "nonode@nohost"),
-        (Word::Exit, "'EXIT'"),
-        (Word::Undefined, "undefined"),
-    ] {
+    for (word, text) in &WORDS {
         let term = read_term(alloc, text.as_bytes())?;
-        let value: Value<'_, Global> = Value::Word(word);
+        let value: Value<'_, Global> = Value::Word(*word);
         assert!(rt; value.same(Value::Lent(&term)), "{text}");
         assert!(rt; value.copy_into(alloc)?.same(&term), "{text}");
     }
@@ -575,8 +587,8 @@ fn check_parts<'a>(rt: &impl Abort, fields: &'a [Value<'a, Global>; 2]) {
     assert!(rt; is_fault(Func::Element, &[Value::Int(3), made]));
     assert!(rt; answers(Func::Head, &[fields[0]], Some(exit)));
     assert!(rt; answers(Func::Length, &[fields[0]], Some(two)));
-    assert!(rt; answers(Func::Less, &[fields[1], made], Some(Value::truth(true))));
-    assert!(rt; answers(Func::Less, &[made, fields[0]], Some(Value::truth(true))));
+    assert!(rt; answers(Func::Less, &[fields[1], made], Some(truth(true))));
+    assert!(rt; answers(Func::Less, &[made, fields[0]], Some(truth(true))));
 }
 
 #[test]

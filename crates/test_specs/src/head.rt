@@ -2,25 +2,43 @@
 use std::alloc::{AllocError, Allocator, Global};
 use std::process::Abort;
 use std::test::Fail;
-use tn_guard::Parts;
+use tn_guard::{Parts, Value};
 use tn_head::{Binding, Bindings, bind};
-use tn_spec::{Dialect, Head, Spec, spec_of};
+use tn_spec::{Clause, Dialect, Head, Spec, spec_of};
 use tn_term::Term;
 use tn_text::read_term;
 
-/// The specification of one clause with this head.
-pub fn with_head<A: Allocator + Copy>(alloc: A, head: &str) -> Result<Spec<A>, Fail> {
-    let text = format!(in alloc; "[{{{head},[],[]}}]")?;
+/// The specification that the text is, in a dialect.
+pub fn spec_in(alloc: Global, text: &str, dialect: Dialect) -> Result<Spec<Global>, Fail> {
     let term = read_term(alloc, text.as_bytes())?;
-    Ok(spec_of(alloc, &term, Dialect::Call)?)
+    Ok(spec_of(alloc, &term, dialect)?)
+}
+
+/// The specification of one clause with this head.
+pub fn with_head(alloc: Global, head: &str) -> Result<Spec<Global>, Fail> {
+    let text = format!(in alloc; "[{{{head},[],[]}}]")?;
+    spec_in(alloc, &text, Dialect::Call)
 }
 
 /// The elements of the list that the text is.
-pub fn elements<A: Allocator + Copy>(alloc: A, text: &str) -> Result<Vec<Term<A>, A>, Fail> {
+pub fn elements(alloc: Global, text: &str) -> Result<Vec<Term<Global>, Global>, Fail> {
     match read_term(alloc, text.as_bytes())? {
         Term::List(terms) => Ok(terms),
         _ => Err(Fail::new("no list")),
     }
+}
+
+/// Whether the text is that term.
+pub fn is_text(alloc: Global, term: &Term<Global>, text: &str) -> Result<bool, Fail> {
+    Ok(read_term(alloc, text.as_bytes())?.same(term))
+}
+
+/// `{Number,Value}`
+fn pair<A: Allocator>(alloc: Global, binding: &Binding<'_, A>) -> Result<Term<Global>, AllocError> {
+    let mut pair = Vec::new(alloc);
+    pair.push(Term::Int(i64::from(binding.number)))?;
+    pair.push(binding.value.copy_into(alloc)?)?;
+    Ok(Term::Tuple(pair))
 }
 
 /// `{Number,Value}` of each binding.
@@ -30,10 +48,7 @@ fn pairs<A: Allocator>(
 ) -> Result<Vec<Term<Global>, Global>, AllocError> {
     let mut pairs = Vec::new(alloc);
     for binding in bindings {
-        let mut pair = Vec::new(alloc);
-        pair.push(Term::Int(i64::from(binding.number)))?;
-        pair.push(binding.value.copy_into(alloc)?)?;
-        pairs.push(Term::Tuple(pair))?;
+        pairs.push(pair(alloc, binding)?)?;
     }
     Ok(pairs)
 }
@@ -56,138 +71,132 @@ pub fn as_term<A: Allocator, B: Allocator>(
     }
 }
 
-/// The bindings of the head on the list; `none` where it doesn't match.
-fn check(rt: &impl Abort, alloc: Global, head: &str, list: &str, wanted: &str) -> Result<(), Fail> {
+/// The one clause of the specification.
+pub fn only_clause(spec: &Spec<Global>) -> Result<&Clause<Global>, Fail> {
+    if spec.clauses.len() != 1 {
+        return Err(Fail::new("another number of clauses"));
+    }
+    Ok(&spec.clauses[0])
+}
+
+/// The bindings of the specification's one head on the list; `none` where it doesn't match.
+fn bound(alloc: Global, spec: &Spec<Global>, list: &[Term<Global>]) -> Result<Term<Global>, Fail> {
+    let clause = only_clause(spec)?;
+    match bind(alloc, &clause.head, Parts::Terms(list))? {
+        Some(bindings) => Ok(as_term(alloc, &bindings)?),
+        None => Ok(read_term(alloc, b"none")?),
+    }
+}
+
+/// The bindings of the head on the list.
+fn seen(alloc: Global, head: &str, list: &str) -> Result<Term<Global>, Fail> {
     let spec = with_head(alloc, head)?;
-    assert_eq!(rt; spec.clauses.len(), 1);
-    let list_terms = elements(alloc, list)?;
-    let found = bind(
-        alloc,
-        &spec.clauses[0].head,
-        Parts::Terms(list_terms.as_slice()),
-    )?;
-    let seen = match &found {
-        Some(bindings) => as_term(alloc, bindings)?,
-        None => read_term(alloc, b"none")?,
-    };
-    let wanted = read_term(alloc, wanted.as_bytes())?;
-    assert!(rt; seen.same(&wanted), "{head} on {list}");
+    let list = elements(alloc, list)?;
+    bound(alloc, &spec, list.as_slice())
+}
+
+/// The bindings of the head on the list are those of the text.
+fn check(rt: &impl Abort, alloc: Global, head: &str, list: &str, wanted: &str) -> Result<(), Fail> {
+    let seen = seen(alloc, head, list)?;
+    let is_wanted = is_text(alloc, &seen, wanted)?;
+    assert!(rt; is_wanted, "{head} on {list}");
     Ok(())
 }
 
+/// A head, the list that it is held against, and its bindings, or `none`.
+type Row = (&'static str, &'static str, &'static str);
+
+const ROWS: [Row; 33] = [
+    // Heads of no list.
+    ("'_'", "[]", "[]"),
+    ("'_'", "[a,[b]]", "[]"),
+    ("'$0'", "[]", "{0}"),
+    ("'$999'", "[a,{b}]", "{999,a,{b}}"),
+    // A pattern for each element.
+    ("[]", "[]", "[]"),
+    ("[]", "[a]", "none"),
+    ("['_']", "[]", "none"),
+    ("['_']", "[a]", "[]"),
+    ("['_']", "[a,b]", "none"),
+    ("['_','_']", "[a,b]", "[]"),
+    ("['$1','$2']", "[a]", "none"),
+    ("['$1']", "[[]]", "[{1,[]}]"),
+    (
+        "['$1','_','$2']",
+        "[a,{},<0.100.0>]",
+        "[{1,a},{2,<0.100.0>}]",
+    ),
+    // Patterns with parts.
+    ("[{'$2'},a]", "[{7},a]", "[{2,7}]"),
+    ("[{'$2'},a]", "[[7],a]", "none"),
+    ("[{'$2'},a]", "[{7},b]", "none"),
+    ("[{'$2'},a]", "[7,a]", "none"),
+    ("[{'$2'},a]", "[{},a]", "none"),
+    ("[{'$2'},a]", "[{7,7},a]", "none"),
+    ("[['$2','_']]", "[[{7},8]]", "[{2,{7}}]"),
+    ("[['$2','_']]", "[{7,8}]", "none"),
+    ("[{const,'$1'}]", "[{const,b}]", "[{1,b}]"),
+    ("[{const,'$1'}]", "['$1']", "none"),
+    // A second occurrence must equal the first.
+    ("['$1','$1']", "[a,a]", "[{1,a}]"),
+    ("['$1','$1']", "[a,b]", "none"),
+    ("['$1',{'$1'}]", "[[a],{[a]}]", "[{1,[a]}]"),
+    ("['$1',{'$1'}]", "[[a],{{a}}]", "none"),
+    ("['$1','$2','$1']", "[a,b,b]", "none"),
+    ("['$1','$2','$1']", "[a,b,a]", "[{1,a},{2,b}]"),
+    ("['$2','$1','$2']", "[0,0,1]", "none"),
+    ("['_','_']", "[a,b]", "[]"),
+    // Bindings by their numbers.
+    ("['$3','$1']", "[a,b]", "[{1,b},{3,a}]"),
+    (
+        "['$2',{'$999','$0'},['$10']]",
+        "[a,{b,c},[d]]",
+        "[{0,c},{2,a},{10,d},{999,b}]",
+    ),
+];
+
 #[test]
-fn whole_lists(rt: HostRuntime) -> Result<(), Fail> {
-    for (head, list, wanted) in [
-        ("'_'", "[]", "[]"),
-        ("'_'", "[a,[b]]", "[]"),
-        ("'$0'", "[]", "{0}"),
-        ("'$999'", "[a,{b}]", "{999,a,{b}}"),
-    ] {
-        check(&rt, rt.alloc(), head, list, wanted)?;
+fn rows(rt: HostRuntime) -> Result<(), Fail> {
+    for row in &ROWS {
+        check(&rt, rt.alloc(), row.0, row.1, row.2)?;
     }
     Ok(())
 }
 
-#[test]
-fn each_element(rt: HostRuntime) -> Result<(), Fail> {
-    for (head, list, wanted) in [
-        ("[]", "[]", "[]"),
-        ("[]", "[a]", "none"),
-        ("['_']", "[]", "none"),
-        ("['_']", "[a]", "[]"),
-        ("['_']", "[a,b]", "none"),
-        ("['_','_']", "[a,b]", "[]"),
-        ("['$1','$2']", "[a]", "none"),
-        ("['$1']", "[[]]", "[{1,[]}]"),
-        (
-            "['$1','_','$2']",
-            "[a,{},<0.100.0>]",
-            "[{1,a},{2,<0.100.0>}]",
-        ),
-    ] {
-        check(&rt, rt.alloc(), head, list, wanted)?;
-    }
-    Ok(())
-}
+/// Terms that are no variable, nor '_': each matches itself alone.
+const KINDS: [&str; 10] = [
+    "0", "-1", "a", "'$_'", "'$$'", "<0.0.0>", "{}", "{a}", "[]", "[a]",
+];
 
-// A term that is no variable, nor '_', matches itself alone.
 #[test]
 fn other_terms(rt: HostRuntime) -> Result<(), Fail> {
-    let kinds = [
-        "0", "-1", "a", "'$_'", "'$$'", "<0.0.0>", "{}", "{a}", "[]", "[a]",
-    ];
-    for (i, pattern) in kinds.iter().enumerate() {
-        check_kinds(&rt, rt.alloc(), pattern, i, &kinds)?;
+    for (own, pattern) in KINDS.iter().enumerate() {
+        check_kinds(&rt, rt.alloc(), pattern, own)?;
     }
     Ok(())
 }
 
-fn check_kinds(
-    rt: &impl Abort,
-    alloc: Global,
-    pattern: &str,
-    own: usize,
-    kinds: &[&str],
-) -> Result<(), Fail> {
+fn check_kinds(rt: &impl Abort, alloc: Global, pattern: &str, own: usize) -> Result<(), Fail> {
     let head = format!(in alloc; "[{pattern}]")?;
-    for (place, kind) in kinds.iter().enumerate() {
+    for (place, kind) in KINDS.iter().enumerate() {
         let list = format!(in alloc; "[{kind}]")?;
         let wanted = if place == own { "[]" } else { "none" };
-        check(rt, alloc, head.as_str(), list.as_str(), wanted)?;
+        check(rt, alloc, &head, &list, wanted)?;
     }
     Ok(())
 }
 
-#[test]
-fn parts(rt: HostRuntime) -> Result<(), Fail> {
-    for (head, list, wanted) in [
-        ("[{'$2'},a]", "[{7},a]", "[{2,7}]"),
-        ("[{'$2'},a]", "[[7],a]", "none"),
-        ("[{'$2'},a]", "[{7},b]", "none"),
-        ("[{'$2'},a]", "[7,a]", "none"),
-        ("[{'$2'},a]", "[{},a]", "none"),
-        ("[{'$2'},a]", "[{7,7},a]", "none"),
-        ("[['$2','_']]", "[[{7},8]]", "[{2,{7}}]"),
-        ("[['$2','_']]", "[{7,8}]", "none"),
-        ("[{const,'$1'}]", "[{const,b}]", "[{1,b}]"),
-        ("[{const,'$1'}]", "['$1']", "none"),
-    ] {
-        check(&rt, rt.alloc(), head, list, wanted)?;
+/// What the head of one clause binds this variable to on the list `[a,b]`.
+fn value_of<'a>(
+    alloc: Global,
+    head: &Head<Global>,
+    list: &'a [Term<Global>],
+    number: u16,
+) -> Result<Option<Value<'a, Global>>, Fail> {
+    match bind(alloc, head, Parts::Terms(list))? {
+        Some(found) => Ok(found.get(number)),
+        None => Err(Fail::new("no match")),
     }
-    Ok(())
-}
-
-// A second occurrence must equal the first.
-#[test]
-fn row_same_variable_twice(rt: HostRuntime) -> Result<(), Fail> {
-    for (head, list, wanted) in [
-        ("['$1','$1']", "[a,a]", "[{1,a}]"),
-        ("['$1','$1']", "[a,b]", "none"),
-        ("['$1',{'$1'}]", "[[a],{[a]}]", "[{1,[a]}]"),
-        ("['$1',{'$1'}]", "[[a],{{a}}]", "none"),
-        ("['$1','$2','$1']", "[a,b,b]", "none"),
-        ("['$1','$2','$1']", "[a,b,a]", "[{1,a},{2,b}]"),
-        ("['$2','$1','$2']", "[0,0,1]", "none"),
-        ("['_','_']", "[a,b]", "[]"),
-    ] {
-        check(&rt, rt.alloc(), head, list, wanted)?;
-    }
-    Ok(())
-}
-
-#[test]
-fn row_bindings_by_number(rt: HostRuntime) -> Result<(), Fail> {
-    for (head, list, wanted) in [
-        ("['$3','$1']", "[a,b]", "[{1,b},{3,a}]"),
-        (
-            "['$2',{'$999','$0'},['$10']]",
-            "[a,{b,c},[d]]",
-            "[{0,c},{2,a},{10,d},{999,b}]",
-        ),
-    ] {
-        check(&rt, rt.alloc(), head, list, wanted)?;
-    }
-    Ok(())
 }
 
 #[test]
@@ -195,30 +204,24 @@ fn one_variable(rt: HostRuntime) -> Result<(), Fail> {
     let alloc = rt.alloc();
     let list = elements(alloc, "[a,b]")?;
     let spec = with_head(alloc, "['_','$2']")?;
-    assert_eq!(rt; spec.clauses.len(), 1);
-    let Some(found) = bind(alloc, &spec.clauses[0].head, Parts::Terms(list.as_slice()))? else {
-        return Err(Fail::new("no match"));
-    };
-    assert!(rt; found.get(1).is_none());
-    let Some(value) = found.get(2) else {
+    let clause = only_clause(&spec)?;
+    assert!(rt; value_of(alloc, &clause.head, &list, 1)?.is_none());
+    let Some(value) = value_of(alloc, &clause.head, &list, 2)? else {
         return Err(Fail::new("no value"));
     };
     assert!(rt; matches!(value.atom_text(), Some("b")));
-    let Some(whole) = bind(
-        alloc,
-        &Head::<Global>::Variable(0),
-        Parts::Terms(list.as_slice()),
-    )?
-    else {
-        return Err(Fail::new("no match"));
-    };
-    assert!(rt; whole.get(2).is_none());
-    let Some(value) = whole.get(0) else {
+    Ok(())
+}
+
+#[test]
+fn a_whole_list(rt: HostRuntime) -> Result<(), Fail> {
+    let alloc = rt.alloc();
+    let list = elements(alloc, "[a,b]")?;
+    let head = Head::Variable(0);
+    assert!(rt; value_of(alloc, &head, &list, 2)?.is_none());
+    let Some(value) = value_of(alloc, &head, &list, 0)? else {
         return Err(Fail::new("no value"));
     };
-    let Some(parts) = value.list_parts() else {
-        return Err(Fail::new("no list"));
-    };
-    assert_eq!(rt; parts.len(), 2);
+    assert!(rt; matches!(value.list_parts(), Some(parts) if parts.len() == 2));
     Ok(())
 }

@@ -1,5 +1,5 @@
 // Terms as deep and as long as a text may be, as specifications, heads and lists.
-use crate::head::elements;
+use crate::head::{elements, spec_in};
 use std::alloc::Global;
 use std::process::Abort;
 use std::test::Fail;
@@ -13,8 +13,7 @@ use tn_text::read_term;
 const MOST: usize = 4096;
 
 fn read(alloc: Global, text: &str) -> Result<Spec<Global>, Fail> {
-    let term = read_term(alloc, text.as_bytes())?;
-    Ok(spec_of(alloc, &term, Dialect::Call)?)
+    spec_in(alloc, text, Dialect::Call)
 }
 
 /// So many of the item, with a comma between any two.
@@ -54,12 +53,12 @@ fn check_depth(rt: &impl Abort, alloc: Global, text: &str) -> Result<(), Fail> {
 
 #[test]
 fn deep_heads(rt: HostRuntime) -> Result<(), Fail> {
-    for (open, inner, close, count) in [
+    for (open, inner, close, count) in &[
         ("[", "'$1'", "]", 29),
         ("{", "'$1'", "}", 29),
         ("{'_',[b,", "['$1']", "],a}", 14),
     ] {
-        let pattern = nested(rt.alloc(), open, inner, close, count)?;
+        let pattern = nested(rt.alloc(), open, inner, close, *count)?;
         let text = format!(in rt.alloc(); "[{{[{pattern}],['$1'],['$1']}}]")?;
         check_depth(&rt, rt.alloc(), &text)?;
     }
@@ -69,7 +68,7 @@ fn deep_heads(rt: HostRuntime) -> Result<(), Fail> {
 #[test]
 fn deep_expressions(rt: HostRuntime) -> Result<(), Fail> {
     let alloc = rt.alloc();
-    for (open, inner, close, count) in [
+    for (open, inner, close, count) in &[
         ("[", "'$1'", "]", 29),
         ("{{", "{self}", "}}", 14),
         ("{'not',", "'$1'", "}", 29),
@@ -77,7 +76,7 @@ fn deep_expressions(rt: HostRuntime) -> Result<(), Fail> {
         ("{'orelse',", "'$$'", ",true}", 29),
         ("{const,", "{const,[]}", "}", 27),
     ] {
-        let expression = nested(alloc, open, inner, close, count)?;
+        let expression = nested(alloc, open, inner, close, *count)?;
         let text = format!(in alloc; "[{{['$1'],[{expression}],[]}}]")?;
         check_depth(&rt, alloc, &text)?;
         let text = format!(in alloc; "[{{['$1'],[],[{expression}]}}]")?;
@@ -91,7 +90,7 @@ fn deep_expressions(rt: HostRuntime) -> Result<(), Fail> {
 #[test]
 fn faults_at_the_greatest_depth(rt: HostRuntime) -> Result<(), Fail> {
     let alloc = rt.alloc();
-    for (inner, wanted) in [("{trace}", "Unsupported(\"trace\")"), ("{'$1'}", "Badarg")] {
+    for (inner, wanted) in &[("{trace}", "Unsupported(\"trace\")"), ("{'$1'}", "Badarg")] {
         let expression = nested(alloc, "{'not',", inner, "}", 28)?;
         let text = format!(in alloc; "[{{['$1'],[{expression}],[]}}]")?;
         let term = read_term(alloc, text.as_bytes())?;
@@ -99,7 +98,7 @@ fn faults_at_the_greatest_depth(rt: HostRuntime) -> Result<(), Fail> {
             return Err(Fail::new("no fault"));
         };
         let seen = format!(in alloc; "{fault:?}")?;
-        assert_eq!(rt; seen.as_str(), wanted);
+        assert_eq!(rt; seen.as_str(), *wanted);
     }
     Ok(())
 }
@@ -169,11 +168,11 @@ fn many_patterns(rt: HostRuntime) -> Result<(), Fail> {
     let items = many(alloc, "a", MOST)?;
     let short = many(alloc, "a", MOST - 1)?;
     let other = format!(in alloc; "{short},b")?;
-    for pattern in ["'_'", "'$999'", "a"] {
+    for pattern in &["'_'", "'$999'", "a"] {
         let patterns = many(alloc, pattern, MOST)?;
         assert!(rt; matches_list(&rt, alloc, &patterns, &items)?);
         assert!(rt; !matches_list(&rt, alloc, &patterns, &short)?);
-        let is_any = pattern == "'_'";
+        let is_any = *pattern == "'_'";
         assert_eq!(rt; matches_list(&rt, alloc, &patterns, &other)?, is_any);
     }
     Ok(())

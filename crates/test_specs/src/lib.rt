@@ -17,4 +17,6 @@ mod memory;
 #[cfg(test)]
 mod outcome;
 #[cfg(test)]
+mod seen;
+#[cfg(test)]
 mod spec;

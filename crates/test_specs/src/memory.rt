@@ -91,7 +91,7 @@ fn none_where_a_head_fails(rt: HostRuntime) -> Result<(), Fail> {
 
 #[test]
 fn all_is_given_back(rt: HostRuntime) -> Result<(), Fail> {
-    for list in ["[go]", "[stop]", "[go,on]", "[go,on,4]"] {
+    for list in &["[go]", "[stop]", "[go,on]", "[go,on,4]"] {
         let heap = LocalHeap::new(rt.alloc(), 1 << 16)?;
         let before = heap.used();
         assert!(rt; is_enough(&heap, TUPLES, list, true), "{list}");

@@ -1,5 +1,5 @@
 // What specifications show of a list: the clause that is chosen, and the effects of its body.
-use crate::head::elements;
+use crate::head::{elements, is_text, spec_in};
 use std::alloc::{AllocError, Allocator, Global};
 use std::process::Abort;
 use std::test::Fail;
@@ -29,7 +29,7 @@ fn word(alloc: Global, text: &str) -> Result<Term<Global>, Fail> {
 /// The names of the flags.
 fn names(alloc: Global, flags: Flags) -> Result<Term<Global>, Fail> {
     let mut names = Vec::new(alloc);
-    for (is_set, name) in [
+    for (is_set, name) in &[
         (flags.send, "send"),
         (flags.receive, "receive"),
         (flags.call, "call"),
@@ -41,7 +41,7 @@ fn names(alloc: Global, flags: Flags) -> Result<Term<Global>, Fail> {
         (flags.set_on_link, "set_on_link"),
         (flags.set_on_first_link, "set_on_first_link"),
     ] {
-        if is_set {
+        if *is_set {
             names.push(word(alloc, name)?)?;
         }
     }
@@ -108,6 +108,20 @@ fn context<'a>(
     }
 }
 
+/// The outcome of the case, as a term.
+fn seen(
+    alloc: Global,
+    case: &Case<'_>,
+    caller: Option<&Mfa<Global>>,
+    alive: &Alive,
+) -> Result<Term<Global>, Fail> {
+    let spec = spec_in(alloc, case.spec, case.dialect)?;
+    let list = elements(alloc, case.list)?;
+    let context = context(list.as_slice(), caller, alive);
+    let found = outcome(alloc, &spec, &context)?;
+    outcome_term(alloc, &found)
+}
+
 /// The outcome of the case is that of the text.
 fn check_in(
     rt: &impl Abort,
@@ -117,14 +131,9 @@ fn check_in(
     alive: &Alive,
     wanted: &str,
 ) -> Result<(), Fail> {
-    let spec_term = read_term(alloc, case.spec.as_bytes())?;
-    let spec = spec_of(alloc, &spec_term, case.dialect)?;
-    let list = elements(alloc, case.list)?;
-    let context = context(list.as_slice(), caller, alive);
-    let seen = outcome_term(alloc, &outcome(alloc, &spec, &context)?)?;
-    let wanted_term = read_term(alloc, wanted.as_bytes())?;
-    let (spec, list) = (case.spec, case.list);
-    assert!(rt; seen.same(&wanted_term), "{spec} on {list} isn't {wanted}");
+    let seen = seen(alloc, case, caller, alive)?;
+    let is_wanted = is_text(alloc, &seen, wanted)?;
+    assert!(rt; is_wanted, "{} on {} isn't {wanted}", case.spec, case.list);
     Ok(())
 }
 
@@ -155,71 +164,336 @@ fn check_body(
     check_in(rt, alloc, &case, None, &two_alive(), wanted)
 }
 
-#[test]
-fn row_same_variable_twice(rt: HostRuntime) -> Result<(), Fail> {
-    let spec = "[{['$1','$1'],[],[]}]";
-    check(&rt, rt.alloc(), spec, "[a,a]", "[]")?;
-    check(&rt, rt.alloc(), spec, "[a,b]", "no_match")
-}
-
-#[test]
-fn row_first_clause_that_matches(rt: HostRuntime) -> Result<(), Fail> {
-    let spec = "[{[2],[],[]},{['_'],[],[{message,second}]}]";
-    check(&rt, rt.alloc(), spec, "[1]", "[{message,second}]")?;
-    check(&rt, rt.alloc(), spec, "[2]", "[]")
-}
-
-#[test]
-fn row_guard_fault_skips_clause(rt: HostRuntime) -> Result<(), Fail> {
-    let spec = "[{['$1'],[{'>',{hd,'$1'},3}],[]},{['_'],[],[{message,second}]}]";
-    check(&rt, rt.alloc(), spec, "[[]]", "[{message,second}]")?;
-    check(&rt, rt.alloc(), spec, "[[4]]", "[]")
-}
-
-#[test]
-fn row_body_fault_is_exit(rt: HostRuntime) -> Result<(), Fail> {
-    let spec = "[{'_',[],[{message,{hd,[]}}]}]";
-    check(&rt, rt.alloc(), spec, "[1]", "[{message,'EXIT'}]")
-}
-
-#[test]
-fn row_bindings_by_number(rt: HostRuntime) -> Result<(), Fail> {
-    let spec = "[{['$3','$1'],[],[{message,'$$'}]}]";
-    check(&rt, rt.alloc(), spec, "[a,b]", "[{message,[b,a]}]")
-}
-
-#[test]
-fn row_sum_past_64_bits_is_a_fault(rt: HostRuntime) -> Result<(), Fail> {
-    let spec = "[{['$1'],[{'=:=',{'+','$1',1},0}],[]}]";
-    check(&rt, rt.alloc(), spec, "[9223372036854775807]", "no_match")?;
-    check(&rt, rt.alloc(), spec, "[-1]", "[]")
-}
-
-#[test]
-fn row_fault_inside_not(rt: HostRuntime) -> Result<(), Fail> {
-    let spec = "[{['$1'],[{'not',{hd,'$1'}}],[]}]";
-    check(&rt, rt.alloc(), spec, "[a]", "no_match")
-}
-
-#[test]
-fn row_orelse_stops_early(rt: HostRuntime) -> Result<(), Fail> {
-    let spec = "[{['$1'],[{'orelse',{is_atom,'$1'},{hd,'$1'}}],[]}]";
-    check(&rt, rt.alloc(), spec, "[a]", "[]")
-}
-
-#[test]
-fn row_or_evaluates_all(rt: HostRuntime) -> Result<(), Fail> {
-    let spec = "[{['$1'],[{'or',{is_atom,'$1'},{hd,'$1'}}],[]}]";
-    check(&rt, rt.alloc(), spec, "[a]", "no_match")
-}
-
-#[test]
-fn row_division_toward_zero(rt: HostRuntime) -> Result<(), Fail> {
-    let spec = "[{['$1'],[],[{message,[{'div','$1',2},{'rem','$1',2},{'div','$1',0}]}]}]";
-    check(&rt, rt.alloc(), spec, "[-7]", "[{message,[-3,-1,'EXIT']}]")
-}
-
 // One clause of head '_' without conditions, one living pid, no caller.
+/// The same in each of the row's dialects.
+fn check_dialects(rt: &impl Abort, alloc: Global, row: &Body) -> Result<(), Fail> {
+    for dialect in row.0 {
+        check_body(rt, alloc, *dialect, row.1, row.2)?;
+    }
+    Ok(())
+}
+
+/// A specification, the list that it is held against, and the list of its effects, or `no_match`.
+type Row = (&'static str, &'static str, &'static str);
+
+const ROWS: [Row; 23] = [
+    // The same variable twice.
+    ("[{['$1','$1'],[],[]}]", "[a,a]", "[]"),
+    ("[{['$1','$1'],[],[]}]", "[a,b]", "no_match"),
+    // The first clause that matches.
+    (
+        "[{[2],[],[]},{['_'],[],[{message,second}]}]",
+        "[1]",
+        "[{message,second}]",
+    ),
+    ("[{[2],[],[]},{['_'],[],[{message,second}]}]", "[2]", "[]"),
+    // A fault in a condition skips the clause.
+    (
+        "[{['$1'],[{'>',{hd,'$1'},3}],[]},{['_'],[],[{message,second}]}]",
+        "[[]]",
+        "[{message,second}]",
+    ),
+    (
+        "[{['$1'],[{'>',{hd,'$1'},3}],[]},{['_'],[],[{message,second}]}]",
+        "[[4]]",
+        "[]",
+    ),
+    // A fault in a body is 'EXIT'.
+    (
+        "[{'_',[],[{message,{hd,[]}}]}]",
+        "[1]",
+        "[{message,'EXIT'}]",
+    ),
+    // Bindings by their numbers.
+    (
+        "[{['$3','$1'],[],[{message,'$$'}]}]",
+        "[a,b]",
+        "[{message,[b,a]}]",
+    ),
+    // A sum past 64 bits is a fault.
+    (
+        "[{['$1'],[{'=:=',{'+','$1',1},0}],[]}]",
+        "[9223372036854775807]",
+        "no_match",
+    ),
+    ("[{['$1'],[{'=:=',{'+','$1',1},0}],[]}]", "[-1]", "[]"),
+    // A fault inside 'not'.
+    ("[{['$1'],[{'not',{hd,'$1'}}],[]}]", "[a]", "no_match"),
+    // 'orelse' stops early.
+    (
+        "[{['$1'],[{'orelse',{is_atom,'$1'},{hd,'$1'}}],[]}]",
+        "[a]",
+        "[]",
+    ),
+    // 'or' evaluates all.
+    (
+        "[{['$1'],[{'or',{is_atom,'$1'},{hd,'$1'}}],[]}]",
+        "[a]",
+        "no_match",
+    ),
+    // Division goes toward zero.
+    (
+        "[{['$1'],[],[{message,[{'div','$1',2},{'rem','$1',2},{'div','$1',0}]}]}]",
+        "[-7]",
+        "[{message,[-3,-1,'EXIT']}]",
+    ),
+    // Heads.
+    ("[{'$1',[],[{message,'$1'}]}]", "[a,b]", "[{message,[a,b]}]"),
+    (
+        "[{'$1',[],[{message,'$$'}]}]",
+        "[a,b]",
+        "[{message,[[a,b]]}]",
+    ),
+    ("[{'$1',[{'==','$1','$_'}],[]}]", "[]", "[]"),
+    ("[{'_',[],[{message,'$$'}]}]", "[a,b]", "[{message,[]}]"),
+    ("[{[],[],[{message,'$_'}]}]", "[]", "[{message,[]}]"),
+    ("[{[],[],[]}]", "[a]", "no_match"),
+    (
+        "[{['$1'],[],[{message,'$1'}]},{'_',[],[]}]",
+        "[{a,[7]}]",
+        "[{message,{a,[7]}}]",
+    ),
+    (
+        "[{'_',[false],[{message,a}]},{'_',[],[{message,b}]}]",
+        "[]",
+        "[{message,b}]",
+    ),
+    (
+        "[{'_',[],[{message,a}]},{'_',[],[{message,b}]}]",
+        "[]",
+        "[{message,a}]",
+    ),
+];
+
+/// Conditions that are true, false, something else or faults, and what isn't evaluated; and whether the
+/// clause is chosen.
+const CONDITIONS: [(&str, bool); 26] = [
+    ("", true),
+    ("true", true),
+    ("true,true", true),
+    ("false", false),
+    ("7", false),
+    ("{{}}", false),
+    ("true,false", false),
+    ("true,{hd,a}", false),
+    ("{'==',{self},<0.100.0>}", true),
+    ("{'==',{node},nonode@nohost}", true),
+    ("{'==','$_',[a,[1]]}", true),
+    ("{'==','$$',[[1],a]}", true),
+    ("{'==',{{'$1',['$0']}},{const,{a,[[1]]}}}", true),
+    ("{'==',{element,2,{{x,{tl,'$0'}}}},[]}", true),
+    ("{'andalso',{is_atom,'$1'},{is_list,'$0'}}", true),
+    ("{'andalso',{is_pid,'$1'},{hd,'$1'}}", false),
+    ("{'andalso',{is_atom,'$1'},{hd,'$1'}}", false),
+    ("{'orelse',{hd,'$1'},true}", false),
+    ("{'orelse',7,{hd,'$0'},true}", true),
+    ("{'orelse',7,{hd,'$0'}}", false),
+    ("{'and',false,{hd,'$1'}}", false),
+    ("{'and',true,7}", false),
+    ("{'not',{'and',true,7}}", true),
+    ("{'not',{'andalso',7,{hd,a}}}", true),
+    ("{is_list,[{hd,a}]}", false),
+    ("{is_tuple,{{{hd,a}}}}", false),
+];
+
+const CALL: &[Dialect] = &[Dialect::Call];
+
+const SEND: &[Dialect] = &[Dialect::Send];
+
+const RECV: &[Dialect] = &[Dialect::Recv];
+
+const CALL_OR_SEND: &[Dialect] = &[Dialect::Call, Dialect::Send];
+
+/// The dialects that a body is tried in, the body, and its effects on the list `[1]`.
+type Body = (&'static [Dialect], &'static str, &'static str);
+
+const BODIES: [Body; 57] = [
+    // Each call that faults has the value 'EXIT', and evaluation goes on.
+    (CALL, "", "[]"),
+    (CALL, "true,7,{hd,[]}", "[]"),
+    (
+        CALL,
+        "{message,[{hd,[]},{tl,[]},7]}",
+        "[{message,['EXIT','EXIT',7]}]",
+    ),
+    (CALL, "{message,{{{abs,a}}}}", "[{message,{'EXIT'}}]"),
+    (CALL, "{message,{is_atom,{hd,[]}}}", "[{message,true}]"),
+    (CALL, "{message,{'not',{hd,[]}}}", "[{message,false}]"),
+    (CALL, "{message,{'+',{hd,[]},1}}", "[{message,'EXIT'}]"),
+    (
+        CALL,
+        "{message,{'orelse',{hd,[]},true}}",
+        "[{message,true}]",
+    ),
+    (
+        CALL,
+        "{message,{'andalso',{hd,[]},true}}",
+        "[{message,false}]",
+    ),
+    (CALL, "{message,{self}}", "[{message,<0.100.0>}]"),
+    (CALL, "{message,{node,{self}}}", "[{message,nonode@nohost}]"),
+    (CALL, "{message,{const,{hd,[]}}}", "[{message,{hd,[]}}]"),
+    (CALL, "{message,{{}}}", "[{message,{}}]"),
+    // Effects come in the order of evaluation: an argument's before its call's, from left to right.
+    (CALL, "{message,1},{message,2}", "[{message,1},{message,2}]"),
+    (
+        CALL,
+        "{message,{message,1}}",
+        "[{message,1},{message,true}]",
+    ),
+    (
+        CALL,
+        "[{message,1},{{{message,2}}},{message,3}]",
+        "[{message,1},{message,2},{message,3}]",
+    ),
+    (
+        CALL,
+        "{'or',{message,1},{message,2}}",
+        "[{message,1},{message,2}]",
+    ),
+    (
+        CALL,
+        "{'andalso',{message,1},false,{message,2}}",
+        "[{message,1}]",
+    ),
+    (CALL, "{'orelse',{message,1},{message,2}}", "[{message,1}]"),
+    (CALL, "{'orelse',{hd,[]},{message,2}}", "[{message,2}]"),
+    (CALL, "{'andalso',{hd,[]},{message,2}}", "[]"),
+    (
+        CALL,
+        "{'+',{message,1},{message,2}}",
+        "[{message,1},{message,2}]",
+    ),
+    (CALL, "{enable_trace,{message,nope}}", "[{message,nope}]"),
+    (CALL, "{silent,{message,1}}", "[{message,1},{silent,true}]"),
+    (
+        CALL,
+        "{return_trace},{message,1},{return_trace}",
+        "[return_trace,{message,1},return_trace]",
+    ),
+    // The actions of calls.
+    (CALL, "{message,false}", "[{message,false}]"),
+    (
+        CALL,
+        "{message,{return_trace}}",
+        "[return_trace,{message,true}]",
+    ),
+    (
+        CALL,
+        "{message,{exception_trace}}",
+        "[exception_trace,{message,true}]",
+    ),
+    (
+        CALL,
+        "{message,{silent,true}}",
+        "[{silent,true},{message,true}]",
+    ),
+    (
+        CALL,
+        "{message,{silent,false}}",
+        "[{silent,false},{message,true}]",
+    ),
+    (CALL, "{message,{silent,7}}", "[{message,true}]"),
+    (CALL, "{message,{silent,{hd,[]}}}", "[{message,true}]"),
+    (CALL, "{message,{caller}}", "[{message,undefined}]"),
+    // Changes of flags, which calls and sends have: the flag of the own process or another living one.
+    (
+        CALL_OR_SEND,
+        "{enable_trace,call}",
+        "[{change,<0.100.0>,[],[call]}]",
+    ),
+    (
+        CALL_OR_SEND,
+        "{disable_trace,call}",
+        "[{change,<0.100.0>,[call],[]}]",
+    ),
+    (
+        CALL_OR_SEND,
+        "{enable_trace,<0.101.0>,procs}",
+        "[{change,<0.101.0>,[],[procs]}]",
+    ),
+    (
+        CALL_OR_SEND,
+        "{disable_trace,<0.101.0>,send}",
+        "[{change,<0.101.0>,[send],[]}]",
+    ),
+    (
+        CALL_OR_SEND,
+        "{message,{enable_trace,arity}}",
+        "[{change,<0.100.0>,[],[arity]},{message,true}]",
+    ),
+    (
+        CALL_OR_SEND,
+        "{message,{disable_trace,{self},call}}",
+        "[{change,<0.100.0>,[call],[]},{message,true}]",
+    ),
+    // Flags that are none of the ten, and what is no living process's pid.
+    (
+        CALL_OR_SEND,
+        "{message,{enable_trace,nope}}",
+        "[{message,'EXIT'}]",
+    ),
+    (
+        CALL_OR_SEND,
+        "{message,{disable_trace,[call]}}",
+        "[{message,'EXIT'}]",
+    ),
+    (
+        CALL_OR_SEND,
+        "{message,{enable_trace,<0.102.0>,call}}",
+        "[{message,'EXIT'}]",
+    ),
+    (
+        CALL_OR_SEND,
+        "{message,{disable_trace,<0.99.0>,call}}",
+        "[{message,'EXIT'}]",
+    ),
+    (
+        CALL_OR_SEND,
+        "{message,{enable_trace,<0.4294967295.0>,call}}",
+        "[{message,'EXIT'}]",
+    ),
+    (
+        CALL_OR_SEND,
+        "{message,{disable_trace,100,call}}",
+        "[{message,'EXIT'}]",
+    ),
+    (
+        CALL_OR_SEND,
+        "{message,{enable_trace,<0.101.0>,nope}}",
+        "[{message,'EXIT'}]",
+    ),
+    (
+        CALL_OR_SEND,
+        "{message,{disable_trace,call,<0.101.0>}}",
+        "[{message,'EXIT'}]",
+    ),
+    // The actions of sends.
+    (
+        SEND,
+        "{message,{message,a}}",
+        "[{message,a},{message,true}]",
+    ),
+    (SEND, "{message,{return_trace}}", "[{message,true}]"),
+    (SEND, "{message,{exception_trace}}", "[{message,true}]"),
+    (
+        SEND,
+        "{message,{silent,true}}",
+        "[{silent,true},{message,true}]",
+    ),
+    (SEND, "{silent,false}", "[{silent,false}]"),
+    (SEND, "{message,{silent,7}}", "[{message,true}]"),
+    // The actions of receives.
+    (
+        RECV,
+        "{message,{message,a}}",
+        "[{message,a},{message,true}]",
+    ),
+    (RECV, "{message,{return_trace}}", "[{message,true}]"),
+    (RECV, "{message,{exception_trace}}", "[{message,true}]"),
+    (RECV, "{message,{hd,[]}}", "[{message,'EXIT'}]"),
+];
+
 #[test]
 fn faults_of_actions(rt: HostRuntime) -> Result<(), Fail> {
     let case = Case {
@@ -231,224 +505,51 @@ fn faults_of_actions(rt: HostRuntime) -> Result<(), Fail> {
     check_in(&rt, rt.alloc(), &case, None, &Alive::first(1), wanted)
 }
 
-/// Conditions that are true, false, something else or faults, and what isn't evaluated.
 #[test]
 fn conditions(rt: HostRuntime) -> Result<(), Fail> {
     let alloc = rt.alloc();
-    for (conditions, holds) in [
-        ("", true),
-        ("true", true),
-        ("true,true", true),
-        ("false", false),
-        ("7", false),
-        ("{{}}", false),
-        ("true,false", false),
-        ("true,{hd,a}", false),
-        ("{'==',{self},<0.100.0>}", true),
-        ("{'==',{node},nonode@nohost}", true),
-        ("{'==','$_',[a,[1]]}", true),
-        ("{'==','$$',[[1],a]}", true),
-        ("{'==',{{'$1',['$0']}},{const,{a,[[1]]}}}", true),
-        ("{'==',{element,2,{{x,{tl,'$0'}}}},[]}", true),
-        ("{'andalso',{is_atom,'$1'},{is_list,'$0'}}", true),
-        ("{'andalso',{is_pid,'$1'},{hd,'$1'}}", false),
-        ("{'andalso',{is_atom,'$1'},{hd,'$1'}}", false),
-        ("{'orelse',{hd,'$1'},true}", false),
-        ("{'orelse',7,{hd,'$0'},true}", true),
-        ("{'orelse',7,{hd,'$0'}}", false),
-        ("{'and',false,{hd,'$1'}}", false),
-        ("{'and',true,7}", false),
-        ("{'not',{'and',true,7}}", true),
-        ("{'not',{'andalso',7,{hd,a}}}", true),
-        ("{is_list,[{hd,a}]}", false),
-        ("{is_tuple,{{{hd,a}}}}", false),
-    ] {
+    for (conditions, holds) in &CONDITIONS {
         let spec = format!(in alloc; "[{{['$1','$0'],[{conditions}],[]}}]")?;
-        let wanted = if holds { "[]" } else { "no_match" };
+        let wanted = if *holds { "[]" } else { "no_match" };
         check(&rt, alloc, &spec, "[a,[1]]", wanted)?;
     }
     Ok(())
 }
 
 #[test]
-fn heads(rt: HostRuntime) -> Result<(), Fail> {
-    for (spec, list, wanted) in [
-        ("[{'$1',[],[{message,'$1'}]}]", "[a,b]", "[{message,[a,b]}]"),
-        (
-            "[{'$1',[],[{message,'$$'}]}]",
-            "[a,b]",
-            "[{message,[[a,b]]}]",
-        ),
-        ("[{'$1',[{'==','$1','$_'}],[]}]", "[]", "[]"),
-        ("[{'_',[],[{message,'$$'}]}]", "[a,b]", "[{message,[]}]"),
-        ("[{[],[],[{message,'$_'}]}]", "[]", "[{message,[]}]"),
-        ("[{[],[],[]}]", "[a]", "no_match"),
-        (
-            "[{['$1'],[],[{message,'$1'}]},{'_',[],[]}]",
-            "[{a,[7]}]",
-            "[{message,{a,[7]}}]",
-        ),
-        (
-            "[{'_',[false],[{message,a}]},{'_',[],[{message,b}]}]",
-            "[]",
-            "[{message,b}]",
-        ),
-        (
-            "[{'_',[],[{message,a}]},{'_',[],[{message,b}]}]",
-            "[]",
-            "[{message,a}]",
-        ),
-    ] {
-        check(&rt, rt.alloc(), spec, list, wanted)?;
+fn rows(rt: HostRuntime) -> Result<(), Fail> {
+    for row in &ROWS {
+        check(&rt, rt.alloc(), row.0, row.1, row.2)?;
     }
     Ok(())
 }
 
-/// Each call that faults has the value 'EXIT', and evaluation goes on.
 #[test]
 fn bodies(rt: HostRuntime) -> Result<(), Fail> {
-    for (body, wanted) in [
-        ("", "[]"),
-        ("true,7,{hd,[]}", "[]"),
-        (
-            "{message,[{hd,[]},{tl,[]},7]}",
-            "[{message,['EXIT','EXIT',7]}]",
-        ),
-        ("{message,{{{abs,a}}}}", "[{message,{'EXIT'}}]"),
-        ("{message,{is_atom,{hd,[]}}}", "[{message,true}]"),
-        ("{message,{'not',{hd,[]}}}", "[{message,false}]"),
-        ("{message,{'+',{hd,[]},1}}", "[{message,'EXIT'}]"),
-        ("{message,{'orelse',{hd,[]},true}}", "[{message,true}]"),
-        ("{message,{'andalso',{hd,[]},true}}", "[{message,false}]"),
-        ("{message,{self}}", "[{message,<0.100.0>}]"),
-        ("{message,{node,{self}}}", "[{message,nonode@nohost}]"),
-        ("{message,{const,{hd,[]}}}", "[{message,{hd,[]}}]"),
-        ("{message,{{}}}", "[{message,{}}]"),
-    ] {
-        check_body(&rt, rt.alloc(), Dialect::Call, body, wanted)?;
+    for row in &BODIES {
+        check_dialects(&rt, rt.alloc(), row)?;
     }
     Ok(())
 }
 
-/// Effects come in the order of evaluation: an argument's before its call's, from left to right.
-#[test]
-fn order_of_effects(rt: HostRuntime) -> Result<(), Fail> {
-    for (body, wanted) in [
-        ("{message,1},{message,2}", "[{message,1},{message,2}]"),
-        ("{message,{message,1}}", "[{message,1},{message,true}]"),
-        (
-            "[{message,1},{{{message,2}}},{message,3}]",
-            "[{message,1},{message,2},{message,3}]",
-        ),
-        (
-            "{'or',{message,1},{message,2}}",
-            "[{message,1},{message,2}]",
-        ),
-        ("{'andalso',{message,1},false,{message,2}}", "[{message,1}]"),
-        ("{'orelse',{message,1},{message,2}}", "[{message,1}]"),
-        ("{'orelse',{hd,[]},{message,2}}", "[{message,2}]"),
-        ("{'andalso',{hd,[]},{message,2}}", "[]"),
-        ("{'+',{message,1},{message,2}}", "[{message,1},{message,2}]"),
-        ("{enable_trace,{message,nope}}", "[{message,nope}]"),
-        ("{silent,{message,1}}", "[{message,1},{silent,true}]"),
-        (
-            "{return_trace},{message,1},{return_trace}",
-            "[return_trace,{message,1},return_trace]",
-        ),
-    ] {
-        check_body(&rt, rt.alloc(), Dialect::Call, body, wanted)?;
-    }
-    Ok(())
-}
-
-#[test]
-fn actions_of_calls(rt: HostRuntime) -> Result<(), Fail> {
-    for (body, wanted) in [
-        ("{message,false}", "[{message,false}]"),
-        ("{message,{return_trace}}", "[return_trace,{message,true}]"),
-        (
-            "{message,{exception_trace}}",
-            "[exception_trace,{message,true}]",
-        ),
-        ("{message,{silent,true}}", "[{silent,true},{message,true}]"),
-        (
-            "{message,{silent,false}}",
-            "[{silent,false},{message,true}]",
-        ),
-        ("{message,{silent,7}}", "[{message,true}]"),
-        ("{message,{silent,{hd,[]}}}", "[{message,true}]"),
-        ("{message,{caller}}", "[{message,undefined}]"),
-    ] {
-        check_body(&rt, rt.alloc(), Dialect::Call, body, wanted)?;
-    }
-    Ok(())
-}
-
-/// Changes of flags, which calls and sends have: the flag of the own process or another living one.
-#[test]
-fn changes(rt: HostRuntime) -> Result<(), Fail> {
-    for (body, wanted) in [
-        ("{enable_trace,call}", "[{change,<0.100.0>,[],[call]}]"),
-        ("{disable_trace,call}", "[{change,<0.100.0>,[call],[]}]"),
-        (
-            "{enable_trace,<0.101.0>,procs}",
-            "[{change,<0.101.0>,[],[procs]}]",
-        ),
-        (
-            "{disable_trace,<0.101.0>,send}",
-            "[{change,<0.101.0>,[send],[]}]",
-        ),
-        (
-            "{message,{enable_trace,arity}}",
-            "[{change,<0.100.0>,[],[arity]},{message,true}]",
-        ),
-        (
-            "{message,{disable_trace,{self},call}}",
-            "[{change,<0.100.0>,[call],[]},{message,true}]",
-        ),
-    ] {
-        check_body(&rt, rt.alloc(), Dialect::Call, body, wanted)?;
-        check_body(&rt, rt.alloc(), Dialect::Send, body, wanted)?;
-    }
-    Ok(())
-}
-
-/// Flags that are none of the ten, and what is no living process's pid.
-#[test]
-fn faults_of_changes(rt: HostRuntime) -> Result<(), Fail> {
-    let alloc = rt.alloc();
-    for change in [
-        "{enable_trace,nope}",
-        "{disable_trace,[call]}",
-        "{enable_trace,<0.102.0>,call}",
-        "{disable_trace,<0.99.0>,call}",
-        "{enable_trace,<0.4294967295.0>,call}",
-        "{disable_trace,100,call}",
-        "{enable_trace,<0.101.0>,nope}",
-        "{disable_trace,call,<0.101.0>}",
-    ] {
-        let body = format!(in alloc; "{{message,{change}}}")?;
-        check_body(&rt, alloc, Dialect::Call, &body, "[{message,'EXIT'}]")?;
-        check_body(&rt, alloc, Dialect::Send, &body, "[{message,'EXIT'}]")?;
-    }
-    Ok(())
-}
+/// Each of the ten flags.
+const FLAGS: [&str; 10] = [
+    "send",
+    "'receive'",
+    "call",
+    "procs",
+    "silent",
+    "arity",
+    "set_on_spawn",
+    "set_on_first_spawn",
+    "set_on_link",
+    "set_on_first_link",
+];
 
 #[test]
 fn each_flag(rt: HostRuntime) -> Result<(), Fail> {
     let alloc = rt.alloc();
-    for flag in [
-        "send",
-        "'receive'",
-        "call",
-        "procs",
-        "silent",
-        "arity",
-        "set_on_spawn",
-        "set_on_first_spawn",
-        "set_on_link",
-        "set_on_first_link",
-    ] {
+    for flag in &FLAGS {
         let body = format!(in alloc; "{{enable_trace,{flag}}},{{disable_trace,<0.101.0>,{flag}}}")?;
         let wanted = format!(in alloc;
             "[{{change,<0.100.0>,[],[{flag}]}},{{change,<0.101.0>,[{flag}],[]}}]"
@@ -462,7 +563,7 @@ fn each_flag(rt: HostRuntime) -> Result<(), Fail> {
 /// The own process has ended: no change of its flags.
 #[test]
 fn changes_of_the_dead(rt: HostRuntime) -> Result<(), Fail> {
-    for (body, wanted) in [
+    for (body, wanted) in &[
         ("{message,{enable_trace,call}}", "[{message,'EXIT'}]"),
         (
             "{message,{disable_trace,<0.100.0>,call}}",
@@ -481,37 +582,12 @@ fn changes_of_the_dead(rt: HostRuntime) -> Result<(), Fail> {
     Ok(())
 }
 
-#[test]
-fn actions_of_sends(rt: HostRuntime) -> Result<(), Fail> {
-    for (body, wanted) in [
-        ("{message,{message,a}}", "[{message,a},{message,true}]"),
-        ("{message,{return_trace}}", "[{message,true}]"),
-        ("{message,{exception_trace}}", "[{message,true}]"),
-        ("{message,{silent,true}}", "[{silent,true},{message,true}]"),
-        ("{silent,false}", "[{silent,false}]"),
-        ("{message,{silent,7}}", "[{message,true}]"),
-    ] {
-        check_body(&rt, rt.alloc(), Dialect::Send, body, wanted)?;
-    }
-    Ok(())
-}
-
-#[test]
-fn actions_of_receives(rt: HostRuntime) -> Result<(), Fail> {
-    for (body, wanted) in [
-        ("{message,{message,a}}", "[{message,a},{message,true}]"),
-        ("{message,{return_trace}}", "[{message,true}]"),
-        ("{message,{exception_trace}}", "[{message,true}]"),
-        ("{message,{hd,[]}}", "[{message,'EXIT'}]"),
-    ] {
-        check_body(&rt, rt.alloc(), Dialect::Recv, body, wanted)?;
-    }
-    Ok(())
-}
-
 /// `{m,go,2}`
 fn caller<A: Allocator + Copy>(alloc: A) -> Result<Option<Mfa<A>>, AllocError> {
-    let (Some(module), Some(name)) = (Atom::new(alloc, "m")?, Atom::new(alloc, "go")?) else {
+    let Some(module) = Atom::new(alloc, "m")? else {
+        return Ok(None);
+    };
+    let Some(name) = Atom::new(alloc, "go")? else {
         return Ok(None);
     };
     Ok(Some(Mfa {

@@ -1,8 +1,10 @@
 // Terms that are read as specifications, and the first faults of others.
+use crate::head::{only_clause, spec_in};
+use crate::seen::{Row, check_patterns, check_rows};
 use std::alloc::Global;
 use std::process::Abort;
 use std::test::Fail;
-use tn_spec::{Action, Dialect, Expr, Func, Head, Pattern, SpecFault, spec_of};
+use tn_spec::{Dialect, Head, SpecFault, spec_of};
 use tn_text::read_term;
 
 const DIALECTS: [Dialect; 3] = [Dialect::Call, Dialect::Send, Dialect::Recv];
@@ -158,9 +160,9 @@ fn check_expression(
 ) -> Result<(), Fail> {
     let condition = in_condition(alloc, expression)?;
     let body = in_body(alloc, expression)?;
-    for dialect in DIALECTS {
-        check(rt, alloc, condition.as_str(), dialect, wanted)?;
-        check(rt, alloc, body.as_str(), dialect, wanted)?;
+    for dialect in &DIALECTS {
+        check(rt, alloc, &condition, *dialect, wanted)?;
+        check(rt, alloc, &body, *dialect, wanted)?;
     }
     Ok(())
 }
@@ -175,151 +177,193 @@ fn call_of(alloc: Global, name: &str, count: usize) -> Result<String, Fail> {
     Ok(text)
 }
 
+/// What `['$1','_',{a,'$999'}]` is.
+const PATTERNS: [(&str, usize); 3] = [("variable", 1), ("anything", 0), ("tuple", 2)];
+
+/// What `[{is_pid,'$1'}]` is.
+const CONDITIONS: [Row<'static>; 1] = [(&[0], "is_pid", 1)];
+
+/// What `[{message,'$999'},'$_',{const,'$1000'}]` is.
+const BODY: [Row<'static>; 3] = [
+    (&[0], "message", 1),
+    (&[1], "whole list", 0),
+    (&[2], "constant", 1),
+];
+
 #[test]
 fn a_specification_is_read(rt: HostRuntime) -> Result<(), Fail> {
     let alloc = rt.alloc();
     let text = "[{['$1','_',{a,'$999'}],[{is_pid,'$1'}],[{message,'$999'},'$_',{const,'$1000'}]}]";
-    let term = read_term(alloc, text.as_bytes())?;
-    let spec = spec_of(alloc, &term, Dialect::Send)?;
+    let spec = spec_in(alloc, text, Dialect::Send)?;
     assert!(rt; matches!(&spec.dialect, Dialect::Send));
-    assert_eq!(rt; spec.clauses.len(), 1);
-    let clause = &spec.clauses[0];
+    let clause = only_clause(&spec)?;
     let Head::List(patterns) = &clause.head else {
         return Err(Fail::new("another head"));
     };
-    assert_eq!(rt; patterns.len(), 3);
-    assert!(rt; matches!(&patterns[0], Pattern::Variable(1)));
-    assert!(rt; matches!(&patterns[1], Pattern::Anything));
-    assert!(rt; matches!(&patterns[2], Pattern::Tuple(_)));
-    assert_eq!(rt; clause.conditions.len(), 1);
-    assert!(rt; matches!(&clause.conditions[0], Expr::Call(Func::IsPid, _)));
-    assert_eq!(rt; clause.body.len(), 3);
-    assert!(rt; matches!(&clause.body[0], Expr::Perform(Action::Message, _)));
-    assert!(rt; matches!(&clause.body[1], Expr::WholeList));
-    assert!(rt; matches!(&clause.body[2], Expr::Constant(_)));
+    check_patterns(&rt, patterns.as_slice(), &PATTERNS);
+    assert_eq!(rt; (clause.conditions.len(), clause.body.len()), (1, 3));
+    check_rows(&rt, clause.conditions.as_slice(), &CONDITIONS);
+    check_rows(&rt, clause.body.as_slice(), &BODY);
     Ok(())
 }
 
+/// Terms, and the answer on each in the dialect Call.
+const TEXTS: [(&str, &str); 56] = [
+    // Shapes.
+    ("[{'_',[],[]}]", "ok"),
+    ("[{[],[],[]}]", "ok"),
+    ("[{'_',[true],[true]},{'$1',[],[]}]", "ok"),
+    ("0", "badarg"),
+    ("-9223372036854775808", "badarg"),
+    ("true", "badarg"),
+    ("'_'", "badarg"),
+    ("<0.100.0>", "badarg"),
+    ("{}", "badarg"),
+    ("{'_',[],[]}", "badarg"),
+    ("[]", "badarg"),
+    ("[0]", "badarg"),
+    ("[a]", "badarg"),
+    ("[<0.100.0>]", "badarg"),
+    ("[{}]", "badarg"),
+    ("[[]]", "badarg"),
+    ("[{a,b,c}]", "badarg"),
+    ("[{'_'}]", "badarg"),
+    ("[{'_',[]}]", "badarg"),
+    ("[{'_',[],[],[]}]", "badarg"),
+    ("[['_',[],[]]]", "badarg"),
+    ("[{'_',a,[]}]", "badarg"),
+    ("[{'_',[],a}]", "badarg"),
+    ("[{'_',{},[]}]", "badarg"),
+    ("[{'_',[],{}}]", "badarg"),
+    ("[{'_',[],[]},0]", "badarg"),
+    ("[{'_',[],[]},[]]", "badarg"),
+    // The first fault: clauses in order; of a clause its shape, the head, the conditions, the body; of an
+    // expression first itself, then its arguments.
+    ("[{'_',[{max}],a}]", "badarg"),
+    ("[{7,[{max}],[]}]", "badarg"),
+    ("[{'_',[{max}],[{no_such}]}]", "max"),
+    ("[{'_',[{no_such}],[{max}]}]", "badarg"),
+    ("[{'_',[{max},{no_such}],[]}]", "max"),
+    ("[{'_',[{no_such},{max}],[]}]", "badarg"),
+    ("[{'_',[],[{trunc},{no_such}]},a]", "trunc"),
+    ("[{'_',[],[]},a,{'_',[{max}],[]}]", "badarg"),
+    ("[{'_',[],[]},{'_',[{max}],[]},a]", "max"),
+    ("[{'_',[{no_such,{max}}],[]}]", "badarg"),
+    ("[{'_',[{is_pid,{max},a}],[]}]", "badarg"),
+    ("[{'_',[{message,{max}}],[]}]", "badarg"),
+    ("[{'_',[{is_pid,{max}}],[]}]", "max"),
+    ("[{'_',[{max,{no_such}}],[]}]", "max"),
+    ("[{'_',[{trace,'$2'}],[]}]", "trace"),
+    ("[{'_',[{element,{max},{min}}],[]}]", "max"),
+    ("[{'_',[{element,'$1',{min}}],[]}]", "badarg"),
+    ("[{'_',[],[[{max},{min}]]}]", "max"),
+    ("[{'_',[],[{{{min},{max}}}]}]", "min"),
+    ("[{'_',[],[{'andalso',{'orelse',{'bsl'}},{'bsr'}}]}]", "bsl"),
+    ("[{'_',[],[{display,1}]}]", "display"),
+    // Variables of heads.
+    ("[{'$3',['$3'],['$3']}]", "ok"),
+    ("[{'$3',[],['$0']}]", "badarg"),
+    ("[{[{a,['$7']}],['$7'],[]}]", "ok"),
+    ("[{['$7',{'$0','$999'}],[],[['$999','$0']]}]", "ok"),
+    ("[{['$7'],[],[]},{['_'],['$7'],[]}]", "badarg"),
+    ("[{[{const,'$7'}],['$7'],[]}]", "ok"),
+    // A variable that no head binds.
+    ("[{'_',[],[{message,'$1'}]}]", "badarg"),
+    // A name that isn't supported.
+    ("[{'_',[{is_record,'$_',a}],[]}]", "is_record"),
+];
+
 #[test]
-fn shapes(rt: HostRuntime) -> Result<(), Fail> {
-    for (text, wanted) in [
-        ("[{'_',[],[]}]", "ok"),
-        ("[{[],[],[]}]", "ok"),
-        ("[{'_',[true],[true]},{'$1',[],[]}]", "ok"),
-        ("0", "badarg"),
-        ("-9223372036854775808", "badarg"),
-        ("true", "badarg"),
-        ("'_'", "badarg"),
-        ("<0.100.0>", "badarg"),
-        ("{}", "badarg"),
-        ("{'_',[],[]}", "badarg"),
-        ("[]", "badarg"),
-        ("[0]", "badarg"),
-        ("[a]", "badarg"),
-        ("[<0.100.0>]", "badarg"),
-        ("[{}]", "badarg"),
-        ("[[]]", "badarg"),
-        ("[{a,b,c}]", "badarg"),
-        ("[{'_'}]", "badarg"),
-        ("[{'_',[]}]", "badarg"),
-        ("[{'_',[],[],[]}]", "badarg"),
-        ("[['_',[],[]]]", "badarg"),
-        ("[{'_',a,[]}]", "badarg"),
-        ("[{'_',[],a}]", "badarg"),
-        ("[{'_',{},[]}]", "badarg"),
-        ("[{'_',[],{}}]", "badarg"),
-        ("[{'_',[],[]},0]", "badarg"),
-        ("[{'_',[],[]},[]]", "badarg"),
-    ] {
+fn texts(rt: HostRuntime) -> Result<(), Fail> {
+    for (text, wanted) in &TEXTS {
         check(&rt, rt.alloc(), text, Dialect::Call, wanted)?;
     }
     Ok(())
 }
 
+/// Heads of a clause, and the answer on each.
+const HEADS: [(&str, &str); 25] = [
+    ("'_'", "ok"),
+    ("'$0'", "ok"),
+    ("'$10'", "ok"),
+    ("'$999'", "ok"),
+    ("[]", "ok"),
+    ("['$0','$999','_',[],{},a,-1,<0.0.0>]", "ok"),
+    ("['$1',{'$1',['$1',{}]}]", "ok"),
+    ("['$_',{'$$'},'$','$a','$1a','$-1']", "ok"),
+    ("[{const,a}]", "ok"),
+    ("'$_'", "badarg"),
+    ("'$$'", "badarg"),
+    ("'$1000'", "badarg"),
+    ("'$01'", "badarg"),
+    ("'$00'", "badarg"),
+    ("'$'", "badarg"),
+    ("a", "badarg"),
+    ("7", "badarg"),
+    ("<0.100.0>", "badarg"),
+    ("{}", "badarg"),
+    ("{'$1'}", "badarg"),
+    ("['$1000']", "badarg"),
+    ("['$99999999999999999999']", "badarg"),
+    ("[a,{'$01'}]", "badarg"),
+    ("[[['$00']]]", "badarg"),
+    ("[{const,'$1000'}]", "badarg"),
+];
+
 #[test]
 fn heads(rt: HostRuntime) -> Result<(), Fail> {
     let alloc = rt.alloc();
-    for (head, wanted) in [
-        ("'_'", "ok"),
-        ("'$0'", "ok"),
-        ("'$10'", "ok"),
-        ("'$999'", "ok"),
-        ("[]", "ok"),
-        ("['$0','$999','_',[],{},a,-1,<0.0.0>]", "ok"),
-        ("['$1',{'$1',['$1',{}]}]", "ok"),
-        ("['$_',{'$$'},'$','$a','$1a','$-1']", "ok"),
-        ("[{const,a}]", "ok"),
-        ("'$_'", "badarg"),
-        ("'$$'", "badarg"),
-        ("'$1000'", "badarg"),
-        ("'$01'", "badarg"),
-        ("'$00'", "badarg"),
-        ("'$'", "badarg"),
-        ("a", "badarg"),
-        ("7", "badarg"),
-        ("<0.100.0>", "badarg"),
-        ("{}", "badarg"),
-        ("{'$1'}", "badarg"),
-        ("['$1000']", "badarg"),
-        ("['$99999999999999999999']", "badarg"),
-        ("[a,{'$01'}]", "badarg"),
-        ("[[['$00']]]", "badarg"),
-        ("[{const,'$1000'}]", "badarg"),
-    ] {
+    for (head, wanted) in &HEADS {
         let text = format!(in alloc; "[{{{head},[],[]}}]")?;
         check(&rt, alloc, text.as_str(), Dialect::Call, wanted)?;
     }
     Ok(())
 }
 
-#[test]
-fn expressions(rt: HostRuntime) -> Result<(), Fail> {
-    for expression in [
-        "'$1'",
-        "'$_'",
-        "'$$'",
-        "0",
-        "a",
-        "'_'",
-        "'$'",
-        "<0.100.0>",
-        "[]",
-        "['$1',[{{}}],a]",
-        "{{}}",
-        "{{'$1',{{a}}}}",
-        "{const,'$1000'}",
-        "{const,{}}",
-        "{const,{max}}",
-    ] {
-        check_expression(&rt, rt.alloc(), expression, "ok")?;
-    }
-    Ok(())
-}
+/// What stands as a condition and in a body, and the answer on each.
+const EXPRESSIONS: [(&str, &str); 34] = [
+    // Expressions.
+    ("'$1'", "ok"),
+    ("'$_'", "ok"),
+    ("'$$'", "ok"),
+    ("0", "ok"),
+    ("a", "ok"),
+    ("'_'", "ok"),
+    ("'$'", "ok"),
+    ("<0.100.0>", "ok"),
+    ("[]", "ok"),
+    ("['$1',[{{}}],a]", "ok"),
+    ("{{}}", "ok"),
+    ("{{'$1',{{a}}}}", "ok"),
+    ("{const,'$1000'}", "ok"),
+    ("{const,{}}", "ok"),
+    ("{const,{max}}", "ok"),
+    // Terms that are none.
+    ("'$2'", "badarg"),
+    ("'$0'", "badarg"),
+    ("'$1000'", "badarg"),
+    ("'$01'", "badarg"),
+    ("{}", "badarg"),
+    ("{0}", "badarg"),
+    ("{<0.100.0>}", "badarg"),
+    ("{[]}", "badarg"),
+    ("{{},0}", "badarg"),
+    ("{{a},{b}}", "badarg"),
+    ("{{{}}}", "badarg"),
+    ("[{}]", "badarg"),
+    ("{{'$2'}}", "badarg"),
+    ("['$2']", "badarg"),
+    ("{const}", "badarg"),
+    ("{const,a,b}", "badarg"),
+    ("{'$1'}", "badarg"),
+    ("{'_'}", "badarg"),
+    ("{no_such,'$1'}", "badarg"),
+];
 
 #[test]
-fn no_expressions(rt: HostRuntime) -> Result<(), Fail> {
-    for term in [
-        "'$2'",
-        "'$0'",
-        "'$1000'",
-        "'$01'",
-        "{}",
-        "{0}",
-        "{<0.100.0>}",
-        "{[]}",
-        "{{},0}",
-        "{{a},{b}}",
-        "{{{}}}",
-        "[{}]",
-        "{{'$2'}}",
-        "['$2']",
-        "{const}",
-        "{const,a,b}",
-        "{'$1'}",
-        "{'_'}",
-        "{no_such,'$1'}",
-    ] {
-        check_expression(&rt, rt.alloc(), term, "badarg")?;
+fn expressions(rt: HostRuntime) -> Result<(), Fail> {
+    for (expression, wanted) in &EXPRESSIONS {
+        check_expression(&rt, rt.alloc(), expression, wanted)?;
     }
     Ok(())
 }
@@ -342,8 +386,17 @@ fn check_function(
 
 #[test]
 fn functions(rt: HostRuntime) -> Result<(), Fail> {
-    for (name, least, most) in FUNCTIONS {
-        check_function(&rt, rt.alloc(), name, least, most)?;
+    for (name, least, most) in &FUNCTIONS {
+        check_function(&rt, rt.alloc(), name, *least, *most)?;
+    }
+    Ok(())
+}
+
+/// The name with no argument, one and four.
+fn check_unsupported(rt: &impl Abort, alloc: Global, name: &str) -> Result<(), Fail> {
+    for count in &[0, 1, 4] {
+        let call = call_of(alloc, name, *count)?;
+        check_expression(rt, alloc, &call, name)?;
     }
     Ok(())
 }
@@ -351,10 +404,8 @@ fn functions(rt: HostRuntime) -> Result<(), Fail> {
 #[test]
 fn unsupported_names(rt: HostRuntime) -> Result<(), Fail> {
     let alloc = rt.alloc();
-    for name in UNSUPPORTED {
-        check_expression(&rt, alloc, call_of(alloc, name, 0)?.as_str(), name)?;
-        check_expression(&rt, alloc, call_of(alloc, name, 1)?.as_str(), name)?;
-        check_expression(&rt, alloc, call_of(alloc, name, 4)?.as_str(), name)?;
+    for name in &UNSUPPORTED {
+        check_unsupported(&rt, alloc, name)?;
     }
     Ok(())
 }
@@ -363,91 +414,22 @@ fn check_action(
     rt: &impl Abort,
     alloc: Global,
     action: &str,
-    allowed: [bool; 3],
+    allowed: &[bool; 3],
 ) -> Result<(), Fail> {
     let condition = in_condition(alloc, action)?;
     let body = in_body(alloc, action)?;
-    for (dialect, is_allowed) in DIALECTS.into_iter().zip(allowed) {
-        let wanted = if is_allowed { "ok" } else { "badarg" };
-        check(rt, alloc, condition.as_str(), dialect, "badarg")?;
-        check(rt, alloc, body.as_str(), dialect, wanted)?;
+    for (place, dialect) in DIALECTS.iter().enumerate() {
+        let wanted = if allowed[place] { "ok" } else { "badarg" };
+        check(rt, alloc, &condition, *dialect, "badarg")?;
+        check(rt, alloc, &body, *dialect, wanted)?;
     }
     Ok(())
 }
 
 #[test]
 fn actions(rt: HostRuntime) -> Result<(), Fail> {
-    for (action, allowed) in ACTIONS {
+    for (action, allowed) in &ACTIONS {
         check_action(&rt, rt.alloc(), action, allowed)?;
     }
     Ok(())
-}
-
-// Clauses in order; of a clause its shape, the head, the conditions, the body; of an expression first
-// itself, then its arguments.
-#[test]
-fn the_first_fault(rt: HostRuntime) -> Result<(), Fail> {
-    for (text, wanted) in [
-        ("[{'_',[{max}],a}]", "badarg"),
-        ("[{7,[{max}],[]}]", "badarg"),
-        ("[{'_',[{max}],[{no_such}]}]", "max"),
-        ("[{'_',[{no_such}],[{max}]}]", "badarg"),
-        ("[{'_',[{max},{no_such}],[]}]", "max"),
-        ("[{'_',[{no_such},{max}],[]}]", "badarg"),
-        ("[{'_',[],[{trunc},{no_such}]},a]", "trunc"),
-        ("[{'_',[],[]},a,{'_',[{max}],[]}]", "badarg"),
-        ("[{'_',[],[]},{'_',[{max}],[]},a]", "max"),
-        ("[{'_',[{no_such,{max}}],[]}]", "badarg"),
-        ("[{'_',[{is_pid,{max},a}],[]}]", "badarg"),
-        ("[{'_',[{message,{max}}],[]}]", "badarg"),
-        ("[{'_',[{is_pid,{max}}],[]}]", "max"),
-        ("[{'_',[{max,{no_such}}],[]}]", "max"),
-        ("[{'_',[{trace,'$2'}],[]}]", "trace"),
-        ("[{'_',[{element,{max},{min}}],[]}]", "max"),
-        ("[{'_',[{element,'$1',{min}}],[]}]", "badarg"),
-        ("[{'_',[],[[{max},{min}]]}]", "max"),
-        ("[{'_',[],[{{{min},{max}}}]}]", "min"),
-        ("[{'_',[],[{'andalso',{'orelse',{'bsl'}},{'bsr'}}]}]", "bsl"),
-        ("[{'_',[],[{display,1}]}]", "display"),
-    ] {
-        check(&rt, rt.alloc(), text, Dialect::Call, wanted)?;
-    }
-    Ok(())
-}
-
-#[test]
-fn variables_of_heads(rt: HostRuntime) -> Result<(), Fail> {
-    for (text, wanted) in [
-        ("[{'$3',['$3'],['$3']}]", "ok"),
-        ("[{'$3',[],['$0']}]", "badarg"),
-        ("[{[{a,['$7']}],['$7'],[]}]", "ok"),
-        ("[{['$7',{'$0','$999'}],[],[['$999','$0']]}]", "ok"),
-        ("[{['$7'],[],[]},{['_'],['$7'],[]}]", "badarg"),
-        ("[{[{const,'$7'}],['$7'],[]}]", "ok"),
-    ] {
-        check(&rt, rt.alloc(), text, Dialect::Call, wanted)?;
-    }
-    Ok(())
-}
-
-#[test]
-fn row_unbound_variable_is_badarg(rt: HostRuntime) -> Result<(), Fail> {
-    check(
-        &rt,
-        rt.alloc(),
-        "[{'_',[],[{message,'$1'}]}]",
-        Dialect::Call,
-        "badarg",
-    )
-}
-
-#[test]
-fn row_unsupported_name(rt: HostRuntime) -> Result<(), Fail> {
-    check(
-        &rt,
-        rt.alloc(),
-        "[{'_',[{is_record,'$_',a}],[]}]",
-        Dialect::Call,
-        "is_record",
-    )
 }

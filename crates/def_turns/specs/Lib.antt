@@ -1,0 +1,4 @@
+pub mod Slots
+pub mod Turns
+pub mod Moments
+pub mod Laws

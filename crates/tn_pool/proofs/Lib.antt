@@ -1,0 +1,4 @@
+pub mod Hands
+pub mod Moves
+pub mod Rows
+pub mod Filling
