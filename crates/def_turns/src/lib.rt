@@ -6,7 +6,8 @@
 #![tactic(auto)]
 
 ghost use Rattle.def_turns.specs.Laws.{EachSlotIsThereOnce, OpeningIsExclusive, StepsKeepTheRule, NoSlotIsLost};
-ghost use Rattle.def_turns.specs.Laws.{EachSlotStaysOnce, NoSlotIsHeldByTwo, PushChangesNoOtherView, StealChangesNoOtherView};
+ghost use Rattle.def_turns.specs.Laws.{EachSlotStaysOnce, NoSlotIsHeldByTwo};
+ghost use Rattle.def_turns.specs.Laws.{PushChangesNoOtherView, StealChangesNoOtherView};
 
 /// All slots are 0 and the 64 pids from 100 on, each once.
 pub fn each_slot_is_there_once()

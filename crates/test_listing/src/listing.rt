@@ -29,7 +29,10 @@ fn a_line_has_its_item_and_its_text(rt: HostRuntime) -> Result<(), Fail> {
         message: term(alloc, "{trace,<0.100.0>,'receive',\"hi\"}")?,
     };
     let line = line_of(alloc, item)?;
-    assert_eq!(rt; line.text(), b"{trace,<0.100.0>,'receive',[104,105]}\n".as_slice());
+    assert_eq!(rt;
+        line.text(),
+        b"{trace,<0.100.0>,'receive',[104,105]}\n".as_slice()
+    );
     assert_eq!(rt; line.item().session, 3);
     assert_eq!(rt; line.item().index, 7);
     Ok(())
@@ -46,7 +49,10 @@ fn a_listing_has_its_header_and_its_lines(rt: HostRuntime) -> Result<(), Fail> {
     let mut out = Vec::new(alloc);
     out.push(b'.')?;
     listing_text(&name, &tracer, &messages, &mut out)?;
-    assert_eq!(rt; out.as_slice(), b".== session s1 tracer 'To whom'\na\n[<0.100.0>,-7]\n".as_slice());
+    assert_eq!(rt;
+        out.as_slice(),
+        b".== session s1 tracer 'To whom'\na\n[<0.100.0>,-7]\n".as_slice()
+    );
     Ok(())
 }
 

@@ -28,7 +28,18 @@ fn picks_are_read_and_written(rt: HostRuntime) -> Result<(), Fail> {
 #[test]
 fn other_texts_are_bad_picks(rt: HostRuntime) -> Result<(), Fail> {
     let alloc = rt.alloc();
-    for text in ["00", "01", "+1", "-1", " 1", "1 ", "1  2", "a", "4294967296", "1\n"] {
+    for text in [
+        "00",
+        "01",
+        "+1",
+        "-1",
+        " 1",
+        "1 ",
+        "1  2",
+        "a",
+        "4294967296",
+        "1\n",
+    ] {
         let read = read_picks(alloc, text.as_bytes());
         assert!(rt; matches!(read, Err(PicksFault::BadPicks)));
     }

@@ -18,6 +18,7 @@ const SCRIPT: &str = "{function,m,go,exported,['To'],[{send,'To',{hi,1}}]}.
 
 /// What the sessions tell of it.
 const SENT: &str = "{trace,<0.100.0>,send,{hi,1},<0.101.0>}\n";
+
 const RECEIVED: &str = "{trace,<0.101.0>,'receive',{hi,1}}\n";
 
 /// The program of the script.
@@ -48,7 +49,10 @@ fn a_transcript_of_picks(rt: HostRuntime) -> Result<(), Fail> {
     check_lines(&rt, &transcript, 0, SENT)?;
     check_lines(&rt, &transcript, 1, RECEIVED)?;
     assert!(rt; transcript.lines(2).is_none());
-    assert_eq!(rt; transcript.replies(), b"{session,s1}\n2\n{session,s2}\n2\n".as_slice());
+    assert_eq!(rt;
+        transcript.replies(),
+        b"{session,s1}\n2\n{session,s2}\n2\n".as_slice()
+    );
     assert_eq!(rt; transcript.journal(), [0, 0, 0, 0, 100, 100].as_slice());
     Ok(())
 }
@@ -69,8 +73,14 @@ fn outputs_are_written_of_them(rt: HostRuntime) -> Result<(), Fail> {
     let alloc = rt.alloc();
     let program = program_of(alloc)?;
     let replayed = replay(alloc, &program, &[100, 0])?;
-    assert_eq!(rt; replayed.as_slice(), b"== session s1 tracer t1\n== session s2 tracer t2\n== replies\n{session,s1}\n== journal\n100 0\n".as_slice());
+    assert_eq!(rt;
+        replayed.as_slice(),
+        b"== session s1 tracer t1\n== session s2 tracer t2\n== replies\n{session,s1}\n== journal\n100 0\n".as_slice()
+    );
     let rounded = round(alloc, &program, 2)?;
-    assert_eq!(rt; rounded.as_slice(), b"== session s1 tracer t1\n== session s2 tracer t2\n== replies\n{session,s1}\n== journal\n0 100\n".as_slice());
+    assert_eq!(rt;
+        rounded.as_slice(),
+        b"== session s1 tracer t1\n== session s2 tracer t2\n== replies\n{session,s1}\n== journal\n0 100\n".as_slice()
+    );
     Ok(())
 }

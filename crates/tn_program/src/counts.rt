@@ -1,5 +1,5 @@
 // How many functions, processes, commands and creations forms hold; u64::MAX stands for any larger number.
-ghost use Rattle.std.specs.Prelude.{◌≡◌, ◌<◌, ℕ, Bool, cond, min, length, map};
+ghost use Rattle.std.specs.Prelude.{◌≡◌, ◌<◌, ℕ, cond, min, length, map};
 ghost use Rattle.std.specs.List.{count_by};
 ghost use Rattle.def_script.specs.Rules.{is_function as is_function_form, is_process as is_process_form};
 ghost use Rattle.def_script.specs.Rules.{is_creation as is_creation_command, commands_of, commands_of_form};

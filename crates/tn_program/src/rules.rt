@@ -3,14 +3,12 @@ ghost use Rattle.std.specs.Prelude.{◌≡◌, IfOk, map, length, nat_le, nat_lt
 ghost use Rattle.std.specs.List.{list_any, count_by};
 ghost use Rattle.std.specs.Option.{option_map};
 ghost use Rattle.def_script.specs.Limits.{FUNCTIONS as function_limit, STEPS as step_limit};
-ghost use Rattle.def_script.specs.Limits.{INITIAL_PROCESSES as process_limit, COMMANDS as command_limit};
-ghost use Rattle.def_script.specs.Limits.{SESSIONS as session_limit};
-ghost use Rattle.def_script.specs.Rules.{is_function, is_process, holds_past as is_past};
+ghost use Rattle.def_script.specs.Limits.{INITIAL_PROCESSES as process_limit};
+ghost use Rattle.def_script.specs.Rules.{is_function, is_process};
 ghost use Rattle.def_script.specs.Rules.{passes, named_by, named_with_module, is_misnamed as is_misnamed_in};
 ghost use Rattle.def_script.specs.Rules.{is_internal as is_internal_in, breaks_duplicate, breaks_undeclared};
 ghost use Rattle.def_script.specs.Rules.{breaks_not_exported, breaks_unbound, breaks_tracer_taken, breaks_arity};
 ghost use Rattle.def_script.specs.Rules.{breaks_limit};
-ghost use Rattle.tn_flags.specs.Views.{command_of};
 ghost use Rattle.tn_script.specs.Views.{step_of, form_of};
 ghost use Rattle.tn_program.specs.Named.{mfa_from};
 ghost use Rattle.tn_program.specs.Naming.{is_unnamed, step_breaks, rule_broken_in};

@@ -1,5 +1,5 @@
 // Reading a whole text, and writing a whole output, each call once.
-ghost use Rattle.std.specs.Prelude.{◌≡◌, ◌≢◌, ℕ, true, length, IfOk, IfErr, OnOk, OnErr, IsErrOf};
+ghost use Rattle.std.specs.Prelude.{◌≡◌, ◌≢◌, ℕ, true, IfOk, IfErr, OnOk, OnErr, IsErrOf};
 ghost use Rattle.std.specs.Io.KnownBytes.{Appends};
 ghost use Rattle.tn_text.specs.Watch.{watched_inner, has_failed, is_flushed};
 ghost use Rattle.tn_run.specs.Ends.{TakesText, WritesFront};

@@ -1,6 +1,6 @@
 // The elements of the message of an event, as terms.
 ghost use Rattle.std.specs.Prelude.{◌≡◌, ◌++◌, [], ◌∷◌, Bool, IfOk};
-ghost use Rattle.def_term.specs.Tree.{pid as pid_tree, tuple, list, of_elements};
+ghost use Rattle.def_term.specs.Tree.{tuple, list, of_elements};
 ghost use Rattle.def_term.specs.Atoms.{IsAtomText};
 ghost use Rattle.def_term.specs.Names.{mfa_term};
 ghost use Rattle.def_node.specs.Event.{sent as send, called as call_event};

@@ -1,20 +1,17 @@
 // What a session makes of an event.
-ghost use Rattle.std.specs.Prelude.{◌≡◌, ℕ, Bool, if◌then◌else◌, List, [], IfOk};
+ghost use Rattle.std.specs.Prelude.{◌≡◌, Bool, if◌then◌else◌, List, [], IfOk};
 ghost use Rattle.std.specs.Option.{option_map};
 ghost use Rattle.def_term.specs.Names as names;
 ghost use Rattle.def_term.specs.Tree.{Tree};
 ghost use Rattle.def_spec.specs.Expressions.{Effect as Asked, silences};
-ghost use Rattle.def_node.specs.Event.{sent, received, called, returned, exited};
-ghost use Rattle.def_session.specs.State as definition;
+ghost use Rattle.def_node.specs.Event.{received, called, returned, exited};
 ghost use Rattle.def_session.specs.Messages as messages;
-ghost use Rattle.def_session.specs.Messages.{elements_of};
 ghost use Rattle.def_session.specs.Session as session;
 ghost use Rattle.def_session.specs.Session.{message_after};
 ghost use Rattle.tn_term.specs.Views.{tree_of};
 ghost use Rattle.tn_flags.specs.Views.{event_of, call_of};
-ghost use Rattle.tn_guard.specs.Views.{value_seen};
 ghost use Rattle.tn_action.specs.Views.{context_seen, effect_seen};
-ghost use Rattle.tn_session.specs.Views.{setting_seen, state_seen};
+ghost use Rattle.tn_session.specs.Views.{state_seen};
 ghost use Rattle.tn_session.specs.Told.{told, told_as_term, telling, telling_live, telling_by, following, finishing};
 ghost use Rattle.tn_session.specs.Told.{asked, given, evaluating, evaluating_by, evaluating_send, on_values};
 ghost use Rattle.tn_session.specs.Told.{message_in, deciding};

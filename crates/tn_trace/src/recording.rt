@@ -16,7 +16,7 @@ pub struct Core<A: Allocator> {
 }
 
 impl<A: Allocator + Copy> Core<A> {
-    ghost use Rattle.std.specs.Prelude.{◌≡◌, List, ℕ, [], IfOk};
+    ghost use Rattle.std.specs.Prelude.{◌≡◌, [], IfOk};
     ghost use Rattle.tn_program.specs.Views.{program_of};
     ghost use Rattle.tn_trace.specs.Cores.{IsCore, IsSpent, StepsOn, DestroyedStay, IsJournal, AreReplies};
     ghost use Rattle.tn_trace.specs.Cores.{IsProgramOf};

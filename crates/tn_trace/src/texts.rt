@@ -6,7 +6,7 @@ ghost use Rattle.def_run.specs.Laws.{repeated};
 ghost use Rattle.tn_program.specs.Views.{program_of};
 ghost use Rattle.tn_trace.specs.Items.{AreLines};
 ghost use Rattle.tn_trace.specs.Runs.{IsRun};
-ghost use Rattle.tn_trace.specs.Follows.{Follows, FollowsMore};
+ghost use Rattle.tn_trace.specs.Follows.{FollowsMore};
 
 use crate::advancing::JOURNAL;
 use crate::engine::Engine;
