@@ -7,3 +7,5 @@
 mod growth;
 #[cfg(test)]
 mod turns;
+#[cfg(test)]
+mod workers;

@@ -6,10 +6,15 @@
 #![tactic(auto)]
 
 mod gate;
+mod report;
 mod rule;
 mod token;
 mod turns;
+mod worker;
+mod workers;
 
 pub use gate::Gate;
+pub use report::{PoolFault, Report};
 pub use token::Token;
 pub use turns::{RunQueue, TurnEnd};
+pub use workers::run_workers;

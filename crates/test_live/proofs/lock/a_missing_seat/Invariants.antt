@@ -1,0 +1,6 @@
+use Rattle.tn_program.specs.Views.{program_of}
+use Rattle.test_live.proofs.lock.a_missing_seat.Given as goal
+
+-- the log that was just opened, and the core's program
+abbrev pub ghosts-closed_twice : goal.ghosts-closed_twice
+ghosts-closed_twice g a = record { log = a.opened; program = program_of a.core.program }

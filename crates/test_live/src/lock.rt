@@ -1,0 +1,211 @@
+// The lock by two seats in turn: what their steps answer, and the journal, the listings and the receipts
+// that it closes with.
+ghost use Rattle.std.specs.Prelude.{◌≡◌, []};
+ghost use Rattle.tn_trace.specs.Cores.{IsCore};
+
+use std::alloc::Global;
+use std::marker::Brand;
+use std::process::Abort;
+use std::sync::Wait;
+use std::test::Fail;
+use tn_live::{Book, CloseFault, Closed, Live, Naming, Opened, Receipt, Seat, Turn};
+use tn_program::{Program, program};
+use tn_script::forms;
+use tn_text::write_term;
+use tn_trace::Core;
+
+/// A process that spawns two others, of which the first is traced.
+const SPAWNS: &str = "{function,m,go,exported,[],[{spawn,'_',{m,kid},[1]},{spawn,'_',{m,kid},[2]}]}.
+{function,m,kid,exported,['X'],[]}.
+{process,m,go,[]}.
+{control,[{session_create,s1,t1,[]},{process,s1,<0.100.0>,true,[procs,set_on_first_spawn]}]}.
+";
+
+/// A process that sends to another.
+const SENDS: &str = "{function,m,go,exported,['To'],[{send,'To',{hi,1}}]}.
+{function,m,rest,exported,[],[{'receive','X'}]}.
+{process,m,go,[<0.101.0>]}.
+{process,m,rest,[]}.
+{control,[{session_create,s1,t1,[]},{process,s1,all,true,[send]}]}.
+";
+
+/// What session 1 is told of the spawns, a message a line.
+const LINES: &str = "{trace,<0.100.0>,spawn,<0.101.0>,{m,kid,[1]}}
+{trace,<0.101.0>,spawned,<0.100.0>,{m,kid,[1]}}
+{trace,<0.100.0>,spawn,<0.102.0>,{m,kid,[2]}}
+{trace,<0.101.0>,exit,normal}
+";
+
+fn program_of(alloc: Global, script: &str) -> Result<Program<Global>, Fail> {
+    let forms = forms(alloc, script.as_bytes())?;
+    Ok(program(alloc, forms)?)
+}
+
+/// The seat takes these picks, each of which moves: the receipts.
+fn take<J: Naming, R: Wait>(
+    rt: &R,
+    live: &Live<Global, J>,
+    seat: &mut Seat<Global, J>,
+    picks: &[u32],
+    receipts: &mut Vec<Receipt<Global>>,
+) -> Result<(), Fail> {
+    for pick in picks {
+        match live.step(rt, seat, *pick)? {
+            Turn::Moved(receipt) => receipts.push(receipt)?,
+            Turn::Idle { front: _ } => return Err(Fail::new("idle")),
+        }
+    }
+    Ok(())
+}
+
+/// The messages of session 1, each with a line feed.
+fn lines<J: Naming>(alloc: Global, closed: &Closed<Global, J>) -> Result<Vec<u8>, Fail> {
+    let mut text = Vec::new(alloc);
+    let Some(messages) = closed.listing(1) else {
+        return Err(Fail::new("no listing"));
+    };
+    for message in messages {
+        write_term(message, &mut text)?;
+        text.push(b'\n')?;
+    }
+    Ok(text)
+}
+
+/// The entries have these picks, the first five by seat 0 and the rest by seat 1.
+fn check_journal<J: Naming>(rt: &impl Abort, closed: &Closed<Global, J>, picks: &[u32]) {
+    let journal = closed.journal();
+    assert_eq!(rt; journal.len(), picks.len());
+    for (at, entry) in journal.iter().enumerate() {
+        assert!(rt; at < picks.len() && entry.pick == picks[at]);
+        assert_eq!(rt; entry.seat, if at < 5 { 0 } else { 1 });
+    }
+}
+
+/// Each receipt is confirmed; the one numbered 6 isn't once it has the number 5.
+fn check_receipts<J: Naming>(
+    rt: &impl Abort,
+    closed: &Closed<Global, J>,
+    mut receipts: Vec<Receipt<Global>>,
+) {
+    assert_eq!(rt; receipts.len(), 9);
+    for receipt in &receipts {
+        assert!(rt; closed.confirm(receipt));
+    }
+    assert_eq!(rt; receipts[6].number, 6);
+    receipts[6].number = 5;
+    assert!(rt; !closed.confirm(&receipts[6]));
+}
+
+/// Two seats take the picks of the spawns in turn.
+fn spawns_by_two<J: Naming, R: Wait + Abort>(
+    rt: &R,
+    alloc: Global,
+    core: Core<Global>,
+    opened: Opened,
+) -> Result<(), Fail>
+    requires core { IsCore J.program [] core }
+    requires named { opened ≡ J.log }
+{
+    let (live, mut seats) = Live::<Global, J>::begin(alloc, core, opened, 2)?;
+    let mut second = seats.pop().ok_or("a seat")?;
+    let mut first = seats.pop().ok_or("a seat")?;
+    let mut receipts = Vec::new(alloc);
+    take(rt, &live, &mut first, &[0, 0, 100, 100, 100], &mut receipts)?;
+    take(rt, &live, &mut second, &[101, 101, 102, 102], &mut receipts)?;
+    let idle = live.step(rt, &mut first, 999)?;
+    assert!(rt; matches!(&idle, Turn::Idle { front: 9 }));
+    assert_eq!(rt; (first.made(), second.made()), (5, 4));
+    assert_eq!(rt; (first.last(), second.last()), (Some(4), Some(8)));
+    seats.push(first)?;
+    seats.push(second)?;
+    let Ok(closed) = live.close(rt, seats) else {
+        return Err(Fail::new("it closes"));
+    };
+    check_journal(rt, &closed, &[0, 0, 100, 100, 100, 101, 101, 102, 102]);
+    assert_eq!(rt; lines(alloc, &closed)?.as_slice(), LINES.as_bytes());
+    assert_eq!(rt; closed.replies().len(), 2);
+    assert!(rt; closed.listing(0).is_none() && closed.listing(2).is_none());
+    assert!(rt; closed.program().same(&program_of(alloc, SPAWNS)?));
+    check_receipts(rt, &closed, receipts);
+    Ok(())
+}
+
+#[test]
+fn two_seats_in_turn(rt: HostRuntime) -> Result<(), Fail> {
+    let alloc = rt.alloc();
+    let core = Core::new(alloc, program_of(alloc, SPAWNS)?)?;
+    spawns_by_two::<Brand, _>(&rt, alloc, core, Opened::new())
+}
+
+/// A close without seat 1 hands all back, and a second one with both seats succeeds.
+fn closed_twice<J: Naming, R: Wait + Abort>(
+    rt: &R,
+    alloc: Global,
+    core: Core<Global>,
+    opened: Opened,
+) -> Result<(), Fail>
+    requires core { IsCore J.program [] core }
+    requires named { opened ≡ J.log }
+{
+    let (live, mut seats) = Live::<Global, J>::begin(alloc, core, opened, 2)?;
+    let mut second = seats.pop().ok_or("a seat")?;
+    let moved = live.step(rt, &mut second, 0)?;
+    assert!(rt; matches!(&moved, Turn::Moved(_)));
+    let Err(fault) = live.close(rt, seats) else {
+        return Err(Fail::new("a seat is missing"));
+    };
+    let CloseFault::MissingSeat {
+        missing,
+        live,
+        mut seats,
+    } = fault
+    else {
+        return Err(Fail::new("spent"));
+    };
+    assert_eq!(rt; (missing, seats.len()), (1, 1));
+    seats.push(second)?;
+    let Ok(closed) = live.close(rt, seats) else {
+        return Err(Fail::new("it closes"));
+    };
+    assert_eq!(rt; closed.journal().len(), 1);
+    Ok(())
+}
+
+#[test]
+fn a_missing_seat(rt: HostRuntime) -> Result<(), Fail> {
+    let alloc = rt.alloc();
+    let core = Core::new(alloc, program_of(alloc, SPAWNS)?)?;
+    closed_twice::<Brand, _>(&rt, alloc, core, Opened::new())
+}
+
+/// A seat fits the book with its own program and with no other; and again once the other seat has moved.
+fn seats_that_fit<J: Naming, R: Abort>(
+    rt: &R,
+    alloc: Global,
+    core: Core<Global>,
+    opened: Opened,
+) -> Result<(), Fail>
+    requires core { IsCore J.program [] core }
+    requires named { opened ≡ J.log }
+{
+    let spawns = program_of(alloc, SPAWNS)?;
+    let sends = program_of(alloc, SENDS)?;
+    let (mut book, mut seats) = Book::<Global, J>::begin(alloc, core, opened, 2)?;
+    let second = seats.pop().ok_or("a seat")?;
+    let mut first = seats.pop().ok_or("a seat")?;
+    if !book.fits(&spawns, &first) {
+        return Err(Fail::new("it fits"));
+    }
+    assert!(rt; !book.fits(&sends, &first));
+    let moved = book.step(&mut first, 0)?;
+    assert!(rt; matches!(&moved, Turn::Moved(_)));
+    assert!(rt; book.fits(&spawns, &first) && book.fits(&spawns, &second));
+    Ok(())
+}
+
+#[test]
+fn which_seats_fit(rt: HostRuntime) -> Result<(), Fail> {
+    let alloc = rt.alloc();
+    let core = Core::new(alloc, program_of(alloc, SPAWNS)?)?;
+    seats_that_fit::<Brand, _>(&rt, alloc, core, Opened::new())
+}

@@ -1,0 +1,81 @@
+// Where messages stand in the listings, and receipts held against them.
+ghost use Rattle.std.specs.Prelude.{◌≡◌, IfOk, map, Some, slice_get};
+ghost use Rattle.tn_trace.specs.Items.{item_seen};
+ghost use Rattle.tn_live.specs.Places.{place_of, told_at, AreTold, TellsWhether, IsMessageAt};
+ghost use Rattle.std.specs.Option.{option_map};
+ghost use Rattle.tn_term.specs.Views.{tree_of};
+
+use crate::entry::Place;
+use std::alloc::{AllocError, Allocator};
+use tn_term::Term;
+use tn_trace::{Core, Item};
+
+/// Where the messages of an answer stand.
+pub(crate) fn find_places<A: Allocator + Copy>(
+    alloc: A,
+    items: &[Item<A>],
+) -> Result<Vec<Place, A>, AllocError>
+    ensures { IfOk result (λ v. v.items ≡ map place_of (map item_seen items.now)) }
+{
+    let mut places = Vec::with_capacity(alloc, items.len())?;
+    for item in items {
+        places.push(Place {
+            session: item.session,
+            index: item.index,
+        })?;
+    }
+    Ok(places)
+}
+
+/// The message with this place in a listing, from 0.
+fn nth_message<A: Allocator>(messages: &[Term<A>], index: u64) -> Option<&Term<A>>
+    ensures { option_map (λ t. tree_of t.now) result ≡ slice_get (map tree_of messages.now) index }
+{
+    match messages.get(index as usize) {
+        Some(message) => Some(message),
+        None => None,
+    }
+}
+
+/// The message at this place of the core's listings, if any.
+fn find_message<A: Allocator + Copy>(core: &Core<A>, place: Place) -> Option<&Term<A>>
+    ensures { IsMessageAt core.now place result }
+{
+    match core.listing(place.session) {
+        Ok(Some(messages)) => nth_message(messages, place.index),
+        Ok(None) => None,
+        Err(_) => None,
+    }
+}
+
+/// Whether the item is the message at this place of the core's listings.
+fn is_told<A: Allocator + Copy>(core: &Core<A>, place: Place, item: &Item<A>) -> bool
+    ensures { TellsWhether core.now result (λ p picks. told_at p picks place ≡ Some (item_seen item.now)) }
+{
+    if place.session != item.session || place.index != item.index {
+        return false;
+    }
+    match find_message(core, place) {
+        Some(message) => message.same(&item.message),
+        None => false,
+    }
+}
+
+/// Whether the items are the messages at these places, in order.
+pub(crate) fn are_told<A: Allocator + Copy>(
+    core: &Core<A>,
+    places: &[Place],
+    items: &[Item<A>],
+) -> bool
+    ensures { TellsWhether core.now result (λ p picks. AreTold p picks places.now items.now) }
+{
+    if places.len() != items.len() {
+        return false;
+    }
+    for at in 0..places.len() {
+        if !is_told(core, places[at], &items[at]) {
+            return false;
+        }
+    }
+    true
+}

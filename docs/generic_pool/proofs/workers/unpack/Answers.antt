@@ -1,0 +1,24 @@
+use Rattle.std.proofs.Common.{arith, ap}
+use Rattle.tn_pool.specs.Reports.{count_of}
+use Rattle.tn_pool.proofs.Reported.{seats_on, receipts_on, seats_all, receipts_all}
+use Rattle.tn_pool.proofs.workers.unpack.Goals as goal
+
+pub loop-worker-preserved : goal.loop-worker-preserved
+loop-worker-preserved g c =
+    let i = c.loop-worker.invariant in
+    let st = c.in-Some.ensures.steps in
+    let a = c.add_worker.ensures in (
+      tt,
+      tt,
+      seats_on _ _ _ _ _ _ i.2 st.0 a.seats,
+      receipts_on _ _ _ _ _ _ i.3 st.0 a.receipts,
+      omega (arith, i.4, st.1, a.seats_room.0, a.seats_room.1),
+      omega (arith, i.5, ap count_of st.0, a.receipts_room.0, a.receipts_room.1),
+      omega (arith, i.6, st.1, a.tokens_room.0, a.tokens_room.1),
+    )
+
+pub returns-clause-seats : goal.returns-clause-seats
+returns-clause-seats g c = seats_all _ _ _ c.in-None.ensures.steps.1 c.loop-worker.invariant.2
+
+pub returns-clause-receipts : goal.returns-clause-receipts
+returns-clause-receipts g c = receipts_all _ _ _ c.in-None.ensures.steps.1 c.loop-worker.invariant.3
