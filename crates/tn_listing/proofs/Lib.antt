@@ -1,4 +1,4 @@
 mod LinesLemmas
 mod PiecesLemmas
 mod WrittenLemmas
-mod OutputLemmas
+pub mod OutputLemmas

@@ -50,7 +50,7 @@ headed_lines : (before header told lines headed after : List ℕ) → headed ≡
 headed_lines before header told lines headed after head added own =
     added ∙ ap (λ l. l ++ lines) head ∙ append_assoc before header lines ∙ ap (λ l. before ++ (header ++ l)) own
 
-listed_as : (ms : Name → List Tree) (ss : List (Name × Name)) (i : ℕ) (s : Name × Name) → Some s ≡ slice_get ss i → header_line s.0 s.1 ++ lines_of (ms s.0) ≡ listings_text ms (option_to_list (slice_get ss i))
+pub listed_as : (ms : Name → List Tree) (ss : List (Name × Name)) (i : ℕ) (s : Name × Name) → Some s ≡ slice_get ss i → header_line s.0 s.1 ++ lines_of (ms s.0) ≡ listings_text ms (option_to_list (slice_get ss i))
 listed_as ms ss i s named =
     sym (append-nil (header_line s.0 s.1 ++ lines_of (ms s.0))) ∙ ap (λ q. listings_text ms (option_to_list q)) named
 

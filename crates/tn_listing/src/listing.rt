@@ -5,6 +5,7 @@ ghost use Rattle.tn_term.specs.Views.{tree_of};
 ghost use Rattle.tn_text.specs.Writes.{Grows};
 ghost use Rattle.tn_listing.specs.Listings.{listing_of};
 
+use crate::undo::or_as_it_was;
 use std::alloc::{AllocError, Allocator};
 use tn_term::{Atom, Term};
 use tn_text::{write_atom, write_term};
@@ -53,6 +54,23 @@ fn put_lines<A: Allocator, B: Allocator>(
     Ok(())
 }
 
+/// Appends the text of each term, each with a line feed.
+///
+/// # Errors
+///
+/// AllocError where memory was refused: the vector is as it was.
+pub fn lines_text<A: Allocator, B: Allocator>(
+    terms: &[Term<A>],
+    out: &mut Vec<u8, B>,
+) -> Result<(), AllocError>
+    ensures ok { OnOk result (out.new.items ≡ out.old.items ++ definition.lines_of (map tree_of terms.now)) }
+    ensures err { OnErr result (out.new.items ≡ out.old.items) }
+{
+    let len = out.len();
+    let done = put_lines(terms, out);
+    or_as_it_was(out, len, done)
+}
+
 /// Appends the header of a session and its messages; after an `Err` a part of them may stand there.
 fn put_listing<A: Allocator, B: Allocator>(
     name: &Atom<A>,
@@ -83,8 +101,5 @@ pub fn listing_text<A: Allocator, B: Allocator>(
 {
     let len = out.len();
     let done = put_listing(name, tracer, messages, out);
-    if done.is_err() {
-        out.truncate(len);
-    }
-    done
+    or_as_it_was(out, len, done)
 }

@@ -5,6 +5,7 @@ ghost use Rattle.tn_listing.specs.Pieces.{pieces};
 ghost use Rattle.def_run.specs.Picks.{SpellsPicks, picks_text};
 ghost use Rattle.tn_text.specs.Writes.{Grows};
 
+use crate::undo::or_as_it_was;
 use itoa::Buffer;
 use std::alloc::{AllocError, Allocator};
 use std::str::from_utf8;
@@ -110,8 +111,5 @@ pub fn write_picks<A: Allocator>(picks: &[u32], out: &mut Vec<u8, A>) -> Result<
 {
     let len = out.len();
     let done = put_picks(picks, out);
-    if done.is_err() {
-        out.truncate(len);
-    }
-    done
+    or_as_it_was(out, len, done)
 }

@@ -21,4 +21,4 @@ pub use closed::Closed;
 pub use entry::{Entry, Receipt, Turn};
 pub use front::{Naming, Opened};
 pub use live::{CloseFault, Live};
-pub use seat::Seat;
+pub use seat::{Seat, total_made};
