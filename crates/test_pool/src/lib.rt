@@ -1,9 +1,14 @@
-//! Tests of turns: tokens taken and given by one end and by three, and memory that is refused.
+//! Tests of turns and workers: tokens taken and given by one end and by three, memory that is refused, one
+//! worker's receipts, and runs by workers, replayed.
 //!
-//! Stands on tn_pool and test_allocator.
+//! Stands on tn_pool, tn_run and test_allocator.
 #![tactic(auto)]
 
 #[cfg(test)]
 mod growth;
 #[cfg(test)]
+mod runs;
+#[cfg(test)]
 mod turns;
+#[cfg(test)]
+mod workers;

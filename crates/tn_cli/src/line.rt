@@ -31,6 +31,28 @@ fn round<'a>(alloc: Global) -> Result<Command<'a>, AllocError> {
         .arg(limit)
 }
 
+/// The subcommand `workers --n N [--turns T]`.
+fn workers<'a>(alloc: Global) -> Result<Command<'a>, AllocError> {
+    let count = Arg::new(alloc, "n")
+        .long("n")
+        .value_name("N")
+        .help("How many workers there are, from 1 to 16")
+        .required(true)
+        .value_parser(value_parser!(u32).range(1..=16))
+        .action(ArgAction::Set);
+    let turns = Arg::new(alloc, "turns")
+        .long("turns")
+        .value_name("T")
+        .help("How many turns each worker takes at most, from 1 to 65536")
+        .value_parser(value_parser!(u32).range(1..=65536))
+        .default_value("1000")
+        .action(ArgAction::Set);
+    Command::new(alloc, "workers")
+        .about("Runs the script by workers in threads, and then until nothing moves")
+        .arg(count)?
+        .arg(turns)
+}
+
 /// The command with its subcommands.
 pub fn command<'a>(alloc: Global) -> Result<Command<'a>, AllocError> {
     Command::new(alloc, "tracenode")
@@ -38,5 +60,6 @@ pub fn command<'a>(alloc: Global) -> Result<Command<'a>, AllocError> {
         .about("Runs a node of scripted processes, read from standard input, under trace sessions")
         .subcommand_required(true)
         .subcommand(replay(alloc)?)?
-        .subcommand(round(alloc)?)
+        .subcommand(round(alloc)?)?
+        .subcommand(workers(alloc)?)
 }

@@ -5,23 +5,28 @@
 //! fault, with one line on standard error.
 #![tactic(auto)]
 
-ghost use Rattle.std.specs.Prelude.{◌≡◌, ◌⊎◌, true, IfErr};
+ghost use Rattle.std.specs.Prelude.{◌≡◌, ◌⊎◌, ◌≤◌, ◌<◌, true, IfErr};
 ghost use Rattle.std.specs.Process.{exit_status};
 ghost use Rattle.tn_text.specs.Watch.{watched_inner, has_failed};
 ghost use Rattle.tn_run.specs.Out.{asked};
-ghost use Rattle.tn_cli.specs.Status.{status_of, IsStatus, IsFailure, IsWrittenAs, FAULT_STATUS};
+ghost use Rattle.tn_run.specs.Workers.{IsWorkerCount};
+ghost use Rattle.tn_cli.specs.Status.{status_of, IsStatus, IsFailure, IsWrittenAs, IsWrittenByWorkers, FAULT_STATUS};
 
 mod line;
 
 use clap::ArgMatches;
 use clap::error::ErrorKind;
 use line::command;
-use std::alloc::Allocator;
+use std::alloc::{Allocator, Global};
+use std::fmt::Display;
 use std::io::{Read, Write};
 use std::process::ExitCode;
 use std::rt::Env;
+use std::sync::Wait;
+use std::thread::Threads;
 use std::{env, io};
-use tn_run::{Outcome, RunFault, Schedule, run, write_output};
+use tn_pool::{Gate, Open};
+use tn_run::{Outcome, RunFault, Schedule, Workers, run, run_live, write_output};
 use tn_text::Watched;
 
 /// The status of a refusal.
@@ -31,7 +36,7 @@ const REFUSED: u8 = 2;
 const FAULT: u8 = 3;
 
 /// The exit status of a run, after a fault's line on standard error.
-fn report(rt: &impl Eprint, answer: Result<Outcome, RunFault>) -> ExitCode
+fn report<F: Display + Drop>(rt: &impl Eprint, answer: Result<Outcome, F>) -> ExitCode
     ensures { exit_status result ≡ status_of answer }
 {
     match answer {
@@ -63,11 +68,54 @@ fn perform_over<A: Allocator + Copy, R: Read, W: Write>(
     report(rt, answer)
 }
 
+/// Runs the script that a reader holds by workers, and says how it went: what the writer gained is what
+/// the status says.
+fn perform_workers_over<T: Threads + Wait + Sync + Eprint, R: Read, W: Write, G: Gate>(
+    rt: &T,
+    alloc: Global,
+    reader: &mut Watched<R>,
+    writer: &mut Watched<W>,
+    workers: &Workers<'_, G>,
+) -> ExitCode
+    requires count { IsWorkerCount workers.now.count }
+    ensures written { IsWrittenByWorkers (exit_status result) (R.remaining (watched_inner reader.old))
+        (W.contents (watched_inner writer.old)) (W.contents (watched_inner writer.new)) }
+    ensures failed { exit_status result ≡ FAULT_STATUS →
+        (writer.new ≡ writer.old) ⊎ (has_failed writer.new ≡ true) }
+    ensures status { IsStatus (exit_status result) }
+{
+    match run_live(rt, alloc, reader, writer, workers) {
+        Ok(ran) => report::<RunFault>(rt, Ok(ran.outcome)),
+        Err(fault) => report(rt, Err(fault)),
+    }
+}
+
+/// Runs the subcommand `workers` over standard input and standard output.
+fn perform_workers<R: Input + Print + Eprint + AllocGlobal + Threads + Wait + Sync>(
+    rt: &R,
+    matches: &ArgMatches<'_>,
+) -> ExitCode
+    ensures { IsStatus (exit_status result) }
+{
+    let workers = Workers {
+        count: matches.get_one::<u32>("n").unwrap_or(1).max(1).min(16),
+        turns: matches.get_one::<u32>("turns").unwrap_or(0),
+        gate: &Open,
+    };
+    let mut reader = Watched::of(rt.reader());
+    let mut writer = Watched::of(io::writer(rt));
+    perform_workers_over(rt, rt.alloc(), &mut reader, &mut writer, &workers)
+}
+
 /// Runs the subcommand over standard input and standard output.
-fn perform<R: Input + Print + Eprint + AllocGlobal>(rt: &R, matches: &ArgMatches<'_>) -> ExitCode
+fn perform<R: Input + Print + Eprint + AllocGlobal + Threads + Wait + Sync>(
+    rt: &R,
+    matches: &ArgMatches<'_>,
+) -> ExitCode
     ensures { IsStatus (exit_status result) }
 {
     let schedule = match matches.subcommand() {
+        Some(("workers", workers)) => return perform_workers(rt, workers),
         Some(("round", round)) => Schedule::Round(round.get_one::<u32>("limit").unwrap_or(0)),
         Some((_, replay)) => Schedule::Picks(replay.get_str("picks").unwrap_or("").as_bytes()),
         None => Schedule::Picks(b""),
@@ -96,7 +144,10 @@ fn explain<R: Print + Eprint + AllocGlobal>(rt: &R, error: &clap::Error) -> Exit
 }
 
 /// Reads the command line, and does what it says.
-fn program<R: Env + Input + Print + Eprint + AllocGlobal>(rt: &R, words: &[String]) -> ExitCode
+fn program<R: Env + Input + Print + Eprint + AllocGlobal + Threads + Wait + Sync>(
+    rt: &R,
+    words: &[String],
+) -> ExitCode
     ensures { IsStatus (exit_status result) }
 {
     let Ok(command) = command(rt.alloc()) else {
@@ -132,7 +183,7 @@ fn words<R: Env + Eprint + AllocGlobal>(rt: &R) -> Result<Vec<String>, ExitCode>
 }
 
 /// Runs the program, whose status it answers.
-fn start<R: Env + Input + Print + Eprint + AllocGlobal>(rt: &R) -> ExitCode
+fn start<R: Env + Input + Print + Eprint + AllocGlobal + Threads + Wait + Sync>(rt: &R) -> ExitCode
     ensures { IsStatus (exit_status result) }
 {
     match words(rt) {

@@ -2,3 +2,6 @@ pub mod Hands
 pub mod Moves
 pub mod Rows
 pub mod Filling
+pub mod Earned
+pub mod Reported
+mod Crossings

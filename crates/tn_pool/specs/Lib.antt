@@ -1,3 +1,5 @@
 pub mod Hands
 pub mod Rows
 pub mod Queues
+pub mod Earnings
+pub mod Reports

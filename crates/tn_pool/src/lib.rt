@@ -1,15 +1,22 @@
-//! Turns for workers: a run queue that holds one token for each slot, and ends that take and give them.
+//! Workers and their turns: a run queue that holds one token for each slot, ends that take and give them,
+//! and workers that step a core under its lock, each in a thread of its own.
 //!
-//! Stands on turns. Promises that the queue is kept under the rule that no slot stands twice in it and in
-//! what the ends hold; that an end takes a token from the queue's front, or finds the queue empty; and that
-//! it gives one up at the back, or the same token comes back.
+//! Stands on def_turns, and on tn_live for the lock, the seats and the receipts. Promises that the queue is
+//! kept under the rule that no slot stands twice in it and in what the ends hold; that an end takes a token
+//! from the queue's front, or finds the queue empty; that it gives one up at the back, or the same token
+//! comes back; and that all seats come back from the workers, with one receipt for each entry that they made.
 #![tactic(auto)]
 
 mod gate;
+mod report;
 mod rule;
 mod token;
 mod turns;
+mod worker;
+mod workers;
 
-pub use gate::Gate;
+pub use gate::{Gate, Open};
+pub use report::{PoolFault, Report};
 pub use token::Token;
 pub use turns::{RunQueue, TurnEnd};
+pub use workers::run_workers;

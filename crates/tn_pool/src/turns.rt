@@ -1,11 +1,10 @@
 // The run queue and its ends.
-ghost use Rattle.std.specs.Prelude.{◌≡◌, ◌<◌, [], ◌∷◌, false, true, IfOk};
-ghost use Rattle.std.specs.Prelude.{IfSome, IfNone, IfErr, OnOk, vec_len, All, replicate};
+ghost use Rattle.std.specs.Prelude.{◌≡◌, ◌<◌, [], ◌∷◌, false, true, IfOk, IfSome, IfNone, IfErr, OnOk, vec_len, All, replicate};
 ghost use Rattle.crossbeam_deque.specs.Injected.{injector_view, IsInjectorPassOf};
 ghost use Rattle.def_turns.specs.Slots.{is_slot, all_slots};
 ghost use Rattle.def_turns.specs.Turns.{times};
 ghost use Rattle.def_turns.specs.Moments.{TakesTurn, FindsNoTurn, GivesTurn, KeepsTurn};
-ghost use Rattle.tn_pool.specs.Hands.{GivesUp};
+ghost use Rattle.tn_pool.specs.Hands.{GivesUp, Gains};
 ghost use Rattle.tn_pool.specs.Rows.{place_of};
 ghost use Rattle.tn_pool.specs.Queues.{IsRunQueue, HoldsAlone};
 

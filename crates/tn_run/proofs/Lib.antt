@@ -4,3 +4,5 @@ mod RunLemmas
 mod LineLemmas
 mod RuleLemmas
 mod Defined
+mod RestLemmas
+mod ClosingLemmas

@@ -8,7 +8,7 @@ use Rattle.def_run.specs.Output.{refusal_text}
 use Rattle.std.specs.Prelude.{MatchResult, Result, Ok}
 use Rattle.std.specs.declared.vec.Vec.{Vec}
 use Rattle.tn_run.specs.Scripts.{refusal_of}
-use Rattle.tn_run.specs.Out.{Asked, by_picks, by_round, HasPicks, IsRefusedSo, IsRunOf}
+use Rattle.tn_run.specs.Out.{Asked, by_picks, by_round, by_workers, HasPicks, IsRefusedSo, IsRunOf}
 use Rattle.tn_run.specs.Plans.{IsPlanOf}
 use Rattle.tn_run.specs.declared.plan.Plan.{Plan}
 use Rattle.tn_run.specs.declared.plan.Plan.TheVariants.{Picks, Round}
@@ -70,6 +70,7 @@ has_picks (by_picks text) (Picks picks) h = (picks.now, h)
 has_picks (by_picks text) (Round limit) h = absurd h
 has_picks (by_round limit) (Picks picks) h = absurd h
 has_picks (by_round limit) (Round n) h = tt
+has_picks (by_workers made) plan h = absurd h
 
 -- the outcome and the line of a refusal are those of a run
 pub refused_run : {A : Type 0} (bytes : List ℕ) (plan : Plan) (refusal : code.Refusal) (result : Result (Outcome × Vec ℕ A) RunFault) → IsRefused bytes (refusal_of refusal)

@@ -7,16 +7,18 @@ use Rattle.def_run.specs.Listing.{program_output}
 use Rattle.def_run.specs.Picks.{SpellsPicks}
 use Rattle.def_run.specs.Round.{round}
 use Rattle.def_run.specs.Output.{HasBadPicks, refusal_text}
+use Rattle.tn_run.specs.Settled.{IsAtRest}
 use Rattle.tn_run.specs.declared.outcome.Outcome.{Outcome}
 use Rattle.tn_run.specs.declared.outcome.Outcome.TheVariants.{Listed, Refused}
 use Rattle.tn_run.specs.declared.outcome.Schedule.{Schedule}
 use Rattle.tn_run.specs.declared.outcome.Schedule.TheVariants.{Picks, Round}
 use Rattle.tn_run.specs.Scripts.{refusal_of}
 
--- what a run is asked: the picks of a text, or those of a round with a limit
+-- what a run is asked: the picks of a text, those of a round with a limit, or those that workers made
 pub data Asked : Type 0 where
   by_picks : List ℕ → Asked
   by_round : ℕ → Asked
+  by_workers : List ℕ → Asked
 
 abbrev pub asked : Schedule → Asked
 asked (Picks text) = by_picks text.now
@@ -26,16 +28,19 @@ asked (Round limit) = by_round limit
 abbrev pub ArePicks : Asked → Program → List ℕ → Type 0
 ArePicks (by_picks text) p picks = SpellsPicks text picks
 ArePicks (by_round limit) p picks = picks ≡ round p limit
+ArePicks (by_workers made) p picks = (picks ≡ made) × IsAtRest p made
 
--- the text of picks spells some; a round always has picks
+-- the text of picks spells some; a round always has picks, and so have workers
 abbrev pub HasPicks : Asked → Type 0
 HasPicks (by_picks text) = (picks : List ℕ) × SpellsPicks text picks
 HasPicks (by_round limit) = Unit {0}
+HasPicks (by_workers made) = Unit {0}
 
 -- the text of picks spells none
 abbrev pub HasNoPicks : Asked → Type 0
 HasNoPicks (by_picks text) = HasBadPicks text
 HasNoPicks (by_round limit) = ⊥
+HasNoPicks (by_workers made) = ⊥
 
 -- the output of an accepted script, for the picks that are asked
 pub record IsListed (bytes : List ℕ) (a : Asked) (output : List ℕ) : Type 0 where

@@ -5,7 +5,7 @@ use Rattle.def_script.specs.Program.{Program}
 use Rattle.def_run.specs.Picks.{SpellsPicks}
 use Rattle.def_run.specs.Round.{round}
 use Rattle.tn_run.specs.Ends.{TakesText, WritesFront}
-use Rattle.tn_run.specs.Out.{Asked, by_picks, by_round, HasPicks, IsRunOf}
+use Rattle.tn_run.specs.Out.{Asked, by_picks, by_round, by_workers, HasPicks, IsRunOf}
 use Rattle.tn_run.specs.declared.outcome.Outcome.{Outcome}
 use Rattle.tn_run.specs.declared.plan.Plan.{Plan}
 use Rattle.tn_run.specs.declared.plan.Plan.TheVariants.{Picks, Round}
@@ -16,6 +16,7 @@ IsPlanOf (by_picks text) (Picks picks) = SpellsPicks text picks.now
 IsPlanOf (by_picks text) (Round limit) = ⊥
 IsPlanOf (by_round limit) (Picks picks) = ⊥
 IsPlanOf (by_round limit) (Round n) = n ≡ limit
+IsPlanOf (by_workers made) plan = ⊥
 
 -- the picks of a plan
 abbrev pub planned : Program → Plan → List ℕ

@@ -22,7 +22,10 @@ use tn_program::Program;
 use tn_text::{MAX_TEXT, Watched};
 
 /// The outcome and the line of a refusal.
-fn refused<A: Allocator>(alloc: A, refusal: Refusal) -> Result<(Outcome, Vec<u8, A>), RunFault>
+pub(crate) fn refused<A: Allocator>(
+    alloc: A,
+    refusal: Refusal,
+) -> Result<(Outcome, Vec<u8, A>), RunFault>
     ensures { MatchResult result
         (λ r. (r.0 ≡ Outcome.Refused refusal) × (r.1.items ≡ refusal_text (refusal_of refusal)))
         (λ e. e ≡ RunFault.OutOfMemory) }

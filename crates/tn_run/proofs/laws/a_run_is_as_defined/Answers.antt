@@ -1,5 +1,5 @@
-use Rattle.tn_run.proofs.Defined.{run_is_as_defined, round_is_as_defined}
+use Rattle.tn_run.proofs.Defined.{run_is_as_defined, round_is_as_defined, workers_run_as_defined}
 use Rattle.tn_run.proofs.laws.a_run_is_as_defined.Goals as goal
 
 pub returns : goal.returns
-returns c = record { picks = run_is_as_defined; round = round_is_as_defined }
+returns c = record { picks = run_is_as_defined; round = round_is_as_defined; workers = workers_run_as_defined }

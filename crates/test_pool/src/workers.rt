@@ -1,0 +1,76 @@
+// One worker over the script of two senders and a receiver: its receipts, and the journal that closes.
+ghost use Rattle.std.specs.Prelude.{◌≡◌, []};
+ghost use Rattle.tn_trace.specs.Cores.{IsCore};
+
+use std::alloc::Global;
+use std::marker::{Brand, Send, Sync};
+use std::process::Abort;
+use std::sync::Wait;
+use std::test::Fail;
+use std::thread::Threads;
+use tn_live::{Live, Naming, Opened};
+use tn_pool::{Open, Report, run_workers};
+use tn_program::{Program, program};
+use tn_script::forms;
+use tn_trace::Core;
+
+/// Two processes that each send a number to a third, which takes both.
+pub const SENDERS: &str = "{function,m,go,exported,['N'],[{send,<0.102.0>,'N'}]}.
+{function,m,sink,exported,[],[{'receive','_'},{'receive','_'}]}.
+{process,m,go,[1]}.
+{process,m,go,[2]}.
+{process,m,sink,[]}.
+{control,[{session_create,s1,t1,[]},{process,s1,<0.102.0>,true,['receive']}]}.
+";
+
+/// The program of the senders' script.
+fn senders(alloc: Global) -> Result<Program<Global>, Fail> {
+    let forms = forms(alloc, SENDERS.as_bytes())?;
+    Ok(program(alloc, forms)?)
+}
+
+/// The journal closes with the receipts that the workers made, each of which it confirms.
+fn check_closed<J: Naming, R: Abort + Wait>(
+    rt: &R,
+    live: Live<Global, J>,
+    report: Report<Global, J>,
+) -> Result<(), Fail> {
+    assert!(rt; report.fault.is_none(), "a fault");
+    assert_eq!(rt; report.tokens.len(), 0);
+    let Report {
+        seats,
+        receipts,
+        ..
+    } = report;
+    let Ok(closed) = live.close(rt, seats) else {
+        return Err("not closed".into());
+    };
+    assert_eq!(rt; closed.journal().len(), receipts.len());
+    for receipt in &receipts {
+        assert!(rt; closed.confirm(receipt));
+    }
+    Ok(())
+}
+
+/// One worker takes each turn that moves: 12 receipts, no token and no fault.
+fn lone_worker<J: Naming + Send + Sync, R: Threads + Abort + Wait + Sync>(
+    rt: &R,
+    alloc: Global,
+    core: Core<Global>,
+    opened: Opened,
+) -> Result<(), Fail>
+    requires core { IsCore J.program [] core }
+    requires named { opened ≡ J.log }
+{
+    let (live, seats) = Live::<Global, J>::begin(alloc, core, opened, 1)?;
+    let report = run_workers(rt, alloc, &live, seats, &Open, 1000);
+    assert_eq!(rt; (report.seats.len(), report.receipts.len()), (1, 12));
+    check_closed(rt, live, report)
+}
+
+#[test]
+fn one_worker(rt: HostRuntime) -> Result<(), Fail> {
+    let alloc = rt.alloc();
+    let core = Core::new(alloc, senders(alloc)?)?;
+    lone_worker::<Brand, _>(&rt, alloc, core, Opened::new())
+}

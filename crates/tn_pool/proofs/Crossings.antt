@@ -1,0 +1,259 @@
+-- What workers share, a core under its lock, says the same to every thread: type by type, from terms up.
+use denote.RattleType.{RattleType}
+use denote.Param.Send.{IsSend, IsSync, Frees, sendable}
+use Rattle.std.specs.declared.alloc.Allocator.{Ghosts}
+use Rattle.std.proofs.CrossingOver.{crosses}
+use Rattle.tn_term.proofs.term.Term.TheLaws.TheKnot as term_knot
+use Rattle.tn_spec.proofs.expr.Expr.TheLaws.TheKnot as expr_knot
+use Rattle.tn_spec.proofs.pattern.Pattern.TheLaws.TheKnot as pattern_knot
+use Rattle.tn_term.specs.contracts.atom.Atom as atom
+use Rattle.tn_term.specs.contracts.mfa.Mfa as mfa
+use Rattle.tn_term.specs.contracts.term.Term as term
+use Rattle.tn_script.specs.contracts.form.Arguments as arguments
+use Rattle.tn_script.specs.contracts.form.Step as step
+use Rattle.tn_script.specs.contracts.form.Function as function
+use Rattle.tn_script.specs.contracts.form.Entry as entry
+use Rattle.tn_flags.specs.contracts.command.Command as command
+use Rattle.tn_program.specs.contracts.parts.Program as program
+use Rattle.tn_process.specs.contracts.values.Binding as binding
+use Rattle.tn_process.specs.contracts.values.Env as env
+use Rattle.tn_process.specs.contracts.process.Frame as frame
+use Rattle.tn_process.specs.contracts.process.Process as process
+use Rattle.tn_node.specs.contracts.world.World as world
+use Rattle.tn_node.specs.contracts.node.State as node_state
+use Rattle.tn_node.specs.contracts.node.Node as node
+use Rattle.tn_spec.specs.contracts.expr.Expr as expr
+use Rattle.tn_spec.specs.contracts.pattern.Pattern as pattern
+use Rattle.tn_spec.specs.contracts.pattern.Head as head
+use Rattle.tn_spec.specs.contracts.spec.Clause as clause
+use Rattle.tn_spec.specs.contracts.spec.Spec as spec
+use Rattle.tn_session.specs.contracts.setting.Setting as setting
+use Rattle.tn_session.specs.contracts.setting.Covered as covered
+use Rattle.tn_session.specs.contracts.setting.Covering as covering
+use Rattle.tn_session.specs.contracts.setting.Settings as settings
+use Rattle.tn_session.specs.contracts.state.State as state
+use Rattle.tn_session.specs.contracts.session.Session as session
+use Rattle.tn_trace.specs.contracts.keeping.Terms as terms
+use Rattle.tn_trace.specs.contracts.recording.Core as core
+use Rattle.tn_trace.specs.contracts.slot.Slot as slot
+use Rattle.tn_trace.specs.contracts.engine.Engine as engine
+use Rattle.std.proofs.Crossing as heap
+use Rattle.tn_term.proofs.alive.Alive.TheSendSync as alive_sent
+use Rattle.tn_flags.proofs.flags.Flags.TheSendSync as flags_sent
+use Rattle.tn_session.proofs.state.Phase.TheSendSync as phase_sent
+use Rattle.tn_live.proofs.front.Head.TheSendSync as head_sent
+use Rattle.tn_live.proofs.front.Front.TheSendSync as front_sent
+use Rattle.tn_live.proofs.entry.Place.TheSendSync as place_sent
+use Rattle.tn_live.proofs.entry.Entry.TheSendSync as entry_sent
+use Rattle.tn_live.specs.declared.front.Naming as naming
+use Rattle.tn_spec.proofs.func.Func.TheSendSync as func_sent
+use Rattle.tn_spec.proofs.func.Action.TheSendSync as action_sent
+use Rattle.tn_live.specs.contracts.record.Record as record_
+use Rattle.tn_live.specs.contracts.book.Book as book
+use Rattle.tn_live.specs.contracts.live.Live as live
+
+module _ (T : RattleType) (g : Ghosts T.Denot) (s : IsSend T) (f : Frees g g.dealloc_token) where
+  atom_send : IsSend (atom.the_row T g)
+  atom_send = search (sendable, crosses) depth 40 fits 3000 parts 0
+
+  atom_field_send : IsSend (atom.the_field T g).row
+  atom_field_send = search (sendable, crosses, atom_send) depth 40 fits 3000 parts 0
+
+  mfa_send : IsSend (mfa.the_row T g)
+  mfa_send = search (sendable, crosses, atom_send, atom_field_send) depth 40 fits 3000 parts 0
+
+  mfa_field_send : IsSend (mfa.the_field T g).row
+  mfa_field_send = search (sendable, crosses, atom_send, atom_field_send, mfa_send) depth 40 fits 3000 parts 0
+
+  term_send : IsSend (term.the_row T g)
+  term_send = search (sendable, crosses, atom_send, atom_field_send, term_knot.send-Term) depth 40 fits 3000 parts 0
+
+  term_field_send : IsSend (term.the_field T g).row
+  term_field_send = search (sendable, crosses, atom_send, atom_field_send, term_knot.send-Term, term_send) depth 40 fits 3000 parts 0
+
+  arguments_send : IsSend (arguments.the_row T g)
+  arguments_send = search (sendable, crosses, term_send, term_field_send) depth 40 fits 3000 parts 0
+
+  arguments_field_send : IsSend (arguments.the_field T g).row
+  arguments_field_send = search (sendable, crosses, term_send, term_field_send, arguments_send) depth 40 fits 3000 parts 0
+
+  step_send : IsSend (step.the_row T g)
+  step_send = search (sendable, crosses, atom_send, atom_field_send, term_send, term_field_send, arguments_send, arguments_field_send) depth 40 fits 3000 parts 0
+
+  step_field_send : IsSend (step.the_field T g).row
+  step_field_send = search (sendable, crosses, atom_send, atom_field_send, term_send, term_field_send, arguments_send, arguments_field_send, step_send) depth 40 fits 3000 parts 0
+
+  function_send : IsSend (function.the_row T g)
+  function_send = search (sendable, crosses, atom_send, atom_field_send, step_send, step_field_send) depth 40 fits 3000 parts 0
+
+  function_field_send : IsSend (function.the_field T g).row
+  function_field_send = search (sendable, crosses, atom_send, atom_field_send, step_send, step_field_send, function_send) depth 40 fits 3000 parts 0
+
+  entry_send : IsSend (entry.the_row T g)
+  entry_send = search (sendable, crosses, atom_send, atom_field_send, arguments_send, arguments_field_send) depth 40 fits 3000 parts 0
+
+  entry_field_send : IsSend (entry.the_field T g).row
+  entry_field_send = search (sendable, crosses, atom_send, atom_field_send, arguments_send, arguments_field_send, entry_send) depth 40 fits 3000 parts 0
+
+  command_send : IsSend (command.the_row T g)
+  command_send = search (sendable, crosses, atom_send, atom_field_send, term_send, term_field_send) depth 40 fits 3000 parts 0
+
+  command_field_send : IsSend (command.the_field T g).row
+  command_field_send = search (sendable, crosses, atom_send, atom_field_send, term_send, term_field_send, command_send) depth 40 fits 3000 parts 0
+
+  program_send : IsSend (program.the_row T g)
+  program_send = search (sendable, crosses, function_send, function_field_send, entry_send, entry_field_send, command_send, command_field_send) depth 40 fits 3000 parts 0
+
+  program_field_send : IsSend (program.the_field T g).row
+  program_field_send = search (sendable, crosses, function_send, function_field_send, entry_send, entry_field_send, command_send, command_field_send, program_send) depth 40 fits 3000 parts 0
+
+  binding_send : IsSend (binding.the_row T g)
+  binding_send = search (sendable, crosses, atom_send, atom_field_send, term_send, term_field_send) depth 40 fits 3000 parts 0
+
+  binding_field_send : IsSend (binding.the_field T g).row
+  binding_field_send = search (sendable, crosses, atom_send, atom_field_send, term_send, term_field_send, binding_send) depth 40 fits 3000 parts 0
+
+  env_send : IsSend (env.the_row T g)
+  env_send = search (sendable, crosses, binding_send, binding_field_send) depth 40 fits 3000 parts 0
+
+  env_field_send : IsSend (env.the_field T g).row
+  env_field_send = search (sendable, crosses, binding_send, binding_field_send, env_send) depth 40 fits 3000 parts 0
+
+  frame_send : IsSend (frame.the_row T g)
+  frame_send = search (sendable, crosses, env_send, env_field_send, atom_send, atom_field_send) depth 40 fits 3000 parts 0
+
+  frame_field_send : IsSend (frame.the_field T g).row
+  frame_field_send = search (sendable, crosses, env_send, env_field_send, atom_send, atom_field_send, frame_send) depth 40 fits 3000 parts 0
+
+  process_send : IsSend (process.the_row T g)
+  process_send = search (sendable, crosses, entry_send, entry_field_send, frame_send, frame_field_send, term_send, term_field_send) depth 40 fits 3000 parts 0
+
+  process_field_send : IsSend (process.the_field T g).row
+  process_field_send = search (sendable, crosses, entry_send, entry_field_send, frame_send, frame_field_send, term_send, term_field_send, process_send) depth 40 fits 3000 parts 0
+
+  world_send : IsSend (world.the_row T g)
+  world_send = search (sendable, crosses, process_send, process_field_send) depth 40 fits 3000 parts 0
+
+  world_field_send : IsSend (world.the_field T g).row
+  world_field_send = search (sendable, crosses, process_send, process_field_send, world_send) depth 40 fits 3000 parts 0
+
+  node_state_send : IsSend (node_state.the_row T g)
+  node_state_send = search (sendable, crosses, function_send, function_field_send, world_send, world_field_send) depth 40 fits 3000 parts 0
+
+  node_state_field_send : IsSend (node_state.the_field T g).row
+  node_state_field_send = search (sendable, crosses, function_send, function_field_send, world_send, world_field_send, node_state_send) depth 40 fits 3000 parts 0
+
+  node_send : IsSend (node.the_row T g)
+  node_send = search (sendable, crosses, node_state_send, node_state_field_send) depth 40 fits 3000 parts 0
+
+  node_field_send : IsSend (node.the_field T g).row
+  node_field_send = search (sendable, crosses, node_state_send, node_state_field_send, node_send) depth 40 fits 3000 parts 0
+
+  expr_send : IsSend (expr.the_row T g)
+  expr_send = search (sendable, crosses, term_send, term_field_send, expr_knot.send-Expr, func_sent.the_send, func_sent.the_field_send, action_sent.the_send, action_sent.the_field_send) depth 40 fits 3000 parts 0
+
+  expr_field_send : IsSend (expr.the_field T g).row
+  expr_field_send = search (sendable, crosses, term_send, term_field_send, expr_knot.send-Expr, func_sent.the_send, func_sent.the_field_send, action_sent.the_send, action_sent.the_field_send, expr_send) depth 40 fits 3000 parts 0
+
+  pattern_send : IsSend (pattern.the_row T g)
+  pattern_send = search (sendable, crosses, term_send, term_field_send, atom_send, atom_field_send, pattern_knot.send-Pattern) depth 40 fits 3000 parts 0
+
+  pattern_field_send : IsSend (pattern.the_field T g).row
+  pattern_field_send = search (sendable, crosses, term_send, term_field_send, atom_send, atom_field_send, pattern_knot.send-Pattern, pattern_send) depth 40 fits 3000 parts 0
+
+  head_send : IsSend (head.the_row T g)
+  head_send = search (sendable, crosses, pattern_send, pattern_field_send) depth 40 fits 3000 parts 0
+
+  head_field_send : IsSend (head.the_field T g).row
+  head_field_send = search (sendable, crosses, pattern_send, pattern_field_send, head_send) depth 40 fits 3000 parts 0
+
+  clause_send : IsSend (clause.the_row T g)
+  clause_send = search (sendable, crosses, head_send, head_field_send, expr_send, expr_field_send) depth 40 fits 3000 parts 0
+
+  clause_field_send : IsSend (clause.the_field T g).row
+  clause_field_send = search (sendable, crosses, head_send, head_field_send, expr_send, expr_field_send, clause_send) depth 40 fits 3000 parts 0
+
+  spec_send : IsSend (spec.the_row T g)
+  spec_send = search (sendable, crosses, clause_send, clause_field_send) depth 40 fits 3000 parts 0
+
+  spec_field_send : IsSend (spec.the_field T g).row
+  spec_field_send = search (sendable, crosses, clause_send, clause_field_send, spec_send) depth 40 fits 3000 parts 0
+
+  setting_send : IsSend (setting.the_row T g)
+  setting_send = search (sendable, crosses, spec_send, spec_field_send) depth 40 fits 3000 parts 0
+
+  setting_field_send : IsSend (setting.the_field T g).row
+  setting_field_send = search (sendable, crosses, spec_send, spec_field_send, setting_send) depth 40 fits 3000 parts 0
+
+  covered_send : IsSend (covered.the_row T g)
+  covered_send = search (sendable, crosses, atom_send, atom_field_send, mfa_send, mfa_field_send) depth 40 fits 3000 parts 0
+
+  covered_field_send : IsSend (covered.the_field T g).row
+  covered_field_send = search (sendable, crosses, atom_send, atom_field_send, mfa_send, mfa_field_send, covered_send) depth 40 fits 3000 parts 0
+
+  covering_send : IsSend (covering.the_row T g)
+  covering_send = search (sendable, crosses, covered_send, covered_field_send, setting_send, setting_field_send) depth 40 fits 3000 parts 0
+
+  covering_field_send : IsSend (covering.the_field T g).row
+  covering_field_send = search (sendable, crosses, covered_send, covered_field_send, setting_send, setting_field_send, covering_send) depth 40 fits 3000 parts 0
+
+  settings_send : IsSend (settings.the_row T g)
+  settings_send = search (sendable, crosses, covering_send, covering_field_send) depth 40 fits 3000 parts 0
+
+  settings_field_send : IsSend (settings.the_field T g).row
+  settings_field_send = search (sendable, crosses, covering_send, covering_field_send, settings_send) depth 40 fits 3000 parts 0
+
+  state_send : IsSend (state.the_row T g)
+  state_send = search (sendable, crosses, mfa_send, mfa_field_send, settings_send, settings_field_send, setting_send, setting_field_send, alive_sent.the_send, alive_sent.the_field_send, flags_sent.the_send, flags_sent.the_field_send, phase_sent.the_send, phase_sent.the_field_send) depth 40 fits 3000 parts 0
+
+  state_field_send : IsSend (state.the_field T g).row
+  state_field_send = search (sendable, crosses, mfa_send, mfa_field_send, settings_send, settings_field_send, setting_send, setting_field_send, alive_sent.the_send, alive_sent.the_field_send, flags_sent.the_send, flags_sent.the_field_send, phase_sent.the_send, phase_sent.the_field_send, state_send) depth 40 fits 3000 parts 0
+
+  session_send : IsSend (session.the_row T g)
+  session_send = search (sendable, crosses, state_send, state_field_send) depth 40 fits 3000 parts 0
+
+  session_field_send : IsSend (session.the_field T g).row
+  session_field_send = search (sendable, crosses, state_send, state_field_send, session_send) depth 40 fits 3000 parts 0
+
+  terms_send : IsSend (terms.the_row T g)
+  terms_send = search (sendable, crosses, term_send, term_field_send) depth 40 fits 3000 parts 0
+
+  terms_field_send : IsSend (terms.the_field T g).row
+  terms_field_send = search (sendable, crosses, term_send, term_field_send, terms_send) depth 40 fits 3000 parts 0
+
+  slot_send : (K : RattleType) → IsSend K → IsSend (slot.the_row T K g)
+  slot_send K k = search (sendable, crosses, atom_send, atom_field_send, session_send, session_field_send) depth 40 fits 3000 parts 0
+
+  slot_field_send : (K : RattleType) → IsSend K → IsSend (slot.the_field T K g).row
+  slot_field_send K k = search (sendable, crosses, atom_send, atom_field_send, session_send, session_field_send, slot_send) depth 40 fits 3000 parts 0
+
+  engine_send : (K : RattleType) → IsSend K → IsSend (engine.the_row T K g)
+  engine_send K k = search (sendable, crosses, node_send, node_field_send, slot_send, slot_field_send, alive_sent.the_send, alive_sent.the_field_send) depth 40 fits 3000 parts 0
+
+  engine_field_send : (K : RattleType) → IsSend K → IsSend (engine.the_field T K g).row
+  engine_field_send K k = search (sendable, crosses, node_send, node_field_send, slot_send, slot_field_send, alive_sent.the_send, alive_sent.the_field_send, engine_send) depth 40 fits 3000 parts 0
+
+  pub core_send : IsSend (core.the_row T g)
+  core_send = search (sendable, crosses, program_send, program_field_send, engine_send, engine_field_send, terms_send, terms_field_send) depth 40 fits 3000 parts 0
+
+  pub core_field_send : IsSend (core.the_field T g).row
+  core_field_send = search (sendable, crosses, program_send, program_field_send, engine_send, engine_field_send, terms_send, terms_field_send, core_send) depth 40 fits 3000 parts 0
+
+  module _ (J : RattleType) (n : naming.Ghosts J.Denot) (js : IsSend J) where
+    record_send : IsSend (record_.the_row T J g n)
+    record_send = search (sendable, crosses, core_send, core_field_send, head_sent.the_send, front_sent.the_send, place_sent.the_send, place_sent.the_field_send, entry_sent.the_send, entry_sent.the_field_send) depth 40 fits 3000 parts 0
+
+    record_field_send : IsSend (record_.the_field T J g n).row
+    record_field_send = search (sendable, crosses, core_send, core_field_send, head_sent.the_send, front_sent.the_send, place_sent.the_send, place_sent.the_field_send, entry_sent.the_send, entry_sent.the_field_send, record_send) depth 40 fits 3000 parts 0
+
+    book_send : IsSend (book.the_row T J g n)
+    book_send = search (sendable, crosses, record_send, record_field_send) depth 40 fits 3000 parts 0
+
+    book_field_send : IsSend (book.the_field T J g n).row
+    book_field_send = search (sendable, crosses, record_send, record_field_send, book_send) depth 40 fits 3000 parts 0
+
+    pub live_sync : IsSync (live.the_row T J g n)
+    live_sync = search (sendable, crosses, heap.crosses, book_send, book_field_send) depth 40 fits 3000 parts 0
+
+    pub live_field_sync : IsSync (live.the_field T J g n).row
+    live_field_sync = search (sendable, crosses, heap.crosses, book_send, book_field_send, live_sync) depth 40 fits 3000 parts 0

@@ -1,0 +1,16 @@
+use Rattle.std.proofs.Common.{rules, arith, ◌≡◌, length, vec_len, ap, ◌*◌, ◌≤◌, subst}
+use Rattle.tn_pool.proofs.Reported.{run_reports, run_count}
+use Rattle.tn_pool.proofs.workers.run_workers.Goals as goal
+
+pub unpack-requires-clause-room : goal.unpack-requires-clause-room
+unpack-requires-clause-room g c =
+    let n : c.pack.new.members.len ≡ length c.pack.new.members.items = search rules in
+    let k : c.pack.new.members.len ≡ c.len-count.result = search rules in
+    let few = run_count _ _ _ _ _ _ c.pack.ensures.new c.as_mut_slice.ensures.value c.run_all.ensures.length c.run_all.ensures.each n in
+    let room = c.in-Ok-empty_report.ensures.room in
+    record { seats = omega (arith, room.seats, k); receipts = omega (arith, room.receipts, few, ap (λ y. y * c.args.turns) k); tokens = omega (arith, room.tokens, k) }
+
+pub returns : goal.returns
+returns g c =
+    let n : c.pack.new.members.len ≡ length c.pack.new.members.items = search rules in
+    run_reports _ _ _ _ _ _ _ _ _ c.pack.ensures.seats c.pack.ensures.new c.as_mut_slice.ensures.value c.run_all.ensures.length c.run_all.ensures.each n c.unpack.ensures.seats c.unpack.ensures.receipts

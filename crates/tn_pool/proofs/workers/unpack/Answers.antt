@@ -1,0 +1,29 @@
+use Rattle.std.proofs.Common.{rules, arith, ap, ◌≡◌, []}
+use Rattle.std.specs.Vec.Iter.{into_iter_items}
+use Rattle.tn_pool.specs.Reports.{count_of}
+use Rattle.tn_pool.proofs.Reported.{seats_on, receipts_on, seats_all, receipts_all, nothing_left}
+use Rattle.tn_pool.proofs.workers.unpack.Goals as goal
+
+pub loop-worker-preserved : goal.loop-worker-preserved
+loop-worker-preserved g c =
+    let i = c.loop-worker.invariant in
+    let st = c.in-Some.ensures.steps in
+    let a = c.add_worker.ensures in (
+      tt,
+      tt,
+      seats_on _ _ _ _ _ _ i.2 st.0 a.seats,
+      receipts_on _ _ _ _ _ _ i.3 st.0 a.receipts,
+      omega (arith, i.4, st.1, a.seats_room.0, a.seats_room.1),
+      omega (arith, i.5, ap count_of st.0, a.receipts_room.0, a.receipts_room.1),
+      omega (arith, i.6, st.1, a.tokens_room.0, a.tokens_room.1),
+    )
+
+pub returns-clause-seats : goal.returns-clause-seats
+returns-clause-seats g c =
+    let e : into_iter_items c.loop-worker.worker-iterator ≡ [] = nothing_left _ (omega (arith, c.loop-worker.worker-iterator.rest.ok.0, c.in-None.ensures.steps.0)) in
+    seats_all _ _ _ e c.loop-worker.invariant.2
+
+pub returns-clause-receipts : goal.returns-clause-receipts
+returns-clause-receipts g c =
+    let e : into_iter_items c.loop-worker.worker-iterator ≡ [] = nothing_left _ (omega (arith, c.loop-worker.worker-iterator.rest.ok.0, c.in-None.ensures.steps.0)) in
+    receipts_all _ _ _ e c.loop-worker.invariant.3

@@ -1,0 +1,67 @@
+-- What many workers do, and what is reported of it.
+-- Stands on what one worker earns.
+use Rattle.std.specs.Prelude.{◌≡◌, ◌+◌, ◌≤◌, ◌<◌, ℕ, List, [], ◌∷◌, ◌++◌, length, map, slice_index_or, vec_len, vec_capacity, All}
+use Rattle.def_script.specs.Program.{Program}
+use Rattle.tn_live.specs.declared.entry.Receipt.{Receipt}
+use Rattle.tn_live.specs.States.{SeatState}
+use Rattle.tn_pool.specs.declared.worker.Worker.{Worker}
+use Rattle.tn_pool.specs.declared.report.Report.{Report}
+use Rattle.tn_pool.specs.Earnings.{Works, WorksFew}
+
+-- a worker with its end of the run queue, which is seen as a view
+abbrev pub Member : Type 0 → Type 0 → Type 0
+Member A J = List ℕ × Worker A J
+
+abbrev pub seats_of : {A J : Type 0} → List (Member A J) → List SeatState
+seats_of members = map (λ m. m.1.seat) members
+
+-- all receipts, by the order of the workers
+abbrev pub receipts_of : {A J : Type 0} → List (Member A J) → List (Receipt A)
+receipts_of [] = []
+receipts_of (m ∷ ms) = m.1.receipts.items ++ receipts_of ms
+
+-- how many receipts there are
+abbrev pub count_of : {A J : Type 0} → List (Member A J) → ℕ
+count_of [] = 0
+count_of (m ∷ ms) = vec_len m.1.receipts + count_of ms
+
+-- a worker that has no receipt yet
+abbrev pub IsNew : {A J : Type 0} → Member A J → Type 0
+IsNew m = (m.1.receipts.items ≡ []) × (vec_len m.1.receipts ≡ 0)
+
+abbrev pub AreNew : {A J : Type 0} → List (Member A J) → Type 0
+AreNew members = All IsNew members
+
+-- the worker at this place has worked
+abbrev pub WorksAt : {A J : Type 0} → Program → ℕ → List (Member A J) → List (Member A J) → ℕ → Member A J → Type 0
+WorksAt p most old new i d = WorksFew p most (slice_index_or old i d).1 (slice_index_or new i d).1
+
+-- each worker has worked
+abbrev pub EachWorks : {A J : Type 0} → Program → ℕ → List (Member A J) → List (Member A J) → Type 0
+EachWorks {A} {J} p most old new = (i : ℕ) (d : Member A J) → i < length old → WorksAt p most old new i d
+
+-- the report has no seat and no receipt yet
+pub record IsEmptyReport {A J : Type 0} (r : Report A J) : Type 0 where
+  pub seats : r.seats.items ≡ []
+  pub receipts : r.receipts.items ≡ []
+
+-- it has room for so many more seats and tokens, and so many more receipts
+pub record HasRoom {A J : Type 0} (workers earned : ℕ) (r : Report A J) : Type 0 where
+  pub seats : vec_len r.seats + workers ≤ vec_capacity r.seats
+  pub receipts : vec_len r.receipts + earned ≤ vec_capacity r.receipts
+  pub tokens : vec_len r.tokens + workers ≤ vec_capacity r.tokens
+
+-- the report has the worker's seat and receipts too, in the room that there was
+pub record Adds {A J : Type 0} (w : Worker A J) (old new : Report A J) : Type 0 where
+  pub seats : new.seats.items ≡ old.seats.items ++ w.seat ∷ []
+  pub receipts : new.receipts.items ≡ old.receipts.items ++ w.receipts.items
+  pub seats_room : (vec_len new.seats ≡ vec_len old.seats + 1) × (vec_capacity new.seats ≡ vec_capacity old.seats)
+  pub receipts_room : (vec_len new.receipts ≡ vec_len old.receipts + vec_len w.receipts) × (vec_capacity old.receipts ≤ vec_capacity new.receipts)
+  pub tokens_room : (vec_len new.tokens ≤ vec_len old.tokens + 1) × (vec_capacity new.tokens ≡ vec_capacity old.tokens)
+
+-- all seats come back in their order, and the receipts are those that each seat has earned, in the same order
+abbrev pub Reports : {A : Type 0} → Program → List SeatState → List SeatState → List (Receipt A) → Type 0
+Reports p [] back receipts = (back ≡ []) × (receipts ≡ [])
+Reports {A} p (s ∷ seats) back receipts =
+    (t : SeatState) × (more : List SeatState) × (earned : List (Receipt A)) × (rest : List (Receipt A)) × (back ≡ t ∷ more) × (receipts ≡ earned ++ rest)
+    × Works p s t earned × Reports p seats more rest

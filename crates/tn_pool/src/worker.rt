@@ -1,0 +1,124 @@
+// One worker, and the turns that it takes.
+ghost use Rattle.std.specs.Prelude.{◌≡◌, ◌+◌, ◌<◌, ◌≤◌, [], vec_len, vec_capacity};
+ghost use Rattle.tn_pool.specs.Earnings.{Works, WorksOn, StaysSo};
+
+use crate::gate::Gate;
+use crate::report::PoolFault;
+use crate::token::Token;
+use crate::turns::TurnEnd;
+use std::alloc::Allocator;
+use std::sync::Wait;
+use tn_live::{Live, Naming, Receipt, Seat, Turn};
+use tn_trace::StepFault;
+
+/// A worker: its number, its seat, and what came of its turns.
+#[derive(Drop)]
+pub struct Worker<A: Allocator, J: Naming> {
+    pub number: u32,
+    pub seat: Seat<A, J>,
+    pub receipts: Vec<Receipt<A>, A>,
+    pub kept: Option<Token>,
+    pub fault: Option<PoolFault>,
+}
+
+/// A worker that has taken no turn.
+pub fn new_worker<A: Allocator, J: Naming>(alloc: A, number: u32, seat: Seat<A, J>) -> Worker<A, J>
+    ensures seat { result.seat ≡ seat }
+    ensures receipts { (result.receipts.items ≡ []) × (vec_len result.receipts ≡ 0) }
+{
+    Worker {
+        number,
+        seat,
+        receipts: Vec::new(alloc),
+        kept: None,
+        fault: None,
+    }
+}
+
+/// Takes the step of a pick, for which there is room. Whether the worker goes on.
+fn step<A: Allocator + Copy, J: Naming, R: Wait>(
+    rt: &R,
+    live: &Live<A, J>,
+    worker: &mut Worker<A, J>,
+    pick: u32,
+) -> bool
+    requires room { vec_len worker.old.receipts < vec_capacity worker.old.receipts }
+    ensures works { WorksOn J.program worker.old worker.new }
+    ensures few { vec_len worker.new.receipts ≤ vec_len worker.old.receipts + 1 }
+{
+    match live.step(rt, &mut worker.seat, pick) {
+        Ok(Turn::Moved(receipt)) => {
+            worker.receipts.push_reserved(receipt);
+            true
+        }
+        Ok(Turn::Idle { front: _ }) => true,
+        Err(StepFault::LimitReached) => false,
+        Err(fault) => {
+            worker.fault = Some(PoolFault::Step(fault));
+            false
+        }
+    }
+}
+
+/// Gives the token of a turn back, or keeps it for the report. Whether it was given.
+fn give_back<A: Allocator, J: Naming, R: Wait>(
+    rt: &R,
+    end: &mut TurnEnd<'_, A>,
+    worker: &mut Worker<A, J>,
+    token: Token,
+) -> bool
+    ensures { StaysSo worker.old worker.new }
+{
+    let Err(token) = end.give_turn(rt, token) else {
+        return true;
+    };
+    worker.kept = Some(token);
+    if worker.fault.is_none() {
+        worker.fault = Some(PoolFault::Memory);
+    }
+    false
+}
+
+/// Takes a turn, if there is a token. Whether the worker goes on.
+fn turn<A: Allocator + Copy, J: Naming, R: Wait, G: Gate>(
+    rt: &R,
+    live: &Live<A, J>,
+    gate: &G,
+    end: &mut TurnEnd<'_, A>,
+    worker: &mut Worker<A, J>,
+) -> bool
+    ensures works { WorksOn J.program worker.old worker.new }
+    ensures few { vec_len worker.new.receipts ≤ vec_len worker.old.receipts + 1 }
+{
+    if worker.receipts.reserve(1).is_err() {
+        worker.fault = Some(PoolFault::Memory);
+        return false;
+    }
+    let Some(token) = end.take_turn(rt) else {
+        return true;
+    };
+    gate.before_turn(worker.number);
+    let goes_on = step(rt, live, worker, token.pick());
+    gate.after_turn(worker.number);
+    let is_given = give_back(rt, end, worker, token);
+    goes_on && is_given
+}
+
+/// Takes at most so many turns.
+pub fn work<A: Allocator + Copy, J: Naming, R: Wait, G: Gate>(
+    rt: &R,
+    live: &Live<A, J>,
+    gate: &G,
+    turns: u32,
+    end: &mut TurnEnd<'_, A>,
+    worker: &mut Worker<A, J>,
+)
+    ensures works { WorksOn J.program worker.old worker.new }
+    ensures few { vec_len worker.new.receipts ≤ vec_len worker.old.receipts + turns }
+{
+    for _ in 0..turns {
+        if !turn(rt, live, gate, end, worker) {
+            break;
+        }
+    }
+}

@@ -1,0 +1,176 @@
+// Workers, each in a thread of its own where one can be made.
+ghost use Rattle.std.specs.Prelude.{◌≡◌, ◌≤◌, ◌<◌, ◌*◌, ℕ, [], IfOk, length, vec_len, vec_capacity};
+ghost use Rattle.tn_pool.specs.Earnings.{WorksFew};
+ghost use Rattle.tn_pool.specs.Reports.{WorksAt, AreNew, IsEmptyReport, HasRoom, Adds, Reports, seats_of, receipts_of, count_of};
+
+use crate::gate::Gate;
+use crate::report::{PoolFault, Report};
+use crate::turns::{RunQueue, TurnEnd};
+use crate::worker::{Worker, new_worker, work};
+use std::alloc::{AllocError, Allocator, Global};
+use std::marker::{Send, Sync};
+use std::sync::Wait;
+use std::thread;
+use std::thread::Threads;
+use tn_live::{Live, Naming, Seat};
+
+/// Each worker takes its turns.
+fn run_all<J: Naming + Send + Sync, R: Threads + Wait + Sync, G: Gate>(
+    rt: &R,
+    live: &Live<Global, J>,
+    gate: &G,
+    turns: u32,
+    members: &mut [(TurnEnd<'_, Global>, Worker<Global, J>)],
+)
+    ensures length { length members.new ≡ length members.old }
+    ensures each { (i : ℕ) (d : _) → i < length members.old → WorksAt J.program turns members.old members.new i d }
+{
+    let threads = members.len();
+    if threads == 0 {
+        return;
+    }
+    thread::for_each_mut(
+        rt,
+        members,
+        threads,
+        &|_i: usize, member: &mut (TurnEnd<'_, Global>, Worker<Global, J>)|
+            ensures { WorksFew J.program turns member.entry.now.1 member.exit.now.1 }
+        { work(rt, live, gate, turns, &mut member.0, &mut member.1) },
+    );
+}
+
+/// Gives each seat an end, and a number from 0.
+fn pack<'a, A: Allocator + Copy, J: Naming>(
+    alloc: A,
+    seats: Vec<Seat<A, J>, A>,
+    mut ends: Vec<TurnEnd<'a, A>, A>,
+    members: &mut Vec<(TurnEnd<'a, A>, Worker<A, J>), A>,
+)
+    requires ends { vec_len seats ≤ vec_len ends }
+    requires room { vec_len seats ≤ vec_capacity members.old }
+    requires empty { (members.old.items ≡ []) × (vec_len members.old ≡ 0) }
+    ensures seats { seats_of members.new.items ≡ seats.items }
+    ensures count { vec_len members.new ≡ vec_len seats }
+    ensures new { AreNew members.new.items }
+{
+    let mut number = 0u32;
+    for seat in seats {
+        if let Some(end) = ends.pop() {
+            members.push_reserved((end, new_worker(alloc, number, seat)));
+            number = number.saturating_add(1);
+        } else {
+            unreachable!();
+        }
+    }
+}
+
+/// Adds what a worker has to a report that has room for it.
+fn add_worker<A: Allocator, J: Naming>(report: &mut Report<A, J>, worker: Worker<A, J>)
+    requires { HasRoom 1 (vec_len worker.receipts) report.old }
+    ensures { Adds worker report.old report.new }
+{
+    let Worker {
+        number: _,
+        seat,
+        receipts: mut earned,
+        kept,
+        fault,
+    } = worker;
+    report.seats.push_reserved(seat);
+    let _ = report.receipts.append(&mut earned);
+    if let Some(token) = kept {
+        report.tokens.push_reserved(token);
+    }
+    if report.fault.is_none() {
+        report.fault = fault;
+    }
+}
+
+/// Takes the workers apart, into a report that has room for what they have.
+fn unpack<A: Allocator, J: Naming>(
+    members: Vec<(TurnEnd<'_, A>, Worker<A, J>), A>,
+    report: &mut Report<A, J>,
+)
+    requires empty { IsEmptyReport report.old }
+    requires room { HasRoom (vec_len members) (count_of members.items) report.old }
+    ensures seats { report.new.seats.items ≡ seats_of members.entry.items }
+    ensures receipts { report.new.receipts.items ≡ receipts_of members.entry.items }
+{
+    for (_, worker) in members {
+        add_worker(report, worker);
+    }
+}
+
+/// A report with no seat yet, which has room for so many, and so many receipts for each.
+fn empty_report<A: Allocator + Copy, J: Naming>(
+    alloc: A,
+    seats: usize,
+    turns: u32,
+) -> Result<Report<A, J>, AllocError>
+    ensures empty { IfOk result IsEmptyReport }
+    ensures room { IfOk result (λ r. HasRoom seats (seats * turns) r) }
+{
+    let Some(receipts) = seats.checked_mul(turns as usize) else {
+        return Err(AllocError);
+    };
+    Ok(Report {
+        seats: Vec::with_capacity(alloc, seats)?,
+        receipts: Vec::with_capacity(alloc, receipts)?,
+        tokens: Vec::with_capacity(alloc, seats)?,
+        fault: None,
+    })
+}
+
+/// The report where memory was refused before any turn was taken.
+fn refused<A: Allocator + Copy, J: Naming>(alloc: A, seats: Vec<Seat<A, J>, A>) -> Report<A, J>
+    ensures { Reports J.program seats.items result.seats.items result.receipts.items }
+{
+    Report {
+        seats,
+        receipts: Vec::new(alloc),
+        tokens: Vec::new(alloc),
+        fault: Some(PoolFault::Memory),
+    }
+}
+
+/// Runs a worker for each seat, numbered from 0 in the seats' order: each takes at most so many turns, in a
+/// thread of its own where one can be made, else on the caller's. A turn takes a token from the run queue,
+/// tells the gate, takes the step of the token's pick, tells the gate again and gives the token back; one
+/// that finds no token counts too. All seats come back, and for each entry that a seat made there is one
+/// receipt. The caller gives seats of this lock alone.
+///
+/// A worker ends early where the journal is full, which is no fault; where its step is answered another
+/// fault; and where memory is refused, for a receipt or for giving its token back. No turn is taken where
+/// memory is refused for what the workers need before they start, which is room for as many receipts as
+/// all seats may make.
+pub fn run_workers<J: Naming + Send + Sync, R: Threads + Wait + Sync, G: Gate>(
+    rt: &R,
+    alloc: Global,
+    live: &Live<Global, J>,
+    seats: Vec<Seat<Global, J>>,
+    gate: &G,
+    turns: u32,
+) -> Report<Global, J>
+    ensures { Reports J.program seats.items result.seats.items result.receipts.items }
+{
+    let count = seats.len();
+    let Ok(ends_count) = u32::try_from(count) else {
+        return refused(alloc, seats);
+    };
+    let Ok(mut report) = empty_report(alloc, count, turns) else {
+        return refused(alloc, seats);
+    };
+    let Ok(mut queue) = RunQueue::full(rt, alloc) else {
+        return refused(alloc, seats);
+    };
+    let Ok(ends) = queue.ends(alloc, ends_count) else {
+        return refused(alloc, seats);
+    };
+    let Ok(mut members) = Vec::with_capacity(alloc, count) else {
+        return refused(alloc, seats);
+    };
+    pack(alloc, seats, ends, &mut members);
+    run_all(rt, live, gate, turns, members.as_mut_slice());
+    unpack(members, &mut report);
+    report
+}
