@@ -101,7 +101,7 @@ def command_lines():
     """Help, wrong usage and wrong arguments."""
     for word in ("--help", "-h"):
         ran = run([word])
-        good = ran.returncode == 0 and b"replay" in ran.stdout and b"round" in ran.stdout
+        good = ran.returncode == 0 and all(name in ran.stdout for name in (b"replay", b"round", b"workers"))
         check(f"help by {word}", good and not ran.stderr, ran)
     wrong = {
         "no subcommand": [],
@@ -113,6 +113,13 @@ def command_lines():
         "a limit of 65537": ["round", "--limit", "65537"],
         "a limit of letters": ["round", "--limit", "ten"],
         "a limit below 0": ["round", "--limit", "-1"],
+        "workers without a number": ["workers"],
+        "no workers": ["workers", "--n", "0"],
+        "17 workers": ["workers", "--n", "17"],
+        "workers by letters": ["workers", "--n", "two"],
+        "no turns": ["workers", "--n", "2", "--turns", "0"],
+        "65537 turns": ["workers", "--n", "2", "--turns", "65537"],
+        "turns by letters": ["workers", "--n", "2", "--turns", "many"],
     }
     for name, words in wrong.items():
         ran = run(words, SEND_HI)
@@ -123,6 +130,20 @@ def command_lines():
     for text in ("-1", "--help", "0 00", "0  0", " 0", "4294967296", "x"):
         wants(f"picks {text!r}", run(["replay", "--picks", text], SEND_HI), 2, bad_picks)
     wants("the greatest pick", run(["replay", "--picks", "4294967295"]), 0, EMPTY)
+
+
+def workers():
+    """Each example by workers: the journal that is printed, replayed, gives the same bytes."""
+    for script in sorted(EXAMPLES.glob("*.term")):
+        for words in (["--n", "1"], ["--n", "3"], ["--n", "16", "--turns", "2"]):
+            ran = run(["workers", *words], script.read_bytes())
+            picks = ran.stdout.decode().removesuffix("\n").rpartition("\n")[2]
+            again = run(["replay", "--picks", picks], script.read_bytes())
+            name = f"workers {' '.join(words)} on {script.stem}"
+            good = ran.returncode == 0 and picks and not ran.stderr and ran.stdout == again.stdout
+            check(name, good, (ran, again))
+    wants("workers on a refused script", run(["workers", "--n", "2"], b"7."), 2, b"refused 5 form 1\n")
+    wants("workers on no script", run(["workers", "--n", "2"]), 0, EMPTY)
 
 
 def ends():
@@ -197,7 +218,7 @@ def main():
         print("the program is not built")
         print("0 passed, 1 failed")
         sys.exit(1)
-    for part in (rows, long_texts, command_lines, ends, memory, starts):
+    for part in (rows, examples, workers, long_texts, command_lines, ends, memory, starts):
         try:
             part()
         except (OSError, subprocess.SubprocessError) as error:
