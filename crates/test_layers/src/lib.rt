@@ -4,7 +4,13 @@
 #![tactic(auto)]
 
 #[cfg(test)]
+mod checks;
+#[cfg(test)]
 mod flags;
+#[cfg(test)]
+mod happening;
+#[cfg(test)]
+mod long;
 #[cfg(test)]
 mod process;
 #[cfg(test)]
@@ -19,3 +25,5 @@ mod term;
 mod text;
 #[cfg(test)]
 mod trace;
+#[cfg(test)]
+mod watched;

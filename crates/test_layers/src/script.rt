@@ -1,76 +1,130 @@
 // Texts of forms, and the refusals of others.
-use std::alloc::{AllocError, Allocator};
+use crate::checks::check;
+use crate::long::{Long, spelled};
+use std::alloc::Global;
+use std::process::Abort;
 use std::test::Fail;
-use tn_script::{Form, ScriptFault, forms, is_variable};
+use tn_script::{Form, Function, ScriptFault, forms, is_variable};
 
-// the number of the refusal with its place or form, or 0 with the number of forms
-fn answer<A: Allocator + Copy>(alloc: A, text: &[u8]) -> (u8, usize) {
-    match forms(alloc, text) {
-        Ok(forms) => (0, forms.len()),
-        Err(ScriptFault::TooLong) => (1, 0),
-        Err(ScriptFault::Token { at }) => (2, at),
-        Err(ScriptFault::TooDeep { at }) => (3, at),
-        Err(ScriptFault::TooLarge { at }) => (4, at),
-        Err(ScriptFault::Form { form }) => (5, form),
-        Err(ScriptFault::TooManyForms) => (6, 0),
-        Err(ScriptFault::OutOfMemory) => (99, 0),
-    }
+/// A text, and how many forms it has, or why it has none.
+struct Script {
+    text: &'static str,
+    forms: Result<usize, ScriptFault>,
 }
 
-// that many control forms
-fn controls<A: Allocator + Copy>(
-    alloc: A,
-    first: &[u8],
-    count: usize,
-) -> Result<Vec<u8, A>, AllocError> {
-    let mut text = Vec::new(alloc);
-    text.extend_from_slice(first)?;
-    for _ in 0..count {
-        text.extend_from_slice(b"{control,[]}.\n")?;
-    }
-    Ok(text)
+const SCRIPTS: [Script; 9] = [
+    Script {
+        text: "",
+        forms: Ok(0),
+    },
+    Script {
+        text: "{process,m,go,[<0.101.0>]}. {control,[]}.",
+        forms: Ok(2),
+    },
+    Script {
+        text: "{control,[",
+        forms: Err(ScriptFault::Token { at: 10 }),
+    },
+    Script {
+        text: "{control,[]}",
+        forms: Err(ScriptFault::Token { at: 12 }),
+    },
+    Script {
+        text: "{a b}.",
+        forms: Err(ScriptFault::Token { at: 3 }),
+    },
+    Script {
+        text: "X.",
+        forms: Err(ScriptFault::Token { at: 0 }),
+    },
+    Script {
+        text: "1.5.",
+        forms: Err(ScriptFault::Token { at: 1 }),
+    },
+    Script {
+        text: "7.",
+        forms: Err(ScriptFault::Form { form: 1 }),
+    },
+    Script {
+        text: "{control,[]}. {control,[{send,s,true}]}. 7.",
+        forms: Err(ScriptFault::Form { form: 2 }),
+    },
+];
+
+/// Control forms, by themselves and behind a term without a shape.
+struct Controls {
+    text: Long,
+    forms: Result<usize, ScriptFault>,
+}
+
+const CONTROLS: [Controls; 3] = [
+    Controls {
+        text: Long {
+            head: "",
+            part: "{control,[]}.\n",
+            parts: 256,
+            tail: "",
+        },
+        forms: Ok(256),
+    },
+    Controls {
+        text: Long {
+            head: "",
+            part: "{control,[]}.\n",
+            parts: 257,
+            tail: "",
+        },
+        forms: Err(ScriptFault::TooManyForms),
+    },
+    Controls {
+        text: Long {
+            head: "7.\n",
+            part: "{control,[]}.\n",
+            parts: 256,
+            tail: "",
+        },
+        forms: Err(ScriptFault::TooManyForms),
+    },
+];
+
+/// How many forms the text has, or why it has none.
+fn count(alloc: Global, text: &[u8]) -> Result<usize, ScriptFault> {
+    Ok(forms(alloc, text)?.len())
 }
 
 #[test]
-fn texts_are_answered(rt: HostRuntime) -> Result<(), Fail> {
-    let alloc = rt.alloc();
-    assert_eq!(rt; answer(alloc, b""), (0, 0));
-    assert_eq!(rt;
-        answer(alloc, b"{process,m,go,[<0.101.0>]}. {control,[]}."),
-        (0, 2)
-    );
-    assert_eq!(rt; answer(alloc, b"{control,["), (2, 10));
-    assert_eq!(rt; answer(alloc, b"{control,[]}"), (2, 12));
-    assert_eq!(rt; answer(alloc, b"{a b}."), (2, 3));
-    assert_eq!(rt; answer(alloc, b"X."), (2, 0));
-    assert_eq!(rt; answer(alloc, b"1.5."), (2, 1));
-    assert_eq!(rt; answer(alloc, b"7."), (5, 1));
-    assert_eq!(rt;
-        answer(alloc, b"{control,[]}. {control,[{send,s,true}]}. 7."),
-        (5, 2)
-    );
-    assert_eq!(rt; answer(alloc, &controls(alloc, b"", 256)?), (0, 256));
-    assert_eq!(rt; answer(alloc, &controls(alloc, b"", 257)?), (6, 0));
-    assert_eq!(rt; answer(alloc, &controls(alloc, b"7.\n", 256)?), (6, 0));
+fn texts_are_answered(rt: HostRuntime) {
+    for script in &SCRIPTS {
+        let seen = count(rt.alloc(), script.text.as_bytes());
+        check(&rt, seen == script.forms, script.text);
+    }
     assert!(rt; is_variable("To"));
+}
+
+#[test]
+fn many_forms(rt: HostRuntime) -> Result<(), Fail> {
+    for controls in &CONTROLS {
+        let text = spelled(rt.alloc(), &controls.text)?;
+        assert!(rt; count(rt.alloc(), &text) == controls.forms);
+    }
     Ok(())
+}
+
+/// The function is `go`, exported, with one parameter and one step.
+fn check_function(rt: &impl Abort, function: &Function<Global>) {
+    assert!(rt; function.name.text() == "go");
+    assert!(rt; function.exported);
+    assert!(rt; function.params.len() == 1);
+    assert!(rt; function.steps.len() == 1);
 }
 
 #[test]
 fn a_function_has_its_parts(rt: HostRuntime) -> Result<(), Fail> {
-    let read = forms(
-        rt.alloc(),
-        b"{function,m,go,exported,['To'],[{send,'To',{hi,1}}]}.",
-    )?;
-    assert_eq!(rt; read.len(), 1);
-    match &read[0] {
-        Form::Function(function) => {
-            assert_eq!(rt; function.name.text(), "go");
-            assert!(rt; function.exported);
-            assert_eq!(rt; function.params.len(), 1);
-            assert_eq!(rt; function.steps.len(), 1);
-        }
-        _ => assert!(rt; false),
+    let text = b"{function,m,go,exported,['To'],[{send,'To',{hi,1}}]}.";
+    let forms = forms(rt.alloc(), text)?;
+    match forms.as_slice() {
+        [Form::Function(function)] => check_function(&rt, function),
+        _ => panic!(rt; "not one function"),
     }
     Ok(())
 }

@@ -1,110 +1,262 @@
 // Terms, atoms, names of functions and living pids.
-use std::alloc::{AllocError, Allocator, Global};
+use crate::checks::check;
+use std::alloc::{AllocError, Global};
 use std::cmp::Ordering;
+use std::process::Abort;
 use std::test::Fail;
 use tn_term::{Alive, Atom, Mfa, Term, copy_terms};
 use tn_text::read_term;
 
-fn named<A: Allocator + Copy>(alloc: A, text: &str) -> Result<Atom<A>, Fail> {
-    match Atom::new(alloc, text)? {
-        Some(atom) => Ok(atom),
-        None => Err(Fail::new("no atom")),
-    }
+/// Texts of atoms.
+const ATOMS: [&str; 3] = ["hello world", "", "s1"];
+
+/// A text of a term, with how deep it nests and how many terms it has in all.
+struct Measured {
+    text: &'static str,
+    depth: u64,
+    size: u64,
 }
 
-fn mfa(alloc: Global, module: &str, name: &str, arity: u8) -> Result<Mfa<Global>, Fail> {
+const MEASURED: [Measured; 2] = [
+    Measured {
+        text: "{a,[1,[]],<0.100.0>}",
+        depth: 3,
+        size: 6,
+    },
+    Measured {
+        text: "7",
+        depth: 0,
+        size: 1,
+    },
+];
+
+/// Integers stand before atoms, these before pids, then tuples by their length, then lists.
+const RISING: &str = "[-2,7,a,b,<0.100.0>,{z},{a,a},[],[a],[a,b],[b]]";
+
+/// A function, and whether it is m:go/1.
+struct Named {
+    module: &'static str,
+    name: &'static str,
+    arity: u8,
+    is_same: bool,
+}
+
+const NAMED: [Named; 4] = [
+    Named {
+        module: "m",
+        name: "go",
+        arity: 1,
+        is_same: true,
+    },
+    Named {
+        module: "m",
+        name: "go",
+        arity: 2,
+        is_same: false,
+    },
+    Named {
+        module: "m",
+        name: "stop",
+        arity: 1,
+        is_same: false,
+    },
+    Named {
+        module: "n",
+        name: "go",
+        arity: 1,
+        is_same: false,
+    },
+];
+
+/// A pid, and whether it lives.
+struct Life {
+    pid: u32,
+    lives: bool,
+}
+
+/// Where two live.
+const OF_TWO: [Life; 4] = [
+    Life {
+        pid: 100,
+        lives: true,
+    },
+    Life {
+        pid: 101,
+        lives: true,
+    },
+    Life {
+        pid: 102,
+        lives: false,
+    },
+    Life {
+        pid: 99,
+        lives: false,
+    },
+];
+
+/// Where one of them has died and another has come.
+const CHANGED: [Life; 3] = [
+    Life {
+        pid: 163,
+        lives: true,
+    },
+    Life {
+        pid: 100,
+        lives: false,
+    },
+    Life {
+        pid: 164,
+        lives: false,
+    },
+];
+
+fn atom(alloc: Global, text: &str) -> Result<Atom<Global>, Fail> {
+    Ok(Atom::new(alloc, text)?.ok_or("no atom")?)
+}
+
+/// Whether that many letters are an atom.
+fn is_atom(alloc: Global, letters: usize) -> Result<bool, AllocError> {
+    let text = "a".repeat(alloc, letters)?;
+    Ok(Atom::new(alloc, &text)?.is_some())
+}
+
+fn function(alloc: Global, named: &Named) -> Result<Mfa<Global>, Fail> {
     Ok(Mfa {
-        module: named(alloc, module)?,
-        name: named(alloc, name)?,
-        arity,
+        module: atom(alloc, named.module)?,
+        name: atom(alloc, named.name)?,
+        arity: named.arity,
     })
 }
 
-fn longest(alloc: Global, count: usize) -> Result<String, AllocError> {
-    let mut text = String::new(alloc);
-    for _ in 0..count {
-        text.push('a')?;
+/// The elements of the term, which is a list.
+fn elements(term: &Term<Global>) -> Result<&Vec<Term<Global>>, Fail> {
+    match term {
+        Term::List(terms) => Ok(terms),
+        _ => Err(Fail::new("no list")),
     }
-    Ok(text)
+}
+
+/// The text is an atom's, and its copy's.
+fn check_atom(rt: &impl Abort, alloc: Global, text: &str) -> Result<(), Fail> {
+    let atom = atom(alloc, text)?;
+    check(rt, atom.text() == text, text);
+    check(rt, atom.copy_into(alloc)?.text() == text, text);
+    Ok(())
 }
 
 #[test]
 fn atoms(rt: HostRuntime) -> Result<(), Fail> {
+    for text in &ATOMS {
+        check_atom(&rt, rt.alloc(), text)?;
+    }
+    Ok(())
+}
+
+#[test]
+fn texts_of_atoms(rt: HostRuntime) -> Result<(), Fail> {
     let alloc = rt.alloc();
-    assert_eq!(rt; named(alloc, "hello world")?.text(), "hello world");
-    assert_eq!(rt; named(alloc, "")?.copy_into(alloc)?.text(), "");
-    assert_eq!(rt; named(alloc, "s1")?.copy_into(alloc)?.text(), "s1");
     assert!(rt; Atom::new(alloc, "line\nfeed")?.is_none());
-    assert!(rt; Atom::new(alloc, &longest(alloc, 255)?)?.is_some());
-    assert!(rt; Atom::new(alloc, &longest(alloc, 256)?)?.is_none());
+    assert!(rt; is_atom(alloc, 255)?);
+    assert!(rt; !is_atom(alloc, 256)?);
     Ok(())
 }
 
 #[test]
 fn depth_and_size(rt: HostRuntime) -> Result<(), Fail> {
-    let term = read_term(rt.alloc(), b"{a,[1,[]],<0.100.0>}")?;
-    assert_eq!(rt; term.depth(), 3);
-    assert_eq!(rt; term.size(), 6);
-    assert_eq!(rt; Term::<Global>::Int(7).depth(), 0);
-    assert_eq!(rt; Term::<Global>::Int(7).size(), 1);
+    for measured in &MEASURED {
+        let term = read_term(rt.alloc(), measured.text.as_bytes())?;
+        check(&rt, term.depth() == measured.depth, measured.text);
+        check(&rt, term.size() == measured.size, measured.text);
+    }
     Ok(())
 }
 
-// Integers stand before atoms, these before pids, then tuples by their length, then lists.
+/// The term stands at this place of the rising terms.
+fn check_place(rt: &impl Abort, rising: &[Term<Global>], term: &Term<Global>, place: usize) {
+    for (at, other) in rising.iter().enumerate() {
+        assert!(rt; term.order(other) == place.cmp(&at), "{place} and {at}");
+        assert!(rt; term.same(other) == (place == at), "{place} and {at}");
+    }
+}
+
 #[test]
 fn order_and_equality(rt: HostRuntime) -> Result<(), Fail> {
-    let alloc = rt.alloc();
-    let rising = read_term(alloc, b"[-2,7,a,b,<0.100.0>,{z},{a,a},[],[a],[a,b],[b]]")?;
-    let Term::List(terms) = &rising else {
-        return Err(Fail::new("another shape"));
-    };
-    for (i, one) in terms.iter().enumerate() {
-        for (j, other) in terms.iter().enumerate() {
-            assert_eq!(rt; one.order(other), i.cmp(&j));
-            assert_eq!(rt; one.same(other), i == j);
-        }
+    let list = read_term(rt.alloc(), RISING.as_bytes())?;
+    let rising = elements(&list)?;
+    for (place, term) in rising.iter().enumerate() {
+        check_place(&rt, rising, term, place);
     }
+    Ok(())
+}
+
+/// A copy of the term, and a list of copies of its elements, equal it.
+fn check_copies(rt: &impl Abort, alloc: Global, term: &Term<Global>) -> Result<(), Fail> {
+    assert!(rt; term.copy_into(alloc)?.same(term));
+    let copies = Term::List(copy_terms(elements(term)?, alloc)?);
+    assert!(rt; copies.order(term) == Ordering::Equal);
     Ok(())
 }
 
 #[test]
 fn copies(rt: HostRuntime) -> Result<(), Fail> {
-    let alloc = rt.alloc();
-    let term = read_term(alloc, b"[{hi,1},<0.101.0>,'a b',[]]")?;
-    let copy = term.copy_into(alloc)?;
-    assert!(rt; copy.same(&term));
-    let Term::List(terms) = &term else {
-        return Err(Fail::new("another shape"));
-    };
-    let copies = Term::List(copy_terms(terms, alloc)?);
-    assert_eq!(rt; copies.order(&term), Ordering::Equal);
-    assert!(rt; Term::Atom(named(alloc, "normal")?).is_word("normal"));
+    let term = read_term(rt.alloc(), b"[{hi,1},<0.101.0>,'a b',[]]")?;
     assert!(rt; !term.is_word("normal"));
+    check_copies(&rt, rt.alloc(), &term)
+}
+
+#[test]
+fn words(rt: HostRuntime) -> Result<(), Fail> {
+    let term = Term::Atom(atom(rt.alloc(), "normal")?);
+    assert!(rt; term.is_word("normal"));
+    Ok(())
+}
+
+/// The function equals its copy, and the other one where the row says so.
+fn check_function(
+    rt: &impl Abort,
+    alloc: Global,
+    other: &Mfa<Global>,
+    named: &Named,
+) -> Result<(), Fail> {
+    let function = function(alloc, named)?;
+    assert!(rt; function.same(other) == named.is_same);
+    assert!(rt; function.copy_into(alloc)?.same(&function));
     Ok(())
 }
 
 #[test]
 fn names_of_functions(rt: HostRuntime) -> Result<(), Fail> {
-    let alloc = rt.alloc();
-    let one = mfa(alloc, "m", "go", 1)?;
-    assert!(rt; one.copy_into(alloc)?.same(&one));
-    assert!(rt; !one.same(&mfa(alloc, "m", "go", 2)?));
-    assert!(rt; !one.same(&mfa(alloc, "m", "stop", 1)?));
-    assert!(rt; !one.same(&mfa(alloc, "n", "go", 1)?));
+    let first = function(rt.alloc(), &NAMED[0])?;
+    for named in &NAMED {
+        check_function(&rt, rt.alloc(), &first, named)?;
+    }
     Ok(())
 }
 
+/// These pids live and don't live.
+fn check_lives(rt: &impl Abort, alive: &Alive, lives: &[Life]) {
+    for life in lives {
+        assert!(rt; alive.has(life.pid) == life.lives, "{}", life.pid);
+    }
+}
+
 #[test]
-fn living_pids(rt: HostRuntime) -> Result<(), Fail> {
+fn living_pids(rt: HostRuntime) {
     let mut alive = Alive::first(2);
-    assert!(rt; alive.has(100) && alive.has(101) && !alive.has(102) && !alive.has(99));
-    assert!(rt; alive.has_place(1) && !alive.has_place(2) && !alive.has_place(64));
+    check_lives(&rt, &alive, &OF_TWO);
     alive.add(163);
     alive.remove(100);
     alive.add(164);
-    assert!(rt; alive.has(163) && !alive.has(100) && !alive.has(164));
-    assert_eq!(rt; alive.count(), 2);
-    assert_eq!(rt; Alive::none().count(), 0);
-    assert_eq!(rt; Alive::first(64).count(), 64);
-    Ok(())
+    check_lives(&rt, &alive, &CHANGED);
+    assert!(rt; alive.count() == 2);
+}
+
+#[test]
+fn places_of_pids(rt: HostRuntime) {
+    let alive = Alive::first(2);
+    assert!(rt; alive.has_place(1));
+    assert!(rt; !alive.has_place(2));
+    assert!(rt; !alive.has_place(64));
+    assert!(rt; Alive::none().count() == 0);
+    assert!(rt; Alive::first(64).count() == 64);
 }
