@@ -15,7 +15,8 @@ use tn_text::write_term;
 use tn_trace::Core;
 
 /// A process that spawns two others, of which the first is traced.
-const SPAWNS: &str = "{function,m,go,exported,[],[{spawn,'_',{m,kid},[1]},{spawn,'_',{m,kid},[2]}]}.
+pub const SPAWNS: &str =
+    "{function,m,go,exported,[],[{spawn,'_',{m,kid},[1]},{spawn,'_',{m,kid},[2]}]}.
 {function,m,kid,exported,['X'],[]}.
 {process,m,go,[]}.
 {control,[{session_create,s1,t1,[]},{process,s1,<0.100.0>,true,[procs,set_on_first_spawn]}]}.
@@ -41,7 +42,7 @@ fn program_of(alloc: Global, script: &str) -> Result<Program<Global>, Fail> {
     Ok(program(alloc, forms)?)
 }
 
-/// The seat takes these picks, each of which moves: the receipts.
+/// The seat takes these picks, each of which moves, and the receipts are added to the others.
 fn take<J: Naming, R: Wait>(
     rt: &R,
     live: &Live<Global, J>,
@@ -96,6 +97,40 @@ fn check_receipts<J: Naming>(
     assert!(rt; !closed.confirm(&receipts[6]));
 }
 
+/// The first seat takes five picks and the second four, as both then say; a further pick is idle.
+fn take_by_two<J: Naming, R: Wait + Abort>(
+    rt: &R,
+    live: &Live<Global, J>,
+    seats: &mut [Seat<Global, J>],
+    receipts: &mut Vec<Receipt<Global>>,
+) -> Result<(), Fail> {
+    let Some((first, others)) = seats.split_first_mut() else {
+        return Err(Fail::new("a seat"));
+    };
+    let second = others.first_mut().ok_or("a second seat")?;
+    take(rt, live, first, &[0, 0, 100, 100, 100], receipts)?;
+    take(rt, live, second, &[101, 101, 102, 102], receipts)?;
+    let idle = live.step(rt, first, 999);
+    assert!(rt; matches!(&idle, Ok(Turn::Idle { front: 9 })));
+    assert_eq!(rt; (first.made(), second.made()), (5, 4));
+    assert_eq!(rt; (first.last(), second.last()), (Some(4), Some(8)));
+    Ok(())
+}
+
+/// The closed journal of the spawns: its entries, its one listing, its replies and its program.
+fn check_closed<J: Naming>(
+    rt: &impl Abort,
+    alloc: Global,
+    closed: &Closed<Global, J>,
+) -> Result<(), Fail> {
+    check_journal(rt, closed, &[0, 0, 100, 100, 100, 101, 101, 102, 102]);
+    assert_eq!(rt; lines(alloc, closed)?.as_slice(), LINES.as_bytes());
+    assert_eq!(rt; closed.replies().len(), 2);
+    assert!(rt; closed.listing(0).is_none() && closed.listing(2).is_none());
+    assert!(rt; closed.program().same(&program_of(alloc, SPAWNS)?));
+    Ok(())
+}
+
 /// Two seats take the picks of the spawns in turn.
 fn spawns_by_two<J: Naming, R: Wait + Abort>(
     rt: &R,
@@ -107,27 +142,13 @@ fn spawns_by_two<J: Naming, R: Wait + Abort>(
     requires named { opened ≡ J.log }
 {
     let (live, mut seats) = Live::<Global, J>::begin(alloc, core, opened, 2)?;
-    let mut second = seats.pop().ok_or("a seat")?;
-    let mut first = seats.pop().ok_or("a seat")?;
     let mut receipts = Vec::new(alloc);
-    take(rt, &live, &mut first, &[0, 0, 100, 100, 100], &mut receipts)?;
-    take(rt, &live, &mut second, &[101, 101, 102, 102], &mut receipts)?;
-    let idle = live.step(rt, &mut first, 999)?;
-    assert!(rt; matches!(&idle, Turn::Idle { front: 9 }));
-    assert_eq!(rt; (first.made(), second.made()), (5, 4));
-    assert_eq!(rt; (first.last(), second.last()), (Some(4), Some(8)));
-    seats.push(first)?;
-    seats.push(second)?;
+    take_by_two(rt, &live, seats.as_mut_slice(), &mut receipts)?;
     let Ok(closed) = live.close(rt, seats) else {
         return Err(Fail::new("it closes"));
     };
-    check_journal(rt, &closed, &[0, 0, 100, 100, 100, 101, 101, 102, 102]);
-    assert_eq!(rt; lines(alloc, &closed)?.as_slice(), LINES.as_bytes());
-    assert_eq!(rt; closed.replies().len(), 2);
-    assert!(rt; closed.listing(0).is_none() && closed.listing(2).is_none());
-    assert!(rt; closed.program().same(&program_of(alloc, SPAWNS)?));
     check_receipts(rt, &closed, receipts);
-    Ok(())
+    check_closed(rt, alloc, &closed)
 }
 
 #[test]
@@ -135,6 +156,30 @@ fn two_seats_in_turn(rt: HostRuntime) -> Result<(), Fail> {
     let alloc = rt.alloc();
     let core = Core::new(alloc, program_of(alloc, SPAWNS)?)?;
     spawns_by_two::<Brand, _>(&rt, alloc, core, Opened::new())
+}
+
+/// The close without seat 1 handed all back, and with both seats it succeeds.
+fn check_handed_back<J: Naming, R: Wait + Abort>(
+    rt: &R,
+    fault: CloseFault<Global, J>,
+    second: Seat<Global, J>,
+) -> Result<(), Fail> {
+    let CloseFault::MissingSeat {
+        missing,
+        live,
+        mut seats,
+    } = fault
+    else {
+        return Err(Fail::new("spent"));
+    };
+    assert_eq!(rt; (missing, seats.len()), (1, 1));
+    seats.push(second)?;
+    let closed = live.close(rt, seats);
+    assert!(rt;
+        closed.is_ok_and(|closed| closed.journal().len() == 1),
+        "it closes"
+    );
+    Ok(())
 }
 
 /// A close without seat 1 hands all back, and a second one with both seats succeeds.
@@ -149,26 +194,12 @@ fn closed_twice<J: Naming, R: Wait + Abort>(
 {
     let (live, mut seats) = Live::<Global, J>::begin(alloc, core, opened, 2)?;
     let mut second = seats.pop().ok_or("a seat")?;
-    let moved = live.step(rt, &mut second, 0)?;
-    assert!(rt; matches!(&moved, Turn::Moved(_)));
-    let Err(fault) = live.close(rt, seats) else {
-        return Err(Fail::new("a seat is missing"));
-    };
-    let CloseFault::MissingSeat {
-        missing,
-        live,
-        mut seats,
-    } = fault
-    else {
-        return Err(Fail::new("spent"));
-    };
-    assert_eq!(rt; (missing, seats.len()), (1, 1));
-    seats.push(second)?;
-    let Ok(closed) = live.close(rt, seats) else {
-        return Err(Fail::new("it closes"));
-    };
-    assert_eq!(rt; closed.journal().len(), 1);
-    Ok(())
+    let moved = live.step(rt, &mut second, 0);
+    assert!(rt; matches!(&moved, Ok(Turn::Moved(_))));
+    match live.close(rt, seats) {
+        Ok(_) => Err(Fail::new("a seat is missing")),
+        Err(fault) => check_handed_back(rt, fault, second),
+    }
 }
 
 #[test]
@@ -178,7 +209,31 @@ fn a_missing_seat(rt: HostRuntime) -> Result<(), Fail> {
     closed_twice::<Brand, _>(&rt, alloc, core, Opened::new())
 }
 
-/// A seat fits the book with its own program and with no other; and again once the other seat has moved.
+/// Both seats fit the book with its own program and with no other, before and after the first has moved.
+fn check_fits<J: Naming>(
+    rt: &impl Abort,
+    book: &mut Book<Global, J>,
+    seats: &mut [Seat<Global, J>],
+    spawns: &Program<Global>,
+    sends: &Program<Global>,
+) {
+    let Some((first, others)) = seats.split_first_mut() else {
+        return;
+    };
+    let Some(second) = others.first_mut() else {
+        return;
+    };
+    if !book.fits(spawns, first) {
+        assert!(rt; false, "it fits");
+        return;
+    }
+    assert!(rt; !book.fits(sends, first));
+    let moved = book.step(first, 0);
+    assert!(rt; matches!(&moved, Ok(Turn::Moved(_))));
+    assert!(rt; book.fits(spawns, first) && book.fits(spawns, second));
+}
+
+/// Which seats fit a book with which program.
 fn seats_that_fit<J: Naming, R: Abort>(
     rt: &R,
     alloc: Global,
@@ -188,18 +243,10 @@ fn seats_that_fit<J: Naming, R: Abort>(
     requires core { IsCore J.program [] core }
     requires named { opened ≡ J.log }
 {
+    let (mut book, mut seats) = Book::<Global, J>::begin(alloc, core, opened, 2)?;
     let spawns = program_of(alloc, SPAWNS)?;
     let sends = program_of(alloc, SENDS)?;
-    let (mut book, mut seats) = Book::<Global, J>::begin(alloc, core, opened, 2)?;
-    let second = seats.pop().ok_or("a seat")?;
-    let mut first = seats.pop().ok_or("a seat")?;
-    if !book.fits(&spawns, &first) {
-        return Err(Fail::new("it fits"));
-    }
-    assert!(rt; !book.fits(&sends, &first));
-    let moved = book.step(&mut first, 0)?;
-    assert!(rt; matches!(&moved, Turn::Moved(_)));
-    assert!(rt; book.fits(&spawns, &first) && book.fits(&spawns, &second));
+    check_fits(rt, &mut book, seats.as_mut_slice(), &spawns, &sends);
     Ok(())
 }
 
