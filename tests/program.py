@@ -1,12 +1,14 @@
 #!/usr/bin/env python3
 """Runs the built program as its users start it, and says how many cases passed.
 
-The program is crates/tn_cli/out/tn_cli, which the gate proves and builds. tests/rows has one folder for each
-worked run: the script (stdin), the command line, a word a line (args), the output (stdout) and the exit
-status, where it isn't 0 (status). The last line is 'N passed, M failed'.
+The program is crates/tn_cli/out/tn_cli, and crates/tn_plain/out/tn_plain is the one without clap; the gate
+proves and builds both. tests/rows has one folder for each worked run: the script (stdin), the command line,
+a word a line (args), the output (stdout) and the exit status, where it isn't 0 (status). The last line is
+'N passed, M failed'.
 """
 import os
 import pathlib
+import re
 import resource
 import shlex
 import socket
@@ -16,6 +18,7 @@ import tempfile
 
 TOP = pathlib.Path(__file__).resolve().parent.parent
 PROGRAM = TOP / "crates" / "tn_cli" / "out" / "tn_cli"
+PLAIN = TOP / "crates" / "tn_plain" / "out" / "tn_plain"
 START = TOP / "tracenode"
 ROWS = TOP / "tests" / "rows"
 EXAMPLES = TOP / "examples"
@@ -72,6 +75,108 @@ def rows():
         wants(f"row {row.name}", ran, wanted, (row / "stdout").read_bytes())
 
 
+def plain():
+    """The program without clap: each worked run by picks or by rounds, and words that it doesn't take."""
+    for row in sorted(ROWS.iterdir()):
+        words = (row / "args").read_text().removesuffix("\n").split("\n")
+        script = (row / "stdin").read_bytes()
+        ran = run(words, script, command=(str(PLAIN),))
+        again = run(words, script)
+        wants(f"row {row.name} without clap", ran, again.returncode, again.stdout, again.stderr)
+    for words in ([], ["round", "--limit", "0"], ["round", "--limit", "65537"], ["replay", "0"], ["workers"]):
+        ran = run(words, SEND_HI, command=(str(PLAIN),))
+        check(f"the words {words} without clap", ran.returncode == 2 and not ran.stdout and ran.stderr, ran)
+
+
+def tries():
+    """The start script where nothing is built: which program answers, its status and what it says."""
+    kit = """#!/bin/sh
+echo "checked: none" >&2
+echo "interpreter: none" >&2
+echo "races: none" >&2
+echo "fault of the program" >&2
+echo "run=none" >&2
+while [ "$1" != -- ]; do shift; done
+shift
+echo "${PWD##*/} $*"
+exit 7
+"""
+    limits = {limit: ["round", "--limit", limit] for limit in ("1", "65536", "65537", "01", "ten")}
+    words = {
+        "tn_plain": (["replay", "--picks", "0 0"], ["replay", "--picks", ""], ["round"], limits["1"], limits["65536"]),
+        "tn_cli": (["--help"], ["replay"], limits["65537"], limits["01"], limits["ten"], ["workers", "--n", "2"]),
+    }
+    with tempfile.TemporaryDirectory() as folder:
+        top = pathlib.Path(folder)
+        for name in words:
+            (top / "crates" / name / "src").mkdir(parents=True)
+            (top / "crates" / name / "src" / "main.rt").touch()
+        (top / "crates.txt").touch()
+        for name, text in (("tracenode", START.read_text()), ("rt", kit)):
+            (top / name).write_text(text)
+            (top / name).chmod(0o755)
+        path = dict(os.environ, PATH=f"{folder}:{os.environ['PATH']}")
+        for name, lines in words.items():
+            for line in lines:
+                ran = run(line, command=(str(top / "tracenode"),), env=path)
+                told = ran.stderr.decode().splitlines()[1:]
+                wanted = f"{name} {' '.join(line)}\n".encode()
+                good = (ran.returncode, ran.stdout, told) == (7, wanted, ["fault of the program"])
+                check(f"{line} where nothing is built", good, ran)
+        there = os.path.realpath(folder)
+        line = ["replay", "a.term", "--picks-file", "b c"]
+        ran = run(line, command=(str(top / "tracenode"),), env=path, cwd=folder)
+        wanted = f"tn_cli replay {there}/a.term --picks-file {there}/b c\n"
+        check("files where nothing is built", ran.stdout.decode() == wanted, ran)
+        line = ["round", "--limit", "5", "/x/a.term"]
+        ran = run(line, command=(str(top / "tracenode"),), env=path, cwd=folder)
+        check("a whole path where nothing is built", ran.stdout == b"tn_cli round --limit 5 /x/a.term\n", ran)
+
+
+def files():
+    """Scripts and picks from files, and files that can't be read."""
+    with tempfile.TemporaryDirectory() as folder:
+        place = pathlib.Path(folder)
+        script, picks, ill = place / "script.term", place / "picks", place / "ill"
+        script.write_bytes(SEND_HI)
+        picks.write_text("0 0 100 100")
+        ill.write_bytes(b"0 \xff")
+        replay = ["replay", str(script), "--picks"]
+        wants("a script from a file", run([*replay, "0 0 100 100"]), 0, SEND_HI_OUTPUT)
+        wants("a script by -", run(["replay", "-", "--picks", "0 0 100 100"], SEND_HI), 0, SEND_HI_OUTPUT)
+        from_file = ["replay", str(script), "--picks-file"]
+        wants("picks from a file", run([*from_file, str(picks)]), 0, SEND_HI_OUTPUT)
+        picks.write_text("0 0 100 100\n")
+        wants("picks with a line feed", run([*from_file, str(picks)]), 0, SEND_HI_OUTPUT)
+        picks.write_text("0 0 100 100\n\n")
+        check("picks with two line feeds", run([*from_file, str(picks)]).stdout == b"refused 20 bad picks\n")
+        picks.write_text("0 0 100 100")
+        wants("picks from standard input", run([*from_file, "-"], b"0 0 100 100"), 0, SEND_HI_OUTPUT)
+        ran = run(["replay", "--picks-file", str(picks)], SEND_HI)
+        wants("picks from a file, a script from standard input", ran, 0, SEND_HI_OUTPUT)
+        bad = b"refused 20 bad picks\n"
+        check("ill-formed picks from a file", run([*from_file, str(ill)]).stdout == bad)
+        picks.write_text("0" * (TEXT_BYTES + 1))
+        check("too long picks from a file", run([*from_file, str(picks)]).stdout == bad)
+        picks.write_text(" ".join(["999"] * 262_144))
+        ran = run([*from_file, str(picks)])
+        check("picks of 1,048,575 bytes", ran.returncode == 0 and ran.stdout.endswith(b"== journal\n\n"), ran)
+        for name in (place / "absent", place, script / "below"):
+            for words in (["replay", str(name), "--picks", "0"], ["round", str(name)], [*from_file, str(name)]):
+                ran = run(words)
+                good = ran.returncode == 2 and not ran.stdout and ran.stderr.count(b"\n") == 1
+                check(f"{name.name} as a file of {words[0]}", good and str(name).encode() in ran.stderr, ran)
+        for words in (["replay", "--picks-file", "-"], ["replay", "-", "--picks-file", "-"]):
+            ran = run(words, SEND_HI)
+            check(f"both from standard input by {words}", ran.returncode == 2 and not ran.stdout and ran.stderr, ran)
+        ran = run([*replay, "0", "--picks-file", str(picks)])
+        check("picks of both kinds", ran.returncode == 2 and not ran.stdout and ran.stderr, ran)
+        ran = run([*replay, "0", "--picks", "0"])
+        check("picks twice", ran.returncode == 2 and not ran.stdout and ran.stderr, ran)
+        ran = run(["workers", str(script), "--n", "2"])
+        check("a script from a file by workers", ran.returncode == 0 and ran.stdout.startswith(b"== session s1"), ran)
+
+
 def examples():
     """Each example, by the command in its comments; where they show a listing, it is that one."""
     for script in sorted(EXAMPLES.glob("*.term")):
@@ -99,9 +204,13 @@ def long_texts():
 
 def command_lines():
     """Help, wrong usage and wrong arguments."""
+    kit = subprocess.run(["rt", "version"], stdout=subprocess.PIPE, check=False).stdout
+    for word in ("--version", "-V"):
+        wants(f"version by {word}", run([word]), 0, b"tracenode 0.1.0\n" + kit)
     for word in ("--help", "-h"):
         ran = run([word])
-        good = ran.returncode == 0 and all(name in ran.stdout for name in (b"replay", b"round", b"workers"))
+        names = (b"replay", b"round", b"workers", b"Example:", b"Exit status:", b"A pick says")
+        good = ran.returncode == 0 and all(name in ran.stdout for name in names)
         check(f"help by {word}", good and not ran.stderr, ran)
     wrong = {
         "no subcommand": [],
@@ -124,12 +233,30 @@ def command_lines():
     for name, words in wrong.items():
         ran = run(words, SEND_HI)
         check(name, ran.returncode == 2 and not ran.stdout and ran.stderr, ran)
-    ran = run([b"replay", b"--picks", b"\xff"], SEND_HI)
-    check("an ill-formed argument", ran.returncode == 2 and ran.stderr, ran)
+    ran = run([b"replay", b"--picks", b"0 \xff"], SEND_HI)
+    check("ill-formed picks", ran.returncode == 2 and ran.stdout == b"refused 20 bad picks\n", ran)
+    ran = run([b"round", b"--lim\xff"], SEND_HI)
+    check("an ill-formed option", ran.returncode == 2 and not ran.stdout and ran.stderr, ran)
     bad_picks = b"refused 20 bad picks\n"
     for text in ("-1", "--help", "0 00", "0  0", " 0", "4294967296", "x"):
         wants(f"picks {text!r}", run(["replay", "--picks", text], SEND_HI), 2, bad_picks)
     wants("the greatest pick", run(["replay", "--picks", "4294967295"]), 0, EMPTY)
+
+
+def documents():
+    """The man page and the completions name the commands and options of the help, and no others."""
+    helps = {word: run([*word, "--help"]).stdout.decode() for word in ((), ("replay",), ("round",), ("workers",))}
+    commands = set(re.findall(r"^  ([a-z]+) ", helps[()], re.M))
+    options = set(re.findall(r"--[a-z-]+", "".join(text.partition("\nExample:")[0] for text in helps.values())))
+    check("the help has commands and options", len(commands) >= 4 and len(options) >= 7, (commands, options))
+    files = [TOP / "docs" / "tracenode.1", *sorted((TOP / "completions").iterdir())]
+    for file in files:
+        text = file.read_text().replace("\\-", "-")
+        text = re.sub(r" -l ([a-z-]+)", r" --\1", text)
+        named = set(re.findall(r"--[a-z][a-z-]*", text))
+        check(f"the options of {file.name}", named == options, (named, options))
+        missing = [word for word in commands if not re.search(rf"\b{word}\b", text)]
+        check(f"the commands of {file.name}", not missing, missing)
 
 
 def workers():
@@ -218,7 +345,8 @@ def main():
         print("the program is not built")
         print("0 passed, 1 failed")
         sys.exit(1)
-    for part in (rows, examples, workers, long_texts, command_lines, ends, memory, starts):
+    parts = (rows, plain, tries, files, documents, examples, workers, long_texts, command_lines, ends, memory, starts)
+    for part in parts:
         try:
             part()
         except (OSError, subprocess.SubprocessError) as error:

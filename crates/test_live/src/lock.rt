@@ -15,7 +15,8 @@ use tn_text::write_term;
 use tn_trace::Core;
 
 /// A process that spawns two others, of which the first is traced.
-const SPAWNS: &str = "{function,m,go,exported,[],[{spawn,'_',{m,kid},[1]},{spawn,'_',{m,kid},[2]}]}.
+pub const SPAWNS: &str =
+    "{function,m,go,exported,[],[{spawn,'_',{m,kid},[1]},{spawn,'_',{m,kid},[2]}]}.
 {function,m,kid,exported,['X'],[]}.
 {process,m,go,[]}.
 {control,[{session_create,s1,t1,[]},{process,s1,<0.100.0>,true,[procs,set_on_first_spawn]}]}.

@@ -2,22 +2,54 @@
 use clap::{Arg, ArgAction, Command, value_parser};
 use std::alloc::{AllocError, Global};
 
-/// The subcommand `replay --picks TEXT`. TEXT may begin with a hyphen: the run refuses it, not the command
-/// line.
+/// What `--version` prints after the program's name.
+const VERSION: &str = "0.1.0\nrattle-kit-13b logic dac8208d650f15bf";
+
+/// What stands below the commands in the help.
+const MORE: &str = "\
+A pick says which process moves next: 0 takes the next command of the control list, and a number from 100
+on the process with this pid, where 100 is <0.100.0>. The initial processes are 100, 101, .. in their order.
+
+Example:
+  tracenode replay examples/send_hi.term --picks '0 0 100 100'
+
+Exit status:
+  0  the output was written
+  2  the script, the picks or the command line is refused
+  3  a fault: a failed read or write, or want of memory";
+
+/// The script of a command.
+fn script<'a>(alloc: Global) -> Arg<'a> {
+    Arg::new(alloc, "script")
+        .value_name("SCRIPT")
+        .help("The file of the script; standard input where it is absent or -")
+        .action(ArgAction::Set)
+}
+
+/// The subcommand `replay [SCRIPT]` with `--picks TEXT` or `--picks-file FILE`. TEXT may begin with a hyphen:
+/// the run refuses it, not the command line.
 fn replay<'a>(alloc: Global) -> Result<Command<'a>, AllocError> {
     let picks = Arg::new(alloc, "picks")
         .long("picks")
         .value_name("TEXT")
         .help("The picks: decimal numbers, one space between each two")
-        .required(true)
+        .required_unless_present("picks-file")?
+        .conflicts_with("picks-file")?
         .allow_hyphen_values(true)
+        .action(ArgAction::Set);
+    let picks_file = Arg::new(alloc, "picks-file")
+        .long("picks-file")
+        .value_name("FILE")
+        .help("The file of the picks; standard input where it is -")
         .action(ArgAction::Set);
     Command::new(alloc, "replay")
         .about("Runs the script by the given picks, and prints what its sessions saw")
-        .arg(picks)
+        .arg(script(alloc))?
+        .arg(picks)?
+        .arg(picks_file)
 }
 
-/// The subcommand `round [--limit N]`.
+/// The subcommand `round [SCRIPT] [--limit N]`.
 fn round<'a>(alloc: Global) -> Result<Command<'a>, AllocError> {
     let limit = Arg::new(alloc, "limit")
         .long("limit")
@@ -28,10 +60,11 @@ fn round<'a>(alloc: Global) -> Result<Command<'a>, AllocError> {
         .action(ArgAction::Set);
     Command::new(alloc, "round")
         .about("Runs the script in rounds of all processes, until nothing moves")
+        .arg(script(alloc))?
         .arg(limit)
 }
 
-/// The subcommand `workers --n N [--turns T]`.
+/// The subcommand `workers [SCRIPT] --n N [--turns T]`.
 fn workers<'a>(alloc: Global) -> Result<Command<'a>, AllocError> {
     let count = Arg::new(alloc, "n")
         .long("n")
@@ -49,6 +82,7 @@ fn workers<'a>(alloc: Global) -> Result<Command<'a>, AllocError> {
         .action(ArgAction::Set);
     Command::new(alloc, "workers")
         .about("Runs the script by workers in threads, and then until nothing moves")
+        .arg(script(alloc))?
         .arg(count)?
         .arg(turns)
 }
@@ -57,7 +91,9 @@ fn workers<'a>(alloc: Global) -> Result<Command<'a>, AllocError> {
 pub fn command<'a>(alloc: Global) -> Result<Command<'a>, AllocError> {
     Command::new(alloc, "tracenode")
         .bin_name("tracenode")?
-        .about("Runs a node of scripted processes, read from standard input, under trace sessions")
+        .version(VERSION)
+        .about("Runs a node of scripted processes under trace sessions")
+        .after_help(MORE)
         .subcommand_required(true)
         .subcommand(replay(alloc)?)?
         .subcommand(round(alloc)?)?

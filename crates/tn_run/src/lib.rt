@@ -20,7 +20,7 @@ mod plan;
 mod runs;
 mod settling;
 
-pub use ends::write_output;
+pub use ends::{read_text, write_output};
 pub use fault::{LiveFault, RunFault};
 pub use laws::{a_rest_is_of_all_picks, a_run_is_as_defined};
 pub use live::{Ran, Workers, run_live};

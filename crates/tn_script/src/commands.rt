@@ -12,7 +12,7 @@ use crate::names::name;
 use crate::parts::{is_empty_list, is_tagged, list, tuple};
 use std::alloc::{AllocError, Allocator};
 use tn_flags::Command;
-use tn_term::Term;
+use tn_term::{Atom, Term};
 
 /// `{session_create,S,T,[]}`
 fn create_command<A: Allocator>(fields: Vec<Term<A>, A>) -> Option<Command<A>>
@@ -36,12 +36,20 @@ fn destroy_command<A: Allocator>(fields: Vec<Term<A>, A>) -> Option<Command<A>>
     Some(Command::SessionDestroy { session })
 }
 
+/// The session and the three terms of `{Tag,S,First,Second,Third}`.
+fn of_three<A: Allocator>(fields: Vec<Term<A>, A>) -> Option<(Atom<A>, Term<A>, Term<A>, Term<A>)>
+    ensures { (f : _) → option_map (λ p. f p.0 (tree_of p.1) (tree_of p.2) (tree_of p.3)) result
+        ≡ of_three_in f (map tree_of fields.items) }
+{
+    let (_, session, first, second, third) = five(fields)?;
+    Some((name(session)?, first, second, third))
+}
+
 /// `{process,S,Procs,How,Flags}`
 fn process_command<A: Allocator>(fields: Vec<Term<A>, A>) -> Option<Command<A>>
     ensures { option_map command_of result ≡ of_three_in set_processes (map tree_of fields.items) }
 {
-    let (_, session, procs, how, flags) = five(fields)?;
-    let session = name(session)?;
+    let (session, procs, how, flags) = of_three(fields)?;
     Some(Command::Process {
         session,
         procs,
@@ -54,8 +62,7 @@ fn process_command<A: Allocator>(fields: Vec<Term<A>, A>) -> Option<Command<A>>
 fn function_command<A: Allocator>(fields: Vec<Term<A>, A>) -> Option<Command<A>>
     ensures { option_map command_of result ≡ of_three_in set_function (map tree_of fields.items) }
 {
-    let (_, session, mfa, specification, options) = five(fields)?;
-    let session = name(session)?;
+    let (session, mfa, specification, options) = of_three(fields)?;
     Some(Command::Function {
         session,
         mfa,
@@ -64,15 +71,22 @@ fn function_command<A: Allocator>(fields: Vec<Term<A>, A>) -> Option<Command<A>>
     })
 }
 
-/// `{send,S,Spec,[]}`
-fn send_command<A: Allocator>(fields: Vec<Term<A>, A>) -> Option<Command<A>>
-    ensures { option_map command_of result ≡ specified_in set_send (map tree_of fields.items) }
+/// The session and the specification of `{Tag,S,Spec,[]}`.
+fn specified<A: Allocator>(fields: Vec<Term<A>, A>) -> Option<(Atom<A>, Term<A>)>
+    ensures { (f : _) → option_map (λ p. f p.0 (tree_of p.1)) result ≡ specified_in f (map tree_of fields.items) }
 {
     let (_, session, specification, options) = four(fields)?;
     if !is_empty_list(&options) {
         return None;
     }
-    let session = name(session)?;
+    Some((name(session)?, specification))
+}
+
+/// `{send,S,Spec,[]}`
+fn send_command<A: Allocator>(fields: Vec<Term<A>, A>) -> Option<Command<A>>
+    ensures { option_map command_of result ≡ specified_in set_send (map tree_of fields.items) }
+{
+    let (session, specification) = specified(fields)?;
     Some(Command::Send {
         session,
         specification,
@@ -83,11 +97,7 @@ fn send_command<A: Allocator>(fields: Vec<Term<A>, A>) -> Option<Command<A>>
 fn recv_command<A: Allocator>(fields: Vec<Term<A>, A>) -> Option<Command<A>>
     ensures { option_map command_of result ≡ specified_in set_receive (map tree_of fields.items) }
 {
-    let (_, session, specification, options) = four(fields)?;
-    if !is_empty_list(&options) {
-        return None;
-    }
-    let session = name(session)?;
+    let (session, specification) = specified(fields)?;
     Some(Command::Recv {
         session,
         specification,

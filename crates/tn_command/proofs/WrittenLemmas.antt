@@ -5,7 +5,7 @@ use Rattle.tn_run.specs.declared.outcome.Outcome.TheVariants.{Listed, Refused}
 use Rattle.tn_run.specs.declared.fault.RunFault.{RunFault}
 use Rattle.tn_run.specs.Out.{by_workers}
 use Rattle.tn_run.specs.Plans.{Writes}
-use Rattle.tn_cli.specs.Status.{status_of, IsWrittenByWorkers}
+use Rattle.tn_command.specs.Status.{status_of, IsWrittenByWorkers}
 
 pub written_by_workers : (n : ℕ) (told old new : Option (List ℕ)) (made : List ℕ) (outcome : Outcome) → n ≡ status_of {F = RunFault} (Ok outcome) → Writes told (by_workers made) old new outcome → IsWrittenByWorkers n told old new
 written_by_workers n told old new made Listed e w = record { listed = λ z. (made, w); refused = λ z. absurd (omega (arith, e, z)) }

@@ -1,0 +1,65 @@
+//! The runs `replay --picks TEXT` and `round [--limit N]` of `tracenode`, in a program without `clap`.
+//!
+//! The start script runs it where the whole program isn't built yet: without `clap` it is compiled in little
+//! more than half the time. Stands on tn_command, which promises what is written and the status. Of other
+//! words it says which it takes, with status 2; the start script gives it no others.
+#![tactic(auto)]
+
+ghost use Rattle.std.specs.Process.{exit_status};
+ghost use Rattle.tn_command.specs.Status.{IsStatus};
+
+use std::process::ExitCode;
+use std::rt::{Env, Files};
+use tn_command::{REFUSED, Source, arguments, perform};
+use tn_run::Schedule;
+
+/// How many picks of a round may move where no limit is given.
+const LIMIT: u32 = 10_000;
+
+/// The most picks of a round that may move.
+const MOST: u32 = 65_536;
+
+/// The limit that a word spells: a number from 1 to 65536.
+fn limit(word: &str) -> Option<u32> {
+    match word.parse::<u32>() {
+        Ok(limit) if limit >= 1 && limit <= MOST => Some(limit),
+        _ => None,
+    }
+}
+
+/// What the words after the program's name ask for; None where that isn't one of the two runs.
+fn schedule(words: &[String]) -> Option<Schedule<'_>> {
+    if words.len() == 2 && words[1].as_str() == "round" {
+        return Some(Schedule::Round(LIMIT));
+    }
+    if words.len() != 4 {
+        return None;
+    }
+    let value = words[3].as_str();
+    match (words[1].as_str(), words[2].as_str()) {
+        ("replay", "--picks") => Some(Schedule::Picks(value.as_bytes())),
+        ("round", "--limit") => Some(Schedule::Round(limit(value)?)),
+        _ => None,
+    }
+}
+
+/// Does what the words of the command line ask for.
+fn start<R: Env + Input + Files + Print + Eprint + AllocGlobal>(rt: &R) -> ExitCode
+    ensures { IsStatus (exit_status result) }
+{
+    let words = match arguments(rt) {
+        Ok(words) => words,
+        Err(status) => return status,
+    };
+    match schedule(&words) {
+        Some(schedule) => perform(rt, Source::Input, schedule),
+        None => {
+            let _ = rt.eprintln("error: the words are replay --picks TEXT, or round [--limit N]");
+            ExitCode::from(REFUSED)
+        }
+    }
+}
+
+fn main(rt: HostRuntime) -> ExitCode {
+    start(&rt)
+}
