@@ -1,0 +1,4 @@
+pub mod Starts
+pub mod Words
+pub mod Marks
+pub mod Lines
