@@ -1,5 +1,5 @@
 -- What is shown is printable.
-use Rattle.std.proofs.Common.{◌≡◌, ℕ, ◌≤◌, ◌&&◌, cond, nat_le, Bool, true, false, List, [], ◌∷◌, map, refl, ap, sym, ◌∙◌, arith}
+use Rattle.std.proofs.Common.{◌≡◌, ℕ, ◌&&◌, cond, Bool, true, false, List, [], ◌∷◌, map, refl, ap, ◌∙◌}
 use Rattle.def_text.specs.Tokens.{all_are, is_printable}
 use Rattle.tn_explain.specs.Lines.{shown}
 

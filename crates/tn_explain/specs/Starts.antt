@@ -1,6 +1,6 @@
 -- Where forms begin, by the tokens that the code lists.
 -- Stands on where forms begin, and on the tokens of a text as the code has them.
-use Rattle.std.specs.Prelude.{◌≡◌, ℕ, ◌-◌, ◌≤◌, ◌==◌, List, [], ◌∷◌, length, Bool, true, false, Option, Some, None, if◌then◌else◌}
+use Rattle.std.specs.Prelude.{ℕ, ◌-◌, ◌≤◌, ◌==◌, List, [], ◌∷◌, length, Bool, true, false, Option, Some, None, if◌then◌else◌}
 use Rattle.def_text.specs.Tokens.{Spanned, Tokens}
 use Rattle.def_text.specs.Spelling.{LENGTH}
 use Rattle.def_places.specs.Forms.{FormBegins}

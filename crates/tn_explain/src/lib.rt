@@ -6,14 +6,30 @@
 //! which is what breaks the rule, is printable and is not promised to be right.
 #![tactic(auto)]
 
+mod bytes;
+mod callee;
+mod commands;
 mod detail;
+mod forms;
+mod found;
+mod laws;
+mod limits;
 mod line;
 mod mark;
+mod picks;
 mod place;
+mod put;
+mod reading;
 mod reason;
+mod sessions;
+mod shape;
 mod starts;
+mod steps;
+mod syntax;
+mod unbound;
 mod words;
 
+pub use laws::a_refused_text_has_its_place;
 pub use line::explain;
 pub use place::{Place, place_of};
 pub use reason::{FormRule, Reason, TextRule};

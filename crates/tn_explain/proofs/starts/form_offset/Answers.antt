@@ -8,9 +8,9 @@ pub returns-in-Ok : goal.returns-in-Ok
 returns-in-Ok g c =
     let before : c.saturating_sub.result ≡ c.args.form - 1 = omega arith in
     let is : c.start_behind.result ≡ start_in (length c.args.text.now) (c.args.form - 1) c.in-Ok.tokens.items =
-        c.start_behind.ensures
-        ∙ ap (λ n. start_in (length c.args.text.now) n c.deref.result.now) before
-        ∙ ap (λ vs. start_in (length c.args.text.now) (c.args.form - 1) vs) c.deref.ensures.value in
+    c.start_behind.ensures
+    ∙ ap (λ n. start_in (length c.args.text.now) n c.deref.result.now) before
+    ∙ ap (λ vs. start_in (length c.args.text.now) (c.args.form - 1) vs) c.deref.ensures.value in
     subst (FormBegins c.args.text.now c.args.form) (sym is) (form_begins c.args.text.now c.args.form c.in-Ok.tokens.items c.in-Ok.ensures)
 
 pub returns-in-Err-TooLong : goal.returns-in-Err-TooLong
