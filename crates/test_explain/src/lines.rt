@@ -15,7 +15,8 @@ struct Row {
 const TEXTS: [Row; 12] = [
     Row {
         text: "{function,m,go,exported,['To'],\n  [{send,To,1}]}.\n",
-        line: "script.term:2:10: syntax error: a term expected, found the variable To: variables are written in quotes, 'To'",
+        line: "script.term:2:10: syntax error: a term expected, found the variable To: variables are \
+            written in quotes, 'To'",
     },
     Row {
         text: "{process,m,f,[]}",
@@ -27,7 +28,8 @@ const TEXTS: [Row; 12] = [
     },
     Row {
         text: "{function,m,f,exported,[],[{receive,'X'}]}.",
-        line: "script.term:1:29: syntax error: a term or '}' expected, found the reserved word receive: reserved words are written in quotes, 'receive'",
+        line: "script.term:1:29: syntax error: a term or '}' expected, found the reserved word receive: \
+            reserved words are written in quotes, 'receive'",
     },
     Row {
         text: "{control,[a,]}.",
@@ -55,7 +57,8 @@ const TEXTS: [Row; 12] = [
     },
     Row {
         text: "{a,\n\n9223372036854775808}.",
-        line: "script.term:3:1: integers have 64 bits, atoms 255 characters, tuples 255 elements, lists 4096: found the number 9223372036854775808",
+        line: "script.term:3:1: integers have 64 bits, atoms 255 characters, tuples 255 elements, lists \
+            4096: found the number 9223372036854775808",
     },
     Row {
         text: "{a,?}.",
@@ -142,7 +145,9 @@ fn refused_picks_have_their_line(rt: HostRuntime) -> Result<(), Fail> {
     let line = explain(rt.alloc(), "picks", b"0 100 07 1", Reason::BadPicks)?;
     assert_eq!(rt;
         line.as_slice(),
-        b"picks: picks are numbers up to 4294967295 with one space between each two: pick 3, '07', has a leading zero".as_slice()
+        b"picks: picks are numbers up to 4294967295 with one space between each two: pick 3, '07', has a \
+            leading zero"
+            .as_slice()
     );
     Ok(())
 }

@@ -34,7 +34,8 @@ fn a_17th_process_passes_the_limit(rt: HostRuntime) -> Result<(), Fail> {
         &rt,
         alloc,
         &text,
-        b"long:18: form 18: at most 64 functions, 64 steps in each, 16 processes, 256 commands, 32 sessions: 17 processes up to here",
+        b"long:18: form 18: at most 64 functions, 64 steps in each, 16 processes, 256 commands, 32 \
+            sessions: 17 processes up to here",
     )
 }
 
