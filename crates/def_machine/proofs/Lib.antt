@@ -3,3 +3,7 @@ pub mod Fine
 pub mod Known
 pub mod Fronts
 pub mod Patterns
+pub mod Values
+pub mod Clauses
+pub mod Inside
+pub mod Safe
