@@ -7,3 +7,6 @@ pub mod Values
 pub mod Clauses
 pub mod Inside
 pub mod Safe
+pub mod Placed
+pub mod Endings
+pub mod Compiled
