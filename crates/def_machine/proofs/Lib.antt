@@ -10,3 +10,5 @@ pub mod Safe
 pub mod Placed
 pub mod Endings
 pub mod Compiled
+pub mod Checked
+mod Rows
