@@ -1,9 +1,9 @@
 -- Code that is checked is valid.
-use Rattle.std.proofs.Common.{◌≡◌, ℕ, zero, suc, ◌+◌, ◌<◌, ◌≤◌, List, [], ◌∷◌, length, Option, Some, None, refl, sym, ap, ◌∙◌, subst, arith, Bool, true, false, nat_le, slice_get, ◌==◌, ◌&&◌, ◌||◌, inl, inr, ◌⊎◌, ⊎_elim, eq-eqb, eqb-true}
+use Rattle.std.proofs.Common.{◌≡◌, ℕ, zero, suc, ◌<◌, ◌≤◌, List, [], ◌∷◌, length, Option, Some, refl, sym, ap, ◌∙◌, subst, arith, Bool, true, false, nat_le, slice_get, ◌==◌, ◌&&◌, ◌||◌, inl, inr, ◌⊎◌, ⊎_elim, eq-eqb, eqb-true}
 use Rattle.std.proofs.lemmas.Bool.{leb-true, cases_lt}
 use Rattle.std.proofs.lemmas.Option.{slice_get_within}
 use Rattle.def_machine.specs.Instructions.{Instruction}
-use Rattle.def_machine.specs.Validity.{Each, ways, Way, leads_to, reads, has_its_number, RegisterSet, no_register, adding, LeadsForward, IsInPlace, Standing, ReadsSet, Valid}
+use Rattle.def_machine.specs.Validity.{Each, ways, Way, leads_to, reads, has_its_number, RegisterSet, no_register, adding, LeadsForward, IsInPlace, Standing, ReadsSet}
 use Rattle.def_machine.specs.Checking.{all_below, some_below, all_of_them, where_standing, is_one_of, leads_forward, stops_at, sets_before, is_set_before, is_fine, is_checked}
 use Rattle.def_machine.specs.Laws.{CheckedCodeIsValid}
 
@@ -60,21 +60,23 @@ stops-here : (q p r j : ℕ) (w : Way) → stops_at q p r j w ≡ true → (lead
 stops-here q p r j w h = ⊎_elim
     (λ a. inl (leb-true (leads_to j w) q a))
     (λ x. ⊎_elim
-      (λ b. inr (inl (leb-true (suc p) (leads_to j w) b)))
-      (λ y. let z : ((j == q) ≡ true) × (is_one_of r w.sets ≡ true) = both_true (j == q) (is_one_of r w.sets) y in inr (inr (eqb-true j q z.0, is_there r w.sets z.1)))
-      (either_true (nat_le (suc p) (leads_to j w)) (j == q && is_one_of r w.sets) x))
+    (λ b. inr (inl (leb-true (suc p) (leads_to j w) b)))
+    (λ y. let z : ((j == q) ≡ true) × (is_one_of r w.sets ≡ true) = both_true (j == q) (is_one_of r w.sets) y in inr (inr (eqb-true j q z.0, is_there r w.sets z.1)))
+    (either_true (nat_le (suc p) (leads_to j w)) (j == q && is_one_of r w.sets) x))
     (either_true (nat_le (leads_to j w) q) (nat_le (suc p) (leads_to j w) || (j == q && is_one_of r w.sets)) h)
 
 guards-here : (code : List Instruction) (p r : ℕ) → is_set_before code p r ≡ true → (q : ℕ) × Guards code q p r
 guards-here code p r h =
-    let s : (q : ℕ) × (q < p) × (sets_before code p r q ≡ true) = some_holds p (sets_before code p r) h in
-    (s.0, record {
-      before = s.1;
-      stops = λ j i w le at here. stops-here s.0 p r j w
-        (of_all (stops_at s.0 p r j) (ways i) w
-          (standing_there (λ k. all_of_them (stops_at s.0 p r j) (ways k)) (slice_get code j) i at
+    let s : (q : ℕ) × (q < p) × (sets_before code p r q ≡ true) = some_holds p (sets_before code p r) h in (
+      s.0,
+      record {
+        before = s.1;
+        stops = λ j i w le at here. stops-here s.0 p r j w
+            (of_all (stops_at s.0 p r j) (ways i) w
+            (standing_there (λ k. all_of_them (stops_at s.0 p r j) (ways k)) (slice_get code j) i at
             (all_hold (suc s.0) (λ k. where_standing (λ x. all_of_them (stops_at s.0 p r k) (ways x)) (slice_get code k)) s.2 j (omega (arith, le)))) here);
-    })
+      },
+    )
 
 guard_on : (code : List Instruction) (p p1 q r : ℕ) → q < p → p ≤ p1 → Guards code q p1 r → Guards code q p r
 guard_on code p p1 q r l le g = record {
@@ -137,9 +139,9 @@ module _ (code : List Instruction) (h : is_checked code ≡ true) where
       record {
         number = f.0;
         forward = each-holds (LeadsForward code p) (leads_forward code p) (ways i)
-          (λ w x. let b : (nat_le (suc p) (leads_to p w) ≡ true) × (nat_le (suc (leads_to p w)) (length code) ≡ true) = both_true _ _ x in
+            (λ w x. let b : (nat_le (suc p) (leads_to p w) ≡ true) × (nat_le (suc (leads_to p w)) (length code) ≡ true) = both_true _ _ x in
             record { forward = leb-true (suc p) (leads_to p w) b.0; inside = leb-true (suc (leads_to p w)) (length code) b.1 })
-          (both_true _ _ f.1).0;
+            (both_true _ _ f.1).0;
       }
 
   guarded : (p r : ℕ) (i : Instruction) → slice_get code p ≡ Some i → IsIn r (reads i) → (q : ℕ) × Guards code q p r
@@ -150,11 +152,12 @@ module _ (code : List Instruction) (h : is_checked code ≡ true) where
   reads-set (suc n) p s l keep =
       let P : Instruction → Type 0 = λ i. Each (λ r. s r ≡ true) (reads i) × Each (λ w. ReadsSet code n (leads_to p w) (adding w.sets s)) (ways i) in
       let t : (i : Instruction) × (slice_get code p ≡ Some i) = there-is code p l in
-      subst (Standing P) (sym t.1)
-        (every (reads t.0) (λ r here. let g : (q : ℕ) × Guards code q p r = guarded p r t.0 t.1 here in keep g.0 r g.1),
+      subst (Standing P) (sym t.1) (
+        every (reads t.0) (λ r here. let g : (q : ℕ) × Guards code q p r = guarded p r t.0 t.1 here in keep g.0 r g.1),
         every (ways t.0) (λ w here.
-          let f : LeadsForward code p w = of_each (LeadsForward code p) (ways t.0) w (in_place p t.0 t.1).forward here in
-          reads-set n (leads_to p w) (adding w.sets s) f.inside (step_kept code p s t.0 w t.1 here f.forward keep)))
+            let f : LeadsForward code p w = of_each (LeadsForward code p) (ways t.0) w (in_place p t.0 t.1).forward here in
+            reads-set n (leads_to p w) (adding w.sets s) f.inside (step_kept code p s t.0 w t.1 here f.forward keep)),
+      )
 
 pub checked_code_is_valid : CheckedCodeIsValid
 checked_code_is_valid code h =

@@ -1,5 +1,5 @@
 -- What follows stays behind the code.
-use Rattle.std.proofs.Common.{ℕ, suc, ◌+◌, List, ◌∷◌, length, Option, Some, None, true, false}
+use Rattle.std.proofs.Common.{ℕ, suc, ◌+◌, List, Option, Some, None}
 use Rattle.std.specs.FinMap.{find}
 use Rattle.std.proofs.Common.{nat_cmp}
 use Rattle.def_spec.specs.Matching.{Pattern, Patterns, variable, anything, only_term, in_tuple, in_list, no_patterns, and_pattern}

@@ -1,5 +1,5 @@
 -- A pattern's code binds as the walk does, or goes where the pattern doesn't match.
-use Rattle.std.proofs.Common.{◌≡◌, ℕ, zero, suc, ◌+◌, ◌-◌, ◌<◌, ◌≤◌, List, [], ◌∷◌, length, drop, Option, Some, None, refl, sym, ap, ◌∙◌, subst, arith, Bool, true, false, ◌==◌, if◌then◌else◌, eqb-true, eq-eqb, option_map, nat_cmp, option_and_then}
+use Rattle.std.proofs.Common.{◌≡◌, ℕ, zero, suc, ◌+◌, ◌-◌, ◌<◌, List, length, Option, Some, None, refl, sym, ap, ◌∙◌, subst, arith, Bool, true, false, ◌==◌, if◌then◌else◌, eqb-true, eq-eqb, option_map, nat_cmp, option_and_then}
 use Rattle.std.specs.FinMap.{find, put}
 use Rattle.def_term.specs.Tree.{Tree, tuple, list, int, atom, pid, Trees, none, more, count}
 use Rattle.def_term.specs.Order.{same}
@@ -7,11 +7,11 @@ use Rattle.def_spec.specs.Matching.{Pattern, Patterns, variable, anything, only_
 use Rattle.def_spec.specs.Functions.{nth}
 use Rattle.def_spec.specs.Expressions.{Context, Effect}
 use Rattle.def_spec.specs.Outcome.{Outcome}
-use Rattle.def_machine.specs.Instructions.{Kind, kind_tuple, kind_list, Instruction, load_constant, take_element, test_kind, test_length, test_equal}
-use Rattle.def_machine.specs.Machine.{Registers, with_register, Move, going_to, setting, tested, parts, has_kind, taken, equal_terms, does}
+use Rattle.def_machine.specs.Instructions.{Kind, kind_tuple, kind_list, Instruction, take_element, test_kind, test_length, test_equal}
+use Rattle.def_machine.specs.Machine.{Registers, with_register, going_to, setting, tested, parts, has_kind, taken, equal_terms, does}
 use Rattle.def_machine.specs.Compiling.{VariableRegisters, jumping, registers_taken, registers_taken_each, variable_met, variables_after, variables_after_each, variable_code, pattern_code, each_pattern_code}
-use Rattle.def_machine.proofs.Runs.{Ends, by_move, Before, jump_to, before-cons, before-trans}
-use Rattle.def_machine.proofs.Known.{Known, terms_of, where_of, Holds, Agree, holds-on, agree-self, agree-both, agree-less, agree-with, with-same, put-terms, put-where, put-holds, found, FoundAs}
+use Rattle.def_machine.proofs.Runs.{Ends, by_move, Before, jump_to, before-trans}
+use Rattle.def_machine.proofs.Known.{Known, terms_of, where_of, Holds, Agree, holds-on, agree-self, agree-both, agree-with, with-same, put-terms, put-where, put-holds, found, FoundAs}
 use Rattle.def_machine.proofs.Fronts.{pattern_front, each_front}
 
 abbrev past : ℕ → Trees → Trees
@@ -24,7 +24,6 @@ nth_nil zero none e = refl
 nth_nil zero (more u us) e = cc
 nth_nil (suc i) none e = refl
 nth_nil (suc i) (more u us) e = nth_nil i us e
-
 
 nth_cons : (i : ℕ) (us : Trees) (t : Tree) (ts : Trees) → past i us ≡ more t ts → nth us i ≡ Some t
 nth_cons zero none t ts e = cc
@@ -78,8 +77,8 @@ module _ (c : Context) (o : Outcome) (F : List Instruction) (e : List Effect) wh
   var_ends n t m r d k g (Some q) (Some u) at l holds is b after =
       let z : d ≡ d + 0 = omega arith in
       test_ends (test_equal q r) (same u t) k g b (λ j. ap (option_map (λ s. tested s j g e)) (same_known g q r u t at.1 is))
-        (λ yes. subst (AfterPattern k (where_of m) g d (d + 0)) (chosen (same u t) (terms_of m) yes) after g m (agree-self d g) (subst (λ w. Holds g w m) z holds) refl refl)
-        (λ no. subst (AfterPattern k (where_of m) g d (d + 0)) (refused (same u t) (terms_of m) no) after g)
+      (λ yes. subst (AfterPattern k (where_of m) g d (d + 0)) (chosen (same u t) (terms_of m) yes) after g m (agree-self d g) (subst (λ w. Holds g w m) z holds) refl refl)
+      (λ no. subst (AfterPattern k (where_of m) g d (d + 0)) (refused (same u t) (terms_of m) no) after g)
 
   -- the kind is tested, and then the parts
   kind_ends : (kind : Kind) (r : ℕ) (t : Tree) (rest : List Instruction) (g : Registers) → g r ≡ Some t → Before rest F → (has_kind kind t ≡ true → Ends c o rest g e) → (has_kind kind t ≡ false → Ends c o F g e) → Ends c o (jumping (test_kind r kind) (length F) rest) g e
@@ -93,9 +92,9 @@ module _ (c : Context) (o : Outcome) (F : List Instruction) (e : List Effect) wh
       let num : d1 + registers_taken_each ps ≡ d + registers_taken_each (and_pattern p ps) = omega arith in
       let all : Agree d g j = agree-both d (suc d) g h j (omega arith) a a1 in
       subst (λ w. Ends c o (each_pattern_code ps w r (suc i) d1 (length F) k) j e) places
-        (go m1 d1 j (omega (arith, l)) holds (all r l ∙ is)
-          (later k (variables_after_each ps (variables_after p (where_of m) d (suc d)) d1) (variables_after_each ps (where_of m1) d1) g j d d1 (d + registers_taken_each (and_pattern p ps)) (d1 + registers_taken_each ps) (bind_each ps ts (terms_of m1)) (λ q x. agree-both d d1 g j q (omega arith) all x) num (ap (λ w. variables_after_each ps w d1) places)
-            (subst (λ y. AfterPattern k (variables_after_each (and_pattern p ps) (where_of m) d) g d (d + registers_taken_each (and_pattern p ps)) (bind_each ps ts y)) (sym terms) after)))
+      (go m1 d1 j (omega (arith, l)) holds (all r l ∙ is)
+      (later k (variables_after_each ps (variables_after p (where_of m) d (suc d)) d1) (variables_after_each ps (where_of m1) d1) g j d d1 (d + registers_taken_each (and_pattern p ps)) (d1 + registers_taken_each ps) (bind_each ps ts (terms_of m1)) (λ q x. agree-both d d1 g j q (omega arith) all x) num (ap (λ w. variables_after_each ps w d1) places)
+      (subst (λ y. AfterPattern k (variables_after_each (and_pattern p ps) (where_of m) d) g d (d + registers_taken_each (and_pattern p ps)) (bind_each ps ts y)) (sym terms) after)))
 
   takes : (d r i n : ℕ) (u : Tree) (x : Option Tree) (g : Registers) → g r ≡ Some u → nth (parts u) i ≡ x → does c (take_element d r i n) g e ≡ Some (taken d n x g e)
   takes d r i n u x g is at = ap (option_map (λ s. taken d n (nth (parts s) i) g e)) is ∙ ap (λ s. Some (taken d n s g e)) at
@@ -114,9 +113,9 @@ module _ (c : Context) (o : Outcome) (F : List Instruction) (e : List Effect) wh
         let h : Registers = with_register d u g in
         let a : Agree d g h = agree-with d d u g (omega arith) in
         by_move c o _ _ g e (setting d u g e) refl
-          (test_ends (test_equal d r) (same u t) k h b (λ j. ap (option_map (λ s. tested s j h e)) (same_known h d r u t (with-same d u g) (a r l ∙ is)))
-            (λ yes. subst (AfterPattern k (where_of m) g d (d + 1)) (chosen (same u t) (terms_of m) yes) after h m a (holds-on g h d (d + 1) m (omega arith) a holds) refl refl)
-            (λ no. subst (AfterPattern k (where_of m) g d (d + 1)) (refused (same u t) (terms_of m) no) after h))
+        (test_ends (test_equal d r) (same u t) k h b (λ j. ap (option_map (λ s. tested s j h e)) (same_known h d r u t (with-same d u g) (a r l ∙ is)))
+        (λ yes. subst (AfterPattern k (where_of m) g d (d + 1)) (chosen (same u t) (terms_of m) yes) after h m a (holds-on g h d (d + 1) m (omega arith) a holds) refl refl)
+        (λ no. subst (AfterPattern k (where_of m) g d (d + 1)) (refused (same u t) (terms_of m) no) after h))
     pattern_ends (in_tuple ps) (tuple ts) m r d k g l holds is b after =
         kind_ends kind_tuple r (tuple ts) _ g is (before-trans _ k F (each_front ps (where_of m) r 0 d (length F) k) b) (λ _. each_ends ps ts (tuple ts) 0 m r d k g l holds is refl (omega arith) b after) (λ no. cc)
     pattern_ends (in_tuple ps) (list ts) m r d k g l holds is b after = kind_ends kind_tuple r (list ts) _ g is (before-trans _ k F (each_front ps (where_of m) r 0 d (length F) k) b) (λ yes. cc) (λ no. after g)
@@ -147,5 +146,5 @@ module _ (c : Context) (o : Outcome) (F : List Instruction) (e : List Effect) wh
         let d1 : ℕ = suc d + registers_taken p in
         let env1 : VariableRegisters = variables_after p (where_of m) d (suc d) in
         some_ends d r i u t _ g is (nth_cons i (parts u) t ts at)
-          (pattern_ends p t m d (suc d) _ h (omega arith) (holds-on g h d (suc d) m (omega arith) a holds) (with-same d t g) (before-trans _ k F (each_front ps env1 r (suc i) d1 (length F) k) b)
-            (rest_ends p ps ts u i m r d k g h (bind_on p t (terms_of m)) (λ m1 d2 j l1 h1 is1 after1. each_ends ps ts u (suc i) m1 r d2 k j l1 h1 is1 (past_cons i (parts u) t ts at) (omega (arith, n)) b after1) l a is after))
+        (pattern_ends p t m d (suc d) _ h (omega arith) (holds-on g h d (suc d) m (omega arith) a holds) (with-same d t g) (before-trans _ k F (each_front ps env1 r (suc i) d1 (length F) k) b)
+        (rest_ends p ps ts u i m r d k g h (bind_on p t (terms_of m)) (λ m1 d2 j l1 h1 is1 after1. each_ends ps ts u (suc i) m1 r d2 k j l1 h1 is1 (past_cons i (parts u) t ts at) (omega (arith, n)) b after1) l a is after))

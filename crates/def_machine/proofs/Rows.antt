@@ -1,14 +1,14 @@
 -- The code of worked specifications, computed, and the outcomes of its runs.
-use Rattle.std.proofs.Common.{◌≡◌, List, [], ◌∷◌, pos, true, false, refl, Ok, Some}
-use Rattle.def_term.specs.Tree.{Tree, int, tuple, list, none, more}
+use Rattle.std.proofs.Common.{◌≡◌, [], ◌∷◌, pos, true, false, refl, Ok}
+use Rattle.def_term.specs.Tree.{int, tuple, list, none, more}
 use Rattle.def_term.specs.Names.{word}
 use Rattle.def_spec.specs.Matching.{variable, anything, in_list, no_patterns, and_pattern}
 use Rattle.def_spec.specs.Functions as fn
 use Rattle.def_spec.specs.Functions.{truth}
-use Rattle.def_spec.specs.Expressions.{for_calls, for_sends, message, return_trace, caller, bound_to, whole_list, all_bound, constant, list_of, call, and_also, or_else, perform, no_exprs, and_expr}
+use Rattle.def_spec.specs.Expressions.{for_calls, for_sends, message, bound_to, all_bound, constant, list_of, call, or_else, perform, no_exprs, and_expr}
 use Rattle.def_spec.specs.Outcome.{Spec}
 use Rattle.def_spec.specs.Reading.{spec_of}
-use Rattle.def_machine.specs.Instructions.{Instruction, kind_list, goes_on_at, gives_exit, load_constant, load_list, take_element, test_kind, test_length, test_equal, jump, build, apply_function, perform_action, end_with_match, end_without_match}
+use Rattle.def_machine.specs.Instructions.{kind_list, goes_on_at, gives_exit, load_constant, load_list, take_element, test_kind, test_length, test_equal, jump, build, apply_function, perform_action, end_with_match, end_without_match}
 use Rattle.def_machine.specs.Compiling.{code_of}
 use Rattle.def_machine.specs.Checking.{is_checked}
 
@@ -17,17 +17,17 @@ abbrev guard_fault : Spec
 guard_fault = record {
   dialect = for_calls;
   clauses =
-    record {
-      head = in_list (and_pattern (variable 1) no_patterns);
-      conditions = and_expr (call fn.greater (and_expr (call fn.head (and_expr (bound_to 1) no_exprs)) (and_expr (constant (int (pos 3))) no_exprs))) no_exprs;
-      body = no_exprs;
-    }
-    ∷ record {
-      head = in_list (and_pattern anything no_patterns);
-      conditions = no_exprs;
-      body = and_expr (perform message (and_expr (constant (word "second")) no_exprs)) no_exprs;
-    }
-    ∷ [];
+      record {
+        head = in_list (and_pattern (variable 1) no_patterns);
+        conditions = and_expr (call fn.greater (and_expr (call fn.head (and_expr (bound_to 1) no_exprs)) (and_expr (constant (int (pos 3))) no_exprs))) no_exprs;
+        body = no_exprs;
+      }
+      ∷ record {
+        head = in_list (and_pattern anything no_patterns);
+        conditions = no_exprs;
+        body = and_expr (perform message (and_expr (constant (word "second")) no_exprs)) no_exprs;
+      }
+      ∷ [];
 }
 
 guard_fault_is_read : spec_of for_calls (list

@@ -1,19 +1,18 @@
 -- An expression's code gives its value and its effects.
-use Rattle.std.proofs.Common.{◌≡◌, ℕ, zero, suc, ◌+◌, ◌-◌, ◌<◌, ◌≤◌, List, [], ◌∷◌, ◌++◌, length, drop, Option, Some, None, refl, sym, ap, ◌∙◌, subst, arith, Bool, true, false, ◌==◌, if◌then◌else◌, option_map, nat_cmp, option_and_then, is_some, unwrap_or, append_assoc, append-nil, inl, inr, ◌⊎◌}
+use Rattle.std.proofs.Common.{◌≡◌, ℕ, suc, ◌-◌, ◌<◌, List, [], ◌∷◌, ◌++◌, length, Option, Some, None, refl, sym, ap, ◌∙◌, subst, arith, Bool, true, false, if◌then◌else◌, option_map, nat_cmp, option_and_then, is_some, unwrap_or, append_assoc, append-nil}
 use Rattle.std.specs.FinMap.{find}
 use Rattle.def_term.specs.Tree.{Tree, list, of_elements}
-use Rattle.def_term.specs.Order.{same}
 use Rattle.def_term.specs.Names.{word}
 use Rattle.def_spec.specs.Matching.{Pattern, Matches, value_bound, occurs}
 use Rattle.def_spec.specs.Functions.{Func, apply, truth, is_true}
 use Rattle.def_spec.specs.Expressions.{Dialect, Expr, Exprs, no_exprs, and_expr, bound_to, whole_list, all_bound, constant, tuple_of, list_of, call, and_also, or_else, perform, Context, Effect, Part, in_condition, in_body, Action, action_done, value, values, all_in_turn, one_in_turn, if_true, unless_true, before, settled, value_part, own_effects, effects, effects_of_all, effects_while_true, effects_until_true, is_true_value, values_bound}
 use Rattle.def_spec.specs.Outcome.{Outcome, matched_term}
-use Rattle.def_machine.specs.Instructions.{Kind, kind_tuple, kind_list, OnFault, goes_on_at, gives_exit, Instruction, load_constant, load_list, test_equal, jump, build, apply_function, perform_action}
-use Rattle.def_machine.specs.Machine.{Registers, with_register, Move, going_on, going_to, setting, tested, built, terms_in, applied, performed, equal_terms, does}
-use Rattle.def_machine.specs.Compiling.{VariableRegisters, jumping, register_of, registers_of, all_registers, call_code, expr_code, exprs_code, while_true_code, until_true_code}
+use Rattle.def_machine.specs.Instructions.{Kind, kind_tuple, kind_list, goes_on_at, gives_exit, Instruction, load_constant, load_list, test_equal, jump, build, apply_function, perform_action}
+use Rattle.def_machine.specs.Machine.{Registers, with_register, setting, tested, built, terms_in, applied, performed}
+use Rattle.def_machine.specs.Compiling.{jumping, register_of, registers_of, all_registers, call_code, expr_code, exprs_code, while_true_code, until_true_code}
 use Rattle.def_machine.proofs.Fine.{IsFine, AreFine, values-some, all-some, one-some}
-use Rattle.def_machine.proofs.Runs.{Ends, by_move, Before, jump_to, behind, before-self, before-cons, before-trans}
-use Rattle.def_machine.proofs.Known.{Known, terms_of, where_of, Holds, Agree, holds-on, agree-self, agree-both, agree-less, agree-with, with-same, found, FoundAs, prepended, all-held}
+use Rattle.def_machine.proofs.Runs.{Ends, by_move, Before, behind, before-self, before-cons, before-trans}
+use Rattle.def_machine.proofs.Known.{Known, terms_of, where_of, Holds, Agree, holds-on, agree-self, agree-both, agree-with, with-same, found, FoundAs, prepended, all-held}
 use Rattle.def_machine.proofs.Fronts.{exprs_front, while_front, until_front}
 use Rattle.def_machine.proofs.Patterns.{jump_ends, test_ends, same_known}
 
@@ -143,10 +142,10 @@ module _ (dialect : Dialect) (c : Context) (o : Outcome) (F : List Instruction) 
   perform_ends : (a : Action) (k : List Instruction) (g h : Registers) (d : ℕ) (rs : List ℕ) (e x : List Effect) (ts : List Tree) (y : Option (Tree × List Effect)) → action_done dialect a ts c ≡ y → terms_in h rs ≡ Some ts → Agree d g h → AfterValue in_body k g d d e (settled in_body (value_part y)) (x ++ own_effects y) → Ends c o (perform_action dialect a d rs ∷ k) h (e ++ x)
   perform_ends a k g h d rs e x ts None gives is ag after =
       by_move c o (perform_action dialect a d rs) k h (e ++ x) (setting d (word "EXIT") h (e ++ x)) (ap (option_map (λ us. performed d (action_done dialect a us c) h (e ++ x))) is ∙ ap (λ y. Some (performed d y h (e ++ x))) gives)
-        (same_effects k _ _ _ (ap (λ l. e ++ l) (append-nil x)) (then_set in_body k g h d e (x ++ []) (word "EXIT") ag after))
+      (same_effects k _ _ _ (ap (λ l. e ++ l) (append-nil x)) (then_set in_body k g h d e (x ++ []) (word "EXIT") ag after))
   perform_ends a k g h d rs e x ts (Some y) gives is ag after =
       by_move c o (perform_action dialect a d rs) k h (e ++ x) (setting d y.0 h ((e ++ x) ++ y.1)) (ap (option_map (λ us. performed d (action_done dialect a us c) h (e ++ x))) is ∙ ap (λ z. Some (performed d z h (e ++ x))) gives)
-        (same_effects k _ _ _ (sym (append_assoc e x y.1)) (then_set in_body k g h d e (x ++ y.1) y.0 ag after))
+      (same_effects k _ _ _ (sym (append_assoc e x y.1)) (then_set in_body k g h d e (x ++ y.1) y.0 ag after))
 
   perform_after : (a : Action) (es : Exprs) (k : List Instruction) (g : Registers) (d : ℕ) (rs : List ℕ) (e x : List Effect) (y : Option (List Tree)) → values dialect in_body (terms_of m) c es ≡ y → AreFine in_body p es → AfterValue in_body k g d d e (settled in_body (option_and_then (λ ts. value_part (action_done dialect a ts c)) y)) (x ++ own_effects (option_and_then (λ ts. action_done dialect a ts c) y)) → AfterValues in_body (perform_action dialect a d rs ∷ k) g d rs e y x
   perform_after a es k g d rs e x None is fine after = none_some _ is (values-some dialect p (matched_term c) (terms_of m) c is_match es fine)
@@ -160,9 +159,10 @@ module _ (dialect : Dialect) (c : Context) (o : Outcome) (F : List Instruction) 
   chain_after : (q : Part) (s u : Tree) (k : List Instruction) (g : Registers) (d : ℕ) (e x : List Effect) (y : Option Tree) → AfterValue q k g d d e y x → AfterTurns q s u (load_constant d s ∷ k) k (with_register d u g) (suc d) e y x
   chain_after q s u k g d e x None after = after
   chain_after q s u k g d e x (Some t) after = λ h a.
-      let b : Agree d g h = agree-both d (suc d) g (with_register d u g) h (omega arith) (agree-with d d u g (omega arith)) a in
-      ((λ is. by_move c o (load_constant d s) k h (grown q e x) (setting d s h (grown q e x)) refl (then_set q k g h d e x s b (subst (λ z. AfterValue q k g d d e (Some z) x) is after))),
-      (λ is. after h b (a d (omega arith) ∙ with-same d u g ∙ ap Some (sym is))))
+      let b : Agree d g h = agree-both d (suc d) g (with_register d u g) h (omega arith) (agree-with d d u g (omega arith)) a in (
+        (λ is. by_move c o (load_constant d s) k h (grown q e x) (setting d s h (grown q e x)) refl (then_set q k g h d e x s b (subst (λ z. AfterValue q k g d d e (Some z) x) is after))),
+        (λ is. after h b (a d (omega arith) ∙ with-same d u g ∙ ap Some (sym is))),
+      )
 
   later_turns : (q : Part) (s u : Tree) (k l : List Instruction) (g g' : Registers) (d : ℕ) (e e' x x' : List Effect) (y : Option Tree) → (y ≡ None → e ≡ e') → grown q e x ≡ grown q e' x' → Agree d g g' → AfterTurns q s u k l g d e y x → AfterTurns q s u k l g' d e' y x'
   later_turns q s u k l g g' d e e' x x' None f is a after = λ h. same_effects F h e e' (f refl) (after h)
@@ -186,13 +186,13 @@ module _ (dialect : Dialect) (c : Context) (o : Outcome) (F : List Instruction) 
       let a1 : Agree (suc d) h h1 = agree-with (suc d) (suc d) (truth true) h (omega arith) in
       let a2 : Agree d g h1 = agree-both d (suc d) g h h1 (omega arith) a a1 in
       by_move c o (load_constant (suc d) (truth true)) _ h (grown q e x) (setting (suc d) (truth true) h (grown q e x)) refl
-        (test_ends c o l (grown q e x) (test_equal r (suc d)) (is_true t) _ h1 b
-          (λ j. ap (option_map (λ s. tested s j h1 (grown q e x))) (same_known c o F e h1 r (suc d) t (truth true) (a1 r (register_below q ex g d fx holds) ∙ at) (with-same (suc d) (truth true) h)))
-          (λ w. go h1 (grown q e x) (holds-on g h1 d d m (omega arith) a2 holds)
-            (later_turns q _ _ k l g h1 d e (grown q e x) _ z _ (fault-while q es e x fine) (joined-true q e x z (λ v. value dialect v (terms_of m) c ex) t is w) a2
-              (subst (λ s. AfterTurns q (truth true) (truth false) k l g d e (if s then all_in_turn dialect q (terms_of m) c es else Some (truth false)) (effects_while_true dialect (terms_of m) c (and_expr ex es))) w after)))
-          (λ w. same_effects l h1 _ _ (joined-false q e x z (λ v. value dialect v (terms_of m) c ex) t is w)
-            ((subst (λ s. AfterTurns q (truth true) (truth false) k l g d e (if s then all_in_turn dialect q (terms_of m) c es else Some (truth false)) (effects_while_true dialect (terms_of m) c (and_expr ex es))) w after h1 a2).1 refl)))
+      (test_ends c o l (grown q e x) (test_equal r (suc d)) (is_true t) _ h1 b
+      (λ j. ap (option_map (λ s. tested s j h1 (grown q e x))) (same_known c o F e h1 r (suc d) t (truth true) (a1 r (register_below q ex g d fx holds) ∙ at) (with-same (suc d) (truth true) h)))
+      (λ w. go h1 (grown q e x) (holds-on g h1 d d m (omega arith) a2 holds)
+      (later_turns q _ _ k l g h1 d e (grown q e x) _ z _ (fault-while q es e x fine) (joined-true q e x z (λ v. value dialect v (terms_of m) c ex) t is w) a2
+      (subst (λ s. AfterTurns q (truth true) (truth false) k l g d e (if s then all_in_turn dialect q (terms_of m) c es else Some (truth false)) (effects_while_true dialect (terms_of m) c (and_expr ex es))) w after)))
+      (λ w. same_effects l h1 _ _ (joined-false q e x z (λ v. value dialect v (terms_of m) c ex) t is w)
+      ((subst (λ s. AfterTurns q (truth true) (truth false) k l g d e (if s then all_in_turn dialect q (terms_of m) c es else Some (truth false)) (effects_while_true dialect (terms_of m) c (and_expr ex es))) w after h1 a2).1 refl)))
 
   skip_ends : (b : Bool) (l rest : List Instruction) (h : Registers) (e : List Effect) → Before rest l → (b ≡ true → Ends c o l h e) → (b ≡ false → Ends c o rest h e) → Ends c o (behind (tested b 1 h e).elsewhere (jumping jump (length l) rest)) h e
   skip_ends true l rest h e b y n = jump_ends c o l e jump rest h h b refl (y refl)
@@ -208,21 +208,21 @@ module _ (dialect : Dialect) (c : Context) (o : Outcome) (F : List Instruction) 
       let a1 : Agree (suc d) h h1 = agree-with (suc d) (suc d) (truth true) h (omega arith) in
       let a2 : Agree d g h1 = agree-both d (suc d) g h h1 (omega arith) a a1 in
       by_move c o (load_constant (suc d) (truth true)) _ h (grown q e x) (setting (suc d) (truth true) h (grown q e x)) refl
-        (by_move c o (test_equal r (suc d) 1) _ h1 (grown q e x) (tested (is_true t) 1 h1 (grown q e x))
-          (ap (option_map (λ s. tested s 1 h1 (grown q e x))) (same_known c o F e h1 r (suc d) t (truth true) (a1 r (register_below q ex g d fx holds) ∙ at) (with-same (suc d) (truth true) h)))
-          (skip_ends (is_true t) l _ h1 (grown q e x) b
-            (λ w. same_effects l h1 _ _ (until-true q e x z (λ v. value dialect v (terms_of m) c ex) t is w)
-              ((subst (λ s. AfterTurns q (truth false) (truth true) k l g d e (if s then Some (truth true) else one_in_turn dialect q (terms_of m) c es) (effects_until_true dialect (terms_of m) c (and_expr ex es))) w after h1 a2).1 refl))
-            (λ w. go h1 (grown q e x) (holds-on g h1 d d m (omega arith) a2 holds)
-              (later_turns q _ _ k l g h1 d e (grown q e x) _ z _ (fault-until q es e x fine) (until-false q e x z (λ v. value dialect v (terms_of m) c ex) t is w) a2
-                (subst (λ s. AfterTurns q (truth false) (truth true) k l g d e (if s then Some (truth true) else one_in_turn dialect q (terms_of m) c es) (effects_until_true dialect (terms_of m) c (and_expr ex es))) w after)))))
+      (by_move c o (test_equal r (suc d) 1) _ h1 (grown q e x) (tested (is_true t) 1 h1 (grown q e x))
+      (ap (option_map (λ s. tested s 1 h1 (grown q e x))) (same_known c o F e h1 r (suc d) t (truth true) (a1 r (register_below q ex g d fx holds) ∙ at) (with-same (suc d) (truth true) h)))
+      (skip_ends (is_true t) l _ h1 (grown q e x) b
+      (λ w. same_effects l h1 _ _ (until-true q e x z (λ v. value dialect v (terms_of m) c ex) t is w)
+      ((subst (λ s. AfterTurns q (truth false) (truth true) k l g d e (if s then Some (truth true) else one_in_turn dialect q (terms_of m) c es) (effects_until_true dialect (terms_of m) c (and_expr ex es))) w after h1 a2).1 refl))
+      (λ w. go h1 (grown q e x) (holds-on g h1 d d m (omega arith) a2 holds)
+      (later_turns q _ _ k l g h1 d e (grown q e x) _ z _ (fault-until q es e x fine) (until-false q e x z (λ v. value dialect v (terms_of m) c ex) t is w) a2
+      (subst (λ s. AfterTurns q (truth false) (truth true) k l g d e (if s then Some (truth true) else one_in_turn dialect q (terms_of m) c es) (effects_until_true dialect (terms_of m) c (and_expr ex es))) w after)))))
 
   values_after : (q : Part) (ex : Expr) (es : Exprs) (k : List Instruction) (g : Registers) (d : ℕ) (e : List Effect) (y : Option Tree) → IsFine q p ex → AreFine q p es → Holds g d m → ((h : Registers) (e1 : List Effect) → Holds h (suc d) m → AfterValues q k h (suc d) (registers_of (where_of m) es (suc d)) e1 (values dialect q (terms_of m) c es) (effects_of_all dialect (terms_of m) c es) → Ends c o (exprs_code dialect q (length F) (where_of m) es (suc d) k) h e1) → AfterValues q k g d (registers_of (where_of m) (and_expr ex es) d) e (before y (values dialect q (terms_of m) c es)) (effects_of_all dialect (terms_of m) c (and_expr ex es)) → AfterValue q (exprs_code dialect q (length F) (where_of m) es (suc d) k) g d (register_of (where_of m) ex d) e y (effects dialect (terms_of m) c ex)
   values_after q ex es k g d e None fx fine holds go after = after
   values_after q ex es k g d e (Some t) fx fine holds go after = λ h a at.
       let x : List Effect = effects dialect (terms_of m) c ex in
       go h (grown q e x) (holds-on g h d (suc d) m (omega arith) a holds)
-        (more_values q k g h d (register_of (where_of m) ex d) (registers_of (where_of m) es (suc d)) e (grown q e x) x (effects_of_all dialect (terms_of m) c es) t (values dialect q (terms_of m) c es) (fault-values q es e x fine) (grown-both q e x (effects_of_all dialect (terms_of m) c es)) a (register_below q ex g d fx holds) at after)
+      (more_values q k g h d (register_of (where_of m) ex d) (registers_of (where_of m) es (suc d)) e (grown q e x) x (effects_of_all dialect (terms_of m) c es) t (values dialect q (terms_of m) c es) (fault-values q es e x fine) (grown-both q e x (effects_of_all dialect (terms_of m) c es)) a (register_below q ex g d fx holds) at after)
 
   mutual
     pub expr_ends : (q : Part) (ex : Expr) (d : ℕ) (k : List Instruction) (g : Registers) (e : List Effect) → IsFine q p ex → Holds g d m → Before k F → AfterValue q k g d (register_of (where_of m) ex d) e (value dialect q (terms_of m) c ex) (effects dialect (terms_of m) c ex) → Ends c o (expr_code dialect q (length F) (where_of m) ex d k) g e
@@ -236,30 +236,30 @@ module _ (dialect : Dialect) (c : Context) (o : Outcome) (F : List Instruction) 
     expr_ends q (call f es) d k g e fine holds b after = exprs_ends q es d _ g e fine.1 holds (apply_before q f d _ k b) (call_after q f es k g d _ e (effects_of_all dialect (terms_of m) c es) (values dialect q (terms_of m) c es) refl fine.1 b after)
     expr_ends q (and_also es) d k g e fine holds b after =
         by_move c o (load_constant d (truth false)) _ g e (setting d (truth false) g e) refl
-          (while_ends q es (suc d) (load_constant d (truth true) ∷ k) k (with_register d (truth false) g) e fine (holds-on g _ d (suc d) m (omega arith) (agree-with d d (truth false) g (omega arith)) holds) (before-cons _ k k (before-self k)) b
-            (chain_after q (truth true) (truth false) k g d e _ (all_in_turn dialect q (terms_of m) c es) after))
+        (while_ends q es (suc d) (load_constant d (truth true) ∷ k) k (with_register d (truth false) g) e fine (holds-on g _ d (suc d) m (omega arith) (agree-with d d (truth false) g (omega arith)) holds) (before-cons _ k k (before-self k)) b
+        (chain_after q (truth true) (truth false) k g d e _ (all_in_turn dialect q (terms_of m) c es) after))
     expr_ends q (or_else es) d k g e fine holds b after =
         by_move c o (load_constant d (truth true)) _ g e (setting d (truth true) g e) refl
-          (until_ends q es (suc d) (load_constant d (truth false) ∷ k) k (with_register d (truth true) g) e fine (holds-on g _ d (suc d) m (omega arith) (agree-with d d (truth true) g (omega arith)) holds) (before-cons _ k k (before-self k)) b
-            (chain_after q (truth false) (truth true) k g d e _ (one_in_turn dialect q (terms_of m) c es) after))
+        (until_ends q es (suc d) (load_constant d (truth false) ∷ k) k (with_register d (truth true) g) e fine (holds-on g _ d (suc d) m (omega arith) (agree-with d d (truth true) g (omega arith)) holds) (before-cons _ k k (before-self k)) b
+        (chain_after q (truth false) (truth true) k g d e _ (one_in_turn dialect q (terms_of m) c es) after))
     expr_ends q (perform a es) d k g e fine holds b after = do_ends q a es k g d e fine (λ w r. exprs_ends q es d _ g e w holds (before-cons _ k F b) r) after
 
     pub exprs_ends : (q : Part) (es : Exprs) (d : ℕ) (k : List Instruction) (g : Registers) (e : List Effect) → AreFine q p es → Holds g d m → Before k F → AfterValues q k g d (registers_of (where_of m) es d) e (values dialect q (terms_of m) c es) (effects_of_all dialect (terms_of m) c es) → Ends c o (exprs_code dialect q (length F) (where_of m) es d k) g e
     exprs_ends q no_exprs d k g e fine holds b after = same_effects k g _ _ (grown-nil q e) (after g (agree-self d g) refl)
     exprs_ends q (and_expr ex es) d k g e fine holds b after =
         expr_ends q ex d _ g e fine.0 holds (before-trans _ k F (exprs_front dialect q (length F) (where_of m) es (suc d) k) b)
-          (values_after q ex es k g d e (value dialect q (terms_of m) c ex) fine.0 fine.1 holds (λ h e1 w r. exprs_ends q es (suc d) k h e1 fine.1 w b r) after)
+        (values_after q ex es k g d e (value dialect q (terms_of m) c ex) fine.0 fine.1 holds (λ h e1 w r. exprs_ends q es (suc d) k h e1 fine.1 w b r) after)
 
     pub while_ends : (q : Part) (es : Exprs) (d : ℕ) (k l : List Instruction) (g : Registers) (e : List Effect) → AreFine q p es → Holds g d m → Before k l → Before l F → AfterTurns q (truth true) (truth false) k l g d e (all_in_turn dialect q (terms_of m) c es) (effects_while_true dialect (terms_of m) c es) → Ends c o (while_true_code dialect q (length F) (where_of m) es d (length l) k) g e
     while_ends q no_exprs d k l g e fine holds b bl after = same_effects k g _ _ (grown-nil q e) ((after g (agree-self d g)).0 refl)
     while_ends q (and_expr ex es) d k l g e fine holds b bl after =
         let front : Before (while_true_code dialect q (length F) (where_of m) es d (length l) k) l = before-trans _ k l (while_front dialect q (length F) (where_of m) es d (length l) k) b in
         expr_ends q ex d _ g e fine.0 holds (before-cons _ _ F (before-cons _ _ F (before-trans _ l F front bl)))
-          (while_after q ex es k l g d e (value dialect q (terms_of m) c ex) refl fine.0 fine.1 holds front (λ h e1 w r. while_ends q es d k l h e1 fine.1 w b bl r) after)
+        (while_after q ex es k l g d e (value dialect q (terms_of m) c ex) refl fine.0 fine.1 holds front (λ h e1 w r. while_ends q es d k l h e1 fine.1 w b bl r) after)
 
     pub until_ends : (q : Part) (es : Exprs) (d : ℕ) (k l : List Instruction) (g : Registers) (e : List Effect) → AreFine q p es → Holds g d m → Before k l → Before l F → AfterTurns q (truth false) (truth true) k l g d e (one_in_turn dialect q (terms_of m) c es) (effects_until_true dialect (terms_of m) c es) → Ends c o (until_true_code dialect q (length F) (where_of m) es d (length l) k) g e
     until_ends q no_exprs d k l g e fine holds b bl after = same_effects k g _ _ (grown-nil q e) ((after g (agree-self d g)).0 refl)
     until_ends q (and_expr ex es) d k l g e fine holds b bl after =
         let front : Before (until_true_code dialect q (length F) (where_of m) es d (length l) k) l = before-trans _ k l (until_front dialect q (length F) (where_of m) es d (length l) k) b in
         expr_ends q ex d _ g e fine.0 holds (before-cons _ _ F (before-cons _ _ F (before-cons _ _ F (before-trans _ l F front bl))))
-          (until_after q ex es k l g d e (value dialect q (terms_of m) c ex) refl fine.0 fine.1 holds front (λ h e1 w r. until_ends q es d k l h e1 fine.1 w b bl r) after)
+        (until_after q ex es k l g d e (value dialect q (terms_of m) c ex) refl fine.0 fine.1 holds front (λ h e1 w r. until_ends q es d k l h e1 fine.1 w b bl r) after)
