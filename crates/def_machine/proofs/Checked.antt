@@ -1,5 +1,5 @@
 -- Code that is checked is valid.
-use Rattle.std.proofs.Common.{◌≡◌, ℕ, zero, suc, ◌<◌, ◌≤◌, List, [], ◌∷◌, length, Option, Some, refl, sym, ap, ◌∙◌, subst, arith, Bool, true, false, nat_le, slice_get, ◌==◌, ◌&&◌, ◌||◌, inl, inr, ◌⊎◌, ⊎_elim, eq-eqb, eqb-true}
+use Rattle.std.proofs.Common.{◌≡◌, ℕ, zero, suc, ◌<◌, ◌≤◌, List, [], ◌∷◌, length, Option, Some, refl, sym, ap, ◌∙◌, subst, arith, Bool, true, false, nat_le, nat_lt, slice_get, ◌==◌, ◌&&◌, ◌||◌, inl, inr, ◌⊎◌, ⊎_elim, eq-eqb, eqb-true}
 use Rattle.std.proofs.lemmas.Bool.{leb-true, cases_lt}
 use Rattle.std.proofs.lemmas.Option.{slice_get_within}
 use Rattle.def_machine.specs.Instructions.{Instruction}
@@ -62,8 +62,8 @@ stops-here q p r j w h = ⊎_elim
     (λ x. ⊎_elim
     (λ b. inr (inl (leb-true (suc p) (leads_to j w) b)))
     (λ y. let z : ((j == q) ≡ true) × (is_one_of r w.sets ≡ true) = both_true (j == q) (is_one_of r w.sets) y in inr (inr (eqb-true j q z.0, is_there r w.sets z.1)))
-    (either_true (nat_le (suc p) (leads_to j w)) (j == q && is_one_of r w.sets) x))
-    (either_true (nat_le (leads_to j w) q) (nat_le (suc p) (leads_to j w) || (j == q && is_one_of r w.sets)) h)
+    (either_true (nat_lt p (leads_to j w)) (j == q && is_one_of r w.sets) x))
+    (either_true (nat_le (leads_to j w) q) (nat_lt p (leads_to j w) || (j == q && is_one_of r w.sets)) h)
 
 guards-here : (code : List Instruction) (p r : ℕ) → is_set_before code p r ≡ true → (q : ℕ) × Guards code q p r
 guards-here code p r h =
@@ -131,15 +131,15 @@ there-is (i ∷ code) (suc p) l = there-is code p (omega (arith, l))
 module _ (code : List Instruction) (h : is_checked code ≡ true) where
   fine_at : (p : ℕ) (i : Instruction) → slice_get code p ≡ Some i → is_fine code p i ≡ true
   fine_at p i at = standing_there (is_fine code p) (slice_get code p) i at
-      (all_hold (length code) (λ k. where_standing (is_fine code k) (slice_get code k)) (both_true (nat_le 1 (length code)) _ h).1 p (slice_get_within code p i at))
+      (all_hold (length code) (λ k. where_standing (is_fine code k) (slice_get code k)) (both_true (nat_lt 0 (length code)) _ h).1 p (slice_get_within code p i at))
 
   in_place : (p : ℕ) (i : Instruction) → slice_get code p ≡ Some i → IsInPlace code p i
   in_place p i at =
-      let f : (has_its_number i ≡ true) × ((all_of_them (leads_forward code p) (ways i) && all_of_them (is_set_before code p) (reads i)) ≡ true) = both_true _ _ (fine_at p i at) in
+      let f : (has_its_number i ≡ true) × ((all_of_them (leads_forward (length code) p) (ways i) && all_of_them (is_set_before code p) (reads i)) ≡ true) = both_true _ _ (fine_at p i at) in
       record {
         number = f.0;
-        forward = each-holds (LeadsForward code p) (leads_forward code p) (ways i)
-            (λ w x. let b : (nat_le (suc p) (leads_to p w) ≡ true) × (nat_le (suc (leads_to p w)) (length code) ≡ true) = both_true _ _ x in
+        forward = each-holds (LeadsForward code p) (leads_forward (length code) p) (ways i)
+            (λ w x. let b : (nat_lt p (leads_to p w) ≡ true) × (nat_lt (leads_to p w) (length code) ≡ true) = both_true _ _ x in
             record { forward = leb-true (suc p) (leads_to p w) b.0; inside = leb-true (suc (leads_to p w)) (length code) b.1 })
             (both_true _ _ f.1).0;
       }
@@ -161,7 +161,7 @@ module _ (code : List Instruction) (h : is_checked code ≡ true) where
 
 pub checked_code_is_valid : CheckedCodeIsValid
 checked_code_is_valid code h =
-    let some : 0 < length code = leb-true 1 (length code) (both_true (nat_le 1 (length code)) _ h).0 in
+    let some : 0 < length code = leb-true 1 (length code) (both_true (nat_lt 0 (length code)) _ h).0 in
     record {
       nonempty = some;
       in_place = in_place code h;
