@@ -1,5 +1,5 @@
 -- That code is valid has at most one proof, and so has that it sets no register past another: for the fields of a code.
-use Rattle.std.specs.Prelude.{◌≡◌, ℕ, zero, suc, ◌≤◌, List, [], ◌∷◌, length, true, Option, Some, None, slice_get}
+use Rattle.std.specs.Prelude.{◌≡◌, ℕ, zero, suc, ◌≤◌, List, [], ◌∷◌, true, Option, Some, None, slice_get}
 use Rattle.std.specs.Coded.{×_prop, Unit-prop, le_prop}
 use mathlib.Core.Bool.{Bool-set}
 use Rattle.def_machine.specs.Instructions.{Instruction}
@@ -27,9 +27,9 @@ reads-prop : (code : List Instruction) (n p : ℕ) (s : RegisterSet) → IsProp 
 reads-prop code zero p s = Unit-prop
 reads-prop code (suc n) p s =
     standing-prop (λ i. Each (λ r. s r ≡ true) (reads i) × Each (λ w. ReadsSet code n (leads_to p w) (adding w.sets s)) (ways i))
-      (λ i. ×_prop (each-prop (λ r. s r ≡ true) (λ r. Bool-set (s r) true) (reads i))
-        (each-prop (λ w. ReadsSet code n (leads_to p w) (adding w.sets s)) (λ w. reads-prop code n (leads_to p w) (adding w.sets s)) (ways i)))
-      (slice_get code p)
+    (λ i. ×_prop (each-prop (λ r. s r ≡ true) (λ r. Bool-set (s r) true) (reads i))
+    (each-prop (λ w. ReadsSet code n (leads_to p w) (adding w.sets s)) (λ w. reads-prop code n (leads_to p w) (adding w.sets s)) (ways i)))
+    (slice_get code p)
 
 pub valid-prop : (code : List Instruction) → IsProp (Valid code)
 valid-prop code = λ x y i. record {

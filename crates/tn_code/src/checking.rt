@@ -66,7 +66,12 @@ fn has_its_number<A: Allocator>(instr: &Instr<A>) -> bool
 }
 
 /// Whether the instruction at `setter` sets the register and no way leads past it to `reader` or before.
-fn sets_before<A: Allocator>(items: &[Instr<A>], setter: usize, reader: usize, register: usize) -> bool
+fn sets_before<A: Allocator>(
+    items: &[Instr<A>],
+    setter: usize,
+    reader: usize,
+    register: usize,
+) -> bool
     requires order { setter < reader }
     requires inside { reader < length items.now }
     ensures { result ≡ sets_before (instructions_of items.now) reader register setter }

@@ -6,7 +6,10 @@ use crate::instr::Instr;
 use std::alloc::{AllocError, Allocator};
 
 /// The numbers of registers in another allocator.
-fn copy_registers<B: Allocator + Copy>(registers: &[usize], alloc: B) -> Result<Vec<usize, B>, AllocError>
+fn copy_registers<B: Allocator + Copy>(
+    registers: &[usize],
+    alloc: B,
+) -> Result<Vec<usize, B>, AllocError>
     ensures { IfOk result (λ v. v.items ≡ registers.now) }
 {
     let mut copies = Vec::with_capacity(alloc, registers.len())?;
@@ -29,7 +32,12 @@ impl<A: Allocator> Instr<A> {
             Instr::LoadList { to } => Ok(Instr::LoadList { to: *to }),
             Instr::LoadOwnPid { to } => Ok(Instr::LoadOwnPid { to: *to }),
             Instr::LoadCaller { to } => Ok(Instr::LoadCaller { to: *to }),
-            Instr::TakeElement { to, from, index, place } => Ok(Instr::TakeElement {
+            Instr::TakeElement {
+                to,
+                from,
+                index,
+                place,
+            } => Ok(Instr::TakeElement {
                 to: *to,
                 from: *from,
                 index: *index,
@@ -45,7 +53,11 @@ impl<A: Allocator> Instr<A> {
                 kind: *kind,
                 place: *place,
             }),
-            Instr::TestLength { from, length, place } => Ok(Instr::TestLength {
+            Instr::TestLength {
+                from,
+                length,
+                place,
+            } => Ok(Instr::TestLength {
                 from: *from,
                 length: *length,
                 place: *place,
@@ -61,13 +73,23 @@ impl<A: Allocator> Instr<A> {
                 to: *to,
                 from: copy_registers(from.as_slice(), alloc)?,
             }),
-            Instr::Apply { func, to, from, on_fault } => Ok(Instr::Apply {
+            Instr::Apply {
+                func,
+                to,
+                from,
+                on_fault,
+            } => Ok(Instr::Apply {
                 func: *func,
                 to: *to,
                 from: copy_registers(from.as_slice(), alloc)?,
                 on_fault: *on_fault,
             }),
-            Instr::Perform { dialect, action, to, from } => Ok(Instr::Perform {
+            Instr::Perform {
+                dialect,
+                action,
+                to,
+                from,
+            } => Ok(Instr::Perform {
                 dialect: *dialect,
                 action: *action,
                 to: *to,

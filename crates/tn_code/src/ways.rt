@@ -30,7 +30,10 @@ pub struct Ways {
 fn onward(to: usize) -> Ways
     ensures { ways_seen result ≡ next_before (Next.Sets to) (away_list None) }
 {
-    Ways { next: Next::Sets(to), away: None }
+    Ways {
+        next: Next::Sets(to),
+        away: None,
+    }
 }
 
 /// The ways on from the instruction.
@@ -42,19 +45,43 @@ pub fn ways_of<A: Allocator>(instr: &Instr<A>) -> Ways
         Instr::LoadList { to } => onward(*to),
         Instr::LoadOwnPid { to } => onward(*to),
         Instr::LoadCaller { to } => onward(*to),
-        Instr::TakeElement { to, place, .. } => Ways { next: Next::Sets(*to), away: Some(*place) },
-        Instr::TakeRest { to, place, .. } => Ways { next: Next::Sets(*to), away: Some(*place) },
-        Instr::TestKind { place, .. } => Ways { next: Next::Plain, away: Some(*place) },
-        Instr::TestLength { place, .. } => Ways { next: Next::Plain, away: Some(*place) },
-        Instr::TestEqual { place, .. } => Ways { next: Next::Plain, away: Some(*place) },
-        Instr::Jump { place } => Ways { next: Next::Never, away: Some(*place) },
+        Instr::TakeElement { to, place, .. } => Ways {
+            next: Next::Sets(*to),
+            away: Some(*place),
+        },
+        Instr::TakeRest { to, place, .. } => Ways {
+            next: Next::Sets(*to),
+            away: Some(*place),
+        },
+        Instr::TestKind { place, .. } => Ways {
+            next: Next::Plain,
+            away: Some(*place),
+        },
+        Instr::TestLength { place, .. } => Ways {
+            next: Next::Plain,
+            away: Some(*place),
+        },
+        Instr::TestEqual { place, .. } => Ways {
+            next: Next::Plain,
+            away: Some(*place),
+        },
+        Instr::Jump { place } => Ways {
+            next: Next::Never,
+            away: Some(*place),
+        },
         Instr::Build { to, .. } => onward(*to),
         Instr::Apply { to, on_fault, .. } => match on_fault {
-            OnFault::Place(place) => Ways { next: Next::Sets(*to), away: Some(*place) },
+            OnFault::Place(place) => Ways {
+                next: Next::Sets(*to),
+                away: Some(*place),
+            },
             OnFault::Exit => onward(*to),
         },
         Instr::Perform { to, .. } => onward(*to),
-        Instr::EndMatch | Instr::EndNoMatch => Ways { next: Next::Never, away: None },
+        Instr::EndMatch | Instr::EndNoMatch => Ways {
+            next: Next::Never,
+            away: None,
+        },
     }
 }
 
@@ -81,7 +108,9 @@ impl Ways {
         let next = match self.next {
             Next::Never => true,
             Next::Plain => place < setter || reader <= place,
-            Next::Sets(to) => place < setter || reader <= place || (place == setter && register == to),
+            Next::Sets(to) => place < setter
+                || reader <= place
+                || (place == setter && register == to),
         };
         match self.away {
             Some(away) => next && (away <= setter || reader < away),

@@ -7,4 +7,4 @@ use Rattle.tn_code.proofs.checking.check.Goals as goal
 pub of-requires : goal.of-requires
 of-requires g c =
     checked_code_is_valid (instructions_of c.args.items.items)
-      (ap (λ v. is_checked (instructions_of v)) (sym c.as_slice.ensures.value) ∙ sym c.if-is_checked.ensures)
+    (ap (λ v. is_checked (instructions_of v)) (sym c.as_slice.ensures.value) ∙ sym c.if-is_checked.ensures)

@@ -1,4 +1,4 @@
-use Rattle.std.proofs.Common.{take, map}
+use Rattle.std.proofs.Common.{take}
 use Rattle.tn_code.specs.Rooms.{AllSetUpTo}
 use Rattle.tn_code.specs.Views.{instructions_of}
 use Rattle.tn_code.proofs.code.greatest_set.Given as goal
