@@ -1,2 +1,3 @@
 pub mod Views
 pub mod Emitted
+pub mod Places

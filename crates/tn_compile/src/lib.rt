@@ -5,4 +5,5 @@
 #![tactic(auto)]
 
 mod exprs;
+mod places;
 mod scene;
