@@ -1,3 +1,4 @@
 pub mod Views
 pub mod Emitted
 pub mod Places
+pub mod Heads
