@@ -5,5 +5,6 @@
 #![tactic(auto)]
 
 mod exprs;
+mod heads;
 mod places;
 mod scene;

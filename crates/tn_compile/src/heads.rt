@@ -1,0 +1,117 @@
+// The steps of a head, from its beginning.
+ghost use Rattle.std.specs.Prelude.{◌≡◌, ◌+◌, ◌<◌, ◌≤◌, ◌^◌, ◌∷◌, ◌++◌, [], OnOk, length, nat_lt};
+ghost use Rattle.std.specs.FinMap.{find};
+ghost use Rattle.std.specs.List.{position_or_len};
+ghost use Rattle.std.specs.Ordering.{nat_cmp};
+ghost use Rattle.def_machine.specs.Compiling.{registers_taken, registers_taken_each, variable_met, variables_after};
+ghost use Rattle.def_machine.specs.Compiling.{variables_after_each};
+ghost use Rattle.tn_code.specs.Views.{instruction_of, instructions_of};
+ghost use Rattle.tn_spec.specs.Views.{pattern_seen, patterns_seen};
+ghost use Rattle.tn_compile.specs.Heads.{pattern_steps, each_steps};
+ghost use Rattle.tn_compile.specs.Views.{variables_seen};
+
+use crate::scene::{VariableRegister, register_of_variable};
+use std::alloc::{AllocError, Allocator};
+use tn_code::{Instr, Kind};
+use tn_spec::Pattern;
+
+/// What a walk over a head has made so far.
+#[derive(Drop)]
+pub struct HeadSteps<A: Allocator> {
+    pub steps: Vec<Instr<A>, A>,
+    /// By rising number.
+    pub variables: Vec<VariableRegister, A>,
+    /// The first register that is free.
+    pub free: usize,
+}
+
+/// The place of a variable that isn't there: before the first of a greater number.
+fn place_of(variables: &[VariableRegister], number: u16) -> usize
+    ensures place { result ≡ position_or_len (λ v. nat_lt number v.number) variables.now }
+    ensures within { result ≤ length variables.now }
+{
+    for (place, variable) in variables.iter().enumerate() {
+        if number < variable.number {
+            return place;
+        }
+    }
+    variables.len()
+}
+
+/// A variable that is met for the first time gets this register.
+fn add_variable<A: Allocator>(
+    variables: &mut Vec<VariableRegister, A>,
+    number: u16,
+    register: usize,
+) -> Result<(), AllocError>
+    requires { find nat_cmp number (variables_seen variables.old.items) ≡ None }
+    ensures { OnOk result (variables_seen variables.new.items ≡ variable_met number register (variables_seen variables.old.items) None) }
+{
+    let place = place_of(variables.as_slice(), number);
+    variables.insert(place, VariableRegister { number, register })?;
+    Ok(())
+}
+
+/// A pattern against a register.
+#[cycle(walk)]
+pub fn walk<P: Allocator, A: Allocator + Copy>(
+    alloc: A,
+    head: &mut HeadSteps<A>,
+    pattern: &Pattern<P>,
+    register: usize,
+) -> Result<(), AllocError>
+    requires room { head.old.free + registers_taken (pattern_seen pattern.now) < 2 ^ 64 }
+    ensures steps { OnOk result (instructions_of head.new.steps.items ≡ instructions_of head.old.steps.items ++ pattern_steps (pattern_seen pattern.now) (variables_seen head.old.variables.items) register head.old.free) }
+    ensures variables { OnOk result (variables_seen head.new.variables.items ≡ variables_after (pattern_seen pattern.now) (variables_seen head.old.variables.items) register head.old.free) }
+    ensures free { OnOk result (head.new.free ≡ head.old.free + registers_taken (pattern_seen pattern.now)) }
+{
+    match pattern {
+        Pattern::Variable(number) => {
+            match register_of_variable(head.variables.as_slice(), *number) {
+                Some(first) => head.steps.push(Instr::TestEqual { left: first, right: register, place: 0 })?,
+                None => add_variable(&mut head.variables, *number, register)?,
+            }
+            Ok(())
+        }
+        Pattern::Anything => Ok(()),
+        Pattern::Only(term) => {
+            let to = head.free;
+            head.steps.push(Instr::LoadConstant { to, term: term.copy_into(alloc)? })?;
+            head.steps.push(Instr::TestEqual { left: to, right: register, place: 0 })?;
+            head.free = to + 1;
+            Ok(())
+        }
+        Pattern::Tuple(patterns) => {
+            head.steps.push(Instr::TestKind { from: register, kind: Kind::Tuple, place: 0 })?;
+            Ok(walk_each(alloc, head, patterns, register)?)
+        }
+        Pattern::List(patterns) => {
+            head.steps.push(Instr::TestKind { from: register, kind: Kind::List, place: 0 })?;
+            Ok(walk_each(alloc, head, patterns, register)?)
+        }
+    }
+}
+
+/// Each pattern against the elements of a register, and their number.
+#[cycle(walk)]
+pub fn walk_each<P: Allocator, A: Allocator + Copy>(
+    alloc: A,
+    head: &mut HeadSteps<A>,
+    patterns: &Vec<Pattern<P>, P>,
+    register: usize,
+) -> Result<(), AllocError>
+    requires room { head.old.free + registers_taken_each (patterns_seen patterns.now.items) < 2 ^ 64 }
+    ensures steps { OnOk result (instructions_of head.new.steps.items ≡ instructions_of head.old.steps.items ++ each_steps (patterns_seen patterns.now.items) (variables_seen head.old.variables.items) register 0 head.old.free) }
+    ensures variables { OnOk result (variables_seen head.new.variables.items ≡ variables_after_each (patterns_seen patterns.now.items) (variables_seen head.old.variables.items) head.old.free) }
+    ensures free { OnOk result (head.new.free ≡ head.old.free + registers_taken_each (patterns_seen patterns.now.items)) }
+{
+    for index in 0..patterns.len() {
+        let pattern = &patterns[index];
+        let to = head.free;
+        head.steps.push(Instr::TakeElement { to, from: register, index, place: 0 })?;
+        head.free = to + 1;
+        walk(alloc, head, pattern, to)?;
+    }
+    head.steps.push(Instr::TestLength { from: register, length: patterns.len(), place: 0 })?;
+    Ok(())
+}
