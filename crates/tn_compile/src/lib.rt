@@ -5,6 +5,7 @@
 #![tactic(auto)]
 
 mod exprs;
+mod fronts;
 mod heads;
 mod places;
 mod scene;
