@@ -1,19 +1,19 @@
 // The steps of a head, from its beginning.
-ghost use Rattle.std.specs.Prelude.{◌≡◌, ◌+◌, ◌<◌, ◌≤◌, ◌^◌, ◌∷◌, ◌++◌, [], OnOk, length, nat_lt};
+ghost use Rattle.std.specs.Prelude.{◌≡◌, ◌+◌, ◌<◌, ◌≤◌, ◌^◌, ◌∷◌, ◌++◌, [], OnOk, IfOk, length, nat_lt};
 ghost use Rattle.std.specs.FinMap.{find};
 ghost use Rattle.std.specs.List.{position_or_len};
 ghost use Rattle.std.specs.Ordering.{nat_cmp};
 ghost use Rattle.def_machine.specs.Compiling.{registers_taken, registers_taken_each, variable_met, variables_after};
 ghost use Rattle.def_machine.specs.Compiling.{variables_after_each};
 ghost use Rattle.tn_code.specs.Views.{instruction_of, instructions_of};
-ghost use Rattle.tn_spec.specs.Views.{pattern_seen, patterns_seen};
+ghost use Rattle.tn_spec.specs.Views.{head_seen, pattern_seen, patterns_seen};
 ghost use Rattle.tn_compile.specs.Heads.{pattern_steps, each_steps};
 ghost use Rattle.tn_compile.specs.Views.{variables_seen};
 
 use crate::scene::{VariableRegister, register_of_variable};
 use std::alloc::{AllocError, Allocator};
 use tn_code::{Instr, Kind};
-use tn_spec::Pattern;
+use tn_spec::{Head, Pattern};
 
 /// What a walk over a head has made so far.
 #[derive(Drop)]
@@ -114,4 +114,30 @@ pub fn walk_each<P: Allocator, A: Allocator + Copy>(
     }
     head.steps.push(Instr::TestLength { from: register, length: patterns.len(), place: 0 })?;
     Ok(())
+}
+
+/// The steps of a head, held against the list in register 0.
+pub fn steps_of_head<P: Allocator, A: Allocator + Copy>(
+    alloc: A,
+    head: &Head<P>,
+) -> Result<HeadSteps<A>, AllocError>
+    requires room { 1 + registers_taken (head_seen head.now) < 2 ^ 64 }
+    ensures steps { IfOk result (λ h. instructions_of h.steps.items ≡ pattern_steps (head_seen head.now) [] 0 1) }
+    ensures variables { IfOk result (λ h. variables_seen h.variables.items ≡ variables_after (head_seen head.now) [] 0 1) }
+    ensures free { IfOk result (λ h. h.free ≡ 1 + registers_taken (head_seen head.now)) }
+{
+    let mut made = HeadSteps {
+        steps: Vec::new(alloc),
+        variables: Vec::new(alloc),
+        free: 1,
+    };
+    match head {
+        Head::Variable(number) => add_variable(&mut made.variables, *number, 0)?,
+        Head::Anything => {}
+        Head::List(patterns) => {
+            made.steps.push(Instr::TestKind { from: 0, kind: Kind::List, place: 0 })?;
+            walk_each(alloc, &mut made, patterns, 0)?;
+        }
+    }
+    Ok(made)
 }

@@ -4,6 +4,7 @@
 //! the code that the definitions give.
 #![tactic(auto)]
 
+mod clauses;
 mod exprs;
 mod fronts;
 mod heads;
