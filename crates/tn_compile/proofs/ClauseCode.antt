@@ -13,6 +13,6 @@ clause-is dialect k f d v steps rest a b e h new left free known made first seco
     let whole : ℕ → ℕ → VariableRegisters → List Instruction = λ m q w. pattern_code k.head [] 0 1 m (while_true_code dialect in_condition m w k.conditions q m (exprs_code dialect in_body m w k.body q (end_with_match ∷ rest))) in
     fifth
     ∙ ap (λ x. load_list 0 ∷ x)
-      (fourth ∙ ap (λ x. in_front f x e) made ∙ pattern-front k.head [] 0 1 f e
-      ∙ ap (pattern_code k.head [] 0 1 f) (third ∙ ap (while_true_code dialect in_condition f v k.conditions d f) (second ∙ ap (exprs_code dialect in_body f v k.body d) first))
-      ∙ ap (λ m. whole m d v) left ∙ ap (λ q. whole (length rest) q v) one ∙ ap (whole (length rest) (suc (registers_taken k.head))) known)
+    (fourth ∙ ap (λ x. in_front f x e) made ∙ pattern-front k.head [] 0 1 f e
+    ∙ ap (pattern_code k.head [] 0 1 f) (third ∙ ap (while_true_code dialect in_condition f v k.conditions d f) (second ∙ ap (exprs_code dialect in_body f v k.body d) first))
+    ∙ ap (λ m. whole m d v) left ∙ ap (λ q. whole (length rest) q v) one ∙ ap (whole (length rest) (suc (registers_taken k.head))) known)

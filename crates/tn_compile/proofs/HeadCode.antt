@@ -26,9 +26,9 @@ mutual
   each-front no_patterns v r i d f k = refl
   each-front (and_pattern p ps) v r i d f k =
       ap (jumping (take_element d r i) f)
-        (front-append f (pattern_steps p v d (suc d)) (each_steps ps (variables_after p v d (suc d)) r (suc i) (suc d + registers_taken p)) k
-        ∙ ap (in_front f (pattern_steps p v d (suc d))) (each-front ps (variables_after p v d (suc d)) r (suc i) (suc d + registers_taken p) f k)
-        ∙ pattern-front p v d (suc d) f (each_pattern_code ps (variables_after p v d (suc d)) r (suc i) (suc d + registers_taken p) f k))
+      (front-append f (pattern_steps p v d (suc d)) (each_steps ps (variables_after p v d (suc d)) r (suc i) (suc d + registers_taken p)) k
+      ∙ ap (in_front f (pattern_steps p v d (suc d))) (each-front ps (variables_after p v d (suc d)) r (suc i) (suc d + registers_taken p) f k)
+      ∙ pattern-front p v d (suc d) f (each_pattern_code ps (variables_after p v d (suc d)) r (suc i) (suc d + registers_taken p) f k))
 
 -- the last step goes in front first
 pub last-front : (f n : ℕ) (steps before k new total : List Instruction) (i j : Instruction) → steps ≡ before ++ i ∷ [] → n ≡ length k - f → j ≡ with_jump n i → new ≡ j ∷ k → in_front f steps k ≡ total → in_front f before new ≡ total

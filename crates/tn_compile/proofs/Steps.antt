@@ -67,20 +67,20 @@ module _ (s : Scene) where
   pub call-emitted : (g : Func) (es : Exprs) (free n : ℕ) (rs : List ℕ) (fault : OnFault) (k old new : List Instruction) → n ≡ length k → rs ≡ registers_of (variables_seen s.variables.now) es free → fault ≡ fault_emitted s n → old ≡ apply_function g free rs fault ∷ k → new ≡ exprs_emitted s es free old → new ≡ expr_emitted s (ex.call g es) free k
   call-emitted g es free n rs fault k old new is regs on before after =
       after ∙ ap (exprs_emitted s es free)
-        (before ∙ ap (λ x. apply_function g free rs x ∷ k) (on ∙ ap (fault_emitted s) is) ∙ ap (λ x. apply_function g free x (fault_emitted s (length k)) ∷ k) regs
-        ∙ sym (call-is s.part s.left (apply_function g free (registers_of (variables_seen s.variables.now) es free)) k))
+      (before ∙ ap (λ x. apply_function g free rs x ∷ k) (on ∙ ap (fault_emitted s) is) ∙ ap (λ x. apply_function g free x (fault_emitted s (length k)) ∷ k) regs
+      ∙ sym (call-is s.part s.left (apply_function g free (registers_of (variables_seen s.variables.now) es free)) k))
 
   pub and-emitted : (es : Exprs) (free end : ℕ) (k a b new : List Instruction) → end ≡ length k → a ≡ load_constant free (truth true) ∷ k → b ≡ while_emitted s es (free + 1) end a → new ≡ load_constant free (truth false) ∷ b → new ≡ expr_emitted s (ex.and_also es) free k
   and-emitted es free end k a b new is one two three =
       let n : free + 1 ≡ suc free = omega arith in
       three ∙ ap (λ x. load_constant free (truth false) ∷ x)
-        (two ∙ ap (while_emitted s es (free + 1) end) one ∙ ap (λ q. while_emitted s es q end (load_constant free (truth true) ∷ k)) n ∙ ap (λ q. while_emitted s es (suc free) q (load_constant free (truth true) ∷ k)) is)
+      (two ∙ ap (while_emitted s es (free + 1) end) one ∙ ap (λ q. while_emitted s es q end (load_constant free (truth true) ∷ k)) n ∙ ap (λ q. while_emitted s es (suc free) q (load_constant free (truth true) ∷ k)) is)
 
   pub or-emitted : (es : Exprs) (free end : ℕ) (k a b new : List Instruction) → end ≡ length k → a ≡ load_constant free (truth false) ∷ k → b ≡ until_emitted s es (free + 1) end a → new ≡ load_constant free (truth true) ∷ b → new ≡ expr_emitted s (ex.or_else es) free k
   or-emitted es free end k a b new is one two three =
       let n : free + 1 ≡ suc free = omega arith in
       three ∙ ap (λ x. load_constant free (truth true) ∷ x)
-        (two ∙ ap (until_emitted s es (free + 1) end) one ∙ ap (λ q. until_emitted s es q end (load_constant free (truth false) ∷ k)) n ∙ ap (λ q. until_emitted s es (suc free) q (load_constant free (truth false) ∷ k)) is)
+      (two ∙ ap (until_emitted s es (free + 1) end) one ∙ ap (λ q. until_emitted s es q end (load_constant free (truth false) ∷ k)) n ∙ ap (λ q. until_emitted s es (suc free) q (load_constant free (truth false) ∷ k)) is)
 
   pub exprs-more : (es rest : Exprs) (e : ex.Expr) (free i j : ℕ) (k old new : List Instruction) → i ≡ j + 1 → es ≡ and_expr e rest → old ≡ exprs_emitted s rest (free + i) k → new ≡ expr_emitted s e (free + j) old → new ≡ exprs_emitted s es (free + j) k
   exprs-more es rest e free i j k old new n is before after =
@@ -93,9 +93,9 @@ module _ (s : Scene) where
       let v : VariableRegisters = variables_seen s.variables.now in
       after
       ∙ ap (expr_emitted s e free)
-        (l ∙ ap (λ x. load_constant (free + 1) (truth true) ∷ x) (t ∙ ap (λ q. test_equal left (free + 1) q ∷ old) there ∙ ap (λ q. test_equal q (free + 1) (length old - end) ∷ old) at)
-        ∙ ap (λ q. load_constant q (truth true) ∷ test_equal (register_of v e free) q (length old - end) ∷ old) n
-        ∙ ap (λ x. load_constant (suc free) (truth true) ∷ test_equal (register_of v e free) (suc free) (length x - end) ∷ x) before)
+      (l ∙ ap (λ x. load_constant (free + 1) (truth true) ∷ x) (t ∙ ap (λ q. test_equal left (free + 1) q ∷ old) there ∙ ap (λ q. test_equal q (free + 1) (length old - end) ∷ old) at)
+      ∙ ap (λ q. load_constant q (truth true) ∷ test_equal (register_of v e free) q (length old - end) ∷ old) n
+      ∙ ap (λ x. load_constant (suc free) (truth true) ∷ test_equal (register_of v e free) (suc free) (length x - end) ∷ x) before)
       ∙ sym (ap (λ y. while_emitted s y free end k) is)
 
   pub until-more : (es rest : Exprs) (e : ex.Expr) (free end left place : ℕ) (k old jumped tested loaded new : List Instruction) → es ≡ and_expr e rest → old ≡ until_emitted s rest free end k → left ≡ register_of (variables_seen s.variables.now) e free → place ≡ length old - end → jumped ≡ jump place ∷ old → tested ≡ test_equal left (free + 1) 1 ∷ jumped → loaded ≡ load_constant (free + 1) (truth true) ∷ tested → new ≡ expr_emitted s e free loaded → new ≡ until_emitted s es free end k
@@ -104,7 +104,7 @@ module _ (s : Scene) where
       let v : VariableRegisters = variables_seen s.variables.now in
       after
       ∙ ap (expr_emitted s e free)
-        (l ∙ ap (λ x. load_constant (free + 1) (truth true) ∷ x) (t ∙ ap (λ x. test_equal left (free + 1) 1 ∷ x) (j ∙ ap (λ q. jump q ∷ old) there) ∙ ap (λ q. test_equal q (free + 1) 1 ∷ jump (length old - end) ∷ old) at)
-        ∙ ap (λ q. load_constant q (truth true) ∷ test_equal (register_of v e free) q 1 ∷ jump (length old - end) ∷ old) n
-        ∙ ap (λ x. load_constant (suc free) (truth true) ∷ test_equal (register_of v e free) (suc free) 1 ∷ jump (length x - end) ∷ x) before)
+      (l ∙ ap (λ x. load_constant (free + 1) (truth true) ∷ x) (t ∙ ap (λ x. test_equal left (free + 1) 1 ∷ x) (j ∙ ap (λ q. jump q ∷ old) there) ∙ ap (λ q. test_equal q (free + 1) 1 ∷ jump (length old - end) ∷ old) at)
+      ∙ ap (λ q. load_constant q (truth true) ∷ test_equal (register_of v e free) q 1 ∷ jump (length old - end) ∷ old) n
+      ∙ ap (λ x. load_constant (suc free) (truth true) ∷ test_equal (register_of v e free) (suc free) 1 ∷ jump (length x - end) ∷ x) before)
       ∙ sym (ap (λ y. until_emitted s y free end k) is)

@@ -50,11 +50,11 @@ steps-more total front front1 front2 es rest p v w r i free d is pushed walked a
     ∙ ap (λ x. x ++ (pattern_steps p v free (free + 1) ++ each_steps rest w r (i + 1) d)) pushed
     ∙ append_assoc front (t ∷ []) (pattern_steps p v free (free + 1) ++ each_steps rest w r (i + 1) d)
     ∙ ap (λ ys. front ++ ys)
-      (ap (λ q. t ∷ (pattern_steps p v free q ++ each_steps rest w r (i + 1) d)) n
-      ∙ ap (λ x. t ∷ (pattern_steps p v free (suc free) ++ each_steps rest x r (i + 1) d)) (after ∙ ap (variables_after p v free) n)
-      ∙ ap (λ q. t ∷ (pattern_steps p v free (suc free) ++ each_steps rest (variables_after p v free (suc free)) r q d)) m
-      ∙ ap (λ q. t ∷ (pattern_steps p v free (suc free) ++ each_steps rest (variables_after p v free (suc free)) r (suc i) q)) k
-      ∙ sym (ap (λ y. each_steps y v r i free) is))
+    (ap (λ q. t ∷ (pattern_steps p v free q ++ each_steps rest w r (i + 1) d)) n
+    ∙ ap (λ x. t ∷ (pattern_steps p v free (suc free) ++ each_steps rest x r (i + 1) d)) (after ∙ ap (variables_after p v free) n)
+    ∙ ap (λ q. t ∷ (pattern_steps p v free (suc free) ++ each_steps rest (variables_after p v free (suc free)) r q d)) m
+    ∙ ap (λ q. t ∷ (pattern_steps p v free (suc free) ++ each_steps rest (variables_after p v free (suc free)) r (suc i) q)) k
+    ∙ sym (ap (λ y. each_steps y v r i free) is))
     ∙ h
 
 pub variables-more : (total v w : VariableRegisters) (es rest : Patterns) (p : Pattern) (free d : ℕ) → es ≡ and_pattern p rest → w ≡ variables_after p v free (free + 1) → d ≡ free + 1 + registers_taken p → variables_after_each es v free ≡ total → variables_after_each rest w d ≡ total

@@ -28,7 +28,11 @@ pub fn emit_clause<P: Allocator, A: Allocator + Copy>(
     ensures longer { OnOk result (length code.old.items ≤ length code.new.items) }
 {
     let left = code.len();
-    let HeadSteps { steps, variables, free } = steps_of_head(alloc, &clause.head)?;
+    let HeadSteps {
+        steps,
+        variables,
+        free,
+    } = steps_of_head(alloc, &clause.head)?;
     emit(code, Instr::EndMatch)?;
     let body = Scene {
         dialect,

@@ -102,7 +102,14 @@ pub fn emit_expr<P: Allocator, A: Allocator + Copy>(
         Expr::WholeList => Ok(emit(code, Instr::LoadList { to: free })?),
         Expr::AllBound => {
             let from = all_registers(alloc, scene.variables)?;
-            Ok(emit(code, Instr::Build { kind: Kind::List, to: free, from })?)
+            Ok(emit(
+                code,
+                Instr::Build {
+                    kind: Kind::List,
+                    to: free,
+                    from,
+                },
+            )?)
         }
         Expr::Constant(term) => {
             let term = term.copy_into(alloc)?;
@@ -110,18 +117,40 @@ pub fn emit_expr<P: Allocator, A: Allocator + Copy>(
         }
         Expr::Tuple(exprs) => {
             let from = registers_of(alloc, scene.variables, exprs.as_slice(), free)?;
-            emit(code, Instr::Build { kind: Kind::Tuple, to: free, from })?;
+            emit(
+                code,
+                Instr::Build {
+                    kind: Kind::Tuple,
+                    to: free,
+                    from,
+                },
+            )?;
             Ok(emit_exprs(alloc, code, exprs, scene, free)?)
         }
         Expr::List(exprs) => {
             let from = registers_of(alloc, scene.variables, exprs.as_slice(), free)?;
-            emit(code, Instr::Build { kind: Kind::List, to: free, from })?;
+            emit(
+                code,
+                Instr::Build {
+                    kind: Kind::List,
+                    to: free,
+                    from,
+                },
+            )?;
             Ok(emit_exprs(alloc, code, exprs, scene, free)?)
         }
         Expr::Call(func, exprs) => {
             let from = registers_of(alloc, scene.variables, exprs.as_slice(), free)?;
             let on_fault = on_fault(code, scene);
-            emit(code, Instr::Apply { func: *func, to: free, from, on_fault })?;
+            emit(
+                code,
+                Instr::Apply {
+                    func: *func,
+                    to: free,
+                    from,
+                    on_fault,
+                },
+            )?;
             Ok(emit_exprs(alloc, code, exprs, scene, free)?)
         }
         Expr::AndAlso(exprs) => {
@@ -139,7 +168,15 @@ pub fn emit_expr<P: Allocator, A: Allocator + Copy>(
         Expr::Perform(action, exprs) => {
             let from = registers_of(alloc, scene.variables, exprs.as_slice(), free)?;
             let dialect = scene.dialect;
-            emit(code, Instr::Perform { dialect, action: *action, to: free, from })?;
+            emit(
+                code,
+                Instr::Perform {
+                    dialect,
+                    action: *action,
+                    to: free,
+                    from,
+                },
+            )?;
             Ok(emit_exprs(alloc, code, exprs, scene, free)?)
         }
     }
@@ -190,7 +227,14 @@ pub fn emit_while_true<P: Allocator, A: Allocator + Copy>(
         let expr = &exprs[i];
         let left = register_of(scene.variables, expr, free);
         let place = code.len() - end;
-        emit(code, Instr::TestEqual { left, right: free + 1, place })?;
+        emit(
+            code,
+            Instr::TestEqual {
+                left,
+                right: free + 1,
+                place,
+            },
+        )?;
         emit_truth(alloc, code, free + 1, true)?;
         emit_expr(alloc, code, expr, scene, free)?;
     }
@@ -220,7 +264,14 @@ pub fn emit_until_true<P: Allocator, A: Allocator + Copy>(
         let left = register_of(scene.variables, expr, free);
         let place = code.len() - end;
         emit(code, Instr::Jump { place })?;
-        emit(code, Instr::TestEqual { left, right: free + 1, place: 1 })?;
+        emit(
+            code,
+            Instr::TestEqual {
+                left,
+                right: free + 1,
+                place: 1,
+            },
+        )?;
         emit_truth(alloc, code, free + 1, true)?;
         emit_expr(alloc, code, expr, scene, free)?;
     }

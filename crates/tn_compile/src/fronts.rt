@@ -13,10 +13,32 @@ fn with_jump<A: Allocator>(instr: Instr<A>, passed: usize) -> Instr<A>
     ensures { instruction_of result ≡ with_jump passed (instruction_of instr) }
 {
     match instr {
-        Instr::TakeElement { to, from, index, .. } => Instr::TakeElement { to, from, index, place: passed },
-        Instr::TestKind { from, kind, .. } => Instr::TestKind { from, kind, place: passed },
-        Instr::TestLength { from, length, .. } => Instr::TestLength { from, length, place: passed },
-        Instr::TestEqual { left, right, .. } => Instr::TestEqual { left, right, place: passed },
+        Instr::TakeElement {
+            to,
+            from,
+            index,
+            ..
+        } => Instr::TakeElement {
+            to,
+            from,
+            index,
+            place: passed,
+        },
+        Instr::TestKind { from, kind, .. } => Instr::TestKind {
+            from,
+            kind,
+            place: passed,
+        },
+        Instr::TestLength { from, length, .. } => Instr::TestLength {
+            from,
+            length,
+            place: passed,
+        },
+        Instr::TestEqual { left, right, .. } => Instr::TestEqual {
+            left,
+            right,
+            place: passed,
+        },
         other => other,
     }
 }

@@ -68,7 +68,11 @@ pub fn walk<P: Allocator, A: Allocator + Copy>(
     match pattern {
         Pattern::Variable(number) => {
             match register_of_variable(head.variables.as_slice(), *number) {
-                Some(first) => head.steps.push(Instr::TestEqual { left: first, right: register, place: 0 })?,
+                Some(first) => head.steps.push(Instr::TestEqual {
+                    left: first,
+                    right: register,
+                    place: 0,
+                })?,
                 None => add_variable(&mut head.variables, *number, register)?,
             }
             Ok(())
@@ -76,17 +80,32 @@ pub fn walk<P: Allocator, A: Allocator + Copy>(
         Pattern::Anything => Ok(()),
         Pattern::Only(term) => {
             let to = head.free;
-            head.steps.push(Instr::LoadConstant { to, term: term.copy_into(alloc)? })?;
-            head.steps.push(Instr::TestEqual { left: to, right: register, place: 0 })?;
+            head.steps.push(Instr::LoadConstant {
+                to,
+                term: term.copy_into(alloc)?,
+            })?;
+            head.steps.push(Instr::TestEqual {
+                left: to,
+                right: register,
+                place: 0,
+            })?;
             head.free = to + 1;
             Ok(())
         }
         Pattern::Tuple(patterns) => {
-            head.steps.push(Instr::TestKind { from: register, kind: Kind::Tuple, place: 0 })?;
+            head.steps.push(Instr::TestKind {
+                from: register,
+                kind: Kind::Tuple,
+                place: 0,
+            })?;
             Ok(walk_each(alloc, head, patterns, register)?)
         }
         Pattern::List(patterns) => {
-            head.steps.push(Instr::TestKind { from: register, kind: Kind::List, place: 0 })?;
+            head.steps.push(Instr::TestKind {
+                from: register,
+                kind: Kind::List,
+                place: 0,
+            })?;
             Ok(walk_each(alloc, head, patterns, register)?)
         }
     }
@@ -108,11 +127,20 @@ pub fn walk_each<P: Allocator, A: Allocator + Copy>(
     for index in 0..patterns.len() {
         let pattern = &patterns[index];
         let to = head.free;
-        head.steps.push(Instr::TakeElement { to, from: register, index, place: 0 })?;
+        head.steps.push(Instr::TakeElement {
+            to,
+            from: register,
+            index,
+            place: 0,
+        })?;
         head.free = to + 1;
         walk(alloc, head, pattern, to)?;
     }
-    head.steps.push(Instr::TestLength { from: register, length: patterns.len(), place: 0 })?;
+    head.steps.push(Instr::TestLength {
+        from: register,
+        length: patterns.len(),
+        place: 0,
+    })?;
     Ok(())
 }
 
@@ -135,7 +163,11 @@ pub fn steps_of_head<P: Allocator, A: Allocator + Copy>(
         Head::Variable(number) => add_variable(&mut made.variables, *number, 0)?,
         Head::Anything => {}
         Head::List(patterns) => {
-            made.steps.push(Instr::TestKind { from: 0, kind: Kind::List, place: 0 })?;
+            made.steps.push(Instr::TestKind {
+                from: 0,
+                kind: Kind::List,
+                place: 0,
+            })?;
             walk_each(alloc, &mut made, patterns, 0)?;
         }
     }

@@ -25,7 +25,12 @@ fn at_place<A: Allocator>(instr: Instr<A>, next: usize) -> Instr<A>
     ensures { instruction_of result ≡ at_place next (instruction_of instr) }
 {
     match instr {
-        Instr::TakeElement { to, from, index, place } => Instr::TakeElement {
+        Instr::TakeElement {
+            to,
+            from,
+            index,
+            place,
+        } => Instr::TakeElement {
             to,
             from,
             index,
@@ -41,7 +46,11 @@ fn at_place<A: Allocator>(instr: Instr<A>, next: usize) -> Instr<A>
             kind,
             place: next + place,
         },
-        Instr::TestLength { from, length, place } => Instr::TestLength {
+        Instr::TestLength {
+            from,
+            length,
+            place,
+        } => Instr::TestLength {
             from,
             length,
             place: next + place,
@@ -51,8 +60,15 @@ fn at_place<A: Allocator>(instr: Instr<A>, next: usize) -> Instr<A>
             right,
             place: next + place,
         },
-        Instr::Jump { place } => Instr::Jump { place: next + place },
-        Instr::Apply { func, to, from, on_fault } => Instr::Apply {
+        Instr::Jump { place } => Instr::Jump {
+            place: next + place,
+        },
+        Instr::Apply {
+            func,
+            to,
+            from,
+            on_fault,
+        } => Instr::Apply {
             func,
             to,
             from,

@@ -17,5 +17,5 @@ returns-clause-emitted g c =
     let known : variables_seen c.in_ok-steps.field-0.variables.items ≡ variables_after (head_seen c.args.clause.now.head) [] 0 1 = search rules in
     let free : c.in_ok-steps.field-0.free ≡ 1 + registers_taken (head_seen c.args.clause.now.head) = search rules in
     clause-is d k c.len-left.result c.in_ok-steps.field-0.free (variables_seen c.as_slice.result.now) (instructions_of c.in_ok-steps.field-0.steps.items) (code_left c.args.code.now) (code_left c.emit.new.code) (code_left c.emit_exprs.new.code) (code_left c.emit_while_true.new.code) (code_left c.put_in_front.new.code) (code_left c.emit-2.new.code)
-      (c.len-left.ensures ∙ c.args.code.now.ok.0 ∙ sym (left-length c.args.code.now)) free (ap variables_seen c.as_slice.ensures.value ∙ known) made
-      c.in_ok-emit.ensures.emitted c.in_ok-emit_exprs.ensures.emitted c.in_ok-emit_while_true.ensures.emitted c.in_ok-put_in_front.ensures.emitted c.in_ok-emit-2.ensures.emitted
+    (c.len-left.ensures ∙ c.args.code.now.ok.0 ∙ sym (left-length c.args.code.now)) free (ap variables_seen c.as_slice.ensures.value ∙ known) made
+    c.in_ok-emit.ensures.emitted c.in_ok-emit_exprs.ensures.emitted c.in_ok-emit_while_true.ensures.emitted c.in_ok-put_in_front.ensures.emitted c.in_ok-emit-2.ensures.emitted

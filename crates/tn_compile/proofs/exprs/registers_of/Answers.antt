@@ -15,4 +15,4 @@ loop-i-preserved g c =
     let pushed : c.push.new.self.items ≡ c.loop-i.registers.items ++ c.register_of.result ∷ [] = search rules in
     ap (λ xs. xs ++ registers_of v rest (c.args.free + (c.loop-i.i + 1))) pushed
     ∙ registers-more v c.loop-i.registers.items _ _ rest (expr_seen c.index-exprs-i.result) c.args.free c.loop-i.i c.register_of.result
-      (exprs_here c.args.exprs.now c.loop-i.i c.index-exprs-i.result (omega (arith, c.loop-i-test.true)) c.index-exprs-i.is) c.register_of.ensures c.loop-i.invariant
+    (exprs_here c.args.exprs.now c.loop-i.i c.index-exprs-i.result (omega (arith, c.loop-i-test.true)) c.index-exprs-i.is) c.register_of.ensures c.loop-i.invariant

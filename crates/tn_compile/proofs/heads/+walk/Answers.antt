@@ -24,11 +24,11 @@ walk_each-loop-index-preserved g t c =
     let here = patterns_here ps c.loop-index.index c.index-pattern.result.now (omega (arith, size)) c.index-pattern.ensures in
     let taken : registers_taken_each (patterns_seen (drop c.loop-index.index c.args.patterns.now.items)) ≡ suc (registers_taken (pattern_seen c.index-pattern.result.now)) + registers_taken_each (patterns_seen (drop (c.loop-index.index + 1) c.args.patterns.now.items)) = ap registers_taken_each here in
     let pushed : instructions_of c.push.new.self.items ≡ instructions_of c.loop-index.head.steps.items ++ take_element c.loop-index.head.free c.args.register c.loop-index.index 0 ∷ [] =
-      ap instructions_of c.in_ok-push.ensures.items ∙ map-append instruction_of c.loop-index.head.steps.items (_ ∷ []) in
+    ap instructions_of c.in_ok-push.ensures.items ∙ map-append instruction_of c.loop-index.head.steps.items (_ ∷ []) in
     record {
       steps = steps-more _ (instructions_of c.loop-index.head.steps.items) (instructions_of c.push.new.self.items) (instructions_of c.walk.new.head.steps.items) (patterns_seen (drop c.loop-index.index ps)) (patterns_seen (drop (c.loop-index.index + 1) ps)) p (variables_seen c.loop-index.head.variables.items) (variables_seen c.walk.new.head.variables.items) c.args.register c.loop-index.index c.loop-index.head.free c.walk.new.head.free
-        here pushed c.in_ok-walk.ensures.steps c.in_ok-walk.ensures.variables c.in_ok-walk.ensures.free c.loop-index.invariant.steps;
+          here pushed c.in_ok-walk.ensures.steps c.in_ok-walk.ensures.variables c.in_ok-walk.ensures.free c.loop-index.invariant.steps;
       variables = variables-more _ (variables_seen c.loop-index.head.variables.items) (variables_seen c.walk.new.head.variables.items) (patterns_seen (drop c.loop-index.index ps)) (patterns_seen (drop (c.loop-index.index + 1) ps)) p c.loop-index.head.free c.walk.new.head.free
-        here c.in_ok-walk.ensures.variables c.in_ok-walk.ensures.free c.loop-index.invariant.variables;
+          here c.in_ok-walk.ensures.variables c.in_ok-walk.ensures.free c.loop-index.invariant.variables;
       free = omega (arith, taken, c.in_ok-walk.ensures.free, c.loop-index.invariant.free);
     }

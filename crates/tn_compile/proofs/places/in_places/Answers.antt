@@ -21,7 +21,7 @@ loop-instr-preserved g c =
       inside = (subst JumpsInside left c.loop-instr.invariant.inside).1;
       many = omega (arith, popped, longer, c.loop-instr.invariant.many);
       seen = ap (λ xs. instructions_of xs ++ placed (length c.push.new.self.items) (code_left c.pop.new.self)) pushed
-        ∙ ap (λ ys. ys ++ placed (length c.push.new.self.items) (code_left c.pop.new.self)) (map-append instruction_of old (x ∷ []))
-        ∙ placed-more _ (instructions_of old) (code_left c.loop-instr.code) (code_left c.pop.new.self) (instruction_of c.in-Some.instr) (instruction_of x) (length old) (length c.push.new.self.items) left
+          ∙ ap (λ ys. ys ++ placed (length c.push.new.self.items) (code_left c.pop.new.self)) (map-append instruction_of old (x ∷ []))
+          ∙ placed-more _ (instructions_of old) (code_left c.loop-instr.code) (code_left c.pop.new.self) (instruction_of c.in-Some.instr) (instruction_of x) (length old) (length c.push.new.self.items) left
           (c.at_place.ensures ∙ ap (λ q. at_place q (instruction_of c.in-Some.instr)) next) longer c.loop-instr.invariant.seen;
     }
