@@ -1,5 +1,5 @@
 -- The code of a clause, put together from its parts.
-use Rattle.std.proofs.Common.{◌≡◌, ℕ, suc, ◌+◌, List, [], ◌∷◌, length, ap, ◌∙◌, sym, arith}
+use Rattle.std.proofs.Common.{◌≡◌, ℕ, suc, ◌+◌, List, [], ◌∷◌, length, ap, ◌∙◌, arith}
 use Rattle.def_spec.specs.Expressions.{Dialect, in_condition, in_body}
 use Rattle.def_spec.specs.Outcome.{Clause}
 use Rattle.def_machine.specs.Instructions.{Instruction, load_list, end_with_match}

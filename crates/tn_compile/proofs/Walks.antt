@@ -1,14 +1,14 @@
 -- A walk over a head, step by step.
-use Rattle.std.proofs.Common.{◌≡◌, ◌∙◌, sym, ap, refl, ℕ, suc, ◌+◌, ◌<◌, ◌==◌, nat_lt, nat_cmp, Bool, true, false, not, cond, List, [], ◌∷◌, ◌++◌, map, length, drop, get_or, Option, Some, None, arith, append_assoc}
+use Rattle.std.proofs.Common.{◌≡◌, ◌∙◌, sym, ap, refl, ℕ, suc, ◌+◌, ◌<◌, ◌==◌, nat_lt, nat_cmp, Bool, true, false, not, cond, List, [], ◌∷◌, ◌++◌, length, drop, get_or, Some, None, arith, append_assoc}
 use Rattle.std.specs.List.{insert, position_or_len}
 use Rattle.std.specs.Ordering.{is_eq}
 use Rattle.std.specs.declared.cmp.Ordering.TheVariants.{Less, Equal, Greater}
 use Rattle.std.specs.FinMap.{find, put}
 use Rattle.std.specs.FinMap.Entries.{by_order}
 use Rattle.std.proofs.lemmas.List.{drop_more}
-use Rattle.def_spec.specs.Matching.{Pattern, Patterns, no_patterns, and_pattern}
-use Rattle.def_machine.specs.Instructions.{Instruction, take_element, test_length}
-use Rattle.def_machine.specs.Compiling.{VariableRegisters, registers_taken, registers_taken_each, variables_after, variables_after_each}
+use Rattle.def_spec.specs.Matching.{Pattern, Patterns, and_pattern}
+use Rattle.def_machine.specs.Instructions.{Instruction, take_element}
+use Rattle.def_machine.specs.Compiling.{VariableRegisters, registers_taken, variables_after, variables_after_each}
 use Rattle.tn_spec.specs.Views.{pattern_seen, patterns_seen}
 use Rattle.tn_spec.specs.declared.pattern.Pattern as code
 use Rattle.tn_compile.specs.Heads.{pattern_steps, each_steps}

@@ -1,8 +1,7 @@
-use Rattle.std.proofs.Common.{rules, ◌≡◌, ◌+◌, ◌∙◌, [], ap, sym, length}
-use Rattle.def_machine.specs.Compiling.{registers_taken, variables_after, exprs_code, while_true_code}
-use Rattle.def_spec.specs.Expressions.{in_condition, in_body}
+use Rattle.std.proofs.Common.{rules, ◌≡◌, ◌+◌, ◌∙◌, [], ap, sym}
+use Rattle.def_machine.specs.Compiling.{registers_taken, variables_after}
 use Rattle.tn_code.specs.Views.{instructions_of}
-use Rattle.tn_spec.specs.Views.{clause_seen, dialect_of, exprs_seen, head_seen}
+use Rattle.tn_spec.specs.Views.{clause_seen, dialect_of, head_seen}
 use Rattle.tn_compile.specs.Heads.{pattern_steps}
 use Rattle.tn_compile.specs.Views.{code_left, variables_seen}
 use Rattle.tn_compile.proofs.Steps.{left-length}

@@ -1,7 +1,6 @@
-use Rattle.std.proofs.Common.{rules, ◌≡◌, ◌∷◌, ◌+◌, ◌-◌, ◌<◌, ◌≤◌, ◌^◌, ◌∙◌, sym, ap, refl, arith, length, drop}
-use Rattle.std.proofs.lemmas.Grind.{common_steps}
+use Rattle.std.proofs.Common.{rules, ◌≡◌, ◌+◌, ◌-◌, ◌<◌, ◌≤◌, ◌^◌, ◌∙◌, sym, ap, arith, length, drop}
 use Rattle.def_spec.specs.Expressions.{and_expr}
-use Rattle.tn_spec.specs.Sizes.{expr_size, exprs_size}
+use Rattle.tn_spec.specs.Sizes.{expr_size}
 use Rattle.tn_spec.specs.Views.{func_of, expr_seen, exprs_seen}
 use Rattle.tn_spec.proofs.Views.{expr_seen_call, expr_seen_and_also, expr_seen_or_else}
 use Rattle.tn_spec.specs.declared.expr.Expr as expr

@@ -1,4 +1,4 @@
-use Rattle.std.proofs.Common.{◌≡◌, ◌+◌, ◌<◌, ◌++◌, ◌∷◌, [], arith, length, drop, ap, ◌∙◌, rules}
+use Rattle.std.proofs.Common.{◌≡◌, ◌+◌, ◌++◌, ◌∷◌, [], arith, drop, ap, ◌∙◌, rules}
 use Rattle.def_machine.specs.Compiling.{registers_of}
 use Rattle.tn_spec.specs.Views.{expr_seen, exprs_seen}
 use Rattle.tn_compile.specs.Views.{variables_seen}

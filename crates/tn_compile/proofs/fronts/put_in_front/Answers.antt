@@ -1,4 +1,4 @@
-use Rattle.std.proofs.Common.{◌≡◌, ◌+◌, ◌-◌, ◌∷◌, [], ◌++◌, ◌∙◌, ap, sym, arith, length}
+use Rattle.std.proofs.Common.{◌-◌, ◌∷◌, [], ◌∙◌, ap, sym, arith}
 use Rattle.std.proofs.lemmas.List.{map-append}
 use Rattle.tn_code.specs.Views.{instruction_of, instructions_of}
 use Rattle.tn_compile.specs.Views.{code_left}

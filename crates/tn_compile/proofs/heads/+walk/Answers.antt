@@ -1,6 +1,5 @@
-use Rattle.std.proofs.Common.{◌≡◌, suc, ◌+◌, ◌<◌, ◌∷◌, [], ◌++◌, ◌∙◌, ap, arith, length, drop}
+use Rattle.std.proofs.Common.{◌≡◌, suc, ◌+◌, ◌∷◌, [], ◌++◌, ◌∙◌, ap, arith, drop}
 use Rattle.std.proofs.lemmas.List.{map-append}
-use Rattle.def_spec.specs.Matching.{and_pattern}
 use Rattle.def_machine.specs.Compiling.{registers_taken, registers_taken_each}
 use Rattle.def_machine.specs.Instructions.{take_element}
 use Rattle.tn_code.specs.Views.{instruction_of, instructions_of}
