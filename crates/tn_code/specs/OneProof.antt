@@ -5,6 +5,8 @@ use mathlib.Core.Bool.{Bool-set}
 use Rattle.def_machine.specs.Instructions.{Instruction}
 use Rattle.def_machine.specs.Validity.{Each, Way, ways, leads_to, reads, has_its_number, LeadsForward, IsInPlace, RegisterSet, no_register, adding, Standing, ReadsSet, Valid}
 use Rattle.tn_code.specs.Rooms.{SetsUpTo, AllSetUpTo}
+use Rattle.tn_code.specs.Views.{instructions_of}
+use Rattle.tn_code.specs.declared.instr.Instr.{Instr}
 
 each-prop : {X : Type 0} (P : X → Type 0) → ((x : X) → IsProp (P x)) → (xs : List X) → IsProp (Each P xs)
 each-prop P one [] = Unit-prop
@@ -38,5 +40,8 @@ valid-prop code = λ x y i. record {
   reads_set = λ n. reads-prop code n 0 no_register (x.reads_set n) (y.reads_set n) i;
 }
 
-pub set-prop : (n : ℕ) (code : List Instruction) → IsProp (AllSetUpTo n code)
+set-prop : (n : ℕ) (code : List Instruction) → IsProp (AllSetUpTo n code)
 set-prop n code = each-prop (SetsUpTo n) (λ i. each-prop (λ w. Each (λ r. r ≤ n) w.sets) (λ w. each-prop (λ r. r ≤ n) (λ r. le_prop) w.sets) (ways i)) code
+
+pub room-prop : {A : Type 0} (n : ℕ) (is : List (Instr A)) → IsProp (AllSetUpTo n (instructions_of is))
+room-prop n is = set-prop n (instructions_of is)

@@ -111,21 +111,21 @@ fn are_set_before<A: Allocator>(items: &[Instr<A>], reader: usize, registers: &[
 }
 
 /// Whether each register that the instruction reads is set before it.
-fn reads_are_set<A: Allocator>(items: &[Instr<A>], place: usize, instr: &Instr<A>) -> bool
-    requires { place < length items.now }
-    ensures { result ≡ all_of_them (is_set_before (instructions_of items.now) place) (reads (instruction_of instr.now)) }
+fn reads_are_set<A: Allocator>(items: &[Instr<A>], here: usize, instr: &Instr<A>) -> bool
+    requires { here < length items.now }
+    ensures { result ≡ all_of_them (is_set_before (instructions_of items.now) here) (reads (instruction_of instr.now)) }
 {
     match instr {
-        Instr::TakeElement { from, .. } => is_set_before(items, place, *from),
-        Instr::TakeRest { from, .. } => is_set_before(items, place, *from),
-        Instr::TestKind { from, .. } => is_set_before(items, place, *from),
-        Instr::TestLength { from, .. } => is_set_before(items, place, *from),
+        Instr::TakeElement { from, .. } => is_set_before(items, here, *from),
+        Instr::TakeRest { from, .. } => is_set_before(items, here, *from),
+        Instr::TestKind { from, .. } => is_set_before(items, here, *from),
+        Instr::TestLength { from, .. } => is_set_before(items, here, *from),
         Instr::TestEqual { left, right, .. } => {
-            is_set_before(items, place, *left) && is_set_before(items, place, *right)
+            is_set_before(items, here, *left) && is_set_before(items, here, *right)
         }
-        Instr::Build { from, .. } => are_set_before(items, place, from.as_slice()),
-        Instr::Apply { from, .. } => are_set_before(items, place, from.as_slice()),
-        Instr::Perform { from, .. } => are_set_before(items, place, from.as_slice()),
+        Instr::Build { from, .. } => are_set_before(items, here, from.as_slice()),
+        Instr::Apply { from, .. } => are_set_before(items, here, from.as_slice()),
+        Instr::Perform { from, .. } => are_set_before(items, here, from.as_slice()),
         _ => true,
     }
 }

@@ -3,7 +3,7 @@ ghost use Rattle.std.specs.Prelude.{◌≡◌, ◌≤◌};
 ghost use Rattle.def_machine.specs.Validity.{Valid};
 ghost use Rattle.tn_code.specs.Views.{instruction_of, instructions_of};
 ghost use Rattle.tn_code.specs.Rooms.{SetsUpTo, AllSetUpTo};
-ghost use Rattle.tn_code.specs.OneProof.{valid-prop, set-prop};
+ghost use Rattle.tn_code.specs.OneProof.{valid-prop, room-prop};
 
 use crate::instr::Instr;
 use crate::ways::{Next, ways_of};
@@ -17,7 +17,7 @@ pub struct Code<A: Allocator> {
     /// No instruction sets a register past this one.
     greatest: usize,
     ghost valid: { Valid (instructions_of items.items) } by { valid-prop (instructions_of items.items) },
-    ghost room: { AllSetUpTo greatest (instructions_of items.items) } by { set-prop greatest (instructions_of items.items) },
+    ghost room: { AllSetUpTo greatest (instructions_of items.items) } by { room-prop greatest items.items },
 }
 
 /// The register that the instruction sets, or 0.
