@@ -2,3 +2,5 @@ pub mod Views
 pub mod Emitted
 pub mod Places
 pub mod Heads
+pub mod Rooms
+pub mod Walking

@@ -1,30 +1,31 @@
 // The code of clauses.
-ghost use Rattle.std.specs.Prelude.{◌≡◌, ◌+◌, ◌<◌, ◌≤◌, ◌^◌, [], OnOk, IfOk, length};
-ghost use Rattle.def_machine.specs.Compiling.{registers_taken, variables_after, clause_code};
-ghost use Rattle.tn_code.specs.Views.{instructions_of};
-ghost use Rattle.tn_spec.specs.Sizes.{exprs_size};
-ghost use Rattle.tn_spec.specs.Views.{clause_seen, dialect_of, exprs_seen, head_seen};
-ghost use Rattle.tn_compile.specs.Heads.{pattern_steps};
-ghost use Rattle.tn_compile.specs.Views.{code_left, variables_seen};
+ghost use Rattle.std.specs.Prelude.{◌≡◌, ◌<◌, ◌≤◌, ◌^◌, OnOk, IfOk, length, map};
+ghost use Rattle.def_machine.specs.Compiling.{code_of};
+ghost use Rattle.tn_code.specs.Codes.{code_seen};
+ghost use Rattle.tn_spec.specs.Sizes.{clauses_size};
+ghost use Rattle.tn_spec.specs.Views.{clause_seen, dialect_of};
+ghost use Rattle.tn_spec.specs.Wholes.{spec_seen};
+ghost use Rattle.tn_compile.specs.Emitted.{EmitsClause, EmitsClauses};
+ghost use Rattle.tn_compile.specs.Rooms.{HasRoomFor};
 
 use crate::exprs::{emit_exprs, emit_while_true};
 use crate::fronts::put_in_front;
 use crate::heads::{HeadSteps, steps_of_head};
+use crate::places::in_places;
 use crate::scene::{Part, Scene, emit};
 use std::alloc::{AllocError, Allocator};
-use tn_code::Instr;
-use tn_spec::{Clause, Dialect};
+use tn_code::{Code, Instr};
+use tn_spec::{Clause, Dialect, Spec};
 
 /// Puts the code of a clause in front of the code that follows where it doesn't fire.
-pub fn emit_clause<P: Allocator, A: Allocator + Copy>(
+fn emit_clause<P: Allocator, A: Allocator + Copy>(
     alloc: A,
     code: &mut Vec<Instr<A>, A>,
     clause: &Clause<P>,
     dialect: Dialect,
 ) -> Result<(), AllocError>
-    requires conditions { 2 + registers_taken (head_seen clause.now.head) + exprs_size (exprs_seen clause.now.conditions.items) < 2 ^ 64 }
-    requires body { 2 + registers_taken (head_seen clause.now.head) + exprs_size (exprs_seen clause.now.body.items) < 2 ^ 64 }
-    ensures emitted { OnOk result (code_left code.new ≡ clause_code (dialect_of dialect) (clause_seen clause.now) (code_left code.old)) }
+    requires { HasRoomFor clause.now }
+    ensures emitted { OnOk result (EmitsClause (dialect_of dialect) (clause_seen clause.now) code.old code.new) }
     ensures longer { OnOk result (length code.old.items ≤ length code.new.items) }
 {
     let left = code.len();
@@ -48,4 +49,37 @@ pub fn emit_clause<P: Allocator, A: Allocator + Copy>(
     emit_while_true(alloc, code, &clause.conditions, &conditions, free, left)?;
     put_in_front(code, steps, left)?;
     Ok(emit(code, Instr::LoadList { to: 0 })?)
+}
+
+/// Puts the code of the clauses in front of the code that follows where none fires.
+fn emit_clauses<P: Allocator, A: Allocator + Copy>(
+    alloc: A,
+    code: &mut Vec<Instr<A>, A>,
+    clauses: &[Clause<P>],
+    dialect: Dialect,
+) -> Result<(), AllocError>
+    requires { clauses_size (map clause_seen clauses.now) < 2 ^ 32 }
+    ensures { OnOk result (EmitsClauses (dialect_of dialect) (map clause_seen clauses.now) code.old code.new) }
+{
+    let mut i = clauses.len();
+    while i > 0 {
+        i -= 1;
+        let clause = &clauses[i];
+        emit_clause(alloc, code, clause, dialect)?;
+    }
+    Ok(())
+}
+
+/// The code of a specification. An error is refused memory.
+pub fn compile<P: Allocator, A: Allocator + Copy>(
+    alloc: A,
+    spec: &Spec<P>,
+) -> Result<Code<A>, AllocError>
+    ensures { IfOk result (λ c. code_seen c ≡ code_of (spec_seen spec.now)) }
+{
+    let mut code = Vec::new(alloc);
+    emit(&mut code, Instr::EndNoMatch)?;
+    emit_clauses(alloc, &mut code, spec.clauses.as_slice(), spec.dialect)?;
+    let items = in_places(alloc, code)?;
+    Ok(Code::of(items))
 }

@@ -8,7 +8,7 @@ ghost use Rattle.tn_spec.specs.Views.{expr_seen, exprs_seen};
 ghost use Rattle.tn_term.specs.Views.{tree_of};
 ghost use Rattle.tn_code.specs.Views.{fault_of};
 ghost use Rattle.tn_compile.specs.Views.{code_left, variables_seen, fault_emitted};
-ghost use Rattle.tn_compile.specs.Emitted.{expr_emitted, exprs_emitted, while_emitted, until_emitted};
+ghost use Rattle.tn_compile.specs.Emitted.{EmitsExpr, EmitsExprs, EmitsWhileTrue, EmitsUntilTrue};
 
 use crate::scene::{Part, Scene, VariableRegister, all_registers, emit, register_of_variable};
 use std::alloc::{AllocError, Allocator};
@@ -94,7 +94,7 @@ pub fn emit_expr<P: Allocator, A: Allocator + Copy>(
 ) -> Result<(), AllocError>
     requires room { free + 1 + expr_size (expr_seen expr.now) < 2 ^ 64 }
     requires behind { scene.now.left ≤ length code.old.items }
-    ensures emitted { OnOk result (code_left code.new ≡ expr_emitted scene.now (expr_seen expr.now) free (code_left code.old)) }
+    ensures emitted { OnOk result (EmitsExpr scene.now (expr_seen expr.now) free code.old code.new) }
     ensures longer { OnOk result (length code.old.items ≤ length code.new.items) }
 {
     match expr {
@@ -193,7 +193,7 @@ pub fn emit_exprs<P: Allocator, A: Allocator + Copy>(
 ) -> Result<(), AllocError>
     requires room { free + 1 + exprs_size (exprs_seen exprs.now.items) < 2 ^ 64 }
     requires behind { scene.now.left ≤ length code.old.items }
-    ensures emitted { OnOk result (code_left code.new ≡ exprs_emitted scene.now (exprs_seen exprs.now.items) free (code_left code.old)) }
+    ensures emitted { OnOk result (EmitsExprs scene.now (exprs_seen exprs.now.items) free code.old code.new) }
     ensures longer { OnOk result (length code.old.items ≤ length code.new.items) }
 {
     let mut i = exprs.len();
@@ -218,7 +218,7 @@ pub fn emit_while_true<P: Allocator, A: Allocator + Copy>(
     requires room { free + 1 + exprs_size (exprs_seen exprs.now.items) < 2 ^ 64 }
     requires behind { scene.now.left ≤ length code.old.items }
     requires end { end ≤ length code.old.items }
-    ensures emitted { OnOk result (code_left code.new ≡ while_emitted scene.now (exprs_seen exprs.now.items) free end (code_left code.old)) }
+    ensures emitted { OnOk result (EmitsWhileTrue scene.now (exprs_seen exprs.now.items) free end code.old code.new) }
     ensures longer { OnOk result (length code.old.items ≤ length code.new.items) }
 {
     let mut i = exprs.len();
@@ -254,7 +254,7 @@ pub fn emit_until_true<P: Allocator, A: Allocator + Copy>(
     requires room { free + 1 + exprs_size (exprs_seen exprs.now.items) < 2 ^ 64 }
     requires behind { scene.now.left ≤ length code.old.items }
     requires end { end ≤ length code.old.items }
-    ensures emitted { OnOk result (code_left code.new ≡ until_emitted scene.now (exprs_seen exprs.now.items) free end (code_left code.old)) }
+    ensures emitted { OnOk result (EmitsUntilTrue scene.now (exprs_seen exprs.now.items) free end code.old code.new) }
     ensures longer { OnOk result (length code.old.items ≤ length code.new.items) }
 {
     let mut i = exprs.len();

@@ -1,8 +1,8 @@
 // The steps of a head in front of the code that follows.
 ghost use Rattle.std.specs.Prelude.{◌≡◌, ◌≤◌, OnOk, length};
-ghost use Rattle.tn_code.specs.Views.{instruction_of, instructions_of};
-ghost use Rattle.tn_compile.specs.Heads.{in_front, with_jump};
-ghost use Rattle.tn_compile.specs.Views.{code_left};
+ghost use Rattle.tn_code.specs.Views.{instruction_of};
+ghost use Rattle.tn_compile.specs.Emitted.{EmitsSteps};
+ghost use Rattle.tn_compile.specs.Heads.{with_jump};
 
 use crate::scene::emit;
 use std::alloc::{AllocError, Allocator};
@@ -50,7 +50,7 @@ pub fn put_in_front<A: Allocator>(
     left: usize,
 ) -> Result<(), AllocError>
     requires { left ≤ length code.old.items }
-    ensures emitted { OnOk result (code_left code.new ≡ in_front left (instructions_of steps.items) (code_left code.old)) }
+    ensures emitted { OnOk result (EmitsSteps left steps.items code.old code.new) }
     ensures longer { OnOk result (length code.old.items ≤ length code.new.items) }
 {
     while let Some(step) = steps.pop() {

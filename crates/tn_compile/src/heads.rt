@@ -1,14 +1,14 @@
 // The steps of a head, from its beginning.
-ghost use Rattle.std.specs.Prelude.{◌≡◌, ◌+◌, ◌<◌, ◌≤◌, ◌^◌, ◌∷◌, ◌++◌, [], OnOk, IfOk, length, nat_lt};
+ghost use Rattle.std.specs.Prelude.{◌≡◌, ◌+◌, ◌<◌, ◌≤◌, ◌^◌, [], OnOk, IfOk, length, nat_lt};
 ghost use Rattle.std.specs.FinMap.{find};
 ghost use Rattle.std.specs.List.{position_or_len};
 ghost use Rattle.std.specs.Ordering.{nat_cmp};
-ghost use Rattle.def_machine.specs.Compiling.{registers_taken, registers_taken_each, variable_met, variables_after};
-ghost use Rattle.def_machine.specs.Compiling.{variables_after_each};
-ghost use Rattle.tn_code.specs.Views.{instruction_of, instructions_of};
+ghost use Rattle.def_machine.specs.Compiling.{registers_taken, registers_taken_each, variables_after};
 ghost use Rattle.tn_spec.specs.Views.{head_seen, pattern_seen, patterns_seen};
-ghost use Rattle.tn_compile.specs.Heads.{pattern_steps, each_steps};
+ghost use Rattle.tn_compile.specs.Heads.{pattern_steps};
 ghost use Rattle.tn_compile.specs.Views.{variables_seen};
+ghost use Rattle.tn_compile.specs.Walking.{steps_seen, found, AddsSteps, AddsVariables, AddsVariable};
+ghost use Rattle.tn_compile.specs.Walking.{AddsEachStep, AddsEachVariable, TakesRegisters};
 
 use crate::scene::{VariableRegister, register_of_variable};
 use std::alloc::{AllocError, Allocator};
@@ -45,7 +45,7 @@ fn add_variable<A: Allocator>(
     register: usize,
 ) -> Result<(), AllocError>
     requires { find nat_cmp number (variables_seen variables.old.items) ≡ None }
-    ensures { OnOk result (variables_seen variables.new.items ≡ variable_met number register (variables_seen variables.old.items) None) }
+    ensures { OnOk result (AddsVariable number register variables.old.items variables.new.items) }
 {
     let place = place_of(variables.as_slice(), number);
     variables.insert(place, VariableRegister { number, register })?;
@@ -61,8 +61,8 @@ pub fn walk<P: Allocator, A: Allocator + Copy>(
     register: usize,
 ) -> Result<(), AllocError>
     requires room { head.old.free + registers_taken (pattern_seen pattern.now) < 2 ^ 64 }
-    ensures steps { OnOk result (instructions_of head.new.steps.items ≡ instructions_of head.old.steps.items ++ pattern_steps (pattern_seen pattern.now) (variables_seen head.old.variables.items) register head.old.free) }
-    ensures variables { OnOk result (variables_seen head.new.variables.items ≡ variables_after (pattern_seen pattern.now) (variables_seen head.old.variables.items) register head.old.free) }
+    ensures steps { OnOk result (AddsSteps (pattern_seen pattern.now) register head.old head.new) }
+    ensures variables { OnOk result (AddsVariables (pattern_seen pattern.now) register head.old head.new) }
     ensures free { OnOk result (head.new.free ≡ head.old.free + registers_taken (pattern_seen pattern.now)) }
 {
     match pattern {
@@ -120,9 +120,9 @@ pub fn walk_each<P: Allocator, A: Allocator + Copy>(
     register: usize,
 ) -> Result<(), AllocError>
     requires room { head.old.free + registers_taken_each (patterns_seen patterns.now.items) < 2 ^ 64 }
-    ensures steps { OnOk result (instructions_of head.new.steps.items ≡ instructions_of head.old.steps.items ++ each_steps (patterns_seen patterns.now.items) (variables_seen head.old.variables.items) register 0 head.old.free) }
-    ensures variables { OnOk result (variables_seen head.new.variables.items ≡ variables_after_each (patterns_seen patterns.now.items) (variables_seen head.old.variables.items) head.old.free) }
-    ensures free { OnOk result (head.new.free ≡ head.old.free + registers_taken_each (patterns_seen patterns.now.items)) }
+    ensures steps { OnOk result (AddsEachStep (patterns_seen patterns.now.items) register head.old head.new) }
+    ensures variables { OnOk result (AddsEachVariable (patterns_seen patterns.now.items) head.old head.new) }
+    ensures free { OnOk result (TakesRegisters (patterns_seen patterns.now.items) head.old head.new) }
 {
     for index in 0..patterns.len() {
         let pattern = &patterns[index];
@@ -150,8 +150,8 @@ pub fn steps_of_head<P: Allocator, A: Allocator + Copy>(
     head: &Head<P>,
 ) -> Result<HeadSteps<A>, AllocError>
     requires room { 1 + registers_taken (head_seen head.now) < 2 ^ 64 }
-    ensures steps { IfOk result (λ h. instructions_of h.steps.items ≡ pattern_steps (head_seen head.now) [] 0 1) }
-    ensures variables { IfOk result (λ h. variables_seen h.variables.items ≡ variables_after (head_seen head.now) [] 0 1) }
+    ensures steps { IfOk result (λ h. steps_seen h ≡ pattern_steps (head_seen head.now) [] 0 1) }
+    ensures variables { IfOk result (λ h. found h ≡ variables_after (head_seen head.now) [] 0 1) }
     ensures free { IfOk result (λ h. h.free ≡ 1 + registers_taken (head_seen head.now)) }
 {
     let mut made = HeadSteps {
