@@ -1,0 +1,4 @@
+pub mod Sets
+pub mod Elements
+pub mod Goings
+pub mod Moves
