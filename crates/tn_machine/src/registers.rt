@@ -15,6 +15,9 @@ use std::alloc::{AllocError, Allocator};
 use tn_code::Kind;
 use tn_guard::{Parts, Value};
 
+/// The registers of a run, each with its value where it is set, in an arena.
+pub type Registers<'a, A> = Vec<Option<Value<'a, A>>, &'a Bump<A>>;
+
 /// The values of some registers: a few of them lie in the value itself, more in an arena.
 pub type SomeValues<'a, A> = SmallVec<Value<'a, A>, 4, &'a Bump<A>>;
 
