@@ -17,6 +17,8 @@ import subprocess
 import sys
 import tempfile
 
+from refusals import REFUSALS
+
 TOP = pathlib.Path(__file__).resolve().parent.parent
 PROGRAM = TOP / "crates" / "tn_cli" / "out" / "tn_cli"
 PLAIN = TOP / "crates" / "tn_plain" / "out" / "tn_plain"
@@ -60,10 +62,17 @@ def run(args, script=b"", command=(str(PROGRAM),), **how):
     )
 
 
-def wants(name, ran, status, output, errors=b""):
-    """Holds a run against its status, its output and its whole standard error."""
+def wants(name, ran, status, output, errors=None):
+    """Holds a run against its status, its output and its whole standard error.
+
+    Where that isn't given it is one line for a refusal, and else nothing.
+    """
     seen = (ran.returncode, ran.stdout, ran.stderr)
-    check(name, seen == (status, output, errors), seen)
+    if errors is None:
+        is_told = ran.stderr.count(b"\n") == (1 if status == 2 else 0) and not ran.stderr.partition(b"\n")[2]
+    else:
+        is_told = ran.stderr == errors
+    check(name, seen[:2] == (status, output) and is_told, seen)
 
 
 def rows():
@@ -188,6 +197,26 @@ def examples():
         check(f"example {script.stem}", ran.returncode == 0 and notes[1:] in ([], shown), ran)
 
 
+def refusals():
+    """Each refused script's line, from a file and from standard input, and that of refused picks."""
+    with tempfile.TemporaryDirectory() as folder:
+        script = pathlib.Path(folder) / "script.term"
+        for text, line in REFUSALS:
+            script.write_text(text)
+            for words in (["round"], ["workers", "--n", "1"]):
+                ran = run([*words, "script.term"], cwd=folder)
+                check(f"{words[0]}: {line}", ran.returncode == 2 and ran.stderr.decode() == line + "\n", ran)
+            ran = run(["replay", "--picks", "0"], text.encode())
+            wanted = line.replace("script.term:", "script:") + "\n"
+            check(f"replay: {line}", ran.returncode == 2 and ran.stderr.decode() == wanted, ran)
+        (pathlib.Path(folder) / "gr\u00fc\u00df.term").write_text("{")
+        ran = run(["round", "gr\u00fc\u00df.term"], cwd=folder)
+        check("a name that isn't ASCII", ran.stderr.decode().startswith("gr\u00fc\u00df.term:1:2: "), ran)
+    rule = b"picks: picks are numbers up to 4294967295 with one space between each two"
+    ran = run(["replay", "--picks", "0 100 07 1"], SEND_HI)
+    wants("the third pick", ran, 2, b"refused 20 bad picks\n", rule + b": pick 3, '07', has a leading zero\n")
+
+
 def long_texts():
     """A script of 1 MiB, one of a byte more, and a journal that is full."""
     replay = ["replay", "--picks", ""]
@@ -280,21 +309,22 @@ def ends():
         ran = subprocess.run(
             [PROGRAM, *SEND_HI_PICKS], input=SEND_HI, stdout=full, stderr=subprocess.PIPE, check=False
         )
-        good = ran.returncode == 3 and ran.stderr == b"fault 19 write after 0 bytes\n"
+        fault = b"fault 19 write after 0 bytes: No space left on device (os error 28)\n"
+        good = ran.returncode == 3 and ran.stderr == fault
         check("a full standard output", good, ran)
         ran = subprocess.run([PROGRAM, "--help"], stdout=full, stderr=subprocess.PIPE, check=False)
         check("help to a full standard output", ran.returncode == 3, ran)
     ran = run(SEND_HI_PICKS, SEND_HI, command=("sh", "-c", 'exec "$0" "$@" >&-', str(PROGRAM)))
     check("a closed standard output", ran.returncode == 3 and b"fault 19" in ran.stderr, ran)
     ran = run(SEND_HI_PICKS, command=("sh", "-c", 'exec "$0" "$@" <&-', str(PROGRAM)))
-    wants("a closed standard input", ran, 3, b"", b"fault 18 read\n")
+    wants("a closed standard input", ran, 3, b"", b"fault 18 read: Bad file descriptor (os error 9)\n")
     with tempfile.TemporaryDirectory() as folder:
         there = os.open(folder, os.O_RDONLY)
         ran = subprocess.run(
             [PROGRAM, *SEND_HI_PICKS], stdin=there, stdout=subprocess.PIPE, stderr=subprocess.PIPE, check=False
         )
         os.close(there)
-        wants("a folder as standard input", ran, 3, b"", b"fault 18 read\n")
+        wants("a folder as standard input", ran, 3, b"", b"fault 18 read: Is a directory (os error 21)\n")
     reader, writer = socket.socketpair()
     reader.close()
     ran = subprocess.run(
@@ -381,7 +411,7 @@ def main():
         print("the program is not built")
         print("0 passed, 1 failed")
         sys.exit(1)
-    parts = (rows, plain, tries, files, documents, examples, workers)
+    parts = (rows, plain, tries, files, documents, examples, workers, refusals)
     parts += (long_texts, command_lines, ends, memory, growths, starts)
     for part in parts:
         try:

@@ -1,1 +1,3 @@
+pub mod Ends
+pub mod Lines
 pub mod Status

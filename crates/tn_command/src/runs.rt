@@ -4,11 +4,15 @@ ghost use Rattle.std.specs.Process.{exit_status};
 ghost use Rattle.tn_text.specs.Watch.{watched_inner, has_failed};
 ghost use Rattle.tn_run.specs.Out.{asked};
 ghost use Rattle.tn_run.specs.Workers.{IsWorkerCount};
-ghost use Rattle.tn_command.specs.Status.{IsStatus, IsFailure, IsWrittenAs, IsWrittenByWorkers, FAULT_STATUS};
+ghost use Rattle.tn_command.specs.Status.{IsStatus, IsFailure, IsWrittenAs, IsWrittenByWorkers, status_of, FAULT_STATUS};
 
+use crate::noted::Noted;
+use crate::recorded::Recorded;
 use crate::source::{Source, open};
-use crate::status::report;
+use crate::status::{FAULT, status};
+use crate::telling::{Named, tell, tell_fault};
 use std::alloc::{Allocator, Global};
+use std::fmt::Display;
 use std::io;
 use std::io::{Read, Write};
 use std::process::ExitCode;
@@ -16,48 +20,119 @@ use std::rt::Files;
 use std::sync::Wait;
 use std::thread::Threads;
 use tn_pool::Gate;
-use tn_run::{RunFault, Schedule, Workers, read_text, run, run_live};
+use tn_run::{LiveFault, Outcome, RunFault, Schedule, Workers, read_text, run, run_live};
 use tn_text::Watched;
 
-/// Runs the script that a reader holds, and says how it went: what the writer gained is what the status
-/// says.
+/// What the script of standard input is called.
+const INPUT: &str = "script";
+
+/// How a run ended.
+#[derive(Drop)]
+pub struct Ended<F> {
+    /// Its exit status.
+    pub status: ExitCode,
+    /// The answer whose status that is.
+    pub answer: Result<Outcome, F>,
+}
+
+impl<F> Ended<F> {
+    /// How a run with this answer ended.
+    fn of(answer: Result<Outcome, F>) -> Self
+        ensures status { exit_status result.status ≡ status_of answer }
+        ensures answer { result.answer ≡ answer }
+    {
+        let status = status(&answer);
+        Ended { status, answer }
+    }
+}
+
+/// Runs the script that a reader holds: what the writer gained is what the status says.
 pub fn perform_over<A: Allocator + Copy, R: Read, W: Write>(
-    rt: &impl Eprint,
     alloc: A,
     reader: &mut Watched<R>,
     writer: &mut Watched<W>,
     schedule: Schedule<'_>,
-) -> ExitCode
-    ensures written { IsWrittenAs (exit_status result) (R.remaining (watched_inner reader.old))
+) -> Ended<RunFault>
+    ensures written { IsWrittenAs (exit_status result.status) (R.remaining (watched_inner reader.old))
         (asked schedule.entry) (W.contents (watched_inner writer.old)) (W.contents (watched_inner writer.new)) }
-    ensures failed { exit_status result ≡ FAULT_STATUS →
+    ensures failed { exit_status result.status ≡ FAULT_STATUS →
         (writer.new ≡ writer.old) ⊎ (has_failed writer.new ≡ true) }
-    ensures status { IsStatus (exit_status result) }
+    ensures status { IsStatus (exit_status result.status) }
+    ensures answer { exit_status result.status ≡ status_of result.answer }
 {
-    let answer = run(alloc, reader, writer, schedule);
-    report(rt, answer)
+    Ended::of(run(alloc, reader, writer, schedule))
 }
 
-/// Runs the script that a reader holds by workers, and says how it went: what the writer gained is what
-/// the status says.
-pub fn perform_workers_over<T: Threads + Wait + Sync + Eprint, R: Read, W: Write, G: Gate>(
+/// Runs the script that a reader holds by workers: what the writer gained is what the status says.
+pub fn perform_workers_over<T: Threads + Wait + Sync, R: Read, W: Write, G: Gate>(
     rt: &T,
     alloc: Global,
     reader: &mut Watched<R>,
     writer: &mut Watched<W>,
     workers: &Workers<'_, G>,
-) -> ExitCode
+) -> Ended<LiveFault>
     requires count { IsWorkerCount workers.now.count }
-    ensures written { IsWrittenByWorkers (exit_status result) (R.remaining (watched_inner reader.old))
+    ensures written { IsWrittenByWorkers (exit_status result.status) (R.remaining (watched_inner reader.old))
         (W.contents (watched_inner writer.old)) (W.contents (watched_inner writer.new)) }
-    ensures failed { exit_status result ≡ FAULT_STATUS →
+    ensures failed { exit_status result.status ≡ FAULT_STATUS →
         (writer.new ≡ writer.old) ⊎ (has_failed writer.new ≡ true) }
-    ensures status { IsStatus (exit_status result) }
+    ensures status { IsStatus (exit_status result.status) }
+    ensures answer { exit_status result.status ≡ status_of result.answer }
 {
     match run_live(rt, alloc, reader, writer, workers) {
-        Ok(ran) => report::<RunFault>(rt, Ok(ran.outcome)),
-        Err(fault) => report(rt, Err(fault)),
+        Ok(ran) => Ended::of(Ok(ran.outcome)),
+        Err(fault) => Ended::of(Err(fault)),
     }
+}
+
+/// A reader of a script that keeps its text, and why it failed.
+type Script<R> = Watched<Noted<Recorded<R, Global>>>;
+
+/// A reader of a script, of which nothing was read yet.
+fn script_of<R>(alloc: Global, reader: R) -> Script<R> {
+    Watched::of(Noted::of(Recorded::of(alloc, reader)))
+}
+
+/// The status of a run, after a line on standard error where it gave no listing.
+fn told<R: Eprint + AllocGlobal, S: Drop, W: Drop, F: Display + Drop>(
+    rt: &R,
+    ended: Ended<F>,
+    name: &str,
+    script: Script<S>,
+    picks: &[u8],
+    writer: Watched<Noted<W>>,
+) -> ExitCode
+    ensures { exit_status result ≡ exit_status ended.status }
+{
+    let Ended { status, answer } = ended;
+    let (script, unread) = script.into_inner().into_parts();
+    let (_, unwritten) = writer.into_inner().into_parts();
+    let (_, bytes) = script.into_parts();
+    let script = Named {
+        name,
+        bytes: &bytes,
+    };
+    tell(rt, answer, script, picks, unread.or(unwritten));
+    status
+}
+
+/// Runs the script that a reader with this name holds, and writes to standard output.
+fn perform_named<R: Print + Eprint + AllocGlobal, S: Read + Drop>(
+    rt: &R,
+    name: &str,
+    reader: S,
+    schedule: Schedule<'_>,
+) -> ExitCode
+    ensures { IsStatus (exit_status result) }
+{
+    let mut script = script_of(rt.alloc(), reader);
+    let mut writer = Watched::of(Noted::of(io::writer(rt)));
+    let ended = perform_over(rt.alloc(), &mut script, &mut writer, schedule);
+    let picks = match schedule {
+        Schedule::Picks(text) => text,
+        Schedule::Round(_) => b"",
+    };
+    told(rt, ended, name, script, picks, writer)
 }
 
 /// Runs the script of a source, and writes to standard output.
@@ -68,21 +143,28 @@ pub fn perform<R: Input + Files + Print + Eprint + AllocGlobal>(
 ) -> ExitCode
     ensures { IsStatus (exit_status result) }
 {
-    let mut writer = Watched::of(io::writer(rt));
-    let path = match script {
-        Source::Input => {
-            let mut reader = Watched::of(rt.reader());
-            return perform_over(rt, rt.alloc(), &mut reader, &mut writer, schedule);
-        }
-        Source::File(path) => path,
-    };
-    match open(rt, path) {
-        Ok(file) => {
-            let mut reader = Watched::of(file);
-            perform_over(rt, rt.alloc(), &mut reader, &mut writer, schedule)
-        }
-        Err(status) => status,
+    match script {
+        Source::Input => perform_named(rt, INPUT, rt.reader(), schedule),
+        Source::File(path) => match open(rt, path) {
+            Ok(file) => perform_named(rt, path, file, schedule),
+            Err(status) => status,
+        },
     }
+}
+
+/// Runs the script that a reader with this name holds by workers, and writes to standard output.
+fn perform_workers_named<
+    R: Print + Eprint + AllocGlobal + Threads + Wait + Sync,
+    S: Read + Drop,
+    G: Gate,
+>(rt: &R, name: &str, reader: S, workers: &Workers<'_, G>) -> ExitCode
+    requires { IsWorkerCount workers.now.count }
+    ensures { IsStatus (exit_status result) }
+{
+    let mut script = script_of(rt.alloc(), reader);
+    let mut writer = Watched::of(Noted::of(io::writer(rt)));
+    let ended = perform_workers_over(rt, rt.alloc(), &mut script, &mut writer, workers);
+    told(rt, ended, name, script, b"", writer)
 }
 
 /// Runs the script of a source by workers, and writes to standard output.
@@ -93,20 +175,12 @@ pub fn perform_workers<
     requires { IsWorkerCount workers.now.count }
     ensures { IsStatus (exit_status result) }
 {
-    let mut writer = Watched::of(io::writer(rt));
-    let path = match script {
-        Source::Input => {
-            let mut reader = Watched::of(rt.reader());
-            return perform_workers_over(rt, rt.alloc(), &mut reader, &mut writer, workers);
-        }
-        Source::File(path) => path,
-    };
-    match open(rt, path) {
-        Ok(file) => {
-            let mut reader = Watched::of(file);
-            perform_workers_over(rt, rt.alloc(), &mut reader, &mut writer, workers)
-        }
-        Err(status) => status,
+    match script {
+        Source::Input => perform_workers_named(rt, INPUT, rt.reader(), workers),
+        Source::File(path) => match open(rt, path) {
+            Ok(file) => perform_workers_named(rt, path, file, workers),
+            Err(status) => status,
+        },
     }
 }
 
@@ -119,7 +193,7 @@ fn picks_text<R: Read + Drop>(
 ) -> Result<Vec<u8>, ExitCode>
     ensures { IfErr result (λ status. IsFailure (exit_status status)) }
 {
-    let mut reader = Watched::of(reader);
+    let mut reader = Watched::of(Noted::of(reader));
     match read_text(alloc, &mut reader) {
         Ok(mut text) => {
             if text.last() == Some(&b'\n') {
@@ -127,7 +201,11 @@ fn picks_text<R: Read + Drop>(
             }
             Ok(text)
         }
-        Err(fault) => Err(report(rt, Err(fault))),
+        Err(fault) => {
+            let (_, reason) = reader.into_inner().into_parts();
+            tell_fault(rt, &fault, reason);
+            Err(ExitCode::from(FAULT))
+        }
     }
 }
 

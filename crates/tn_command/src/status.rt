@@ -13,16 +13,23 @@ pub const REFUSED: u8 = 2;
 /// The status of a fault.
 pub const FAULT: u8 = 3;
 
-/// The exit status of a run, after a fault's line on standard error.
-pub fn report<F: Display + Drop>(rt: &impl Eprint, answer: Result<Outcome, F>) -> ExitCode
-    ensures { exit_status result ≡ status_of answer }
+/// The exit status of a run's answer.
+pub fn status<F>(answer: &Result<Outcome, F>) -> ExitCode
+    ensures { exit_status result ≡ status_of answer.now }
 {
     match answer {
         Ok(Outcome::Listed) => ExitCode::SUCCESS,
         Ok(Outcome::Refused(_)) => ExitCode::from(REFUSED),
-        Err(fault) => {
-            let _ = rt.eprintln(fault);
-            ExitCode::from(FAULT)
-        }
+        Err(_) => ExitCode::from(FAULT),
     }
+}
+
+/// The exit status of a run, after a fault's line on standard error.
+pub fn report<F: Display + Drop>(rt: &impl Eprint, answer: Result<Outcome, F>) -> ExitCode
+    ensures { exit_status result ≡ status_of answer }
+{
+    if let Err(fault) = &answer {
+        let _ = rt.eprintln(fault);
+    }
+    status(&answer)
 }

@@ -1,0 +1,78 @@
+// A reader or a writer that keeps why a call of it failed.
+ghost use Rattle.std.specs.Prelude.{◌≡◌};
+ghost use Rattle.std.specs.Io.{ReadsAtMost, WritesAtMost};
+ghost use Rattle.std.specs.Io.KnownBytes.{Keeps, ReadConsumes, WriteAppends};
+ghost use Rattle.tn_command.specs.Ends.{noted_inner, latest};
+
+use std::io::{Error, Read, Result, Write};
+
+/// A reader or a writer that keeps the error of its last call that failed (own). It passes each call on as it
+/// is.
+#[derive(Drop)]
+pub struct Noted<T> {
+    inner: T,
+    error: Option<Error>,
+}
+
+impl<T> Noted<T> {
+    /// None of its calls has failed yet.
+    pub fn of(inner: T) -> Self
+        ensures { noted_inner result ≡ inner }
+    {
+        Noted { inner, error: None }
+    }
+
+    /// The reader or writer itself, and the error that was kept.
+    pub fn into_parts(self) -> (T, Option<Error>)
+        ensures { result.0 ≡ noted_inner self }
+    {
+        let Noted { inner, error } = self;
+        (inner, error)
+    }
+}
+
+impl<R: Read> Read for Noted<R> {
+    ghost remaining = { λ n. R.remaining (noted_inner n) };
+
+    fn read(&mut self, buf: &mut [u8]) -> Result<usize>
+        ensures bound { ReadsAtMost result buf.new }
+        ensures bytes { ReadConsumes (R.remaining (noted_inner self.old))
+            (R.remaining (noted_inner self.new)) result buf.new }
+        ensures kept { self.new.error ≡ latest result self.old.error }
+    {
+        let result = self.inner.read(buf);
+        if let Err(error) = &result {
+            self.error = Some(*error);
+        }
+        result
+    }
+}
+
+impl<W: Write> Write for Noted<W> {
+    ghost contents = { λ n. W.contents (noted_inner n) };
+
+    fn write(&mut self, buf: &[u8]) -> Result<usize>
+        ensures bound { WritesAtMost result buf.now }
+        ensures bytes { WriteAppends (W.contents (noted_inner self.old))
+            (W.contents (noted_inner self.new)) result buf.now }
+        ensures kept { self.new.error ≡ latest result self.old.error }
+    {
+        let result = self.inner.write(buf);
+        if let Err(error) = &result {
+            self.error = Some(*error);
+        }
+        result
+    }
+
+    fn flush(&mut self) -> Result<()>
+        ensures bytes { Keeps (W.contents (noted_inner self.old))
+            (W.contents (noted_inner self.new)) }
+        ensures kept { self.new.error ≡ latest result self.old.error }
+    {
+        let result = self.inner.flush();
+        if let Err(error) = &result {
+            self.error = Some(*error);
+        }
+        result
+    }
+}

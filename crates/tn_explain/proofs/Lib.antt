@@ -1,0 +1,3 @@
+pub mod Starting
+pub mod Showing
+pub mod Refused

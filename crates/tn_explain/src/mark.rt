@@ -1,0 +1,85 @@
+// Where a line says that a refusal is.
+ghost use Rattle.std.specs.Prelude.{◌≡◌, ◌<◌, length, IfOk};
+ghost use Rattle.tn_explain.specs.Marks.{mark_text, IsMarkOf, IsFormMark, spot_at};
+
+use crate::place::place_of;
+use crate::reason::Reason;
+use crate::starts::form_offset;
+use itoa::Buffer;
+use std::alloc::{AllocError, Allocator};
+use tn_text::MAX_TEXT;
+
+/// Where the refusal is: the whole text, a line and a column, or the line of a form with its number.
+#[derive(Clone, Copy)]
+pub enum Mark {
+    Whole,
+    Spot { line: usize, column: usize },
+    InForm { line: usize, form: usize },
+}
+
+/// The place of an offset.
+fn spot(text: &[u8], at: usize) -> Mark
+    requires { length text.now < usize.MAX }
+    ensures { result ≡ spot_at text.now at }
+{
+    let place = place_of(text, at);
+    Mark::Spot {
+        line: place.line,
+        column: place.column,
+    }
+}
+
+/// The line of a form; the whole text where its tokens can't be told.
+fn form_mark<A: Allocator>(alloc: A, text: &[u8], form: usize) -> Result<Mark, AllocError>
+    requires { length text.now < usize.MAX }
+    ensures { IfOk result (λ m. IsFormMark text.now form m) }
+{
+    match form_offset(alloc, text, form)? {
+        Some(at) => Ok(Mark::InForm {
+            line: place_of(text, at).line,
+            form,
+        }),
+        None => Ok(Mark::Whole),
+    }
+}
+
+/// Where the refusal of a text is; the whole text where that is longer than 1,048,576 bytes.
+pub fn mark_of<A: Allocator>(alloc: A, text: &[u8], reason: Reason) -> Result<Mark, AllocError>
+    ensures { IfOk result (λ m. IsMarkOf text.now reason m) }
+{
+    if text.len() > MAX_TEXT {
+        return Ok(Mark::Whole);
+    }
+    match reason {
+        Reason::TooLong => Ok(Mark::Whole),
+        Reason::Text { at, .. } => Ok(spot(text, at)),
+        Reason::Form { form, .. } => Ok(form_mark(alloc, text, form)?),
+        Reason::TooManyForms => Ok(Mark::Whole),
+        Reason::BadPicks => Ok(Mark::Whole),
+    }
+}
+
+/// The front of a line: the name and where the refusal is.
+pub fn front<A: Allocator>(alloc: A, name: &str, mark: Mark) -> Result<Vec<u8, A>, AllocError>
+    ensures { IfOk result (λ v. v.items ≡ mark_text name.now mark) }
+{
+    let mut line = Vec::from_slice(alloc, name.as_bytes())?;
+    match mark {
+        Mark::Whole => line.extend_from_slice(b": ")?,
+        Mark::Spot { line: row, column } => {
+            line.push(b':')?;
+            line.extend_from_slice(Buffer::new().format(row).as_bytes())?;
+            line.push(b':')?;
+            line.extend_from_slice(Buffer::new().format(column).as_bytes())?;
+            line.extend_from_slice(b": ")?;
+        }
+        Mark::InForm { line: row, form } => {
+            line.push(b':')?;
+            line.extend_from_slice(Buffer::new().format(row).as_bytes())?;
+            line.extend_from_slice(b": form ")?;
+            line.extend_from_slice(Buffer::new().format(form).as_bytes())?;
+            line.extend_from_slice(b": ")?;
+        }
+    }
+    Ok(line)
+}
