@@ -313,7 +313,7 @@ def ends():
         good = ran.returncode == 3 and ran.stderr == fault
         check("a full standard output", good, ran)
         ran = subprocess.run([PROGRAM, "--help"], stdout=full, stderr=subprocess.PIPE, check=False)
-        check("help to a full standard output", ran.returncode == 3, ran)
+        check("help to a full standard output", ran.returncode == 3 and ran.stderr == fault, ran)
     ran = run(SEND_HI_PICKS, SEND_HI, command=("sh", "-c", 'exec "$0" "$@" >&-', str(PROGRAM)))
     check("a closed standard output", ran.returncode == 3 and b"fault 19" in ran.stderr, ran)
     ran = run(SEND_HI_PICKS, command=("sh", "-c", 'exec "$0" "$@" <&-', str(PROGRAM)))

@@ -19,7 +19,8 @@ use std::rt::{Env, Files};
 use std::sync::Wait;
 use std::thread::Threads;
 use tn_command::{
-    REFUSED, Source, arguments, perform, perform_workers, picks_of, report, source_of,
+    FAULT, Noted, REFUSED, Source, arguments, perform, perform_workers, picks_of, report,
+    source_of, tell_fault,
 };
 use tn_pool::Open;
 use tn_run::{RunFault, Schedule, Workers, write_output};
@@ -106,10 +107,14 @@ fn explain<R: Print + Eprint + AllocGlobal>(rt: &R, error: &clap::Error) -> Exit
     let Ok(text) = format!(in rt.alloc(); "{error}") else {
         return report(rt, Err(RunFault::OutOfMemory));
     };
-    let mut writer = Watched::of(io::writer(rt));
+    let mut writer = Watched::of(Noted::of(io::writer(rt)));
     match write_output(&mut writer, text.as_bytes()) {
         Ok(()) => ExitCode::SUCCESS,
-        Err(fault) => report(rt, Err(fault)),
+        Err(fault) => {
+            let (_, reason) = writer.into_inner().into_parts();
+            tell_fault(rt, &fault, reason);
+            ExitCode::from(FAULT)
+        }
     }
 }
 

@@ -16,9 +16,8 @@ mod telling;
 mod words;
 
 pub use noted::Noted;
-pub use recorded::Recorded;
 pub use runs::{Ended, perform, perform_over, perform_workers, perform_workers_over, picks_of};
 pub use source::{Source, open, source_of};
-pub use status::{FAULT, REFUSED, report, status};
-pub use telling::{Named, tell};
+pub use status::{FAULT, REFUSED, report};
+pub use telling::tell_fault;
 pub use words::arguments;

@@ -55,12 +55,8 @@ fn reason_of(refusal: Refusal) -> Reason
 }
 
 /// The line that the refused text can be mended by.
-fn refusal_line(
-    alloc: Global,
-    refusal: Refusal,
-    text: Named<'_>,
-) -> Result<Vec<u8>, AllocError>
-    ensures { IfOk result (λ v. IsLineOf text.name.now text.bytes.now refusal v.items) }
+fn refusal_line(alloc: Global, refusal: Refusal, text: Named<'_>) -> Result<Vec<u8>, AllocError>
+    ensures { IfOk result (λ v. IsLineOf text.entry.name.now text.entry.bytes.now refusal v.items) }
 {
     explain(alloc, text.name, text.bytes, reason_of(refusal))
 }
