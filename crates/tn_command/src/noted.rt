@@ -22,6 +22,16 @@ impl<T> Noted<T> {
         Noted { inner, error: None }
     }
 
+    /// Keeps the error of a call that failed.
+    fn keep<X>(&mut self, answer: &Result<X>)
+        ensures inner { noted_inner self.new ≡ noted_inner self.old }
+        ensures kept { self.new.error ≡ latest answer.now self.old.error }
+    {
+        if let Err(error) = answer {
+            self.error = Some(*error);
+        }
+    }
+
     /// The reader or writer itself, and the error that was kept.
     pub fn into_parts(self) -> (T, Option<Error>)
         ensures { result.0 ≡ noted_inner self }
@@ -41,9 +51,7 @@ impl<R: Read> Read for Noted<R> {
         ensures kept { self.new.error ≡ latest result self.old.error }
     {
         let result = self.inner.read(buf);
-        if let Err(error) = &result {
-            self.error = Some(*error);
-        }
+        self.keep(&result);
         result
     }
 }
@@ -58,9 +66,7 @@ impl<W: Write> Write for Noted<W> {
         ensures kept { self.new.error ≡ latest result self.old.error }
     {
         let result = self.inner.write(buf);
-        if let Err(error) = &result {
-            self.error = Some(*error);
-        }
+        self.keep(&result);
         result
     }
 
@@ -70,9 +76,7 @@ impl<W: Write> Write for Noted<W> {
         ensures kept { self.new.error ≡ latest result self.old.error }
     {
         let result = self.inner.flush();
-        if let Err(error) = &result {
-            self.error = Some(*error);
-        }
+        self.keep(&result);
         result
     }
 }
