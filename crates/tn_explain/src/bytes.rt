@@ -62,12 +62,15 @@ pub fn digits_len(bytes: &[u8]) -> usize {
 
 /// How many digits stand at the end.
 pub fn last_digits_len(bytes: &[u8]) -> usize {
-    for (i, b) in bytes.iter().rev().enumerate() {
-        if !b.is_ascii_digit() {
-            return i;
-        }
+    let mut len = 0usize;
+    for b in bytes {
+        len = if b.is_ascii_digit() {
+            len.saturating_add(1)
+        } else {
+            0
+        };
     }
-    bytes.len()
+    len
 }
 
 /// How many bytes there are up to the quote that closes, and with it; none where a byte or an escape before
@@ -91,7 +94,7 @@ pub fn quoted_len(bytes: &[u8], quote: u8) -> Option<usize> {
     None
 }
 
-/// How many characters stand between two quotes, of the bytes with the closing quote.
+/// How many characters stand between two quotes, of the bytes with both.
 pub fn characters_in(quoted: &[u8]) -> usize {
     let mut count = 0usize;
     let mut escaped = false;
@@ -101,5 +104,5 @@ pub fn characters_in(quoted: &[u8]) -> usize {
             count = count.saturating_add(1);
         }
     }
-    count.saturating_sub(1)
+    count.saturating_sub(2)
 }

@@ -1,66 +1,62 @@
 // The functions that forms declare and name.
-use crate::put::{put_function, put_number};
-use std::alloc::{AllocError, Allocator};
-use tn_script::{Form, Function, Step};
+use crate::put::Detail;
+use crate::reason::FormRule;
+use std::alloc::Allocator;
+use tn_script::{Entry, Form, Function, Step};
 use tn_term::Atom;
 
-/// A function that is named: its module, its name and the number of arguments.
-#[derive(Clone, Copy)]
+/// A function: its module, its name and the number of arguments.
+#[derive(Drop)]
 pub struct Callee<'a, A: Allocator> {
-    pub home: &'a Atom<A>,
-    pub name: &'a Atom<A>,
-    pub arity: usize,
+    home: &'a Atom<A>,
+    name: &'a Atom<A>,
+    arity: usize,
 }
 
-/// The rules on a function that is named.
-#[derive(Clone, Copy, PartialEq, Eq)]
-pub enum CalleeRule {
-    /// No form declares it with any number of parameters.
-    Undeclared,
-    /// A form declares it as internal, and it is named with its module.
+/// How a form may declare a function that is named.
+#[derive(Clone, Copy)]
+enum Declaring {
+    /// With any number of parameters.
+    Named,
+    /// With that number of parameters.
+    Exact,
+    /// With that number of parameters, as internal.
     Internal,
-    /// It is declared, but not with that number of arguments.
-    Misnamed,
 }
 
-/// Whether it has this module and name.
-pub fn is_named<A: Allocator + Copy>(function: &Function<A>, callee: Callee<'_, A>) -> bool {
-    function.module.text() == callee.home.text() && function.name.text() == callee.name.text()
+/// The function that is declared.
+pub fn declared_by<A: Allocator>(function: &Function<A>) -> Callee<'_, A> {
+    Callee {
+        home: &function.module,
+        name: &function.name,
+        arity: function.params.len(),
+    }
 }
 
-/// Whether one of the forms declares it with any number of parameters.
-fn is_known<A: Allocator + Copy>(forms: &[Form<A>], callee: Callee<'_, A>) -> bool {
+/// Appends words, and a function as `M:F/N`.
+pub fn put_callee<A: Allocator>(out: &mut Detail<A>, words: &[u8], callee: &Callee<'_, A>) {
+    out.atom(words, callee.home);
+    out.atom(b":", callee.name);
+    out.number(b"/", callee.arity);
+}
+
+/// Whether this declares it so.
+fn declares<A: Allocator>(function: &Function<A>, how: Declaring, callee: &Callee<'_, A>) -> bool {
+    if function.module.text() != callee.home.text() || function.name.text() != callee.name.text() {
+        return false;
+    }
+    match how {
+        Declaring::Named => true,
+        Declaring::Exact => function.params.len() == callee.arity,
+        Declaring::Internal => function.params.len() == callee.arity && !function.exported,
+    }
+}
+
+/// Whether one of the forms declares it so.
+fn is_declared<A: Allocator>(forms: &[Form<A>], how: Declaring, callee: &Callee<'_, A>) -> bool {
     for form in forms {
         if let Form::Function(function) = form {
-            if is_named(function, callee) {
-                return true;
-            }
-        }
-    }
-    false
-}
-
-/// The number of the form, from 1, that declares it with that number of parameters.
-pub fn declaring_form<A: Allocator + Copy>(
-    forms: &[Form<A>],
-    callee: Callee<'_, A>,
-) -> Option<usize> {
-    for (i, form) in forms.iter().enumerate() {
-        if let Form::Function(function) = form {
-            if is_named(function, callee) && function.params.len() == callee.arity {
-                return Some(i + 1);
-            }
-        }
-    }
-    None
-}
-
-/// Whether one of the forms declares it, and as internal.
-fn is_internal<A: Allocator + Copy>(forms: &[Form<A>], callee: Callee<'_, A>) -> bool {
-    for form in forms {
-        if let Form::Function(function) = form {
-            let is_it = is_named(function, callee) && function.params.len() == callee.arity;
-            if is_it && !function.exported {
+            if declares(function, how, callee) {
                 return true;
             }
         }
@@ -69,23 +65,21 @@ fn is_internal<A: Allocator + Copy>(forms: &[Form<A>], callee: Callee<'_, A>) ->
 }
 
 /// Whether naming it breaks the rule.
-pub fn breaks<A: Allocator + Copy>(
-    rule: CalleeRule,
-    forms: &[Form<A>],
-    callee: Callee<'_, A>,
-) -> bool {
+fn breaks<A: Allocator>(rule: FormRule, forms: &[Form<A>], callee: &Callee<'_, A>) -> bool {
     match rule {
-        CalleeRule::Undeclared => !is_known(forms, callee),
-        CalleeRule::Internal => is_internal(forms, callee),
-        CalleeRule::Misnamed => {
-            is_known(forms, callee) && declaring_form(forms, callee).is_none()
+        FormRule::Undeclared => !is_declared(forms, Declaring::Named, callee),
+        FormRule::NotExported => is_declared(forms, Declaring::Internal, callee),
+        FormRule::Arity => {
+            is_declared(forms, Declaring::Named, callee)
+                && !is_declared(forms, Declaring::Exact, callee)
         }
+        _ => false,
     }
 }
 
 /// What a step names; of a call without the module nothing, where only names with the module count.
-fn callee_of<'a, A: Allocator + Copy>(
-    rule: CalleeRule,
+fn callee_of<'a, A: Allocator>(
+    rule: FormRule,
     function: &'a Function<A>,
     step: &'a Step<A>,
 ) -> Option<Callee<'a, A>> {
@@ -95,12 +89,8 @@ fn callee_of<'a, A: Allocator + Copy>(
             name,
             args,
             ..
-        } => Some(Callee {
-            home: module,
-            name,
-            arity: args.terms.len(),
-        }),
-        Step::Spawn {
+        }
+        | Step::Spawn {
             module,
             name,
             args,
@@ -110,7 +100,7 @@ fn callee_of<'a, A: Allocator + Copy>(
             name,
             arity: args.terms.len(),
         }),
-        Step::CallLocal { name, args, .. } if rule != CalleeRule::Internal => Some(Callee {
+        Step::CallLocal { name, args, .. } if rule != FormRule::NotExported => Some(Callee {
             home: &function.module,
             name,
             arity: args.terms.len(),
@@ -119,94 +109,79 @@ fn callee_of<'a, A: Allocator + Copy>(
     }
 }
 
-/// What a step names, where that breaks the rule.
-fn broken_in<'a, A: Allocator + Copy>(
-    rule: CalleeRule,
-    forms: &[Form<A>],
-    function: &'a Function<A>,
-    step: &'a Step<A>,
-) -> Option<Callee<'a, A>> {
-    let callee = callee_of(rule, function, step)?;
-    if breaks(rule, forms, callee) {
-        Some(callee)
-    } else {
-        None
-    }
-}
-
-/// The first step that names what breaks the rule, by its number from 1, and what it names.
-fn first_broken<'a, A: Allocator + Copy>(
-    rule: CalleeRule,
-    forms: &[Form<A>],
-    function: &'a Function<A>,
-) -> Option<(usize, Callee<'a, A>)> {
-    for (i, step) in function.steps.iter().enumerate() {
-        if let Some(callee) = broken_in(rule, forms, function, step) {
-            return Some((i + 1, callee));
-        }
-    }
-    None
-}
-
 /// Appends the numbers of parameters with which the forms declare it, with `or` between them.
-fn put_arities<A: Allocator + Copy>(
-    out: &mut Vec<u8, A>,
-    forms: &[Form<A>],
-    callee: Callee<'_, A>,
-) -> Result<(), AllocError> {
+fn put_arities<A: Allocator>(out: &mut Detail<A>, forms: &[Form<A>], callee: &Callee<'_, A>) {
     let mut between: &[u8] = b" is declared with ";
     for form in forms {
         if let Form::Function(function) = form {
-            if is_named(function, callee) {
-                out.extend_from_slice(between)?;
-                put_number(out, function.params.len())?;
+            if declares(function, Declaring::Named, callee) {
+                out.number(between, function.params.len());
                 between = b" or ";
             }
         }
     }
-    out.extend_from_slice(b" arguments")
+    out.words(b" arguments");
 }
 
 /// Appends a function that is named, and why that breaks the rule.
-fn put_callee<A: Allocator + Copy>(
-    rule: CalleeRule,
-    out: &mut Vec<u8, A>,
+fn put_wrong<A: Allocator>(
+    out: &mut Detail<A>,
+    rule: FormRule,
     forms: &[Form<A>],
-    callee: Callee<'_, A>,
-) -> Result<(), AllocError> {
-    out.extend_from_slice(b": ")?;
-    put_function(out, callee.home, callee.name, callee.arity)?;
+    callee: &Callee<'_, A>,
+) {
+    put_callee(out, b": function ", callee);
     match rule {
-        CalleeRule::Undeclared => Ok(()),
-        CalleeRule::Internal => out.extend_from_slice(b" is internal"),
-        CalleeRule::Misnamed => put_arities(out, forms, callee),
+        FormRule::NotExported => out.words(b" is internal"),
+        FormRule::Arity => put_arities(out, forms, callee),
+        _ => {}
     }
 }
 
-/// Appends which function a form names that breaks the rule, and in which step.
-pub fn put_named<A: Allocator + Copy>(
-    rule: CalleeRule,
-    out: &mut Vec<u8, A>,
+/// Appends the first function that a step names and that breaks the rule, and in which step.
+pub fn put_named<A: Allocator>(
+    out: &mut Detail<A>,
+    rule: FormRule,
     forms: &[Form<A>],
-    form: &Form<A>,
-) -> Result<(), AllocError> {
-    match form {
-        Form::Function(function) => match first_broken(rule, forms, function) {
-            Some((number, callee)) => {
-                put_callee(rule, out, forms, callee)?;
-                out.extend_from_slice(b", in step ")?;
-                put_number(out, number)
+    function: &Function<A>,
+) {
+    for (i, step) in function.steps.iter().enumerate() {
+        if let Some(callee) = callee_of(rule, function, step) {
+            if breaks(rule, forms, &callee) {
+                put_wrong(out, rule, forms, &callee);
+                out.number(b", in step ", i + 1);
+                return;
             }
-            None => Ok(()),
-        },
-        Form::Process(entry) => {
-            let callee = Callee {
-                home: &entry.module,
-                name: &entry.name,
-                arity: entry.args.terms.len(),
-            };
-            put_callee(rule, out, forms, callee)
         }
-        Form::Control(_) => Ok(()),
+    }
+}
+
+/// Appends the function that a process starts with, and why that breaks the rule.
+pub fn put_started<A: Allocator>(
+    out: &mut Detail<A>,
+    rule: FormRule,
+    forms: &[Form<A>],
+    entry: &Entry<A>,
+) {
+    let callee = Callee {
+        home: &entry.module,
+        name: &entry.name,
+        arity: entry.args.terms.len(),
+    };
+    put_wrong(out, rule, forms, &callee);
+}
+
+/// Appends the function, where an earlier form declares it too.
+pub fn put_again<A: Allocator>(out: &mut Detail<A>, earlier: &[Form<A>], function: &Function<A>) {
+    let callee = declared_by(function);
+    for (i, form) in earlier.iter().enumerate() {
+        if let Form::Function(other) = form {
+            if declares(other, Declaring::Exact, &callee) {
+                put_callee(out, b": function ", &callee);
+                out.number(b", in form ", i + 1);
+                out.words(b" too");
+                return;
+            }
+        }
     }
 }

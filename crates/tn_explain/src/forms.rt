@@ -1,150 +1,128 @@
 // What breaks the rules on forms: refusals 5 to 13.
-use crate::callee::{Callee, CalleeRule, declaring_form, put_named};
+use crate::callee::{put_again, put_named, put_started};
 use crate::limits::put_limit;
-use crate::put::{put_function, put_number};
+use crate::put::Detail;
 use crate::reason::FormRule;
-use crate::sessions::{put_again, put_taken, put_unmade};
+use crate::sessions::{Role, put_taken, put_unmade};
 use crate::shape::put_shape;
-use crate::unbound::put_unbound;
-use std::alloc::{AllocError, Allocator};
-use tn_script::{Form, Function, ScriptFault, forms};
+use crate::unbound::{put_in_function, put_in_process};
+use std::alloc::Allocator;
+use tn_flags::Command;
+use tn_script::{Entry, Form, Function, ScriptFault, forms};
 use tn_text::{TextFault, read_terms};
 
-/// Appends the function that an earlier form declares.
-fn put_declared_twice<A: Allocator + Copy>(
-    out: &mut Vec<u8, A>,
+/// Appends what of a function breaks a static rule.
+fn put_function_rule<A: Allocator>(
+    out: &mut Detail<A>,
+    rule: FormRule,
+    forms: &[Form<A>],
     earlier: &[Form<A>],
     function: &Function<A>,
-) -> Result<(), AllocError> {
-    let callee = Callee {
-        home: &function.module,
-        name: &function.name,
-        arity: function.params.len(),
-    };
-    let Some(number) = declaring_form(earlier, callee) else {
-        return Ok(());
-    };
-    out.extend_from_slice(b": ")?;
-    put_function(out, callee.home, callee.name, callee.arity)?;
-    out.extend_from_slice(b", in form ")?;
-    put_number(out, number)?;
-    out.extend_from_slice(b" too")
-}
-
-/// Appends what is declared or created twice.
-fn put_duplicate<A: Allocator + Copy>(
-    out: &mut Vec<u8, A>,
-    earlier: &[Form<A>],
-    form: &Form<A>,
-) -> Result<(), AllocError> {
-    match form {
-        Form::Function(function) => put_declared_twice(out, earlier, function),
-        Form::Control(commands) => put_again(out, earlier, commands),
-        Form::Process(_) => Ok(()),
-    }
-}
-
-/// Appends what isn't declared.
-fn put_undeclared<A: Allocator + Copy>(
-    out: &mut Vec<u8, A>,
-    forms: &[Form<A>],
-    earlier: &[Form<A>],
-    form: &Form<A>,
-) -> Result<(), AllocError> {
-    match form {
-        Form::Control(commands) => put_unmade(out, earlier, commands),
-        _ => put_named(CalleeRule::Undeclared, out, forms, form),
-    }
-}
-
-/// Appends which tracer is taken.
-fn put_tracer<A: Allocator + Copy>(
-    out: &mut Vec<u8, A>,
-    earlier: &[Form<A>],
-    form: &Form<A>,
-) -> Result<(), AllocError> {
-    match form {
-        Form::Control(commands) => put_taken(out, earlier, commands),
-        _ => Ok(()),
-    }
-}
-
-/// Appends what breaks a static rule.
-fn put_rule<A: Allocator + Copy>(
-    out: &mut Vec<u8, A>,
-    forms: &[Form<A>],
-    earlier: &[Form<A>],
-    form: &Form<A>,
-    rule: FormRule,
-) -> Result<(), AllocError> {
+) {
     match rule {
-        FormRule::Shape => Ok(()),
-        FormRule::Duplicate => put_duplicate(out, earlier, form),
-        FormRule::Undeclared => put_undeclared(out, forms, earlier, form),
-        FormRule::NotExported => put_named(CalleeRule::Internal, out, forms, form),
-        FormRule::Unbound => put_unbound(out, form),
-        FormRule::TracerTaken => put_tracer(out, earlier, form),
-        FormRule::Arity => put_named(CalleeRule::Misnamed, out, forms, form),
-        FormRule::Limit => put_limit(out, earlier, form),
+        FormRule::Duplicate => put_again(out, earlier, function),
+        FormRule::Unbound => put_in_function(out, function),
+        _ => put_named(out, rule, forms, function),
     }
 }
 
-/// Appends what breaks the shape of the form with this number, from 1.
-fn put_shapeless<A: Allocator + Copy>(
-    alloc: A,
-    out: &mut Vec<u8, A>,
-    text: &[u8],
-    number: usize,
-) -> Result<(), AllocError> {
+/// Appends what of a process breaks a static rule.
+fn put_process_rule<A: Allocator>(
+    out: &mut Detail<A>,
+    rule: FormRule,
+    forms: &[Form<A>],
+    entry: &Entry<A>,
+) {
+    match rule {
+        FormRule::Unbound => put_in_process(out, entry),
+        _ => put_started(out, rule, forms, entry),
+    }
+}
+
+/// Appends what of commands breaks a static rule.
+fn put_control_rule<A: Allocator>(
+    out: &mut Detail<A>,
+    rule: FormRule,
+    earlier: &[Form<A>],
+    commands: &[Command<A>],
+) {
+    match rule {
+        FormRule::Duplicate => put_taken(out, Role::Session, earlier, commands),
+        FormRule::TracerTaken => put_taken(out, Role::Tracer, earlier, commands),
+        FormRule::Undeclared => put_unmade(out, earlier, commands),
+        _ => {}
+    }
+}
+
+/// Appends what of the form behind the earlier ones breaks a static rule.
+fn put_rule<A: Allocator>(
+    out: &mut Detail<A>,
+    rule: FormRule,
+    forms: &[Form<A>],
+    earlier: &[Form<A>],
+    form: &Form<A>,
+) {
+    match form {
+        _ if rule == FormRule::Limit => put_limit(out, earlier, form),
+        Form::Function(function) => put_function_rule(out, rule, forms, earlier, function),
+        Form::Process(entry) => put_process_rule(out, rule, forms, entry),
+        Form::Control(commands) => put_control_rule(out, rule, earlier, commands),
+    }
+}
+
+/// Appends what breaks the shape of the form with this index.
+fn put_shapeless<A: Allocator + Copy>(alloc: A, out: &mut Detail<A>, text: &[u8], index: usize) {
     match read_terms(alloc, text) {
         Ok(terms) => {
-            let index = number.saturating_sub(1);
             if index < terms.len() {
-                return put_shape(alloc, out, &terms[index]);
+                put_shape(out, &terms[index]);
             }
-            Ok(())
         }
-        Err(TextFault::OutOfMemory) => Err(AllocError),
-        Err(_) => Ok(()),
+        Err(TextFault::OutOfMemory) => out.refuse(),
+        Err(_) => {}
+    }
+}
+
+/// Appends what of the form with this index breaks a static rule.
+fn put_broken<A: Allocator + Copy>(
+    alloc: A,
+    out: &mut Detail<A>,
+    text: &[u8],
+    rule: FormRule,
+    index: usize,
+) {
+    match forms(alloc, text) {
+        Ok(forms) => {
+            if index < forms.len() {
+                put_rule(out, rule, &forms, &forms[..index], &forms[index]);
+            }
+        }
+        Err(ScriptFault::OutOfMemory) => out.refuse(),
+        Err(_) => {}
     }
 }
 
 /// Appends what of the form with this number, from 1, breaks a rule.
 pub fn put_form<A: Allocator + Copy>(
     alloc: A,
-    out: &mut Vec<u8, A>,
+    out: &mut Detail<A>,
     text: &[u8],
     rule: FormRule,
     number: usize,
-) -> Result<(), AllocError> {
+) {
+    let index = number.saturating_sub(1);
     if rule == FormRule::Shape {
-        return put_shapeless(alloc, out, text, number);
-    }
-    match forms(alloc, text) {
-        Ok(forms) => {
-            let index = number.saturating_sub(1);
-            if index < forms.len() {
-                return put_rule(out, &forms, &forms[..index], &forms[index], rule);
-            }
-            Ok(())
-        }
-        Err(ScriptFault::OutOfMemory) => Err(AllocError),
-        Err(_) => Ok(()),
+        put_shapeless(alloc, out, text, index);
+    } else {
+        put_broken(alloc, out, text, rule, index);
     }
 }
 
 /// Appends how many forms there are.
-pub fn put_form_count<A: Allocator + Copy>(
-    alloc: A,
-    out: &mut Vec<u8, A>,
-    text: &[u8],
-) -> Result<(), AllocError> {
+pub fn put_form_count<A: Allocator + Copy>(alloc: A, out: &mut Detail<A>, text: &[u8]) {
     match read_terms(alloc, text) {
-        Ok(terms) => {
-            out.extend_from_slice(b": there are ")?;
-            put_number(out, terms.len())
-        }
-        Err(TextFault::OutOfMemory) => Err(AllocError),
-        Err(_) => Ok(()),
+        Ok(terms) => out.number(b": there are ", terms.len()),
+        Err(TextFault::OutOfMemory) => out.refuse(),
+        Err(_) => {}
     }
 }

@@ -3,7 +3,7 @@ use crate::bytes::{
     begins_with_digit, byte_at, digits_len, first_bytes, last_digits_len, name_len, quoted_len,
     rest_at,
 };
-use crate::put::{put_cut, put_number};
+use crate::put::Detail;
 use std::alloc::{AllocError, Allocator};
 use tn_text::{TextFault, tokens};
 
@@ -36,7 +36,7 @@ pub enum Thing {
     Byte,
 }
 
-/// What it is, and its bytes.
+/// What it is, and its bytes, as far as they are shown.
 #[derive(Clone, Copy)]
 pub struct Found<'a> {
     pub thing: Thing,
@@ -62,8 +62,8 @@ fn dot_at(text: &[u8], at: usize) -> Found<'_> {
         return of_len(Thing::Float, from, len);
     }
     match byte_at(rest, 1) {
-        None | Some(b' ' | b'\t' | b'\n' | b'\r' | b'%') => of_len(Thing::Stop, rest, 1),
-        Some(_) => of_len(Thing::Dot, rest, 1),
+        None | Some(b' ' | b'\t' | b'\n' | b'\r' | b'%') => of_len(Thing::Stop, rest, 0),
+        Some(_) => of_len(Thing::Dot, rest, 0),
     }
 }
 
@@ -71,14 +71,14 @@ fn dot_at(text: &[u8], at: usize) -> Found<'_> {
 fn quoted_at(rest: &[u8], quote: u8, closed: Thing, open: Thing) -> Found<'_> {
     match quoted_len(rest_at(rest, 1), quote) {
         Some(len) => of_len(closed, rest, len.saturating_add(1)),
-        None => of_len(open, rest, 1),
+        None => of_len(open, rest, 0),
     }
 }
 
 /// A binary, what begins as a pid, or another `<`.
 fn angle_at(rest: &[u8]) -> Found<'_> {
     match byte_at(rest, 1) {
-        Some(b'<') => of_len(Thing::Binary, rest, 2),
+        Some(b'<') => of_len(Thing::Binary, rest, 0),
         Some(b'0') => of_len(Thing::Pid, rest, pid_len(rest)),
         _ => of_len(Thing::Angle, rest, 1),
     }
@@ -118,7 +118,7 @@ fn other_at(rest: &[u8], first: u8) -> Found<'_> {
         b'|' => of_len(Thing::Bar, rest, 1),
         b'#' => {
             if byte_at(rest, 1) == Some(b'{') {
-                of_len(Thing::Map, rest, 2)
+                of_len(Thing::Map, rest, 0)
             } else {
                 of_len(Thing::Hash, rest, 1)
             }
@@ -165,7 +165,7 @@ pub fn found_at<A: Allocator>(alloc: A, text: &[u8], at: usize) -> Result<Found<
     Ok(found)
 }
 
-/// The words for what it is, and whether its bytes follow: bare, or between quotes.
+/// The words for what it is, before its bytes.
 fn words_for(thing: Thing) -> &'static [u8] {
     match thing {
         Thing::End => b"the end of the text",
@@ -183,21 +183,19 @@ fn words_for(thing: Thing) -> &'static [u8] {
         Thing::Binary => b"a binary",
         Thing::Map => b"a map",
         Thing::Literal => b"the character ",
-        Thing::Byte => b"the byte ",
         _ => b"",
     }
 }
 
-/// Appends what it is.
-pub fn put_found<A: Allocator>(out: &mut Vec<u8, A>, found: Found<'_>) -> Result<(), AllocError> {
-    out.extend_from_slice(words_for(found.thing))?;
+/// Appends words, and what it is: a byte by its number, and marks in quotes.
+pub fn put_found<A: Allocator>(out: &mut Detail<A>, words: &[u8], found: Found<'_>) {
+    out.words(words);
     match found.thing {
-        Thing::End | Thing::Unquoted | Thing::Unclosed | Thing::Stop | Thing::Dot => Ok(()),
-        Thing::Binary | Thing::Map => Ok(()),
-        Thing::Byte => match byte_at(found.bytes, 0) {
-            Some(b) => put_number(out, b as usize),
-            None => Ok(()),
-        },
+        Thing::Byte => {
+            if let Some(b) = byte_at(found.bytes, 0) {
+                out.number(b"the byte ", b as usize);
+            }
+        }
         Thing::Open
         | Thing::Close
         | Thing::Comma
@@ -205,10 +203,9 @@ pub fn put_found<A: Allocator>(out: &mut Vec<u8, A>, found: Found<'_>) -> Result
         | Thing::Hash
         | Thing::Angle
         | Thing::Mark => {
-            out.push(b'\'')?;
-            out.extend_from_slice(found.bytes)?;
-            Ok(out.push(b'\'')?)
+            out.cut(b"'", found.bytes);
+            out.words(b"'");
         }
-        _ => put_cut(out, found.bytes),
+        thing => out.cut(words_for(thing), found.bytes),
     }
 }

@@ -1,8 +1,9 @@
 // Which limit on scripts is passed.
-use crate::put::{put_function, put_number};
-use std::alloc::{AllocError, Allocator};
+use crate::callee::{declared_by, put_callee};
+use crate::put::Detail;
+use std::alloc::Allocator;
 use tn_flags::Command;
-use tn_script::{Form, Function};
+use tn_script::Form;
 
 /// The greatest number of steps of a function.
 const STEPS: usize = 64;
@@ -10,26 +11,13 @@ const STEPS: usize = 64;
 /// The greatest number of commands.
 const COMMANDS: usize = 256;
 
-/// How many of the forms declare a function.
-fn function_count<A: Allocator>(forms: &[Form<A>]) -> usize {
-    let mut count = 0usize;
-    for form in forms {
-        if matches!(form, Form::Function(_)) {
-            count = count.saturating_add(1);
-        }
-    }
-    count
-}
-
-/// How many of the forms start a process.
-fn process_count<A: Allocator>(forms: &[Form<A>]) -> usize {
-    let mut count = 0usize;
-    for form in forms {
-        if matches!(form, Form::Process(_)) {
-            count = count.saturating_add(1);
-        }
-    }
-    count
+/// How many functions, processes and commands forms have, and how many of the commands create a session.
+#[derive(Clone, Copy)]
+struct Totals {
+    functions: usize,
+    processes: usize,
+    commands: usize,
+    sessions: usize,
 }
 
 /// How many of the commands create a session.
@@ -43,77 +31,55 @@ fn creation_count<A: Allocator>(commands: &[Command<A>]) -> usize {
     count
 }
 
-/// How many commands the forms hold, and how many of them create a session.
-fn command_counts<A: Allocator>(forms: &[Form<A>]) -> (usize, usize) {
-    let mut all = 0usize;
-    let mut creations = 0usize;
-    for form in forms {
-        if let Form::Control(commands) = form {
-            all = all.saturating_add(commands.len());
-            creations = creations.saturating_add(creation_count(commands));
+impl Totals {
+    /// Counts one form more.
+    fn add<A: Allocator>(&mut self, form: &Form<A>) {
+        match form {
+            Form::Function(_) => self.functions = self.functions.saturating_add(1),
+            Form::Process(_) => self.processes = self.processes.saturating_add(1),
+            Form::Control(commands) => {
+                self.commands = self.commands.saturating_add(commands.len());
+                self.sessions = self.sessions.saturating_add(creation_count(commands));
+            }
         }
     }
-    (all, creations)
+}
+
+/// The totals of the forms.
+fn totals_of<A: Allocator>(forms: &[Form<A>]) -> Totals {
+    let mut totals = Totals {
+        functions: 0,
+        processes: 0,
+        commands: 0,
+        sessions: 0,
+    };
+    for form in forms {
+        totals.add(form);
+    }
+    totals
+}
+
+/// Appends which limit the form behind the earlier ones passes.
+pub fn put_limit<A: Allocator>(out: &mut Detail<A>, earlier: &[Form<A>], form: &Form<A>) {
+    let mut totals = totals_of(earlier);
+    totals.add(form);
+    match form {
+        Form::Function(function) if function.steps.len() > STEPS => {
+            out.number(b": ", function.steps.len());
+            put_callee(out, b" steps in function ", &declared_by(function));
+        }
+        Form::Function(_) => put_total(out, totals.functions, b" functions"),
+        Form::Process(_) => put_total(out, totals.processes, b" processes"),
+        Form::Control(_) if totals.commands > COMMANDS => {
+            put_total(out, totals.commands, b" commands")
+        }
+        Form::Control(_) => put_total(out, totals.sessions, b" sessions"),
+    }
 }
 
 /// Appends a number and what there are so many of.
-fn put_total<A: Allocator>(
-    out: &mut Vec<u8, A>,
-    total: usize,
-    what: &[u8],
-) -> Result<(), AllocError> {
-    out.extend_from_slice(b": ")?;
-    put_number(out, total)?;
-    out.extend_from_slice(what)
-}
-
-/// Appends which limit a function passes.
-fn put_function_limit<A: Allocator>(
-    out: &mut Vec<u8, A>,
-    earlier: &[Form<A>],
-    function: &Function<A>,
-) -> Result<(), AllocError> {
-    if function.steps.len() <= STEPS {
-        return put_total(
-            out,
-            function_count(earlier).saturating_add(1),
-            b" functions up to here",
-        );
-    }
-    put_total(out, function.steps.len(), b" steps in ")?;
-    put_function(out, &function.module, &function.name, function.params.len())
-}
-
-/// Appends which limit the commands pass.
-fn put_command_limit<A: Allocator>(
-    out: &mut Vec<u8, A>,
-    earlier: &[Form<A>],
-    commands: &[Command<A>],
-) -> Result<(), AllocError> {
-    let (all, creations) = command_counts(earlier);
-    let total = all.saturating_add(commands.len());
-    if total > COMMANDS {
-        return put_total(out, total, b" commands up to here");
-    }
-    let total = creations.saturating_add(creation_count(commands));
-    put_total(out, total, b" sessions up to here")
-}
-
-/// Appends which limit the form passes.
-pub fn put_limit<A: Allocator>(
-    out: &mut Vec<u8, A>,
-    earlier: &[Form<A>],
-    form: &Form<A>,
-) -> Result<(), AllocError> {
-    match form {
-        Form::Function(function) => put_function_limit(out, earlier, function),
-        Form::Process(_) => {
-            put_total(
-                out,
-                process_count(earlier).saturating_add(1),
-                b" processes up to here",
-            )
-        }
-        Form::Control(commands) => put_command_limit(out, earlier, commands),
-    }
+fn put_total<A: Allocator>(out: &mut Detail<A>, total: usize, what: &[u8]) {
+    out.number(b": ", total);
+    out.words(what);
+    out.words(b" up to here");
 }

@@ -2,7 +2,7 @@
 ghost use Rattle.std.specs.Prelude.{◌≡◌, ◌++◌, IfOk, OnOk, map};
 ghost use Rattle.tn_explain.specs.Lines.{shown, IsExplained};
 
-use crate::detail::detail;
+use crate::detail::detail_of;
 use crate::mark::{front, mark_of};
 use crate::reason::Reason;
 use crate::words::words_of;
@@ -46,7 +46,7 @@ pub fn explain<A: Allocator + Copy>(
     let mark = mark_of(alloc, text, reason)?;
     let mut line = front(alloc, name, mark)?;
     line.extend_from_slice(words_of(reason))?;
-    let found = detail(alloc, text, reason)?;
+    let found = detail_of(alloc, text, reason)?;
     append_shown(&mut line, &found)?;
     Ok(line)
 }

@@ -1,5 +1,5 @@
 // Where a line says that a refusal is.
-ghost use Rattle.std.specs.Prelude.{◌≡◌, ◌<◌, length, IfOk};
+ghost use Rattle.std.specs.Prelude.{◌≡◌, ◌<◌, ◌++◌, length, codes, decimal, IfOk, OnOk};
 ghost use Rattle.tn_explain.specs.Marks.{mark_text, IsMarkOf, IsFormMark, spot_at};
 
 use crate::place::place_of;
@@ -59,27 +59,48 @@ pub fn mark_of<A: Allocator>(alloc: A, text: &[u8], reason: Reason) -> Result<Ma
     }
 }
 
+/// Appends words and a number in decimal; after an `Err` some of it may stand there.
+fn append_number<A: Allocator>(
+    line: &mut Vec<u8, A>,
+    words: &[u8],
+    n: usize,
+) -> Result<(), AllocError>
+    ensures { OnOk result (line.new.items ≡ line.old.items ++ words.now ++ decimal n) }
+{
+    line.extend_from_slice(words)?;
+    line.extend_from_slice(Buffer::new().format(n).as_bytes())
+}
+
+/// Appends a line's number, and words with the number of a column or a form.
+fn append_numbers<A: Allocator>(
+    line: &mut Vec<u8, A>,
+    row: usize,
+    words: &[u8],
+    n: usize,
+) -> Result<(), AllocError>
+    ensures { OnOk result (line.new.items ≡ line.old.items ++ codes ":" ++ decimal row ++ words.now ++ decimal n) }
+{
+    append_number(line, b":", row)?;
+    append_number(line, words, n)
+}
+
+/// Appends where the refusal is.
+fn append_mark<A: Allocator>(line: &mut Vec<u8, A>, mark: Mark) -> Result<(), AllocError>
+    ensures { OnOk result (line.new.items ++ codes ": " ≡ mark_text line.old.items mark) }
+{
+    match mark {
+        Mark::Whole => Ok(()),
+        Mark::Spot { line: row, column } => append_numbers(line, row, b":", column),
+        Mark::InForm { line: row, form } => append_numbers(line, row, b": form ", form),
+    }
+}
+
 /// The front of a line: the name and where the refusal is.
 pub fn front<A: Allocator>(alloc: A, name: &str, mark: Mark) -> Result<Vec<u8, A>, AllocError>
     ensures { IfOk result (λ v. v.items ≡ mark_text name.now mark) }
 {
     let mut line = Vec::from_slice(alloc, name.as_bytes())?;
-    match mark {
-        Mark::Whole => line.extend_from_slice(b": ")?,
-        Mark::Spot { line: row, column } => {
-            line.push(b':')?;
-            line.extend_from_slice(Buffer::new().format(row).as_bytes())?;
-            line.push(b':')?;
-            line.extend_from_slice(Buffer::new().format(column).as_bytes())?;
-            line.extend_from_slice(b": ")?;
-        }
-        Mark::InForm { line: row, form } => {
-            line.push(b':')?;
-            line.extend_from_slice(Buffer::new().format(row).as_bytes())?;
-            line.extend_from_slice(b": form ")?;
-            line.extend_from_slice(Buffer::new().format(form).as_bytes())?;
-            line.extend_from_slice(b": ")?;
-        }
-    }
+    append_mark(&mut line, mark)?;
+    line.extend_from_slice(b": ")?;
     Ok(line)
 }

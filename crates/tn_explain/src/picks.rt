@@ -1,7 +1,7 @@
 // What breaks the rule on a text of picks: refusal 20.
 use crate::bytes::{digits_len, first_bytes, rest_at};
-use crate::put::{put_cut, put_number};
-use std::alloc::{AllocError, Allocator};
+use crate::put::Detail;
+use std::alloc::Allocator;
 use std::str::from_utf8;
 use tn_text::MAX_TEXT;
 
@@ -75,19 +75,14 @@ fn first_wrong(text: &[u8]) -> Option<Wrong<'_>> {
 }
 
 /// Appends which pick is none, or how long the text is.
-pub fn put_picks<A: Allocator>(out: &mut Vec<u8, A>, text: &[u8]) -> Result<(), AllocError> {
+pub fn put_picks<A: Allocator>(out: &mut Detail<A>, text: &[u8]) {
     if text.len() > MAX_TEXT {
-        out.extend_from_slice(b": there are ")?;
-        put_number(out, text.len())?;
-        return out.extend_from_slice(b" bytes, of at most 1048576");
+        out.number(b": there are ", text.len());
+        out.words(b" bytes, of at most 1048576");
+    } else if let Some(wrong) = first_wrong(text) {
+        out.number(b": pick ", wrong.number);
+        out.cut(b", '", wrong.piece);
+        out.words(b"', ");
+        out.words(wrong.words);
     }
-    let Some(wrong) = first_wrong(text) else {
-        return Ok(());
-    };
-    out.extend_from_slice(b": pick ")?;
-    put_number(out, wrong.number)?;
-    out.extend_from_slice(b", '")?;
-    put_cut(out, wrong.piece)?;
-    out.extend_from_slice(b"', ")?;
-    out.extend_from_slice(wrong.words)
 }

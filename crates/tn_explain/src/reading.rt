@@ -23,99 +23,68 @@ pub struct Opened {
     pub commas: usize,
 }
 
-/// What is open, the innermost last, and what may stand next.
-#[derive(Drop)]
-pub struct Reading<A: Allocator> {
-    open: Vec<Opened, A>,
+/// How far a text is read: what may stand next, and the innermost tuple or list that is open.
+#[derive(Clone, Copy)]
+pub struct Standing {
     pub position: Position,
+    pub innermost: Option<Opened>,
 }
 
-impl<A: Allocator> Reading<A> {
-    /// The innermost tuple or list that is open.
-    pub fn innermost(&self) -> Option<Opened> {
-        match self.open.last() {
-            Some(opened) => Some(*opened),
-            None => None,
-        }
-    }
-
-    /// Behind a whole term.
-    fn end_term(&mut self) {
-        self.position = if self.open.is_empty() {
-            Position::Done
-        } else {
-            Position::Behind
-        };
-    }
-
-    /// Behind an opening bracket.
-    fn open_at(&mut self, is_tuple: bool, at: usize) -> Result<(), AllocError> {
-        self.open.push(Opened {
-            is_tuple,
-            at,
-            commas: 0,
-        })?;
-        self.position = Position::First;
-        Ok(())
-    }
-
-    /// Behind a comma.
-    fn separate(&mut self) -> Result<(), AllocError> {
-        if let Some(opened) = self.open.pop() {
-            self.open.push(Opened {
-                is_tuple: opened.is_tuple,
-                at: opened.at,
-                commas: opened.commas.saturating_add(1),
-            })?;
-        }
-        self.position = Position::Next;
-        Ok(())
-    }
-
-    /// One token further.
-    fn step(&mut self, token: &Token) -> Result<(), AllocError> {
+/// The innermost tuple or list that these tokens open and don't close.
+fn innermost_in(tokens: &[Token]) -> Option<Opened> {
+    let mut closed = 0usize;
+    let mut commas = 0usize;
+    for i in 0..tokens.len() {
+        let token = &tokens[tokens.len() - 1 - i];
         match token.kind {
-            Kind::OpenBrace => self.open_at(true, token.from),
-            Kind::OpenBracket => self.open_at(false, token.from),
-            Kind::Comma => self.separate(),
-            Kind::Stop => {
-                self.open.clear();
-                self.position = Position::Form;
-                Ok(())
+            Kind::Stop => return None,
+            Kind::Comma if closed == 0 => commas = commas.saturating_add(1),
+            Kind::CloseBrace | Kind::CloseBracket => closed = closed.saturating_add(1),
+            Kind::OpenBrace | Kind::OpenBracket if closed > 0 => closed -= 1,
+            Kind::OpenBrace | Kind::OpenBracket => {
+                return Some(Opened {
+                    is_tuple: matches!(token.kind, Kind::OpenBrace),
+                    at: token.from,
+                    commas,
+                });
             }
-            Kind::CloseBrace | Kind::CloseBracket => {
-                let _ = self.open.pop();
-                self.end_term();
-                Ok(())
-            }
-            _ => {
-                self.end_term();
-                Ok(())
-            }
+            _ => {}
         }
+    }
+    None
+}
+
+/// What may stand behind these tokens, where something is open or nothing is.
+fn position_behind(tokens: &[Token], is_open: bool) -> Position {
+    let Some(token) = tokens.last() else {
+        return Position::Form;
+    };
+    match token.kind {
+        Kind::Stop => Position::Form,
+        Kind::OpenBrace | Kind::OpenBracket => Position::First,
+        Kind::Comma => Position::Next,
+        _ if is_open => Position::Behind,
+        _ => Position::Done,
     }
 }
 
-/// The reading before the first of these tokens, and then one after the other.
-fn read_all<A: Allocator>(alloc: A, tokens: &[Token]) -> Result<Reading<A>, AllocError> {
-    let mut reading = Reading {
-        open: Vec::new(alloc),
-        position: Position::Form,
-    };
-    for token in tokens {
-        reading.step(token)?;
+/// How far a text of these tokens is read.
+fn standing_behind(tokens: &[Token]) -> Standing {
+    let innermost = innermost_in(tokens);
+    Standing {
+        position: position_behind(tokens, innermost.is_some()),
+        innermost,
     }
-    Ok(reading)
 }
 
 /// How far the text is read before an offset; none where no tokens end there.
-pub fn reading_before<A: Allocator + Copy>(
+pub fn standing_at<A: Allocator>(
     alloc: A,
     text: &[u8],
     at: usize,
-) -> Result<Option<Reading<A>>, AllocError> {
+) -> Result<Option<Standing>, AllocError> {
     match tokens(alloc, first_bytes(text, at)) {
-        Ok(found) => Ok(Some(read_all(alloc, &found)?)),
+        Ok(found) => Ok(Some(standing_behind(&found))),
         Err(TextFault::OutOfMemory) => Err(AllocError),
         Err(_) => Ok(None),
     }

@@ -1,34 +1,39 @@
 // What breaks the rules on a text: refusals 2 to 4.
-use crate::bytes::{characters_in, rest_at};
+use crate::bytes::characters_in;
 use crate::found::{Found, Thing, found_at, put_found};
-use crate::put::{put_cut, put_number, put_place};
-use crate::reading::{Opened, Position, Reading, reading_before};
+use crate::put::{Detail, put_place};
+use crate::reading::{Position, Standing, standing_at};
+use crate::reason::TextRule;
 use std::alloc::{AllocError, Allocator};
 
+/// What stands at a place of a text, and how far the text is read there; unknown where no tokens end there.
+#[derive(Clone, Copy)]
+struct Seen<'a> {
+    found: Found<'a>,
+    standing: Option<Standing>,
+}
+
+/// What is seen at an offset of the text.
+fn seen_at<A: Allocator + Copy>(alloc: A, text: &[u8], at: usize) -> Result<Seen<'_>, AllocError> {
+    let found = found_at(alloc, text, at)?;
+    let standing = standing_at(alloc, text, at)?;
+    Ok(Seen { found, standing })
+}
+
 /// What may stand next, in the words of a line.
-fn expected<A: Allocator>(reading: &Reading<A>) -> &'static [u8] {
-    let in_tuple = match reading.innermost() {
+fn expected(standing: Standing) -> &'static [u8] {
+    let in_tuple = match standing.innermost {
         Some(opened) => opened.is_tuple,
         None => false,
     };
-    match reading.position {
+    match standing.position {
         Position::Form => b"a form",
         Position::Done => b"'.'",
         Position::Next => b"a term",
-        Position::First => {
-            if in_tuple {
-                b"a term or '}'"
-            } else {
-                b"a term or ']'"
-            }
-        }
-        Position::Behind => {
-            if in_tuple {
-                b"',' or '}'"
-            } else {
-                b"',' or ']'"
-            }
-        }
+        Position::First if in_tuple => b"a term or '}'",
+        Position::First => b"a term or ']'",
+        Position::Behind if in_tuple => b"',' or '}'",
+        Position::Behind => b"',' or ']'",
     }
 }
 
@@ -50,179 +55,126 @@ fn hint_of(thing: Thing) -> &'static [u8] {
     }
 }
 
-/// Appends that the word is written in quotes.
-fn put_quotes<A: Allocator>(
-    out: &mut Vec<u8, A>,
-    words: &[u8],
-    name: &[u8],
-) -> Result<(), AllocError> {
-    out.extend_from_slice(words)?;
-    out.push(b'\'')?;
-    put_cut(out, name)?;
-    Ok(out.push(b'\'')?)
-}
-
-/// Appends the bracket that is open, with its line and column.
-fn put_open<A: Allocator>(
-    out: &mut Vec<u8, A>,
-    text: &[u8],
-    opened: Opened,
-) -> Result<(), AllocError> {
-    out.extend_from_slice(if opened.is_tuple {
-        b": '{' at "
-    } else {
-        b": '[' at "
-    })?;
-    put_place(out, text, opened.at)?;
-    out.extend_from_slice(b" is not closed")
-}
-
 /// Appends what a place says of a thing that closes or ends something.
-fn put_ending<A: Allocator>(
-    out: &mut Vec<u8, A>,
-    text: &[u8],
-    reading: &Reading<A>,
-    thing: Thing,
-) -> Result<(), AllocError> {
-    if thing == Thing::Close && reading.position == Position::Next {
-        return out.extend_from_slice(b": no comma stands before a closing bracket");
-    }
-    match reading.innermost() {
-        Some(opened) => put_open(out, text, opened),
-        None => {
-            if thing == Thing::End {
-                out.extend_from_slice(b": a form ends with a full stop")
-            } else {
-                out.extend_from_slice(b": nothing is open")
-            }
+fn put_ending<A: Allocator>(out: &mut Detail<A>, text: &[u8], standing: Standing, thing: Thing) {
+    match standing.innermost {
+        _ if thing == Thing::Close && standing.position == Position::Next => {
+            out.words(b": no comma stands before a closing bracket")
         }
-    }
-}
-
-/// Appends what a place says of a string.
-fn put_string<A: Allocator>(out: &mut Vec<u8, A>, reading: &Reading<A>) -> Result<(), AllocError> {
-    if reading.position == Position::Behind {
-        return out.extend_from_slice(b": strings are not joined");
-    }
-    Ok(())
-}
-
-/// Appends how the text can be mended, where the mistake is a common one.
-fn put_hint<A: Allocator>(
-    out: &mut Vec<u8, A>,
-    text: &[u8],
-    reading: &Reading<A>,
-    found: Found<'_>,
-) -> Result<(), AllocError> {
-    match found.thing {
-        Thing::Variable => put_quotes(out, b": variables are written in quotes, ", found.bytes),
-        Thing::Reserved => put_quotes(out, reserved_hint(found.bytes), found.bytes),
-        Thing::Close | Thing::End | Thing::Stop => put_ending(out, text, reading, found.thing),
-        Thing::Characters => put_string(out, reading),
-        thing => out.extend_from_slice(hint_of(thing)),
+        Some(opened) => {
+            let words: &[u8] = if opened.is_tuple {
+                b": '{' at "
+            } else {
+                b": '[' at "
+            };
+            put_place(out, words, text, opened.at);
+            out.words(b" is not closed");
+        }
+        None if thing == Thing::End => out.words(b": a form ends with a full stop"),
+        None => out.words(b": nothing is open"),
     }
 }
 
 /// What is said of a reserved word before the word in quotes.
 fn reserved_hint(word: &[u8]) -> &'static [u8] {
     if word == b"fun".as_slice() {
-        b": there are no funs, and the atom is written "
+        b": there are no funs, and the atom is written '"
     } else {
-        b": reserved words are written in quotes, "
+        b": reserved words are written in quotes, '"
+    }
+}
+
+/// Appends that the word is written in quotes.
+fn put_quotes<A: Allocator>(out: &mut Detail<A>, words: &[u8], name: &[u8]) {
+    out.cut(words, name);
+    out.words(b"'");
+}
+
+/// Appends how the text can be mended, where the mistake is a common one.
+fn put_hint<A: Allocator>(out: &mut Detail<A>, text: &[u8], standing: Standing, found: Found<'_>) {
+    match found.thing {
+        Thing::Variable => put_quotes(out, b": variables are written in quotes, '", found.bytes),
+        Thing::Reserved => put_quotes(out, reserved_hint(found.bytes), found.bytes),
+        Thing::Close | Thing::End | Thing::Stop => put_ending(out, text, standing, found.thing),
+        Thing::Characters if standing.position == Position::Behind => {
+            out.words(b": strings are not joined")
+        }
+        thing => out.words(hint_of(thing)),
     }
 }
 
 /// Appends what could stand where a token is refused, what stands there, and how that can be mended.
-pub fn put_misplaced<A: Allocator + Copy>(
-    alloc: A,
-    out: &mut Vec<u8, A>,
-    text: &[u8],
-    at: usize,
-) -> Result<(), AllocError> {
-    let found = found_at(alloc, text, at)?;
-    let Some(reading) = reading_before(alloc, text, at)? else {
-        out.extend_from_slice(b": found ")?;
-        return put_found(out, found);
-    };
-    out.extend_from_slice(b": ")?;
-    out.extend_from_slice(expected(&reading))?;
-    out.extend_from_slice(b" expected, found ")?;
-    put_found(out, found)?;
-    put_hint(out, text, &reading, found)
+fn put_misplaced<A: Allocator>(out: &mut Detail<A>, text: &[u8], seen: Seen<'_>) {
+    match seen.standing {
+        Some(standing) => {
+            out.words(b": ");
+            out.words(expected(standing));
+            put_found(out, b" expected, found ", seen.found);
+            put_hint(out, text, standing, seen.found);
+        }
+        None => put_found(out, b": found ", seen.found),
+    }
 }
 
 /// Appends the token that nests too deep.
-pub fn put_deep<A: Allocator>(
-    alloc: A,
-    out: &mut Vec<u8, A>,
-    text: &[u8],
-    at: usize,
-) -> Result<(), AllocError> {
-    let found = found_at(alloc, text, at)?;
-    out.extend_from_slice(b": level 33 begins with ")?;
-    put_found(out, found)?;
+fn put_deep<A: Allocator>(out: &mut Detail<A>, found: Found<'_>) {
+    put_found(out, b": level 33 begins with ", found);
     if found.thing == Thing::Characters {
-        return out.extend_from_slice(b", which is a list");
+        out.words(b", which is a list");
     }
-    Ok(())
 }
 
 /// Appends how many characters a name or a string has.
-fn put_length<A: Allocator>(
-    out: &mut Vec<u8, A>,
-    words: &[u8],
-    len: usize,
-) -> Result<(), AllocError> {
-    out.extend_from_slice(words)?;
-    put_number(out, len)?;
-    out.extend_from_slice(b" characters")
+fn put_length<A: Allocator>(out: &mut Detail<A>, words: &[u8], len: usize) {
+    out.number(words, len);
+    out.words(b" characters");
 }
 
 /// Appends the tuple or the list that has one element too many.
-fn put_wide<A: Allocator + Copy>(
-    alloc: A,
-    out: &mut Vec<u8, A>,
-    text: &[u8],
-    at: usize,
-) -> Result<(), AllocError> {
-    let Some(reading) = reading_before(alloc, text, at)? else {
-        return Ok(());
-    };
-    let Some(opened) = reading.innermost() else {
-        return Ok(());
-    };
-    out.extend_from_slice(if opened.is_tuple {
-        b": the tuple at "
-    } else {
-        b": the list at "
-    })?;
-    put_place(out, text, opened.at)?;
-    out.extend_from_slice(b" goes on behind element ")?;
-    put_number(out, opened.commas.saturating_add(1))
+fn put_wide<A: Allocator>(out: &mut Detail<A>, text: &[u8], standing: Option<Standing>) {
+    if let Some(
+        Standing {
+            innermost: Some(opened),
+            ..
+        },
+    ) = standing
+    {
+        let words: &[u8] = if opened.is_tuple {
+            b": the tuple at "
+        } else {
+            b": the list at "
+        };
+        put_place(out, words, text, opened.at);
+        out.number(b" goes on behind element ", opened.commas.saturating_add(1));
+    }
 }
 
 /// Appends the token that passes a limit on sizes.
-pub fn put_large<A: Allocator + Copy>(
+fn put_large<A: Allocator>(out: &mut Detail<A>, text: &[u8], seen: Seen<'_>) {
+    let bytes = seen.found.bytes;
+    match seen.found.thing {
+        Thing::Comma => put_wide(out, text, seen.standing),
+        Thing::Atom => put_length(out, b": the atom has ", bytes.len()),
+        Thing::Quoted => put_length(out, b": the atom has ", characters_in(bytes)),
+        Thing::Characters => put_length(out, b": the string has ", characters_in(bytes)),
+        _ => put_found(out, b": found ", seen.found),
+    }
+}
+
+/// Appends what of a token breaks a rule.
+pub fn put_token<A: Allocator + Copy>(
     alloc: A,
-    out: &mut Vec<u8, A>,
+    out: &mut Detail<A>,
     text: &[u8],
+    rule: TextRule,
     at: usize,
-) -> Result<(), AllocError> {
-    let found = found_at(alloc, text, at)?;
-    match found.thing {
-        Thing::Comma => put_wide(alloc, out, text, at),
-        Thing::Atom => put_length(out, b": the atom has ", found.bytes.len()),
-        Thing::Quoted => {
-            let len = characters_in(rest_at(found.bytes, 1));
-            put_length(out, b": the atom has ", len)
-        }
-        Thing::Characters => {
-            let len = characters_in(rest_at(found.bytes, 1));
-            put_length(out, b": the string has ", len)
-        }
-        _ => {
-            out.extend_from_slice(b": found ")?;
-            put_found(out, found)
-        }
+) {
+    match seen_at(alloc, text, at) {
+        Ok(seen) => match rule {
+            TextRule::Token => put_misplaced(out, text, seen),
+            TextRule::TooDeep => put_deep(out, seen.found),
+            TextRule::TooLarge => put_large(out, text, seen),
+        },
+        Err(AllocError) => out.refuse(),
     }
 }
