@@ -1,15 +1,19 @@
 -- What the acts of a process come to.
-use Rattle.std.proofs.Common.{◌≡◌, ℕ, zero, suc, ◌+◌, ◌-◌, ◌<◌, Bool, false, cond, List, [], ◌∷◌, length, map, reverse, slice_get, Option, Some, None, refl, ap, sym, ◌∙◌, arith}
+use Rattle.std.proofs.Common.{◌≡◌, ℕ, zero, suc, ◌+◌, ◌-◌, ◌<◌, Bool, false, cond, List, [], ◌∷◌, length, map, reverse, slice_get, Option, Some, None, Result, Ok, Err, refl, ap, sym, ◌∙◌, arith}
 use mathlib.Core.List.{reverse_aux}
 use Rattle.std.proofs.lemmas.List.{length-reverse, length-map}
 use Rattle.std.proofs.lemmas.Bool.Decides.{nat_tests}
 use Rattle.std.specs.Prelude.{nat_le}
+use Rattle.std.specs.Option.{option_map}
 use Rattle.def_term.specs.Tree.{Tree}
-use Rattle.def_term.specs.Names.{Name, Mfa}
+use Rattle.def_term.specs.Names.{Name, Mfa, word}
 use Rattle.def_script.specs.Program.{Function}
-use Rattle.def_node.specs.Event.{called}
-use Rattle.def_node.specs.Values.{Env, params_bound}
-use Rattle.def_node.specs.Process.{Process, Frame, Act, waits, mfa_at, caller_of, within, with_frames, performs, runs, runs_in}
+use Rattle.def_node.specs.Event.{Call}
+use Rattle.def_node.specs.Values.{Env, params_bound, pid_in}
+use Rattle.def_node.specs.Process.{Process, Frame, Act, waits, exits, mfa_at, caller_of, within, with_frames, performs, runs, runs_in}
+use Rattle.tn_process.specs.declared.act.Act.{Act as Answer}
+use Rattle.tn_process.specs.declared.process.Process.{Process as State}
+use Rattle.tn_process.specs.Acting.{Does, Ends}
 
 last_caller : {X : Type 0} (h : X → Frame) (ks : List Function) (xs : List X) (i : ℕ) (x : X) (acc : List Frame)
     → i + 1 ≡ length xs → slice_get xs i ≡ Some x → caller_of ks (reverse_aux (map h xs) acc) ≡ mfa_at ks (h x).function
@@ -37,17 +41,37 @@ depth_seen h xs = length-reverse (map h xs) ∙ length-map xs h
 pub otherwise : (b : Bool) (x r y : Act) → b ≡ false → x ≡ y → x ≡ cond b r y
 otherwise b x r y h e = e ∙ sym (ap (λ v. cond v r y) h)
 
+-- an answer that ends the process, by what it comes to
+pub ended : {A E : Type 0} (q : State A) (r : Result (Answer A) E) (f : List Bool → Act) (a : Act) → Ends r f → f q.links ≡ a → Does q r a
+ended q (Ok x) f a h e = h q ∙ e
+ended q (Err x) f a h e = h
+
+-- the same answer, by what it comes to
+pub done : {A E : Type 0} (q : State A) (r : Result (Answer A) E) (a b : Act) → Does q r a → a ≡ b → Does q r b
+done q (Ok x) a b h e = h ∙ e
+done q (Err x) a b h e = h
+
+pub within_pid : (ls : List Bool) (o : Option Tree) (p : Option (Option ℕ)) (f : Option ℕ → Act)
+    → p ≡ option_map pid_in o → within ls p f ≡ within ls o (λ t. f (pid_in t))
+within_pid ls None p f e = ap (λ v. within ls v f) e
+within_pid ls (Some t) p f e = ap (λ v. within ls v f) e
+
+pub within_none : {X : Type 0} (ls : List Bool) (o : Option X) (f : X → Act) → None ≡ o → exits ls (word "system_limit") None ≡ within ls o f
+within_none ls o f is = ap (λ v. within ls v f) is
+
 pub within_some : {X : Type 0} (ls : List Bool) (o : Option X) (f : X → Act) (x : X) (a : Act) → Some x ≡ o → a ≡ f x → a ≡ within ls o f
 within_some ls o f x a is e = e ∙ ap (λ v. within ls v f) is
 
-pub called_same : (p : ℕ) (m m' : Mfa) (ts ts' : List Tree) (named exported : Bool) (o o' : Option Mfa) (d d' : ℕ)
-    → m ≡ m' → ts ≡ ts' → o ≡ o' → d ≡ d'
-    → called p (record { mfa = m; args = ts; named = named; exported = exported; caller = o; depth = d }) ≡ called p (record { mfa = m'; args = ts'; named = named; exported = exported; caller = o'; depth = d' })
-called_same p m m' ts ts' named exported o o' d d' em ets eo ed =
-    ap (λ x. called p (record { mfa = x; args = ts; named = named; exported = exported; caller = o; depth = d })) em
-    ∙ ap (λ x. called p (record { mfa = m'; args = x; named = named; exported = exported; caller = o; depth = d })) ets
-    ∙ ap (λ x. called p (record { mfa = m'; args = ts'; named = named; exported = exported; caller = x; depth = d })) eo
-    ∙ ap (λ x. called p (record { mfa = m'; args = ts'; named = named; exported = exported; caller = o'; depth = x })) ed
+abbrev pub call_from : Mfa → List Tree → Bool → Bool → Option Mfa → ℕ → Call
+call_from m ts named exported o d = record { mfa = m; args = ts; named = named; exported = exported; caller = o; depth = d }
+
+pub call_same : (m m' : Mfa) (ts ts' : List Tree) (named exported : Bool) (o o' : Option Mfa) (d d' : ℕ)
+    → m ≡ m' → ts ≡ ts' → o ≡ o' → d ≡ d' → call_from m ts named exported o d ≡ call_from m' ts' named exported o' d'
+call_same m m' ts ts' named exported o o' d d' em ets eo ed =
+    ap (λ x. call_from x ts named exported o d) em
+    ∙ ap (λ x. call_from m' x named exported o d) ets
+    ∙ ap (λ x. call_from m' ts' named exported x d) eo
+    ∙ ap (λ x. call_from m' ts' named exported o' x) ed
 
 -- a step of the newest frame, which was taken off
 pub run_here : (ks : List Function) (n : ℕ) (child : Option ℕ) (q p : Process) (f : Frame) (k : Function) → q ≡ with_frames p (f ∷ p.frames)

@@ -1,8 +1,9 @@
 -- What the functions of one step answer, in the words of the definitions.
-use Rattle.std.specs.Prelude.{◌≡◌, List, [], ◌∷◌, ℕ, Bool, true, false, Option, Some, None, Result, IfOk, MatchOption, map, slice_get}
+use Rattle.std.specs.Prelude.{◌≡◌, List, [], ◌∷◌, ℕ, ◌+◌, Bool, true, false, Option, Some, None, Result, IfOk, MatchOption, length, slice_get}
 use Rattle.def_term.specs.Tree.{Tree}
 use Rattle.def_term.specs.Names.{Name, Mfa}
-use Rattle.def_script.specs.Program.{Step}
+use Rattle.def_script.specs.Program.{Step, mfa_of}
+use Rattle.def_node.specs.Event.{Event, Call, returned}
 use Rattle.def_node.specs.Values.{fitting, pid_in, rebound_target}
 use Rattle.def_node.specs.Process as process
 use Rattle.def_node.specs.Process.{with_frames, with_env, enters, calls, spawns_with, performs, runs, leaves}
@@ -16,7 +17,7 @@ use Rattle.tn_process.specs.declared.context.Callee.{Callee}
 use Rattle.tn_process.specs.declared.context.Calling.{Calling}
 use Rattle.tn_process.specs.declared.process.Frame.{Frame}
 use Rattle.tn_process.specs.declared.process.Process.{Process}
-use Rattle.tn_process.specs.Templates.{built_in, all_built_in}
+use Rattle.tn_process.specs.Templates.{built_in, all_built_in, env_for_call}
 use Rattle.tn_process.specs.Views.{frame_of, process_of, act_of}
 
 -- with the process after it, the answer is this act
@@ -45,6 +46,14 @@ with_target f x t = with_env f (rebound_target x t f.env)
 abbrev pub with_newest : process.Process → process.Frame → process.Process
 with_newest q f = with_frames q (f ∷ q.frames)
 
+-- with this frame as the newest, and a value at a target
+abbrev pub resumed_in : {A : Type 0} → Process A → Frame A → Option Name → Tree → process.Process
+resumed_in q f x t = with_newest (process_of q) (with_target (frame_of f) x t)
+
+-- the event of a return of this value from a frame of the function at this depth
+abbrev pub returned_in : {A : Type 0} → StepContext A → Function A → Tree → ℕ → Event
+returned_in c k t depth = returned c.pid (mfa_of (function_of k)) t depth
+
 -- a return of this value from a frame of the function, over the frames that there are
 abbrev pub leaves_in : {A : Type 0} → StepContext A → Process A → Function A → Option Name → Tree → process.Act
 leaves_in c q k x t = leaves c.pid (process_of q) (function_of k) x (process_of q).frames t
@@ -52,6 +61,27 @@ leaves_in c q k x t = leaves c.pid (process_of q) (function_of k) x (process_of 
 -- a call by the number of its function
 abbrev pub enters_in : {A : Type 0} → StepContext A → Process A → Calling A → Option ℕ → process.Act
 enters_in c q k i = enters (functions_of c.functions.now) c.pid (process_of q) (process_of q).frames k.target k.named (args_of k.args) i
+
+-- the function of the newest frame
+abbrev pub caller_in : {A : Type 0} → List (Function A) → Process A → Option Mfa
+caller_in ks q = process.caller_of (functions_of ks) (process_of q).frames
+
+-- what the event of a call of the function tells of it
+abbrev pub called_in : {A : Type 0} → StepContext A → Process A → Calling A → Function A → Call
+called_in c q k f = record {
+  mfa = mfa_of (function_of f);
+  args = args_of k.args;
+  named = k.named;
+  exported = f.exported;
+  caller = caller_in c.functions.now q;
+  depth = length (process_of q).frames + 1;
+}
+
+-- with the frame of a call of the function with this number as the newest
+abbrev pub with_callee : {A : Type 0} → StepContext A → Process A → Calling A → ℕ → Function A → process.Process
+with_callee c q k i f =
+    let env = env_for_call c.pid (function_of f).params (args_of k.args) in
+    record (process_of q) { entry = None; frames = record { function = i; place = 0; env = env; target = k.target } ∷ (process_of q).frames }
 
 -- the same of a function that is there
 abbrev pub enters_function_in : {A : Type 0} → StepContext A → Process A → Calling A → ℕ → Function A → process.Act
@@ -90,10 +120,6 @@ abbrev pub relinks_in : {A : Type 0} → Bool → Process A → Frame A → Term
 relinks_in linked q f t =
     process.within q.links (fitting (built_in f t))
     (λ t. process.to_pid (relinks linked (process.stepped (process_of q) (frame_of f) (process_of q).frames)) q.links (pid_in t))
-
--- the function of the newest frame
-abbrev pub caller_in : {A : Type 0} → List (Function A) → Process A → Option Mfa
-caller_in ks q = process.caller_of (functions_of ks) (process_of q).frames
 
 -- the next step of a frame of this function
 abbrev pub performs_in : {A : Type 0} → StepContext A → Process A → Function A → Frame A → Option Step → process.Act

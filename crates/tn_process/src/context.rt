@@ -4,7 +4,7 @@ use tn_script::{Arguments, Function};
 use tn_term::Atom;
 
 /// What a step of a process is given.
-#[derive_where(Clone, Copy)]
+#[derive(Drop)]
 pub struct StepContext<'a, A: Allocator + Copy> {
     pub alloc: A,
     /// The functions of the program.
@@ -16,7 +16,7 @@ pub struct StepContext<'a, A: Allocator + Copy> {
 }
 
 /// What the step of a call or of a spawn names.
-#[derive_where(Clone, Copy)]
+#[derive(Drop)]
 pub struct Callee<'a, A: Allocator + Copy> {
     pub target: &'a Option<Atom<A>>,
     /// Whether the step names the module.

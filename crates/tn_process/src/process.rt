@@ -4,15 +4,17 @@ ghost use Rattle.std.specs.Option.{option_map};
 ghost use Rattle.def_term.specs.Tree.{atom};
 ghost use Rattle.def_term.specs.Atoms.{IsAtomText};
 ghost use Rattle.tn_term.specs.Views.{tree_of, mfa_seen};
+ghost use Rattle.tn_flags.specs.Views.{event_of, call_of};
 ghost use Rattle.tn_script.specs.Views.{step_of, functions_of};
-ghost use Rattle.def_node.specs.Values.{fitting};
+ghost use Rattle.def_node.specs.Values.{fitting, pid_in};
 ghost use Rattle.def_node.specs.Process as World;
 ghost use Rattle.def_node.specs.Process.{advanced, act, mfa_at, within};
 ghost use Rattle.tn_process.specs.Views.{frame_of, process_of, act_of};
 ghost use Rattle.tn_process.specs.declared.process.Process.{Process};
 ghost use Rattle.tn_process.specs.Templates.{built_in};
 ghost use Rattle.tn_process.specs.Acting.{Does, Ends, Pops, with_target, with_newest, caller_in};
-ghost use Rattle.tn_process.specs.Acting.{leaves_in, enters_in, enters_function_in, calls_in, spawns_in};
+ghost use Rattle.tn_process.specs.Acting.{returned_in, resumed_in, leaves_in, called_in, with_callee};
+ghost use Rattle.tn_process.specs.Acting.{enters_in, enters_function_in, calls_in, spawns_in};
 ghost use Rattle.tn_process.specs.Acting.{sends_in, receives_in, gives_back_in, relinks, relinks_in};
 ghost use Rattle.tn_process.specs.Acting.{performs_in, runs_frame_in, runs_in, begins_in};
 
@@ -63,7 +65,7 @@ fn ends_with<A: Allocator + Copy>(alloc: A, reason: &str) -> Result<Act<A>, Allo
 fn over_limit<A: Allocator + Copy>(alloc: A) -> Result<Act<A>, AllocError>
     ensures { Ends result (λ ls. World.exits ls (atom (codes "system_limit")) None) }
 {
-    Ok(ends_with(alloc, "system_limit")?)
+    ends_with(alloc, "system_limit")
 }
 
 /// The step of an exit.
@@ -97,6 +99,23 @@ fn mfa_at<A: Allocator + Copy>(
     }
 }
 
+/// The event of a return from a frame of this function at this depth.
+fn returned<A: Allocator + Copy>(
+    context: &StepContext<'_, A>,
+    function: &Function<A>,
+    value: Term<A>,
+    depth: usize,
+) -> Result<Event<A>, AllocError>
+    ensures { IfOk result (λ e. event_of e ≡ returned_in context.now function.now (tree_of value) depth) }
+{
+    Ok(Event::Returned {
+        pid: context.pid,
+        mfa: function_mfa(context.alloc, function)?,
+        value,
+        depth,
+    })
+}
+
 /// The act of a link, or of an unlink.
 fn relinking<A: Allocator>(other: u32, linked: bool) -> Act<A>
     ensures { (p : Process A) → act_of p result ≡ relinks linked (process_of p) other }
@@ -109,6 +128,16 @@ fn relinking<A: Allocator>(other: u32, linked: bool) -> Act<A>
 }
 
 impl<A: Allocator + Copy> Frame<A> {
+    /// What the template stands for, where that is within the limits: the pid that it is, if it is one.
+    fn fitting_pid(&self, alloc: A, template: &Term<A>) -> Result<Option<Option<u32>>, AllocError>
+        ensures { IfOk result (λ o. o ≡ option_map pid_in (fitting (built_in self.now template.now))) }
+    {
+        match self.env.fitting(alloc, template)? {
+            Some(term) => Ok(Some(pid_in(&term))),
+            None => Ok(None),
+        }
+    }
+
     /// One step on.
     fn advance(&mut self)
         requires { self.old.place < usize.MAX }
@@ -180,22 +209,33 @@ impl<A: Allocator + Copy> Process<A> {
         requires { frame.place < usize.MAX }
         ensures { Does self.new result (sends_in self.old frame to.now message.now) }
     {
-        let to = match frame.env.fitting(alloc, to)? {
-            Some(to) => to,
-            None => return Ok(over_limit(alloc)?),
+        let Some(to) = frame.fitting_pid(alloc, to)? else {
+            return over_limit(alloc);
         };
-        let message = match frame.env.fitting(alloc, message)? {
-            Some(message) => message,
-            None => return Ok(over_limit(alloc)?),
+        let Some(message) = frame.env.fitting(alloc, message)? else {
+            return over_limit(alloc);
         };
-        match pid_in(&to) {
-            Some(to) => {
-                frame.advance();
-                self.push_frame(frame)?;
-                Ok(Act::Sends { to, message })
-            }
-            None => Ok(ends_with(alloc, "badarg")?),
-        }
+        let Some(to) = to else {
+            return ends_with(alloc, "badarg");
+        };
+        frame.advance();
+        self.push_frame(frame)?;
+        Ok(Act::Sends { to, message })
+    }
+
+    /// The frame is the newest from now on, with a copy of the value at the target.
+    fn resume(
+        &mut self,
+        alloc: A,
+        mut frame: Frame<A>,
+        target: &Option<Atom<A>>,
+        value: &Term<A>,
+    ) -> Result<(), AllocError>
+        ensures { IfOk result (λ _. process_of self.new ≡ resumed_in self.old frame target.now (tree_of value.now)) }
+    {
+        frame.bind(alloc, target, value.copy_into(alloc)?)?;
+        self.push_frame(frame)?;
+        Ok(())
     }
 
     /// The newest frame has gone, and its value goes to the one beneath.
@@ -208,22 +248,18 @@ impl<A: Allocator + Copy> Process<A> {
     ) -> Result<Act<A>, AllocError>
         ensures { Does self.new result (leaves_in context.now self.old function.now target.now (tree_of value)) }
     {
-        let event = Event::Returned {
-            pid: context.pid,
-            mfa: function_mfa(context.alloc, function)?,
-            value: value.copy_into(context.alloc)?,
-            depth: self.frames.len() + 1,
-        };
+        let depth = self.frames.len() + 1;
         match self.pop_frame() {
-            Some(mut caller) => {
-                caller.bind(context.alloc, target, value)?;
-                self.push_frame(caller)?;
+            Some(caller) => {
+                self.resume(context.alloc, caller, target, &value)?;
+                let event = returned(context, function, value, depth)?;
                 Ok(Act::Continues(Some(event)))
             }
-            None => Ok(Act::Exits {
-                reason: Term::word(context.alloc, "normal")?,
-                event: Some(event),
-            }),
+            None => {
+                let reason = Term::word(context.alloc, "normal")?;
+                let event = Some(returned(context, function, value, depth)?);
+                Ok(Act::Exits { reason, event })
+            }
         }
     }
 
@@ -247,12 +283,54 @@ impl<A: Allocator + Copy> Process<A> {
         ensures { Does self.new result (enters_in context.now self.old calling number) }
     {
         let Some(number) = number else {
-            return Ok(ends_with(context.alloc, "undef")?);
+            return ends_with(context.alloc, "undef");
         };
-        match context.functions.get(number) {
-            None => Ok(ends_with(context.alloc, "undef")?),
-            Some(function) => Ok(self.enter_function(context, calling, number, function)?),
-        }
+        let Some(function) = context.functions.get(number) else {
+            return ends_with(context.alloc, "undef");
+        };
+        self.enter_function(context, calling, number, function)
+    }
+
+    /// What the event of a call over the frames that there are tells of it.
+    fn called(
+        &self,
+        context: &StepContext<'_, A>,
+        calling: &Calling<A>,
+        function: &Function<A>,
+    ) -> Result<Call<A>, AllocError>
+        ensures { IfOk result (λ c. call_of c ≡ called_in context.now self.now calling.now function.now) }
+    {
+        Ok(Call {
+            mfa: function_mfa(context.alloc, function)?,
+            args: copy_terms(&calling.args.terms, context.alloc)?,
+            named: calling.named,
+            exported: function.exported,
+            caller: self.caller(context.alloc, context.functions)?,
+            depth: self.frames.len() + 1,
+        })
+    }
+
+    /// The frame of a call is the newest from now on, and no entry call is due.
+    fn push_callee(
+        &mut self,
+        context: &StepContext<'_, A>,
+        calling: Calling<A>,
+        number: usize,
+        function: &Function<A>,
+    ) -> Result<(), AllocError>
+        ensures { IfOk result (λ _. process_of self.new ≡ with_callee context.now self.old calling number function.now) }
+    {
+        let args = calling.args.terms;
+        let env = Env::for_call(context.alloc, context.pid, &function.params, args)?;
+        let target = calling.target;
+        self.push_frame(Frame {
+            function: number,
+            place: 0,
+            env,
+            target,
+        })?;
+        self.entry = None;
+        Ok(())
     }
 
     /// A call of the function with this number over the frames that there are.
@@ -266,30 +344,10 @@ impl<A: Allocator + Copy> Process<A> {
         ensures { Does self.new result (enters_function_in context.now self.old calling number function.now) }
     {
         if self.frames.len() >= FRAMES {
-            return Ok(over_limit(context.alloc)?);
+            return over_limit(context.alloc);
         }
-        let call = Call {
-            mfa: function_mfa(context.alloc, function)?,
-            args: copy_terms(&calling.args.terms, context.alloc)?,
-            named: calling.named,
-            exported: function.exported,
-            caller: self.caller(context.alloc, context.functions)?,
-            depth: self.frames.len() + 1,
-        };
-        let env = Env::for_call(
-            context.alloc,
-            context.pid,
-            &function.params,
-            calling.args.terms,
-        )?;
-        let frame = Frame {
-            function: number,
-            place: 0,
-            env,
-            target: calling.target,
-        };
-        self.push_frame(frame)?;
-        self.entry = None;
+        let call = self.called(context, &calling, function)?;
+        self.push_callee(context, calling, number, function)?;
         let pid = context.pid;
         Ok(Act::Continues(Some(Event::Called { pid, call })))
     }
@@ -304,27 +362,25 @@ impl<A: Allocator + Copy> Process<A> {
         requires { frame.place < usize.MAX }
         ensures { Does self.new result (calls_in context.now self.old frame callee.now) }
     {
-        match frame.env.fitting_all(context.alloc, callee.templates)? {
-            None => Ok(over_limit(context.alloc)?),
-            Some(args) => {
-                let number = find_function(
-                    context.functions,
-                    callee.home.text(),
-                    callee.name.text(),
-                    args.terms.len(),
-                );
-                let target = copy_target(context.alloc, callee.target)?;
-                frame.advance();
-                self.push_frame(frame)?;
-                let named = callee.named;
-                let calling = Calling {
-                    target,
-                    named,
-                    args,
-                };
-                Ok(self.enter(context, calling, number)?)
-            }
-        }
+        let Some(args) = frame.env.fitting_all(context.alloc, callee.templates)? else {
+            return over_limit(context.alloc);
+        };
+        let number = find_function(
+            context.functions,
+            callee.home.text(),
+            callee.name.text(),
+            args.terms.len(),
+        );
+        let target = copy_target(context.alloc, callee.target)?;
+        frame.advance();
+        self.push_frame(frame)?;
+        let named = callee.named;
+        let calling = Calling {
+            target,
+            named,
+            args,
+        };
+        self.enter(context, calling, number)
     }
 
     /// The step of a return.
@@ -337,10 +393,10 @@ impl<A: Allocator + Copy> Process<A> {
     ) -> Result<Act<A>, AllocError>
         ensures { Does self.new result (gives_back_in context.now self.old function.now frame template.now) }
     {
-        match frame.env.fitting(context.alloc, template)? {
-            None => Ok(over_limit(context.alloc)?),
-            Some(value) => Ok(self.leave(context, function, &frame.target, value)?),
-        }
+        let Some(value) = frame.env.fitting(context.alloc, template)? else {
+            return over_limit(context.alloc);
+        };
+        self.leave(context, function, &frame.target, value)
     }
 
     /// The step of a link, or of an unlink.
@@ -354,18 +410,15 @@ impl<A: Allocator + Copy> Process<A> {
         requires { frame.place < usize.MAX }
         ensures { Does self.new result (relinks_in linked self.old frame template.now) }
     {
-        let other = match frame.env.fitting(alloc, template)? {
-            Some(other) => other,
-            None => return Ok(over_limit(alloc)?),
+        let Some(other) = frame.fitting_pid(alloc, template)? else {
+            return over_limit(alloc);
         };
-        match pid_in(&other) {
-            Some(other) => {
-                frame.advance();
-                self.push_frame(frame)?;
-                Ok(relinking(other, linked))
-            }
-            None => Ok(ends_with(alloc, "badarg")?),
-        }
+        let Some(other) = other else {
+            return ends_with(alloc, "badarg");
+        };
+        frame.advance();
+        self.push_frame(frame)?;
+        Ok(relinking(other, linked))
     }
 
     /// The step of a spawn.
@@ -378,24 +431,21 @@ impl<A: Allocator + Copy> Process<A> {
         requires { frame.place < usize.MAX }
         ensures { Does self.new result (spawns_in context.now self.old frame callee.now) }
     {
-        let args = match frame.env.fitting_all(context.alloc, callee.templates)? {
-            Some(args) => args,
-            None => return Ok(over_limit(context.alloc)?),
+        let Some(args) = frame.env.fitting_all(context.alloc, callee.templates)? else {
+            return over_limit(context.alloc);
         };
-        match context.child {
-            None => Ok(over_limit(context.alloc)?),
-            Some(child) => {
-                frame.advance();
-                frame.bind(context.alloc, callee.target, Term::Pid(child))?;
-                self.push_frame(frame)?;
-                let entry = Entry {
-                    module: callee.home.copy_into(context.alloc)?,
-                    name: callee.name.copy_into(context.alloc)?,
-                    args,
-                };
-                Ok(Act::Spawns { child, entry })
-            }
-        }
+        let Some(child) = context.child else {
+            return over_limit(context.alloc);
+        };
+        frame.advance();
+        frame.bind(context.alloc, callee.target, Term::Pid(child))?;
+        self.push_frame(frame)?;
+        let entry = Entry {
+            module: callee.home.copy_into(context.alloc)?,
+            name: callee.name.copy_into(context.alloc)?,
+            args,
+        };
+        Ok(Act::Spawns { child, entry })
     }
 
     /// The step of this function, of which the frame is.

@@ -1,6 +1,6 @@
-use Rattle.std.proofs.Common.{ap, sym, ◌∙◌, Some, map, true, false}
+use Rattle.std.proofs.Common.{ap, sym, ◌∙◌, Some, true, false}
 use Rattle.def_node.specs.Values.{built}
-use Rattle.def_node.specs.Process.{performs, calls, spawns_with}
+use Rattle.def_node.specs.Process.{calls, spawns_with}
 use Rattle.tn_term.specs.Views.{tree_of}
 use Rattle.tn_script.specs.Views.{functions_of, step_of}
 use Rattle.tn_process.specs.Acting.{performs_in}
