@@ -1,12 +1,15 @@
 // Copies of the parts of forms.
 ghost use Rattle.std.specs.Prelude.{◌≡◌, IfOk, map};
+ghost use Rattle.def_script.specs.Program.{call_remote, spawn};
+ghost use Rattle.def_script.specs.Program.{set_processes, set_function, set_send, set_receive};
+ghost use Rattle.tn_term.specs.Views.{tree_of};
 ghost use Rattle.tn_flags.specs.Views.{command_of};
 ghost use Rattle.tn_script.specs.Views.{args_of, entry_of, step_of, function_of, functions_of};
 
 use crate::form::{Arguments, Entry, Function, Step};
 use std::alloc::{AllocError, Allocator};
 use tn_flags::Command;
-use tn_term::{Atom, copy_terms};
+use tn_term::{Atom, Term, copy_terms};
 
 /// The same target.
 pub fn copy_target<A: Allocator + Copy>(
@@ -43,6 +46,62 @@ pub fn copy_entry<A: Allocator + Copy>(alloc: A, entry: &Entry<A>) -> Result<Ent
     })
 }
 
+/// The same target, name and arguments of a call or of a spawn.
+fn copy_callee<A: Allocator + Copy>(
+    alloc: A,
+    target: &Option<Atom<A>>,
+    name: &Atom<A>,
+    args: &Arguments<A>,
+) -> Result<(Option<Atom<A>>, Atom<A>, Arguments<A>), AllocError>
+    ensures target { IfOk result (λ c. c.0 ≡ target.now) }
+    ensures name { IfOk result (λ c. c.1 ≡ name.now) }
+    ensures args { IfOk result (λ c. args_of c.2 ≡ args_of args.now) }
+{
+    let target = copy_target(alloc, target)?;
+    let name = name.copy_into(alloc)?;
+    Ok((target, name, copy_arguments(alloc, args)?))
+}
+
+/// The same call that names the module.
+fn copy_remote_call<A: Allocator + Copy>(
+    alloc: A,
+    target: &Option<Atom<A>>,
+    home: &Atom<A>,
+    name: &Atom<A>,
+    args: &Arguments<A>,
+) -> Result<Step<A>, AllocError>
+    ensures { IfOk result (λ s. step_of s ≡ call_remote target.now home.now name.now (args_of args.now)) }
+{
+    let module = home.copy_into(alloc)?;
+    let (target, name, args) = copy_callee(alloc, target, name, args)?;
+    Ok(Step::CallRemote {
+        target,
+        module,
+        name,
+        args,
+    })
+}
+
+/// The same spawn.
+fn copy_spawn<A: Allocator + Copy>(
+    alloc: A,
+    target: &Option<Atom<A>>,
+    home: &Atom<A>,
+    name: &Atom<A>,
+    args: &Arguments<A>,
+) -> Result<Step<A>, AllocError>
+    ensures { IfOk result (λ s. step_of s ≡ spawn target.now home.now name.now (args_of args.now)) }
+{
+    let module = home.copy_into(alloc)?;
+    let (target, name, args) = copy_callee(alloc, target, name, args)?;
+    Ok(Step::Spawn {
+        target,
+        module,
+        name,
+        args,
+    })
+}
+
 /// The same step.
 fn copy_step<A: Allocator + Copy>(alloc: A, step: &Step<A>) -> Result<Step<A>, AllocError>
     ensures { IfOk result (λ s. step_of s ≡ step_of step.now) }
@@ -60,28 +119,17 @@ fn copy_step<A: Allocator + Copy>(alloc: A, step: &Step<A>) -> Result<Step<A>, A
             module,
             name,
             args,
-        } => Ok(Step::CallRemote {
-            target: copy_target(alloc, target)?,
-            module: module.copy_into(alloc)?,
-            name: name.copy_into(alloc)?,
-            args: copy_arguments(alloc, args)?,
-        }),
-        Step::CallLocal { target, name, args } => Ok(Step::CallLocal {
-            target: copy_target(alloc, target)?,
-            name: name.copy_into(alloc)?,
-            args: copy_arguments(alloc, args)?,
-        }),
+        } => copy_remote_call(alloc, target, module, name, args),
+        Step::CallLocal { target, name, args } => {
+            let (target, name, args) = copy_callee(alloc, target, name, args)?;
+            Ok(Step::CallLocal { target, name, args })
+        }
         Step::Spawn {
             target,
             module,
             name,
             args,
-        } => Ok(Step::Spawn {
-            target: copy_target(alloc, target)?,
-            module: module.copy_into(alloc)?,
-            name: name.copy_into(alloc)?,
-            args: copy_arguments(alloc, args)?,
-        }),
+        } => copy_spawn(alloc, target, module, name, args),
         Step::Link(other) => Ok(Step::Link(other.copy_into(alloc)?)),
         Step::Unlink(other) => Ok(Step::Unlink(other.copy_into(alloc)?)),
         Step::Return(value) => Ok(Step::Return(value.copy_into(alloc)?)),
@@ -161,6 +209,92 @@ pub fn copy_entries<A: Allocator + Copy>(
     Ok(copies)
 }
 
+/// The same three terms.
+fn copy_three<A: Allocator + Copy>(
+    alloc: A,
+    first: &Term<A>,
+    second: &Term<A>,
+    third: &Term<A>,
+) -> Result<(Term<A>, Term<A>, Term<A>), AllocError>
+    ensures first { IfOk result (λ c. tree_of c.0 ≡ tree_of first.now) }
+    ensures second { IfOk result (λ c. tree_of c.1 ≡ tree_of second.now) }
+    ensures third { IfOk result (λ c. tree_of c.2 ≡ tree_of third.now) }
+{
+    let first = first.copy_into(alloc)?;
+    let second = second.copy_into(alloc)?;
+    Ok((first, second, third.copy_into(alloc)?))
+}
+
+/// The same setting of processes.
+fn copy_process_setting<A: Allocator + Copy>(
+    alloc: A,
+    session: &Atom<A>,
+    procs: &Term<A>,
+    how: &Term<A>,
+    flags: &Term<A>,
+) -> Result<Command<A>, AllocError>
+    ensures { IfOk result (λ c. command_of c
+        ≡ set_processes session.now (tree_of procs.now) (tree_of how.now) (tree_of flags.now)) }
+{
+    let session = session.copy_into(alloc)?;
+    let (procs, how, flags) = copy_three(alloc, procs, how, flags)?;
+    Ok(Command::Process {
+        session,
+        procs,
+        how,
+        flags,
+    })
+}
+
+/// The same setting of functions.
+fn copy_function_setting<A: Allocator + Copy>(
+    alloc: A,
+    session: &Atom<A>,
+    mfa: &Term<A>,
+    specification: &Term<A>,
+    options: &Term<A>,
+) -> Result<Command<A>, AllocError>
+    ensures { IfOk result (λ c. command_of c
+        ≡ set_function session.now (tree_of mfa.now) (tree_of specification.now) (tree_of options.now)) }
+{
+    let session = session.copy_into(alloc)?;
+    let (mfa, specification, options) = copy_three(alloc, mfa, specification, options)?;
+    Ok(Command::Function {
+        session,
+        mfa,
+        specification,
+        options,
+    })
+}
+
+/// The same setting of sends.
+fn copy_send_setting<A: Allocator + Copy>(
+    alloc: A,
+    session: &Atom<A>,
+    specification: &Term<A>,
+) -> Result<Command<A>, AllocError>
+    ensures { IfOk result (λ c. command_of c ≡ set_send session.now (tree_of specification.now)) }
+{
+    Ok(Command::Send {
+        session: session.copy_into(alloc)?,
+        specification: specification.copy_into(alloc)?,
+    })
+}
+
+/// The same setting of receives.
+fn copy_receive_setting<A: Allocator + Copy>(
+    alloc: A,
+    session: &Atom<A>,
+    specification: &Term<A>,
+) -> Result<Command<A>, AllocError>
+    ensures { IfOk result (λ c. command_of c ≡ set_receive session.now (tree_of specification.now)) }
+{
+    Ok(Command::Recv {
+        session: session.copy_into(alloc)?,
+        specification: specification.copy_into(alloc)?,
+    })
+}
+
 /// The same command.
 fn copy_command<A: Allocator + Copy>(
     alloc: A,
@@ -181,37 +315,21 @@ fn copy_command<A: Allocator + Copy>(
             procs,
             how,
             flags,
-        } => Ok(Command::Process {
-            session: session.copy_into(alloc)?,
-            procs: procs.copy_into(alloc)?,
-            how: how.copy_into(alloc)?,
-            flags: flags.copy_into(alloc)?,
-        }),
+        } => copy_process_setting(alloc, session, procs, how, flags),
         Command::Function {
             session,
             mfa,
             specification,
             options,
-        } => Ok(Command::Function {
-            session: session.copy_into(alloc)?,
-            mfa: mfa.copy_into(alloc)?,
-            specification: specification.copy_into(alloc)?,
-            options: options.copy_into(alloc)?,
-        }),
+        } => copy_function_setting(alloc, session, mfa, specification, options),
         Command::Send {
             session,
             specification,
-        } => Ok(Command::Send {
-            session: session.copy_into(alloc)?,
-            specification: specification.copy_into(alloc)?,
-        }),
+        } => copy_send_setting(alloc, session, specification),
         Command::Recv {
             session,
             specification,
-        } => Ok(Command::Recv {
-            session: session.copy_into(alloc)?,
-            specification: specification.copy_into(alloc)?,
-        }),
+        } => copy_receive_setting(alloc, session, specification),
     }
 }
 
