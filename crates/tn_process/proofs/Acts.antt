@@ -7,10 +7,10 @@ use Rattle.std.specs.Prelude.{nat_le}
 use Rattle.std.specs.Option.{option_map}
 use Rattle.def_term.specs.Tree.{Tree}
 use Rattle.def_term.specs.Names.{Name, Mfa, word}
-use Rattle.def_script.specs.Program.{Function}
+use Rattle.def_script.specs.Program.{Function, Entry}
 use Rattle.def_node.specs.Event.{Call}
 use Rattle.def_node.specs.Values.{Env, params_bound, pid_in}
-use Rattle.def_node.specs.Process.{Process, Frame, Act, waits, exits, mfa_at, caller_of, within, with_frames, performs, runs, runs_in}
+use Rattle.def_node.specs.Process.{Process, Frame, Act, waits, exits, enters, enters_at, mfa_at, caller_of, within, with_frames, performs, runs, runs_in}
 use Rattle.tn_process.specs.declared.act.Act.{Act as Answer}
 use Rattle.tn_process.specs.declared.process.Process.{Process as State}
 use Rattle.tn_process.specs.Acting.{Does, Ends}
@@ -40,6 +40,17 @@ depth_seen h xs = length-reverse (map h xs) ∙ length-map xs h
 
 pub otherwise : (b : Bool) (x r y : Act) → b ≡ false → x ≡ y → x ≡ cond b r y
 otherwise b x r y h e = e ∙ sym (ap (λ v. cond v r y) h)
+
+-- a call is the same whether an entry call is due or not
+enters_at_after : (ks : List Function) (n : ℕ) (q : Process) (e : Option Entry) (fs : List Frame) (x : Option Name) (named : Bool) (args : List Tree) (i : ℕ) (k : Option Function)
+    → enters_at ks n (record q { entry = e }) fs x named args i k ≡ enters_at ks n q fs x named args i k
+enters_at_after ks n q e fs x named args i None = refl
+enters_at_after ks n q e fs x named args i (Some k) = refl
+
+pub enters_after : (ks : List Function) (n : ℕ) (q : Process) (e : Option Entry) (fs : List Frame) (x : Option Name) (named : Bool) (args : List Tree) (i : Option ℕ)
+    → enters ks n (record q { entry = e }) fs x named args i ≡ enters ks n q fs x named args i
+enters_after ks n q e fs x named args None = refl
+enters_after ks n q e fs x named args (Some i) = enters_at_after ks n q e fs x named args i (slice_get ks i)
 
 -- an answer that ends the process, by what it comes to
 pub ended : {A E : Type 0} (q : State A) (r : Result (Answer A) E) (f : List Bool → Act) (a : Act) → Ends r f → f q.links ≡ a → Does q r a

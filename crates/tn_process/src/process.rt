@@ -460,8 +460,8 @@ impl<A: Allocator + Copy> Process<A> {
         ensures { Does self.new result (performs_in context.now self.old function.now frame (Some (step_of step.now))) }
     {
         match step {
-            Step::Send { to, message } => Ok(self.send(context.alloc, frame, to, message)?),
-            Step::Receive { target } => Ok(self.receive(context.alloc, frame, target)?),
+            Step::Send { to, message } => self.send(context.alloc, frame, to, message),
+            Step::Receive { target } => self.receive(context.alloc, frame, target),
             Step::CallRemote {
                 target,
                 module: home,
@@ -475,7 +475,7 @@ impl<A: Allocator + Copy> Process<A> {
                     name,
                     templates,
                 };
-                Ok(self.call(context, frame, &callee)?)
+                self.call(context, frame, &callee)
             }
             Step::CallLocal {
                 target,
@@ -489,7 +489,7 @@ impl<A: Allocator + Copy> Process<A> {
                     name,
                     templates,
                 };
-                Ok(self.call(context, frame, &callee)?)
+                self.call(context, frame, &callee)
             }
             Step::Spawn {
                 target,
@@ -504,12 +504,12 @@ impl<A: Allocator + Copy> Process<A> {
                     name,
                     templates,
                 };
-                Ok(self.spawn(context, frame, &callee)?)
+                self.spawn(context, frame, &callee)
             }
-            Step::Link(other) => Ok(self.relink(context.alloc, frame, other, true)?),
-            Step::Unlink(other) => Ok(self.relink(context.alloc, frame, other, false)?),
-            Step::Return(value) => Ok(self.give_back(context, function, frame, value)?),
-            Step::Exit(reason) => Ok(exit(context.alloc, &frame, reason)?),
+            Step::Link(other) => self.relink(context.alloc, frame, other, true),
+            Step::Unlink(other) => self.relink(context.alloc, frame, other, false),
+            Step::Return(value) => self.give_back(context, function, frame, value),
+            Step::Exit(reason) => exit(context.alloc, &frame, reason),
         }
     }
 
@@ -525,9 +525,9 @@ impl<A: Allocator + Copy> Process<A> {
         match function.steps.get(frame.place) {
             None => {
                 let value = Term::word(context.alloc, "ok")?;
-                Ok(self.leave(context, function, &frame.target, value)?)
+                self.leave(context, function, &frame.target, value)
             }
-            Some(step) => Ok(self.perform(context, function, frame, step)?),
+            Some(step) => self.perform(context, function, frame, step),
         }
     }
 
@@ -544,7 +544,7 @@ impl<A: Allocator + Copy> Process<A> {
                 self.push_frame(frame)?;
                 Ok(Act::Waits)
             }
-            Some(function) => Ok(self.run_frame(context, function, frame)?),
+            Some(function) => self.run_frame(context, function, frame),
         }
     }
 
@@ -563,7 +563,7 @@ impl<A: Allocator + Copy> Process<A> {
             named: true,
             args: entry.args,
         };
-        Ok(self.enter(context, calling, number)?)
+        self.enter(context, calling, number)
     }
 
     /// The next step of the process with this pid. `child` is the pid that a spawn would give.
@@ -589,8 +589,8 @@ impl<A: Allocator + Copy> Process<A> {
             child,
         };
         match self.entry.take() {
-            Some(entry) => Ok(self.begin(&context, entry)?),
-            None => Ok(self.run(&context)?),
+            Some(entry) => self.begin(&context, entry),
+            None => self.run(&context),
         }
     }
 }
