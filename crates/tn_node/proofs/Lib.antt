@@ -4,3 +4,4 @@ pub mod Seen
 pub mod Loops
 pub mod Room
 pub mod Picks
+pub mod Happenings

@@ -1,5 +1,5 @@
 -- What the code's processes stand for.
-use Rattle.std.specs.Prelude.{◌≡◌, ℕ, ◌<◌, Bool, List, map, slice_get, Option, Some, None, Result, IfOk}
+use Rattle.std.specs.Prelude.{◌≡◌, ℕ, ◌<◌, Bool, List, map, slice_get, slice_set, Option, Some, None, Result, IfOk}
 use Rattle.std.specs.Option.{option_map}
 use Rattle.def_node.specs.Process as process
 use Rattle.def_node.specs.Process.{act}
@@ -46,6 +46,10 @@ slots_of w = (world_of w).slots
 -- the slots, where the partners of the process with this pid were told that it has ended
 abbrev pub tells_partners : {A : Type 0} → World A → ℕ → List Bool → Term A → List (Option process.Process)
 tells_partners w pid partners reason = partners_told pid (tree_of reason) partners (slots_of w)
+
+-- the same, where the process at this place is there no more
+abbrev pub vacated_at : {A : Type 0} → World A → ℕ → ℕ → List Bool → Term A → List (Option process.Process)
+vacated_at w place pid partners reason = partners_told pid (tree_of reason) partners (slice_set (slots_of w) place None)
 
 -- the end of the process with this pid, at this place
 abbrev pub ends_at : {A : Type 0} → World A → ℕ → ℕ → List Bool → Term A → Option (Event A) → node.Move

@@ -95,18 +95,8 @@ pub fn exit_events<A: Allocator>(
 ) -> Result<Vec<Event<A>, A>, AllocError>
     ensures { IfOk result (λ es. seen_events es ≡ events_of_exit pid partners.now reason before) }
 {
-    let mut events = Vec::new(alloc);
-    match before {
-        Some(before) => {
-            events.push(before)?;
-            events.push(Event::Exited { pid, reason })?;
-            push_partings(&mut events, pid, partners)?;
-            Ok(events)
-        }
-        None => {
-            events.push(Event::Exited { pid, reason })?;
-            push_partings(&mut events, pid, partners)?;
-            Ok(events)
-        }
-    }
+    let mut events = own_events(alloc, before)?;
+    events.push(Event::Exited { pid, reason })?;
+    push_partings(&mut events, pid, partners)?;
+    Ok(events)
 }

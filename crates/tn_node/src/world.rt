@@ -23,7 +23,7 @@ impl<A: Allocator + Copy> World<A> {
     ghost use Rattle.def_node.specs.Node.{opening_world, living, next_pid, with_message, with_link, with_signal};
     ghost use Rattle.def_node.specs.Node.{parted, linked_at, delivered, linked_to, link_made, unlinked_from};
     ghost use Rattle.def_node.specs.Node.{link_removed, started, next_of};
-    ghost use Rattle.tn_node.specs.Worlds.{world_of, move_of, IsRoomFor, slots_of, tells_partners, ends_at};
+    ghost use Rattle.tn_node.specs.Worlds.{world_of, move_of, IsRoomFor, slots_of, tells_partners, vacated_at, ends_at};
     ghost use Rattle.tn_node.specs.Worlds.{Moves, ChangesAt, ActsAt, CarriesOut};
 
     /// The processes before any step.
@@ -308,6 +308,24 @@ impl<A: Allocator + Copy> World<A> {
         Ok(())
     }
 
+    /// The process with this pid, at this place, is there no more, and its partners are told.
+    fn vacate(
+        &mut self,
+        alloc: A,
+        place: usize,
+        pid: u32,
+        partners: &[bool; 64],
+        reason: &Term<A>,
+    ) -> Result<(), AllocError>
+        requires place_within { place < length self.old.slots.items }
+        requires at { pid ≡ 100 + place }
+        ensures { IfOk result (λ _. slots_of self.new ≡ vacated_at self.old place pid partners.now reason.now) }
+    {
+        self.slots[place] = None;
+        self.tell_partners(alloc, pid, partners, reason)?;
+        Ok(())
+    }
+
     /// The process with this pid, at this place, ends.
     fn finish(
         &mut self,
@@ -322,8 +340,7 @@ impl<A: Allocator + Copy> World<A> {
         requires at { pid ≡ 100 + place }
         ensures { Moves self.new result (ends_at self.old place pid partners.now reason event) }
     {
-        self.slots[place] = None;
-        self.tell_partners(alloc, pid, partners, &reason)?;
+        self.vacate(alloc, place, pid, partners, &reason)?;
         Ok(exit_events(alloc, pid, partners, reason, event)?)
     }
 
