@@ -30,8 +30,8 @@ fn with_arity<A: Allocator + Copy>(
     ensures { IfOk result (Covers (with_arity module.now name.now (tree_of arity.now))) }
 {
     match arity {
-        Term::Int(n) => Ok(with_number(alloc, module, name, *n)?),
-        Term::Atom(word) => Ok(with_word(alloc, module, name, word)?),
+        Term::Int(n) => with_number(alloc, module, name, *n),
+        Term::Atom(word) => with_word(alloc, module, name, word),
         _ => Ok(None),
     }
 }
@@ -94,7 +94,7 @@ fn of_names<A: Allocator + Copy>(
         }
         return Ok(None);
     }
-    Ok(with_arity(alloc, module, name, arity)?)
+    with_arity(alloc, module, name, arity)
 }
 
 /// The functions of {M,F,A}; None where M or F is no atom.
@@ -107,7 +107,7 @@ fn covered_by<A: Allocator + Copy>(
     ensures { IfOk result (Covers (covered_by (tree_of module.now) (tree_of name.now) (tree_of arity.now))) }
 {
     match (module, name) {
-        (Term::Atom(module), Term::Atom(name)) => Ok(of_names(alloc, module, name, arity)?),
+        (Term::Atom(module), Term::Atom(name)) => of_names(alloc, module, name, arity),
         _ => Ok(None),
     }
 }
@@ -134,7 +134,7 @@ pub(crate) fn covered_of<A: Allocator + Copy>(
     ensures { IfOk result (Covers (covered_of (tree_of term.now))) }
 {
     match term {
-        Term::Tuple(fields) => Ok(covered_in(alloc, fields)?),
+        Term::Tuple(fields) => covered_in(alloc, fields),
         _ => Ok(None),
     }
 }

@@ -29,42 +29,42 @@ pub(crate) fn elements<A: Allocator, B: Allocator + Copy>(
             message,
             to,
             alive,
-        } => Ok(sent(alloc, *pid, message, *to, *alive)?),
-        Event::Received { pid, message, .. } => Ok(with_copy(alloc, *pid, "receive", message)?),
-        Event::Called { pid, call } => Ok(called(alloc, *pid, call, short)?),
+        } => sent(alloc, *pid, message, *to, *alive),
+        Event::Received { pid, message, .. } => with_copy(alloc, *pid, "receive", message),
+        Event::Called { pid, call } => called(alloc, *pid, call, short),
         Event::Returned {
             pid,
             mfa,
             value,
             ..
-        } => Ok(returned(alloc, *pid, mfa, value)?),
+        } => returned(alloc, *pid, mfa, value),
         Event::Spawn {
             pid,
             child,
             mfa,
             args,
-        } => Ok(with_call(alloc, *pid, "spawn", *child, mfa, args)?),
+        } => with_call(alloc, *pid, "spawn", *child, mfa, args),
         Event::Spawned {
             pid,
             parent,
             mfa,
             args,
-        } => Ok(with_call(alloc, *pid, "spawned", *parent, mfa, args)?),
-        Event::Exited { pid, reason } => Ok(with_copy(alloc, *pid, "exit", reason)?),
-        Event::Linked { pid, other } => Ok(with_one(alloc, *pid, "link", Term::Pid(*other))?),
-        Event::Unlinked { pid, other } => Ok(with_one(alloc, *pid, "unlink", Term::Pid(*other))?),
-        Event::GettingLinked { pid, other } => Ok(with_one(
+        } => with_call(alloc, *pid, "spawned", *parent, mfa, args),
+        Event::Exited { pid, reason } => with_copy(alloc, *pid, "exit", reason),
+        Event::Linked { pid, other } => with_one(alloc, *pid, "link", Term::Pid(*other)),
+        Event::Unlinked { pid, other } => with_one(alloc, *pid, "unlink", Term::Pid(*other)),
+        Event::GettingLinked { pid, other } => with_one(
             alloc,
             *pid,
             "getting_linked",
             Term::Pid(*other),
-        )?),
-        Event::GettingUnlinked { pid, other } => Ok(with_one(
+        ),
+        Event::GettingUnlinked { pid, other } => with_one(
             alloc,
             *pid,
             "getting_unlinked",
             Term::Pid(*other),
-        )?),
+        ),
     }
 }
 
@@ -125,7 +125,7 @@ fn with_copy<A: Allocator, B: Allocator + Copy>(
     ensures { IfOk result (λ v. trees v ≡ first_three pid kind.now ++ tree_of detail.now ∷ []) }
 {
     let detail = detail.copy_into(alloc)?;
-    Ok(with_one(alloc, pid, kind, detail)?)
+    with_one(alloc, pid, kind, detail)
 }
 
 /// `trace`, the pid, the kind, another pid and `{M,F,Args}`.
@@ -141,7 +141,7 @@ fn with_call<A: Allocator, B: Allocator + Copy>(
     ensures { IfOk result (λ v. trees v ≡ elements_with_call pid kind.now to mfa.now args.now) }
 {
     let call = call_with_args(alloc, mfa, args)?;
-    Ok(with_two(alloc, pid, kind, Term::Pid(to), call)?)
+    with_two(alloc, pid, kind, Term::Pid(to), call)
 }
 
 /// The elements of the message of a send.
@@ -156,15 +156,15 @@ fn sent<A: Allocator, B: Allocator + Copy>(
 {
     let message = message.copy_into(alloc)?;
     if alive {
-        Ok(with_two(alloc, pid, "send", message, Term::Pid(to))?)
+        with_two(alloc, pid, "send", message, Term::Pid(to))
     } else {
-        Ok(with_two(
+        with_two(
             alloc,
             pid,
             "send_to_non_existing_process",
             message,
             Term::Pid(to),
-        )?)
+        )
     }
 }
 
@@ -179,10 +179,10 @@ fn called<A: Allocator, B: Allocator + Copy>(
 {
     if short {
         let name = name_with_arity(alloc, &call.mfa)?;
-        Ok(with_one(alloc, pid, "call", name)?)
+        with_one(alloc, pid, "call", name)
     } else {
         let whole = call_with_args(alloc, &call.mfa, &call.args)?;
-        Ok(with_one(alloc, pid, "call", whole)?)
+        with_one(alloc, pid, "call", whole)
     }
 }
 
@@ -197,7 +197,7 @@ fn returned<A: Allocator, B: Allocator + Copy>(
 {
     let name = name_with_arity(alloc, mfa)?;
     let value = value.copy_into(alloc)?;
-    Ok(with_two(alloc, pid, "return_from", name, value)?)
+    with_two(alloc, pid, "return_from", name, value)
 }
 
 /// A tuple of three terms.
@@ -250,7 +250,7 @@ fn call_with_args<A: Allocator, B: Allocator + Copy>(
     let module = Term::Atom(mfa.module.copy_into(alloc)?);
     let name = Term::Atom(mfa.name.copy_into(alloc)?);
     let args = list_of(alloc, args)?;
-    Ok(tuple_of_three(alloc, module, name, args)?)
+    tuple_of_three(alloc, module, name, args)
 }
 
 /// Puts a copy of the last term behind the others, where there is one.

@@ -41,7 +41,7 @@ impl<A: Allocator + Copy> Reply<A> {
             Reply::True => Ok(Term::word(alloc, "true")?),
             Reply::False => Ok(Term::word(alloc, "false")?),
             Reply::Badarg => Ok(Term::word(alloc, "badarg")?),
-            Reply::Unsupported(name) => Ok(unsupported(alloc, name)?),
+            Reply::Unsupported(name) => unsupported(alloc, name),
             Reply::Count(count) => Ok(Term::Int(count)),
         }
     }

@@ -1,4 +1,4 @@
 use Rattle.tn_session.proofs.elements.elements.Goals as goal
 
-pub returns-in_ok-sent-in-Sent : goal.returns-in_ok-sent-in-Sent
-returns-in_ok-sent-in-Sent g c = rw c.in-Sent.is (c.in_ok-sent-in-Sent.ensures c.args.short)
+pub returns-in-Sent : goal.returns-in-Sent
+returns-in-Sent g c = rw c.in-Sent.is (c.sent.ensures c.args.short)
