@@ -4,7 +4,7 @@ ghost use Rattle.def_places.specs.Places.{line_feeds, column_from, place_at};
 
 /// A place in a text (own): the line and the column, both counted from 1. A column counts bytes, and a line
 /// ends with its line feed.
-#[derive(Clone, Copy, Debug, PartialEq, Eq, Drop)]
+#[derive(Clone, Copy, Drop)]
 pub struct Place {
     pub line: usize,
     pub column: usize,

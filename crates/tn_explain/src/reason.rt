@@ -1,7 +1,7 @@
 // Why a text is refused.
 
 /// The rules on the text of a script (own), by the numbers of their refusals.
-#[derive(Clone, Copy, Debug, PartialEq, Eq, Drop)]
+#[derive(Clone, Copy, Drop)]
 pub enum TextRule {
     /// 2: the tokens up to this one begin no script, or no token stands there.
     Token,
@@ -12,7 +12,7 @@ pub enum TextRule {
 }
 
 /// The rules on a form (own), by the numbers of their refusals.
-#[derive(Clone, Copy, Debug, PartialEq, Eq, Drop)]
+#[derive(Clone, Copy, PartialEq, Eq, Drop)]
 pub enum FormRule {
     /// 5: it has no shape.
     Shape,
@@ -35,7 +35,7 @@ pub enum FormRule {
 /// A refusal of a script or of a text of picks (own). A program that has a refusal of its own turns it into
 /// this by a match, one arm for each: `Token { at }` is `Reason::Text { rule: TextRule::Token, at }`, and
 /// `Limit { form }` is `Reason::Form { rule: FormRule::Limit, form }`.
-#[derive(Clone, Copy, Debug, PartialEq, Eq, Drop)]
+#[derive(Clone, Copy, Drop)]
 pub enum Reason {
     /// 1: the script has more than 1,048,576 bytes.
     TooLong,
