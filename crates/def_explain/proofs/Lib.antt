@@ -1,0 +1,3 @@
+mod ClauseReasons
+mod FaultPlaces
+mod HeadStops

@@ -1,0 +1,30 @@
+-- What is promised of reasons (own).
+-- Stands on reasons and on which clause fires.
+use Rattle.std.specs.Prelude.{◌≡◌, ◌↔◌, List, Some, None}
+use Rattle.def_term.specs.Tree.{Tree, list, of_elements}
+use Rattle.def_spec.specs.Matching.{Pattern, Bindings, Matches}
+use Rattle.def_spec.specs.Expressions.{Dialect, Expr, Context, in_condition, value}
+use Rattle.def_spec.specs.Outcome.{Clause, Fires}
+use Rattle.def_explain.specs.Heads.{HeadReason, IsHeadReason}
+use Rattle.def_explain.specs.Values.{FaultsAt}
+use Rattle.def_explain.specs.Reasons.{Reason, IsReason, reason_of}
+
+-- there is a reason exactly where no binding is one with which the clause fires
+abbrev pub ReasonWhereNotFired : Type 0
+ReasonWhereNotFired = (d : Dialect) (k : Clause) (c : Context) → ((r : Reason) × IsReason d k c r) ↔ ((b : Bindings) → ¬ Fires d k c b)
+
+-- and there is one at most
+abbrev pub ReasonIsOne : Type 0
+ReasonIsOne = (d : Dialect) (k : Clause) (c : Context) (q r : Reason) → IsReason d k c q → IsReason d k c r → q ≡ r
+
+-- what is computed is the reason
+abbrev pub ReasonIsComputed : Type 0
+ReasonIsComputed = (d : Dialect) (k : Clause) (c : Context) (r : Reason) → (reason_of d k c ≡ Some r) ↔ IsReason d k c r
+
+-- a head has a reason exactly where it matches with no binding
+abbrev pub HeadReasonWhereNotMatched : Type 0
+HeadReasonWhereNotMatched = (p : Pattern) (ts : List Tree) → ((r : HeadReason) × IsHeadReason p ts r) ↔ ((b : Bindings) → ¬ Matches p (list (of_elements ts)) b)
+
+-- an expression of a condition faults at a part of it exactly where it has no value
+abbrev pub FaultWhereNoValue : Type 0
+FaultWhereNoValue = (d : Dialect) (b : Bindings) (c : Context) (e : Expr) → ((x : Expr) × FaultsAt d b c e x) ↔ (value d in_condition b c e ≡ None)

@@ -1,0 +1,27 @@
+//! Why a session tells what it tells: reasons for which a clause of a specification doesn't fire.
+//!
+//! Stands on the match specifications of `def_spec`. Promises, as laws over the definitions: a clause has a
+//! reason exactly where it doesn't fire, one at most, and it is what is computed; a head has one exactly
+//! where it doesn't match; and a condition faults at a part of it exactly where it has no value. There is no
+//! code.
+#![tactic(auto)]
+
+ghost use Rattle.def_explain.specs.Laws.{ReasonWhereNotFired, ReasonIsOne, ReasonIsComputed};
+ghost use Rattle.def_explain.specs.Laws.{HeadReasonWhereNotMatched, FaultWhereNoValue};
+
+/// A clause has a reason exactly where it doesn't fire, and one at most, which is what is computed.
+pub fn a_clause_has_a_reason_or_fires()
+    ensures exactly { ReasonWhereNotFired }
+    ensures one { ReasonIsOne }
+    ensures computed { ReasonIsComputed }
+{}
+
+/// A head has a reason exactly where it doesn't match.
+pub fn a_head_has_a_reason_or_matches()
+    ensures { HeadReasonWhereNotMatched }
+{}
+
+/// A condition faults at a part of it exactly where it has no value.
+pub fn a_fault_is_where_no_value_is()
+    ensures { FaultWhereNoValue }
+{}
