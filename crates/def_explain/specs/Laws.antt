@@ -1,5 +1,5 @@
--- What is promised of reasons (own).
--- Stands on reasons and on which clause fires.
+-- What is promised of reasons and causes (own).
+-- Stands on reasons, on causes, on which clause fires and on what a session makes of an event.
 use Rattle.std.specs.Prelude.{◌≡◌, ◌↔◌, List, Some, None}
 use Rattle.def_term.specs.Tree.{Tree, list, of_elements}
 use Rattle.def_spec.specs.Matching.{Pattern, Bindings, Matches}
@@ -7,7 +7,11 @@ use Rattle.def_spec.specs.Expressions.{Dialect, Expr, Context, in_condition, val
 use Rattle.def_spec.specs.Outcome.{Clause, Fires}
 use Rattle.def_explain.specs.Heads.{HeadReason, IsHeadReason}
 use Rattle.def_explain.specs.Values.{FaultsAt}
+use Rattle.def_node.specs.Event.{Event}
+use Rattle.def_session.specs.State.{Session}
+use Rattle.def_session.specs.Session.{evaluated, told_for}
 use Rattle.def_explain.specs.Reasons.{Reason, IsReason, reason_of}
+use Rattle.def_explain.specs.Causes.{Cause, IsCause, cause_of}
 
 -- there is a reason exactly where no binding is one with which the clause fires
 abbrev pub ReasonWhereNotFired : Type 0
@@ -28,3 +32,15 @@ HeadReasonWhereNotMatched = (p : Pattern) (ts : List Tree) → ((r : HeadReason)
 -- an expression of a condition faults at a part of it exactly where it has no value
 abbrev pub FaultWhereNoValue : Type 0
 FaultWhereNoValue = (d : Dialect) (b : Bindings) (c : Context) (e : Expr) → ((x : Expr) × FaultsAt d b c e x) ↔ (value d in_condition b c e ≡ None)
+
+-- a session that is there has a cause for an event exactly where it tells nothing of it
+abbrev pub CauseWhereNothingTold : Type 0
+CauseWhereNothingTold = (s : Session) (e : Event) → ((x : Cause) × IsCause s e x) ↔ ((told_for s e (evaluated s e)).1 ≡ None)
+
+-- and one at most
+abbrev pub CauseIsOne : Type 0
+CauseIsOne = (s : Session) (e : Event) (x y : Cause) → IsCause s e x → IsCause s e y → x ≡ y
+
+-- what is computed is the cause
+abbrev pub CauseIsComputed : Type 0
+CauseIsComputed = (s : Session) (e : Event) (x : Cause) → (cause_of s e ≡ Some x) ↔ IsCause s e x

@@ -1,3 +1,4 @@
+pub mod Causes
 pub mod Heads
 pub mod Laws
 pub mod Reasons
