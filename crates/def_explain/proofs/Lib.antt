@@ -1,3 +1,5 @@
+mod CauseOfEvents
+mod CauseOfSettings
 mod ClauseReasons
 mod FaultPlaces
 mod HeadStops

@@ -9,7 +9,7 @@ use Rattle.def_spec.specs.Flags.{Flag, send_flag, receive_flag, call_flag, procs
 use Rattle.def_spec.specs.Expressions.{Dialect, Context, Effect}
 use Rattle.def_spec.specs.Outcome.{Clause}
 use Rattle.def_node.specs.Event.{Event, Call, sent, received, called, returned}
-use Rattle.def_session.specs.Settings.{Covering, Setting, off, plain, by, has_among}
+use Rattle.def_session.specs.Settings.{Covering, Setting, off, by, has_among}
 use Rattle.def_session.specs.State.{Session, flags_at}
 use Rattle.def_session.specs.Messages.{process_of, last_message}
 use Rattle.def_session.specs.Session.{evaluated, context, is_marked, all_affected, is_silenced}

@@ -1,13 +1,15 @@
-//! Why a session tells what it tells: reasons for which a clause of a specification doesn't fire.
+//! Why a session tells nothing of an event, and why a clause of a specification doesn't fire.
 //!
-//! Stands on the match specifications of `def_spec`. Promises, as laws over the definitions: a clause has a
-//! reason exactly where it doesn't fire, one at most, and it is what is computed; a head has one exactly
-//! where it doesn't match; and a condition faults at a part of it exactly where it has no value. There is no
-//! code.
+//! Stands on the match specifications of `def_spec` and the sessions of `def_session`. Promises, as laws over
+//! the definitions: a session that is there has a cause exactly where it tells nothing of an event, and a
+//! clause a reason exactly where it doesn't fire, one at most, and it is what is computed; a head has one
+//! exactly where it doesn't match; and a condition faults at a part of it exactly where it has no value.
+//! There is no code.
 #![tactic(auto)]
 
 ghost use Rattle.def_explain.specs.Laws.{ReasonWhereNotFired, ReasonIsOne, ReasonIsComputed};
 ghost use Rattle.def_explain.specs.Laws.{HeadReasonWhereNotMatched, FaultWhereNoValue};
+ghost use Rattle.def_explain.specs.Laws.{CauseWhereNothingTold, CauseIsOne, CauseIsComputed};
 
 /// A clause has a reason exactly where it doesn't fire, and one at most, which is what is computed.
 pub fn a_clause_has_a_reason_or_fires()
@@ -24,4 +26,12 @@ pub fn a_head_has_a_reason_or_matches()
 /// A condition faults at a part of it exactly where it has no value.
 pub fn a_fault_is_where_no_value_is()
     ensures { FaultWhereNoValue }
+{}
+
+/// A session that is there has a cause exactly where it tells nothing of an event, and one at most, which is
+/// what is computed.
+pub fn a_session_has_a_cause_or_tells()
+    ensures exactly { CauseWhereNothingTold }
+    ensures one { CauseIsOne }
+    ensures computed { CauseIsComputed }
 {}
