@@ -3,3 +3,4 @@ mod CauseOfSettings
 mod ClauseReasons
 mod FaultPlaces
 mod HeadStops
+mod Rows

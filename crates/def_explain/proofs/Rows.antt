@@ -1,0 +1,119 @@
+-- Rows: why small clauses don't fire, and why small sessions tell nothing.
+use Rattle.std.proofs.Common.{◌≡◌, ℕ, true, false, List, [], ◌∷◌, Some, None, pos, codes, refl}
+use Rattle.def_term.specs.Tree.{Tree, int, list, none}
+use Rattle.def_term.specs.Names.{Mfa, word}
+use Rattle.def_spec.specs.Flags.{Flags, only, joined, send_flag, call_flag, silent_flag}
+use Rattle.def_spec.specs.Matching.{Pattern, variable, anything, only_term, in_list, no_patterns, and_pattern}
+use Rattle.def_spec.specs.Functions as fn
+use Rattle.def_spec.specs.Expressions.{for_calls, Expr, bound_to, constant, call, and_also, perform, message, Exprs, no_exprs, and_expr, Context}
+use Rattle.def_spec.specs.Outcome.{Clause}
+use Rattle.def_node.specs.Event.{Event, Call, sent, called, returned}
+use Rattle.def_session.specs.Settings.{Setting, off, plain, by, one}
+use Rattle.def_session.specs.State.{Session, live, unset, alive_at_start, with_flags}
+use Rattle.def_explain.specs.Heads.{no_list, other_length, behind_matching}
+use Rattle.def_explain.specs.Reasons.{by_head, by_condition, has_value, faults_at, reason_of}
+use Rattle.def_explain.specs.Causes.{no_mark, no_flag, no_setting, of_named_calls, switched_off, no_clause, silenced, message_false, cause_of}
+
+-- ---- clauses
+
+abbrev number : ℕ → Tree
+number n = int (pos n)
+
+abbrev on : List Tree → Context
+on ts = record { matched_list = ts; me = 100; caller_mfa = None; alive = alive_at_start 1 }
+
+abbrev pair : Pattern → Pattern → Pattern
+pair p q = in_list (and_pattern p (and_pattern q no_patterns))
+
+abbrev unary : fn.Func → Expr → Expr
+unary f e = call f (and_expr e no_exprs)
+
+abbrev above : Expr → Expr → Expr
+above e f = call fn.greater (and_expr e (and_expr f no_exprs))
+
+abbrev clause : Pattern → Exprs → Clause
+clause p es = record { head = p; conditions = es; body = no_exprs }
+
+-- [{['$1','$1'],[],[]}] on [1,2]: the first element matches, and with the second they don't
+pub second_element : reason_of for_calls (clause (pair (variable 1) (variable 1)) no_exprs) (on (number 1 ∷ number 2 ∷ [])) ≡ Some (by_head (behind_matching 1))
+second_element = refl
+
+-- the same on [1,1] fires
+pub equal_elements : reason_of for_calls (clause (pair (variable 1) (variable 1)) no_exprs) (on (number 1 ∷ number 1 ∷ [])) ≡ None
+equal_elements = refl
+
+-- a head of two elements on a list of one
+pub two_for_one : reason_of for_calls (clause (pair anything anything) no_exprs) (on (number 1 ∷ [])) ≡ Some (by_head other_length)
+two_for_one = refl
+
+-- a head that is a term of its own
+pub term_for_list : reason_of for_calls (clause (only_term (word "a")) no_exprs) (on []) ≡ Some (by_head no_list)
+term_for_list = refl
+
+-- {'>','$1',3} where '$1' is 2
+pub false_condition : reason_of for_calls (clause (pair (variable 1) anything) (and_expr (above (bound_to 1) (constant (number 3))) no_exprs)) (on (number 2 ∷ number 0 ∷ [])) ≡ Some (by_condition 0 (has_value (word "false")))
+false_condition = refl
+
+-- {hd,'$1'} where '$1' is [], behind a condition that is true
+pub fault_of_head : reason_of for_calls (clause (pair (variable 1) anything) (and_expr (constant (word "true")) (and_expr (above (unary fn.head (bound_to 1)) (constant (number 3))) no_exprs))) (on (list none ∷ number 0 ∷ [])) ≡ Some (by_condition 1 (faults_at (unary fn.head (bound_to 1))))
+fault_of_head = refl
+
+-- {'andalso',false,{hd,[]}} is false, and doesn't fault
+pub early_stop : reason_of for_calls (clause anything (and_expr (and_also (and_expr (constant (word "false")) (and_expr (unary fn.head (constant (list none))) no_exprs))) no_exprs)) (on []) ≡ Some (by_condition 0 (has_value (word "false")))
+early_stop = refl
+
+-- ---- sessions
+
+abbrev plain_session : Session
+plain_session = unset live (alive_at_start 2)
+
+abbrev flagged : Flags → Session
+flagged f = with_flags plain_session 100 f
+
+abbrev hello : Event
+hello = sent 100 (word "hello") 101 true
+
+abbrev function : Mfa
+function = record { module_name = codes "m"; function_name = codes "f"; arity = 0 }
+
+abbrev local_call : Call
+local_call = record { mfa = function; args = []; named = false; exported = true; caller = None; depth = 1 }
+
+abbrev set_for : Setting → Session → Session
+set_for g s = record s { functions = record { covered = one function; setting = g; local = false } ∷ [] }
+
+-- no flag `send`
+pub without_flag : cause_of plain_session hello ≡ Some (no_flag send_flag)
+without_flag = refl
+
+-- with the flag the send is told
+pub with_flag : cause_of (flagged (only send_flag)) hello ≡ None
+with_flag = refl
+
+-- trace:send(S, false, [])
+pub sends_off : cause_of (record (flagged (only send_flag)) { sending = off }) hello ≡ Some switched_off
+sends_off = refl
+
+-- no command covers m:f/0
+pub uncovered : cause_of (flagged (only call_flag)) (called 100 local_call) ≡ Some no_setting
+uncovered = refl
+
+-- the setting is global, and the call doesn't name the module
+pub global_setting : cause_of (set_for plain (flagged (only call_flag))) (called 100 local_call) ≡ Some of_named_calls
+global_setting = refl
+
+-- no clause fires, with the reason of each
+pub no_clause_fires : cause_of (set_for (by (record { dialect = for_calls; clauses = clause (pair anything anything) no_exprs ∷ clause anything (and_expr (constant (word "false")) no_exprs) ∷ [] })) (flagged (only call_flag))) (called 100 (record local_call { named = true })) ≡ Some (no_clause (by_head other_length ∷ by_condition 0 (has_value (word "false")) ∷ []))
+no_clause_fires = refl
+
+-- {message,false}
+pub false_message : cause_of (set_for (by (record { dialect = for_calls; clauses = record { head = anything; conditions = no_exprs; body = and_expr (perform message (and_expr (constant (word "false")) no_exprs)) no_exprs } ∷ [] })) (flagged (only call_flag))) (called 100 (record local_call { named = true })) ≡ Some message_false
+false_message = refl
+
+-- the flag `silent`
+pub silent_call : cause_of (set_for plain (flagged (joined (only call_flag) (only silent_flag)))) (called 100 (record local_call { named = true })) ≡ Some silenced
+silent_call = refl
+
+-- the return of a frame without a mark
+pub unmarked_return : cause_of (flagged (only call_flag)) (returned 100 function (word "ok") 1) ≡ Some no_mark
+unmarked_return = refl
