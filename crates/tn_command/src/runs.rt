@@ -4,7 +4,8 @@ ghost use Rattle.std.specs.Process.{exit_status};
 ghost use Rattle.tn_text.specs.Watch.{watched_inner, has_failed};
 ghost use Rattle.tn_run.specs.Out.{asked};
 ghost use Rattle.tn_run.specs.Workers.{IsWorkerCount};
-ghost use Rattle.tn_command.specs.Status.{IsStatus, IsFailure, IsWrittenAs, IsWrittenByWorkers, status_of, FAULT_STATUS};
+ghost use Rattle.tn_command.specs.Status.{IsStatus, IsFailure, status_of, FAULT_STATUS};
+ghost use Rattle.tn_command.specs.Status.{IsWrittenAs, IsWrittenByWorkers};
 
 use crate::noted::Noted;
 use crate::recorded::Recorded;

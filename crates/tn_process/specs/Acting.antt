@@ -78,8 +78,8 @@ called_in c q k f = record {
 }
 
 -- with the frame of a call of the function with this number as the newest
-abbrev pub pushed_in : {A : Type 0} → StepContext A → Process A → Calling A → ℕ → Function A → process.Process
-pushed_in c q k i f =
+abbrev pub entered : {A : Type 0} → StepContext A → Process A → Calling A → ℕ → Function A → process.Process
+entered c q k i f =
     let env = env_for_call c.pid (function_of f).params (args_of k.args) in
     record (process_of q) { entry = None; frames = record { function = i; place = 0; env = env; target = k.target } ∷ (process_of q).frames }
 

@@ -13,7 +13,7 @@ ghost use Rattle.tn_process.specs.Views.{frame_of, process_of, act_of};
 ghost use Rattle.tn_process.specs.declared.process.Process.{Process};
 ghost use Rattle.tn_process.specs.Templates.{built_in};
 ghost use Rattle.tn_process.specs.Acting.{Does, Ends, Pops, with_target, with_newest, caller_in};
-ghost use Rattle.tn_process.specs.Acting.{returned_in, resumed_in, leaves_in, called_in, pushed_in};
+ghost use Rattle.tn_process.specs.Acting.{returned_in, resumed_in, leaves_in, called_in, entered};
 ghost use Rattle.tn_process.specs.Acting.{enters_in, enters_function_in, calls_in, spawns_in};
 ghost use Rattle.tn_process.specs.Acting.{sends_in, receives_in, gives_back_in, relinks, relinks_in};
 ghost use Rattle.tn_process.specs.Acting.{performs_in, runs_frame_in, runs_in, begins_in};
@@ -318,7 +318,7 @@ impl<A: Allocator + Copy> Process<A> {
         number: usize,
         function: &Function<A>,
     ) -> Result<(), AllocError>
-        ensures { IfOk result (λ _. process_of self.new ≡ pushed_in context.now self.old calling number function.now) }
+        ensures { IfOk result (λ _. process_of self.new ≡ entered context.now self.old calling number function.now) }
     {
         let args = calling.args.terms;
         let env = Env::for_call(context.alloc, context.pid, &function.params, args)?;
