@@ -1,0 +1,6 @@
+pub mod Views
+pub mod Emitted
+pub mod Places
+pub mod Heads
+pub mod Rooms
+pub mod Walking
