@@ -8,9 +8,9 @@ ghost use Rattle.tn_term.specs.Views.{tree_of, trees_of};
 ghost use Rattle.tn_session.specs.Readings.{IsSettingRead};
 ghost use Rattle.tn_session.specs.Views.{Covers};
 
-use crate::setting::{Covered, Setting};
 use std::alloc::{AllocError, Allocator};
-use tn_spec::{Dialect, SpecFault, spec_of};
+use tn_index::{Covered, Setting};
+use tn_spec::{Dialect, Spec, SpecFault, spec_of};
 use tn_term::{Atom, Mfa, Term};
 
 /// Whether the name is `'_'`.
@@ -196,7 +196,7 @@ pub(crate) fn setting_of<A: Allocator + Copy>(
     alloc: A,
     term: &Term<A>,
     dialect: Dialect,
-) -> Result<Setting<A>, SpecFault<A>>
+) -> Result<Setting<Spec<A>>, SpecFault<A>>
     ensures { IsSettingRead dialect (tree_of term.now) result }
 {
     if term.is_word("true") || is_empty_list(term) {
