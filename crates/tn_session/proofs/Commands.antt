@@ -19,7 +19,7 @@ use Rattle.def_session.specs.State.{Session}
 use Rattle.def_session.specs.Commands.{refused, function_set, function_set_if}
 use Rattle.std.specs.Option.{option_map}
 use Rattle.def_term.specs.Names.{Mfa}
-use Rattle.tn_spec.specs.declared.spec.Spec.{Spec}
+use Rattle.tn_session.specs.declared.compiled.Compiled.{Compiled}
 use Rattle.tn_index.specs.declared.covering.Covering.{Covering}
 use Rattle.tn_index.specs.Views.{covers}
 use Rattle.tn_index.specs.Newest.{newest_of}
@@ -93,13 +93,13 @@ no_options (x ∷ xs) e = absurd (omega arith)
 
 -- ---- from the newest
 
-newest_by : {A : Type 0} (b : Bool) (k : Covering (Spec A) A) (ks : List (Covering (Spec A) A)) (f : Mfa) (x : Bool) → newest_with (settings_seen ks) f x ≡ option_map covering_seen (newest_of ks f x)
+newest_by : {A : Type 0} (b : Bool) (k : Covering (Compiled A) A) (ks : List (Covering (Compiled A) A)) (f : Mfa) (x : Bool) → newest_with (settings_seen ks) f x ≡ option_map covering_seen (newest_of ks f x)
     → (if b then Some (covering_seen k) else newest_with (settings_seen ks) f x) ≡ option_map covering_seen (if b then Some k else newest_of ks f x)
 newest_by true k ks f x older = refl
 newest_by false k ks f x older = older
 
 -- the newest of the code's is the definition's
-pub newest_seen : {A : Type 0} (ks : List (Covering (Spec A) A)) (f : Mfa) (x : Bool) → newest_with (settings_seen ks) f x ≡ option_map covering_seen (newest_of ks f x)
+pub newest_seen : {A : Type 0} (ks : List (Covering (Compiled A) A)) (f : Mfa) (x : Bool) → newest_with (settings_seen ks) f x ≡ option_map covering_seen (newest_of ks f x)
 newest_seen [] f x = refl
 newest_seen (k ∷ ks) f x = newest_by (covers k f x) k ks f x (newest_seen ks f x)
 

@@ -8,9 +8,9 @@ use Rattle.def_session.specs.State as definition
 use Rattle.def_session.specs.Settings as settings
 use Rattle.tn_term.specs.Views.{mfa_seen, alive_of}
 use Rattle.tn_flags.specs.Views.{flags_of}
-use Rattle.tn_spec.specs.Wholes.{spec_seen}
+use Rattle.tn_session.specs.Compilations.{compiled_seen}
 use Rattle.tn_term.specs.declared.mfa.Mfa.{Mfa}
-use Rattle.tn_spec.specs.declared.spec.Spec.{Spec}
+use Rattle.tn_session.specs.declared.compiled.Compiled.{Compiled}
 use Rattle.tn_index.specs.Views.{covered_seen}
 use Rattle.tn_index.specs.declared.covering.Setting.{Setting}
 use Rattle.tn_index.specs.declared.covering.Setting.TheVariants.{Off, Plain, By}
@@ -20,16 +20,16 @@ use Rattle.tn_session.specs.declared.state.Phase.{Phase}
 use Rattle.tn_session.specs.declared.state.Phase.TheVariants.{Live, Destroyed}
 use Rattle.tn_session.specs.declared.state.State.{State}
 
-abbrev pub setting_seen : {A : Type 0} → Setting (Spec A) → settings.Setting
+abbrev pub setting_seen : {A : Type 0} → Setting (Compiled A) → settings.Setting
 setting_seen Off = settings.off
 setting_seen Plain = settings.plain
-setting_seen (By s) = settings.by (spec_seen s)
+setting_seen (By s) = settings.by (compiled_seen s)
 
-abbrev pub covering_seen : {A : Type 0} → Covering (Spec A) A → settings.Covering
+abbrev pub covering_seen : {A : Type 0} → Covering (Compiled A) A → settings.Covering
 covering_seen k = record { covered = covered_seen k.covered; setting = setting_seen k.setting; local = k.local }
 
 -- the newest first
-abbrev pub settings_seen : {A : Type 0} → List (Covering (Spec A) A) → List settings.Covering
+abbrev pub settings_seen : {A : Type 0} → List (Covering (Compiled A) A) → List settings.Covering
 settings_seen ks = map covering_seen ks
 
 abbrev pub phase_seen : Phase → definition.Phase

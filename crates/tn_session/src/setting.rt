@@ -6,16 +6,16 @@ ghost use Rattle.tn_flags.specs.Views.{call_of};
 ghost use Rattle.tn_session.specs.Views.{covering_seen, setting_seen, settings_seen};
 ghost use Rattle.tn_session.specs.Newest.{concerning, setting_in};
 
+use crate::compiled::Compiled;
 use std::alloc::Allocator;
 use tn_flags::Call;
 use tn_index::{Covering, Setting, Settings};
-use tn_spec::Spec;
 
 /// The setting of a command, where it concerns a call that names the module or not.
 fn setting_if<A: Allocator>(
-    covering: &Covering<Spec<A>, A>,
+    covering: &Covering<Compiled<A>, A>,
     named: bool,
-) -> Option<&Setting<Spec<A>>>
+) -> Option<&Setting<Compiled<A>>>
     ensures { concerning (Some (covering_seen covering.now)) named ≡
         setting_in (option_map (λ s. setting_seen s.now) result) }
 {
@@ -29,9 +29,9 @@ fn setting_if<A: Allocator>(
 /// The setting that concerns a call, where there is one. That of a global command concerns the calls
 /// that name the module alone, and an older one never shows through.
 pub(crate) fn setting_for<'a, A: Allocator + Copy>(
-    settings: &'a Settings<Spec<A>, A>,
+    settings: &'a Settings<Compiled<A>, A>,
     call: &Call<A>,
-) -> Option<&'a Setting<Spec<A>>>
+) -> Option<&'a Setting<Compiled<A>>>
     ensures { setting_for (settings_seen settings.now) (call_of call.now) ≡
         setting_in (option_map (λ s. setting_seen s.now) result) }
 {
