@@ -1,6 +1,10 @@
 -- What workers share, a core under its lock, says the same to every thread: type by type, from terms up.
 use denote.RattleType.{RattleType}
-use denote.Param.Send.{IsSend, IsSync, Frees, sendable}
+use mir.Syntax.{Sym}
+use denote.Struct.Declared.{fields, shape}
+use denote.Struct.Tuple.{TupleAt, type_at}
+use denote.Param.Send.{IsSend, IsSync, AllSync, Frees, recorded_sync, struct_sync, sendable}
+use Rattle.std.proofs.Common.{List}
 use Rattle.std.specs.declared.alloc.Allocator.{Ghosts}
 use Rattle.std.proofs.CrossingOver.{crosses}
 use Rattle.tn_term.proofs.term.Term.TheLaws.TheKnot as term_knot
@@ -37,7 +41,13 @@ use Rattle.tn_trace.specs.contracts.keeping.Terms as terms
 use Rattle.tn_trace.specs.contracts.recording.Core as core
 use Rattle.tn_trace.specs.contracts.slot.Slot as slot
 use Rattle.tn_trace.specs.contracts.engine.Engine as engine
+use Rattle.tn_trace.specs.contracts.item.Item as item
+use Rattle.tn_listing.specs.contracts.line.Line as line
+use Rattle.once_cell.proofs.race.once_box.OnceBox.TheSendSync as once_box_sent
+use Rattle.tn_pool.specs.contracts.board.Board as board
 use Rattle.std.proofs.Crossing as heap
+use Rattle.std.specs.contracts.alloc.Global as Heap
+use Rattle.std.specs.contracts.impls.GlobalAllocator.TheImpl.{ghosts}
 use Rattle.tn_term.proofs.alive.Alive.TheSendSync as alive_sent
 use Rattle.tn_flags.proofs.flags.Flags.TheSendSync as flags_sent
 use Rattle.tn_session.proofs.state.Phase.TheSendSync as phase_sent
@@ -239,6 +249,18 @@ module _ (T : RattleType) (g : Ghosts T.Denot) (s : IsSend T) (f : Frees g g.dea
   pub core_field_send : IsSend (core.the_field T g).row
   core_field_send = search (sendable, crosses, program_send, program_field_send, engine_send, engine_field_send, terms_send, terms_field_send, core_send) depth 40 fits 3000 parts 0
 
+  item_send : IsSend (item.the_row T g)
+  item_send = search (sendable, crosses, term_send, term_field_send) depth 40 fits 3000 parts 0
+
+  item_field_send : IsSend (item.the_field T g).row
+  item_field_send = search (sendable, crosses, term_send, term_field_send, item_send) depth 40 fits 3000 parts 0
+
+  line_send : IsSend (line.the_row T g)
+  line_send = search (sendable, crosses, item_send, item_field_send) depth 40 fits 3000 parts 0
+
+  line_field_send : IsSend (line.the_field T g).row
+  line_field_send = search (sendable, crosses, item_send, item_field_send, line_send) depth 40 fits 3000 parts 0
+
   module _ (J : RattleType) (n : naming.Ghosts J.Denot) (js : IsSend J) where
     record_send : IsSend (record_.the_row T J g n)
     record_send = search (sendable, crosses, core_send, core_field_send, head_sent.the_send, front_sent.the_send, place_sent.the_send, place_sent.the_field_send, entry_sent.the_send, entry_sent.the_field_send) depth 40 fits 3000 parts 0
@@ -257,3 +279,42 @@ module _ (T : RattleType) (g : Ghosts T.Denot) (s : IsSend T) (f : Frees g g.dea
 
     pub live_field_sync : IsSync (live.the_field T J g n).row
     live_field_sync = search (sendable, crosses, heap.crosses, book_send, book_field_send, live_sync) depth 40 fits 3000 parts 0
+
+  -- a board of lines, of which threads read terms
+  module _ (y : IsSync T) where
+    atom_sync : IsSync (atom.the_row T g)
+    atom_sync = search (sendable, crosses) depth 40 fits 3000 parts 0
+
+    atom_field_sync : IsSync (atom.the_field T g).row
+    atom_field_sync = search (sendable, crosses, atom_sync) depth 40 fits 3000 parts 0
+
+    term_sync : IsSync (term.the_row T g)
+    term_sync = search (sendable, crosses, atom_sync, atom_field_sync, term_knot.sync-Term) depth 40 fits 3000 parts 0
+
+    term_field_sync : IsSync (term.the_field T g).row
+    term_field_sync = search (sendable, crosses, atom_sync, atom_field_sync, term_knot.sync-Term, term_sync) depth 40 fits 3000 parts 0
+
+    item_sync : IsSync (item.the_row T g)
+    item_sync = search (sendable, crosses, term_sync, term_field_sync) depth 40 fits 3000 parts 0
+
+    item_field_sync : IsSync (item.the_field T g).row
+    item_field_sync = search (sendable, crosses, term_sync, term_field_sync, item_sync) depth 40 fits 3000 parts 0
+
+    line_sync : IsSync (line.the_row T g)
+    line_sync = search (sendable, crosses, item_sync, item_field_sync) depth 40 fits 3000 parts 0
+
+    line_field_sync : IsSync (line.the_field T g).row
+    line_field_sync = search (sendable, crosses, item_sync, item_field_sync, line_sync) depth 40 fits 3000 parts 0
+
+    pub board_sync : IsSync (board.the_row T g)
+    board_sync = search (sendable, crosses, heap.sync, once_box_sent.the_sync, line_send, line_field_send, line_sync, line_field_sync) depth 40 fits 3000 parts 0
+
+    pub board_field_sync : IsSync (board.the_field T g).row
+    board_field_sync = search (sendable, crosses, heap.sync, once_box_sent.the_sync, line_send, line_field_send, line_sync, line_field_sync, board_sync) depth 40 fits 3000 parts 0
+
+pub board_in_heap : IsSync (board.the_row Heap.the_row ghosts)
+board_in_heap = board_sync Heap.the_row ghosts heap.send heap.frees heap.sync
+
+-- what a closure captures, each of which threads may share
+pub captured_sync : (name : Sym) (types : List RattleType) → AllSync (fields (type_at name types)) → IsSync (TupleAt name types)
+captured_sync name types each = recorded_sync _ _ _ (type_at name types).to_one (struct_sync (shape (type_at name types)) each)

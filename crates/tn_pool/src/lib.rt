@@ -7,6 +7,8 @@
 //! comes back; and that all seats come back from the workers, with one receipt for each entry that they made.
 #![tactic(auto)]
 
+mod assembly;
+mod board;
 mod gate;
 mod report;
 mod rule;
@@ -15,6 +17,8 @@ mod turns;
 mod worker;
 mod workers;
 
+pub use assembly::{Assembled, assemble};
+pub use board::Board;
 pub use gate::{Gate, Open};
 pub use report::{PoolFault, Report};
 pub use token::Token;

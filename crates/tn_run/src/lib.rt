@@ -9,7 +9,6 @@
 #![tactic(auto)]
 
 mod acceptance;
-mod closing;
 mod ends;
 mod fault;
 mod laws;
