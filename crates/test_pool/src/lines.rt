@@ -11,14 +11,13 @@ use test_allocator::Refusing;
 use tn_listing::{Line, line_of};
 use tn_live::{Closed, Live, Naming, Opened, Receipt, Seat, Turn};
 use tn_pool::{Board, assemble};
-use tn_program::program;
+use tn_program::{Program, program};
 use tn_script::forms;
 use tn_term::Term;
 use tn_trace::{Core, Item};
 
 /// A process that spawns two others, of which the first is traced.
-const SPAWNS: &str =
-    "{function,m,go,exported,[],[{spawn,'_',{m,kid},[1]},{spawn,'_',{m,kid},[2]}]}.
+const SPAWNS: &str = "{function,m,go,exported,[],[{spawn,'_',{m,kid},[1]},{spawn,'_',{m,kid},[2]}]}.
 {function,m,kid,exported,['X'],[]}.
 {process,m,go,[]}.
 {control,[{session_create,s1,t1,[]},{process,s1,<0.100.0>,true,[procs,set_on_first_spawn]}]}.
@@ -58,7 +57,10 @@ fn number_line(alloc: Global, index: u64, number: i64) -> Result<Line<Global>, F
 fn lines_stay(rt: HostRuntime) -> Result<(), Fail> {
     let alloc = rt.alloc();
     let board = Board::new(alloc, alloc, 1, 4)?;
-    assert!(rt; board.put(number_line(alloc, 3, 30)?).is_ok(), "it came back");
+    assert!(rt;
+        board.put(number_line(alloc, 3, 30)?).is_ok(),
+        "it came back"
+    );
     for _ in 0..2 {
         let line = board.line(1, 3).ok_or("no line")?;
         assert_eq!(rt; line.text(), b"30\n".as_slice());
@@ -77,7 +79,10 @@ fn lines_come_back(rt: HostRuntime) -> Result<(), Fail> {
         return Err("past the board".into());
     };
     assert_eq!(rt; past.text(), b"40\n".as_slice());
-    assert!(rt; board.put(number_line(alloc, 3, 30)?).is_ok(), "it came back");
+    assert!(rt;
+        board.put(number_line(alloc, 3, 30)?).is_ok(),
+        "it came back"
+    );
     let Err(second) = board.put(number_line(alloc, 3, 31)?) else {
         return Err("a place for two".into());
     };
@@ -182,26 +187,34 @@ fn check_boards<J: Naming, R: Wait + Abort>(
     check_output(rt, alloc, &closed, &board, 0)?;
     check_refusals(rt, alloc, &closed, &board)?;
     fill(alloc, &board, receipts, other)?;
-    check_output(rt, alloc, &closed, &board, if other < LINES { 3 } else { LINES })?;
+    check_output(
+        rt,
+        alloc,
+        &closed,
+        &board,
+        if other < LINES { 3 } else { LINES },
+    )?;
     check_refusals(rt, alloc, &closed, &board)
 }
 
-/// The core of the spawns.
-fn spawns(alloc: Global) -> Result<Core<Global>, Fail> {
+/// The program of the spawns.
+fn spawns(alloc: Global) -> Result<Program<Global>, Fail> {
     let forms = forms(alloc, SPAWNS.as_bytes())?;
-    Ok(Core::new(alloc, program(alloc, forms)?)?)
+    Ok(program(alloc, forms)?)
 }
 
 #[test]
 fn all_lines(rt: HostRuntime) -> Result<(), Fail> {
     let alloc = rt.alloc();
-    check_boards::<Brand, _>(&rt, alloc, spawns(alloc)?, Opened::new(), LINES)
+    let core = Core::new(alloc, spawns(alloc)?)?;
+    check_boards::<Brand, _>(&rt, alloc, core, Opened::new(), LINES)
 }
 
 #[test]
 fn all_lines_but_one(rt: HostRuntime) -> Result<(), Fail> {
     let alloc = rt.alloc();
-    check_boards::<Brand, _>(&rt, alloc, spawns(alloc)?, Opened::new(), 2)
+    let core = Core::new(alloc, spawns(alloc)?)?;
+    check_boards::<Brand, _>(&rt, alloc, core, Opened::new(), 2)
 }
 
 /// Each growth of a new board is refused in turn.

@@ -57,7 +57,10 @@ fn check_board(rt: &impl Abort, board: &Board<Global>) -> Result<(), Fail> {
     let first = board.line(1, 0).ok_or("no first line")?;
     assert_eq!(rt; first.text(), b"{trace,<0.102.0>,'receive',1}\n".as_slice());
     let second = board.line(1, 1).ok_or("no second line")?;
-    assert_eq!(rt; second.text(), b"{trace,<0.102.0>,'receive',2}\n".as_slice());
+    assert_eq!(rt;
+        second.text(),
+        b"{trace,<0.102.0>,'receive',2}\n".as_slice()
+    );
     assert!(rt; board.line(1, 2).is_none() && board.line(2, 0).is_none());
     Ok(())
 }
