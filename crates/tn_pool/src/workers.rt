@@ -141,9 +141,9 @@ fn refused<A: Allocator + Copy, J: Naming>(alloc: A, seats: Vec<Seat<A, J>, A>) 
 /// Runs a worker for each seat, numbered from 0 in the seats' order: each takes at most so many turns, in a
 /// thread of its own where one can be made, else on the caller's. A turn takes a token from the run queue,
 /// tells the gate, takes the step of the token's pick, tells the gate again and gives the token back; one
-/// that finds no token counts too. Once the lock is free, the lines of the step's messages are put on the
-/// board, where they can be made and have an empty place there. All seats come back, and for each entry that a seat made there is one
-/// receipt. The caller gives seats of this lock alone.
+/// that finds no token counts too. Once the lock is free, the line of each message that the step added is
+/// put on the board; one that can't be made or put there is passed over. All seats come back, and for each
+/// entry that a seat made there is one receipt. The caller gives seats of this lock alone.
 ///
 /// A worker ends early where the journal is full, which is no fault; where its step is answered another
 /// fault; and where memory is refused, for a receipt or for giving its token back. No turn is taken where
