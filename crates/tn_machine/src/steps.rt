@@ -1,12 +1,16 @@
 // One step of the machine.
-ghost use Rattle.std.specs.Prelude.{◌≡◌, ◌+◌, ◌<◌, ◌^◌, IfOk, length, map};
-ghost use Rattle.def_machine.specs.Machine.{built};
+ghost use Rattle.std.specs.Prelude.{◌≡◌, ◌+◌, ◌<◌, ◌^◌, ◌∷◌, [], IfOk, length};
+ghost use Rattle.std.specs.Option.{option_map};
+ghost use Rattle.def_spec.specs.Functions as table;
+ghost use Rattle.def_spec.specs.Functions.{tail};
 ghost use Rattle.def_machine.specs.Validity.{Each, reads};
 ghost use Rattle.tn_action.specs.Steps.{AreBehind};
 ghost use Rattle.tn_action.specs.Views.{effect_list};
 ghost use Rattle.tn_code.specs.Views.{instruction_of, kind_of};
 ghost use Rattle.tn_guard.specs.Views.{value_seen};
-ghost use Rattle.tn_machine.specs.Steps.{Acts, GoesOnIf, HasRoom, IsPerformed, Sets, SetsOrFaults, SetsOrLeaves};
+ghost use Rattle.tn_machine.specs.Steps.{Acts, GoesOnIf, HasRoom, Sets, SetsOrFaults, SetsOrLeaves};
+ghost use Rattle.tn_machine.specs.Steps.{IsApplied, IsBuilt, IsPerformed, IsPerformedOn};
+ghost use Rattle.tn_spec.specs.Views.{func_of};
 ghost use Rattle.tn_machine.specs.Views.{IsSetIn};
 
 use crate::registers::{SomeValues, count, element, is_of_kind, put, value_in, values_in};
@@ -64,7 +68,7 @@ pub fn step<'a, A: Allocator + Copy>(
             from,
             place: away,
         } => {
-            let taken = apply(Func::Tail, &[value_in(registers, *from)], scene.context.me);
+            let taken = rest(value_in(registers, *from), scene.context.me);
             Ok(set_or_leave(registers, *to, taken, place, *away))
         }
         Instr::TestKind {
@@ -87,8 +91,7 @@ pub fn step<'a, A: Allocator + Copy>(
         }
         Instr::Jump { place: away } => Ok(Next::Place(*away)),
         Instr::Build { kind, to, from } => {
-            let values = values_in(scene.arena, registers, from.as_slice())?;
-            let built = build(scene.arena, *kind, &values)?;
+            let built = build(scene.arena, registers, *kind, from.as_slice())?;
             Ok(set(registers, *to, built, place))
         }
         Instr::Apply {
@@ -97,8 +100,7 @@ pub fn step<'a, A: Allocator + Copy>(
             from,
             on_fault,
         } => {
-            let values = values_in(scene.arena, registers, from.as_slice())?;
-            let value = apply(*func, values.as_slice(), scene.context.me);
+            let value = applied(*func, registers, from.as_slice(), scene)?;
             Ok(set_applied(registers, *to, value, *on_fault, place))
         }
         Instr::Perform {
@@ -107,8 +109,11 @@ pub fn step<'a, A: Allocator + Copy>(
             to,
             from,
         } => {
-            let values = values_in(scene.arena, registers, from.as_slice())?;
-            let value = performed(*dialect, *action, &values, effects, scene)?;
+            let asked = Asked {
+                dialect: *dialect,
+                action: *action,
+            };
+            let value = performed_on(asked, registers, from.as_slice(), effects, scene)?;
             Ok(set(registers, *to, value, place))
         }
         Instr::EndMatch => Ok(Next::Matched),
@@ -180,14 +185,24 @@ fn go_on_if(holds: bool, place: usize, away: usize) -> Next
     }
 }
 
-/// The tuple or list of the values.
+/// The list of the elements behind the first, where there is one.
+fn rest<'a, A: Allocator>(value: Value<'a, A>, me: u32) -> Option<Value<'a, A>>
+    ensures { option_map value_seen result ≡ table.apply tail (value_seen value.entry ∷ []) me }
+{
+    apply(Func::Tail, &[value], me)
+}
+
+/// The tuple or list of the values in some registers.
 fn build<'a, A: Allocator + Copy>(
     arena: &'a Bump<A>,
+    registers: &[Option<Value<'a, A>>],
     kind: Kind,
-    values: &SomeValues<'a, A>,
+    from: &[usize],
 ) -> Result<Value<'a, A>, AllocError>
-    ensures { IfOk result (λ v. value_seen v ≡ built (kind_of kind) (map value_seen values.now.items)) }
+    requires { Each (λ r. IsSetIn registers.now r) from.now }
+    ensures { IfOk result (λ v. IsBuilt registers.now (kind_of kind) from.now v) }
 {
+    let values = values_in(arena, registers, from)?;
     let items = arena.try_alloc_slice_copy(values.as_slice())?;
     match kind {
         Kind::Tuple => Ok(Value::Tuple(items)),
@@ -195,18 +210,58 @@ fn build<'a, A: Allocator + Copy>(
     }
 }
 
-/// The value of an action, `'EXIT'` where it faults; its effect goes behind the others.
-fn performed<'a, A: Allocator + Copy>(
+/// The value of a function on the values in some registers.
+fn applied<'a, A: Allocator + Copy>(
+    func: Func,
+    registers: &[Option<Value<'a, A>>],
+    from: &[usize],
+    scene: &Scene<'a, '_, A>,
+) -> Result<Option<Value<'a, A>>, AllocError>
+    requires { Each (λ r. IsSetIn registers.now r) from.now }
+    ensures { IfOk result (λ v. IsApplied scene.now registers.now (func_of func) from.now v) }
+{
+    let values = values_in(scene.arena, registers, from)?;
+    Ok(apply(func, values.as_slice(), scene.context.me))
+}
+
+/// An action, in a dialect.
+#[derive(Clone, Copy)]
+struct Asked {
     dialect: Dialect,
     action: Action,
+}
+
+/// The value of an action on the values in some registers, `'EXIT'` where it faults; its effect goes behind
+/// the others.
+fn performed_on<'a, A: Allocator + Copy>(
+    asked: Asked,
+    registers: &[Option<Value<'a, A>>],
+    from: &[usize],
+    effects: &mut Vec<Effect<A>, A>,
+    scene: &Scene<'a, '_, A>,
+) -> Result<Value<'a, A>, AllocError>
+    requires { Each (λ r. IsSetIn registers.now r) from.now }
+    ensures { IfOk result (λ v. IsPerformedOn scene.now asked registers.now from.now v effects.old effects.new) }
+{
+    let values = values_in(scene.arena, registers, from)?;
+    let value = performed(asked, &values, effects, scene)?;
+    Ok(value)
+}
+
+/// The value of an action on some values, `'EXIT'` where it faults; its effect goes behind the others.
+fn performed<'a, A: Allocator + Copy>(
+    asked: Asked,
     values: &SomeValues<'a, A>,
     effects: &mut Vec<Effect<A>, A>,
     scene: &Scene<'a, '_, A>,
 ) -> Result<Value<'a, A>, AllocError>
-    ensures { IfOk result (λ v. IsPerformed scene.now dialect action values.now.items v effects.old effects.new) }
+    ensures { IfOk result (λ v. IsPerformed scene.now asked values.now.items v effects.old effects.new) }
 {
-    let of_dialect = Scene { dialect, ..*scene };
-    let Some(acted) = perform(action, values.as_slice(), &of_dialect)? else {
+    let of_dialect = Scene {
+        dialect: asked.dialect,
+        ..*scene
+    };
+    let Some(acted) = perform(asked.action, values.as_slice(), &of_dialect)? else {
         return Ok(Value::Word(Word::Exit));
     };
     add(acted.effect, effects)?;

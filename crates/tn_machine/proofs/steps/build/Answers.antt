@@ -7,11 +7,17 @@ use Rattle.tn_guard.proofs.Views.{value_seen_tuple, value_seen_list}
 use Rattle.tn_machine.proofs.steps.build.Goals as goal
 
 pub returns-in-Tuple : goal.returns-in-Tuple
-returns-in-Tuple g c =
-    value_seen_tuple _ ∙ ap (λ vs. tuple (values_seen vs)) (c.in_ok-items.ensures ∙ c.as_slice.ensures)
-    ∙ sym (ap (λ k. built (kind_of k) (map value_seen c.args.values.now.items)) c.in-Tuple.is)
+returns-in-Tuple g c = (
+  c.in_ok-values.values.items,
+  c.in_ok-values.ensures,
+  value_seen_tuple _ ∙ ap (λ vs. tuple (values_seen vs)) (c.in_ok-items.ensures ∙ c.as_slice.ensures)
+      ∙ sym (ap (λ k. built (kind_of k) (map value_seen c.in_ok-values.values.items)) c.in-Tuple.is),
+)
 
-pub returns-in-List : goal.returns-in-List
-returns-in-List g c =
-    value_seen_list _ ∙ ap (λ vs. list (values_seen vs)) (c.in_ok-items.ensures ∙ c.as_slice.ensures)
-    ∙ sym (ap (λ k. built (kind_of k) (map value_seen c.args.values.now.items)) c.in-List.is)
+pub returns : goal.returns
+returns g c = (
+  c.in_ok-values.values.items,
+  c.in_ok-values.ensures,
+  value_seen_list _ ∙ ap (λ vs. list (values_seen vs)) (c.in_ok-items.ensures ∙ c.as_slice.ensures)
+      ∙ sym (ap (λ k. built (kind_of k) (map value_seen c.in_ok-values.values.items)) c.in-List.is),
+)

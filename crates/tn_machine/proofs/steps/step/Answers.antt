@@ -1,5 +1,4 @@
 use Rattle.std.proofs.Common.{Some, refl, sym, ap, ◌∙◌, map, ◌==◌}
-use Rattle.def_spec.specs.Functions as table
 use Rattle.def_machine.specs.Machine.{does, setting, going_to, terms_in}
 use Rattle.tn_action.specs.Views.{context_seen, effect_seen}
 use Rattle.tn_code.specs.Views.{instruction_of, kind_of, fault_of}
@@ -38,7 +37,7 @@ returns-in-TakeElement g c =
 pub returns-in-TakeRest : goal.returns-in-TakeRest
 returns-in-TakeRest g c =
     leaves-so c.args.scene.now c.args.instr.now c.args.place c.args.registers.now c.set_or_leave-in-TakeRest.new.registers c.args.effects.now c.set_or_leave-in-TakeRest.result c.in-TakeRest.to c.in-TakeRest.away _ c.set_or_leave-in-TakeRest.ensures _ (ap instruction_of c.in-TakeRest.is)
-    (rest-does (context_seen c.args.scene.now.context.now) (registers_of c.args.registers.now) (map effect_seen c.args.effects.now.items) c.in-TakeRest.to c.in-TakeRest.from c.in-TakeRest.away _ _ c.value_in-in-TakeRest.ensures c.apply-taken.ensures)
+    (rest-does (context_seen c.args.scene.now.context.now) (registers_of c.args.registers.now) (map effect_seen c.args.effects.now.items) c.in-TakeRest.to c.in-TakeRest.from c.in-TakeRest.away _ _ c.value_in-in-TakeRest.ensures c.rest-taken.ensures)
 
 pub returns-in-TestKind : goal.returns-in-TestKind
 returns-in-TestKind g c =
@@ -63,16 +62,18 @@ returns-in-Jump g c =
 
 pub returns-in_ok-built-in-Build : goal.returns-in_ok-built-in-Build
 returns-in_ok-built-in-Build g c =
+    let made = c.in_ok-built-in-Build.ensures in
     sets-so c.args.scene.now c.args.instr.now c.args.place c.args.registers.now c.set-in-Build.new.registers c.args.effects.now c.set-in-Build.result c.args.effects.now c.in-Build.to _ c.set-in-Build.ensures _ (ap instruction_of c.in-Build.is)
-    (build-does (context_seen c.args.scene.now.context.now) (registers_of c.args.registers.now) (map effect_seen c.args.effects.now.items) (kind_of c.in-Build.kind) c.in-Build.to c.in-Build.from.items (map value_seen c.in_ok-values-in-Build.values.items) _ (ap (terms_in (registers_of c.args.registers.now)) (sym c.as_slice.ensures.value) ∙ c.in_ok-values-in-Build.ensures) c.in_ok-built-in-Build.ensures)
+    (build-does (context_seen c.args.scene.now.context.now) (registers_of c.args.registers.now) (map effect_seen c.args.effects.now.items) (kind_of c.in-Build.kind) c.in-Build.to c.in-Build.from.items (map value_seen made.0) _ (ap (terms_in (registers_of c.args.registers.now)) (sym c.as_slice.ensures.value) ∙ made.1) made.2)
 
-pub returns-in_ok-values-in-Apply : goal.returns-in_ok-values-in-Apply
-returns-in_ok-values-in-Apply g c =
+pub returns-in_ok-value-in-Apply : goal.returns-in_ok-value-in-Apply
+returns-in_ok-value-in-Apply g c =
+    let made = c.in_ok-value-in-Apply.ensures in
     faults-so c.args.scene.now c.args.instr.now c.args.place c.args.registers.now c.set_applied.new.registers c.args.effects.now c.set_applied.result c.in-Apply.to c.in-Apply.on_fault _ c.set_applied.ensures _ (ap instruction_of c.in-Apply.is)
-    (apply-does (context_seen c.args.scene.now.context.now) (registers_of c.args.registers.now) (map effect_seen c.args.effects.now.items) (func_of c.in-Apply.func) c.in-Apply.to c.in-Apply.from.items (fault_of c.in-Apply.on_fault) (map value_seen c.in_ok-values-in-Apply.values.items) _ (ap (terms_in (registers_of c.args.registers.now)) (sym c.as_slice-in-Apply.ensures.value) ∙ c.in_ok-values-in-Apply.ensures)
-    (c.apply-value.ensures ∙ ap (λ vs. table.apply (func_of c.in-Apply.func) (map value_seen vs) c.args.scene.now.context.now.me) c.as_slice-in-Apply-2.ensures))
+    (apply-does (context_seen c.args.scene.now.context.now) (registers_of c.args.registers.now) (map effect_seen c.args.effects.now.items) (func_of c.in-Apply.func) c.in-Apply.to c.in-Apply.from.items (fault_of c.in-Apply.on_fault) (map value_seen made.0) _ (ap (terms_in (registers_of c.args.registers.now)) (sym c.as_slice-in-Apply.ensures.value) ∙ made.1) made.2)
 
 pub returns-in_ok-value-in-Perform : goal.returns-in_ok-value-in-Perform
 returns-in_ok-value-in-Perform g c =
-    sets-so c.args.scene.now c.args.instr.now c.args.place c.args.registers.now c.set-in-Perform.new.registers c.args.effects.now c.set-in-Perform.result c.performed.new.effects c.in-Perform.to _ c.set-in-Perform.ensures _ (ap instruction_of c.in-Perform.is)
-    (perform-does (context_seen c.args.scene.now.context.now) (registers_of c.args.registers.now) (map effect_seen c.args.effects.now.items) (dialect_of c.in-Perform.dialect) (action_of c.in-Perform.action) c.in-Perform.to c.in-Perform.from.items (map value_seen c.in_ok-values-in-Perform.values.items) _ _ (ap (terms_in (registers_of c.args.registers.now)) (sym c.as_slice-in-Perform.ensures.value) ∙ c.in_ok-values-in-Perform.ensures) c.in_ok-value-in-Perform.ensures.value c.in_ok-value-in-Perform.ensures.effects)
+    let made = c.in_ok-value-in-Perform.ensures in
+    sets-so c.args.scene.now c.args.instr.now c.args.place c.args.registers.now c.set-in-Perform.new.registers c.args.effects.now c.set-in-Perform.result c.performed_on.new.effects c.in-Perform.to _ c.set-in-Perform.ensures _ (ap instruction_of c.in-Perform.is)
+    (perform-does (context_seen c.args.scene.now.context.now) (registers_of c.args.registers.now) (map effect_seen c.args.effects.now.items) (dialect_of c.in-Perform.dialect) (action_of c.in-Perform.action) c.in-Perform.to c.in-Perform.from.items (map value_seen made.0) _ _ (ap (terms_in (registers_of c.args.registers.now)) (sym c.as_slice-in-Perform.ensures.value) ∙ made.1) made.2.value made.2.effects)
