@@ -698,6 +698,7 @@ fn many_clauses(alloc: Global) -> Result<String, Fail> {
 fn the_last_of_many_clauses(rt: HostRuntime) -> Result<(), Fail> {
     let alloc = rt.alloc();
     let spec = spec_in(alloc, &many_clauses(alloc)?, Dialect::Call)?;
+    let alive = two_alive();
     for (list, wanted) in &[
         ("[64]", "[{message,last}]"),
         ("[63]", "[{message,63}]"),
@@ -705,7 +706,7 @@ fn the_last_of_many_clauses(rt: HostRuntime) -> Result<(), Fail> {
         ("[]", "no_match"),
     ] {
         let list = elements(alloc, list)?;
-        let context = context(list.as_slice(), None, &two_alive());
+        let context = context(list.as_slice(), None, &alive);
         assert!(rt; is_outcome(alloc, &spec, &context, wanted)?, "not {wanted}");
     }
     Ok(())
