@@ -2,8 +2,8 @@
 
 use crate::reason::HeadReason;
 use smallvec::SmallVec;
-use std::alloc::{AllocError, Allocator};
-use tn_guard::Parts;
+use std::alloc::{AllocError, Allocator, Global};
+use tn_guard::{Parts, Value};
 use tn_head::bind_on;
 use tn_spec::{Head, Pattern};
 
@@ -39,4 +39,17 @@ fn first_stop<'a, P: Allocator, A: Allocator, B: Allocator + Copy>(
         }
     }
     Ok(None)
+}
+
+#[test]
+fn a_list_of_one_under_a_head_of_none(rt: HostRuntime) -> Result<(), AllocError> {
+    let alloc = rt.alloc();
+    let list: [Value<Global>; 1] = [Value::truth(true)];
+    let head: Head<Global> = Head::List(Vec::new(alloc));
+    let other = match head_reason(alloc, &head, Parts::Values(&list))? {
+        Some(HeadReason::OtherLength) => true,
+        _ => false,
+    };
+    assert!(rt; other);
+    Ok(())
 }
