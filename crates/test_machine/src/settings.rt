@@ -146,20 +146,20 @@ fn walk<A: Allocator + Copy>(rt: &impl Abort, alloc: A, known: usize) -> Result<
     assert!(rt; known <= functions.len());
     let of_program = &functions[..known];
     let mut settings = Settings::new(alloc);
-    let mut newest = &NO_COMMAND;
+    let mut newest = NO_COMMAND;
     let mut refused = 0;
     for (place, command) in COMMANDS.iter().enumerate() {
-        check_newest(rt, &settings, &functions, newest);
+        check_newest(rt, &settings, &functions, &newest);
         let first = covering(alloc, command, place + 1)?;
         if settings.set(of_program, first).is_err() {
-            check_newest(rt, &settings, &functions, newest);
+            check_newest(rt, &settings, &functions, &newest);
             let again = covering(alloc, command, place + 1)?;
             settings.set(of_program, again)?;
             refused = place + 1;
         }
-        newest = &command.2;
+        newest = command.2;
     }
-    check_newest(rt, &settings, &functions, newest);
+    check_newest(rt, &settings, &functions, &newest);
     Ok(refused)
 }
 
