@@ -9,6 +9,7 @@ pub mod Inside
 pub mod Safe
 pub mod Placed
 pub mod Endings
+pub mod Folded
 pub mod Compiled
 pub mod Checked
 mod Rows

@@ -2,13 +2,13 @@
 use Rattle.std.proofs.Common.{◌≡◌, [], ◌∷◌, pos, true, false, refl, Ok}
 use Rattle.def_term.specs.Tree.{int, tuple, list, none, more}
 use Rattle.def_term.specs.Names.{word}
-use Rattle.def_spec.specs.Matching.{variable, anything, in_list, no_patterns, and_pattern}
+use Rattle.def_spec.specs.Matching.{variable, anything, only_term, in_tuple, in_list, no_patterns, and_pattern}
 use Rattle.def_spec.specs.Functions as fn
 use Rattle.def_spec.specs.Functions.{truth}
 use Rattle.def_spec.specs.Expressions.{for_calls, for_sends, message, bound_to, all_bound, constant, list_of, call, or_else, perform, no_exprs, and_expr}
 use Rattle.def_spec.specs.Outcome.{Spec}
 use Rattle.def_spec.specs.Reading.{spec_of}
-use Rattle.def_machine.specs.Instructions.{kind_list, goes_on_at, gives_exit, load_constant, load_list, take_element, test_kind, test_length, test_equal, jump, build, apply_function, perform_action, end_with_match, end_without_match}
+use Rattle.def_machine.specs.Instructions.{kind_tuple, kind_list, goes_on_at, gives_exit, load_constant, load_list, take_element, test_kind, test_length, test_equal, jump, build, apply_function, perform_action, end_with_match, end_without_match}
 use Rattle.def_machine.specs.Compiling.{code_of}
 use Rattle.def_machine.specs.Checking.{is_checked}
 
@@ -55,6 +55,17 @@ same_variable : code_of (record { dialect = for_calls; clauses = record { head =
     ∷ build kind_list 3 [] ∷ apply_function fn.head 3 (3 ∷ []) gives_exit ∷ perform_action for_calls message 3 (3 ∷ []) ∷ end_with_match
     ∷ end_without_match ∷ []
 same_variable = refl
+
+-- [{[{'$1',[a,{1}]},[2,'_'],{3}],[],[]}]: each part without a variable and without '_' is one constant
+constant_is_folded : code_of (record { dialect = for_calls; clauses = record { head = in_list (and_pattern (in_tuple (and_pattern (variable 1) (and_pattern (in_list (and_pattern (only_term (word "a")) (and_pattern (in_tuple (and_pattern (only_term (int (pos 1))) no_patterns)) no_patterns))) no_patterns))) (and_pattern (in_list (and_pattern (only_term (int (pos 2))) (and_pattern anything no_patterns))) (and_pattern (in_tuple (and_pattern (only_term (int (pos 3))) no_patterns)) no_patterns))); conditions = no_exprs; body = no_exprs } ∷ [] }) ≡
+    load_list 0 ∷ test_kind 0 kind_list 21
+    ∷ take_element 1 0 0 21 ∷ test_kind 1 kind_tuple 21 ∷ take_element 2 1 0 21
+    ∷ take_element 3 1 1 21 ∷ load_constant 4 (list (more (word "a") (more (tuple (more (int (pos 1)) none)) none))) ∷ test_equal 4 3 21 ∷ test_length 1 2 21
+    ∷ take_element 5 0 1 21 ∷ test_kind 5 kind_list 21 ∷ take_element 6 5 0 21 ∷ load_constant 7 (int (pos 2)) ∷ test_equal 7 6 21 ∷ take_element 8 5 1 21 ∷ test_length 5 2 21
+    ∷ take_element 9 0 2 21 ∷ load_constant 10 (tuple (more (int (pos 3)) none)) ∷ test_equal 10 9 21 ∷ test_length 0 3 21
+    ∷ end_with_match
+    ∷ end_without_match ∷ []
+constant_is_folded = refl
 
 -- [{'$1',[{'orelse',{is_list,'$1'},true}],[{message,'$$'}]}]: the test that is true jumps past the others
 first_that_is_true : code_of (record { dialect = for_sends; clauses = record { head = variable 1; conditions = and_expr (or_else (and_expr (call fn.is_list (and_expr (bound_to 1) no_exprs)) (and_expr (constant (truth true)) no_exprs))) no_exprs; body = and_expr (perform message (and_expr all_bound no_exprs)) no_exprs } ∷ [] }) ≡

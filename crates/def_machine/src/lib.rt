@@ -3,12 +3,13 @@
 //!
 //! Stands on def_term and def_spec. Promises, as laws: from each state at most one step is possible, and
 //! none at the end; valid code comes to an end in every context, in at most as many steps as it has
-//! instructions; code that the test accepts is valid; and the code of a sound specification is valid, and
-//! ends with the specification's outcome.
+//! instructions; code that the test accepts is valid; folded heads match alike; and the code of a sound
+//! specification is valid, and ends with the specification's outcome.
 #![tactic(auto)]
 
 ghost use Rattle.def_machine.specs.Laws.{StepIsOne, NoStepFromTheEnd, RunsEndAlike, ValidCodeEnds};
-ghost use Rattle.def_machine.specs.Laws.{CheckedCodeIsValid, CompiledCodeIsValid, CompiledCodeEndsWithTheOutcome};
+ghost use Rattle.def_machine.specs.Laws.{CheckedCodeIsValid, FoldedHeadsMatchAlike};
+ghost use Rattle.def_machine.specs.Laws.{CompiledCodeIsValid, CompiledCodeEndsWithTheOutcome};
 
 /// From each state of any code at most one step is possible, and none at the end; so two runs from one
 /// state end alike.
@@ -27,6 +28,12 @@ pub fn valid_code_ends()
 /// Code that the test accepts is valid.
 pub fn checked_code_is_valid()
     ensures { CheckedCodeIsValid }
+{}
+
+/// A head in which each part that one term alone matches is that term matches what the head matches, with
+/// the same binding ("Match Specifications in Erlang", "Grammar").
+pub fn folded_heads_match_alike()
+    ensures { FoldedHeadsMatchAlike }
 {}
 
 /// The code of a sound specification is valid. In every context it has a run of at most as many steps as

@@ -10,7 +10,9 @@ use Rattle.def_machine.specs.Instructions.{goes_on_at, gives_exit, Instruction, 
 use Rattle.def_machine.specs.Validity.{Each, ways, Valid}
 use Rattle.def_machine.specs.Compiling.{clause_code, clauses_code, code_of}
 use Rattle.def_machine.proofs.Compiled.{compiled_code_is_valid}
+use Rattle.def_machine.specs.Folding.{folded_clause}
 use Rattle.def_machine.proofs.Fine.{sound-fine}
+use Rattle.def_machine.proofs.Folded.{folded-fine}
 use Rattle.def_machine.proofs.Inside.{StaysInside, clauses_inside}
 use Rattle.tn_code.specs.OneProof.{valid-prop}
 use Rattle.tn_spec.specs.Views.{clause_seen}
@@ -22,12 +24,12 @@ pub clauses_here : {A : Type 0} (ks : List (Clause A)) (i : ℕ) (k : Clause A) 
 clauses_here ks i k below is = ap (map clause_seen) (drop_more ks i k below) ∙ ap (λ q. clause_seen q ∷ map clause_seen (drop (i + 1) ks)) (sym is)
 
 -- one clause more in front
-pub clauses-more : (d : ex.Dialect) (ks rest : List outcome.Clause) (k : outcome.Clause) (end old new : List Instruction) → ks ≡ k ∷ rest → old ≡ clauses_emitted d rest end → new ≡ clause_code d k old → new ≡ clauses_emitted d ks end
-clauses-more d ks rest k end old new is before after = after ∙ ap (clause_code d k) before ∙ sym (ap (λ y. clauses_emitted d y end) is)
+pub clauses-more : (d : ex.Dialect) (ks rest : List outcome.Clause) (k : outcome.Clause) (end old new : List Instruction) → ks ≡ k ∷ rest → old ≡ clauses_emitted d rest end → new ≡ clause_code d (folded_clause k) old → new ≡ clauses_emitted d ks end
+clauses-more d ks rest k end old new is before after = after ∙ ap (clause_code d (folded_clause k)) before ∙ sym (ap (λ y. clauses_emitted d y end) is)
 
-pub clauses-are : (d : ex.Dialect) (ks : List outcome.Clause) → clauses_emitted d ks (end_without_match ∷ []) ≡ clauses_code d ks
+pub clauses-are : (d : ex.Dialect) (ks : List outcome.Clause) → clauses_emitted d ks (end_without_match ∷ []) ≡ clauses_code d (map folded_clause ks)
 clauses-are d [] = refl
-clauses-are d (k ∷ ks) = ap (clause_code d k) (clauses-are d ks)
+clauses-are d (k ∷ ks) = ap (clause_code d (folded_clause k)) (clauses-are d ks)
 
 -- ---- jumps
 
@@ -57,8 +59,10 @@ jumps-prop : (code : List Instruction) → IsProp (JumpsInside code)
 jumps-prop [] = Unit-prop
 jumps-prop (i ∷ rest) = ×_prop le_prop (jumps-prop rest)
 
-pub sound-jumps : (d : ex.Dialect) (s : outcome.Spec) → ∥ IsSound d s ∥₁ → JumpsInside (clauses_code d s.clauses)
-sound-jumps d s h = ∥∥₁_elim h (jumps-prop (clauses_code d s.clauses)) (λ x. jumps-inside (clauses_code d s.clauses) (clauses_inside d s.clauses (sound-fine d s.clauses x.clauses)))
+pub sound-jumps : (d : ex.Dialect) (s : outcome.Spec) → ∥ IsSound d s ∥₁ → JumpsInside (clauses_code d (map folded_clause s.clauses))
+sound-jumps d s h =
+    let ks : List outcome.Clause = map folded_clause s.clauses in
+    ∥∥₁_elim h (jumps-prop (clauses_code d ks)) (λ x. jumps-inside (clauses_code d ks) (clauses_inside d ks (folded-fine s.clauses (sound-fine d s.clauses x.clauses))))
 
 pub sound-valid : (s : outcome.Spec) → ∥ IsSound s.dialect s ∥₁ → Valid (code_of s)
 sound-valid s h = ∥∥₁_elim h (valid-prop (code_of s)) (λ x. compiled_code_is_valid s x)

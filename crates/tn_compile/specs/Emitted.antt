@@ -5,6 +5,7 @@ use Rattle.def_spec.specs.Expressions.{Dialect, Expr, Exprs}
 use Rattle.def_spec.specs.Outcome.{Clause}
 use Rattle.def_machine.specs.Instructions.{Instruction}
 use Rattle.def_machine.specs.Compiling.{expr_code, exprs_code, while_true_code, until_true_code, clause_code}
+use Rattle.def_machine.specs.Folding.{folded_clause}
 use Rattle.tn_spec.specs.Views.{dialect_of}
 use Rattle.tn_code.specs.Views.{instructions_of}
 use Rattle.tn_code.specs.declared.instr.Instr.{Instr}
@@ -24,10 +25,10 @@ while_emitted s es d g k = while_true_code (dialect_of s.dialect) (part_of s.par
 abbrev pub until_emitted : Scene → Exprs → (d g : ℕ) → List Instruction → List Instruction
 until_emitted s es d g k = until_true_code (dialect_of s.dialect) (part_of s.part) s.left (variables_seen s.variables.now) es d g k
 
--- the code of clauses, and then what follows where none fires
+-- the code of clauses, their heads folded, and then what follows where none fires
 abbrev pub clauses_emitted : Dialect → List Clause → List Instruction → List Instruction
 clauses_emitted d [] k = k
-clauses_emitted d (c ∷ cs) k = clause_code d c (clauses_emitted d cs k)
+clauses_emitted d (c ∷ cs) k = clause_code d (folded_clause c) (clauses_emitted d cs k)
 
 -- ---- what is put in front of code, which stands from its end to its beginning
 
@@ -44,7 +45,7 @@ abbrev pub EmitsUntilTrue : {A : Type 0} → Scene → Exprs → (d g : ℕ) →
 EmitsUntilTrue s es d g old new = code_left new ≡ until_emitted s es d g (code_left old)
 
 abbrev pub EmitsClause : {A : Type 0} → Dialect → Clause → Vec (Instr A) A → Vec (Instr A) A → Type 0
-EmitsClause d k old new = code_left new ≡ clause_code d k (code_left old)
+EmitsClause d k old new = code_left new ≡ clause_code d (folded_clause k) (code_left old)
 
 abbrev pub EmitsClauses : {A : Type 0} → Dialect → List Clause → Vec (Instr A) A → Vec (Instr A) A → Type 0
 EmitsClauses d ks old new = code_left new ≡ clauses_emitted d ks (code_left old)

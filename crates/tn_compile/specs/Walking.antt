@@ -2,7 +2,7 @@
 use Rattle.std.specs.Prelude.{◌≡◌, ℕ, ◌+◌, ◌++◌, List, None}
 use Rattle.def_spec.specs.Matching.{Pattern, Patterns}
 use Rattle.def_machine.specs.Instructions.{Instruction}
-use Rattle.def_machine.specs.Compiling.{VariableRegisters, registers_taken_each, variable_met, variables_after, variables_after_each}
+use Rattle.def_machine.specs.Compiling.{VariableRegisters, registers_taken, registers_taken_each, variable_met, variables_after, variables_after_each}
 use Rattle.tn_code.specs.Views.{instructions_of}
 use Rattle.tn_compile.specs.Heads.{pattern_steps, each_steps}
 use Rattle.tn_compile.specs.Views.{variables_seen}
@@ -22,6 +22,9 @@ AddsSteps p r old new = steps_seen new ≡ steps_seen old ++ pattern_steps p (fo
 abbrev pub AddsVariables : {A : Type 0} → Pattern → ℕ → HeadSteps A → HeadSteps A → Type 0
 AddsVariables p r old new = found new ≡ variables_after p (found old) r old.free
 
+abbrev pub TakesRegisters : {A : Type 0} → Pattern → HeadSteps A → HeadSteps A → Type 0
+TakesRegisters p old new = new.free ≡ old.free + registers_taken p
+
 -- each pattern against the elements of a register
 abbrev pub AddsEachStep : {A : Type 0} → Patterns → ℕ → HeadSteps A → HeadSteps A → Type 0
 AddsEachStep ps r old new = steps_seen new ≡ steps_seen old ++ each_steps ps (found old) r 0 old.free
@@ -29,8 +32,8 @@ AddsEachStep ps r old new = steps_seen new ≡ steps_seen old ++ each_steps ps (
 abbrev pub AddsEachVariable : {A : Type 0} → Patterns → HeadSteps A → HeadSteps A → Type 0
 AddsEachVariable ps old new = found new ≡ variables_after_each ps (found old) old.free
 
-abbrev pub TakesRegisters : {A : Type 0} → Patterns → HeadSteps A → HeadSteps A → Type 0
-TakesRegisters ps old new = new.free ≡ old.free + registers_taken_each ps
+abbrev pub TakesRegistersEach : {A : Type 0} → Patterns → HeadSteps A → HeadSteps A → Type 0
+TakesRegistersEach ps old new = new.free ≡ old.free + registers_taken_each ps
 
 -- a variable that wasn't there, with its register
 abbrev pub AddsVariable : (number register : ℕ) → List VariableRegister → List VariableRegister → Type 0

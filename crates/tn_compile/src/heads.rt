@@ -3,17 +3,23 @@ ghost use Rattle.std.specs.Prelude.{◌≡◌, ◌+◌, ◌<◌, ◌≤◌, ◌^
 ghost use Rattle.std.specs.FinMap.{find};
 ghost use Rattle.std.specs.List.{position_or_len};
 ghost use Rattle.std.specs.Ordering.{nat_cmp};
+ghost use Rattle.def_spec.specs.Matching.{only_term};
 ghost use Rattle.def_machine.specs.Compiling.{registers_taken, registers_taken_each, variables_after};
-ghost use Rattle.tn_spec.specs.Views.{head_seen, pattern_seen, patterns_seen};
+ghost use Rattle.def_machine.specs.Folding.{folded};
+ghost use Rattle.tn_term.specs.Views.{tree_of, trees_of};
+ghost use Rattle.tn_spec.specs.Views.{head_seen, pattern_seen};
+ghost use Rattle.tn_compile.specs.Folded.{term_of, parts_folded, each_folded};
 ghost use Rattle.tn_compile.specs.Heads.{pattern_steps};
 ghost use Rattle.tn_compile.specs.Views.{variables_seen};
 ghost use Rattle.tn_compile.specs.Walking.{steps_seen, found, AddsSteps, AddsVariables, AddsVariable};
-ghost use Rattle.tn_compile.specs.Walking.{AddsEachStep, AddsEachVariable, TakesRegisters};
+ghost use Rattle.tn_compile.specs.Walking.{TakesRegisters, AddsEachStep, AddsEachVariable, TakesRegistersEach};
 
+use crate::constants::{are_constant, constants_of};
 use crate::scene::{VariableRegister, register_of_variable};
 use std::alloc::{AllocError, Allocator};
 use tn_code::{Instr, Kind};
 use tn_spec::{Head, Pattern};
+use tn_term::Term;
 
 /// What a walk over a head has made so far.
 #[derive(Drop)]
@@ -52,6 +58,38 @@ fn add_variable<A: Allocator>(
     Ok(())
 }
 
+/// A term against a register.
+fn compare<A: Allocator>(
+    head: &mut HeadSteps<A>,
+    term: Term<A>,
+    register: usize,
+) -> Result<(), AllocError>
+    requires room { head.old.free + 1 < 2 ^ 64 }
+    ensures steps { OnOk result (AddsSteps (only_term (tree_of term)) register head.old head.new) }
+    ensures variables { OnOk result (AddsVariables (only_term (tree_of term)) register head.old head.new) }
+    ensures free { OnOk result (head.new.free ≡ head.old.free + 1) }
+{
+    let to = head.free;
+    head.steps.push(Instr::LoadConstant { to, term })?;
+    head.steps.push(Instr::TestEqual {
+        left: to,
+        right: register,
+        place: 0,
+    })?;
+    head.free = to + 1;
+    Ok(())
+}
+
+/// A tuple or list of the terms.
+fn term_of<A: Allocator>(kind: Kind, terms: Vec<Term<A>, A>) -> Term<A>
+    ensures { tree_of result ≡ term_of kind (trees_of terms.items) }
+{
+    match kind {
+        Kind::Tuple => Term::Tuple(terms),
+        Kind::List => Term::List(terms),
+    }
+}
+
 /// A pattern against a register.
 #[cycle(walk)]
 pub fn walk<P: Allocator, A: Allocator + Copy>(
@@ -60,10 +98,10 @@ pub fn walk<P: Allocator, A: Allocator + Copy>(
     pattern: &Pattern<P>,
     register: usize,
 ) -> Result<(), AllocError>
-    requires room { head.old.free + registers_taken (pattern_seen pattern.now) < 2 ^ 64 }
-    ensures steps { OnOk result (AddsSteps (pattern_seen pattern.now) register head.old head.new) }
-    ensures variables { OnOk result (AddsVariables (pattern_seen pattern.now) register head.old head.new) }
-    ensures free { OnOk result (head.new.free ≡ head.old.free + registers_taken (pattern_seen pattern.now)) }
+    requires room { head.old.free + registers_taken (folded (pattern_seen pattern.now)) < 2 ^ 64 }
+    ensures steps { OnOk result (AddsSteps (folded (pattern_seen pattern.now)) register head.old head.new) }
+    ensures variables { OnOk result (AddsVariables (folded (pattern_seen pattern.now)) register head.old head.new) }
+    ensures free { OnOk result (TakesRegisters (folded (pattern_seen pattern.now)) head.old head.new) }
 {
     match pattern {
         Pattern::Variable(number) => {
@@ -78,36 +116,38 @@ pub fn walk<P: Allocator, A: Allocator + Copy>(
             Ok(())
         }
         Pattern::Anything => Ok(()),
-        Pattern::Only(term) => {
-            let to = head.free;
-            head.steps.push(Instr::LoadConstant {
-                to,
-                term: term.copy_into(alloc)?,
-            })?;
-            head.steps.push(Instr::TestEqual {
-                left: to,
-                right: register,
-                place: 0,
-            })?;
-            head.free = to + 1;
-            Ok(())
-        }
+        Pattern::Only(term) => Ok(compare(head, term.copy_into(alloc)?, register)?),
         Pattern::Tuple(patterns) => {
-            head.steps.push(Instr::TestKind {
-                from: register,
-                kind: Kind::Tuple,
-                place: 0,
-            })?;
-            Ok(walk_each(alloc, head, patterns, register)?)
+            Ok(walk_parts(alloc, head, Kind::Tuple, patterns, register)?)
         }
-        Pattern::List(patterns) => {
-            head.steps.push(Instr::TestKind {
-                from: register,
-                kind: Kind::List,
-                place: 0,
-            })?;
-            Ok(walk_each(alloc, head, patterns, register)?)
-        }
+        Pattern::List(patterns) => Ok(walk_parts(alloc, head, Kind::List, patterns, register)?),
+    }
+}
+
+/// A tuple or list of patterns against a register: one term, where one alone matches them.
+#[cycle(walk)]
+pub fn walk_parts<P: Allocator, A: Allocator + Copy>(
+    alloc: A,
+    head: &mut HeadSteps<A>,
+    kind: Kind,
+    patterns: &Vec<Pattern<P>, P>,
+    register: usize,
+) -> Result<(), AllocError>
+    requires room { head.old.free + registers_taken (parts_folded kind patterns.now) < 2 ^ 64 }
+    ensures steps { OnOk result (AddsSteps (parts_folded kind patterns.now) register head.old head.new) }
+    ensures variables { OnOk result (AddsVariables (parts_folded kind patterns.now) register head.old head.new) }
+    ensures free { OnOk result (TakesRegisters (parts_folded kind patterns.now) head.old head.new) }
+{
+    if are_constant(patterns) {
+        let terms = constants_of(alloc, patterns)?;
+        Ok(compare(head, term_of(kind, terms), register)?)
+    } else {
+        head.steps.push(Instr::TestKind {
+            from: register,
+            kind,
+            place: 0,
+        })?;
+        Ok(walk_each(alloc, head, patterns, register)?)
     }
 }
 
@@ -119,10 +159,10 @@ pub fn walk_each<P: Allocator, A: Allocator + Copy>(
     patterns: &Vec<Pattern<P>, P>,
     register: usize,
 ) -> Result<(), AllocError>
-    requires room { head.old.free + registers_taken_each (patterns_seen patterns.now.items) < 2 ^ 64 }
-    ensures steps { OnOk result (AddsEachStep (patterns_seen patterns.now.items) register head.old head.new) }
-    ensures variables { OnOk result (AddsEachVariable (patterns_seen patterns.now.items) head.old head.new) }
-    ensures free { OnOk result (TakesRegisters (patterns_seen patterns.now.items) head.old head.new) }
+    requires room { head.old.free + registers_taken_each (each_folded patterns.now) < 2 ^ 64 }
+    ensures steps { OnOk result (AddsEachStep (each_folded patterns.now) register head.old head.new) }
+    ensures variables { OnOk result (AddsEachVariable (each_folded patterns.now) head.old head.new) }
+    ensures free { OnOk result (TakesRegistersEach (each_folded patterns.now) head.old head.new) }
 {
     for index in 0..patterns.len() {
         let pattern = &patterns[index];
@@ -149,10 +189,10 @@ pub fn steps_of_head<P: Allocator, A: Allocator + Copy>(
     alloc: A,
     head: &Head<P>,
 ) -> Result<HeadSteps<A>, AllocError>
-    requires room { 1 + registers_taken (head_seen head.now) < 2 ^ 64 }
-    ensures steps { IfOk result (λ h. steps_seen h ≡ pattern_steps (head_seen head.now) [] 0 1) }
-    ensures variables { IfOk result (λ h. found h ≡ variables_after (head_seen head.now) [] 0 1) }
-    ensures free { IfOk result (λ h. h.free ≡ 1 + registers_taken (head_seen head.now)) }
+    requires room { 1 + registers_taken (folded (head_seen head.now)) < 2 ^ 64 }
+    ensures steps { IfOk result (λ h. steps_seen h ≡ pattern_steps (folded (head_seen head.now)) [] 0 1) }
+    ensures variables { IfOk result (λ h. found h ≡ variables_after (folded (head_seen head.now)) [] 0 1) }
+    ensures free { IfOk result (λ h. h.free ≡ 1 + registers_taken (folded (head_seen head.now))) }
 {
     let mut made = HeadSteps {
         steps: Vec::new(alloc),
@@ -162,14 +202,7 @@ pub fn steps_of_head<P: Allocator, A: Allocator + Copy>(
     match head {
         Head::Variable(number) => add_variable(&mut made.variables, *number, 0)?,
         Head::Anything => {}
-        Head::List(patterns) => {
-            made.steps.push(Instr::TestKind {
-                from: 0,
-                kind: Kind::List,
-                place: 0,
-            })?;
-            walk_each(alloc, &mut made, patterns, 0)?;
-        }
+        Head::List(patterns) => walk_parts(alloc, &mut made, Kind::List, patterns, 0)?,
     }
     Ok(made)
 }

@@ -5,6 +5,7 @@
 #![tactic(auto)]
 
 mod clauses;
+mod constants;
 mod exprs;
 mod fronts;
 mod heads;

@@ -1,6 +1,7 @@
 use Rattle.std.proofs.Common.{◌≡◌, ◌<◌, ◌^◌, ◌∷◌, [], ◌∙◌, ap, sym, subst, map, reverse}
 use Rattle.def_machine.specs.Instructions.{end_without_match}
 use Rattle.def_machine.specs.Compiling.{clauses_code, placed}
+use Rattle.def_machine.specs.Folding.{folded_clause}
 use Rattle.def_machine.specs.Validity.{Valid}
 use Rattle.tn_code.specs.Views.{instructions_of}
 use Rattle.tn_spec.specs.Sizes.{clauses_size}
@@ -20,7 +21,7 @@ in_places-requires g c =
     let d = dialect_of c.args.spec.now.dialect in
     let ks = map clause_seen c.args.spec.now.clauses.items in
     let first : code_left c.emit.new.code ≡ end_without_match ∷ [] = c.in_ok-emit.ensures.emitted ∙ ap (λ xs. end_without_match ∷ instructions_of (reverse xs)) c.new-code.ensures.items in
-    let emitted : code_left c.emit_clauses.new.code ≡ clauses_code d ks =
+    let emitted : code_left c.emit_clauses.new.code ≡ clauses_code d (map folded_clause ks) =
     c.in_ok-emit_clauses.ensures ∙ ap (λ xs. clauses_emitted d (map clause_seen xs) (code_left c.emit.new.code)) c.as_slice.ensures.value ∙ ap (clauses_emitted d ks) first ∙ clauses-are d ks in
     subst JumpsInside (sym emitted) (sound-jumps d (spec_seen c.args.spec.now) c.args.spec.now.sound)
 
@@ -29,7 +30,7 @@ of-requires g c =
     let d = dialect_of c.args.spec.now.dialect in
     let ks = map clause_seen c.args.spec.now.clauses.items in
     let first : code_left c.emit.new.code ≡ end_without_match ∷ [] = c.in_ok-emit.ensures.emitted ∙ ap (λ xs. end_without_match ∷ instructions_of (reverse xs)) c.new-code.ensures.items in
-    let emitted : code_left c.emit_clauses.new.code ≡ clauses_code d ks =
+    let emitted : code_left c.emit_clauses.new.code ≡ clauses_code d (map folded_clause ks) =
     c.in_ok-emit_clauses.ensures ∙ ap (λ xs. clauses_emitted d (map clause_seen xs) (code_left c.emit.new.code)) c.as_slice.ensures.value ∙ ap (clauses_emitted d ks) first ∙ clauses-are d ks in
     subst Valid (sym (c.in_ok-items.ensures ∙ ap (placed 0) emitted)) (sound-valid (spec_seen c.args.spec.now) c.args.spec.now.sound)
 
@@ -38,6 +39,6 @@ returns g c =
     let d = dialect_of c.args.spec.now.dialect in
     let ks = map clause_seen c.args.spec.now.clauses.items in
     let first : code_left c.emit.new.code ≡ end_without_match ∷ [] = c.in_ok-emit.ensures.emitted ∙ ap (λ xs. end_without_match ∷ instructions_of (reverse xs)) c.new-code.ensures.items in
-    let emitted : code_left c.emit_clauses.new.code ≡ clauses_code d ks =
+    let emitted : code_left c.emit_clauses.new.code ≡ clauses_code d (map folded_clause ks) =
     c.in_ok-emit_clauses.ensures ∙ ap (λ xs. clauses_emitted d (map clause_seen xs) (code_left c.emit.new.code)) c.as_slice.ensures.value ∙ ap (clauses_emitted d ks) first ∙ clauses-are d ks in
     c.of.ensures ∙ c.in_ok-items.ensures ∙ ap (placed 0) emitted
