@@ -18,3 +18,4 @@ pub use clauses::outcome;
 pub use context::Context;
 pub use effect::{Effect, Outcome};
 pub use scene::{Part, Scene};
+pub use values::value;
