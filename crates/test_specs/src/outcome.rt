@@ -9,6 +9,7 @@ use std::process::Abort;
 use std::test::Fail;
 use test_allocator::Refusing;
 use tn_action::{Context, Effect, Outcome, outcome};
+use tn_code::Code;
 use tn_compile::compile;
 use tn_flags::Flags;
 use tn_guard::{Parts, Value};
@@ -130,8 +131,17 @@ fn outcome_by_code<A: Allocator + Copy>(
     context: &Context<'_, A>,
 ) -> Result<Outcome<A>, AllocError> {
     let code = compile(alloc, spec)?;
+    Ok(outcome_of_code(alloc, &code, context)?)
+}
+
+/// The outcome of the code.
+fn outcome_of_code<A: Allocator + Copy>(
+    alloc: A,
+    code: &Code<A>,
+    context: &Context<'_, A>,
+) -> Result<Outcome<A>, AllocError> {
     let arena = Bump::new(alloc);
-    execute(alloc, &code, context, &arena)
+    Ok(execute(alloc, code, context, &arena)?)
 }
 
 /// The outcome of the specification.
