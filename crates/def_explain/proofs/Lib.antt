@@ -1,6 +1,8 @@
 mod CauseOfEvents
 mod CauseOfSettings
 mod ClauseReasons
+pub mod ClauseVerdicts
 mod FaultPlaces
-mod HeadStops
+pub mod HeadStops
 mod Rows
+mod TextRows

@@ -4,7 +4,7 @@ use Rattle.std.specs.Prelude.{◌≡◌, ◌↔◌, List, Some, None}
 use Rattle.def_term.specs.Tree.{Tree, list, of_elements}
 use Rattle.def_spec.specs.Matching.{Pattern, Bindings, Matches}
 use Rattle.def_spec.specs.Expressions.{Dialect, Expr, Context, in_condition, value}
-use Rattle.def_spec.specs.Outcome.{Clause, Fires}
+use Rattle.def_spec.specs.Outcome.{Clause, Fires, outcome_in}
 use Rattle.def_explain.specs.Heads.{HeadReason, IsHeadReason}
 use Rattle.def_explain.specs.Values.{FaultsAt}
 use Rattle.def_node.specs.Event.{Event}
@@ -12,6 +12,7 @@ use Rattle.def_session.specs.State.{Session}
 use Rattle.def_session.specs.Session.{evaluated, told_for}
 use Rattle.def_explain.specs.Reasons.{Reason, IsReason, reason_of}
 use Rattle.def_explain.specs.Causes.{Cause, IsCause, cause_of}
+use Rattle.def_explain.specs.Verdicts.{Verdict, IsVerdict, verdict_of, outcome_by_verdicts}
 
 -- there is a reason exactly where no binding is one with which the clause fires
 abbrev pub ReasonWhereNotFired : Type 0
@@ -24,6 +25,14 @@ ReasonIsOne = (d : Dialect) (k : Clause) (c : Context) (q r : Reason) → IsReas
 -- what is computed is the reason
 abbrev pub ReasonIsComputed : Type 0
 ReasonIsComputed = (d : Dialect) (k : Clause) (c : Context) (r : Reason) → (reason_of d k c ≡ Some r) ↔ IsReason d k c r
+
+-- what is computed is what becomes of a clause: it has one verdict
+abbrev pub VerdictIsComputed : Type 0
+VerdictIsComputed = (d : Dialect) (k : Clause) (c : Context) (v : Verdict) → (verdict_of d k c ≡ v) ↔ IsVerdict d k c v
+
+-- the outcome is that of the first clause that is said to fire
+abbrev pub OutcomeIsByVerdicts : Type 0
+OutcomeIsByVerdicts = (d : Dialect) (ks : List Clause) (c : Context) → outcome_by_verdicts d ks c ≡ outcome_in d ks c
 
 -- a head has a reason exactly where it matches with no binding
 abbrev pub HeadReasonWhereNotMatched : Type 0

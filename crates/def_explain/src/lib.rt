@@ -8,6 +8,7 @@
 #![tactic(auto)]
 
 ghost use Rattle.def_explain.specs.Laws.{ReasonWhereNotFired, ReasonIsOne, ReasonIsComputed};
+ghost use Rattle.def_explain.specs.Laws.{VerdictIsComputed, OutcomeIsByVerdicts};
 ghost use Rattle.def_explain.specs.Laws.{HeadReasonWhereNotMatched, FaultWhereNoValue};
 ghost use Rattle.def_explain.specs.Laws.{CauseWhereNothingTold, CauseIsOne, CauseIsComputed};
 
@@ -16,6 +17,13 @@ pub fn a_clause_has_a_reason_or_fires()
     ensures exactly { ReasonWhereNotFired }
     ensures one { ReasonIsOne }
     ensures computed { ReasonIsComputed }
+{}
+
+/// A clause has one verdict, which is what is computed: why it doesn't fire, or with which binding it does and
+/// what its body asks for. The outcome of a specification is that of the first clause that is said to fire.
+pub fn a_clause_has_one_verdict()
+    ensures computed { VerdictIsComputed }
+    ensures outcome { OutcomeIsByVerdicts }
 {}
 
 /// A head has a reason exactly where it doesn't match.
