@@ -4,5 +4,6 @@ mod ClauseReasons
 pub mod ClauseVerdicts
 mod FaultPlaces
 pub mod HeadStops
+mod Names
 mod Rows
 mod TextRows

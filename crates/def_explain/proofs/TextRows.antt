@@ -1,5 +1,7 @@
 -- Rows: the texts of small trials.
 use Rattle.std.proofs.Common.{◌≡◌, ℕ, true, List, [], ◌∷◌, ◌++◌, Some, None, pos, codes, refl}
+use Rattle.std.specs.Fmt.{digits}
+use Rattle.def_term.specs.Text.{is_written_bare}
 use Rattle.def_term.specs.Tree.{Tree, int, list, tuple, none, more}
 use Rattle.def_term.specs.Names.{Mfa, word}
 use Rattle.def_spec.specs.Matching.{Pattern, variable, anything, in_list, no_patterns, and_pattern}
@@ -43,17 +45,21 @@ whole_and_silent = record { head = variable 7; conditions = no_exprs; body = one
 -- two clauses that don't fire, one that does, and one that isn't reached
 pub third_fires : trial_text for_calls (of_integer ∷ of_twice ∷ with_message ∷ of_head ∷ []) hi_one
     ≡ codes "clause 1: condition 1 is false\nclause 2: the head doesn't match at element 2\nclause 3 fires: message {second,hi}, <0.100.0> gets send\n  '$1' is hi\n=> a message that ends in {second,hi}\n"
+unfolding is_written_bare digits
 third_fires = refl
 
 -- a fault, and none that fires
 pub none_fires : trial_text for_calls (of_head ∷ []) hi_one ≡ codes "clause 1: condition 1 faults at {hd,'$1'}\n=> no message: no clause fires\n"
+unfolding is_written_bare digits
 none_fires = refl
 
 -- `silent` is about calls alone
 pub silent_call : trial_text for_calls (whole_and_silent ∷ []) hi_one ≡ codes "clause 1 fires: silent true\n  '$7' is [hi,1]\n=> no message: silent\n"
+unfolding is_written_bare digits
 silent_call = refl
 
 pub silent_send : trial_text for_sends (whole_and_silent ∷ []) hi_one ≡ codes "clause 1 fires: silent true\n  '$7' is [hi,1]\n=> a message\n"
+unfolding is_written_bare digits
 silent_send = refl
 
 -- an atom that would be read as a variable, and one that wouldn't

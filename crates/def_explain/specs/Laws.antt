@@ -1,12 +1,16 @@
 -- What is promised of reasons and causes (own).
 -- Stands on reasons, on causes, on which clause fires and on what a session makes of an event.
 use Rattle.std.specs.Prelude.{◌≡◌, ◌↔◌, List, Some, None}
+use Rattle.std.specs.Option.{option_map}
 use Rattle.def_term.specs.Tree.{Tree, list, of_elements}
 use Rattle.def_spec.specs.Matching.{Pattern, Bindings, Matches}
-use Rattle.def_spec.specs.Expressions.{Dialect, Expr, Context, in_condition, value}
+use Rattle.def_spec.specs.Functions.{Func}
+use Rattle.def_spec.specs.Reading.{found_in, table, a_function, an_action}
+use Rattle.def_spec.specs.Expressions.{Action, Dialect, Expr, Context, in_condition, value}
 use Rattle.def_spec.specs.Outcome.{Clause, Fires, outcome_in}
 use Rattle.def_explain.specs.Heads.{HeadReason, IsHeadReason}
 use Rattle.def_explain.specs.Values.{FaultsAt}
+use Rattle.def_explain.specs.Spellings.{function_name, action_name}
 use Rattle.def_node.specs.Event.{Event}
 use Rattle.def_session.specs.State.{Session}
 use Rattle.def_session.specs.Session.{evaluated, told_for}
@@ -33,6 +37,13 @@ VerdictIsComputed = (d : Dialect) (k : Clause) (c : Context) (v : Verdict) → (
 -- the outcome is that of the first clause that is said to fire
 abbrev pub OutcomeIsByVerdicts : Type 0
 OutcomeIsByVerdicts = (d : Dialect) (ks : List Clause) (c : Context) → outcome_by_verdicts d ks c ≡ outcome_in d ks c
+
+-- by its name a function is read as itself, and an action too
+abbrev pub FunctionNameIsRead : Type 0
+FunctionNameIsRead = (f : Func) → option_map (λ r. r.called) (found_in table (function_name f)) ≡ Some (a_function f)
+
+abbrev pub ActionNameIsRead : Type 0
+ActionNameIsRead = (a : Action) → option_map (λ r. r.called) (found_in table (action_name a)) ≡ Some (an_action a)
 
 -- a head has a reason exactly where it matches with no binding
 abbrev pub HeadReasonWhereNotMatched : Type 0

@@ -9,6 +9,7 @@
 
 ghost use Rattle.def_explain.specs.Laws.{ReasonWhereNotFired, ReasonIsOne, ReasonIsComputed};
 ghost use Rattle.def_explain.specs.Laws.{VerdictIsComputed, OutcomeIsByVerdicts};
+ghost use Rattle.def_explain.specs.Laws.{FunctionNameIsRead, ActionNameIsRead};
 ghost use Rattle.def_explain.specs.Laws.{HeadReasonWhereNotMatched, FaultWhereNoValue};
 ghost use Rattle.def_explain.specs.Laws.{CauseWhereNothingTold, CauseIsOne, CauseIsComputed};
 
@@ -24,6 +25,12 @@ pub fn a_clause_has_a_reason_or_fires()
 pub fn a_clause_has_one_verdict()
     ensures computed { VerdictIsComputed }
     ensures outcome { OutcomeIsByVerdicts }
+{}
+
+/// By the name that an explanation calls it by, a function is read as itself, and an action too.
+pub fn a_name_is_read_as_what_it_names()
+    ensures functions { FunctionNameIsRead }
+    ensures actions { ActionNameIsRead }
 {}
 
 /// A head has a reason exactly where it doesn't match.
