@@ -2,12 +2,16 @@
 use Rattle.std.proofs.Common.{◌≡◌, ℕ, zero, suc, ◌+◌, ◌<◌, ◌≤◌, List, [], ◌∷◌, length, drop, refl, sym, ap, ◌∙◌, arith, Option, Some, None, Bool, true, false, ◌==◌, eqb-true, eq-eqb, if◌then◌else◌}
 use Rattle.def_term.specs.Tree.{Tree, of_elements}
 use Rattle.def_spec.specs.Functions.{is_true, nth}
-use Rattle.def_spec.specs.Matching.{Pattern, Patterns, no_patterns, and_pattern, Bindings, bind_on}
+use Rattle.def_spec.specs.Matching.{Pattern, Patterns, no_patterns, and_pattern, Bindings, bind_on, bindings_of}
 use Rattle.def_spec.specs.Expressions as ex
 use Rattle.def_spec.specs.Expressions.{Exprs, no_exprs, and_expr}
-use Rattle.def_explain.specs.Heads.{HeadReason, behind_matching, stop_or, stop_in, count}
-use Rattle.def_explain.specs.Reasons.{Reason, by_condition, has_value, untrue_by, untrue_in}
+use Rattle.def_spec.specs.Outcome.{Clause, matched_term}
+use Rattle.def_explain.specs.Heads.{HeadReason, behind_matching, stop_or, stop_in, count, head_reason}
+use Rattle.def_explain.specs.Reasons.{Reason, by_head, by_condition, has_value, untrue_by, untrue_in, as_reason, reason_by}
 use Rattle.def_explain.specs.Values.{or_behind, behind_true, behind_other, fault_in, fault_in_one, fault_while_true, fault_until_true}
+use Rattle.def_explain.specs.Verdicts.{fails, fires_with, verdict_of}
+use Rattle.def_explain.proofs.HeadStops.{head_there}
+use Rattle.def_explain.proofs.ClauseVerdicts.{verdict_with, verdict_without}
 
 -- ---- heads
 
@@ -92,3 +96,21 @@ module _ (d : ex.Dialect) (b : Bindings) (c : ex.Context) where
   pub untrue-faults : (n : ℕ) (es rest : Exprs) (e : ex.Expr) (f : Option ex.Expr) (total : Option Reason) → es ≡ and_expr e rest → ex.value d ex.in_condition b c e ≡ None → fault_in d b c e ≡ f → untrue_in d b c n es ≡ total → untrue_by n None f (untrue_in d b c (suc n) rest) ≡ total
   untrue-faults n es rest e f total is at fault h =
       sym (ap (untrue_in d b c n) is ∙ ap (λ v. untrue_by n v (fault_in d b c e) (untrue_in d b c (suc n) rest)) at ∙ ap (λ x. untrue_by n None x (untrue_in d b c (suc n) rest)) fault) ∙ h
+
+-- ---- verdicts
+
+module _ (d : ex.Dialect) (k : Clause) (c : ex.Context) where
+  -- a head that doesn't match has a reason
+  pub no-head-reason : bindings_of k.head (matched_term c) ≡ None → head_reason k.head c.matched_list ≡ None → ⊥
+  no-head-reason b h =
+      let z : (r : HeadReason) × (head_reason k.head c.matched_list ≡ Some r) = head_there k.head c.matched_list b in
+      absurd (cc (sym h ∙ z.1))
+
+  pub head-fails : (h : HeadReason) → bindings_of k.head (matched_term c) ≡ None → head_reason k.head c.matched_list ≡ Some h → verdict_of d k c ≡ fails (by_head h)
+  head-fails h b r = verdict_with d k c (by_head h) (ap (reason_by d k c) b ∙ ap as_reason r)
+
+  pub condition-fails : (b : Bindings) (r : Reason) → bindings_of k.head (matched_term c) ≡ Some b → untrue_in d b c 0 k.conditions ≡ Some r → verdict_of d k c ≡ fails r
+  condition-fails b r m u = verdict_with d k c r (ap (reason_by d k c) m ∙ u)
+
+  pub all-hold : (b : Bindings) → bindings_of k.head (matched_term c) ≡ Some b → untrue_in d b c 0 k.conditions ≡ None → verdict_of d k c ≡ fires_with d k c b
+  all-hold b m u = verdict_without d k c b (ap (reason_by d k c) m ∙ u) m

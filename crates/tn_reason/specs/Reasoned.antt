@@ -6,6 +6,7 @@ use Rattle.def_spec.specs.Expressions as ex
 use Rattle.def_explain.specs.Heads as heads
 use Rattle.def_explain.specs.Reasons as reasons
 use Rattle.def_explain.specs.Values as faults
+use Rattle.def_explain.specs.Verdicts as verdicts
 use Rattle.tn_guard.specs.Views.{parts_list}
 use Rattle.tn_guard.specs.declared.parts.Parts.{Parts}
 use Rattle.tn_head.specs.Views.{bindings_seen}
@@ -28,9 +29,9 @@ head_reason_of h list = heads.head_reason (head_seen h) (parts_list list)
 abbrev pub stop_of : {P A : Type 0} → Vec (Pattern P) P → Parts A → Option heads.HeadReason
 stop_of ps list = heads.stop_in 0 (patterns_seen ps.items) (parts_list list) []
 
--- why a clause doesn't fire
-abbrev pub clause_reason_of : {A : Type 0} → Dialect → Clause A → Context A → Option reasons.Reason
-clause_reason_of d k c = reasons.reason_of (dialect_of d) (clause_seen k) (context_seen c)
+-- what becomes of a clause
+abbrev pub clause_verdict_of : {A : Type 0} → Dialect → Clause A → Context A → verdicts.Verdict
+clause_verdict_of d k c = verdicts.verdict_of (dialect_of d) (clause_seen k) (context_seen c)
 
 module _ {A : Type 0} {G : Ghosts A} (s : Scene A G) where
   -- conditions are evaluated

@@ -1,19 +1,24 @@
 -- What the code's reasons stand for.
-use Rattle.std.specs.Prelude.{ℕ, Option}
+use Rattle.std.specs.Prelude.{ℕ, Option, map}
 use Rattle.std.specs.Option.{option_map}
 use Rattle.std.specs.Borrow.{Bor}
 use Rattle.def_spec.specs.Expressions as ex
 use Rattle.def_explain.specs.Heads as heads
 use Rattle.def_explain.specs.Reasons as reasons
+use Rattle.def_explain.specs.Verdicts as verdicts
 use Rattle.tn_guard.specs.Views.{value_seen}
+use Rattle.tn_head.specs.Views.{bindings_seen}
 use Rattle.tn_spec.specs.Views.{expr_seen}
 use Rattle.tn_spec.specs.declared.expr.Expr.{Expr}
+use Rattle.tn_action.specs.Views.{effect_seen}
 use Rattle.tn_reason.specs.declared.reason.HeadReason.{HeadReason}
 use Rattle.tn_reason.specs.declared.reason.HeadReason.TheVariants.{NoList, OtherLength, BehindMatching}
 use Rattle.tn_reason.specs.declared.reason.ConditionReason.{ConditionReason}
 use Rattle.tn_reason.specs.declared.reason.ConditionReason.TheVariants.{HasValue, FaultsAt}
 use Rattle.tn_reason.specs.declared.reason.Reason.{Reason}
 use Rattle.tn_reason.specs.declared.reason.Reason.TheVariants.{ByHead, ByCondition}
+use Rattle.tn_reason.specs.declared.reason.Verdict.{Verdict}
+use Rattle.tn_reason.specs.declared.reason.Verdict.TheVariants.{Fails, Fires}
 
 abbrev pub head_reason_seen : HeadReason → heads.HeadReason
 head_reason_seen NoList = heads.no_list
@@ -38,3 +43,7 @@ reasons_seen r = option_map reason_seen r
 -- the part at which an expression faults, where it does
 abbrev pub part_at : {A : Type 0} → Option (Bor (Expr A)) → Option ex.Expr
 part_at r = option_map (λ e. expr_seen e.now) r
+
+abbrev pub verdict_seen : {A : Type 0} → Verdict A → verdicts.Verdict
+verdict_seen (Fails r) = verdicts.fails (reason_seen r)
+verdict_seen (Fires b es) = verdicts.fires (bindings_seen b) (map effect_seen es.items)

@@ -1,34 +1,35 @@
-// Why a clause doesn't fire.
+// What becomes of a clause.
 ghost use Rattle.std.specs.Prelude.{◌≡◌, IfOk, Option, None};
 ghost use Rattle.def_explain.specs.Reasons as reasons;
 ghost use Rattle.def_explain.specs.Reasons.{untrue_by};
 ghost use Rattle.tn_spec.specs.Views.{exprs_seen};
-ghost use Rattle.tn_reason.specs.Reasoned.{clause_reason_of, untrue_of, IsOfConditions};
-ghost use Rattle.tn_reason.specs.Views.{reasons_seen, part_at};
+ghost use Rattle.tn_reason.specs.Reasoned.{clause_verdict_of, untrue_of, IsOfConditions};
+ghost use Rattle.tn_reason.specs.Views.{reasons_seen, part_at, verdict_seen};
 
 use crate::faults::fault_in;
 use crate::heads::head_reason;
-use crate::reason::{ConditionReason, Reason};
+use crate::reason::{ConditionReason, Reason, Verdict};
 use bumpalo::Bump;
 use std::alloc::{AllocError, Allocator};
-use tn_action::{Context, Part, Scene, value};
+use tn_action::{Context, Part, Scene, body_effects, value};
 use tn_head::bind;
 use tn_spec::{Clause, Dialect, Expr};
 
-/// Why the clause doesn't fire; None where it does. An error is refused memory.
-pub fn reason_of<'a, A: Allocator + Copy>(
+/// What becomes of a clause in a context ("Match Specifications in Erlang", "Execution of the Match"). An error
+/// is refused memory.
+pub fn verdict<'a, A: Allocator + Copy>(
     alloc: A,
     arena: &'a Bump<A>,
     dialect: Dialect,
     clause: &'a Clause<A>,
     context: &Context<'a, A>,
-) -> Result<Option<Reason<'a, A>>, AllocError>
-    ensures { IfOk result (λ r. reasons_seen r ≡ clause_reason_of dialect clause.now context.now) }
+) -> Result<Verdict<'a, A>, AllocError>
+    ensures { IfOk result (λ v. verdict_seen v ≡ clause_verdict_of dialect clause.now context.now) }
 {
     let Some(bindings) = bind(arena, &clause.head, context.list)? else {
         return match head_reason(arena, &clause.head, context.list)? {
-            Some(why) => Ok(Some(Reason::ByHead(why))),
-            None => Ok(None),
+            Some(why) => Ok(Verdict::Fails(Reason::ByHead(why))),
+            None => unreachable!(),
         };
     };
     let scene = Scene {
@@ -39,7 +40,11 @@ pub fn reason_of<'a, A: Allocator + Copy>(
         bindings: &bindings,
         context,
     };
-    Ok(first_untrue(&clause.conditions, &scene)?)
+    if let Some(reason) = first_untrue(&clause.conditions, &scene)? {
+        return Ok(Verdict::Fails(reason));
+    }
+    let effects = body_effects(&clause.body, &scene)?;
+    Ok(Verdict::Fires { bindings, effects })
 }
 
 /// The first condition that isn't `true`, and why.

@@ -1,7 +1,10 @@
-// Why a clause doesn't fire.
+// What becomes of a clause.
 
+use bumpalo::Bump;
 use std::alloc::Allocator;
+use tn_action::Effect;
 use tn_guard::Value;
+use tn_head::Bindings;
 use tn_spec::Expr;
 
 /// Why a head doesn't match.
@@ -33,5 +36,17 @@ pub enum Reason<'a, A: Allocator> {
     ByCondition {
         index: usize,
         why: ConditionReason<'a, A>,
+    },
+}
+
+/// What becomes of a clause.
+#[derive(Drop)]
+pub enum Verdict<'a, A: Allocator + Copy> {
+    /// It doesn't fire.
+    Fails(Reason<'a, A>),
+    /// It fires, and its body asks for these effects.
+    Fires {
+        bindings: Bindings<'a, A, &'a Bump<A>>,
+        effects: Vec<Effect<A>, A>,
     },
 }
