@@ -1,6 +1,7 @@
 // The texts of effects.
-ghost use Rattle.std.specs.Prelude.{◌≡◌, ◌++◌, OnOk, false, map};
+ghost use Rattle.std.specs.Prelude.{◌≡◌, ◌++◌, ◌∷◌, List, OnOk, false, map};
 ghost use Rattle.def_term.specs.Text.{pid_text};
+ghost use Rattle.def_spec.specs.Expressions as ex;
 ghost use Rattle.def_spec.specs.Flags.{flags_by_name};
 ghost use Rattle.def_explain.specs.Texts.{silent_text, effect_text, effects_text, said_of_each, silent_behind};
 ghost use Rattle.tn_flags.specs.Views.{flags_of};

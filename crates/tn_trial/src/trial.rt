@@ -1,8 +1,8 @@
 // What becomes of the clauses of a specification.
-ghost use Rattle.std.specs.Prelude.{◌≡◌, ◌++◌, ◌∷◌, [], OnOk, codes, flat_map, map};
+ghost use Rattle.std.specs.Prelude.{◌≡◌, ◌++◌, [], OnOk, OnErr, flat_map, map};
 ghost use Rattle.std.specs.Option.{option_map};
 ghost use Rattle.def_session.specs.Messages.{last_message};
-ghost use Rattle.def_explain.specs.Texts.{binding_line, ending_text, end_text, fires_text, clause_text, reason_text};
+ghost use Rattle.def_explain.specs.Texts.{binding_line, ending_text, end_text, clause_text};
 ghost use Rattle.tn_term.specs.Views.{tree_of};
 ghost use Rattle.tn_guard.specs.Views.{value_seen};
 ghost use Rattle.tn_head.specs.Views.{bindings_seen};
@@ -10,7 +10,7 @@ ghost use Rattle.tn_spec.specs.Views.{dialect_of};
 ghost use Rattle.tn_action.specs.Views.{effect_seen};
 ghost use Rattle.tn_reason.specs.Views.{reason_seen};
 ghost use Rattle.tn_text.specs.Writes.{Grows};
-ghost use Rattle.tn_trial.specs.Trials.{trial_of};
+ghost use Rattle.tn_trial.specs.Trials.{trial_of, trial_in, failed_text, fired_text};
 
 use crate::effects::{is_silent, put_effects};
 use crate::reasons::{put_number, put_reason, put_value};
@@ -121,4 +121,100 @@ fn put_clause<B: Allocator>(before: usize, out: &mut Vec<u8, B>) -> Result<(), A
 {
     out.extend_from_slice(b"clause ")?;
     put_number(before, out)
+}
+
+/// A specification that is held against a list.
+struct Trial<'a, 'c, A: Allocator + Copy> {
+    /// For the effects, and for the terms that values are written as.
+    alloc: A,
+    /// For what is evaluated.
+    arena: &'a Bump<A>,
+    spec: &'a Spec<A>,
+    context: &'c Context<'a, A>,
+}
+
+impl<'a, 'c, A: Allocator + Copy> Trial<'a, 'c, A> {
+    /// Appends the line of a clause that doesn't fire.
+    fn put_failed<B: Allocator>(
+        &self,
+        before: usize,
+        reason: Reason<'_, A>,
+        out: &mut Vec<u8, B>,
+    ) -> Result<(), AllocError>
+        ensures ok { OnOk result (out.new.items ≡ out.old.items ++ failed_text before (reason_seen reason.entry)) }
+        ensures grows { Grows out.old.items out.new.items }
+    {
+        put_clause(before, out)?;
+        out.extend_from_slice(b": ")?;
+        put_reason(self.alloc, reason, out)?;
+        out.push(b'\n')?;
+        Ok(())
+    }
+
+    /// Appends the lines of a clause that fires.
+    fn put_fired<B: Allocator>(
+        &self,
+        before: usize,
+        bindings: &Bindings<'a, A, &'a Bump<A>>,
+        effects: &[Effect<A>],
+        out: &mut Vec<u8, B>,
+    ) -> Result<(), AllocError>
+        ensures ok { OnOk result (out.new.items ≡ out.old.items ++
+            fired_text self.now before (bindings_seen bindings.now) (map effect_seen effects.now)) }
+        ensures grows { Grows out.old.items out.new.items }
+    {
+        put_clause(before, out)?;
+        out.extend_from_slice(b" fires")?;
+        put_effects(effects, out)?;
+        out.push(b'\n')?;
+        put_bindings(self.alloc, bindings, out)?;
+        out.extend_from_slice(b"=> ")?;
+        put_end(self.spec.dialect, self.context.me, effects, out)?;
+        out.push(b'\n')?;
+        Ok(())
+    }
+
+    /// Appends what becomes of the clauses, up to the first that fires.
+    fn put<B: Allocator>(&self, out: &mut Vec<u8, B>) -> Result<(), AllocError>
+        ensures ok { OnOk result (out.new.items ≡ out.old.items ++ trial_in self.now) }
+        ensures grows { Grows out.old.items out.new.items }
+    {
+        let clauses = &self.spec.clauses;
+        for i in 0..clauses.len() {
+            match verdict(self.alloc, self.arena, self.spec.dialect, &clauses[i], self.context)? {
+                Verdict::Fails(reason) => self.put_failed(i, reason, out)?,
+                Verdict::Fires { bindings, effects } => {
+                    return self.put_fired(i, &bindings, &effects, out);
+                }
+            }
+        }
+        out.extend_from_slice(b"=> no message: no clause fires\n")
+    }
+}
+
+/// Appends what becomes of the clauses of a specification in a context, up to the first that fires, with why
+/// each before it doesn't, what its variables are bound to, what its body asks for, and what that makes of the
+/// message. After an `Err`, which is refused memory, the vector is as it was.
+pub fn put_trial<A: Allocator + Copy, B: Allocator>(
+    alloc: A,
+    spec: &Spec<A>,
+    context: &Context<'_, A>,
+    out: &mut Vec<u8, B>,
+) -> Result<(), AllocError>
+    ensures ok { OnOk result (out.new.items ≡ out.old.items ++ trial_of spec.now context.now) }
+    ensures err { OnErr result (out.new.items ≡ out.old.items) }
+{
+    let arena = Bump::new(alloc);
+    let len = out.len();
+    let trial = Trial {
+        alloc,
+        arena: &arena,
+        spec,
+        context,
+    };
+    let done = trial.put(out);
+    if done.is_err() {
+        out.truncate(len);
+    }
+    done
 }
