@@ -1,11 +1,11 @@
 -- The texts of trials, of the code's specifications and contexts.
-use Rattle.std.specs.Prelude.{ℕ, List, [], ◌∷◌, ◌++◌, codes}
+use Rattle.std.specs.Prelude.{ℕ, List, [], ◌∷◌, ◌++◌, codes, map}
 use Rattle.std.specs.declared.alloc.Allocator.{Ghosts}
 use Rattle.def_spec.specs.Matching.{Bindings}
 use Rattle.def_spec.specs.Expressions.{Effect}
 use Rattle.def_explain.specs.Reasons.{Reason}
 use Rattle.def_explain.specs.Texts.{clause_text, reason_text, fires_text, trial_text}
-use Rattle.tn_spec.specs.Views.{dialect_of, clauses_seen}
+use Rattle.tn_spec.specs.Views.{dialect_of, clause_seen}
 use Rattle.tn_spec.specs.declared.spec.Spec.{Spec}
 use Rattle.tn_action.specs.Views.{context_seen}
 use Rattle.tn_action.specs.declared.context.Context.{Context}
@@ -13,7 +13,7 @@ use Rattle.tn_trial.specs.declared.trial.Trial.{Trial}
 
 -- what becomes of the clauses of a specification in a context
 abbrev pub trial_of : {A : Type 0} → Spec A → Context A → List ℕ
-trial_of s c = trial_text (dialect_of s.dialect) (clauses_seen s.clauses.items) (context_seen c)
+trial_of s c = trial_text (dialect_of s.dialect) (map clause_seen s.clauses.items) (context_seen c)
 
 -- the line of a clause that doesn't fire
 abbrev pub failed_text : ℕ → Reason → List ℕ

@@ -124,6 +124,7 @@ fn put_clause<B: Allocator>(before: usize, out: &mut Vec<u8, B>) -> Result<(), A
 }
 
 /// A specification that is held against a list.
+#[derive_where(Clone, Copy)]
 struct Trial<'a, 'c, A: Allocator + Copy> {
     /// For the effects, and for the terms that values are written as.
     alloc: A,
