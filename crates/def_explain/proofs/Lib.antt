@@ -1,6 +1,7 @@
 mod CauseOfEvents
 mod CauseOfSettings
 mod ClauseReasons
+mod ClauseStops
 pub mod ClauseVerdicts
 mod FaultPlaces
 pub mod HeadStops

@@ -1,8 +1,8 @@
 -- What is promised of reasons and causes (own).
 -- Stands on reasons, on causes, on which clause fires and on what a session makes of an event.
-use Rattle.std.specs.Prelude.{◌≡◌, ◌↔◌, List, Some, None}
+use Rattle.std.specs.Prelude.{◌≡◌, ◌↔◌, ℕ, List, Some, None}
 use Rattle.std.specs.Option.{option_map}
-use Rattle.def_term.specs.Tree.{Tree, list, of_elements}
+use Rattle.def_term.specs.Tree.{Tree, Trees, list, of_elements}
 use Rattle.def_spec.specs.Matching.{Pattern, Bindings, Matches}
 use Rattle.def_spec.specs.Functions.{Func}
 use Rattle.def_spec.specs.Reading.{found_in, table, a_function, an_action}
@@ -11,6 +11,7 @@ use Rattle.def_spec.specs.Outcome.{Clause, Fires, outcome_in}
 use Rattle.def_explain.specs.Heads.{HeadReason, IsHeadReason}
 use Rattle.def_explain.specs.Values.{FaultsAt}
 use Rattle.def_explain.specs.Spellings.{function_name, action_name}
+use Rattle.def_explain.specs.Places.{StopsAtClause, stop_of}
 use Rattle.def_node.specs.Event.{Event}
 use Rattle.def_session.specs.State.{Session}
 use Rattle.def_session.specs.Session.{evaluated, told_for}
@@ -37,6 +38,10 @@ VerdictIsComputed = (d : Dialect) (k : Clause) (c : Context) (v : Verdict) → (
 -- the outcome is that of the first clause that is said to fire
 abbrev pub OutcomeIsByVerdicts : Type 0
 OutcomeIsByVerdicts = (d : Dialect) (ks : List Clause) (c : Context) → outcome_by_verdicts d ks c ≡ outcome_in d ks c
+
+-- what is computed is the first term that is no clause
+abbrev pub StopIsComputed : Type 0
+StopIsComputed = (d : Dialect) (ts : Trees) (n : ℕ) → (stop_of d (list ts) ≡ Some n) ↔ StopsAtClause d ts n
 
 -- by its name a function is read as itself, and an action too
 abbrev pub FunctionNameIsRead : Type 0

@@ -1,6 +1,7 @@
 pub mod Causes
 pub mod Heads
 pub mod Laws
+pub mod Places
 pub mod Reasons
 pub mod Spellings
 pub mod Texts

@@ -9,7 +9,7 @@
 
 ghost use Rattle.def_explain.specs.Laws.{ReasonWhereNotFired, ReasonIsOne, ReasonIsComputed};
 ghost use Rattle.def_explain.specs.Laws.{VerdictIsComputed, OutcomeIsByVerdicts};
-ghost use Rattle.def_explain.specs.Laws.{FunctionNameIsRead, ActionNameIsRead};
+ghost use Rattle.def_explain.specs.Laws.{FunctionNameIsRead, ActionNameIsRead, StopIsComputed};
 ghost use Rattle.def_explain.specs.Laws.{HeadReasonWhereNotMatched, FaultWhereNoValue};
 ghost use Rattle.def_explain.specs.Laws.{CauseWhereNothingTold, CauseIsOne, CauseIsComputed};
 
@@ -25,6 +25,11 @@ pub fn a_clause_has_a_reason_or_fires()
 pub fn a_clause_has_one_verdict()
     ensures computed { VerdictIsComputed }
     ensures outcome { OutcomeIsByVerdicts }
+{}
+
+/// Where a list is no specification, the first element that is no clause is found.
+pub fn a_reading_stops_at_a_clause()
+    ensures { StopIsComputed }
 {}
 
 /// By the name that an explanation calls it by, a function is read as itself, and an action too.
