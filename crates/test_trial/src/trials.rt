@@ -1,12 +1,7 @@
 // What becomes of the clauses of specifications.
-use std::alloc::Global;
 use std::test::Fail;
-use tn_action::Context;
-use tn_guard::Parts;
-use tn_spec::{Dialect, spec_of};
-use tn_term::{Alive, Term};
-use tn_text::read_term;
-use tn_trial::put_trial;
+use tn_spec::Dialect;
+use tn_trial::{Question, QuestionFault, answer};
 
 /// A list, a specification of calls, and what is told of its clauses.
 type Row = (&'static str, &'static str, &'static str);
@@ -186,47 +181,98 @@ clause 4: condition 1 faults at {'div',1,{'-',1,1}}
     ),
 ];
 
-/// What is told of the clauses of a specification, in the process 100.
-fn told(
-    alloc: Global,
-    dialect: Dialect,
-    list: &str,
-    spec: &str,
-) -> Result<Vec<u8>, Fail> {
-    let list = read_term(alloc, list.as_bytes())?;
-    let spec = spec_of(alloc, &read_term(alloc, spec.as_bytes())?, dialect)?;
-    let alive = Alive::first(64);
-    let elements = match &list {
-        Term::List(elements) => elements.as_slice(),
-        _ => &[],
-    };
-    let context = Context {
-        list: Parts::Terms(elements),
+/// The question whether a specification fires on a list, in the process 100.
+fn asked<'a>(dialect: Dialect, list: &'a str, spec: &'a str) -> Question<'a> {
+    Question {
+        dialect,
+        list: list.as_bytes(),
         me: 100,
         caller: None,
-        alive: &alive,
-    };
-    let mut text = Vec::new(alloc);
-    put_trial(alloc, &spec, &context, &mut text)?;
-    Ok(text)
+        spec: spec.as_bytes(),
+    }
 }
 
 #[test]
 fn calls(rt: HostRuntime) -> Result<(), Fail> {
     for (list, spec, expected) in &CALLS {
-        let text = told(rt.alloc(), Dialect::Call, list, spec)?;
+        let text = answer(rt.alloc(), &asked(Dialect::Call, list, spec))?;
         assert_eq!(rt; str::from_utf8(&text), Ok(*expected));
     }
     Ok(())
 }
 
+/// `silent` is about calls alone.
 #[test]
 fn silent_sends(rt: HostRuntime) -> Result<(), Fail> {
-    let text = told(rt.alloc(), Dialect::Send, "[<0.101.0>,hi]", "[{['_','$2'],[],[{silent,true},{message,'$2'}]}]")?;
+    let question = asked(
+        Dialect::Send,
+        "[<0.101.0>,hi]",
+        "[{['_','$2'],[],[{silent,true},{message,'$2'}]}]",
+    );
     let expected = "clause 1 fires: silent true, message hi
   '$2' is hi
 => a message that ends in hi
 ";
+    let text = answer(rt.alloc(), &question)?;
     assert_eq!(rt; str::from_utf8(&text), Ok(expected));
+    Ok(())
+}
+
+#[test]
+fn callers(rt: HostRuntime) -> Result<(), Fail> {
+    let question = Question {
+        caller: Some(b"{m,f,255}"),
+        me: 163,
+        ..asked(Dialect::Call, "[]", "[{'_',[],[{message,{caller}},{enable_trace,{self},call}]}]")
+    };
+    let expected = "clause 1 fires: message {m,f,255}, <0.163.0> gets call
+=> a message that ends in {m,f,255}
+";
+    let text = answer(rt.alloc(), &question)?;
+    assert_eq!(rt; str::from_utf8(&text), Ok(expected));
+    Ok(())
+}
+
+/// A list, the text of a caller, a specification, and the fault of the first that isn't what it should be.
+type Wrong = (&'static str, &'static str, &'static str, &'static str);
+
+const WRONG: [Wrong; 13] = [
+    ("[", "{m,f,0}", "[", "list: no term goes on so at 1"),
+    ("{}", "{m,f,0}", "[", "list: no list"),
+    ("[]", "{m,f", "[", "caller: no term goes on so at 4"),
+    ("[]", "{m,f,256}", "[", "caller: no {Module,Function,Arity}"),
+    ("[]", "{m,f,-1}", "[", "caller: no {Module,Function,Arity}"),
+    ("[]", "{m,1,0}", "[", "caller: no {Module,Function,Arity}"),
+    ("[]", "m", "[", "caller: no {Module,Function,Arity}"),
+    ("[]", "{m,f,0}", "[}", "specification: no term goes on so at 1"),
+    ("[]", "{m,f,0}", "[]", "specification: badarg"),
+    ("[]", "{m,f,0}", "a", "specification: badarg"),
+    ("[]", "{m,f,0}", "[a]", "specification: badarg"),
+    ("[]", "{m,f,0}", "[{'_',[],[]},{'_',['$1'],[]}]", "specification: badarg"),
+    ("[]", "{m,f,0}", "[{'_',[],[{display,a}]}]", "specification: unsupported function display"),
+];
+
+/// The clauses that can't be read in the last four of these.
+const STOPS: [Option<usize>; 4] = [None, Some(0), Some(1), Some(0)];
+
+#[test]
+fn wrong_texts(rt: HostRuntime) -> Result<(), Fail> {
+    let mut stops = Vec::new(rt.alloc());
+    for (list, caller, spec, expected) in &WRONG {
+        let question = Question {
+            caller: Some(caller.as_bytes()),
+            ..asked(Dialect::Call, list, spec)
+        };
+        match answer(rt.alloc(), &question) {
+            Ok(_) => assert!(rt; false),
+            Err(fault) => {
+                assert_eq!(rt; format!(in rt.alloc(); "{fault}")?.as_str(), *expected);
+                if let QuestionFault::Spec { clause, .. } = fault {
+                    stops.push(clause)?;
+                }
+            }
+        }
+    }
+    assert_eq!(rt; &stops[1..], STOPS.as_slice());
     Ok(())
 }

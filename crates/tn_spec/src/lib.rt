@@ -17,7 +17,7 @@ mod spec;
 mod table;
 mod variables;
 
-pub use clauses::spec_of;
+pub use clauses::{clause, spec_of};
 pub use expr::Expr;
 pub use fault::SpecFault;
 pub use func::{Action, Dialect, Func};

@@ -6,9 +6,11 @@
 
 mod effects;
 mod names;
+mod question;
 mod reasons;
 mod spelling;
 mod trial;
 
+pub use question::{Question, QuestionFault, answer};
 pub use reasons::put_reason;
 pub use trial::put_trial;
