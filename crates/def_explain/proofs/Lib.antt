@@ -1,3 +1,4 @@
+mod AccountLines
 mod CauseOfEvents
 mod CauseOfSettings
 mod ClauseReasons

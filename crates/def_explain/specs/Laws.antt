@@ -1,6 +1,6 @@
 -- What is promised of reasons and causes (own).
 -- Stands on reasons, on causes, on which clause fires and on what a session makes of an event.
-use Rattle.std.specs.Prelude.{◌≡◌, ◌↔◌, ℕ, List, Some, None}
+use Rattle.std.specs.Prelude.{◌≡◌, ◌↔◌, ℕ, List, option_to_list, Some, None}
 use Rattle.std.specs.Option.{option_map}
 use Rattle.def_term.specs.Tree.{Tree, Trees, list, of_elements}
 use Rattle.def_spec.specs.Matching.{Pattern, Bindings, Matches}
@@ -11,10 +11,11 @@ use Rattle.def_spec.specs.Outcome.{Clause, Fires, outcome_in}
 use Rattle.def_explain.specs.Heads.{HeadReason, IsHeadReason}
 use Rattle.def_explain.specs.Values.{FaultsAt}
 use Rattle.def_explain.specs.Spellings.{function_name, action_name}
+use Rattle.def_explain.specs.Accounts.{told_in_lines, event_lines}
 use Rattle.def_explain.specs.Places.{StopsAtClause, stop_of}
 use Rattle.def_node.specs.Event.{Event}
 use Rattle.def_session.specs.State.{Session}
-use Rattle.def_session.specs.Session.{evaluated, told_for}
+use Rattle.def_session.specs.Session.{evaluated, told_for, event_told}
 use Rattle.def_explain.specs.Reasons.{Reason, IsReason, reason_of}
 use Rattle.def_explain.specs.Causes.{Cause, IsCause, cause_of}
 use Rattle.def_explain.specs.Verdicts.{Verdict, IsVerdict, verdict_of, outcome_by_verdicts}
@@ -69,3 +70,7 @@ CauseIsOne = (s : Session) (e : Event) (x y : Cause) → IsCause s e x → IsCau
 -- what is computed is the cause
 abbrev pub CauseIsComputed : Type 0
 CauseIsComputed = (s : Session) (e : Event) (x : Cause) → (cause_of s e ≡ Some x) ↔ IsCause s e x
+
+-- the messages among the lines of an event are the session's message of it
+abbrev pub LinesTellTheMessage : Type 0
+LinesTellTheMessage = (s : Session) (e : Event) → told_in_lines (event_lines s e) ≡ option_to_list (event_told s e).1

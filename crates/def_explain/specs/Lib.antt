@@ -1,3 +1,4 @@
+pub mod Accounts
 pub mod Causes
 pub mod Heads
 pub mod Laws

@@ -11,6 +11,7 @@ ghost use Rattle.def_explain.specs.Laws.{ReasonWhereNotFired, ReasonIsOne, Reaso
 ghost use Rattle.def_explain.specs.Laws.{VerdictIsComputed, OutcomeIsByVerdicts};
 ghost use Rattle.def_explain.specs.Laws.{FunctionNameIsRead, ActionNameIsRead, StopIsComputed};
 ghost use Rattle.def_explain.specs.Laws.{HeadReasonWhereNotMatched, FaultWhereNoValue};
+ghost use Rattle.def_explain.specs.Laws.{LinesTellTheMessage};
 ghost use Rattle.def_explain.specs.Laws.{CauseWhereNothingTold, CauseIsOne, CauseIsComputed};
 
 /// A clause has a reason exactly where it doesn't fire, and one at most, which is what is computed.
@@ -54,4 +55,9 @@ pub fn a_session_has_a_cause_or_tells()
     ensures exactly { CauseWhereNothingTold }
     ensures one { CauseIsOne }
     ensures computed { CauseIsComputed }
+{}
+
+/// The messages among the lines of an event are the session's message of it.
+pub fn lines_tell_the_message()
+    ensures { LinesTellTheMessage }
 {}
