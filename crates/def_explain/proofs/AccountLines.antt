@@ -17,7 +17,7 @@ use Rattle.def_explain.proofs.CauseOfEvents.{cause_where_nothing_told, cause_is_
 abbrev Says : List Line → Type 0
 Says ls = told_in_lines ls ≡ []
 
-joined-told : (ls ms : List Line) → told_in_lines (ls ++ ms) ≡ told_in_lines ls ++ told_in_lines ms
+pub joined-told : (ls ms : List Line) → told_in_lines (ls ++ ms) ≡ told_in_lines ls ++ told_in_lines ms
 joined-told [] ms = refl
 joined-told (said b ∷ ls) ms = joined-told ls ms
 joined-told (tells t ∷ ls) ms = ap (λ x. t ∷ x) (joined-told ls ms)

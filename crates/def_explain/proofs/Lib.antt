@@ -1,4 +1,4 @@
-mod AccountLines
+pub mod AccountLines
 mod CauseOfEvents
 mod CauseOfSettings
 mod ClauseReasons
