@@ -36,7 +36,7 @@ reason_text (by_condition n r) = codes "condition " ++ decimal (suc n) ++ condit
 -- the flags of a set, each behind a verb
 abbrev pub said_of_each : List ℕ → Flags → List (Name × Flag) → List ℕ
 said_of_each verb fs [] = []
-said_of_each verb fs (e ∷ es) = (if fs e.1 then verb ++ e.0 else []) ++ said_of_each verb fs es
+said_of_each verb fs (e ∷ es) = (if fs e.1 then verb ++ atom_text e.0 else []) ++ said_of_each verb fs es
 
 abbrev pub silent_text : Bool → List ℕ
 silent_text true = codes "silent true"

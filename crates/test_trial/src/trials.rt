@@ -136,7 +136,7 @@ clause 4: condition 1 faults at {'div',1,{'-',1,1}}
     (
         "[]",
         "[{'_',[],[{enable_trace,send},{disable_trace,{self},'receive'}]}]",
-        "clause 1 fires: <0.100.0> gets send, <0.100.0> loses receive
+        "clause 1 fires: <0.100.0> gets send, <0.100.0> loses 'receive'
 => a message
 ",
     ),

@@ -29,7 +29,7 @@ fn put_pid<B: Allocator>(pid: u32, out: &mut Vec<u8, B>) -> Result<(), AllocErro
 fn named(flags: Flags) -> [(&'static [u8], bool); 10] {
     [
         (b"send", flags.send),
-        (b"receive", flags.receive),
+        (b"'receive'", flags.receive),
         (b"call", flags.call),
         (b"procs", flags.procs),
         (b"silent", flags.silent),
