@@ -9,7 +9,7 @@ use tn_spec::Pattern;
 use tn_term::Term;
 
 /// Whether one term alone matches the pattern: it has no variable and no `'_'`.
-#[cycle(test)]
+#[cycle(constant)]
 fn is_constant<P: Allocator>(pattern: &Pattern<P>) -> bool
     ensures { result ≡ is_some (constant_in (pattern_seen pattern.now)) }
 {
@@ -22,7 +22,7 @@ fn is_constant<P: Allocator>(pattern: &Pattern<P>) -> bool
 }
 
 /// Whether each of the patterns is so.
-#[cycle(test)]
+#[cycle(constant)]
 pub fn are_constant<P: Allocator>(patterns: &Vec<Pattern<P>, P>) -> bool
     ensures { result ≡ is_some (constants_in (patterns_seen patterns.now.items)) }
 {
