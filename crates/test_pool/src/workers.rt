@@ -9,7 +9,7 @@ use std::sync::Wait;
 use std::test::Fail;
 use std::thread::Threads;
 use tn_live::{Live, Naming, Opened};
-use tn_pool::{Open, Report, run_workers};
+use tn_pool::{Board, Open, Report, run_workers};
 use tn_program::{Program, program};
 use tn_script::forms;
 use tn_trace::Core;
@@ -52,7 +52,20 @@ fn check_closed<J: Naming, R: Abort + Wait>(
     Ok(())
 }
 
-/// One worker takes each turn that moves: 12 receipts, no token and no fault.
+/// The board lends the two lines of session 1 and no other.
+fn check_board(rt: &impl Abort, board: &Board<Global>) -> Result<(), Fail> {
+    let first = board.line(1, 0).ok_or("no first line")?;
+    assert_eq!(rt; first.text(), b"{trace,<0.102.0>,'receive',1}\n".as_slice());
+    let second = board.line(1, 1).ok_or("no second line")?;
+    assert_eq!(rt;
+        second.text(),
+        b"{trace,<0.102.0>,'receive',2}\n".as_slice()
+    );
+    assert!(rt; board.line(1, 2).is_none() && board.line(2, 0).is_none());
+    Ok(())
+}
+
+/// One worker takes each turn that moves: 12 receipts, no token and no fault, and the lines on the board.
 fn lone_worker<J: Naming + Send + Sync, R: Threads + Abort + Wait + Sync>(
     rt: &R,
     alloc: Global,
@@ -63,8 +76,10 @@ fn lone_worker<J: Naming + Send + Sync, R: Threads + Abort + Wait + Sync>(
     requires named { opened ≡ J.log }
 {
     let (live, seats) = Live::<Global, J>::begin(alloc, core, opened, 1)?;
-    let report = run_workers(rt, alloc, &live, seats, &Open, 1000);
+    let board = Board::new(alloc, alloc, 1, 1024)?;
+    let report = run_workers(rt, &live, &board, seats, &Open, 1000);
     assert_eq!(rt; (report.seats.len(), report.receipts.len()), (1, 12));
+    check_board(rt, &board)?;
     check_closed(rt, live, report)
 }
 

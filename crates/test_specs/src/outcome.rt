@@ -1,13 +1,20 @@
-// What specifications show of a list: the clause that is chosen, and the effects of its body.
+// What specifications show of a list, by plain evaluation and by their code: the clause that is chosen, and
+// the effects of its body.
+use crate::code::check_code;
 use crate::head::{elements, is_text, spec_in};
+use bumpalo::Bump;
+use linked_list_allocator::LocalHeap;
 use std::alloc::{AllocError, Allocator, Global};
 use std::process::Abort;
 use std::test::Fail;
 use test_allocator::Refusing;
 use tn_action::{Context, Effect, Outcome, outcome};
+use tn_code::Code;
+use tn_compile::compile;
 use tn_flags::Flags;
 use tn_guard::{Parts, Value};
-use tn_spec::{Dialect, spec_of};
+use tn_machine::execute;
+use tn_spec::{Dialect, Spec, spec_of};
 use tn_term::{Alive, Atom, Mfa, Term};
 use tn_text::read_term;
 
@@ -108,18 +115,63 @@ fn context<'a>(
     }
 }
 
-/// The outcome of the case, as a term.
-fn seen(
+/// Whether an outcome is evaluated plainly, or by the specification's code.
+#[derive(Clone, Copy)]
+enum Way {
+    Plain,
+    Code,
+}
+
+const WAYS: [Way; 2] = [Way::Plain, Way::Code];
+
+/// The outcome of the specification's code.
+fn outcome_by_code<A: Allocator + Copy>(
+    alloc: A,
+    spec: &Spec<A>,
+    context: &Context<'_, A>,
+) -> Result<Outcome<A>, AllocError> {
+    let code = compile(alloc, spec)?;
+    Ok(outcome_of_code(alloc, &code, context)?)
+}
+
+/// The outcome of the code.
+fn outcome_of_code<A: Allocator + Copy>(
+    alloc: A,
+    code: &Code<A>,
+    context: &Context<'_, A>,
+) -> Result<Outcome<A>, AllocError> {
+    let arena = Bump::new(alloc);
+    Ok(execute(alloc, code, context, &arena)?)
+}
+
+/// The outcome of the specification.
+fn outcome_by<A: Allocator + Copy>(
+    way: Way,
+    alloc: A,
+    spec: &Spec<A>,
+    context: &Context<'_, A>,
+) -> Result<Outcome<A>, AllocError> {
+    match way {
+        Way::Plain => outcome(alloc, spec, context),
+        Way::Code => outcome_by_code(alloc, spec, context),
+    }
+}
+
+/// Whether the outcome of the specification is that of the text, in each way.
+fn is_outcome(
     alloc: Global,
-    case: &Case<'_>,
-    caller: Option<&Mfa<Global>>,
-    alive: &Alive,
-) -> Result<Term<Global>, Fail> {
-    let spec = spec_in(alloc, case.spec, case.dialect)?;
-    let list = elements(alloc, case.list)?;
-    let context = context(list.as_slice(), caller, alive);
-    let found = outcome(alloc, &spec, &context)?;
-    outcome_term(alloc, &found)
+    spec: &Spec<Global>,
+    context: &Context<'_, Global>,
+    wanted: &str,
+) -> Result<bool, Fail> {
+    for way in &WAYS {
+        let found = outcome_by(*way, alloc, spec, context)?;
+        let seen = outcome_term(alloc, &found)?;
+        if !is_text(alloc, &seen, wanted)? {
+            return Ok(false);
+        }
+    }
+    Ok(true)
 }
 
 /// The outcome of the case is that of the text.
@@ -131,8 +183,11 @@ fn check_in(
     alive: &Alive,
     wanted: &str,
 ) -> Result<(), Fail> {
-    let seen = seen(alloc, case, caller, alive)?;
-    let is_wanted = is_text(alloc, &seen, wanted)?;
+    let spec = spec_in(alloc, case.spec, case.dialect)?;
+    let list = elements(alloc, case.list)?;
+    check_code(alloc, &spec)?;
+    let context = context(list.as_slice(), caller, alive);
+    let is_wanted = is_outcome(alloc, &spec, &context, wanted)?;
     assert!(rt; is_wanted, "{} on {} isn't {wanted}", case.spec, case.list);
     Ok(())
 }
@@ -176,7 +231,7 @@ fn check_dialects(rt: &impl Abort, alloc: Global, row: &Body) -> Result<(), Fail
 /// A specification, the list that it is held against, and the list of its effects, or `no_match`.
 type Row = (&'static str, &'static str, &'static str);
 
-const ROWS: [Row; 23] = [
+const ROWS: [Row; 28] = [
     // The same variable twice.
     ("[{['$1','$1'],[],[]}]", "[a,a]", "[]"),
     ("[{['$1','$1'],[],[]}]", "[a,b]", "no_match"),
@@ -237,6 +292,29 @@ const ROWS: [Row; 23] = [
         "[-7]",
         "[{message,[-3,-1,'EXIT']}]",
     ),
+    // Silence off and on.
+    (
+        "[{[off],[],[{silent,true}]},{[on],[],[{silent,false}]}]",
+        "[off]",
+        "[{silent,true}]",
+    ),
+    (
+        "[{[off],[],[{silent,true}]},{[on],[],[{silent,false}]}]",
+        "[on]",
+        "[{silent,false}]",
+    ),
+    (
+        "[{[off],[],[{silent,true}]},{[on],[],[{silent,false}]}]",
+        "[1]",
+        "no_match",
+    ),
+    // A message that is false, and a return that is kept.
+    (
+        "[{'_',[],[{message,false},{return_trace}]}]",
+        "[1]",
+        "[{message,false},return_trace]",
+    ),
+    ("[{'_',[],[{return_trace}]}]", "[1]", "[return_trace]"),
     // Heads.
     ("[{'$1',[],[{message,'$1'}]}]", "[a,b]", "[{message,[a,b]}]"),
     (
@@ -307,7 +385,7 @@ const CALL_OR_SEND: &[Dialect] = &[Dialect::Call, Dialect::Send];
 /// The dialects that a body is tried in, the body, and its effects on the list `[1]`.
 type Body = (&'static [Dialect], &'static str, &'static str);
 
-const BODIES: [Body; 57] = [
+const BODIES: [Body; 58] = [
     // Each call that faults has the value 'EXIT', and evaluation goes on.
     (CALL, "", "[]"),
     (CALL, "true,7,{hd,[]}", "[]"),
@@ -411,6 +489,11 @@ const BODIES: [Body; 57] = [
         CALL_OR_SEND,
         "{enable_trace,<0.101.0>,procs}",
         "[{change,<0.101.0>,[],[procs]}]",
+    ),
+    (
+        CALL_OR_SEND,
+        "{enable_trace,<0.101.0>,'receive'}",
+        "[{change,<0.101.0>,[],['receive']}]",
     ),
     (
         CALL_OR_SEND,
@@ -620,13 +703,23 @@ fn many_clauses(alloc: Global) -> Result<String, Fail> {
     Ok(format!(in alloc; "{text}{{['$1'],[],[{{message,last}}]}}]")?)
 }
 
+/// The code is so long that the test of instructions, which costs the cube of its length, isn't tried.
 #[test]
 fn the_last_of_many_clauses(rt: HostRuntime) -> Result<(), Fail> {
-    let spec = many_clauses(rt.alloc())?;
-    check(&rt, rt.alloc(), &spec, "[64]", "[{message,last}]")?;
-    check(&rt, rt.alloc(), &spec, "[63]", "[{message,63}]")?;
-    check(&rt, rt.alloc(), &spec, "[1]", "[{message,1}]")?;
-    check(&rt, rt.alloc(), &spec, "[]", "no_match")
+    let alloc = rt.alloc();
+    let spec = spec_in(alloc, &many_clauses(alloc)?, Dialect::Call)?;
+    let alive = two_alive();
+    for (list, wanted) in &[
+        ("[64]", "[{message,last}]"),
+        ("[63]", "[{message,63}]"),
+        ("[1]", "[{message,1}]"),
+        ("[]", "no_match"),
+    ] {
+        let list = elements(alloc, list)?;
+        let context = context(list.as_slice(), None, &alive);
+        assert!(rt; is_outcome(alloc, &spec, &context, wanted)?, "not {wanted}");
+    }
+    Ok(())
 }
 
 /// A list of values: what is lent and what is made match alike.
@@ -643,9 +736,8 @@ fn a_list_of_values(rt: HostRuntime) -> Result<(), Fail> {
         caller: None,
         alive: &two_alive(),
     };
-    let seen = outcome_term(alloc, &outcome(alloc, &spec, &context)?)?;
-    let wanted = b"[{message,[[{hi,[1]}],[1],[<0.101.0>,{hi,[1]},[{hi,[1]}]]]}]";
-    assert!(rt; seen.same(&read_term(alloc, wanted)?));
+    let wanted = "[{message,[[{hi,[1]}],[1],[<0.101.0>,{hi,[1]},[{hi,[1]}]]]}]";
+    assert!(rt; is_outcome(alloc, &spec, &context, wanted)?);
     Ok(())
 }
 
@@ -659,16 +751,18 @@ const EFFECTS: &str =
     "[{message,[{7,{x,[y]}},[7,{x,[y]}],[7,{x,[y]}],'EXIT',{m,go,2}]},return_trace,
  exception_trace,{silent,true},{change,<0.101.0>,[],[call]},{message,[a,{b}]}]";
 
-/// The outcome of the specification on the list, with the caller `{m,go,2}`; None where memory was
-/// refused.
-fn attempted<'h>(
-    heap: &'h Refusing<Global>,
-    spec: &str,
-    list: &str,
-) -> Option<Outcome<&'h Refusing<Global>>> {
-    let spec_term = read_term(heap, spec.as_bytes()).ok()?;
-    let spec = spec_of(heap, &spec_term, Dialect::Call).ok()?;
-    let Term::List(terms) = read_term(heap, list.as_bytes()).ok()? else {
+/// A memory that refuses one growth, over a block that knows how much of it is taken.
+type Heap<'a> = Refusing<&'a LocalHeap>;
+
+/// The outcome of the case, with the caller `{m,go,2}`; None where memory was refused.
+fn attempted<'h, 'm>(
+    heap: &'h Heap<'m>,
+    way: Way,
+    case: &Case<'_>,
+) -> Option<Outcome<&'h Heap<'m>>> {
+    let spec_term = read_term(heap, case.spec.as_bytes()).ok()?;
+    let spec = spec_of(heap, &spec_term, case.dialect).ok()?;
+    let Term::List(terms) = read_term(heap, case.list.as_bytes()).ok()? else {
         return None;
     };
     let caller = caller(heap).ok()??;
@@ -678,30 +772,31 @@ fn attempted<'h>(
         caller: Some(&caller),
         alive: &two_alive(),
     };
-    outcome(heap, &spec, &context).ok()
+    outcome_by(way, heap, &spec, &context).ok()
 }
 
-/// Each growth refused in turn: the outcome of the text, or none where a growth was refused. The arena
-/// may ask again for less, so that there may be an outcome after a refusal.
+/// Each growth refused in turn: the outcome of the text, or none where a growth was refused, and each block
+/// given back. The arena may ask again for less, so that there may be an outcome after a refusal.
 fn check_growths(
     rt: &impl Abort,
     alloc: Global,
-    spec: &str,
-    list: &str,
+    way: Way,
+    case: &Case<'_>,
     wanted: &str,
 ) -> Result<(), Fail> {
     let wanted = read_term(alloc, wanted.as_bytes())?;
+    let memory = LocalHeap::new(alloc, 1 << 16)?;
+    let before = memory.used();
     for served in 0..ENOUGH {
-        let heap = Refusing::after(alloc, served);
-        match attempted(&heap, spec, list) {
-            Some(outcome) => {
-                assert!(rt; outcome_term(alloc, &outcome)?.same(&wanted));
-                if !heap.has_refused() {
-                    assert!(rt; served > 20, "only {served} growths");
-                    return Ok(());
-                }
-            }
+        let heap = Refusing::after(&memory, served);
+        match attempted(&heap, way, case) {
+            Some(outcome) => assert!(rt; outcome_term(alloc, &outcome)?.same(&wanted)),
             None => assert!(rt; heap.has_refused(), "nothing was refused"),
+        }
+        assert_eq!(rt; memory.used(), before);
+        if !heap.has_refused() {
+            assert!(rt; served > 20, "only {served} growths");
+            return Ok(());
         }
     }
     panic!(rt; "each outcome was refused memory")
@@ -709,6 +804,14 @@ fn check_growths(
 
 #[test]
 fn growths_refused(rt: HostRuntime) -> Result<(), Fail> {
-    check_growths(&rt, rt.alloc(), SPEC, "[7,{x,[y]}]", EFFECTS)?;
-    check_growths(&rt, rt.alloc(), SPEC, "[7,[{x},{y}],8]", "no_match")
+    for (list, wanted) in &[("[7,{x,[y]}]", EFFECTS), ("[7,[{x},{y}],8]", "no_match")] {
+        let case = Case {
+            dialect: Dialect::Call,
+            spec: SPEC,
+            list,
+        };
+        check_growths(&rt, rt.alloc(), Way::Plain, &case, wanted)?;
+        check_growths(&rt, rt.alloc(), Way::Code, &case, wanted)?;
+    }
+    Ok(())
 }

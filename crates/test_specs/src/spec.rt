@@ -1,4 +1,5 @@
 // Terms that are read as specifications, and the first faults of others.
+use crate::code::check_code;
 use crate::head::{only_clause, spec_in};
 use crate::seen::{Row, check_patterns, check_rows};
 use std::alloc::Global;
@@ -119,11 +120,15 @@ const ACTIONS: [(&str, [bool; 3]); 20] = [
     ("{caller,1}", [false, false, false]),
 ];
 
-/// The answer on the text of a term: `ok`, `badarg`, or the name that isn't supported.
+/// The answer on the text of a term: `ok`, where the test of instructions accepts its code, `badarg`, or the
+/// name that isn't supported.
 fn answer(alloc: Global, text: &str, dialect: Dialect) -> Result<String, Fail> {
     let term = read_term(alloc, text.as_bytes())?;
     match spec_of(alloc, &term, dialect) {
-        Ok(_) => Ok(String::from_str(alloc, "ok")?),
+        Ok(spec) => {
+            check_code(alloc, &spec)?;
+            Ok(String::from_str(alloc, "ok")?)
+        }
         Err(SpecFault::Badarg) => Ok(String::from_str(alloc, "badarg")?),
         Err(SpecFault::Unsupported(name)) => Ok(String::from_str(alloc, name.text())?),
         Err(SpecFault::TooLarge) => Err(Fail::new("too large")),

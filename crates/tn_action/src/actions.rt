@@ -22,14 +22,16 @@ use tn_guard::Value;
 use tn_spec::{Action, Dialect};
 use tn_term::Alive;
 
-/// The value of an action, and its effect, where it has one.
+/// The value of an action, and its effect, where it has one. The value is lent or lies in the arena; the
+/// effect is a copy in the allocator for effects.
 #[derive(Drop)]
 pub struct Acted<'a, A: Allocator> {
     pub value: Value<'a, A>,
     pub effect: Option<Effect<A>>,
 }
 
-/// The value of an action on its arguments' values, with its effect; None is a fault.
+/// The value of an action on its arguments' values, with its effect; None is a fault. An error is refused
+/// memory.
 pub fn perform<'a, A: Allocator + Copy>(
     action: Action,
     args: &[Value<'a, A>],

@@ -38,7 +38,7 @@ pub struct Scene<'a, 'b, A: Allocator + Copy> {
 }
 
 impl<'a, 'b, A: Allocator + Copy> Scene<'a, 'b, A> {
-    /// `'$$'`
+    /// `'$$'`: the list of the values that are bound, by rising number. An error is refused memory.
     pub fn all_bound(&self) -> Result<Value<'a, A>, AllocError>
         ensures { IfOk result (λ v. value_seen v ≡ list_bound (bindings_seen self.now.bindings.now)) }
     {
@@ -48,7 +48,7 @@ impl<'a, 'b, A: Allocator + Copy> Scene<'a, 'b, A> {
         }
     }
 
-    /// `{caller}`
+    /// `{caller}`: the function of the frame beneath, or `undefined`. An error is refused memory.
     pub fn caller(&self) -> Result<Value<'a, A>, AllocError>
         ensures { IfOk result (λ v. value_seen v ≡ caller_term (context_seen self.now.context.now).caller_mfa) }
     {

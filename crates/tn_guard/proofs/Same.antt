@@ -1,6 +1,6 @@
 -- Equality of terms as a test, by what it decides.
-use Rattle.std.proofs.Common.{◌≡◌, ◌↔◌, Bool, true, false, IsTrue, refl, sym, subst}
-use Rattle.def_term.specs.Tree.{Tree}
+use Rattle.std.proofs.Common.{◌≡◌, ◌↔◌, Bool, true, false, IsTrue, refl, sym, ap, subst}
+use Rattle.def_term.specs.Tree.{Tree, list, Trees}
 use Rattle.def_term.specs.Order.{same}
 use Rattle.def_term.proofs.Same.{same-is, same-self}
 
@@ -11,3 +11,7 @@ decided false t u h = go (same t u) refl
     go : (s : Bool) → same t u ≡ s → false ≡ s
     go true e = h.1 (same-is t u e)
     go false e = refl
+
+-- of lists, by what it decides of their elements
+pub decided-lists : (b : Bool) (ts us : Trees) → IsTrue b ↔ (ts ≡ us) → b ≡ same (list ts) (list us)
+decided-lists b ts us h = decided b (list ts) (list us) ((λ x. ap list (h.0 x)), (λ e. let is : ts ≡ us = cc in h.1 is))

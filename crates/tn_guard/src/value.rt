@@ -1,11 +1,11 @@
 // Values: terms that are lent, and what functions and expressions make.
-ghost use Rattle.std.specs.Prelude.{◌≡◌};
+ghost use Rattle.std.specs.Prelude.{◌≡◌, ◌↔◌, IsTrue};
 ghost use Rattle.std.specs.Option.{option_map};
 ghost use Rattle.def_term.specs.Tree.{int, atom};
 ghost use Rattle.def_term.specs.Atoms.{IsAtomText};
 ghost use Rattle.def_term.specs.Order.{same};
 ghost use Rattle.def_spec.specs.Functions.{truth};
-ghost use Rattle.tn_term.specs.Views.{tree_of};
+ghost use Rattle.tn_term.specs.Views.{tree_of, trees_of};
 ghost use Rattle.tn_guard.specs.Views.{word_seen, value_seen, shape_seen, parts_seen};
 ghost use Rattle.tn_guard.specs.Views.{text_in, pid_in, tuple_in, list_in};
 
@@ -104,8 +104,9 @@ impl<'a, A: Allocator> Value<'a, A> {
     pub fn is_term<B: Allocator>(self, term: &Term<B>) -> bool
         ensures { result ≡ same (tree_of term.now) (value_seen self.entry) }
     {
-        match self {
-            Value::Lent(own) => term.same(own),
+        match (self, term) {
+            (Value::Lent(own), _) => term.same(own),
+            (Value::Rest(own), Term::List(items)) => are_same(items.as_slice(), own),
             _ => Shape::of(term).order(self.shape()).is_eq(),
         }
     }
@@ -165,4 +166,19 @@ impl<'a, A: Allocator> Value<'a, A> {
             Value::List(items) => Shape::List(Parts::Values(items)),
         }
     }
+}
+
+/// Whether both are the same terms in the same order.
+fn are_same<A: Allocator, B: Allocator>(one: &[Term<A>], other: &[Term<B>]) -> bool
+    ensures { IsTrue result ↔ (trees_of one.now ≡ trees_of other.now) }
+{
+    if one.len() != other.len() {
+        return false;
+    }
+    for i in 0..one.len() {
+        if !one[i].same(&other[i]) {
+            return false;
+        }
+    }
+    true
 }

@@ -118,7 +118,8 @@ pub(crate) fn first_missing<A: Allocator, J: Naming>(
 
 /// How many entries the seats made; None for more than a `u64` counts.
 pub fn total_made<A: Allocator, J: Naming>(seats: &[Seat<A, J>]) -> Option<u64>
-    ensures { IfSome result (λ n. n ≡ made_in_all seats.now) }
+    ensures total { IfSome result (λ n. n ≡ made_in_all seats.now) }
+    ensures none { IfNone result (u64.MAX < made_in_all seats.now) }
 {
     let mut total: u64 = 0;
     for seat in seats {

@@ -1,7 +1,17 @@
 -- What workers share, a core under its lock, says the same to every thread: type by type, from terms up.
 use denote.RattleType.{RattleType}
-use denote.Param.Send.{IsSend, IsSync, Frees, sendable}
+use mir.Syntax.{Sym}
+use denote.Struct.Declared.{fields, shape}
+use denote.Struct.Tuple.{TupleAt, type_at}
+use denote.Param.Send.{IsSend, IsSync, AllSync, Frees, recorded_sync, struct_sync, sendable}
+use Rattle.std.proofs.Common.{List}
 use Rattle.std.specs.declared.alloc.Allocator.{Ghosts}
+use Rattle.std.specs.declared.cmp.PartialEq as equality
+use Rattle.std.specs.declared.hash.Hash as hash
+use Rattle.std.specs.declared.hash.BuildHasher as build_hasher
+use Rattle.std.specs.declared.hash.Hasher as hasher
+use Rattle.std.specs.contracts.hash.BuildHasherDefault as hashing
+use Rattle.std.proofs.hash.FoldHasher.TheSendSync as folding_sent
 use Rattle.std.proofs.CrossingOver.{crosses}
 use Rattle.tn_term.proofs.term.Term.TheLaws.TheKnot as term_knot
 use Rattle.tn_spec.proofs.expr.Expr.TheLaws.TheKnot as expr_knot
@@ -27,17 +37,30 @@ use Rattle.tn_spec.specs.contracts.pattern.Pattern as pattern
 use Rattle.tn_spec.specs.contracts.pattern.Head as head
 use Rattle.tn_spec.specs.contracts.spec.Clause as clause
 use Rattle.tn_spec.specs.contracts.spec.Spec as spec
-use Rattle.tn_session.specs.contracts.setting.Setting as setting
-use Rattle.tn_session.specs.contracts.setting.Covered as covered
-use Rattle.tn_session.specs.contracts.setting.Covering as covering
-use Rattle.tn_session.specs.contracts.setting.Settings as settings
+use Rattle.tn_code.specs.contracts.instr.Instr as instruction
+use Rattle.tn_code.specs.contracts.code.Code as code
+use Rattle.tn_index.specs.contracts.covering.Setting as setting
+use Rattle.tn_index.specs.contracts.covering.Covered as covered
+use Rattle.tn_index.specs.contracts.covering.Covering as covering
+use Rattle.tn_index.specs.contracts.entry.Entry as indexed
+use Rattle.tn_index.specs.contracts.settings.Settings as settings
+use Rattle.indexmap.specs.contracts.index_table.IndexTable as index_table
+use Rattle.indexmap.specs.contracts.columns.Columns as columns
+use Rattle.indexmap.specs.contracts.map.IndexMap as index_map
+use Rattle.tn_session.specs.contracts.compiled.Compiled as compiled
 use Rattle.tn_session.specs.contracts.state.State as state
 use Rattle.tn_session.specs.contracts.session.Session as session
 use Rattle.tn_trace.specs.contracts.keeping.Terms as terms
 use Rattle.tn_trace.specs.contracts.recording.Core as core
 use Rattle.tn_trace.specs.contracts.slot.Slot as slot
 use Rattle.tn_trace.specs.contracts.engine.Engine as engine
+use Rattle.tn_trace.specs.contracts.item.Item as item
+use Rattle.tn_listing.specs.contracts.line.Line as line
+use Rattle.once_cell.proofs.race.once_box.OnceBox.TheSendSync as once_box_sent
+use Rattle.tn_pool.specs.contracts.board.Board as board
 use Rattle.std.proofs.Crossing as heap
+use Rattle.std.specs.contracts.alloc.Global as Heap
+use Rattle.std.specs.contracts.impls.GlobalAllocator.TheImpl.{ghosts}
 use Rattle.tn_term.proofs.alive.Alive.TheSendSync as alive_sent
 use Rattle.tn_flags.proofs.flags.Flags.TheSendSync as flags_sent
 use Rattle.tn_session.proofs.state.Phase.TheSendSync as phase_sent
@@ -48,6 +71,11 @@ use Rattle.tn_live.proofs.entry.Entry.TheSendSync as entry_sent
 use Rattle.tn_live.specs.declared.front.Naming as naming
 use Rattle.tn_spec.proofs.func.Func.TheSendSync as func_sent
 use Rattle.tn_spec.proofs.func.Action.TheSendSync as action_sent
+use Rattle.indexmap.proofs.index_table.Bucket.TheSendSync as bucket_sent
+use Rattle.indexmap.proofs.index_table.group.Group.TheSendSync as group_sent
+use Rattle.tn_spec.proofs.func.Dialect.TheSendSync as dialect_sent
+use Rattle.tn_code.proofs.instr.Kind.TheSendSync as kind_sent
+use Rattle.tn_code.proofs.instr.OnFault.TheSendSync as on_fault_sent
 use Rattle.tn_live.specs.contracts.record.Record as record_
 use Rattle.tn_live.specs.contracts.book.Book as book
 use Rattle.tn_live.specs.contracts.live.Live as live
@@ -179,11 +207,29 @@ module _ (T : RattleType) (g : Ghosts T.Denot) (s : IsSend T) (f : Frees g g.dea
   spec_field_send : IsSend (spec.the_field T g).row
   spec_field_send = search (sendable, crosses, clause_send, clause_field_send, spec_send) depth 40 fits 3000 parts 0
 
-  setting_send : IsSend (setting.the_row T g)
-  setting_send = search (sendable, crosses, spec_send, spec_field_send) depth 40 fits 3000 parts 0
+  instruction_send : IsSend (instruction.the_row T g)
+  instruction_send = search (sendable, crosses, term_send, term_field_send, func_sent.the_send, func_sent.the_field_send, action_sent.the_send, action_sent.the_field_send, dialect_sent.the_send, dialect_sent.the_field_send, kind_sent.the_send, kind_sent.the_field_send, on_fault_sent.the_send, on_fault_sent.the_field_send) depth 40 fits 3000 parts 0
 
-  setting_field_send : IsSend (setting.the_field T g).row
-  setting_field_send = search (sendable, crosses, spec_send, spec_field_send, setting_send) depth 40 fits 3000 parts 0
+  instruction_field_send : IsSend (instruction.the_field T g).row
+  instruction_field_send = search (sendable, crosses, term_send, term_field_send, func_sent.the_send, func_sent.the_field_send, action_sent.the_send, action_sent.the_field_send, dialect_sent.the_send, dialect_sent.the_field_send, kind_sent.the_send, kind_sent.the_field_send, on_fault_sent.the_send, on_fault_sent.the_field_send, instruction_send) depth 40 fits 3000 parts 0
+
+  code_send : IsSend (code.the_row T g)
+  code_send = search (sendable, crosses, instruction_send, instruction_field_send) depth 40 fits 3000 parts 0
+
+  code_field_send : IsSend (code.the_field T g).row
+  code_field_send = search (sendable, crosses, instruction_send, instruction_field_send, code_send) depth 40 fits 3000 parts 0
+
+  compiled_send : IsSend (compiled.the_row T g)
+  compiled_send = search (sendable, crosses, spec_send, spec_field_send, code_send, code_field_send) depth 40 fits 3000 parts 0
+
+  compiled_field_send : IsSend (compiled.the_field T g).row
+  compiled_field_send = search (sendable, crosses, spec_send, spec_field_send, code_send, code_field_send, compiled_send) depth 40 fits 3000 parts 0
+
+  setting_send : (S : RattleType) → IsSend S → IsSend (setting.the_row S)
+  setting_send S k = search (sendable, crosses) depth 40 fits 3000 parts 0
+
+  setting_field_send : (S : RattleType) → IsSend S → IsSend (setting.the_field S).row
+  setting_field_send S k = search (sendable, crosses, setting_send) depth 40 fits 3000 parts 0
 
   covered_send : IsSend (covered.the_row T g)
   covered_send = search (sendable, crosses, atom_send, atom_field_send, mfa_send, mfa_field_send) depth 40 fits 3000 parts 0
@@ -191,23 +237,54 @@ module _ (T : RattleType) (g : Ghosts T.Denot) (s : IsSend T) (f : Frees g g.dea
   covered_field_send : IsSend (covered.the_field T g).row
   covered_field_send = search (sendable, crosses, atom_send, atom_field_send, mfa_send, mfa_field_send, covered_send) depth 40 fits 3000 parts 0
 
-  covering_send : IsSend (covering.the_row T g)
-  covering_send = search (sendable, crosses, covered_send, covered_field_send, setting_send, setting_field_send) depth 40 fits 3000 parts 0
+  covering_send : (S : RattleType) → IsSend S → IsSend (covering.the_row S T g)
+  covering_send S k = search (sendable, crosses, covered_send, covered_field_send, setting_send, setting_field_send) depth 40 fits 3000 parts 0
 
-  covering_field_send : IsSend (covering.the_field T g).row
-  covering_field_send = search (sendable, crosses, covered_send, covered_field_send, setting_send, setting_field_send, covering_send) depth 40 fits 3000 parts 0
+  covering_field_send : (S : RattleType) → IsSend S → IsSend (covering.the_field S T g).row
+  covering_field_send S k = search (sendable, crosses, covered_send, covered_field_send, setting_send, setting_field_send, covering_send) depth 40 fits 3000 parts 0
 
-  settings_send : IsSend (settings.the_row T g)
-  settings_send = search (sendable, crosses, covering_send, covering_field_send) depth 40 fits 3000 parts 0
+  indexed_send : IsSend (indexed.the_row T g)
+  indexed_send = search (sendable, crosses, mfa_send, mfa_field_send) depth 40 fits 3000 parts 0
 
-  settings_field_send : IsSend (settings.the_field T g).row
-  settings_field_send = search (sendable, crosses, covering_send, covering_field_send, settings_send) depth 40 fits 3000 parts 0
+  indexed_field_send : IsSend (indexed.the_field T g).row
+  indexed_field_send = search (sendable, crosses, mfa_send, mfa_field_send, indexed_send) depth 40 fits 3000 parts 0
+
+  index_table_send : IsSend (index_table.the_row T g)
+  index_table_send = search (sendable, crosses, group_sent.the_send, group_sent.the_field_send, bucket_sent.the_send, bucket_sent.the_field_send) depth 40 fits 3000 parts 0
+
+  index_table_field_send : IsSend (index_table.the_field T g).row
+  index_table_field_send = search (sendable, crosses, group_sent.the_send, group_sent.the_field_send, bucket_sent.the_send, bucket_sent.the_field_send, index_table_send) depth 40 fits 3000 parts 0
+
+  columns_send : (K V : RattleType) → IsSend K → IsSend V → IsSend (columns.the_row K V T g)
+  columns_send K V k v = search (sendable, crosses) depth 40 fits 3000 parts 0
+
+  columns_field_send : (K V : RattleType) → IsSend K → IsSend V → IsSend (columns.the_field K V T g).row
+  columns_field_send K V k v = search (sendable, crosses, columns_send) depth 40 fits 3000 parts 0
+
+  module _ (K V B H : RattleType) (e : equality.Ghosts K.Denot) (h : hash.Ghosts K.Denot) (b : build_hasher.Ghosts B.Denot H.Denot) (r : hasher.Ghosts H.Denot) (k : IsSend K) (v : IsSend V) (bs : IsSend B) where
+    index_map_send : IsSend (index_map.the_row K V B T H e h b r g)
+    index_map_send = search (sendable, crosses, index_table_send, index_table_field_send, columns_send, columns_field_send) depth 40 fits 3000 parts 0
+
+    index_map_field_send : IsSend (index_map.the_field K V B T H e h b r g).row
+    index_map_field_send = search (sendable, crosses, index_table_send, index_table_field_send, columns_send, columns_field_send, index_map_send) depth 40 fits 3000 parts 0
+
+  hashing_send : (H : RattleType) → IsSend H → IsSend (hashing.the_row H)
+  hashing_send H h = search (sendable, crosses) depth 40 fits 3000 parts 0
+
+  hashing_field_send : (H : RattleType) → IsSend H → IsSend (hashing.the_field H).row
+  hashing_field_send H h = search (sendable, crosses, hashing_send) depth 40 fits 3000 parts 0
+
+  settings_send : (S : RattleType) → IsSend S → IsSend (settings.the_row S T g)
+  settings_send S k = search (sendable, crosses, covering_send, covering_field_send, indexed_send, indexed_field_send, index_map_send, index_map_field_send, hashing_send, hashing_field_send, folding_sent.the_send) depth 40 fits 3000 parts 0
+
+  settings_field_send : (S : RattleType) → IsSend S → IsSend (settings.the_field S T g).row
+  settings_field_send S k = search (sendable, crosses, covering_send, covering_field_send, indexed_send, indexed_field_send, index_map_send, index_map_field_send, hashing_send, hashing_field_send, folding_sent.the_send, settings_send) depth 40 fits 3000 parts 0
 
   state_send : IsSend (state.the_row T g)
-  state_send = search (sendable, crosses, mfa_send, mfa_field_send, settings_send, settings_field_send, setting_send, setting_field_send, alive_sent.the_send, alive_sent.the_field_send, flags_sent.the_send, flags_sent.the_field_send, phase_sent.the_send, phase_sent.the_field_send) depth 40 fits 3000 parts 0
+  state_send = search (sendable, crosses, mfa_send, mfa_field_send, compiled_send, compiled_field_send, settings_send, settings_field_send, setting_send, setting_field_send, alive_sent.the_send, alive_sent.the_field_send, flags_sent.the_send, flags_sent.the_field_send, phase_sent.the_send, phase_sent.the_field_send) depth 40 fits 3000 parts 0
 
   state_field_send : IsSend (state.the_field T g).row
-  state_field_send = search (sendable, crosses, mfa_send, mfa_field_send, settings_send, settings_field_send, setting_send, setting_field_send, alive_sent.the_send, alive_sent.the_field_send, flags_sent.the_send, flags_sent.the_field_send, phase_sent.the_send, phase_sent.the_field_send, state_send) depth 40 fits 3000 parts 0
+  state_field_send = search (sendable, crosses, mfa_send, mfa_field_send, compiled_send, compiled_field_send, settings_send, settings_field_send, setting_send, setting_field_send, alive_sent.the_send, alive_sent.the_field_send, flags_sent.the_send, flags_sent.the_field_send, phase_sent.the_send, phase_sent.the_field_send, state_send) depth 40 fits 3000 parts 0
 
   session_send : IsSend (session.the_row T g)
   session_send = search (sendable, crosses, state_send, state_field_send) depth 40 fits 3000 parts 0
@@ -239,6 +316,18 @@ module _ (T : RattleType) (g : Ghosts T.Denot) (s : IsSend T) (f : Frees g g.dea
   pub core_field_send : IsSend (core.the_field T g).row
   core_field_send = search (sendable, crosses, program_send, program_field_send, engine_send, engine_field_send, terms_send, terms_field_send, core_send) depth 40 fits 3000 parts 0
 
+  item_send : IsSend (item.the_row T g)
+  item_send = search (sendable, crosses, term_send, term_field_send) depth 40 fits 3000 parts 0
+
+  item_field_send : IsSend (item.the_field T g).row
+  item_field_send = search (sendable, crosses, term_send, term_field_send, item_send) depth 40 fits 3000 parts 0
+
+  line_send : IsSend (line.the_row T g)
+  line_send = search (sendable, crosses, item_send, item_field_send) depth 40 fits 3000 parts 0
+
+  line_field_send : IsSend (line.the_field T g).row
+  line_field_send = search (sendable, crosses, item_send, item_field_send, line_send) depth 40 fits 3000 parts 0
+
   module _ (J : RattleType) (n : naming.Ghosts J.Denot) (js : IsSend J) where
     record_send : IsSend (record_.the_row T J g n)
     record_send = search (sendable, crosses, core_send, core_field_send, head_sent.the_send, front_sent.the_send, place_sent.the_send, place_sent.the_field_send, entry_sent.the_send, entry_sent.the_field_send) depth 40 fits 3000 parts 0
@@ -257,3 +346,42 @@ module _ (T : RattleType) (g : Ghosts T.Denot) (s : IsSend T) (f : Frees g g.dea
 
     pub live_field_sync : IsSync (live.the_field T J g n).row
     live_field_sync = search (sendable, crosses, heap.crosses, book_send, book_field_send, live_sync) depth 40 fits 3000 parts 0
+
+  -- a board of lines, of which threads read terms
+  module _ (y : IsSync T) where
+    atom_sync : IsSync (atom.the_row T g)
+    atom_sync = search (sendable, crosses) depth 40 fits 3000 parts 0
+
+    atom_field_sync : IsSync (atom.the_field T g).row
+    atom_field_sync = search (sendable, crosses, atom_sync) depth 40 fits 3000 parts 0
+
+    term_sync : IsSync (term.the_row T g)
+    term_sync = search (sendable, crosses, atom_sync, atom_field_sync, term_knot.sync-Term) depth 40 fits 3000 parts 0
+
+    term_field_sync : IsSync (term.the_field T g).row
+    term_field_sync = search (sendable, crosses, atom_sync, atom_field_sync, term_knot.sync-Term, term_sync) depth 40 fits 3000 parts 0
+
+    item_sync : IsSync (item.the_row T g)
+    item_sync = search (sendable, crosses, term_sync, term_field_sync) depth 40 fits 3000 parts 0
+
+    item_field_sync : IsSync (item.the_field T g).row
+    item_field_sync = search (sendable, crosses, term_sync, term_field_sync, item_sync) depth 40 fits 3000 parts 0
+
+    line_sync : IsSync (line.the_row T g)
+    line_sync = search (sendable, crosses, item_sync, item_field_sync) depth 40 fits 3000 parts 0
+
+    line_field_sync : IsSync (line.the_field T g).row
+    line_field_sync = search (sendable, crosses, item_sync, item_field_sync, line_sync) depth 40 fits 3000 parts 0
+
+    pub board_sync : IsSync (board.the_row T g)
+    board_sync = search (sendable, crosses, heap.sync, once_box_sent.the_sync, line_send, line_field_send, line_sync, line_field_sync) depth 40 fits 3000 parts 0
+
+    pub board_field_sync : IsSync (board.the_field T g).row
+    board_field_sync = search (sendable, crosses, heap.sync, once_box_sent.the_sync, line_send, line_field_send, line_sync, line_field_sync, board_sync) depth 40 fits 3000 parts 0
+
+pub board_in_heap : IsSync (board.the_row Heap.the_row ghosts)
+board_in_heap = board_sync Heap.the_row ghosts heap.send heap.frees heap.sync
+
+-- what a closure captures, each of which threads may share
+pub captured_sync : (name : Sym) (types : List RattleType) → AllSync (fields (type_at name types)) → IsSync (TupleAt name types)
+captured_sync name types each = recorded_sync _ _ _ (type_at name types).to_one (struct_sync (shape (type_at name types)) each)

@@ -1,5 +1,5 @@
 -- The receipts of a seat that turns.
-use Rattle.std.proofs.Common.{◌≡◌, ℕ, zero, suc, ◌+◌, ◌≤◌, Bool, true, false, cond, nat_eq, List, [], ◌∷◌, ◌++◌, vec_len, MatchBool, sym, refl, ap, ◌∙◌, subst, arith, append_assoc, Ok, Err}
+use Rattle.std.proofs.Common.{◌≡◌, ℕ, ◌+◌, Bool, true, false, cond, nat_eq, List, [], ◌∷◌, ◌++◌, MatchBool, sym, refl, ap, ◌∙◌, subst, arith, append_assoc, Ok, Err}
 use Rattle.std.proofs.lemmas.List.{append-nil}
 use Rattle.std.proofs.lemmas.List.Sums.{sum_by-cons}
 use Rattle.std.proofs.lemmas.Bool.Decides.{Decides-eqb}
@@ -13,7 +13,7 @@ use Rattle.tn_live.specs.Journal.{entry, made_by}
 use Rattle.tn_live.specs.States.{SeatState, seat_of}
 use Rattle.tn_live.specs.Turning.{IsReceipt, SeatTurns}
 use Rattle.tn_pool.specs.declared.worker.Worker.{Worker}
-use Rattle.tn_pool.specs.Earnings.{Earns, Works, WorksOn, StaysSo}
+use Rattle.tn_pool.specs.Earnings.{Earns, Works, WorksOn}
 
 map-match : (b : Bool) (P Q P' Q' : Type 0) → (P → P') → (Q → Q') → MatchBool b P Q → MatchBool b P' Q'
 map-match true P Q P' Q' f g h = f h

@@ -4,4 +4,6 @@ pub mod Rows
 pub mod Filling
 pub mod Earned
 pub mod Reported
+mod Listed
+mod Shown
 mod Crossings

@@ -1,11 +1,11 @@
 -- What workers did, as a report.
-use Rattle.std.proofs.Common.{◌≡◌, ℕ, zero, suc, ◌+◌, ◌*◌, ◌≤◌, ◌<◌, List, [], ◌∷◌, ◌++◌, length, map, take, drop, vec_len, slice_index_or, All, sym, refl, ap, ◌∙◌, subst, arith, append_assoc}
+use Rattle.std.proofs.Common.{◌≡◌, ℕ, zero, suc, ◌*◌, ◌≤◌, List, [], ◌∷◌, ◌++◌, length, take, drop, vec_len, slice_index_or, sym, refl, ap, ◌∙◌, subst, arith, append_assoc}
 use Rattle.std.proofs.lemmas.List.{append-nil, take_all, map-append}
 use Rattle.std.proofs.lemmas.List.Elements.{All-append}
 use Rattle.def_script.specs.Program.{Program}
 use Rattle.tn_live.specs.declared.entry.Receipt.{Receipt}
 use Rattle.tn_live.specs.States.{SeatState}
-use Rattle.tn_pool.specs.Earnings.{Works, WorksOn, WorksFew}
+use Rattle.tn_pool.specs.Earnings.{Works, WorksFew}
 use Rattle.tn_pool.specs.Reports.{Member, seats_of, receipts_of, count_of, IsNew, AreNew, WorksAt, EachWorks, Reports}
 use Rattle.tn_pool.proofs.Earned.{works-still}
 

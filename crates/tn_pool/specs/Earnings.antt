@@ -1,6 +1,6 @@
 -- The receipts that a worker's seat earns.
 -- Stands on what a turn does to a seat.
-use Rattle.std.specs.Prelude.{◌≡◌, ◌+◌, ◌≤◌, ◌<◌, ℕ, nat_eq, List, [], ◌∷◌, ◌++◌, vec_len, MatchBool}
+use Rattle.std.specs.Prelude.{◌≡◌, ◌+◌, ◌≤◌, ℕ, nat_eq, List, [], ◌∷◌, ◌++◌, vec_len, MatchBool}
 use Rattle.def_script.specs.Program.{Program}
 use Rattle.tn_live.specs.declared.entry.Entry.{Entry}
 use Rattle.tn_live.specs.declared.entry.Receipt.{Receipt}

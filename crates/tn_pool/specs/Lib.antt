@@ -3,3 +3,4 @@ pub mod Rows
 pub mod Queues
 pub mod Earnings
 pub mod Reports
+pub mod Boards

@@ -2,6 +2,7 @@
 ghost use Rattle.std.specs.Prelude.{◌≡◌, ◌+◌, ◌<◌, ◌≤◌, [], vec_len, vec_capacity};
 ghost use Rattle.tn_pool.specs.Earnings.{Works, WorksOn, StaysSo};
 
+use crate::board::Board;
 use crate::gate::Gate;
 use crate::report::PoolFault;
 use crate::token::Token;
@@ -10,6 +11,15 @@ use std::alloc::Allocator;
 use std::sync::Wait;
 use tn_live::{Live, Naming, Receipt, Seat, Turn};
 use tn_trace::StepFault;
+
+/// What workers share beside the run queue: the lock, the board for their lines, and what is told of each
+/// turn.
+#[derive(Drop)]
+pub struct Shared<'s, A: Allocator, J: Naming, G: Gate> {
+    pub live: &'s Live<A, J>,
+    pub board: &'s Board<A>,
+    pub gate: &'s G,
+}
 
 /// A worker: its number, its seat, and what came of its turns.
 #[derive(Drop)]
@@ -35,10 +45,11 @@ pub fn new_worker<A: Allocator, J: Naming>(alloc: A, number: u32, seat: Seat<A, 
     }
 }
 
-/// Takes the step of a pick, for which there is room. Whether the worker goes on.
-fn step<A: Allocator + Copy, J: Naming, R: Wait>(
+/// Takes the step of a pick, for which there is room, and puts the lines of its messages on the board once
+/// the lock is free. Whether the worker goes on.
+fn step<A: Allocator + Copy, J: Naming, R: Wait, G: Gate>(
     rt: &R,
-    live: &Live<A, J>,
+    shared: &Shared<'_, A, J, G>,
     worker: &mut Worker<A, J>,
     pick: u32,
 ) -> bool
@@ -46,8 +57,9 @@ fn step<A: Allocator + Copy, J: Naming, R: Wait>(
     ensures works { WorksOn J.program worker.old worker.new }
     ensures few { vec_len worker.new.receipts ≤ vec_len worker.old.receipts + 1 }
 {
-    match live.step(rt, &mut worker.seat, pick) {
+    match shared.live.step(rt, &mut worker.seat, pick) {
         Ok(Turn::Moved(receipt)) => {
+            shared.board.show(&receipt.items);
             worker.receipts.push_reserved(receipt);
             true
         }
@@ -82,8 +94,7 @@ fn give_back<A: Allocator, J: Naming, R: Wait>(
 /// Takes a turn, if there is a token. Whether the worker goes on.
 fn turn<A: Allocator + Copy, J: Naming, R: Wait, G: Gate>(
     rt: &R,
-    live: &Live<A, J>,
-    gate: &G,
+    shared: &Shared<'_, A, J, G>,
     end: &mut TurnEnd<'_, A>,
     worker: &mut Worker<A, J>,
 ) -> bool
@@ -97,9 +108,9 @@ fn turn<A: Allocator + Copy, J: Naming, R: Wait, G: Gate>(
     let Some(token) = end.take_turn(rt) else {
         return true;
     };
-    gate.before_turn(worker.number);
-    let goes_on = step(rt, live, worker, token.pick());
-    gate.after_turn(worker.number);
+    shared.gate.before_turn(worker.number);
+    let goes_on = step(rt, shared, worker, token.pick());
+    shared.gate.after_turn(worker.number);
     let is_given = give_back(rt, end, worker, token);
     goes_on && is_given
 }
@@ -107,8 +118,7 @@ fn turn<A: Allocator + Copy, J: Naming, R: Wait, G: Gate>(
 /// Takes at most so many turns.
 pub fn work<A: Allocator + Copy, J: Naming, R: Wait, G: Gate>(
     rt: &R,
-    live: &Live<A, J>,
-    gate: &G,
+    shared: &Shared<'_, A, J, G>,
     turns: u32,
     end: &mut TurnEnd<'_, A>,
     worker: &mut Worker<A, J>,
@@ -117,7 +127,7 @@ pub fn work<A: Allocator + Copy, J: Naming, R: Wait, G: Gate>(
     ensures few { vec_len worker.new.receipts ≤ vec_len worker.old.receipts + turns }
 {
     for _ in 0..turns {
-        if !turn(rt, live, gate, end, worker) {
+        if !turn(rt, shared, end, worker) {
             break;
         }
     }

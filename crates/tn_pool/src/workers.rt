@@ -3,10 +3,11 @@ ghost use Rattle.std.specs.Prelude.{◌≡◌, ◌≤◌, ◌<◌, ◌*◌, ℕ,
 ghost use Rattle.tn_pool.specs.Earnings.{WorksFew};
 ghost use Rattle.tn_pool.specs.Reports.{WorksAt, AreNew, IsEmptyReport, HasRoom, Adds, Reports, seats_of, receipts_of, count_of};
 
+use crate::board::Board;
 use crate::gate::Gate;
 use crate::report::{PoolFault, Report};
 use crate::turns::{RunQueue, TurnEnd};
-use crate::worker::{Worker, new_worker, work};
+use crate::worker::{Shared, Worker, new_worker, work};
 use std::alloc::{AllocError, Allocator, Global};
 use std::marker::{Send, Sync};
 use std::sync::Wait;
@@ -18,6 +19,7 @@ use tn_live::{Live, Naming, Seat};
 fn run_all<J: Naming + Send + Sync, R: Threads + Wait + Sync, G: Gate>(
     rt: &R,
     live: &Live<Global, J>,
+    board: &Board<Global>,
     gate: &G,
     turns: u32,
     members: &mut [(TurnEnd<'_, Global>, Worker<Global, J>)],
@@ -35,7 +37,10 @@ fn run_all<J: Naming + Send + Sync, R: Threads + Wait + Sync, G: Gate>(
         threads,
         &|_i: usize, member: &mut (TurnEnd<'_, Global>, Worker<Global, J>)|
             ensures { WorksFew J.program turns member.entry.now.1 member.exit.now.1 }
-        { work(rt, live, gate, turns, &mut member.0, &mut member.1) },
+        {
+            let shared = Shared { live, board, gate };
+            work(rt, &shared, turns, &mut member.0, &mut member.1)
+        },
     );
 }
 
@@ -136,8 +141,9 @@ fn refused<A: Allocator + Copy, J: Naming>(alloc: A, seats: Vec<Seat<A, J>, A>) 
 /// Runs a worker for each seat, numbered from 0 in the seats' order: each takes at most so many turns, in a
 /// thread of its own where one can be made, else on the caller's. A turn takes a token from the run queue,
 /// tells the gate, takes the step of the token's pick, tells the gate again and gives the token back; one
-/// that finds no token counts too. All seats come back, and for each entry that a seat made there is one
-/// receipt. The caller gives seats of this lock alone.
+/// that finds no token counts too. Once the lock is free, the line of each message that the step added is
+/// put on the board; one that can't be made or put there is passed over. All seats come back, and for each
+/// entry that a seat made there is one receipt. The caller gives seats of this lock alone.
 ///
 /// A worker ends early where the journal is full, which is no fault; where its step is answered another
 /// fault; and where memory is refused, for a receipt or for giving its token back. No turn is taken where
@@ -145,14 +151,15 @@ fn refused<A: Allocator + Copy, J: Naming>(alloc: A, seats: Vec<Seat<A, J>, A>) 
 /// all seats may make.
 pub fn run_workers<J: Naming + Send + Sync, R: Threads + Wait + Sync, G: Gate>(
     rt: &R,
-    alloc: Global,
     live: &Live<Global, J>,
+    board: &Board<Global>,
     seats: Vec<Seat<Global, J>>,
     gate: &G,
     turns: u32,
 ) -> Report<Global, J>
     ensures { Reports J.program seats.items result.seats.items result.receipts.items }
 {
+    let alloc = board.allocator();
     let count = seats.len();
     let Ok(ends_count) = u32::try_from(count) else {
         return refused(alloc, seats);
@@ -170,7 +177,7 @@ pub fn run_workers<J: Naming + Send + Sync, R: Threads + Wait + Sync, G: Gate>(
         return refused(alloc, seats);
     };
     pack(alloc, seats, ends, &mut members);
-    run_all(rt, live, gate, turns, members.as_mut_slice());
+    run_all(rt, live, board, gate, turns, members.as_mut_slice());
     unpack(members, &mut report);
     report
 }

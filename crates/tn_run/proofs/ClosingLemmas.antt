@@ -1,45 +1,19 @@
--- The journal that the seats of a closed lock made, and its output.
-use Rattle.std.proofs.Common.{Bor, ◌≡◌, ◌∙◌, ℕ, zero, suc, ◌+◌, ◌<◌, ◌≤◌, List, [], ◌∷◌, ◌++◌, length, map, take, get_or, All, ◌⊎◌, inl, inr, Some, refl, sym, ap, subst, append-nil, length-append, arith}
-use Rattle.std.specs.Prelude.{slice_get, slice_index_or, Result, Ok, Err, OnOk, IfOk}
+-- The journal that the seats of a closed lock made.
+use Rattle.std.proofs.Common.{◌≡◌, ◌∙◌, ℕ, zero, suc, ◌<◌, ◌≤◌, List, [], ◌∷◌, ◌++◌, length, take, get_or, All, inl, inr, refl, sym, ap, subst, append-nil, length-append, arith}
+use Rattle.std.specs.Prelude.{slice_index_or, Result, Ok, Err, IfOk}
 use Rattle.std.proofs.lemmas.List.{length-map}
 use Rattle.std.proofs.lemmas.List.Elements.{All-append, All-get_or, All-from_get_or}
-use Rattle.def_term.specs.Names.{Name}
 use Rattle.def_script.specs.Program.{Program}
-use Rattle.def_script.specs.Script.{creations}
 use Rattle.def_run.specs.Run.{JOURNAL, moves}
 use Rattle.def_run.specs.Round.{pass}
-use Rattle.def_run.specs.Listing.{messages, listing_text}
 use Rattle.def_run.specs.Laws.{IsIdleAfter}
 use Rattle.def_run.proofs.Replay.{moves_bounded}
 use Rattle.def_run.proofs.Picks.{full_journal_stays}
-use Rattle.tn_term.specs.Views.{tree_of}
-use Rattle.tn_term.specs.declared.term.Term.{Term}
-use Rattle.tn_trace.specs.Cores.{Lists}
-use Rattle.tn_listing.specs.Listings.{listing_of}
-use Rattle.tn_listing.specs.Outputs.{listing_numbered}
-use Rattle.tn_listing.proofs.OutputLemmas.{listed_as}
 use Rattle.tn_live.specs.declared.entry.Entry.{Entry}
 use Rattle.tn_live.specs.Journal.{picks_of}
 use Rattle.tn_live.specs.States.{SeatState, Begins, seat_of, IsJournal}
-use Rattle.tn_live.specs.Turning.{Follows}
 use Rattle.tn_live.specs.Closing.{Ends, made_in_all}
 use Rattle.tn_run.specs.Settled.{IdlesAt, IsStill, HasSettled, IsSettled, IsAtRest, IsClosedOutput, RunsToRest}
-
--- ---- the messages of a session
-
-pub terms_listed : {A : Type 0} (p : Program) (picks : List ℕ) (i : ℕ) (v : Bor (List (Term A))) (s : Name × Name) (before after : List ℕ) → Lists p picks (suc i) (Some v)
-    → Some s ≡ slice_get (creations p.commands) i → after ≡ before ++ listing_of s.0 s.1 v.now → after ≡ before ++ listing_numbered p picks i
-terms_listed p picks i v s before after lent named added =
-    let which : Some lent.0 ≡ Some s = sym lent.1 ∙ sym named in
-    let own : lent.0 ≡ s = cc in
-    let told : map tree_of v.now ≡ messages s.0 p picks = lent.2 ∙ ap (λ (n : Name × Name). messages n.0 p picks) own in
-    added
-    ∙ ap (λ ts. before ++ listing_text s.0 s.1 ts) told
-    ∙ ap (λ l. before ++ l) (listed_as (λ n. messages n p picks) (creations p.commands) i s named)
-
-pub if_ok : {T E P Q : Type 0} (r : Result T E) → OnOk r P → (P → Q) → IfOk r (λ _. Q)
-if_ok (Ok x) h f = f h
-if_ok (Err e) h f = tt
 
 pub if_ok_of : {T E : Type 0} (P Q : T → Type 0) (r : Result T E) → ((x : T) → P x → Q x) → IfOk r P → IfOk r Q
 if_ok_of P Q (Ok x) f h = f x h

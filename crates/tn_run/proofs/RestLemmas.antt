@@ -1,12 +1,11 @@
 -- A journal after which no pick of a pass moves: nothing moves any more.
 use Rattle.std.proofs.Common.{◌≡◌, ◌∙◌, ℕ, zero, suc, ◌+◌, ◌-◌, ◌<◌, ◌≤◌, nat_lt, Bool, true, false, List, [], ◌∷◌, length, get_or, All, refl, sym, ap, subst, arith, cond}
-use Rattle.std.specs.Prelude.{nat_le, slice_get, Option, None}
+use Rattle.std.specs.Prelude.{nat_le, slice_get, None}
 use Rattle.std.proofs.lemmas.List.Elements.{All-get_or}
 use Rattle.std.proofs.lemmas.Bool.Decides.{nat_tests}
 use Rattle.std.proofs.lemmas.Option.{slice_get_past}
-use Rattle.def_script.specs.Program.{Function, Command, Program}
+use Rattle.def_script.specs.Program.{Function, Command}
 use Rattle.def_node.specs.Node.{World, Move, moved, idle, next_of, living, place_in}
-use Rattle.def_node.specs.Process.{Process}
 use Rattle.def_node.specs.Limits.{IsWithin, world_after}
 use Rattle.def_node.proofs.Limits.{next_keeps, opening_within}
 use Rattle.def_node.proofs.Steps.{living_nowhere}

@@ -13,7 +13,6 @@ ghost use Rattle.tn_run.specs.Plans.{Gives, Writes, TakesSome};
 ghost use Rattle.tn_run.specs.Workers.{IsOfNoEnd, IsOfNoWrite, IsWorkerCount, HasPicksWhereListed, WritesSomeByWorkers};
 
 use crate::acceptance::{Denial, accept};
-use crate::closing::{closed_output, journal_picks};
 use crate::ends::{read_text, write_output};
 use crate::fault::{LiveFault, RunFault};
 use crate::outcome::{Outcome, Refusal};
@@ -25,7 +24,7 @@ use std::marker::{Brand, Send, Sync};
 use std::sync::Wait;
 use std::thread::Threads;
 use tn_live::{Closed, Live, Naming, Opened};
-use tn_pool::{Gate, PoolFault, run_workers};
+use tn_pool::{Board, Gate, PoolFault, assemble, run_workers};
 use tn_text::{MAX_TEXT, Watched};
 use tn_trace::{Core, StepFault};
 
@@ -50,21 +49,22 @@ pub struct Ran {
 /// Memory was refused before the workers began, or after they ended.
 const OUT_OF_MEMORY: LiveFault = LiveFault::Run(RunFault::OutOfMemory);
 
-/// The picks of a closed journal, and its output.
+/// How many lines of each session the board has places for.
+const LINES: usize = 1024;
+
+/// The picks of a closed journal, and its output, for which lines may lie on the board.
 fn finish<J: Naming>(
     alloc: Global,
     closed: &Closed<Global, J>,
+    board: &Board<Global>,
 ) -> Result<(Vec<u32>, Vec<u8>), LiveFault>
     ensures output { IfOk result (λ r. IsClosedOutput J.program closed.now r.0.items r.1.items) }
     ensures faults { IfErr result (λ e. IsOfNoEnd e) }
 {
-    let Ok(picks) = journal_picks(alloc, closed) else {
+    let Ok(assembled) = assemble(alloc, closed, board) else {
         return Err(OUT_OF_MEMORY);
     };
-    let Ok(output) = closed_output(alloc, closed, &picks) else {
-        return Err(OUT_OF_MEMORY);
-    };
-    Ok((picks, output))
+    Ok((assembled.picks, assembled.text))
 }
 
 /// Workers run the node of a core, and then its first seat until nothing moves: the picks and the output.
@@ -81,10 +81,14 @@ fn run_core<J: Naming + Send + Sync, T: Threads + Wait + Sync, G: Gate>(
     ensures output { IfOk result (λ r. RunsToRest J.program r.0.items r.1.items) }
     ensures faults { IfErr result (λ e. IsOfNoEnd e) }
 {
+    let sessions = core.program().session_count();
+    let Ok(board) = Board::new(alloc, alloc, sessions, LINES) else {
+        return Err(OUT_OF_MEMORY);
+    };
     let Ok((live, seats)) = Live::<Global, J>::begin(alloc, core, opened, workers.count) else {
         return Err(OUT_OF_MEMORY);
     };
-    let report = run_workers(rt, alloc, &live, seats, workers.gate, workers.turns);
+    let report = run_workers(rt, &live, &board, seats, workers.gate, workers.turns);
     if let Some(fault) = report.fault {
         return Err(LiveFault::Pool(fault));
     }
@@ -95,7 +99,7 @@ fn run_core<J: Naming + Send + Sync, T: Threads + Wait + Sync, G: Gate>(
     let Ok(closed) = live.close(rt, seats) else {
         return Err(LiveFault::Pool(PoolFault::Step(StepFault::Spent)));
     };
-    finish(alloc, &closed)
+    finish(alloc, &closed, &board)
 }
 
 /// What a refusal writes, with no picks.

@@ -1,11 +1,11 @@
 -- The arguments of commands, the newest command that has a function among its own, and how many functions a command matches.
-use Rattle.std.proofs.Common.{◌≡◌, ◌≢◌, ◌∙◌, ◌+◌, ◌<◌, ◌==◌, ◌||◌, ℕ, suc, Bool, true, false, if◌then◌else◌, List, [], ◌∷◌, length, get_or, take, map, reverse, Option, Some, None, refl, sym, ap, ap₂, arith}
+use Rattle.std.proofs.Common.{◌≡◌, ◌≢◌, ◌∙◌, ◌+◌, ◌<◌, ◌==◌, ◌||◌, ℕ, suc, Bool, true, false, if◌then◌else◌, List, [], ◌∷◌, length, get_or, take, map, Option, Some, None, refl, sym, ap, ap₂, arith}
 use Rattle.std.specs.List.{filter}
 use Rattle.std.specs.declared.cmp.Ordering.{Ordering}
 use Rattle.std.specs.declared.cmp.Ordering.TheVariants.{Less, Equal, Greater}
 use Rattle.std.specs.Ordering.{ordering_then, is_eq}
 use Rattle.std.proofs.lemmas.Bool.Decides.{nat_tests}
-use Rattle.std.proofs.lemmas.List.{take_more, map-append, reverse-append, length-append}
+use Rattle.std.proofs.lemmas.List.{take_more, map-append, length-append}
 use Rattle.std.proofs.lemmas.List.Elements.{filter-append}
 use Rattle.def_term.specs.Tree.{Tree, tuple, list, none, more}
 use Rattle.def_term.specs.Order.{tree_cmp, same}
@@ -13,10 +13,17 @@ use Rattle.def_term.specs.Names.{word}
 use Rattle.std.specs.Prelude.{Ok}
 use Rattle.def_node.specs.Event.{Call}
 use Rattle.def_spec.specs.Expressions.{for_calls}
-use Rattle.def_session.specs.Settings.{Setting, off, Covered, covered_by, covered_of, options_of, Covering, has_among, setting_for, setting_of}
+use Rattle.def_session.specs.Settings.{Setting, off, Covered, covered_by, covered_of, options_of, Covering as Accepted, has_among, setting_for, setting_of}
 use Rattle.def_script.specs.Opening.{Opening}
 use Rattle.def_session.specs.State.{Session}
 use Rattle.def_session.specs.Commands.{refused, function_set, function_set_if}
+use Rattle.std.specs.Option.{option_map}
+use Rattle.def_term.specs.Names.{Mfa}
+use Rattle.tn_session.specs.declared.compiled.Compiled.{Compiled}
+use Rattle.tn_index.specs.declared.covering.Covering.{Covering}
+use Rattle.tn_index.specs.Views.{covers}
+use Rattle.tn_index.specs.Newest.{newest_of}
+use Rattle.tn_session.specs.Views.{covering_seen, settings_seen}
 use Rattle.tn_session.specs.Newest.{newest_with, concerning}
 use Rattle.tn_session.specs.Replies.{covered_so}
 use Rattle.tn_term.specs.Views.{tree_of, trees_of}
@@ -86,13 +93,15 @@ no_options (x ∷ xs) e = absurd (omega arith)
 
 -- ---- from the newest
 
--- the last of the first i + 1 comes first
-pub newest_of : {X Y : Type 0} (f : X → Y) (xs : List X) (i : ℕ) (x : X) → i < length xs → x ≡ get_or xs i x → reverse (map f (take (i + 1) xs)) ≡ f x ∷ reverse (map f (take i xs))
-newest_of f xs i x below is =
-    ap (λ ys. reverse (map f ys)) (take_more xs i x below)
-    ∙ ap reverse (map-append f (take i xs) (get_or xs i x ∷ []))
-    ∙ reverse-append (map f (take i xs)) (f (get_or xs i x) ∷ [])
-    ∙ ap (λ y. f y ∷ reverse (map f (take i xs))) (sym is)
+newest_by : {A : Type 0} (b : Bool) (k : Covering (Compiled A) A) (ks : List (Covering (Compiled A) A)) (f : Mfa) (x : Bool) → newest_with (settings_seen ks) f x ≡ option_map covering_seen (newest_of ks f x)
+    → (if b then Some (covering_seen k) else newest_with (settings_seen ks) f x) ≡ option_map covering_seen (if b then Some k else newest_of ks f x)
+newest_by true k ks f x older = refl
+newest_by false k ks f x older = older
+
+-- the newest of the code's is the definition's
+pub newest_seen : {A : Type 0} (ks : List (Covering (Compiled A) A)) (f : Mfa) (x : Bool) → newest_with (settings_seen ks) f x ≡ option_map covering_seen (newest_of ks f x)
+newest_seen [] f x = refl
+newest_seen (k ∷ ks) f x = newest_by (covers k f x) k ks f x (newest_seen ks f x)
 
 -- ---- how many match
 
@@ -117,12 +126,12 @@ one_more p f xs i x b below is e =
 
 -- ---- settings of functions
 
-newest_or : (b : Bool) (k : Covering) (ks : List Covering) (c : Call) → setting_for ks c ≡ concerning (newest_with ks c.mfa c.exported) c.named
+newest_or : (b : Bool) (k : Accepted) (ks : List Accepted) (c : Call) → setting_for ks c ≡ concerning (newest_with ks c.mfa c.exported) c.named
     → (if b then (if k.local || c.named then k.setting else off) else setting_for ks c) ≡ concerning (if b then Some k else newest_with ks c.mfa c.exported) c.named
 newest_or true k ks c older = refl
 newest_or false k ks c older = older
 
-pub by_newest : (ks : List Covering) (c : Call) → setting_for ks c ≡ concerning (newest_with ks c.mfa c.exported) c.named
+pub by_newest : (ks : List Accepted) (c : Call) → setting_for ks c ≡ concerning (newest_with ks c.mfa c.exported) c.named
 by_newest [] c = refl
 by_newest (k ∷ ks) c = newest_or (has_among k c.mfa c.exported) k ks c (by_newest ks c)
 

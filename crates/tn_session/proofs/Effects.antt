@@ -5,9 +5,9 @@ use Rattle.def_term.specs.Tree.{Tree}
 use Rattle.def_spec.specs.Expressions.{Effect, gives_message, traces_return, traces_exception, silences, changes}
 use Rattle.def_session.specs.Messages.{later, last_message, followed_by}
 use Rattle.tn_term.specs.declared.term.Term.{Term}
-use Rattle.tn_action.specs.Views.{effect_seen}
-use Rattle.tn_action.specs.declared.effect.Effect as code
-use Rattle.tn_action.specs.declared.effect.Effect.TheVariants.{Message, ReturnTrace, ExceptionTrace, Silent, Change}
+use Rattle.tn_machine.specs.Lent.{effect_seen}
+use Rattle.tn_machine.specs.Lent as code
+use Rattle.tn_machine.specs.Lent.{Message, ReturnTrace, ExceptionTrace, Silent, Change}
 
 later_none : (o : Option Tree) → later None o ≡ o
 later_none None = refl

@@ -12,3 +12,4 @@ pub mod Longer
 pub mod Holding
 pub mod Silence
 pub mod AtomTexts
+pub mod Outcomes

@@ -1,3 +1,4 @@
+pub mod Compilations
 pub mod Views
 pub mod Messages
 pub mod Newest

@@ -9,7 +9,8 @@ use Rattle.tn_spec.specs.declared.func.Dialect.{Dialect}
 use Rattle.tn_spec.specs.Views.{dialect_of}
 use Rattle.tn_spec.specs.Readings.{TOO_LARGE}
 use Rattle.tn_session.specs.Views.{setting_seen}
-use Rattle.tn_session.specs.declared.setting.Setting.{Setting}
+use Rattle.tn_index.specs.declared.covering.Setting.{Setting}
+use Rattle.tn_session.specs.declared.compiled.Compiled.{Compiled}
 
 -- a fault of a term that is read as a setting: its first, or that it is too large; want of memory tells nothing of it
 abbrev pub IsFaultIn : {A : Type 0} → Dialect → Tree → SpecFault A → Type 0
@@ -19,5 +20,5 @@ IsFaultIn d t TooLarge = TOO_LARGE ≤ size t
 IsFaultIn d t OutOfMemory = Unit {0}
 
 -- the setting that the term spells, or its fault
-abbrev pub IsSettingRead : {A : Type 0} → Dialect → Tree → Result (Setting A) (SpecFault A) → Type 0
+abbrev pub IsSettingRead : {A : Type 0} → Dialect → Tree → Result (Setting (Compiled A)) (SpecFault A) → Type 0
 IsSettingRead d t result = MatchResult result (λ s. setting_of (dialect_of d) t ≡ Ok (setting_seen s)) (λ fault. IsFaultIn d t fault)

@@ -15,12 +15,13 @@ use Rattle.tn_flags.specs.Views.{event_of}
 use Rattle.tn_flags.specs.declared.event.Event.{Event}
 use Rattle.tn_guard.specs.Views.{value_seen}
 use Rattle.tn_guard.specs.declared.value.Value.{Value}
-use Rattle.tn_action.specs.Views.{effect_seen}
-use Rattle.tn_action.specs.declared.effect.Effect.{Effect}
+use Rattle.tn_machine.specs.Lent.{effect_seen}
+use Rattle.tn_machine.specs.Lent.{Effect}
 use Rattle.tn_session.specs.Views.{setting_seen, state_seen}
 use Rattle.tn_session.specs.Messages.{message_seen}
 use Rattle.tn_session.specs.declared.message.Message.{Message}
-use Rattle.tn_session.specs.declared.setting.Setting.{Setting}
+use Rattle.tn_index.specs.declared.covering.Setting.{Setting}
+use Rattle.tn_session.specs.declared.compiled.Compiled.{Compiled}
 use Rattle.tn_session.specs.declared.state.State.{State}
 
 -- a message, where there is one
@@ -74,7 +75,7 @@ abbrev pub evaluating_send : {A B : Type 0} → State A → ℕ → Term B → �
 evaluating_send s p t to alive = evaluating s (sent p (tree_of t) to alive)
 
 -- by a setting
-abbrev pub evaluating_by : {A : Type 0} → Setting A → Context → Option (List Asked)
+abbrev pub evaluating_by : {A : Type 0} → Setting (Compiled A) → Context → Option (List Asked)
 evaluating_by s c = evaluated_by (setting_seen s) c
 
 -- what a specification is evaluated in, on these values

@@ -8,35 +8,29 @@ use Rattle.def_session.specs.State as definition
 use Rattle.def_session.specs.Settings as settings
 use Rattle.tn_term.specs.Views.{mfa_seen, alive_of}
 use Rattle.tn_flags.specs.Views.{flags_of}
-use Rattle.tn_spec.specs.Wholes.{spec_seen}
+use Rattle.tn_session.specs.Compilations.{compiled_seen}
 use Rattle.tn_term.specs.declared.mfa.Mfa.{Mfa}
-use Rattle.tn_session.specs.declared.setting.Setting.{Setting}
-use Rattle.tn_session.specs.declared.setting.Setting.TheVariants.{Off, Plain, By}
-use Rattle.tn_session.specs.declared.setting.Covered.{Covered}
-use Rattle.tn_session.specs.declared.setting.Covered.TheVariants.{One, AnyArity, WholeModule, Every}
-use Rattle.tn_session.specs.declared.setting.Covering.{Covering}
-use Rattle.tn_session.specs.declared.setting.Settings.{Settings}
+use Rattle.tn_session.specs.declared.compiled.Compiled.{Compiled}
+use Rattle.tn_index.specs.Views.{covered_seen}
+use Rattle.tn_index.specs.declared.covering.Setting.{Setting}
+use Rattle.tn_index.specs.declared.covering.Setting.TheVariants.{Off, Plain, By}
+use Rattle.tn_index.specs.declared.covering.Covered.{Covered}
+use Rattle.tn_index.specs.declared.covering.Covering.{Covering}
 use Rattle.tn_session.specs.declared.state.Phase.{Phase}
 use Rattle.tn_session.specs.declared.state.Phase.TheVariants.{Live, Destroyed}
 use Rattle.tn_session.specs.declared.state.State.{State}
 
-abbrev pub setting_seen : {A : Type 0} → Setting A → settings.Setting
+abbrev pub setting_seen : {A : Type 0} → Setting (Compiled A) → settings.Setting
 setting_seen Off = settings.off
 setting_seen Plain = settings.plain
-setting_seen (By s) = settings.by (spec_seen s)
+setting_seen (By s) = settings.by (compiled_seen s)
 
-abbrev pub covered_seen : {A : Type 0} → Covered A → settings.Covered
-covered_seen (One f) = settings.one (mfa_seen f)
-covered_seen (AnyArity m f) = settings.any_arity m f
-covered_seen (WholeModule m) = settings.whole_module m
-covered_seen Every = settings.every
-
-abbrev pub covering_seen : {A : Type 0} → Covering A → settings.Covering
+abbrev pub covering_seen : {A : Type 0} → Covering (Compiled A) A → settings.Covering
 covering_seen k = record { covered = covered_seen k.covered; setting = setting_seen k.setting; local = k.local }
 
 -- the newest first
-abbrev pub settings_seen : {A : Type 0} → Settings A → List settings.Covering
-settings_seen s = reverse (map covering_seen s.entries.items)
+abbrev pub settings_seen : {A : Type 0} → List (Covering (Compiled A) A) → List settings.Covering
+settings_seen ks = map covering_seen ks
 
 abbrev pub phase_seen : Phase → definition.Phase
 phase_seen Live = definition.live

@@ -14,12 +14,13 @@ ghost use Rattle.tn_session.specs.Procs.{procs_seen, only_pid};
 ghost use Rattle.tn_session.specs.Replies.{reply_seen, opening_in, AreFlagsSet, IsProcessDone, IsCovered};
 ghost use Rattle.tn_session.specs.Replies.{IsFunctionDone, IsSendDone, IsReceiveDone, IsLiveDone, IsCommandDone};
 
+use crate::compiled::Compiled;
 use crate::covered::{covered_of, options_of, setting_of};
 use crate::reply::{Reply, counted, reply_to};
-use crate::setting::{Covering, Setting, Settings};
 use crate::state::{Phase, State};
 use std::alloc::{AllocError, Allocator};
 use tn_flags::{Command, Flags, flag_of};
+use tn_index::{Covering, Setting, Settings};
 use tn_spec::Dialect;
 use tn_term::{Alive, Term};
 
@@ -185,7 +186,7 @@ impl<A: Allocator + Copy> State<A> {
     }
 
     /// How many functions the command matches.
-    fn matching(&self, covering: &Covering<A>) -> usize
+    fn matching(&self, covering: &Covering<Compiled<A>, A>) -> usize
         ensures value { (n : ℕ) → result ≡ matching_count (opening_in self.now n) (covering_seen covering.now) }
         ensures small { result < 2 ^ 63 }
     {
@@ -199,12 +200,12 @@ impl<A: Allocator + Copy> State<A> {
     }
 
     /// An accepted function command is the newest.
-    fn cover(&mut self, covering: Covering<A>) -> Result<Reply<A>, AllocError>
+    fn cover(&mut self, covering: Covering<Compiled<A>, A>) -> Result<Reply<A>, AllocError>
         ensures done { IfOk result (λ r. IsCovered self.old (covering_seen covering) self.new (reply_seen r)) }
         ensures kept { self.new.functions ≡ self.old.functions }
     {
         let count = self.matching(&covering);
-        self.settings.set(covering)?;
+        self.settings.set(&self.functions, covering)?;
         Ok(counted(count))
     }
 
@@ -272,9 +273,7 @@ impl<A: Allocator + Copy> State<A> {
         self.phase = Phase::Destroyed;
         self.flags = [none; 64];
         self.for_new = none;
-        self.settings = Settings {
-            entries: Vec::new(self.alloc),
-        };
+        self.settings = Settings::new(self.alloc);
         self.sending = Setting::Plain;
         self.receiving = Setting::Plain;
         self.marks = Vec::new(self.alloc);

@@ -8,8 +8,9 @@ ghost use Rattle.tn_term.specs.Views.{tree_of, trees_of};
 ghost use Rattle.tn_session.specs.Readings.{IsSettingRead};
 ghost use Rattle.tn_session.specs.Views.{Covers};
 
-use crate::setting::{Covered, Setting};
+use crate::compiled::Compiled;
 use std::alloc::{AllocError, Allocator};
+use tn_index::{Covered, Setting};
 use tn_spec::{Dialect, SpecFault, spec_of};
 use tn_term::{Atom, Mfa, Term};
 
@@ -196,7 +197,7 @@ pub(crate) fn setting_of<A: Allocator + Copy>(
     alloc: A,
     term: &Term<A>,
     dialect: Dialect,
-) -> Result<Setting<A>, SpecFault<A>>
+) -> Result<Setting<Compiled<A>>, SpecFault<A>>
     ensures { IsSettingRead dialect (tree_of term.now) result }
 {
     if term.is_word("true") || is_empty_list(term) {
@@ -206,7 +207,7 @@ pub(crate) fn setting_of<A: Allocator + Copy>(
         return Ok(Setting::Off);
     }
     match spec_of(alloc, term, dialect) {
-        Ok(spec) => Ok(Setting::By(spec)),
+        Ok(specification) => Ok(Setting::By(Compiled::of(alloc, &specification)?)),
         Err(fault) => Err(fault),
     }
 }

@@ -10,19 +10,21 @@ ghost use Rattle.def_session.specs.Session as session;
 ghost use Rattle.def_session.specs.Session.{message_after};
 ghost use Rattle.tn_term.specs.Views.{tree_of};
 ghost use Rattle.tn_flags.specs.Views.{event_of, call_of};
-ghost use Rattle.tn_action.specs.Views.{context_seen, effect_seen};
+ghost use Rattle.tn_machine.specs.Lent.{context_seen, effect_seen};
 ghost use Rattle.tn_session.specs.Views.{state_seen};
 ghost use Rattle.tn_session.specs.Told.{told, told_as_term, telling, telling_live, telling_by, following, finishing};
 ghost use Rattle.tn_session.specs.Told.{asked, given, evaluating, evaluating_by, evaluating_send, on_values};
 ghost use Rattle.tn_session.specs.Told.{message_in, deciding};
 
+use crate::compiled::Compiled;
 use crate::message::Message;
-use crate::setting::Setting;
+use crate::setting::setting_for;
 use crate::state::{Phase, State};
 use std::alloc::{AllocError, Allocator};
-use tn_action::{Context, Effect, Outcome, outcome};
 use tn_flags::{Call, Event, Flags, inherit_link, inherit_spawn};
 use tn_guard::{Parts, Value, Word};
+use tn_index::Setting;
+use tn_machine::{Context, Effect, Outcome};
 use tn_term::Term;
 
 // ---- one event
@@ -223,7 +225,7 @@ impl<A: Allocator + Copy> State<A> {
     /// The effects by a setting, on these values.
     fn evaluated_values<'a>(
         &'a self,
-        setting: &Setting<A>,
+        setting: &Setting<Compiled<A>>,
         me: u32,
         list: &'a [Value<'a, A>],
     ) -> Result<Option<Vec<Effect<A>, A>>, AllocError>
@@ -249,7 +251,7 @@ impl<A: Allocator + Copy> State<A> {
         if !self.flags_at(pid).call {
             return Ok(None);
         }
-        match self.settings.setting_for(call) {
+        match setting_for(&self.settings, call) {
             Some(setting) => {
                 let context = Context {
                     list: Parts::Terms(call.args.as_slice()),
@@ -275,7 +277,7 @@ impl<A: Allocator + Copy> State<A> {
 /// The effects by a setting; None where it is off, or where no clause of its specification fires.
 fn evaluated_by<A: Allocator + Copy>(
     alloc: A,
-    setting: &Setting<A>,
+    setting: &Setting<Compiled<A>>,
     context: &Context<'_, A>,
 ) -> Result<Option<Vec<Effect<A>, A>>, AllocError>
     ensures { IfOk result (λ r. given r ≡ evaluating_by setting.now (context_seen context.now)) }
@@ -283,7 +285,7 @@ fn evaluated_by<A: Allocator + Copy>(
     match setting {
         Setting::Off => Ok(None),
         Setting::Plain => Ok(Some(Vec::new(alloc))),
-        Setting::By(spec) => match outcome(alloc, spec, context)? {
+        Setting::By(compiled) => match compiled.outcome(alloc, context)? {
             Outcome::Matched(effects) => Ok(Some(effects)),
             Outcome::NoMatch => Ok(None),
         },

@@ -1,13 +1,14 @@
 //! One trace session: what it makes of each event of the node, and what its commands do and reply.
 //!
-//! Stands on tn_flags, tn_spec, tn_action and tn_text, and on the definitions of def_session. Promises
-//! that `created` is the session at its creation, that `command` and `event` are one step of the
-//! definition of a session, reply and message included, and that a session that was refused memory is
-//! spent. What a session tells of an event is a `Message` that lends the event; a term or a text is made
-//! of it.
+//! Stands on tn_flags, tn_spec, tn_compile, tn_machine, tn_index and tn_text, and on the definitions of
+//! def_session. Promises that `created` is the session at its creation, that `command` and `event` are
+//! one step of the definition of a session, reply and message included, and that a session that was
+//! refused memory is spent. A specification is kept as its code. What a session tells of an event is a
+//! `Message` that lends the event; a term or a text is made of it.
 #![tactic(auto)]
 
 mod command;
+mod compiled;
 mod covered;
 mod elements;
 mod event;

@@ -1,10 +1,10 @@
 // A session, as its users see it.
 
 use crate::message::Message;
-use crate::setting::{Setting, Settings};
 use crate::state::{Phase, State};
 use std::alloc::{AllocError, Allocator};
 use tn_flags::{Command, Event, Flags};
+use tn_index::{Setting, Settings};
 use tn_term::{Alive, Mfa, Term};
 
 /// A session that was created. It has no state once it was refused memory: it is spent.
@@ -37,9 +37,7 @@ impl<A: Allocator + Copy> Session<A> {
                 alive,
                 flags: [none; 64],
                 for_new: none,
-                settings: Settings {
-                    entries: Vec::new(alloc),
-                },
+                settings: Settings::new(alloc),
                 sending: Setting::Plain,
                 receiving: Setting::Plain,
                 marks: Vec::new(alloc),

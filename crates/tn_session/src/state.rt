@@ -4,9 +4,10 @@ ghost use Rattle.def_session.specs.State as definition;
 ghost use Rattle.tn_flags.specs.Views.{flags_of};
 ghost use Rattle.tn_session.specs.Views.{state_seen};
 
-use crate::setting::{Setting, Settings};
+use crate::compiled::Compiled;
 use std::alloc::Allocator;
 use tn_flags::Flags;
+use tn_index::{Setting, Settings};
 use tn_term::{Alive, FIRST_PID, Mfa};
 
 /// Whether the session was destroyed.
@@ -28,9 +29,9 @@ pub(crate) struct State<A: Allocator> {
     pub flags: [Flags; 64],
     /// Of new processes.
     pub for_new: Flags,
-    pub settings: Settings<A>,
-    pub sending: Setting<A>,
-    pub receiving: Setting<A>,
+    pub settings: Settings<Compiled<A>, A>,
+    pub sending: Setting<Compiled<A>>,
+    pub receiving: Setting<Compiled<A>>,
     /// Of the processes from 100 on, the depths of the frames whose return is told, the newest last; of
     /// those past the end there is none.
     pub marks: Vec<Vec<usize, A>, A>,

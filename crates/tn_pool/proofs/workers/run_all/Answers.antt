@@ -1,9 +1,19 @@
-use denote.Param.Send.{sendable}
-use Rattle.std.proofs.Common.{rules, arith}
+use denote.Param.Send.{sendable, IsSync, AllSync, param_sync, arg_sync}
+use denote.Param.{param}
+use denote.RattleType.{RattleType}
+use denote.Ref.{NamedLft}
+use mir.Syntax.{Sym}
+use denote.Struct.Tuple.{TupleAt}
+use denote.Struct.Field.{shr_ref_field, u32-field}
+use Rattle.std.specs.contracts.alloc.Global as Heap
+use Rattle.std.specs.contracts.impls.GlobalAllocator.TheImpl.{ghosts}
+use Rattle.tn_pool.specs.contracts.board.Board as board
+use Rattle.tn_live.specs.contracts.live.Live as live
+use Rattle.std.proofs.Common.{rules, List, [], ◌∷◌}
 use Rattle.std.proofs.Crossing as heap
 use Rattle.tn_pool.specs.Earnings.{WorksFew}
 use Rattle.tn_pool.proofs.Reported.{at_place}
-use Rattle.tn_pool.proofs.Crossings.{live_sync, live_field_sync}
+use Rattle.tn_pool.proofs.Crossings.{live_sync, live_field_sync, board_in_heap, captured_sync}
 use Rattle.tn_pool.proofs.workers.run_all.Goals as goal
 
 pub returns-clause-each : goal.returns-clause-each
@@ -12,6 +22,24 @@ returns-clause-each g c = λ i d lt.
     let w : WorksFew g.J.Naming.program c.args.turns k.argument.now.1 k.after_call.now.1 = search rules in
     at_place _ _ _ _ i d _ _ k.argument_is k.left w
 
--- the lock, the gate and the runtime are for all threads
+-- the lock, the board, the gate and the runtime are for all threads
 pub for_each_mut-requires-sync-F : goal.for_each_mut-requires-sync-F
-for_each_mut-requires-sync-F g c κs within = search (sendable, heap.crosses, heap.send, live_sync, live_field_sync) depth 40 fits 3000 parts 0
+for_each_mut-requires-sync-F g c κs within =
+    let types : NamedLft → NamedLft → NamedLft → NamedLft → NamedLft → List RattleType =
+    λ k l m n o. (shr_ref_field k (live.the_row Heap.the_row (param 0 g.row.J) ghosts g.J.Naming) tt).row
+    ∷ (shr_ref_field l (board.the_row Heap.the_row ghosts) tt).row
+    ∷ (shr_ref_field m (param 2 g.row.G) tt).row
+    ∷ (shr_ref_field n (param 1 g.row.R) tt).row
+    ∷ (shr_ref_field o u32-field.row tt).row
+    ∷ [] in
+    let each : (k l m n o : NamedLft) → AllSync (types k l m n o) =
+    λ k l m n o. (
+      search (sendable, heap.crosses, heap.send, live_sync, live_field_sync) depth 40 fits 3000 parts 0,
+      (
+        search (sendable, board_in_heap) depth 40 fits 3000 parts 0,
+        (search sendable depth 40 fits 3000 parts 0, (search sendable depth 40 fits 3000 parts 0, (search sendable depth 40 fits 3000 parts 0, tt))),
+      ),
+    ) in
+    let captured : (name : Sym) (k l m n o : NamedLft) → IsSync (TupleAt name (types k l m n o)) =
+    λ name k l m n o. captured_sync name (types k l m n o) (each k l m n o) in
+    search (param_sync, arg_sync, captured) depth 40 fits 3000 parts 0

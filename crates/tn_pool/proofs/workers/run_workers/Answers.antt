@@ -1,4 +1,4 @@
-use Rattle.std.proofs.Common.{rules, arith, ◌≡◌, length, vec_len, ap, ◌*◌, ◌≤◌, subst}
+use Rattle.std.proofs.Common.{rules, arith, ◌≡◌, length, ap, ◌*◌}
 use Rattle.tn_pool.proofs.Reported.{run_reports, run_count}
 use Rattle.tn_pool.proofs.workers.run_workers.Goals as goal
 

@@ -1,4 +1,4 @@
-use Rattle.std.proofs.Common.{rules, arith, ap, ◌≡◌, []}
+use Rattle.std.proofs.Common.{arith, ap, ◌≡◌, []}
 use Rattle.std.specs.Vec.Iter.{into_iter_items}
 use Rattle.tn_pool.specs.Reports.{count_of}
 use Rattle.tn_pool.proofs.Reported.{seats_on, receipts_on, seats_all, receipts_all, nothing_left}

@@ -1,4 +1,4 @@
-use Rattle.std.proofs.Common.{◌≡◌, ◌∙◌, length, sym, subst, rules}
+use Rattle.std.proofs.Common.{◌≡◌, length, subst, rules}
 use Rattle.tn_live.specs.Closing.{Ends}
 use Rattle.tn_run.specs.Settled.{IsClosedOutput, RunsToRest}
 use Rattle.tn_run.proofs.ClosingLemmas.{closed_rests, first_again, if_ok_of}

@@ -1,6 +1,6 @@
 use Rattle.std.proofs.Common.{◌≡◌, map, drop}
 use Rattle.def_session.specs.Session.{marks_frame}
-use Rattle.tn_action.specs.Views.{effect_seen}
+use Rattle.tn_machine.specs.Lent.{effect_seen}
 use Rattle.tn_session.proofs.event.marks_frame.Given as goal
 
 abbrev pub invariant-loop-effect : goal.invariant-loop-effect

@@ -1,7 +1,7 @@
-use Rattle.std.proofs.Common.{◌∙◌, ◌+◌, ◌∷◌, sym, ap, arith, map, drop}
-use Rattle.std.proofs.lemmas.List.{drop_more}
+use Rattle.std.proofs.Common.{◌≤◌, ◌∙◌, ◌+◌, ◌∷◌, length, sym, ap, arith, map, drop}
+use Rattle.std.proofs.lemmas.List.{drop_more, drop_all}
 use Rattle.def_session.specs.Session.{all_affected}
-use Rattle.tn_action.specs.Views.{effect_seen}
+use Rattle.tn_machine.specs.Lent.{effect_seen}
 use Rattle.tn_session.specs.Views.{state_seen}
 use Rattle.tn_session.proofs.state.State.affect_all.Goals as goal
 
@@ -17,3 +17,10 @@ loop-effect-preserved g c =
           ∙ sym (ap (λ xs. all_affected me (state_seen c.loop-effect.self) (map effect_seen xs)) here) ∙ c.loop-effect.invariant.state;
       functions = c.affect.ensures.functions ∙ c.loop-effect.invariant.functions;
     }
+
+pub returns-clause-state : goal.returns-clause-state
+returns-clause-state g c =
+    let l = c.loop-effect in
+    let es = c.args.effects.now in
+    let past : length es ≤ l.effect-index = omega (arith, c.loop-effect-test.false) in
+    ap (λ xs. all_affected c.args.me (state_seen l.self) (map effect_seen xs)) (sym (drop_all l.effect-index es past)) ∙ l.invariant.state

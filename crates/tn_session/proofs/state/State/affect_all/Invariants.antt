@@ -1,6 +1,6 @@
 use Rattle.std.proofs.Common.{◌≡◌, map, drop}
 use Rattle.def_session.specs.Session.{all_affected}
-use Rattle.tn_action.specs.Views.{effect_seen}
+use Rattle.tn_machine.specs.Lent.{effect_seen}
 use Rattle.tn_session.specs.Views.{state_seen}
 use Rattle.tn_session.proofs.state.State.affect_all.Given as goal
 

@@ -1,4 +1,4 @@
-use Rattle.std.proofs.Common.{replicate, reverse, map}
+use Rattle.std.proofs.Common.{replicate, map}
 use Rattle.def_session.specs.State.{destroyed}
 use Rattle.def_session.specs.Settings.{plain}
 use Rattle.tn_term.specs.Views.{alive_of}
@@ -11,7 +11,7 @@ returns-clause-done g c = λ i. record {
   alive = alive_of c.args.self.now.alive;
   flags = replicate 64 (c.none-none.ensures i);
   for_new = c.none-none.ensures i;
-  functions = reverse (map covering_seen (c.new.ensures.items i));
+  functions = map covering_seen (c.new.ensures i);
   sending = plain;
   receiving = plain;
   marks = marks_seen (c.new-2.ensures.items i);

@@ -3,7 +3,8 @@ use Rattle.std.specs.Option.{option_map}
 use Rattle.def_session.specs.Settings.{covered_of}
 use Rattle.def_session.specs.Commands.{function_set_if}
 use Rattle.tn_term.specs.Views.{tree_of}
-use Rattle.tn_session.specs.Views.{state_seen, covered_seen, setting_seen}
+use Rattle.tn_index.specs.Views.{covered_seen}
+use Rattle.tn_session.specs.Views.{state_seen, setting_seen}
 use Rattle.tn_session.specs.Replies.{opening_in}
 use Rattle.tn_session.proofs.Commands.{options_refused, accepted}
 use Rattle.tn_session.proofs.state.State.function.Goals as goal

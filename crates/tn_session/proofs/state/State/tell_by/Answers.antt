@@ -1,6 +1,6 @@
 use Rattle.std.proofs.Common.{◌∙◌, map, sym, ap}
 use Rattle.def_session.specs.Session.{all_affected, marks_frame}
-use Rattle.tn_action.specs.Views.{effect_seen}
+use Rattle.tn_machine.specs.Lent.{effect_seen}
 use Rattle.tn_flags.specs.Views.{event_of}
 use Rattle.tn_session.specs.Views.{state_seen}
 use Rattle.tn_session.proofs.Telling.{effects_case}

@@ -1,0 +1,5 @@
+pub mod Views
+pub mod Ways
+pub mod Rooms
+pub mod OneProof
+pub mod Codes

@@ -1,0 +1,110 @@
+-- The code of expressions, from the last one to the first.
+use Rattle.std.proofs.Common.{false, ◌≡◌, ℕ, zero, suc, ◌+◌, ◌-◌, ◌<◌, ◌≤◌, List, [], ◌∷◌, ◌++◌, length, drop, refl, sym, ap, ◌∙◌, arith, true, get_or, reverse, append_assoc}
+use Rattle.std.proofs.lemmas.List.{drop_more, length-map, length-reverse}
+use Rattle.std.specs.declared.vec.Vec.{Vec}
+use Rattle.def_spec.specs.Functions.{truth}
+use Rattle.def_spec.specs.Expressions as ex
+use Rattle.def_spec.specs.Expressions.{Exprs, no_exprs, and_expr}
+use Rattle.def_spec.specs.Functions.{Func}
+use Rattle.def_machine.specs.Instructions.{OnFault, Instruction, load_constant, test_equal, jump, apply_function}
+use Rattle.def_machine.specs.Compiling.{VariableRegisters, register_of, registers_of, call_code}
+use Rattle.tn_spec.specs.Sizes.{expr_size, exprs_size}
+use Rattle.tn_spec.specs.Views.{expr_seen, exprs_seen}
+use Rattle.tn_spec.specs.declared.expr.Expr.{Expr}
+use Rattle.tn_code.specs.Views.{instruction_of}
+use Rattle.tn_code.specs.declared.instr.Instr.{Instr}
+use Rattle.tn_compile.specs.Views.{code_left, variables_seen, part_of, fault_in, fault_emitted}
+use Rattle.tn_compile.specs.declared.scene.Part.{Part}
+use Rattle.tn_compile.specs.declared.scene.Part.TheVariants.{Condition, Body}
+use Rattle.tn_compile.specs.Emitted.{expr_emitted, exprs_emitted, while_emitted, until_emitted}
+use Rattle.tn_compile.specs.declared.scene.Scene.{Scene}
+
+pub exprs_here : {A : Type 0} (es : List (Expr A)) (i : ℕ) (e : Expr A) → i < length es → e ≡ get_or es i e → exprs_seen (drop i es) ≡ and_expr (expr_seen e) (exprs_seen (drop (i + 1) es))
+exprs_here es i e below is = ap exprs_seen (drop_more es i e below) ∙ ap (λ f. and_expr (expr_seen f) (exprs_seen (drop (i + 1) es))) (sym is)
+
+-- ---- sizes
+
+one_at_least : (e : ex.Expr) → 1 ≤ expr_size e
+one_at_least (ex.bound_to n) = omega arith
+one_at_least ex.whole_list = omega arith
+one_at_least ex.all_bound = omega arith
+one_at_least (ex.constant t) = omega arith
+one_at_least (ex.tuple_of es) = omega arith
+one_at_least (ex.list_of es) = omega arith
+one_at_least (ex.call f es) = omega arith
+one_at_least (ex.and_also es) = omega arith
+one_at_least (ex.or_else es) = omega arith
+one_at_least (ex.perform a es) = omega arith
+
+pub exprs-length : {A : Type 0} (es : List (Expr A)) → length es ≤ exprs_size (exprs_seen es)
+exprs-length [] = omega arith
+exprs-length (e ∷ es) = omega (arith, exprs-length es, one_at_least (expr_seen e))
+
+pub expr-within : {A : Type 0} (es : List (Expr A)) (i : ℕ) (e : Expr A) → i < length es → e ≡ get_or es i e → i + expr_size (expr_seen e) ≤ exprs_size (exprs_seen es)
+expr-within [] i e l is = absurd (omega (arith, l))
+expr-within (x ∷ es) zero e l is = let s : expr_size (expr_seen e) ≡ expr_size (expr_seen x) = ap (λ y. expr_size (expr_seen y)) is in omega (arith, s)
+expr-within (x ∷ es) (suc i) e l is = omega (arith, expr-within es i e (omega (arith, l)) is, one_at_least (expr_seen x))
+
+-- ---- registers
+
+pub registers-more : (v : VariableRegisters) (xs total : List ℕ) (es rest : Exprs) (e : ex.Expr) (free i r : ℕ) → es ≡ and_expr e rest → r ≡ register_of v e (free + i) → xs ++ registers_of v es (free + i) ≡ total → (xs ++ r ∷ []) ++ registers_of v rest (free + (i + 1)) ≡ total
+registers-more v xs total es rest e free i r is at h =
+    let n : free + (i + 1) ≡ suc (free + i) = omega arith in
+    append_assoc xs (r ∷ []) (registers_of v rest (free + (i + 1)))
+    ∙ ap (λ ys. xs ++ ys) (ap (λ m. r ∷ registers_of v rest m) n ∙ ap (λ q. q ∷ registers_of v rest (suc (free + i))) at ∙ sym (ap (λ y. registers_of v y (free + i)) is))
+    ∙ h
+
+-- ---- code
+
+pub left-length : {A : Type 0} (c : Vec (Instr A) A) → length (code_left c) ≡ length c.items
+left-length c = length-map (reverse c.items) instruction_of ∙ length-reverse c.items
+
+call-is : (p : Part) (f : ℕ) (i : OnFault → Instruction) (k : List Instruction) → call_code (part_of p) f i k ≡ i (fault_in p f (length k)) ∷ k
+call-is Condition f i k = refl
+call-is Body f i k = refl
+
+module _ (s : Scene) where
+  pub call-emitted : (g : Func) (es : Exprs) (free n : ℕ) (rs : List ℕ) (fault : OnFault) (k old new : List Instruction) → n ≡ length k → rs ≡ registers_of (variables_seen s.variables.now) es free → fault ≡ fault_emitted s n → old ≡ apply_function g free rs fault ∷ k → new ≡ exprs_emitted s es free old → new ≡ expr_emitted s (ex.call g es) free k
+  call-emitted g es free n rs fault k old new is regs on before after =
+      after ∙ ap (exprs_emitted s es free)
+      (before ∙ ap (λ x. apply_function g free rs x ∷ k) (on ∙ ap (fault_emitted s) is) ∙ ap (λ x. apply_function g free x (fault_emitted s (length k)) ∷ k) regs
+      ∙ sym (call-is s.part s.left (apply_function g free (registers_of (variables_seen s.variables.now) es free)) k))
+
+  pub and-emitted : (es : Exprs) (free end : ℕ) (k a b new : List Instruction) → end ≡ length k → a ≡ load_constant free (truth true) ∷ k → b ≡ while_emitted s es (free + 1) end a → new ≡ load_constant free (truth false) ∷ b → new ≡ expr_emitted s (ex.and_also es) free k
+  and-emitted es free end k a b new is one two three =
+      let n : free + 1 ≡ suc free = omega arith in
+      three ∙ ap (λ x. load_constant free (truth false) ∷ x)
+      (two ∙ ap (while_emitted s es (free + 1) end) one ∙ ap (λ q. while_emitted s es q end (load_constant free (truth true) ∷ k)) n ∙ ap (λ q. while_emitted s es (suc free) q (load_constant free (truth true) ∷ k)) is)
+
+  pub or-emitted : (es : Exprs) (free end : ℕ) (k a b new : List Instruction) → end ≡ length k → a ≡ load_constant free (truth false) ∷ k → b ≡ until_emitted s es (free + 1) end a → new ≡ load_constant free (truth true) ∷ b → new ≡ expr_emitted s (ex.or_else es) free k
+  or-emitted es free end k a b new is one two three =
+      let n : free + 1 ≡ suc free = omega arith in
+      three ∙ ap (λ x. load_constant free (truth true) ∷ x)
+      (two ∙ ap (until_emitted s es (free + 1) end) one ∙ ap (λ q. until_emitted s es q end (load_constant free (truth false) ∷ k)) n ∙ ap (λ q. until_emitted s es (suc free) q (load_constant free (truth false) ∷ k)) is)
+
+  pub exprs-more : (es rest : Exprs) (e : ex.Expr) (free i j : ℕ) (k old new : List Instruction) → i ≡ j + 1 → es ≡ and_expr e rest → old ≡ exprs_emitted s rest (free + i) k → new ≡ expr_emitted s e (free + j) old → new ≡ exprs_emitted s es (free + j) k
+  exprs-more es rest e free i j k old new n is before after =
+      let m : free + i ≡ suc (free + j) = omega (arith, n) in
+      after ∙ ap (expr_emitted s e (free + j)) (before ∙ ap (λ q. exprs_emitted s rest q k) m) ∙ sym (ap (λ y. exprs_emitted s y (free + j) k) is)
+
+  pub while-more : (es rest : Exprs) (e : ex.Expr) (free end left place : ℕ) (k old tested loaded new : List Instruction) → es ≡ and_expr e rest → old ≡ while_emitted s rest free end k → left ≡ register_of (variables_seen s.variables.now) e free → place ≡ length old - end → tested ≡ test_equal left (free + 1) place ∷ old → loaded ≡ load_constant (free + 1) (truth true) ∷ tested → new ≡ expr_emitted s e free loaded → new ≡ while_emitted s es free end k
+  while-more es rest e free end left place k old tested loaded new is before at there t l after =
+      let n : free + 1 ≡ suc free = omega arith in
+      let v : VariableRegisters = variables_seen s.variables.now in
+      after
+      ∙ ap (expr_emitted s e free)
+      (l ∙ ap (λ x. load_constant (free + 1) (truth true) ∷ x) (t ∙ ap (λ q. test_equal left (free + 1) q ∷ old) there ∙ ap (λ q. test_equal q (free + 1) (length old - end) ∷ old) at)
+      ∙ ap (λ q. load_constant q (truth true) ∷ test_equal (register_of v e free) q (length old - end) ∷ old) n
+      ∙ ap (λ x. load_constant (suc free) (truth true) ∷ test_equal (register_of v e free) (suc free) (length x - end) ∷ x) before)
+      ∙ sym (ap (λ y. while_emitted s y free end k) is)
+
+  pub until-more : (es rest : Exprs) (e : ex.Expr) (free end left place : ℕ) (k old jumped tested loaded new : List Instruction) → es ≡ and_expr e rest → old ≡ until_emitted s rest free end k → left ≡ register_of (variables_seen s.variables.now) e free → place ≡ length old - end → jumped ≡ jump place ∷ old → tested ≡ test_equal left (free + 1) 1 ∷ jumped → loaded ≡ load_constant (free + 1) (truth true) ∷ tested → new ≡ expr_emitted s e free loaded → new ≡ until_emitted s es free end k
+  until-more es rest e free end left place k old jumped tested loaded new is before at there j t l after =
+      let n : free + 1 ≡ suc free = omega arith in
+      let v : VariableRegisters = variables_seen s.variables.now in
+      after
+      ∙ ap (expr_emitted s e free)
+      (l ∙ ap (λ x. load_constant (free + 1) (truth true) ∷ x) (t ∙ ap (λ x. test_equal left (free + 1) 1 ∷ x) (j ∙ ap (λ q. jump q ∷ old) there) ∙ ap (λ q. test_equal q (free + 1) 1 ∷ jump (length old - end) ∷ old) at)
+      ∙ ap (λ q. load_constant q (truth true) ∷ test_equal (register_of v e free) q 1 ∷ jump (length old - end) ∷ old) n
+      ∙ ap (λ x. load_constant (suc free) (truth true) ∷ test_equal (register_of v e free) (suc free) 1 ∷ jump (length x - end) ∷ x) before)
+      ∙ sym (ap (λ y. until_emitted s y free end k) is)

@@ -1,0 +1,279 @@
+// The code of expressions.
+ghost use Rattle.std.specs.Prelude.{◌≡◌, ◌∷◌, ◌+◌, ◌<◌, ◌≤◌, ◌^◌, OnOk, IfOk, length};
+ghost use Rattle.def_spec.specs.Functions.{truth};
+ghost use Rattle.def_machine.specs.Compiling.{register_of, registers_of};
+ghost use Rattle.def_machine.specs.Instructions.{load_constant};
+ghost use Rattle.tn_spec.specs.Sizes.{expr_size, exprs_size};
+ghost use Rattle.tn_spec.specs.Views.{expr_seen, exprs_seen};
+ghost use Rattle.tn_term.specs.Views.{tree_of};
+ghost use Rattle.tn_code.specs.Views.{fault_of};
+ghost use Rattle.tn_compile.specs.Views.{code_left, variables_seen, fault_emitted};
+ghost use Rattle.tn_compile.specs.Emitted.{EmitsExpr, EmitsExprs, EmitsWhileTrue, EmitsUntilTrue};
+
+use crate::scene::{Part, Scene, VariableRegister, all_registers, emit, register_of_variable};
+use std::alloc::{AllocError, Allocator};
+use tn_code::{Instr, Kind, OnFault};
+use tn_spec::Expr;
+use tn_term::{Atom, Term};
+
+/// The register of an expression's value: a variable's own, or the free one.
+fn register_of<P: Allocator>(variables: &[VariableRegister], expr: &Expr<P>, free: usize) -> usize
+    ensures { result ≡ register_of (variables_seen variables.now) (expr_seen expr.now) free }
+{
+    match expr {
+        Expr::Variable(number) => match register_of_variable(variables, *number) {
+            Some(register) => register,
+            None => free,
+        },
+        _ => free,
+    }
+}
+
+/// The registers of the values of several expressions.
+fn registers_of<P: Allocator, A: Allocator + Copy>(
+    alloc: A,
+    variables: &[VariableRegister],
+    exprs: &[Expr<P>],
+    free: usize,
+) -> Result<Vec<usize, A>, AllocError>
+    requires room { free + exprs_size (exprs_seen exprs.now) < 2 ^ 64 }
+    ensures { IfOk result (λ v. v.items ≡ registers_of (variables_seen variables.now) (exprs_seen exprs.now) free) }
+{
+    let mut registers = Vec::with_capacity(alloc, exprs.len())?;
+    for i in 0..exprs.len() {
+        registers.push(register_of(variables, &exprs[i], free + i))?;
+    }
+    Ok(registers)
+}
+
+/// The atom `true` or `false`.
+fn truth<A: Allocator + Copy>(alloc: A, holds: bool) -> Result<Term<A>, AllocError>
+    ensures { IfOk result (λ t. tree_of t ≡ truth holds) }
+{
+    let text = if holds { "true" } else { "false" };
+    match Atom::new(alloc, text)? {
+        Some(atom) => Ok(Term::Atom(atom)),
+        None => unreachable!(),
+    }
+}
+
+/// Puts an instruction in front of the code that loads `true` or `false`.
+fn emit_truth<A: Allocator + Copy>(
+    alloc: A,
+    code: &mut Vec<Instr<A>, A>,
+    to: usize,
+    holds: bool,
+) -> Result<(), AllocError>
+    ensures emitted { OnOk result (code_left code.new ≡ load_constant to (truth holds) ∷ code_left code.old) }
+    ensures longer { OnOk result (length code.new.items ≡ length code.old.items + 1) }
+{
+    let term = truth(alloc, holds)?;
+    emit(code, Instr::LoadConstant { to, term })?;
+    Ok(())
+}
+
+/// What follows the fault of a function, in front of the code.
+fn on_fault<A: Allocator>(code: &Vec<Instr<A>, A>, scene: &Scene<'_>) -> OnFault
+    requires { scene.now.left ≤ length code.now.items }
+    ensures { fault_of result ≡ fault_emitted scene.now (length code.now.items) }
+{
+    match scene.part {
+        Part::Condition => OnFault::Place(code.len() - scene.left),
+        Part::Body => OnFault::Exit,
+    }
+}
+
+/// Puts the code of an expression's value in front of the code.
+#[cycle(emit)]
+pub fn emit_expr<P: Allocator, A: Allocator + Copy>(
+    alloc: A,
+    code: &mut Vec<Instr<A>, A>,
+    expr: &Expr<P>,
+    scene: &Scene<'_>,
+    free: usize,
+) -> Result<(), AllocError>
+    requires room { free + 1 + expr_size (expr_seen expr.now) < 2 ^ 64 }
+    requires behind { scene.now.left ≤ length code.old.items }
+    ensures emitted { OnOk result (EmitsExpr scene.now (expr_seen expr.now) free code.old code.new) }
+    ensures longer { OnOk result (length code.old.items ≤ length code.new.items) }
+{
+    match expr {
+        Expr::Variable(_) => Ok(()),
+        Expr::WholeList => Ok(emit(code, Instr::LoadList { to: free })?),
+        Expr::AllBound => {
+            let from = all_registers(alloc, scene.variables)?;
+            Ok(emit(
+                code,
+                Instr::Build {
+                    kind: Kind::List,
+                    to: free,
+                    from,
+                },
+            )?)
+        }
+        Expr::Constant(term) => {
+            let term = term.copy_into(alloc)?;
+            Ok(emit(code, Instr::LoadConstant { to: free, term })?)
+        }
+        Expr::Tuple(exprs) => {
+            let from = registers_of(alloc, scene.variables, exprs.as_slice(), free)?;
+            emit(
+                code,
+                Instr::Build {
+                    kind: Kind::Tuple,
+                    to: free,
+                    from,
+                },
+            )?;
+            Ok(emit_exprs(alloc, code, exprs, scene, free)?)
+        }
+        Expr::List(exprs) => {
+            let from = registers_of(alloc, scene.variables, exprs.as_slice(), free)?;
+            emit(
+                code,
+                Instr::Build {
+                    kind: Kind::List,
+                    to: free,
+                    from,
+                },
+            )?;
+            Ok(emit_exprs(alloc, code, exprs, scene, free)?)
+        }
+        Expr::Call(func, exprs) => {
+            let from = registers_of(alloc, scene.variables, exprs.as_slice(), free)?;
+            let on_fault = on_fault(code, scene);
+            emit(
+                code,
+                Instr::Apply {
+                    func: *func,
+                    to: free,
+                    from,
+                    on_fault,
+                },
+            )?;
+            Ok(emit_exprs(alloc, code, exprs, scene, free)?)
+        }
+        Expr::AndAlso(exprs) => {
+            let end = code.len();
+            emit_truth(alloc, code, free, true)?;
+            emit_while_true(alloc, code, exprs, scene, free + 1, end)?;
+            Ok(emit_truth(alloc, code, free, false)?)
+        }
+        Expr::OrElse(exprs) => {
+            let end = code.len();
+            emit_truth(alloc, code, free, false)?;
+            emit_until_true(alloc, code, exprs, scene, free + 1, end)?;
+            Ok(emit_truth(alloc, code, free, true)?)
+        }
+        Expr::Perform(action, exprs) => {
+            let from = registers_of(alloc, scene.variables, exprs.as_slice(), free)?;
+            let dialect = scene.dialect;
+            emit(
+                code,
+                Instr::Perform {
+                    dialect,
+                    action: *action,
+                    to: free,
+                    from,
+                },
+            )?;
+            Ok(emit_exprs(alloc, code, exprs, scene, free)?)
+        }
+    }
+}
+
+/// Puts the code of the values of several expressions in front of the code.
+#[cycle(emit)]
+pub fn emit_exprs<P: Allocator, A: Allocator + Copy>(
+    alloc: A,
+    code: &mut Vec<Instr<A>, A>,
+    exprs: &Vec<Expr<P>, P>,
+    scene: &Scene<'_>,
+    free: usize,
+) -> Result<(), AllocError>
+    requires room { free + 1 + exprs_size (exprs_seen exprs.now.items) < 2 ^ 64 }
+    requires behind { scene.now.left ≤ length code.old.items }
+    ensures emitted { OnOk result (EmitsExprs scene.now (exprs_seen exprs.now.items) free code.old code.new) }
+    ensures longer { OnOk result (length code.old.items ≤ length code.new.items) }
+{
+    let mut i = exprs.len();
+    while i > 0 {
+        i -= 1;
+        let expr = &exprs[i];
+        emit_expr(alloc, code, expr, scene, free + i)?;
+    }
+    Ok(())
+}
+
+/// Puts in front of the code what goes on with it where all are `true`, and else at the end.
+#[cycle(emit)]
+pub fn emit_while_true<P: Allocator, A: Allocator + Copy>(
+    alloc: A,
+    code: &mut Vec<Instr<A>, A>,
+    exprs: &Vec<Expr<P>, P>,
+    scene: &Scene<'_>,
+    free: usize,
+    end: usize,
+) -> Result<(), AllocError>
+    requires room { free + 1 + exprs_size (exprs_seen exprs.now.items) < 2 ^ 64 }
+    requires behind { scene.now.left ≤ length code.old.items }
+    requires end { end ≤ length code.old.items }
+    ensures emitted { OnOk result (EmitsWhileTrue scene.now (exprs_seen exprs.now.items) free end code.old code.new) }
+    ensures longer { OnOk result (length code.old.items ≤ length code.new.items) }
+{
+    let mut i = exprs.len();
+    while i > 0 {
+        i -= 1;
+        let expr = &exprs[i];
+        let left = register_of(scene.variables, expr, free);
+        let place = code.len() - end;
+        emit(
+            code,
+            Instr::TestEqual {
+                left,
+                right: free + 1,
+                place,
+            },
+        )?;
+        emit_truth(alloc, code, free + 1, true)?;
+        emit_expr(alloc, code, expr, scene, free)?;
+    }
+    Ok(())
+}
+
+/// Puts in front of the code what goes on with it where none is `true`, and else at the end.
+#[cycle(emit)]
+pub fn emit_until_true<P: Allocator, A: Allocator + Copy>(
+    alloc: A,
+    code: &mut Vec<Instr<A>, A>,
+    exprs: &Vec<Expr<P>, P>,
+    scene: &Scene<'_>,
+    free: usize,
+    end: usize,
+) -> Result<(), AllocError>
+    requires room { free + 1 + exprs_size (exprs_seen exprs.now.items) < 2 ^ 64 }
+    requires behind { scene.now.left ≤ length code.old.items }
+    requires end { end ≤ length code.old.items }
+    ensures emitted { OnOk result (EmitsUntilTrue scene.now (exprs_seen exprs.now.items) free end code.old code.new) }
+    ensures longer { OnOk result (length code.old.items ≤ length code.new.items) }
+{
+    let mut i = exprs.len();
+    while i > 0 {
+        i -= 1;
+        let expr = &exprs[i];
+        let left = register_of(scene.variables, expr, free);
+        let place = code.len() - end;
+        emit(code, Instr::Jump { place })?;
+        emit(
+            code,
+            Instr::TestEqual {
+                left,
+                right: free + 1,
+                place: 1,
+            },
+        )?;
+        emit_truth(alloc, code, free + 1, true)?;
+        emit_expr(alloc, code, expr, scene, free)?;
+    }
+    Ok(())
+}

@@ -1,0 +1,96 @@
+// The places of jumps, once all instructions are there.
+ghost use Rattle.std.specs.Prelude.{◌≡◌, ◌+◌, ◌<◌, ◌^◌, IfOk};
+ghost use Rattle.def_machine.specs.Compiling.{at_place, fault_at, placed};
+ghost use Rattle.tn_code.specs.Views.{fault_of, instruction_of, instructions_of};
+ghost use Rattle.tn_compile.specs.Places.{fault_passed, passed, JumpsInside};
+ghost use Rattle.tn_compile.specs.Views.{code_left};
+
+use std::alloc::{AllocError, Allocator};
+use tn_code::{Instr, OnFault};
+
+/// The place that a fault goes on at, where `next` is the place behind the instruction.
+fn fault_at(on_fault: OnFault, next: usize) -> OnFault
+    requires { next + fault_passed (fault_of on_fault) < 2 ^ 64 }
+    ensures { fault_of result ≡ fault_at next (fault_of on_fault) }
+{
+    match on_fault {
+        OnFault::Place(passed) => OnFault::Place(next + passed),
+        OnFault::Exit => OnFault::Exit,
+    }
+}
+
+/// The instruction with its place to go on at, where `next` is the place behind it.
+fn at_place<A: Allocator>(instr: Instr<A>, next: usize) -> Instr<A>
+    requires { next + passed (instruction_of instr) < 2 ^ 64 }
+    ensures { instruction_of result ≡ at_place next (instruction_of instr) }
+{
+    match instr {
+        Instr::TakeElement {
+            to,
+            from,
+            index,
+            place,
+        } => Instr::TakeElement {
+            to,
+            from,
+            index,
+            place: next + place,
+        },
+        Instr::TakeRest { to, from, place } => Instr::TakeRest {
+            to,
+            from,
+            place: next + place,
+        },
+        Instr::TestKind { from, kind, place } => Instr::TestKind {
+            from,
+            kind,
+            place: next + place,
+        },
+        Instr::TestLength {
+            from,
+            length,
+            place,
+        } => Instr::TestLength {
+            from,
+            length,
+            place: next + place,
+        },
+        Instr::TestEqual { left, right, place } => Instr::TestEqual {
+            left,
+            right,
+            place: next + place,
+        },
+        Instr::Jump { place } => Instr::Jump {
+            place: next + place,
+        },
+        Instr::Apply {
+            func,
+            to,
+            from,
+            on_fault,
+        } => Instr::Apply {
+            func,
+            to,
+            from,
+            on_fault: fault_at(on_fault, next),
+        },
+        other => other,
+    }
+}
+
+/// The instructions in order, with the places that they go on at; the code stands from its end to its
+/// beginning.
+pub fn in_places<A: Allocator + Copy>(
+    alloc: A,
+    mut code: Vec<Instr<A>, A>,
+) -> Result<Vec<Instr<A>, A>, AllocError>
+    requires { JumpsInside (code_left code) }
+    ensures { IfOk result (λ v. instructions_of v.items ≡ placed 0 (code_left code)) }
+{
+    let mut items = Vec::with_capacity(alloc, code.len())?;
+    while let Some(instr) = code.pop() {
+        let next = items.len() + 1;
+        items.push(at_place(instr, next))?;
+    }
+    Ok(items)
+}

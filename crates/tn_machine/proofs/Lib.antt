@@ -1,0 +1,5 @@
+pub mod Sets
+pub mod Elements
+pub mod Goings
+pub mod Moves
+pub mod Compiled

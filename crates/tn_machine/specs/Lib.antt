@@ -1,0 +1,4 @@
+pub mod Views
+pub mod Steps
+pub mod Runs
+pub mod Lent

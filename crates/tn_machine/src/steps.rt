@@ -1,0 +1,283 @@
+// One step of the machine.
+ghost use Rattle.std.specs.Prelude.{◌≡◌, ◌+◌, ◌<◌, ◌^◌, ◌∷◌, [], IfOk, length};
+ghost use Rattle.std.specs.Option.{option_map};
+ghost use Rattle.def_spec.specs.Functions as table;
+ghost use Rattle.def_spec.specs.Functions.{tail};
+ghost use Rattle.def_machine.specs.Validity.{Each, reads};
+ghost use Rattle.tn_action.specs.Steps.{AreBehind};
+ghost use Rattle.tn_action.specs.Views.{effect_list};
+ghost use Rattle.tn_code.specs.Views.{instruction_of, kind_of};
+ghost use Rattle.tn_guard.specs.Views.{value_seen};
+ghost use Rattle.tn_machine.specs.Steps.{Acts, GoesOnIf, HasRoom, Sets, SetsOrFaults, SetsOrLeaves};
+ghost use Rattle.tn_machine.specs.Steps.{IsApplied, IsBuilt, IsPerformed, IsPerformedOn};
+ghost use Rattle.tn_spec.specs.Views.{func_of};
+ghost use Rattle.tn_machine.specs.Views.{IsSetIn};
+
+use crate::registers::{SomeValues, count, element, is_of_kind, put, value_in, values_in};
+use bumpalo::Bump;
+use std::alloc::{AllocError, Allocator};
+use tn_action::{Effect, Scene, perform};
+use tn_code::{Instr, Kind, OnFault};
+use tn_guard::{Value, Word, apply};
+use tn_spec::{Action, Dialect, Func};
+
+/// Where a step leads.
+#[derive(Clone, Copy)]
+pub enum Next {
+    /// To the instruction at this place.
+    Place(usize),
+    /// To the end, with a match.
+    Matched,
+    /// To the end, without a match.
+    NoMatch,
+}
+
+/// What one instruction does: it sets a register at most, puts one effect behind the others at most, and
+/// leads on or ends.
+pub fn step<'a, A: Allocator + Copy>(
+    instr: &'a Instr<A>,
+    place: usize,
+    registers: &mut [Option<Value<'a, A>>],
+    effects: &mut Vec<Effect<A>, A>,
+    scene: &Scene<'a, '_, A>,
+) -> Result<Next, AllocError>
+    requires set { Each (λ r. IsSetIn registers.old r) (reads (instruction_of instr.now)) }
+    requires room { HasRoom (length registers.old) (instruction_of instr.now) }
+    requires next { place + 1 < 2 ^ 64 }
+    ensures { IfOk result (λ n. Acts scene.now instr.now place registers.old effects.old n registers.new effects.new) }
+{
+    match instr {
+        Instr::LoadConstant { to, term } => Ok(set(registers, *to, Value::Lent(term), place)),
+        Instr::LoadList { to } => Ok(set(registers, *to, scene.context.list.list(), place)),
+        Instr::LoadOwnPid { to } => Ok(set(registers, *to, Value::Pid(scene.context.me), place)),
+        Instr::LoadCaller { to } => {
+            let caller = scene.caller()?;
+            Ok(set(registers, *to, caller, place))
+        }
+        Instr::TakeElement {
+            to,
+            from,
+            index,
+            place: away,
+        } => {
+            let taken = element(value_in(registers, *from), *index);
+            Ok(set_or_leave(registers, *to, taken, place, *away))
+        }
+        Instr::TakeRest {
+            to,
+            from,
+            place: away,
+        } => {
+            let taken = rest(value_in(registers, *from), scene.context.me);
+            Ok(set_or_leave(registers, *to, taken, place, *away))
+        }
+        Instr::TestKind {
+            from,
+            kind,
+            place: away,
+        } => { Ok(go_on_if(is_of_kind(value_in(registers, *from), *kind), place, *away)) }
+        Instr::TestLength {
+            from,
+            length,
+            place: away,
+        } => { Ok(go_on_if(count(value_in(registers, *from)) == *length, place, *away)) }
+        Instr::TestEqual {
+            left,
+            right,
+            place: away,
+        } => {
+            let same = value_in(registers, *left).same(value_in(registers, *right));
+            Ok(go_on_if(same, place, *away))
+        }
+        Instr::Jump { place: away } => Ok(Next::Place(*away)),
+        Instr::Build { kind, to, from } => {
+            let built = build(scene.arena, registers, *kind, from.as_slice())?;
+            Ok(set(registers, *to, built, place))
+        }
+        Instr::Apply {
+            func,
+            to,
+            from,
+            on_fault,
+        } => {
+            let value = applied(*func, registers, from.as_slice(), scene)?;
+            Ok(set_applied(registers, *to, value, *on_fault, place))
+        }
+        Instr::Perform {
+            dialect,
+            action,
+            to,
+            from,
+        } => {
+            let asked = Asked {
+                dialect: *dialect,
+                action: *action,
+            };
+            let value = performed_on(asked, registers, from.as_slice(), effects, scene)?;
+            Ok(set(registers, *to, value, place))
+        }
+        Instr::EndMatch => Ok(Next::Matched),
+        Instr::EndNoMatch => Ok(Next::NoMatch),
+    }
+}
+
+/// On to the next place, with a register set.
+fn set<'a, A: Allocator>(
+    registers: &mut [Option<Value<'a, A>>],
+    to: usize,
+    value: Value<'a, A>,
+    place: usize,
+) -> Next
+    requires room { to < length registers.old }
+    requires next { place + 1 < 2 ^ 64 }
+    ensures { Sets to value.entry place registers.old result registers.new }
+{
+    put(registers, to, value);
+    Next::Place(place + 1)
+}
+
+/// On to the next place with a register set, where there is a value, and else away.
+fn set_or_leave<'a, A: Allocator>(
+    registers: &mut [Option<Value<'a, A>>],
+    to: usize,
+    value: Option<Value<'a, A>>,
+    place: usize,
+    away: usize,
+) -> Next
+    requires room { to < length registers.old }
+    requires next { place + 1 < 2 ^ 64 }
+    ensures { SetsOrLeaves to away value.entry place registers.old result registers.new }
+{
+    match value {
+        Some(value) => set(registers, to, value, place),
+        None => Next::Place(away),
+    }
+}
+
+/// On to the next place with a register set, or where a fault leads.
+fn set_applied<'a, A: Allocator>(
+    registers: &mut [Option<Value<'a, A>>],
+    to: usize,
+    value: Option<Value<'a, A>>,
+    on_fault: OnFault,
+    place: usize,
+) -> Next
+    requires room { to < length registers.old }
+    requires next { place + 1 < 2 ^ 64 }
+    ensures { SetsOrFaults to on_fault value.entry place registers.old result registers.new }
+{
+    match (value, on_fault) {
+        (Some(value), _) => set(registers, to, value, place),
+        (None, OnFault::Place(away)) => Next::Place(away),
+        (None, OnFault::Exit) => set(registers, to, Value::Word(Word::Exit), place),
+    }
+}
+
+/// On to the next place where the test holds, and else away.
+fn go_on_if(holds: bool, place: usize, away: usize) -> Next
+    requires { place + 1 < 2 ^ 64 }
+    ensures { GoesOnIf holds away place result }
+{
+    if holds {
+        Next::Place(place + 1)
+    } else {
+        Next::Place(away)
+    }
+}
+
+/// The list of the elements behind the first, where there is one.
+fn rest<'a, A: Allocator>(value: Value<'a, A>, me: u32) -> Option<Value<'a, A>>
+    ensures { option_map value_seen result ≡ table.apply tail (value_seen value.entry ∷ []) me }
+{
+    apply(Func::Tail, &[value], me)
+}
+
+/// The tuple or list of the values in some registers.
+fn build<'a, A: Allocator + Copy>(
+    arena: &'a Bump<A>,
+    registers: &[Option<Value<'a, A>>],
+    kind: Kind,
+    from: &[usize],
+) -> Result<Value<'a, A>, AllocError>
+    requires { Each (λ r. IsSetIn registers.now r) from.now }
+    ensures { IfOk result (λ v. IsBuilt registers.now (kind_of kind) from.now v) }
+{
+    let values = values_in(arena, registers, from)?;
+    let items = arena.try_alloc_slice_copy(values.as_slice())?;
+    match kind {
+        Kind::Tuple => Ok(Value::Tuple(items)),
+        Kind::List => Ok(Value::List(items)),
+    }
+}
+
+/// The value of a function on the values in some registers.
+fn applied<'a, A: Allocator + Copy>(
+    func: Func,
+    registers: &[Option<Value<'a, A>>],
+    from: &[usize],
+    scene: &Scene<'a, '_, A>,
+) -> Result<Option<Value<'a, A>>, AllocError>
+    requires { Each (λ r. IsSetIn registers.now r) from.now }
+    ensures { IfOk result (λ v. IsApplied scene.now registers.now (func_of func) from.now v) }
+{
+    let values = values_in(scene.arena, registers, from)?;
+    Ok(apply(func, values.as_slice(), scene.context.me))
+}
+
+/// An action, in a dialect.
+#[derive(Clone, Copy)]
+struct Asked {
+    dialect: Dialect,
+    action: Action,
+}
+
+/// The value of an action on the values in some registers, `'EXIT'` where it faults; its effect goes behind
+/// the others.
+fn performed_on<'a, A: Allocator + Copy>(
+    asked: Asked,
+    registers: &[Option<Value<'a, A>>],
+    from: &[usize],
+    effects: &mut Vec<Effect<A>, A>,
+    scene: &Scene<'a, '_, A>,
+) -> Result<Value<'a, A>, AllocError>
+    requires { Each (λ r. IsSetIn registers.now r) from.now }
+    ensures { IfOk result (λ v. IsPerformedOn scene.now asked registers.now from.now v effects.old effects.new) }
+{
+    let values = values_in(scene.arena, registers, from)?;
+    let value = performed(asked, &values, effects, scene)?;
+    Ok(value)
+}
+
+/// The value of an action on some values, `'EXIT'` where it faults; its effect goes behind the others.
+fn performed<'a, A: Allocator + Copy>(
+    asked: Asked,
+    values: &SomeValues<'a, A>,
+    effects: &mut Vec<Effect<A>, A>,
+    scene: &Scene<'a, '_, A>,
+) -> Result<Value<'a, A>, AllocError>
+    ensures { IfOk result (λ v. IsPerformed scene.now asked values.now.items v effects.old effects.new) }
+{
+    let of_dialect = Scene {
+        dialect: asked.dialect,
+        ..*scene
+    };
+    let Some(acted) = perform(asked.action, values.as_slice(), &of_dialect)? else {
+        return Ok(Value::Word(Word::Exit));
+    };
+    add(acted.effect, effects)?;
+    Ok(acted.value)
+}
+
+/// Puts an effect behind the others, where there is one.
+fn add<A: Allocator>(
+    effect: Option<Effect<A>>,
+    effects: &mut Vec<Effect<A>, A>,
+) -> Result<(), AllocError>
+    ensures { IfOk result (λ _. AreBehind (effect_list effect) effects.old effects.new) }
+{
+    match effect {
+        Some(effect) => effects.push(effect)?,
+        None => {}
+    }
+    Ok(())
+}

@@ -1,0 +1,53 @@
+// A specification as a session keeps it: as its code.
+ghost use Rattle.std.specs.Prelude.{◌≡◌};
+ghost use Rattle.def_machine.specs.Compiling.{code_of};
+ghost use Rattle.tn_code.specs.Codes.{code_seen};
+ghost use Rattle.tn_spec.specs.Wholes.{spec_seen};
+
+use bumpalo::Bump;
+use std::alloc::{AllocError, Allocator};
+use std::snapshot::Snapshot;
+use tn_code::Code;
+use tn_compile::compile;
+use tn_machine::{Context, Outcome, execute};
+use tn_spec::Spec;
+
+/// The code of a specification.
+#[derive(Drop)]
+pub(crate) struct Compiled<A: Allocator> {
+    code: Code<A>,
+    /// The specification, which takes no memory: clauses alone see it.
+    specification: Snapshot<Spec<A>>,
+    ghost its: { ∥ code_seen code ≡ code_of (spec_seen specification.value) ∥₁ },
+}
+
+impl<A: Allocator + Copy> Compiled<A> {
+    ghost use Rattle.std.specs.Prelude.{IfOk};
+    ghost use Rattle.def_spec.specs.Outcome.{outcome_of};
+    ghost use Rattle.tn_machine.specs.Lent.{context_seen, outcome_seen};
+    ghost use Rattle.tn_session.specs.Compilations.{compiled_seen};
+
+    /// Compiles the specification. An error is refused memory.
+    pub(crate) fn of(alloc: A, specification: &Spec<A>) -> Result<Compiled<A>, AllocError>
+        ensures { IfOk result (λ c. compiled_seen c ≡ spec_seen specification.now) }
+    {
+        let code = compile(alloc, specification)?;
+        Ok(Compiled {
+            code,
+            specification: Snapshot::of(specification),
+        })
+    }
+
+    /// What the specification gives in a context. What is evaluated lies in an arena that is given up
+    /// before the answer. An error is refused memory.
+    pub(crate) fn outcome(
+        &self,
+        alloc: A,
+        context: &Context<'_, A>,
+    ) -> Result<Outcome<A>, AllocError>
+        ensures { IfOk result (λ o. outcome_seen o ≡ outcome_of (compiled_seen self.now) (context_seen context.now)) }
+    {
+        let arena = Bump::new(alloc);
+        Ok(execute(alloc, &self.code, context, &arena)?)
+    }
+}
