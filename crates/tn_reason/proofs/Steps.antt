@@ -1,5 +1,7 @@
 -- Reasons, one element, one expression or one condition after another.
-use Rattle.std.proofs.Common.{◌≡◌, ℕ, zero, suc, ◌+◌, ◌<◌, ◌≤◌, List, [], ◌∷◌, length, drop, refl, sym, ap, ◌∙◌, arith, Option, Some, None, Bool, true, false, ◌==◌, eqb-true, eq-eqb, if◌then◌else◌}
+use Rattle.std.proofs.Common.{◌≡◌, ℕ, zero, suc, ◌+◌, ◌<◌, ◌≤◌, List, [], ◌∷◌, length, drop, refl, sym, ap, ◌∙◌, arith, Option, Some, None, Bool, true, false, if◌then◌else◌}
+use Rattle.std.specs.Bool.{beq}
+use Rattle.std.specs.Cmp.{booleans_Decides}
 use Rattle.def_term.specs.Tree.{Tree, of_elements}
 use Rattle.def_spec.specs.Functions.{is_true, nth}
 use Rattle.def_spec.specs.Matching.{Pattern, Patterns, no_patterns, and_pattern, Bindings, bind_on, bindings_of}
@@ -19,7 +21,9 @@ pub element-here : (ts : List Tree) (i : ℕ) (t : Tree) → Some t ≡ nth (of_
 element-here [] zero t e = absurd (cc)
 element-here [] (suc i) t e = absurd (cc)
 element-here (u ∷ ts) zero t e = let is : t ≡ u = cc in ap (λ x. x ∷ ts) (sym is)
-element-here (u ∷ ts) (suc i) t e = element-here ts i t e
+element-here (u ∷ ts) (suc i) t e =
+    let more : suc (i + 1) ≡ suc i + 1 = omega arith in
+    element-here ts i t e ∙ ap (λ k. t ∷ drop k (u ∷ ts)) more
 
 pub stops-here : (n : ℕ) (es rest : Patterns) (p : Pattern) (us ts : List Tree) (t : Tree) (b : Bindings) (total : Option HeadReason) → es ≡ and_pattern p rest → us ≡ t ∷ ts → bind_on p t b ≡ None → stop_in n es us b ≡ total → Some (behind_matching n) ≡ total
 stops-here n es rest p us ts t b total is at none h =
@@ -45,7 +49,7 @@ module _ (d : ex.Dialect) (b : Bindings) (c : ex.Context) where
   one-goes-on es rest e total is fault h = sym (ap (fault_in_one d b c) is ∙ ap (λ o. or_behind o (fault_in_one d b c rest)) fault) ∙ h
 
   -- what follows in turn, by the value
-  follows : Bool → Option Tree → Exprs → Option ex.Expr
+  abbrev follows : Bool → Option Tree → Exprs → Option ex.Expr
   follows true v es = behind_other v (turn true es)
   follows false v es = behind_true v (turn false es)
 
@@ -61,7 +65,7 @@ module _ (d : ex.Dialect) (b : Bindings) (c : ex.Context) where
   follows-stop true t rest e = ap (λ z. if z then None else turn true rest) e
   follows-stop false t rest e = ap (λ z. if z then turn false rest else None) e
 
-  follows-on : (s x : Bool) (t : Tree) (rest : Exprs) → is_true t ≡ x → (x == s) ≡ false → follows s (Some t) rest ≡ turn s rest
+  follows-on : (s x : Bool) (t : Tree) (rest : Exprs) → is_true t ≡ x → beq x s ≡ false → follows s (Some t) rest ≡ turn s rest
   follows-on true true t rest e n = absurd (cc)
   follows-on true false t rest e n = ap (λ z. if z then None else turn true rest) e
   follows-on false true t rest e n = ap (λ z. if z then turn false rest else None) e
@@ -73,12 +77,12 @@ module _ (d : ex.Dialect) (b : Bindings) (c : ex.Context) where
   pub turn-no-value : (s : Bool) (es rest : Exprs) (e : ex.Expr) (total : Option ex.Expr) → es ≡ and_expr e rest → fault_in d b c e ≡ None → ex.value d ex.in_condition b c e ≡ None → turn s es ≡ total → None ≡ total
   turn-no-value s es rest e total is fault at h = sym (turn-is s es rest e None None is fault at ∙ follows-none s rest) ∙ h
 
-  pub turn-stops : (s x : Bool) (es rest : Exprs) (e : ex.Expr) (t : Tree) (total : Option ex.Expr) → es ≡ and_expr e rest → fault_in d b c e ≡ None → ex.value d ex.in_condition b c e ≡ Some t → is_true t ≡ x → (x == s) ≡ true → turn s es ≡ total → None ≡ total
+  pub turn-stops : (s x : Bool) (es rest : Exprs) (e : ex.Expr) (t : Tree) (total : Option ex.Expr) → es ≡ and_expr e rest → fault_in d b c e ≡ None → ex.value d ex.in_condition b c e ≡ Some t → is_true t ≡ x → beq x s ≡ true → turn s es ≡ total → None ≡ total
   turn-stops s x es rest e t total is fault at holds same h =
-      let stop : is_true t ≡ s = holds ∙ eqb-true x s same in
+      let stop : is_true t ≡ s = holds ∙ (booleans_Decides x s).0 same in
       sym (turn-is s es rest e None (Some t) is fault at ∙ follows-stop s t rest stop) ∙ h
 
-  pub turn-goes-on : (s x : Bool) (es rest : Exprs) (e : ex.Expr) (t : Tree) (total : Option ex.Expr) → es ≡ and_expr e rest → fault_in d b c e ≡ None → ex.value d ex.in_condition b c e ≡ Some t → is_true t ≡ x → (x == s) ≡ false → turn s es ≡ total → turn s rest ≡ total
+  pub turn-goes-on : (s x : Bool) (es rest : Exprs) (e : ex.Expr) (t : Tree) (total : Option ex.Expr) → es ≡ and_expr e rest → fault_in d b c e ≡ None → ex.value d ex.in_condition b c e ≡ Some t → is_true t ≡ x → beq x s ≡ false → turn s es ≡ total → turn s rest ≡ total
   turn-goes-on s x es rest e t total is fault at holds other h = sym (turn-is s es rest e None (Some t) is fault at ∙ follows-on s x t rest holds other) ∙ h
 
   -- ---- conditions

@@ -2,6 +2,7 @@
 use Rattle.std.specs.Prelude.{ℕ, Option, map}
 use Rattle.std.specs.Option.{option_map}
 use Rattle.std.specs.Borrow.{Bor}
+use Rattle.std.specs.declared.alloc.Allocator.{Ghosts}
 use Rattle.def_spec.specs.Expressions as ex
 use Rattle.def_explain.specs.Heads as heads
 use Rattle.def_explain.specs.Reasons as reasons
@@ -44,6 +45,7 @@ reasons_seen r = option_map reason_seen r
 abbrev pub part_at : {A : Type 0} → Option (Bor (Expr A)) → Option ex.Expr
 part_at r = option_map (λ e. expr_seen e.now) r
 
-abbrev pub verdict_seen : {A : Type 0} → Verdict A → verdicts.Verdict
+-- what becomes of a clause
+abbrev pub verdict_seen : {A : Type 0} {G : Ghosts A} → Verdict A G → verdicts.Verdict
 verdict_seen (Fails r) = verdicts.fails (reason_seen r)
 verdict_seen (Fires b es) = verdicts.fires (bindings_seen b) (map effect_seen es.items)

@@ -72,7 +72,7 @@ fn first_untrue<'a, A: Allocator + Copy>(
 
 /// That the condition faults at this part, where there is one.
 fn faulting<'a, A: Allocator>(index: usize, part: Option<&'a Expr<A>>) -> Option<Reason<'a, A>>
-    ensures { (r : Option reasons.Reason) → reasons_seen result ≡ untrue_by index None (part_at part) r }
+    ensures { (r : Option reasons.Reason) → reasons_seen result ≡ untrue_by index None (part_at part.entry) r }
 {
     match part {
         Some(part) => Some(Reason::ByCondition {

@@ -8,7 +8,7 @@ use crate::reason::HeadReason;
 use smallvec::SmallVec;
 use std::alloc::{AllocError, Allocator};
 use tn_guard::Parts;
-use tn_head::bind_on;
+use tn_head::{SomeBindings, bind_on};
 use tn_spec::{Head, Pattern};
 
 /// Why the head doesn't match the list of these elements; None where it does.
@@ -41,7 +41,7 @@ fn first_stop<'a, P: Allocator, A: Allocator, B: Allocator + Copy>(
     requires { length patterns.now.items ≡ length (parts_list list) }
     ensures { IfOk result (λ r. head_reasons_seen r ≡ stop_of patterns.now list.entry) }
 {
-    let mut bound = SmallVec::new(alloc);
+    let mut bound: SomeBindings<'a, A, B> = SmallVec::new(alloc);
     for i in 0..patterns.len() {
         if !bind_on(&patterns[i], list.at(i), &mut bound)? {
             return Ok(Some(HeadReason::BehindMatching(i)));
