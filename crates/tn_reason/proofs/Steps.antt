@@ -14,6 +14,22 @@ use Rattle.def_explain.specs.Values.{or_behind, behind_true, behind_other, fault
 use Rattle.def_explain.specs.Verdicts.{fails, fires_with, verdict_of}
 use Rattle.def_explain.proofs.HeadStops.{head_there}
 use Rattle.def_explain.proofs.ClauseVerdicts.{verdict_with, verdict_without}
+use Rattle.std.proofs.Common.{eq-eqb, get_or}
+use Rattle.std.proofs.lemmas.Bool.{ne_eqb}
+use Rattle.std.proofs.lemmas.List.{drop_more}
+use Rattle.std.specs.declared.alloc.Allocator.{Ghosts}
+use Rattle.def_term.specs.Tree.{count as elements}
+use Rattle.def_spec.specs.Matching.{in_list}
+use Rattle.def_explain.specs.Heads as heads
+use Rattle.tn_spec.specs.Views.{pattern_seen, patterns_seen}
+use Rattle.tn_spec.specs.declared.pattern.Pattern as code
+use Rattle.tn_head.specs.Views.{bindings_seen}
+use Rattle.tn_spec.specs.Views.{dialect_of}
+use Rattle.tn_action.specs.Parts.{part_seen}
+use Rattle.tn_action.specs.Scenes.{value_in}
+use Rattle.tn_action.specs.Views.{context_seen}
+use Rattle.tn_action.specs.declared.scene.Part.TheVariants.{Condition}
+use Rattle.tn_action.specs.declared.scene.Scene.{Scene}
 
 -- ---- heads
 
@@ -118,3 +134,28 @@ module _ (d : ex.Dialect) (k : Clause) (c : ex.Context) where
 
   pub all-hold : (b : Bindings) → bindings_of k.head (matched_term c) ≡ Some b → untrue_in d b c 0 k.conditions ≡ None → verdict_of d k c ≡ fires_with d k c b
   all-hold b m u = verdict_without d k c b (ap (reason_by d k c) m ∙ u) m
+
+-- ---- scenes
+
+-- a value in a scene of conditions
+pub in-conditions : {A : Type 0} {G : Ghosts A} (s : Scene A G) (e : ex.Expr) (v : Option Tree) → s.part ≡ Condition → value_in s e ≡ v → ex.value (dialect_of s.dialect) ex.in_condition (bindings_seen s.bindings.now) (context_seen s.context.now) e ≡ v
+in-conditions s e v at is = sym (ap (λ p. ex.value (dialect_of s.dialect) (part_seen p) (bindings_seen s.bindings.now) (context_seen s.context.now) e) at) ∙ is
+
+-- ---- lengths
+
+pub count-elements : (ts : List Tree) → elements (of_elements ts) ≡ length ts
+count-elements [] = refl
+count-elements (t ∷ ts) = ap suc (count-elements ts)
+
+pub count-patterns : {A : Type 0} (ps : List (code.Pattern A)) → count (patterns_seen ps) ≡ length ps
+count-patterns [] = refl
+count-patterns (p ∷ ps) = ap suc (count-patterns ps)
+
+pub patterns-here : {A : Type 0} (ps : List (code.Pattern A)) (i : ℕ) (p : code.Pattern A) → i < length ps → p ≡ get_or ps i p → patterns_seen (drop i ps) ≡ and_pattern (pattern_seen p) (patterns_seen (drop (i + 1) ps))
+patterns-here ps i p below is = ap patterns_seen (drop_more ps i p below is) ∙ ap (λ f. and_pattern (pattern_seen f) (patterns_seen (drop (i + 1) ps))) (sym is)
+
+pub other-length : (ps : Patterns) (ts : List Tree) → (count ps ≡ length ts → ⊥) → head_reason (in_list ps) ts ≡ Some heads.other_length
+other-length ps ts h = ap (λ q. if q then stop_in 0 ps ts [] else Some heads.other_length) (ne_eqb (count ps) (length ts) h)
+
+pub same-length : (ps : Patterns) (ts : List Tree) → count ps ≡ length ts → head_reason (in_list ps) ts ≡ stop_in 0 ps ts []
+same-length ps ts h = ap (λ q. if q then stop_in 0 ps ts [] else Some heads.other_length) (eq-eqb (count ps) (length ts) h)

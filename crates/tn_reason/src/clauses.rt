@@ -57,14 +57,15 @@ fn first_untrue<'a, A: Allocator + Copy>(
 {
     let mut effects = Vec::new(scene.alloc);
     for index in 0..conditions.len() {
-        match value(&conditions[index], scene, &mut effects)? {
+        let condition = &conditions[index];
+        match value(condition, scene, &mut effects)? {
             Some(other) => {
                 if !other.is_true() {
                     let why = ConditionReason::HasValue(other);
                     return Ok(Some(Reason::ByCondition { index, why }));
                 }
             }
-            None => return Ok(faulting(index, fault_in(&conditions[index], scene, &mut effects)?)),
+            None => return Ok(faulting(index, fault_in(condition, scene, &mut effects)?)),
         }
     }
     Ok(None)
