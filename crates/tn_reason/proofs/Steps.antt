@@ -145,14 +145,16 @@ in-conditions s e v at is = sym (ap (λ p. ex.value (dialect_of s.dialect) (part
 
 pub count-elements : (ts : List Tree) → elements (of_elements ts) ≡ length ts
 count-elements [] = refl
-count-elements (t ∷ ts) = ap suc (count-elements ts)
+count-elements (t ∷ ts) =
+    let more : length ts + 1 ≡ suc (length ts) = omega arith in
+    ap (λ n. n + 1) (count-elements ts) ∙ more
 
 pub count-patterns : {A : Type 0} (ps : List (code.Pattern A)) → count (patterns_seen ps) ≡ length ps
 count-patterns [] = refl
 count-patterns (p ∷ ps) = ap suc (count-patterns ps)
 
 pub patterns-here : {A : Type 0} (ps : List (code.Pattern A)) (i : ℕ) (p : code.Pattern A) → i < length ps → p ≡ get_or ps i p → patterns_seen (drop i ps) ≡ and_pattern (pattern_seen p) (patterns_seen (drop (i + 1) ps))
-patterns-here ps i p below is = ap patterns_seen (drop_more ps i p below is) ∙ ap (λ f. and_pattern (pattern_seen f) (patterns_seen (drop (i + 1) ps))) (sym is)
+patterns-here ps i p below is = ap patterns_seen (drop_more ps i p below) ∙ ap (λ f. and_pattern (pattern_seen f) (patterns_seen (drop (i + 1) ps))) (sym is)
 
 pub other-length : (ps : Patterns) (ts : List Tree) → (count ps ≡ length ts → ⊥) → head_reason (in_list ps) ts ≡ Some heads.other_length
 other-length ps ts h = ap (λ q. if q then stop_in 0 ps ts [] else Some heads.other_length) (ne_eqb (count ps) (length ts) h)
