@@ -1,9 +1,9 @@
 //! A run of the program: the bytes of a script and a text of picks in, the bytes of an output out.
 //!
 //! Stands on tn_text (watched ends), tn_script, tn_program, tn_listing, and tn_live and tn_pool for a run by
-//! workers and its output, and on the definitions of def_script and def_run. Promises that `run` writes exactly the output
-//! that def_run defines for the script and the picks, or for the script and the limit of a round, or the
-//! line of the one refusal, and nothing else; that `run_live` writes the output that is defined for the picks
+//! workers and its output, and on the definitions of def_script and def_run. Promises that `run` writes
+//! exactly the output that def_run defines for the script and the picks, or for the script and the limit of
+//! a round, or the line of the one refusal, and nothing else; that `run_live` writes the output that is defined for the picks
 //! of the journal that its workers made, after which no pick of a pass moves; and that a fault says which
 //! end failed, and how many bytes of that output were taken.
 #![tactic(auto)]
