@@ -1,7 +1,12 @@
 -- The newest of the function commands that were accepted.
 use Rattle.std.specs.Prelude.{Bool, ◌||◌, List, [], ◌∷◌, Option, Some, None, if◌then◌else◌}
+use Rattle.std.specs.Borrow.{Bor}
+use Rattle.std.specs.Option.{option_map}
 use Rattle.def_term.specs.Names.{Mfa}
 use Rattle.def_session.specs.Settings.{Covering, Setting, off, has_among}
+use Rattle.tn_index.specs.declared.covering.Setting as code
+use Rattle.tn_session.specs.Views.{setting_seen}
+use Rattle.tn_session.specs.declared.compiled.Compiled.{Compiled}
 
 -- the first of these, which are the newest first, that has the function among its own
 abbrev pub newest_with : List Covering → Mfa → Bool → Option Covering
@@ -12,6 +17,10 @@ newest_with (k ∷ ks) f exported = if has_among k f exported then Some k else n
 abbrev pub setting_in : Option Setting → Setting
 setting_in None = off
 setting_in (Some s) = s
+
+-- the setting that is lent; a disabled one where there is none
+abbrev pub lent_setting : {A : Type 0} → Option (Bor (code.Setting (Compiled A))) → Setting
+lent_setting r = setting_in (option_map (λ s. setting_seen s.now) r)
 
 -- the setting of a command, where it concerns a call that names the module or not
 abbrev pub concerning : Option Covering → Bool → Setting

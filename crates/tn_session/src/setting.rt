@@ -1,10 +1,9 @@
 // The setting that concerns a call.
 ghost use Rattle.std.specs.Prelude.{◌≡◌, Some};
-ghost use Rattle.std.specs.Option.{option_map};
 ghost use Rattle.def_session.specs.Settings.{setting_for};
 ghost use Rattle.tn_flags.specs.Views.{call_of};
-ghost use Rattle.tn_session.specs.Views.{covering_seen, setting_seen, settings_seen};
-ghost use Rattle.tn_session.specs.Newest.{concerning, setting_in};
+ghost use Rattle.tn_session.specs.Views.{covering_seen, settings_seen};
+ghost use Rattle.tn_session.specs.Newest.{concerning, lent_setting};
 
 use crate::compiled::Compiled;
 use std::alloc::Allocator;
@@ -16,8 +15,7 @@ fn setting_if<A: Allocator>(
     covering: &Covering<Compiled<A>, A>,
     named: bool,
 ) -> Option<&Setting<Compiled<A>>>
-    ensures { concerning (Some (covering_seen covering.now)) named ≡
-        setting_in (option_map (λ s. setting_seen s.now) result) }
+    ensures { concerning (Some (covering_seen covering.now)) named ≡ lent_setting result }
 {
     if covering.local || named {
         Some(&covering.setting)
@@ -32,8 +30,7 @@ pub(crate) fn setting_for<'a, A: Allocator + Copy>(
     settings: &'a Settings<Compiled<A>, A>,
     call: &Call<A>,
 ) -> Option<&'a Setting<Compiled<A>>>
-    ensures { setting_for (settings_seen settings.now) (call_of call.now) ≡
-        setting_in (option_map (λ s. setting_seen s.now) result) }
+    ensures { setting_for (settings_seen settings.now) (call_of call.now) ≡ lent_setting result }
 {
     match settings.get(&call.mfa, call.exported) {
         None => None,
