@@ -4,10 +4,14 @@ _tracenode() {
     local word=${COMP_WORDS[COMP_CWORD]} before=${COMP_WORDS[COMP_CWORD - 1]} command=${COMP_WORDS[1]} words=
     COMPREPLY=()
     if [ "$COMP_CWORD" -eq 1 ]; then
-        words='replay round workers help --help --version'
+        words='replay round workers spec help --help --version'
     else
         case $before in
-            --picks | --limit | --n | --turns) return ;;
+            --picks | --limit | --n | --turns | --list | --me | --caller) return ;;
+            --for)
+                COMPREPLY=($(compgen -W 'call send receive' -- "$word"))
+                return
+                ;;
             --picks-file)
                 COMPREPLY=($(compgen -f -- "$word"))
                 return
@@ -17,7 +21,8 @@ _tracenode() {
             replay) words='--picks --picks-file --help' ;;
             round) words='--limit --help' ;;
             workers) words='--n --turns --help' ;;
-            help) words='replay round workers' ;;
+            spec) words='--list --for --me --caller --help' ;;
+            help) words='replay round workers spec' ;;
         esac
     fi
     COMPREPLY=($(compgen -W "$words" -- "$word"))

@@ -275,7 +275,7 @@ def command_lines():
 
 def documents():
     """The man page and the completions name the commands and options of the help, and no others."""
-    helps = {word: run([*word, "--help"]).stdout.decode() for word in ((), ("replay",), ("round",), ("workers",))}
+    helps = {word: run([*word, "--help"]).stdout.decode() for word in ((), ("replay",), ("round",), ("workers",), ("spec",))}
     commands = set(re.findall(r"^  ([a-z]+) ", helps[()], re.M))
     options = set(re.findall(r"--[a-z-]+", "".join(text.partition("\nExample:")[0] for text in helps.values())))
     check("the help has commands and options", len(commands) >= 4 and len(options) >= 7, (commands, options))
@@ -287,6 +287,50 @@ def documents():
         check(f"the options of {file.name}", named == options, (named, options))
         missing = [word for word in commands if not re.search(rf"\b{word}\b", text)]
         check(f"the commands of {file.name}", not missing, missing)
+
+
+TWO_CLAUSES = "[{['$1','_'],[{is_integer,'$1'}],[]},{['$1','_'],[],[{message,{{second,'$1'}}}]}]"
+TWO_CLAUSES_TOLD = b"""clause 1: condition 1 is false
+clause 2 fires: message {second,hi}
+  '$1' is hi
+=> a message that ends in {second,hi}
+"""
+
+
+def trials():
+    """Specifications that are held against a list."""
+    hi_one = ["spec", "--list", "[hi,1]"]
+    wants("a specification", run([*hi_one, TWO_CLAUSES]), 0, TWO_CLAUSES_TOLD)
+    wants("a specification from standard input", run(hi_one, TWO_CLAUSES.encode() + b"\n"), 0, TWO_CLAUSES_TOLD)
+    wants("a specification from -", run([*hi_one, "-"], TWO_CLAUSES.encode()), 0, TWO_CLAUSES_TOLD)
+    sends = run(["spec", "--for", "send", "--list", "[<0.101.0>,hi]", "[{'_',[],[{silent,true}]}]"])
+    wants("a specification of sends", sends, 0, b"clause 1 fires: silent true\n=> a message\n")
+    of_caller = ["spec", "--list", "[]", "--me", "163", "--caller", "{m,f,2}"]
+    told = b"clause 1 fires: message [<0.163.0>,{m,f,2}]\n=> a message that ends in [<0.163.0>,{m,f,2}]\n"
+    wants("a caller", run([*of_caller, "[{'_',[],[{message,[{self},{caller}]}]}]"]), 0, told)
+    for words, line in (
+        (["--list", "[hi,"], b"list:1:5: no term goes on so\n"),
+        (["--list", "[a.b]"], b"list:1:3: no term goes on so\n"),
+        (["--list", "[\n\n]]"], b"list:3:2: no term goes on so\n"),
+        (["--list", "-1"], b"list: no list\n"),
+        (["--list", "[]", "--caller", "{m,f}"], b"caller: no {Module,Function,Arity}\n"),
+        (["--list", "[]", "--caller", "{m,f,1"], b"caller:1:7: no term goes on so\n"),
+    ):
+        wants(f"spec {' '.join(words)}", run(["spec", *words, "[{'_',[],[]}]"]), 2, b"", line)
+    for spec, line in (
+        ("[", b"specification:1:2: no term goes on so\n"),
+        ("[]", b"specification: badarg\n"),
+        ("[{'_',[],[]},{'_',['$1'],[]}]", b"specification: clause 2: badarg\n"),
+        ("[{'_',[],[{display,a}]}]", b"specification: clause 1: unsupported function display\n"),
+    ):
+        wants(f"spec {spec}", run(["spec", "--list", "[]", spec]), 2, b"", line)
+    for words in (["--list"], [TWO_CLAUSES], ["--list", "[]", "--for", "calls"], ["--list", "[]", "--me", "-1"]):
+        ran = run(["spec", *words])
+        check(f"spec {' '.join(words)}", ran.returncode == 2 and not ran.stdout and ran.stderr, ran)
+    with open("/dev/full", "wb") as full:
+        ran = subprocess.run([str(PROGRAM), *hi_one, TWO_CLAUSES], stdout=full, stderr=subprocess.PIPE, check=False)
+    full_told = b"fault 19 write after 0 bytes: No space left on device"
+    check("a specification to a full end", ran.returncode == 3 and ran.stderr.startswith(full_told), ran)
 
 
 def workers():
@@ -411,7 +455,7 @@ def main():
         print("the program is not built")
         print("0 passed, 1 failed")
         sys.exit(1)
-    parts = (rows, plain, tries, files, documents, examples, workers, refusals)
+    parts = (rows, plain, tries, files, documents, examples, workers, trials, refusals)
     parts += (long_texts, command_lines, ends, memory, growths, starts)
     for part in parts:
         try:

@@ -88,7 +88,7 @@ module _ (d : Dialect) (b : Bindings) (c : Context) where
       go true f g = (h ∙ ap Some (same-is u (truth true) f), g)
       go false f g = absurd (cc g)
 
-  none_untrue : (n : ℕ) (es : Exprs) → untrue_in d b c n es ≡ None → EachTrue d b c es
+  pub none_untrue : (n : ℕ) (es : Exprs) → untrue_in d b c n es ≡ None → EachTrue d b c es
   none_untrue n no_exprs h = tt
   none_untrue n (and_expr e es) h =
       let r : (value d in_condition b c e ≡ Some (truth true)) × (untrue_in d b c (suc n) es ≡ None) = all_true_is e n (value d in_condition b c e) (fault_in d b c e) (untrue_in d b c (suc n) es) refl (tied d b c e) h in

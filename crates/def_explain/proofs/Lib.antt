@@ -1,6 +1,11 @@
+pub mod AccountLines
 mod CauseOfEvents
 mod CauseOfSettings
 mod ClauseReasons
+mod ClauseStops
+pub mod ClauseVerdicts
 mod FaultPlaces
-mod HeadStops
+pub mod HeadStops
+mod Names
 mod Rows
+mod TextRows

@@ -1,17 +1,24 @@
 -- What is promised of reasons and causes (own).
 -- Stands on reasons, on causes, on which clause fires and on what a session makes of an event.
-use Rattle.std.specs.Prelude.{◌≡◌, ◌↔◌, List, Some, None}
-use Rattle.def_term.specs.Tree.{Tree, list, of_elements}
+use Rattle.std.specs.Prelude.{◌≡◌, ◌↔◌, ℕ, List, option_to_list, Some, None}
+use Rattle.std.specs.Option.{option_map}
+use Rattle.def_term.specs.Tree.{Tree, Trees, list, of_elements}
 use Rattle.def_spec.specs.Matching.{Pattern, Bindings, Matches}
-use Rattle.def_spec.specs.Expressions.{Dialect, Expr, Context, in_condition, value}
-use Rattle.def_spec.specs.Outcome.{Clause, Fires}
+use Rattle.def_spec.specs.Functions.{Func}
+use Rattle.def_spec.specs.Reading.{found_in, table, a_function, an_action}
+use Rattle.def_spec.specs.Expressions.{Action, Dialect, Expr, Context, in_condition, value}
+use Rattle.def_spec.specs.Outcome.{Clause, Fires, outcome_in}
 use Rattle.def_explain.specs.Heads.{HeadReason, IsHeadReason}
 use Rattle.def_explain.specs.Values.{FaultsAt}
+use Rattle.def_explain.specs.Spellings.{function_name, action_name}
+use Rattle.def_explain.specs.Accounts.{told_in_lines, event_lines}
+use Rattle.def_explain.specs.Places.{StopsAtClause, stop_of}
 use Rattle.def_node.specs.Event.{Event}
 use Rattle.def_session.specs.State.{Session}
-use Rattle.def_session.specs.Session.{evaluated, told_for}
+use Rattle.def_session.specs.Session.{evaluated, told_for, event_told}
 use Rattle.def_explain.specs.Reasons.{Reason, IsReason, reason_of}
 use Rattle.def_explain.specs.Causes.{Cause, IsCause, cause_of}
+use Rattle.def_explain.specs.Verdicts.{Verdict, IsVerdict, verdict_of, outcome_by_verdicts}
 
 -- there is a reason exactly where no binding is one with which the clause fires
 abbrev pub ReasonWhereNotFired : Type 0
@@ -24,6 +31,25 @@ ReasonIsOne = (d : Dialect) (k : Clause) (c : Context) (q r : Reason) → IsReas
 -- what is computed is the reason
 abbrev pub ReasonIsComputed : Type 0
 ReasonIsComputed = (d : Dialect) (k : Clause) (c : Context) (r : Reason) → (reason_of d k c ≡ Some r) ↔ IsReason d k c r
+
+-- what is computed is what becomes of a clause: it has one verdict
+abbrev pub VerdictIsComputed : Type 0
+VerdictIsComputed = (d : Dialect) (k : Clause) (c : Context) (v : Verdict) → (verdict_of d k c ≡ v) ↔ IsVerdict d k c v
+
+-- the outcome is that of the first clause that is said to fire
+abbrev pub OutcomeIsByVerdicts : Type 0
+OutcomeIsByVerdicts = (d : Dialect) (ks : List Clause) (c : Context) → outcome_by_verdicts d ks c ≡ outcome_in d ks c
+
+-- what is computed is the first term that is no clause
+abbrev pub StopIsComputed : Type 0
+StopIsComputed = (d : Dialect) (ts : Trees) (n : ℕ) → (stop_of d (list ts) ≡ Some n) ↔ StopsAtClause d ts n
+
+-- by its name a function is read as itself, and an action too
+abbrev pub FunctionNameIsRead : Type 0
+FunctionNameIsRead = (f : Func) → option_map (λ r. r.called) (found_in table (function_name f)) ≡ Some (a_function f)
+
+abbrev pub ActionNameIsRead : Type 0
+ActionNameIsRead = (a : Action) → option_map (λ r. r.called) (found_in table (action_name a)) ≡ Some (an_action a)
 
 -- a head has a reason exactly where it matches with no binding
 abbrev pub HeadReasonWhereNotMatched : Type 0
@@ -44,3 +70,7 @@ CauseIsOne = (s : Session) (e : Event) (x y : Cause) → IsCause s e x → IsCau
 -- what is computed is the cause
 abbrev pub CauseIsComputed : Type 0
 CauseIsComputed = (s : Session) (e : Event) (x : Cause) → (cause_of s e ≡ Some x) ↔ IsCause s e x
+
+-- the messages among the lines of an event are the session's message of it
+abbrev pub LinesTellTheMessage : Type 0
+LinesTellTheMessage = (s : Session) (e : Event) → told_in_lines (event_lines s e) ≡ option_to_list (event_told s e).1

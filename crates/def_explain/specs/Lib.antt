@@ -1,5 +1,10 @@
+pub mod Accounts
 pub mod Causes
 pub mod Heads
 pub mod Laws
+pub mod Places
 pub mod Reasons
+pub mod Spellings
+pub mod Texts
 pub mod Values
+pub mod Verdicts

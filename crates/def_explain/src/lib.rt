@@ -8,7 +8,10 @@
 #![tactic(auto)]
 
 ghost use Rattle.def_explain.specs.Laws.{ReasonWhereNotFired, ReasonIsOne, ReasonIsComputed};
+ghost use Rattle.def_explain.specs.Laws.{VerdictIsComputed, OutcomeIsByVerdicts};
+ghost use Rattle.def_explain.specs.Laws.{FunctionNameIsRead, ActionNameIsRead, StopIsComputed};
 ghost use Rattle.def_explain.specs.Laws.{HeadReasonWhereNotMatched, FaultWhereNoValue};
+ghost use Rattle.def_explain.specs.Laws.{LinesTellTheMessage};
 ghost use Rattle.def_explain.specs.Laws.{CauseWhereNothingTold, CauseIsOne, CauseIsComputed};
 
 /// A clause has a reason exactly where it doesn't fire, and one at most, which is what is computed.
@@ -16,6 +19,24 @@ pub fn a_clause_has_a_reason_or_fires()
     ensures exactly { ReasonWhereNotFired }
     ensures one { ReasonIsOne }
     ensures computed { ReasonIsComputed }
+{}
+
+/// A clause has one verdict, which is what is computed: why it doesn't fire, or with which binding it does and
+/// what its body asks for. The outcome of a specification is that of the first clause that is said to fire.
+pub fn a_clause_has_one_verdict()
+    ensures computed { VerdictIsComputed }
+    ensures outcome { OutcomeIsByVerdicts }
+{}
+
+/// Where a list is no specification, the first element that is no clause is found.
+pub fn a_reading_stops_at_a_clause()
+    ensures { StopIsComputed }
+{}
+
+/// By the name that an explanation calls it by, a function is read as itself, and an action too.
+pub fn a_name_is_read_as_what_it_names()
+    ensures functions { FunctionNameIsRead }
+    ensures actions { ActionNameIsRead }
 {}
 
 /// A head has a reason exactly where it doesn't match.
@@ -34,4 +55,9 @@ pub fn a_session_has_a_cause_or_tells()
     ensures exactly { CauseWhereNothingTold }
     ensures one { CauseIsOne }
     ensures computed { CauseIsComputed }
+{}
+
+/// The messages among the lines of an event are the session's message of it.
+pub fn lines_tell_the_message()
+    ensures { LinesTellTheMessage }
 {}

@@ -101,8 +101,8 @@ fn each_true<'a, A: Allocator + Copy>(
     Ok(true)
 }
 
-/// The effects of a body.
-fn body_effects<'a, A: Allocator + Copy>(
+/// The effects of a body. An error is refused memory.
+pub fn body_effects<'a, A: Allocator + Copy>(
     body: &'a Vec<Expr<A>, A>,
     scene: &Scene<'a, '_, A>,
 ) -> Result<Vec<Effect<A>, A>, AllocError>

@@ -14,7 +14,8 @@ mod scene;
 mod values;
 
 pub use actions::{Acted, perform};
-pub use clauses::outcome;
+pub use clauses::{body_effects, outcome};
 pub use context::Context;
 pub use effect::{Effect, Outcome};
 pub use scene::{Part, Scene};
+pub use values::value;

@@ -87,6 +87,52 @@ fn workers<'a>(alloc: Global) -> Result<Command<'a>, AllocError> {
         .arg(turns)
 }
 
+/// What the specification of `spec` is for.
+const EVENTS: &[&str] = &["call", "send", "receive"];
+
+/// The subcommand `spec --list TERM [--for EVENT] [--me N] [--caller TERM] [SPECIFICATION]`.
+fn spec<'a>(alloc: Global) -> Result<Command<'a>, AllocError> {
+    let list = Arg::new(alloc, "list")
+        .long("list")
+        .value_name("TERM")
+        .help("The list: [Arg, ..] of a call, [Receiver, Message] of a send, [Node, Sender, Message] of a receive")
+        .required(true)
+        .allow_hyphen_values(true)
+        .action(ArgAction::Set);
+    let event = Arg::new(alloc, "for")
+        .long("for")
+        .value_name("EVENT")
+        .help("What the specification is for: call, send or receive")
+        .value_parser(EVENTS)
+        .default_value("call")
+        .action(ArgAction::Set);
+    let me = Arg::new(alloc, "me")
+        .long("me")
+        .value_name("N")
+        .help("The process whose event it is, <0.N.0>")
+        .value_parser(value_parser!(u32))
+        .default_value("100")
+        .action(ArgAction::Set);
+    let caller = Arg::new(alloc, "caller")
+        .long("caller")
+        .value_name("TERM")
+        .help("The function that the call comes from, {Module,Function,Arity}")
+        .allow_hyphen_values(true)
+        .action(ArgAction::Set);
+    let specification = Arg::new(alloc, "specification")
+        .value_name("SPECIFICATION")
+        .help("The specification; standard input where it is absent or -")
+        .allow_hyphen_values(true)
+        .action(ArgAction::Set);
+    Command::new(alloc, "spec")
+        .about("Holds one match specification against a list, and prints why each clause fires or doesn't")
+        .arg(list)?
+        .arg(event)?
+        .arg(me)?
+        .arg(caller)?
+        .arg(specification)
+}
+
 /// The command with its subcommands.
 pub fn command<'a>(alloc: Global) -> Result<Command<'a>, AllocError> {
     Command::new(alloc, "tracenode")
@@ -97,5 +143,6 @@ pub fn command<'a>(alloc: Global) -> Result<Command<'a>, AllocError> {
         .subcommand_required(true)
         .subcommand(replay(alloc)?)?
         .subcommand(round(alloc)?)?
-        .subcommand(workers(alloc)?)
+        .subcommand(workers(alloc)?)?
+        .subcommand(spec(alloc)?)
 }

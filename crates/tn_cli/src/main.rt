@@ -19,12 +19,14 @@ use std::rt::{Env, Files};
 use std::sync::Wait;
 use std::thread::Threads;
 use tn_command::{
-    FAULT, Noted, REFUSED, Source, arguments, perform, perform_workers, picks_of, report,
+    FAULT, Noted, REFUSED, Source, arguments, perform, perform_trial, perform_workers, picks_of, report,
     source_of, tell_fault,
 };
 use tn_pool::Open;
 use tn_run::{RunFault, Schedule, Workers, write_output};
+use tn_spec::Dialect;
 use tn_text::Watched;
+use tn_trial::Question;
 
 /// Where the script of a subcommand is read from.
 fn script<'a>(matches: &'a ArgMatches<'_>) -> Source<'a> {
@@ -78,6 +80,49 @@ fn run_replay<R: Input + Files + Print + Eprint + AllocGlobal>(
     perform(rt, script(matches), Schedule::Picks(picks.as_bytes()))
 }
 
+/// What the specification of this event is for.
+fn dialect_of(event: &str) -> Dialect {
+    match event {
+        "send" => Dialect::Send,
+        "receive" => Dialect::Recv,
+        _ => Dialect::Call,
+    }
+}
+
+/// Holds the specification against the list that the words of `spec` name.
+fn try_spec<R: Print + Eprint + AllocGlobal>(
+    rt: &R,
+    matches: &ArgMatches<'_>,
+    spec: &[u8],
+) -> ExitCode
+    ensures { IsStatus (exit_status result) }
+{
+    let question = Question {
+        dialect: dialect_of(matches.get_str("for").unwrap_or("call")),
+        list: matches.get_str("list").unwrap_or("").as_bytes(),
+        me: matches.get_one::<u32>("me").unwrap_or(0),
+        caller: matches.get_str("caller").map(|text| text.as_bytes()),
+        spec,
+    };
+    perform_trial(rt, &question)
+}
+
+/// Runs the subcommand `spec`.
+fn run_spec<R: Input + Files + Print + Eprint + AllocGlobal>(
+    rt: &R,
+    matches: &ArgMatches<'_>,
+) -> ExitCode
+    ensures { IsStatus (exit_status result) }
+{
+    match matches.get_str("specification") {
+        None | Some("-") => match picks_of(rt, Source::Input) {
+            Ok(text) => try_spec(rt, matches, &text),
+            Err(status) => status,
+        },
+        Some(text) => try_spec(rt, matches, text.as_bytes()),
+    }
+}
+
 /// Runs the subcommand.
 fn run_command<R: Input + Files + Print + Eprint + AllocGlobal + Threads + Wait + Sync>(
     rt: &R,
@@ -87,6 +132,7 @@ fn run_command<R: Input + Files + Print + Eprint + AllocGlobal + Threads + Wait 
 {
     match matches.subcommand() {
         Some(("workers", workers)) => run_workers(rt, workers),
+        Some(("spec", spec)) => run_spec(rt, spec),
         Some(("round", round)) => {
             let limit = round.get_one::<u32>("limit").unwrap_or(0);
             perform(rt, script(round), Schedule::Round(limit))

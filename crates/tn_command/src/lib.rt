@@ -4,7 +4,7 @@
 //! Stands on tn_run, which promises what is written, and on tn_explain, which promises the line of a refusal.
 //! Promises that the status is that of the run's answer, 0 for a listing, 2 for a refusal and 3 for a fault,
 //! and that what was written is what the status says. A refusal or a fault has one line on standard error:
-//! how the text can be mended, or what failed.
+//! how the text can be mended, or what failed. The trial of one specification is told in the same way.
 #![tactic(auto)]
 
 mod noted;
@@ -13,6 +13,7 @@ mod runs;
 mod source;
 mod status;
 mod telling;
+mod trial;
 mod words;
 
 pub use noted::Noted;
@@ -20,4 +21,5 @@ pub use runs::{Ended, perform, perform_over, perform_workers, perform_workers_ov
 pub use source::{Source, open, source_of};
 pub use status::{FAULT, REFUSED, report};
 pub use telling::tell_fault;
+pub use trial::{TrialFault, Tried, perform_trial, perform_trial_over};
 pub use words::arguments;

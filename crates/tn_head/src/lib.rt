@@ -8,5 +8,5 @@
 mod bindings;
 mod matching;
 
-pub use bindings::{Binding, Bindings};
-pub use matching::bind;
+pub use bindings::{Binding, Bindings, SomeBindings};
+pub use matching::{bind, bind_on};

@@ -46,7 +46,7 @@ fn walk<'a, P: Allocator, A: Allocator, B: Allocator + Copy>(
 
 /// Whether the pattern is the value, with what is bound already; binds the pattern's other variables.
 #[cycle(bind)]
-fn bind_on<'a, P: Allocator, A: Allocator, B: Allocator + Copy>(
+pub fn bind_on<'a, P: Allocator, A: Allocator, B: Allocator + Copy>(
     pattern: &Pattern<P>,
     value: Value<'a, A>,
     bound: &mut SomeBindings<'a, A, B>,

@@ -70,8 +70,9 @@ fn clause_of_fields<A: Allocator + Copy>(
     clause_of_three(alloc, &fields[0], conditions, body, dialect)
 }
 
-/// The clause that the term is.
-fn clause<A: Allocator + Copy>(
+/// The clause that the term is, or its first fault. Memory that runs out is `OutOfMemory` and says nothing of the
+/// term.
+pub fn clause<A: Allocator + Copy>(
     alloc: A,
     term: &Term<A>,
     dialect: Dialect,

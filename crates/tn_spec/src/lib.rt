@@ -17,9 +17,10 @@ mod spec;
 mod table;
 mod variables;
 
-pub use clauses::spec_of;
+pub use clauses::{clause, spec_of};
 pub use expr::Expr;
 pub use fault::SpecFault;
 pub use func::{Action, Dialect, Func};
+pub use names::{AtomKind, kind_of};
 pub use pattern::{Head, Pattern};
 pub use spec::{Clause, Spec};

@@ -1,0 +1,70 @@
+-- Rows: the texts of small trials.
+use Rattle.std.proofs.Common.{◌≡◌, ℕ, true, List, [], ◌∷◌, ◌++◌, Some, None, pos, codes, refl}
+use Rattle.std.specs.Fmt.{digits}
+use Rattle.def_term.specs.Text.{is_written_bare}
+use Rattle.def_term.specs.Tree.{Tree, int, list, tuple, none, more}
+use Rattle.def_term.specs.Names.{Mfa, word}
+use Rattle.def_spec.specs.Matching.{Pattern, variable, anything, in_list, no_patterns, and_pattern}
+use Rattle.def_spec.specs.Functions as fn
+use Rattle.def_spec.specs.Expressions.{for_calls, for_sends, Expr, bound_to, whole_list, constant, tuple_of, call, perform, message, silent, enable_trace, Exprs, no_exprs, and_expr, Context}
+use Rattle.def_spec.specs.Outcome.{Clause}
+use Rattle.def_session.specs.State.{alive_at_start}
+use Rattle.def_explain.specs.Spellings.{spelling}
+use Rattle.def_explain.specs.Texts.{trial_text}
+
+-- hi and 1
+abbrev hi_one : Context
+hi_one = record { matched_list = word "hi" ∷ int (pos 1) ∷ []; me = 100; caller_mfa = None; alive = alive_at_start 1 }
+
+abbrev pair : Pattern → Pattern → Pattern
+pair p q = in_list (and_pattern p (and_pattern q no_patterns))
+
+abbrev one : Expr → Exprs
+one e = and_expr e no_exprs
+
+-- {['$1','_'],[{is_integer,'$1'}],[]}
+abbrev of_integer : Clause
+of_integer = record { head = pair (variable 1) anything; conditions = one (call fn.is_integer (one (bound_to 1))); body = no_exprs }
+
+-- {['$1','_'],[{hd,'$1'}],[]}
+abbrev of_head : Clause
+of_head = record { head = pair (variable 1) anything; conditions = one (call fn.head (one (bound_to 1))); body = no_exprs }
+
+-- {['$1','$1'],[],[]}
+abbrev of_twice : Clause
+of_twice = record { head = pair (variable 1) (variable 1); conditions = no_exprs; body = no_exprs }
+
+-- {['$1','_'],[],[{message,{{second,'$1'}}},{enable_trace,send}]}
+abbrev with_message : Clause
+with_message = record { head = pair (variable 1) anything; conditions = no_exprs; body = and_expr (perform message (one (tuple_of (and_expr (constant (word "second")) (one (bound_to 1)))))) (one (perform enable_trace (one (constant (word "send"))))) }
+
+-- {'$7',[],[{silent,true}]}
+abbrev whole_and_silent : Clause
+whole_and_silent = record { head = variable 7; conditions = no_exprs; body = one (perform silent (one (constant (word "true")))) }
+
+-- two clauses that don't fire, one that does, and one that isn't reached
+pub third_fires : trial_text for_calls (of_integer ∷ of_twice ∷ with_message ∷ of_head ∷ []) hi_one
+    ≡ codes "clause 1: condition 1 is false\nclause 2: the head doesn't match at element 2\nclause 3 fires: message {second,hi}, <0.100.0> gets send\n  '$1' is hi\n=> a message that ends in {second,hi}\n"
+unfolding is_written_bare digits
+third_fires = refl
+
+-- a fault, and none that fires
+pub none_fires : trial_text for_calls (of_head ∷ []) hi_one ≡ codes "clause 1: condition 1 faults at {hd,'$1'}\n=> no message: no clause fires\n"
+unfolding is_written_bare digits
+none_fires = refl
+
+-- `silent` is about calls alone
+pub silent_call : trial_text for_calls (whole_and_silent ∷ []) hi_one ≡ codes "clause 1 fires: silent true\n  '$7' is [hi,1]\n=> no message: silent\n"
+unfolding is_written_bare digits
+silent_call = refl
+
+pub silent_send : trial_text for_sends (whole_and_silent ∷ []) hi_one ≡ codes "clause 1 fires: silent true\n  '$7' is [hi,1]\n=> a message\n"
+unfolding is_written_bare digits
+silent_send = refl
+
+-- an atom that would be read as a variable, and one that wouldn't
+pub spelled_variable : spelling (constant (word "$1")) ≡ tuple (more (word "const") (more (word "$1") none))
+spelled_variable = refl
+
+pub spelled_atom : spelling (constant (word "a")) ≡ word "a"
+spelled_atom = refl

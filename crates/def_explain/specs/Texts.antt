@@ -1,0 +1,108 @@
+-- The text of a trial: what becomes of the clauses of one specification on one list (own).
+-- Stands on verdicts, on the texts of terms and on what a message's last element is.
+use Rattle.std.specs.Prelude.{ℕ, suc, Bool, true, false, not, ◌==◌, ◌&&◌, ◌||◌, if◌then◌else◌, List, [], ◌∷◌, ◌++◌, flat_map, Option, Some, None, codes, decimal}
+use Rattle.def_term.specs.Tree.{Tree}
+use Rattle.def_term.specs.Order.{same}
+use Rattle.def_term.specs.Names.{Name, word}
+use Rattle.def_term.specs.Text.{w, atom_text, pid_text}
+use Rattle.def_spec.specs.Flags.{Flag, Flags, silent_flag, flags_by_name}
+use Rattle.def_spec.specs.Matching.{Bindings}
+use Rattle.def_spec.specs.Expressions.{Dialect, for_calls, for_sends, for_receives, Context, Effect, gives_message, traces_return, traces_exception, silences, changes}
+use Rattle.def_spec.specs.Outcome.{Clause}
+use Rattle.def_session.specs.Messages.{last_message}
+use Rattle.def_explain.specs.Heads.{HeadReason, no_list, other_length, behind_matching}
+use Rattle.def_explain.specs.Reasons.{ConditionReason, has_value, faults_at, Reason, by_head, by_condition}
+use Rattle.def_explain.specs.Spellings.{spelling}
+use Rattle.def_explain.specs.Verdicts.{Verdict, fails, fires, verdict_of}
+
+-- ---- reasons
+
+-- elements and conditions are counted from 1
+abbrev pub head_reason_text : HeadReason → List ℕ
+head_reason_text no_list = codes "the head doesn't match"
+head_reason_text other_length = codes "the head has another number of elements"
+head_reason_text (behind_matching n) = codes "the head doesn't match at element " ++ decimal (suc n)
+
+abbrev pub condition_reason_text : ConditionReason → List ℕ
+condition_reason_text (has_value t) = codes " is " ++ w t
+condition_reason_text (faults_at e) = codes " faults at " ++ w (spelling e)
+
+abbrev pub reason_text : Reason → List ℕ
+reason_text (by_head h) = head_reason_text h
+reason_text (by_condition n r) = codes "condition " ++ decimal (suc n) ++ condition_reason_text r
+
+-- ---- effects
+
+-- the flags of a set, each behind a verb
+abbrev pub said_of_each : List ℕ → Flags → List (Name × Flag) → List ℕ
+said_of_each verb fs [] = []
+said_of_each verb fs (e ∷ es) = (if fs e.1 then verb ++ atom_text e.0 else []) ++ said_of_each verb fs es
+
+abbrev pub silent_text : Bool → List ℕ
+silent_text true = codes "silent true"
+silent_text false = codes "silent false"
+
+abbrev pub effect_text : Effect → List ℕ
+effect_text (gives_message t) = codes "message " ++ w t
+effect_text traces_return = codes "return_trace"
+effect_text traces_exception = codes "exception_trace"
+effect_text (silences b) = silent_text b
+effect_text (changes n off on) = pid_text n ++ said_of_each (codes " loses ") off flags_by_name ++ said_of_each (codes " gets ") on flags_by_name
+
+-- with a comma between any two, behind a colon
+abbrev pub effects_text : List Effect → List ℕ
+effects_text [] = []
+effects_text (e ∷ es) = codes ": " ++ effect_text e ++ flat_map (λ x. codes ", " ++ effect_text x) es
+
+-- ---- clauses
+
+-- '$N' is T
+abbrev pub binding_line : ℕ × Tree → List ℕ
+binding_line e = codes "  " ++ atom_text (36 ∷ decimal e.0) ++ codes " is " ++ w e.1 ++ 10 ∷ []
+
+-- clauses are counted from 1
+abbrev pub clause_text : ℕ → List ℕ → List ℕ
+clause_text n rest = codes "clause " ++ decimal (suc n) ++ rest
+
+-- whether the process me has the flag `silent` behind these effects, where it had it or not before
+abbrev pub silent_behind : ℕ → Bool → List Effect → Bool
+silent_behind me b [] = b
+silent_behind me b (silences x ∷ es) = silent_behind me x es
+silent_behind me b (changes n off on ∷ es) = silent_behind me (if n == me then on silent_flag || (b && not (off silent_flag)) else b) es
+silent_behind me b (e ∷ es) = silent_behind me b es
+
+-- `silent` is about calls alone
+abbrev pub is_for_calls : Dialect → Bool
+is_for_calls for_calls = true
+is_for_calls for_sends = false
+is_for_calls for_receives = false
+
+-- `false` is no message, `true` adds nothing, and any other term is the last element
+abbrev pub ending_text : Option Tree → List ℕ
+ending_text None = codes "a message"
+ending_text (Some t) =
+    if same t (word "true") then codes "a message" else
+    if same t (word "false") then codes "no message: it is false" else
+    (codes "a message that ends in " ++ w t)
+
+-- what these effects make of the message
+abbrev pub end_text : Dialect → ℕ → List Effect → List ℕ
+end_text d me es = if is_for_calls d && silent_behind me false es then codes "no message: silent" else ending_text (last_message es)
+
+-- a clause that fires in the process me, its bindings by rising number, and the message
+abbrev pub fires_text : Dialect → ℕ → ℕ → Bindings → List Effect → List ℕ
+fires_text d me n b es = clause_text n (codes " fires" ++ effects_text es ++ 10 ∷ flat_map binding_line b ++ codes "=> " ++ end_text d me es ++ 10 ∷ [])
+
+-- a clause and, where it doesn't fire, those behind it
+abbrev pub verdict_text : Dialect → ℕ → ℕ → Verdict → List ℕ → List ℕ
+verdict_text d me n (fails r) behind = clause_text n (codes ": " ++ reason_text r ++ 10 ∷ behind)
+verdict_text d me n (fires b es) behind = fires_text d me n b es
+
+-- the clauses behind so many, up to the first that fires
+abbrev pub trial_text_behind : Dialect → ℕ → List Clause → Context → List ℕ
+trial_text_behind d n [] c = codes "=> no message: no clause fires" ++ 10 ∷ []
+trial_text_behind d n (k ∷ ks) c = verdict_text d c.me n (verdict_of d k c) (trial_text_behind d (suc n) ks c)
+
+-- of all clauses
+abbrev pub trial_text : Dialect → List Clause → Context → List ℕ
+trial_text d ks c = trial_text_behind d 0 ks c

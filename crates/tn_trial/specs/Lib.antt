@@ -1,0 +1,3 @@
+pub mod Questions
+pub mod Spelled
+pub mod Trials

@@ -1,0 +1,123 @@
+-- A specification and what it is held against, as texts: the answer, and why there is none.
+use Rattle.std.specs.Prelude.{◌≡◌, ◌≢◌, ◌≤◌, ℕ, List, map, pos, Option, Some, None, Result, Ok, Err}
+use Rattle.std.specs.Borrow.{Bor}
+use Rattle.std.specs.declared.vec.Vec.{Vec}
+use Rattle.def_term.specs.Tree.{Tree, Trees, int, list, of_elements}
+use Rattle.def_term.specs.Names.{Mfa, mfa_term}
+use Rattle.def_text.specs.Spelling.{Spells}
+use Rattle.def_spec.specs.Expressions as ex
+use Rattle.def_spec.specs.Outcome as outcome
+use Rattle.def_spec.specs.Reading.{spec_of}
+use Rattle.def_session.specs.State.{alive_at_start}
+use Rattle.def_term.specs.Alive.{PROCESSES}
+use Rattle.def_explain.specs.Places.{stop_of}
+use Rattle.def_explain.specs.Texts.{trial_text}
+use Rattle.tn_term.specs.declared.term.Term.{Term}
+use Rattle.tn_term.specs.declared.mfa.Mfa as code
+use Rattle.tn_term.specs.Views.{tree_of, trees_of, mfa_seen}
+use Rattle.tn_text.specs.Answers.{IsRefusal}
+use Rattle.tn_spec.specs.declared.func.Dialect.{Dialect}
+use Rattle.tn_spec.specs.declared.spec.Spec.{Spec}
+use Rattle.tn_spec.specs.Readings.{IsFaultIn}
+use Rattle.tn_spec.specs.Views.{dialect_of}
+use Rattle.tn_spec.specs.Wholes.{spec_seen}
+use Rattle.tn_trial.specs.declared.question.Question.{Question}
+use Rattle.tn_trial.specs.declared.question.QuestionFault.{QuestionFault}
+use Rattle.tn_trial.specs.declared.question.QuestionFault.TheVariants as faults
+
+-- ---- the list
+
+-- the text spells the list of these terms
+abbrev pub IsList : List ℕ → List Tree → Type 0
+IsList bytes ts = Spells bytes (list (of_elements ts))
+
+abbrev pub IsListRead : {A : Type 0} → List ℕ → Vec (Term A) A → Type 0
+IsListRead bytes v = IsList bytes (map tree_of v.items)
+
+-- the text spells none: it is refused, or is another term
+abbrev pub IsListFault : {A : Type 0} → List ℕ → QuestionFault A → Type 0
+IsListFault bytes (faults.List f) = IsRefusal bytes f
+IsListFault bytes faults.NoList = (t : Tree) × Spells bytes t × ((ts : Trees) → t ≢ list ts)
+IsListFault bytes faults.OutOfMemory = Unit {0}
+IsListFault bytes _ = ⊥
+
+-- ---- the caller
+
+-- a number of parameters
+abbrev pub IsArity : ℕ → Type 0
+IsArity n = n ≤ 255
+
+abbrev pub IsArityOf : Tree → Option ℕ → Type 0
+IsArityOf t (Some n) = (t ≡ int (pos n)) × IsArity n
+IsArityOf t None = (n : ℕ) → IsArity n → t ≢ int (pos n)
+
+-- a term names a function, or none with at most 255 parameters
+abbrev pub IsMfaOf : {A : Type 0} → Tree → Option (code.Mfa A) → Type 0
+IsMfaOf t (Some m) = t ≡ mfa_term (mfa_seen m)
+IsMfaOf t None = (f : Mfa) → IsArity f.arity → t ≢ mfa_term f
+
+abbrev pub IsNamed : {A : Type 0} → List ℕ → code.Mfa A → Type 0
+IsNamed bytes m = Spells bytes (mfa_term (mfa_seen m))
+
+abbrev pub IsCallerFault : {A : Type 0} → List ℕ → QuestionFault A → Type 0
+IsCallerFault bytes (faults.Caller f) = IsRefusal bytes f
+IsCallerFault bytes faults.NoCaller = (t : Tree) × Spells bytes t × ((f : Mfa) → IsArity f.arity → t ≢ mfa_term f)
+IsCallerFault bytes faults.OutOfMemory = Unit {0}
+IsCallerFault bytes _ = ⊥
+
+-- ---- the specification
+
+-- the text spells a term that is read as this specification
+abbrev pub IsSpecification : List ℕ → Dialect → outcome.Spec → Type 0
+IsSpecification bytes d s = (t : Tree) × Spells bytes t × (spec_of (dialect_of d) t ≡ Ok s)
+
+abbrev pub IsSpecificationRead : {A : Type 0} → List ℕ → Dialect → Spec A → Type 0
+IsSpecificationRead bytes d s = IsSpecification bytes d (spec_seen s)
+
+-- the text is refused, or its term has this fault, at the first clause that can't be read
+abbrev pub IsSpecificationFault : {A : Type 0} → List ℕ → Dialect → QuestionFault A → Type 0
+IsSpecificationFault bytes d (faults.Text f) = IsRefusal bytes f
+IsSpecificationFault bytes d (faults.Spec n f) = (t : Tree) × Spells bytes t × IsFaultIn d t f × (n ≡ stop_of (dialect_of d) t)
+IsSpecificationFault bytes d faults.OutOfMemory = Unit {0}
+IsSpecificationFault bytes d _ = ⊥
+
+-- ---- the answer
+
+-- the text names this function, or there is neither
+abbrev pub caller_is : Option (Bor (List ℕ)) → Option Mfa → Type 0
+caller_is None None = Unit {0}
+caller_is None (Some f) = ⊥
+caller_is (Some bytes) None = ⊥
+caller_is (Some bytes) (Some f) = Spells bytes.now (mfa_term f)
+
+-- what the specification is evaluated in
+abbrev pub context_of : Question → List Tree → Option Mfa → ex.Context
+context_of q ts c = record { matched_list = ts; me = q.me; caller_mfa = c; alive = alive_at_start PROCESSES }
+
+-- the text tells what becomes of the clauses
+pub record IsAnswer (q : Question) (text : List ℕ) : Type 0 where
+  pub elements : List Tree
+  pub caller : Option Mfa
+  pub spec : outcome.Spec
+  pub of_list : IsList q.list.now elements
+  pub of_caller : caller_is q.caller caller
+  pub of_spec : IsSpecification q.spec.now q.dialect spec
+  pub told : text ≡ trial_text spec.dialect spec.clauses (context_of q elements caller)
+
+-- the list is right
+abbrev pub HasList : Question → Type 0
+HasList q = (ts : List Tree) × IsList q.list.now ts
+
+-- and the caller
+abbrev pub HasCaller : Question → Type 0
+HasCaller q = (c : Option Mfa) × caller_is q.caller c
+
+-- the texts before it are right, and this one isn't
+abbrev pub IsNoAnswer : {A : Type 0} → Question → QuestionFault A → Type 0
+IsNoAnswer q (faults.List f) = IsListFault q.list.now (faults.List f)
+IsNoAnswer q faults.NoList = IsListFault q.list.now faults.NoList
+IsNoAnswer q (faults.Caller f) = HasList q × ((bytes : Bor (List ℕ)) × (q.caller ≡ Some bytes) × IsCallerFault bytes.now (faults.Caller f))
+IsNoAnswer q faults.NoCaller = HasList q × ((bytes : Bor (List ℕ)) × (q.caller ≡ Some bytes) × IsCallerFault bytes.now faults.NoCaller)
+IsNoAnswer q (faults.Text f) = HasList q × HasCaller q × IsSpecificationFault q.spec.now q.dialect (faults.Text f)
+IsNoAnswer q (faults.Spec n f) = HasList q × HasCaller q × IsSpecificationFault q.spec.now q.dialect (faults.Spec n f)
+IsNoAnswer q faults.OutOfMemory = Unit {0}

@@ -1,0 +1,16 @@
+-- What is spelled of the code's expressions.
+use Rattle.std.specs.Prelude.{ℕ, List, ◌∷◌, decimal}
+use Rattle.std.specs.declared.vec.Vec.{Vec}
+use Rattle.def_term.specs.Tree.{Trees}
+use Rattle.def_term.specs.Names.{Name}
+use Rattle.def_explain.specs.Spellings.{spellings}
+use Rattle.tn_spec.specs.Views.{exprs_seen}
+use Rattle.tn_spec.specs.declared.expr.Expr.{Expr}
+
+-- the terms that spell several expressions
+abbrev pub spelled_list : {A : Type 0} → Vec (Expr A) A → Trees
+spelled_list v = spellings (exprs_seen v.items)
+
+-- `$N`
+abbrev pub variable_name : ℕ → Name
+variable_name n = 36 ∷ decimal n

@@ -1,0 +1,199 @@
+// A specification and what it is held against, as texts.
+ghost use Rattle.std.specs.Prelude.{◌≡◌, IfOk, MatchResult};
+ghost use Rattle.def_explain.specs.Places.{stop_of};
+ghost use Rattle.tn_term.specs.Views.{tree_of};
+ghost use Rattle.tn_spec.specs.Views.{dialect_of};
+ghost use Rattle.tn_trial.specs.Questions.{IsListRead, IsListFault, IsArityOf, IsMfaOf, IsNamed, IsCallerFault};
+ghost use Rattle.tn_trial.specs.Questions.{IsSpecificationRead, IsSpecificationFault, IsAnswer, IsNoAnswer};
+
+use crate::trial::put_trial;
+use std::alloc::{AllocError, Allocator};
+use std::fmt;
+use thiserror::Error;
+use tn_action::Context;
+use tn_guard::Parts;
+use tn_spec::{Dialect, Spec, SpecFault, clause, spec_of};
+use tn_term::{Alive, Mfa, PROCESSES, Term};
+use tn_text::{TextFault, read_term};
+
+/// A specification and what it is held against. Each text is one term, without a full stop.
+#[derive(Clone, Copy)]
+pub struct Question<'a> {
+    /// What the specification is for.
+    pub dialect: Dialect,
+    /// The text of the list: the arguments of a call, the receiver and the message of a send, or the node, the
+    /// sender and the message of a receive.
+    pub list: &'a [u8],
+    /// The pid of the process whose event it is.
+    pub me: u32,
+    /// The text of the function of the frame beneath, `{M,F,A}`; None for an entry call.
+    pub caller: Option<&'a [u8]>,
+    /// The text of the specification.
+    pub spec: &'a [u8],
+}
+
+/// Why a question has no answer: the first of its texts that isn't what it should be.
+#[derive(Drop, Error)]
+pub enum QuestionFault<A: Allocator> {
+    #[error("list: {0}")]
+    List(TextFault),
+    /// The list's term is none.
+    #[error("list: no list")]
+    NoList,
+    #[error("caller: {0}")]
+    Caller(TextFault),
+    /// The caller's term is no `{M,F,A}` with at most 255 arguments.
+    #[error("caller: no {{Module,Function,Arity}}")]
+    NoCaller,
+    #[error("specification: {0}")]
+    Text(TextFault),
+    /// The specification's term is none: the clause behind so many, where it is a list with such a one, is the first
+    /// that can't be read.
+    #[error("specification: {fault}")]
+    Spec {
+        clause: Option<usize>,
+        fault: SpecFault<A>,
+    },
+    /// The allocator refused memory. It says nothing of the texts.
+    #[error("fault memory")]
+    OutOfMemory,
+}
+
+impl<A: Allocator> fmt::Debug for QuestionFault<A> {
+    fn fmt<W: fmt::Write>(&self, f: &mut fmt::Formatter<W>) -> fmt::Result {
+        write!(f, "{self}")
+    }
+}
+
+/// The list of a question.
+fn list_of<A: Allocator + Copy>(alloc: A, text: &[u8]) -> Result<Vec<Term<A>, A>, QuestionFault<A>>
+    ensures { MatchResult result (λ v. IsListRead text.now v) (λ fault. IsListFault text.now fault) }
+{
+    match read_term(alloc, text) {
+        Ok(Term::List(elements)) => Ok(elements),
+        Ok(_) => Err(QuestionFault::NoList),
+        Err(TextFault::OutOfMemory) => Err(QuestionFault::OutOfMemory),
+        Err(fault) => Err(QuestionFault::List(fault)),
+    }
+}
+
+/// The number of parameters that a term is, where it is one.
+fn arity_of<A: Allocator>(term: &Term<A>) -> Option<u8>
+    ensures { IsArityOf (tree_of term.now) result }
+{
+    match term {
+        Term::Int(number) if *number >= 0 && *number <= 255 => Some(*number as u8),
+        _ => None,
+    }
+}
+
+/// The function that a term `{M,F,A}` names.
+fn mfa_of<A: Allocator + Copy>(alloc: A, term: &Term<A>) -> Result<Option<Mfa<A>>, AllocError>
+    ensures { IfOk result (λ m. IsMfaOf (tree_of term.now) m) }
+{
+    let Term::Tuple(parts) = term else {
+        return Ok(None);
+    };
+    let [Term::Atom(module), Term::Atom(name), arity] = parts.as_slice() else {
+        return Ok(None);
+    };
+    let Some(arity) = arity_of(arity) else {
+        return Ok(None);
+    };
+    Ok(Some(Mfa {
+        module: module.copy_into(alloc)?,
+        name: name.copy_into(alloc)?,
+        arity,
+    }))
+}
+
+/// The function that a text `{M,F,A}` names.
+fn named<A: Allocator + Copy>(alloc: A, text: &[u8]) -> Result<Mfa<A>, QuestionFault<A>>
+    ensures { MatchResult result (λ m. IsNamed text.now m) (λ fault. IsCallerFault text.now fault) }
+{
+    match read_term(alloc, text) {
+        Ok(term) => match mfa_of(alloc, &term) {
+            Ok(Some(mfa)) => Ok(mfa),
+            Ok(None) => Err(QuestionFault::NoCaller),
+            Err(_) => Err(QuestionFault::OutOfMemory),
+        },
+        Err(TextFault::OutOfMemory) => Err(QuestionFault::OutOfMemory),
+        Err(fault) => Err(QuestionFault::Caller(fault)),
+    }
+}
+
+/// The first element of a list that is no clause, by how many stand before it.
+fn stop<A: Allocator + Copy>(
+    alloc: A,
+    term: &Term<A>,
+    dialect: Dialect,
+) -> Result<Option<usize>, AllocError>
+    ensures { IfOk result (λ n. n ≡ stop_of (dialect_of dialect) (tree_of term.now)) }
+{
+    let Term::List(elements) = term else {
+        return Ok(None);
+    };
+    for i in 0..elements.len() {
+        match clause(alloc, &elements[i], dialect) {
+            Ok(_) => {}
+            Err(SpecFault::OutOfMemory) => return Err(AllocError),
+            Err(_) => return Ok(Some(i)),
+        }
+    }
+    Ok(None)
+}
+
+/// The specification of a question.
+fn specification<A: Allocator + Copy>(
+    alloc: A,
+    text: &[u8],
+    dialect: Dialect,
+) -> Result<Spec<A>, QuestionFault<A>>
+    ensures { MatchResult result (λ s. IsSpecificationRead text.now dialect s)
+        (λ fault. IsSpecificationFault text.now dialect fault) }
+{
+    let term = match read_term(alloc, text) {
+        Ok(term) => term,
+        Err(TextFault::OutOfMemory) => return Err(QuestionFault::OutOfMemory),
+        Err(fault) => return Err(QuestionFault::Text(fault)),
+    };
+    match spec_of(alloc, &term, dialect) {
+        Ok(spec) => Ok(spec),
+        Err(SpecFault::OutOfMemory) => Err(QuestionFault::OutOfMemory),
+        Err(fault) => match stop(alloc, &term, dialect) {
+            Ok(clause) => Err(QuestionFault::Spec { clause, fault }),
+            Err(_) => Err(QuestionFault::OutOfMemory),
+        },
+    }
+}
+
+/// What becomes of the clauses of the specification, in lines; all pids from 100 to 163 live.
+///
+/// # Errors
+///
+/// The fault of the first text that isn't what it should be, or refused memory.
+pub fn answer<A: Allocator + Copy>(
+    alloc: A,
+    question: &Question<'_>,
+) -> Result<Vec<u8, A>, QuestionFault<A>>
+    ensures { MatchResult result (λ text. IsAnswer question.now text.items) (λ fault. IsNoAnswer question.now fault) }
+{
+    let list = list_of(alloc, question.list)?;
+    let caller = match question.caller {
+        Some(text) => Some(named(alloc, text)?),
+        None => None,
+    };
+    let spec = specification(alloc, question.spec, question.dialect)?;
+    let alive = Alive::first(PROCESSES);
+    let context = Context {
+        list: Parts::Terms(&list),
+        me: question.me,
+        caller: caller.as_ref(),
+        alive: &alive,
+    };
+    let mut text = Vec::new(alloc);
+    match put_trial(alloc, &spec, &context, &mut text) {
+        Ok(()) => Ok(text),
+        Err(_) => Err(QuestionFault::OutOfMemory),
+    }
+}

@@ -1,0 +1,221 @@
+// What becomes of the clauses of a specification.
+ghost use Rattle.std.specs.Prelude.{◌≡◌, ◌++◌, [], OnOk, OnErr, flat_map, map};
+ghost use Rattle.std.specs.Option.{option_map};
+ghost use Rattle.def_session.specs.Messages.{last_message};
+ghost use Rattle.def_explain.specs.Texts.{binding_line, ending_text, end_text, clause_text};
+ghost use Rattle.tn_term.specs.Views.{tree_of};
+ghost use Rattle.tn_guard.specs.Views.{value_seen};
+ghost use Rattle.tn_head.specs.Views.{bindings_seen};
+ghost use Rattle.tn_spec.specs.Views.{dialect_of};
+ghost use Rattle.tn_action.specs.Views.{effect_seen};
+ghost use Rattle.tn_reason.specs.Views.{reason_seen};
+ghost use Rattle.tn_text.specs.Writes.{Grows};
+ghost use Rattle.tn_trial.specs.Trials.{trial_of, trial_in, failed_text, fired_text};
+
+use crate::effects::{is_silent, put_effects};
+use crate::reasons::{put_number, put_reason, put_value};
+use crate::spelling::{put_term, put_variable};
+use bumpalo::Bump;
+use std::alloc::{AllocError, Allocator};
+use tn_action::{Context, Effect};
+use tn_guard::Value;
+use tn_head::Bindings;
+use tn_reason::{Reason, Verdict, verdict};
+use tn_spec::{Dialect, Spec};
+use tn_term::Term;
+
+/// Appends the line of a binding.
+fn put_binding<A: Allocator, C: Allocator + Copy, B: Allocator>(
+    alloc: C,
+    number: u16,
+    value: Value<'_, A>,
+    out: &mut Vec<u8, B>,
+) -> Result<(), AllocError>
+    ensures ok { OnOk result (out.new.items ≡ out.old.items ++ binding_line (number, value_seen value.entry)) }
+    ensures grows { Grows out.old.items out.new.items }
+{
+    out.extend_from_slice(b"  ")?;
+    put_variable(number, out)?;
+    out.extend_from_slice(b" is ")?;
+    put_value(alloc, value, out)?;
+    out.push(b'\n')?;
+    Ok(())
+}
+
+/// Appends the line of each binding, by rising number.
+fn put_bindings<'a, A: Allocator, D: Allocator, C: Allocator + Copy, B: Allocator>(
+    alloc: C,
+    bindings: &Bindings<'a, A, D>,
+    out: &mut Vec<u8, B>,
+) -> Result<(), AllocError>
+    ensures ok { OnOk result (out.new.items ≡ out.old.items ++ flat_map binding_line (bindings_seen bindings.now)) }
+    ensures grows { Grows out.old.items out.new.items }
+{
+    let bindings = match bindings {
+        Bindings::Whole(number, list) => return put_binding(alloc, *number, list.list(), out),
+        Bindings::Each(bindings) => bindings.as_slice(),
+    };
+    for i in 0..bindings.len() {
+        put_binding(alloc, bindings[i].number, bindings[i].value, out)?;
+    }
+    Ok(())
+}
+
+/// The last message that the effects give.
+fn last_message<A: Allocator>(effects: &[Effect<A>]) -> Option<&Term<A>>
+    ensures { option_map (λ t. tree_of t.now) result ≡ last_message (map effect_seen effects.now) }
+{
+    let mut last = None;
+    for effect in effects {
+        if let Effect::Message(term) = effect {
+            last = Some(term);
+        }
+    }
+    last
+}
+
+/// Appends what the last message makes of the message's end.
+fn put_ending<A: Allocator, B: Allocator>(
+    last: Option<&Term<A>>,
+    out: &mut Vec<u8, B>,
+) -> Result<(), AllocError>
+    ensures ok { OnOk result (out.new.items ≡ out.old.items ++ ending_text (option_map (λ t. tree_of t.now) last)) }
+    ensures grows { Grows out.old.items out.new.items }
+{
+    let Some(term) = last else {
+        return out.extend_from_slice(b"a message");
+    };
+    if term.is_word("true") {
+        return out.extend_from_slice(b"a message");
+    }
+    if term.is_word("false") {
+        return out.extend_from_slice(b"no message: it is false");
+    }
+    out.extend_from_slice(b"a message that ends in ")?;
+    put_term(term, out)
+}
+
+/// Appends what the effects of a clause that fires in this process make of the message.
+fn put_end<A: Allocator, B: Allocator>(
+    dialect: Dialect,
+    me: u32,
+    effects: &[Effect<A>],
+    out: &mut Vec<u8, B>,
+) -> Result<(), AllocError>
+    ensures ok { OnOk result (out.new.items ≡
+        out.old.items ++ end_text (dialect_of dialect) me (map effect_seen effects.now)) }
+    ensures grows { Grows out.old.items out.new.items }
+{
+    if let Dialect::Call = dialect {
+        if is_silent(me, effects) {
+            return out.extend_from_slice(b"no message: silent");
+        }
+    }
+    put_ending(last_message(effects), out)
+}
+
+/// Appends a clause's number, behind so many clauses.
+fn put_clause<B: Allocator>(before: usize, out: &mut Vec<u8, B>) -> Result<(), AllocError>
+    ensures ok { OnOk result (out.new.items ≡ out.old.items ++ clause_text before []) }
+    ensures grows { Grows out.old.items out.new.items }
+{
+    out.extend_from_slice(b"clause ")?;
+    put_number(before, out)
+}
+
+/// A specification that is held against a list.
+#[derive_where(Clone, Copy)]
+struct Trial<'a, 'c, A: Allocator + Copy> {
+    /// For the effects, and for the terms that values are written as.
+    alloc: A,
+    /// For what is evaluated.
+    arena: &'a Bump<A>,
+    spec: &'a Spec<A>,
+    context: &'c Context<'a, A>,
+}
+
+impl<'a, 'c, A: Allocator + Copy> Trial<'a, 'c, A> {
+    /// Appends the line of a clause that doesn't fire.
+    fn put_failed<B: Allocator>(
+        &self,
+        before: usize,
+        reason: Reason<'_, A>,
+        out: &mut Vec<u8, B>,
+    ) -> Result<(), AllocError>
+        ensures ok { OnOk result (out.new.items ≡ out.old.items ++ failed_text before (reason_seen reason.entry)) }
+        ensures grows { Grows out.old.items out.new.items }
+    {
+        put_clause(before, out)?;
+        out.extend_from_slice(b": ")?;
+        put_reason(self.alloc, reason, out)?;
+        out.push(b'\n')?;
+        Ok(())
+    }
+
+    /// Appends the lines of a clause that fires.
+    fn put_fired<B: Allocator>(
+        &self,
+        before: usize,
+        bindings: &Bindings<'a, A, &'a Bump<A>>,
+        effects: &[Effect<A>],
+        out: &mut Vec<u8, B>,
+    ) -> Result<(), AllocError>
+        ensures ok { OnOk result (out.new.items ≡ out.old.items ++
+            fired_text self.now before (bindings_seen bindings.now) (map effect_seen effects.now)) }
+        ensures grows { Grows out.old.items out.new.items }
+    {
+        put_clause(before, out)?;
+        out.extend_from_slice(b" fires")?;
+        put_effects(effects, out)?;
+        out.push(b'\n')?;
+        put_bindings(self.alloc, bindings, out)?;
+        out.extend_from_slice(b"=> ")?;
+        put_end(self.spec.dialect, self.context.me, effects, out)?;
+        out.push(b'\n')?;
+        Ok(())
+    }
+
+    /// Appends what becomes of the clauses, up to the first that fires.
+    fn put<B: Allocator>(&self, out: &mut Vec<u8, B>) -> Result<(), AllocError>
+        ensures ok { OnOk result (out.new.items ≡ out.old.items ++ trial_in self.now) }
+        ensures grows { Grows out.old.items out.new.items }
+    {
+        let clauses = &self.spec.clauses;
+        for i in 0..clauses.len() {
+            match verdict(self.alloc, self.arena, self.spec.dialect, &clauses[i], self.context)? {
+                Verdict::Fails(reason) => self.put_failed(i, reason, out)?,
+                Verdict::Fires { bindings, effects } => {
+                    return self.put_fired(i, &bindings, &effects, out);
+                }
+            }
+        }
+        out.extend_from_slice(b"=> no message: no clause fires\n")
+    }
+}
+
+/// Appends what becomes of the clauses of a specification in a context, up to the first that fires, with why
+/// each before it doesn't, what its variables are bound to, what its body asks for, and what that makes of the
+/// message. After an `Err`, which is refused memory, the vector is as it was.
+pub fn put_trial<A: Allocator + Copy, B: Allocator>(
+    alloc: A,
+    spec: &Spec<A>,
+    context: &Context<'_, A>,
+    out: &mut Vec<u8, B>,
+) -> Result<(), AllocError>
+    ensures ok { OnOk result (out.new.items ≡ out.old.items ++ trial_of spec.now context.now) }
+    ensures err { OnErr result (out.new.items ≡ out.old.items) }
+{
+    let arena = Bump::new(alloc);
+    let len = out.len();
+    let trial = Trial {
+        alloc,
+        arena: &arena,
+        spec,
+        context,
+    };
+    let done = trial.put(out);
+    if done.is_err() {
+        out.truncate(len);
+    }
+    done
+}
