@@ -12,7 +12,7 @@ ghost use Rattle.tn_guard.specs.Views.{text_in, pid_in, tuple_in, list_in};
 use crate::parts::Parts;
 use crate::shape::Shape;
 use std::alloc::Allocator;
-use tn_term::{Atom, Term};
+use tn_term::{Atom, Term, same_terms};
 
 /// An atom that evaluation makes.
 #[derive(Clone, Copy)]
@@ -106,7 +106,7 @@ impl<'a, A: Allocator> Value<'a, A> {
     {
         match (self, term) {
             (Value::Lent(own), _) => term.same(own),
-            (Value::Rest(own), Term::List(items)) => are_same(items.as_slice(), own),
+            (Value::Rest(own), Term::List(items)) => same_terms(items.as_slice(), own),
             _ => Shape::of(term).order(self.shape()).is_eq(),
         }
     }
@@ -166,19 +166,4 @@ impl<'a, A: Allocator> Value<'a, A> {
             Value::List(items) => Shape::List(Parts::Values(items)),
         }
     }
-}
-
-/// Whether both are the same terms in the same order.
-fn are_same<A: Allocator, B: Allocator>(one: &[Term<A>], other: &[Term<B>]) -> bool
-    ensures { IsTrue result ↔ (trees_of one.now ≡ trees_of other.now) }
-{
-    if one.len() != other.len() {
-        return false;
-    }
-    for i in 0..one.len() {
-        if !one[i].same(&other[i]) {
-            return false;
-        }
-    }
-    true
 }

@@ -15,21 +15,22 @@ pub fn same_term<A: Allocator, B: Allocator>(one: &Term<A>, other: &Term<B>) -> 
         (Term::Int(m), Term::Int(n)) => *m == *n,
         (Term::Atom(r), Term::Atom(s)) => r.text() == s.text(),
         (Term::Pid(m), Term::Pid(n)) => *m == *n,
-        (Term::Tuple(v), Term::Tuple(w)) => same_all(v, w),
-        (Term::List(v), Term::List(w)) => same_all(v, w),
+        (Term::Tuple(v), Term::Tuple(w)) => same_terms(v.as_slice(), w.as_slice()),
+        (Term::List(v), Term::List(w)) => same_terms(v.as_slice(), w.as_slice()),
         _ => false,
     }
 }
 
+/// Whether both are the same terms in the same order.
 #[cycle(same)]
-fn same_all<A: Allocator, B: Allocator>(v: &Vec<Term<A>, A>, w: &Vec<Term<B>, B>) -> bool
-    ensures { IsTrue result ↔ (trees_of v.now.items ≡ trees_of w.now.items) }
+pub fn same_terms<A: Allocator, B: Allocator>(one: &[Term<A>], other: &[Term<B>]) -> bool
+    ensures { IsTrue result ↔ (trees_of one.now ≡ trees_of other.now) }
 {
-    if v.len() != w.len() {
+    if one.len() != other.len() {
         return false;
     }
-    for i in 0..v.len() {
-        if !same_term(&v[i], &w[i]) {
+    for i in 0..one.len() {
+        if !same_term(&one[i], &other[i]) {
             return false;
         }
     }

@@ -16,5 +16,6 @@ mod term;
 
 pub use alive::{Alive, FIRST_PID, PROCESSES};
 pub use atom::Atom;
+pub use compare::same_terms;
 pub use mfa::Mfa;
 pub use term::{Term, copy_terms};

@@ -18,6 +18,6 @@ pub returns-in-Rest-List : goal.returns-in-Rest-List
 returns-in-Rest-List g c =
     let own = c.in-Rest-List.own in
     let items = c.in-Rest-List.items in
-    decided-lists c.are_same.result (trees_of c.as_slice.result.now) (trees_of own.now) c.are_same.ensures
+    decided-lists c.same_terms.result (trees_of c.as_slice.result.now) (trees_of own.now) c.same_terms.ensures
     ∙ ap (λ t. same t (list (trees_of own.now))) (ap (λ xs. list (trees_of xs)) c.as_slice.ensures.value ∙ sym (ap tree_of c.in-Rest-List.is-1 ∙ tree_of_list items))
     ∙ ap (same (tree_of c.args.term.now)) (sym (ap value_seen c.in-Rest-List.is-0 ∙ value_seen_rest own))
