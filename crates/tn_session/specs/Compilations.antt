@@ -5,4 +5,4 @@ use Rattle.tn_session.specs.declared.compiled.Compiled.{Compiled}
 
 -- the specification that it is the code of
 abbrev pub compiled_seen : {A : Type 0} → Compiled A → Spec
-compiled_seen c = spec_seen c.specification.value
+compiled_seen c = spec_seen c.specification

@@ -1,5 +1,6 @@
 pub mod Compilations
 pub mod Views
+pub mod Looks
 pub mod Messages
 pub mod Newest
 pub mod Procs

@@ -1,4 +1,4 @@
-// A specification as a session keeps it: as its code.
+// A specification as a session keeps it: with its code.
 ghost use Rattle.std.specs.Prelude.{◌≡◌};
 ghost use Rattle.def_machine.specs.Compiling.{code_of};
 ghost use Rattle.tn_code.specs.Codes.{code_seen};
@@ -6,19 +6,17 @@ ghost use Rattle.tn_spec.specs.Wholes.{spec_seen};
 
 use bumpalo::Bump;
 use std::alloc::{AllocError, Allocator};
-use std::snapshot::Snapshot;
 use tn_code::Code;
 use tn_compile::compile;
 use tn_machine::{Context, Outcome, execute};
 use tn_spec::Spec;
 
-/// The code of a specification.
+/// A specification with its code, by which it is evaluated.
 #[derive(Drop)]
 pub(crate) struct Compiled<A: Allocator> {
     code: Code<A>,
-    /// The specification, which takes no memory: clauses alone see it.
-    specification: Snapshot<Spec<A>>,
-    ghost its: { ∥ code_seen code ≡ code_of (spec_seen specification.value) ∥₁ },
+    specification: Spec<A>,
+    ghost its: { ∥ code_seen code ≡ code_of (spec_seen specification) ∥₁ },
 }
 
 impl<A: Allocator + Copy> Compiled<A> {
@@ -28,14 +26,21 @@ impl<A: Allocator + Copy> Compiled<A> {
     ghost use Rattle.tn_session.specs.Compilations.{compiled_seen};
 
     /// Compiles the specification. An error is refused memory.
-    pub(crate) fn of(alloc: A, specification: &Spec<A>) -> Result<Compiled<A>, AllocError>
-        ensures { IfOk result (λ c. compiled_seen c ≡ spec_seen specification.now) }
+    pub(crate) fn of(alloc: A, specification: Spec<A>) -> Result<Compiled<A>, AllocError>
+        ensures { IfOk result (λ c. compiled_seen c ≡ spec_seen specification) }
     {
-        let code = compile(alloc, specification)?;
+        let code = compile(alloc, &specification)?;
         Ok(Compiled {
             code,
-            specification: Snapshot::of(specification),
+            specification,
         })
+    }
+
+    /// The specification.
+    pub(crate) fn specification(&self) -> &Spec<A>
+        ensures { spec_seen result.now ≡ compiled_seen self.now }
+    {
+        &self.specification
     }
 
     /// What the specification gives in a context. What is evaluated lies in an arena that is given up

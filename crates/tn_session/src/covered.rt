@@ -207,7 +207,7 @@ pub(crate) fn setting_of<A: Allocator + Copy>(
         return Ok(Setting::Off);
     }
     match spec_of(alloc, term, dialect) {
-        Ok(specification) => Ok(Setting::By(Compiled::of(alloc, &specification)?)),
+        Ok(specification) => Ok(Setting::By(Compiled::of(alloc, specification)?)),
         Err(fault) => Err(fault),
     }
 }

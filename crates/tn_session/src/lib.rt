@@ -3,8 +3,9 @@
 //! Stands on tn_flags, tn_spec, tn_compile, tn_machine, tn_index and tn_text, and on the definitions of
 //! def_session. Promises that `created` is the session at its creation, that `command` and `event` are
 //! one step of the definition of a session, reply and message included, and that a session that was
-//! refused memory is spent. A specification is kept as its code. What a session tells of an event is a
-//! `Message` that lends the event; a term or a text is made of it.
+//! refused memory is spent. A specification is kept with its code, by which it is evaluated. What a session
+//! tells of an event is a `Message` that lends the event; a term or a text is made of it. A `Look` shows the
+//! session between two steps.
 #![tactic(auto)]
 
 mod command;
@@ -12,6 +13,7 @@ mod compiled;
 mod covered;
 mod elements;
 mod event;
+mod look;
 mod marks;
 mod message;
 mod reply;
@@ -20,5 +22,6 @@ mod setting;
 mod state;
 mod text;
 
+pub use look::{Look, Newest};
 pub use message::Message;
 pub use session::Session;

@@ -1,5 +1,6 @@
 // A session, as its users see it.
 
+use crate::look::Look;
 use crate::message::Message;
 use crate::state::{Phase, State};
 use std::alloc::{AllocError, Allocator};
@@ -14,12 +15,13 @@ pub struct Session<A: Allocator> {
 }
 
 impl<A: Allocator + Copy> Session<A> {
-    ghost use Rattle.std.specs.Prelude.{◌≡◌, List, Bool, IsErr, IfOk, OnErr, map};
+    ghost use Rattle.std.specs.Prelude.{◌≡◌, List, Bool, IsErr, IsNone, IfOk, OnErr, map};
     ghost use Rattle.def_term.specs.Names as names;
     ghost use Rattle.def_session.specs.State as definition;
     ghost use Rattle.tn_term.specs.Views.{tree_of, alive_of};
     ghost use Rattle.tn_flags.specs.Views.{event_of, command_of};
     ghost use Rattle.tn_session.specs.Views.{function_seen};
+    ghost use Rattle.tn_session.specs.Looks.{Shows};
     ghost use Rattle.tn_session.specs.Sessions.{IsAt, IsSpent, Replies, Tells, Says};
 
     /// The session at its creation: live, without flags and settings of functions, with send and receive
@@ -42,6 +44,17 @@ impl<A: Allocator + Copy> Session<A> {
                 receiving: Setting::Plain,
                 marks: Vec::new(alloc),
             }),
+        }
+    }
+
+    /// What is seen of it. None once it was refused memory: it is spent.
+    pub fn look(&self) -> Option<Look<'_, A>>
+        ensures state { Shows self.now result }
+        ensures spent { IsSpent self.now → IsNone result }
+    {
+        match &self.state {
+            Some(state) => Some(Look { state }),
+            None => None,
         }
     }
 

@@ -30,7 +30,7 @@ pub(crate) fn visible_functions<A: Allocator + Copy>(
 }
 
 /// The command of this number, from 1.
-pub(crate) fn command_at<A: Allocator>(program: &Program<A>, number: u64) -> Option<&Command<A>>
+pub fn command_at<A: Allocator>(program: &Program<A>, number: u64) -> Option<&Command<A>>
     ensures { option_map (λ c. command_of c.now) result ≡ command_numbered (program_of program.now).commands number }
 {
     if number == 0 {

@@ -6,7 +6,7 @@ use tn_session::Message;
 use tn_term::Term;
 
 /// What a run keeps of messages and replies, and what it hands out of a move's messages.
-pub(crate) trait Kept<A: Allocator> {
+pub trait Kept<A: Allocator> {
     ghost use Rattle.std.specs.Prelude.{List, [], IfOk};
     ghost use Rattle.def_term.specs.Tree.{Tree};
     ghost use Rattle.def_run.specs.Listing.{Item as Told};

@@ -30,7 +30,7 @@ fn next_number(count: usize) -> Result<u32, AllocError>
 }
 
 /// The sessions of the control list, before any of them is created.
-pub(crate) fn absent_sessions<A: Allocator + Copy, K: Kept<A> + Drop>(
+pub fn absent_sessions<A: Allocator + Copy, K: Kept<A> + Drop>(
     alloc: A,
     program: &Program<A>,
 ) -> Result<Vec<Slot<A, K>, A>, AllocError>
@@ -51,7 +51,7 @@ pub(crate) fn absent_sessions<A: Allocator + Copy, K: Kept<A> + Drop>(
 }
 
 /// Who lives after an event.
-pub(crate) fn living_after<A: Allocator>(living: Alive, event: &Event<A>) -> Alive
+pub fn living_after<A: Allocator>(living: Alive, event: &Event<A>) -> Alive
     ensures { alive_of result ≡ alive_after (alive_of living) (event_of event.now) }
 {
     let mut after = living;

@@ -12,7 +12,7 @@ use tn_term::{Alive, Atom, Term};
 /// A session of the control list: its number from 1, its name, its state once it is created, and what is
 /// kept of its messages.
 #[derive(Drop)]
-pub(crate) struct Slot<A: Allocator, K> {
+pub struct Slot<A: Allocator, K> {
     pub number: u32,
     pub name: Atom<A>,
     pub session: Option<Session<A>>,

@@ -7,4 +7,4 @@ use Rattle.tn_session.proofs.compiled.Compiled.outcome.Goals as goal
 pub returns : goal.returns
 returns g c =
     let k = c.args.self.now in
-    end-of-code (code_seen k.code) (compiled_seen k) (context_seen c.args.context.now) (outcome_seen c.in_ok-execute.field-0) k.specification.value.sound k.its c.in_ok-execute.ensures.compiled
+    end-of-code (code_seen k.code) (compiled_seen k) (context_seen c.args.context.now) (outcome_seen c.in_ok-execute.field-0) k.specification.sound k.its c.in_ok-execute.ensures.compiled

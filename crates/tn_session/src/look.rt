@@ -1,0 +1,112 @@
+// What is seen of a session between two steps.
+ghost use Rattle.std.specs.Prelude.{◌≡◌};
+ghost use Rattle.tn_session.specs.Looks.{lent_seen};
+ghost use Rattle.tn_session.specs.Views.{setting_seen};
+
+use crate::compiled::Compiled;
+use crate::state::{Phase, State};
+use std::alloc::Allocator;
+use tn_flags::{Call, Flags};
+use tn_index::Setting;
+use tn_spec::Spec;
+use tn_term::Alive;
+
+/// A session as it is between two steps: its flags, its settings with their specifications, its marks and
+/// who lives.
+#[derive_where(Clone, Copy)]
+pub struct Look<'a, A: Allocator> {
+    pub(crate) state: &'a State<A>,
+}
+
+/// What the newest function command that covers a function sets, and whether it is local.
+pub struct Newest<'a, A: Allocator> {
+    pub setting: Setting<&'a Spec<A>>,
+    pub local: bool,
+}
+
+/// The setting, which lends its specification.
+fn lent<A: Allocator + Copy>(setting: &Setting<Compiled<A>>) -> Setting<&Spec<A>>
+    ensures { lent_seen result ≡ setting_seen setting.now }
+{
+    match setting {
+        Setting::Off => Setting::Off,
+        Setting::Plain => Setting::Plain,
+        Setting::By(compiled) => Setting::By(compiled.specification()),
+    }
+}
+
+impl<'a, A: Allocator + Copy> Look<'a, A> {
+    ghost use Rattle.std.specs.Prelude.{◌≡◌};
+    ghost use Rattle.std.specs.Option.{option_map};
+    ghost use Rattle.def_session.specs.Session as session;
+    ghost use Rattle.def_session.specs.State as definition;
+    ghost use Rattle.tn_term.specs.Views.{alive_of};
+    ghost use Rattle.tn_flags.specs.Views.{call_of, flags_of};
+    ghost use Rattle.tn_session.specs.Looks.{look_seen, lent_seen, is_live, newest_seen, newest_for};
+
+    /// Whether it was not destroyed.
+    pub fn is_live(&self) -> bool
+        ensures { result ≡ is_live (look_seen self.now).phase }
+    {
+        match self.state.phase {
+            Phase::Live => true,
+            Phase::Destroyed => false,
+        }
+    }
+
+    /// The processes that live, as it knows them.
+    pub fn alive(&self) -> &'a Alive
+        ensures { alive_of result.now ≡ (look_seen self.now).alive }
+    {
+        &self.state.alive
+    }
+
+    /// The flags of a process (`trace:process/4`).
+    pub fn flags_at(&self, pid: u32) -> Flags
+        ensures { flags_of result ≡ definition.flags_at (look_seen self.now) pid }
+    {
+        self.state.flags_at(pid)
+    }
+
+    /// The flags that new processes get.
+    pub fn flags_for_new(&self) -> Flags
+        ensures { flags_of result ≡ (look_seen self.now).for_new }
+    {
+        self.state.for_new
+    }
+
+    /// Whether the frame of this depth is marked: its return is told.
+    pub fn is_marked(&self, pid: u32, depth: usize) -> bool
+        ensures { result ≡ session.is_marked (look_seen self.now) pid depth }
+    {
+        self.state.is_marked(pid, depth)
+    }
+
+    /// The setting of sends (`trace:send/3`).
+    pub fn sending(&self) -> Setting<&'a Spec<A>>
+        ensures { lent_seen result ≡ (look_seen self.now).sending }
+    {
+        lent(&self.state.sending)
+    }
+
+    /// The setting of receives (`trace:recv/3`).
+    pub fn receiving(&self) -> Setting<&'a Spec<A>>
+        ensures { lent_seen result ≡ (look_seen self.now).receiving }
+    {
+        lent(&self.state.receiving)
+    }
+
+    /// What the newest function command that has the called function among its own sets
+    /// (`trace:function/4`); None where there is none.
+    pub fn newest(&self, call: &Call<A>) -> Option<Newest<'a, A>>
+        ensures { option_map newest_seen result ≡ newest_for self.now (call_of call.now) }
+    {
+        match self.state.settings.get(&call.mfa, call.exported) {
+            None => None,
+            Some(covering) => Some(Newest {
+                setting: lent(&covering.setting),
+                local: covering.local,
+            }),
+        }
+    }
+}
