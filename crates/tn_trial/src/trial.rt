@@ -182,7 +182,13 @@ impl<'a, 'c, A: Allocator + Copy> Trial<'a, 'c, A> {
     {
         let clauses = &self.spec.clauses;
         for i in 0..clauses.len() {
-            match verdict(self.alloc, self.arena, self.spec.dialect, &clauses[i], self.context)? {
+            match verdict(
+                self.alloc,
+                self.arena,
+                self.spec.dialect,
+                &clauses[i],
+                self.context,
+            )? {
                 Verdict::Fails(reason) => self.put_failed(i, reason, out)?,
                 Verdict::Fires { bindings, effects } => {
                     return self.put_fired(i, &bindings, &effects, out);
