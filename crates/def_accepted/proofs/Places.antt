@@ -1,11 +1,11 @@
 -- Going through placed code: where ways from before lead, which registers are set, and what is accepted from a place on.
-use Rattle.std.proofs.Common.{◌≡◌, ℕ, zero, suc, ◌+◌, ◌-◌, ◌<◌, ◌≤◌, List, [], ◌∷◌, length, drop, Option, Some, None, refl, sym, ap, ◌∙◌, subst, arith, Bool, true, ◌&&◌, ◌||◌, ◌==◌, nat_le, nat_lt, slice_get, unwrap_or, inl, inr, ◌⊎◌, ⊎_elim, eq-eqb, length-append}
+use Rattle.std.proofs.Common.{◌≡◌, ℕ, zero, suc, ◌+◌, ◌-◌, ◌<◌, ◌≤◌, List, [], ◌∷◌, length, drop, Option, Some, None, refl, sym, ap, ◌∙◌, subst, arith, true, ◌==◌, nat_le, nat_lt, slice_get, unwrap_or, inl, inr, ◌⊎◌, ⊎_elim, eq-eqb, length-append}
 use Rattle.std.specs.Bool.{⊤}
 use Rattle.std.proofs.lemmas.Bool.{cases_lt, and_from, or_left, or_right, le-leb}
 use Rattle.std.proofs.lemmas.Option.{slice_get-get_or}
 use Rattle.def_machine.specs.Instructions.{Instruction}
 use Rattle.def_machine.specs.Validity.{Each, Way, onward, ways, leads_to, reads}
-use Rattle.def_machine.specs.Checking.{all_of_them, where_standing, is_one_of, stops_at, sets_before, is_set_before}
+use Rattle.def_machine.specs.Checking.{all_of_them, where_standing, stops_at, sets_before, is_set_before}
 use Rattle.def_machine.specs.Compiling.{at_place, placed}
 use Rattle.def_machine.proofs.Runs.{Before}
 use Rattle.def_machine.proofs.Placed.{placed-length}
@@ -60,6 +60,12 @@ module _ (left : List Instruction) where
   pub set_later : (a b m l r : ℕ) → a ≤ b → m ≤ l → IsSet a m r → IsSet b l r
   set_later a b m l r ab ml h = record { setter = h.setter; before = omega (arith, h.before, ab); sets = λ p lt. h.sets p (omega (arith, lt, ml)) }
 
+  pub set_on : (a b m r : ℕ) → a ≤ b → IsSet a m r → IsSet b m r
+  set_on a b m r ab h = set_later a b m m r ab (omega arith) h
+
+  pub next_set : (a m r : ℕ) → IsSet a m r → IsSet (suc a) m r
+  next_set a m r h = set_on a (suc a) m r (omega arith) h
+
   -- from place a on the test accepts what is read
   abbrev pub ReadsAccepted : ℕ → Type 0
   ReadsAccepted a = (p : ℕ) (i : Instruction) → a ≤ p → slice_get (placed 0 left) p ≡ Some i → all_of_them (is_set_before (placed 0 left) p) (reads i) ≡ true
@@ -100,8 +106,8 @@ module _ (left : List Instruction) where
         (λ le.
         let e : j ≡ a = omega (arith, l, le) in
         subst (λ x. Each (λ w. (leads_to x w ≤ suc a) ⊎ T (leads_to x w)) (ways k)) (sym e)
-            (subst (λ y. Each (λ w. (leads_to a w ≤ suc a) ⊎ T (leads_to a w)) (ways y)) (is_it j k e at)
-            (each-on (λ w. GoesOn T w.elsewhere) (λ w. (leads_to a w ≤ suc a) ⊎ T (leads_to a w)) (ways (at_place (suc a) i)) from_here goes)))
+        (subst (λ y. Each (λ w. (leads_to a w ≤ suc a) ⊎ T (leads_to a w)) (ways y)) (is_it j k e at)
+        (each-on (λ w. GoesOn T w.elsewhere) (λ w. (leads_to a w ≤ suc a) ⊎ T (leads_to a w)) (ways (at_place (suc a) i)) from_here goes)))
         (cases_lt j a)
 
     reached_next : Each (λ w. GoesOn T w.elsewhere) (ways (at_place (suc a) i)) → Reached (suc a) rest T
@@ -116,8 +122,8 @@ module _ (left : List Instruction) where
         (λ ge.
         let e : p ≡ a = omega (arith, le, ge) in
         subst (λ x. all_of_them (is_set_before (placed 0 left) x) (reads k) ≡ true) (sym e)
-            (subst (λ y. all_of_them (is_set_before (placed 0 left) a) (reads y) ≡ true) (is_it p k e at)
-            (each-tested (IsSet a m) (is_set_before (placed 0 left) a) (reads (at_place (suc a) i)) (read_accepted m few) set)))
+        (subst (λ y. all_of_them (is_set_before (placed 0 left) a) (reads y) ≡ true) (is_it p k e at)
+        (each-tested (IsSet a m) (is_set_before (placed 0 left) a) (reads (at_place (suc a) i)) (read_accepted m few) set)))
         (cases_lt a p)
 
     -- an instruction whose reads are set, and then the others
@@ -149,13 +155,13 @@ module _ (left : List Instruction) where
             (λ lt.
             let k : (k : Instruction) × (slice_get (placed 0 left) j ≡ Some k) = there-is j i (omega (arith, lt, here.size)) in
             subst (λ x. where_standing (λ y. all_of_them (stops_at a p d j) (ways y)) x ≡ true) (sym k.1)
-                (each-tested (λ w. (leads_to j w ≤ a) ⊎ T (leads_to j w)) (stops_at a p d j) (ways k.0) (λ w x. stops_before p j w l x) (here.lead_here j k.0 lt k.1)))
+            (each-tested (λ w. (leads_to j w ≤ a) ⊎ T (leads_to j w)) (stops_at a p d j) (ways k.0) (λ w x. stops_before p j w l x) (here.lead_here j k.0 lt k.1)))
             (λ le.
             let e : a ≡ j = omega (arith, lj, le) in
             subst (λ z. where_standing (λ y. all_of_them (stops_at a p d z) (ways y)) (slice_get (placed 0 left) z) ≡ true) e
-                (subst (λ x. where_standing (λ y. all_of_them (stops_at a p d a) (ways y)) x ≡ true) (sym stands)
-                (subst (λ x. all_of_them (stops_at a p d a) x ≡ true) (sym is)
-                (and_from (stops_at a p d a (onward (d ∷ []))) _ (sets_it p) (each-tested (λ w. GoesAway T w.elsewhere) (stops_at a p d a) ws (λ w g. stops_away p w l g) away)))))
+            (subst (λ x. where_standing (λ y. all_of_them (stops_at a p d a) (ways y)) x ≡ true) (sym stands)
+            (subst (λ x. all_of_them (stops_at a p d a) x ≡ true) (sym is)
+            (and_from (stops_at a p d a (onward (d ∷ []))) _ (sets_it p) (each-tested (λ w. GoesAway T w.elsewhere) (stops_at a p d a) ws (λ w g. stops_away p w l g) away)))))
             (cases_lt j a));
       }
 
