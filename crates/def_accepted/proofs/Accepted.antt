@@ -27,6 +27,8 @@ use Rattle.def_accepted.proofs.Expressions.{With, with_more, without, Targets, e
 abbrev Nowhere : ℕ → Type 0
 Nowhere n = ⊥
 
+-- ---- clauses
+
 module _ (left : List Instruction) (dialect : Dialect) where
   past_the_end : (a : ℕ) (T : ℕ → Type 0) → Reached left a [] T → ReadsAccepted left a
   past_the_end a T here p i le at = absurd (omega (arith, le, here.size, slice_get_within (placed 0 left) p i at, placed-length 0 left))
@@ -50,6 +52,8 @@ module _ (left : List Instruction) (dialect : Dialect) where
       (λ b le at_conditions set. while_accepted left f dialect in_condition k.head env has k.conditions d b f body T targets (inl refl) body_few fine.0.conditions at_conditions set
       (λ c le1 at_body. exprs_accepted left f dialect in_body k.head env has k.body d c f (end_with_match ∷ F) T targets (omega arith) fine.0.body at_body (registers_later left b c f f env le1 (omega arith) set)
       (λ e le2 at_end others. by_step left e end_with_match F T at_end f (omega arith) tt tt (λ last. clauses_accepted ks fine.1 (suc e) (without left (suc e) F Nowhere last))))))
+
+-- ---- the test
 
 module _ (code : List Instruction) (valid : Valid code) (accepted : (p : ℕ) (i : Instruction) → slice_get code p ≡ Some i → all_of_them (is_set_before code p) (reads i) ≡ true) where
   forward : (p : ℕ) (i : Instruction) → IsInPlace code p i → all_of_them (leads_forward (length code) p) (ways i) ≡ true

@@ -94,7 +94,7 @@ module _ (left : List Instruction) where
             (λ b le then own. exprs_accepted es (suc d) b m k T targets few fine.1 then (registers_later left a b m m env le (omega arith) set)
             (λ c le1 last others. after c (omega (arith, le, le1)) last (set_on left b c m _ le1 own, others)))
 
-        -- g is at most the number of instructions that are left
+        -- where one isn't true the code goes on where g instructions are left
         pub while_accepted : (es : Exprs) (d a g : ℕ) (k : List Instruction) (T : ℕ → Type 0) → Targets f g T → T (length left - g) → g ≤ length k → AreFine q p es → Reached left a (while_true_code dialect q f env es d g k) T → EachRegister (IsSet left a g) env → ((b : ℕ) → a ≤ b → Reached left b k T → ReadsAccepted left b) → ReadsAccepted left a
         while_accepted no_exprs d a g k T targets target few fine here set after = after a (omega arith) here
         while_accepted (and_expr e es) d a g k T targets target few fine here set after =
@@ -107,6 +107,7 @@ module _ (left : List Instruction) where
             (λ next1. while_accepted es d (suc (suc b)) g k T targets target few fine.1 next1 (registers_later left a (suc (suc b)) g g env (omega (arith, le)) (omega arith) set)
             (λ c le1 last. after c (omega (arith, le, le1)) last))))
 
+        -- where one is true the code goes on where g instructions are left
         until_accepted : (es : Exprs) (d a g : ℕ) (k : List Instruction) (T : ℕ → Type 0) → Targets f g T → T (length left - g) → g ≤ length k → AreFine q p es → Reached left a (until_true_code dialect q f env es d g k) T → EachRegister (IsSet left a g) env → ((b : ℕ) → a ≤ b → Reached left b k T → ReadsAccepted left b) → ReadsAccepted left a
         until_accepted no_exprs d a g k T targets target few fine here set after = after a (omega arith) here
         until_accepted (and_expr e es) d a g k T targets target few fine here set after =

@@ -1,4 +1,5 @@
 -- Going through placed code: where ways from before lead, which registers are set, and what is accepted from a place on.
+-- T tells which places are targets: those behind the part gone through that its ways may lead to.
 use Rattle.std.proofs.Common.{◌≡◌, ℕ, zero, suc, ◌+◌, ◌-◌, ◌<◌, ◌≤◌, List, [], ◌∷◌, length, drop, Option, Some, None, refl, sym, ap, ◌∙◌, subst, arith, true, ◌==◌, nat_le, nat_lt, slice_get, unwrap_or, inl, inr, ◌⊎◌, ⊎_elim, eq-eqb, length-append}
 use Rattle.std.specs.Bool.{⊤}
 use Rattle.std.proofs.lemmas.Bool.{cases_lt, and_from, or_left, or_right, le-leb}
@@ -45,7 +46,7 @@ module _ (left : List Instruction) where
   abbrev pub LeadHere : ℕ → (ℕ → Type 0) → Type 0
   LeadHere a T = (j : ℕ) (i : Instruction) → j < a → slice_get (placed 0 left) j ≡ Some i → Each (λ w. (leads_to j w ≤ a) ⊎ T (leads_to j w)) (ways i)
 
-  -- what is left from place a on
+  -- this is left from place a on, and ways from before lead here at most, or to a target
   pub record Reached (a : ℕ) (rest : List Instruction) (T : ℕ → Type 0) : Type 0 where
     pub is_left : drop a left ≡ rest
     pub size : a + length rest ≡ length left
@@ -57,6 +58,7 @@ module _ (left : List Instruction) where
     pub before : setter < a
     pub sets : (p : ℕ) → p + m < length left → sets_before (placed 0 left) p r setter ≡ true
 
+  -- a register that is set stays so, at later places and for fewer reads
   pub set_later : (a b m l r : ℕ) → a ≤ b → m ≤ l → IsSet a m r → IsSet b l r
   set_later a b m l r ab ml h = record { setter = h.setter; before = omega (arith, h.before, ab); sets = λ p lt. h.sets p (omega (arith, lt, ml)) }
 
@@ -70,7 +72,7 @@ module _ (left : List Instruction) where
   abbrev pub ReadsAccepted : ℕ → Type 0
   ReadsAccepted a = (p : ℕ) (i : Instruction) → a ≤ p → slice_get (placed 0 left) p ≡ Some i → all_of_them (is_set_before (placed 0 left) p) (reads i) ≡ true
 
-  -- other targets that stand for those
+  -- with other targets, where each former one is one of them or has been reached
   pub other_targets : (a : ℕ) (rest : List Instruction) (T U : ℕ → Type 0) → ((n : ℕ) → T n → (n ≤ a) ⊎ U n) → Reached a rest T → Reached a rest U
   other_targets a rest T U on h = record {
     is_left = h.is_left;
@@ -79,6 +81,7 @@ module _ (left : List Instruction) where
         (λ w x. ⊎_elim (λ le. inl le) (λ t. on (leads_to j w) t) x) (h.lead_here j i l at);
   }
 
+  -- a jump to where f instructions are left leads to the target there
   pub jump_target : (a f : ℕ) (i : Instruction) (rest : List Instruction) (T : ℕ → Type 0) → Reached a (i ∷ rest) T → f ≤ length rest → T (length left - f) → T (suc a + (length rest - f))
   jump_target a f i rest T h le t = let e : length left - f ≡ suc a + (length rest - f) = omega (arith, h.size, le) in subst T e t
 
@@ -126,7 +129,7 @@ module _ (left : List Instruction) where
         (each-tested (IsSet a m) (is_set_before (placed 0 left) a) (reads (at_place (suc a) i)) (read_accepted m few) set)))
         (cases_lt a p)
 
-    -- an instruction whose reads are set, and then the others
+    -- an instruction that reads what is set, and then the others
     pub by_step : (m : ℕ) → m ≤ length rest → Each (IsSet a m) (reads (at_place (suc a) i)) → Each (λ w. GoesOn T w.elsewhere) (ways (at_place (suc a) i)) → (Reached (suc a) rest T → ReadsAccepted (suc a)) → ReadsAccepted a
     by_step m few set goes after = accepted_from m few set (after (reached_next goes))
 
@@ -172,7 +175,7 @@ module _ (left : List Instruction) where
           at None g = absurd g
           at (Some n) g = g
 
-      -- one that sets a register
+      -- one that sets register d where it goes on to the next place, and then the others
       pub by_setting : (ws : List Way) → ways (at_place (suc a) i) ≡ onward (d ∷ []) ∷ ws → Each (λ w. GoesAway T w.elsewhere) ws → m ≤ length rest → Each (IsSet a m) (reads (at_place (suc a) i)) → (Reached (suc a) rest T → IsSet (suc a) m d → ReadsAccepted (suc a)) → ReadsAccepted a
       by_setting ws is away few set after =
           by_step m few set (subst (Each (λ w. GoesOn T w.elsewhere)) (sym is) (tt, goes_there ws away)) (λ next. after next (set_here ws is away))
