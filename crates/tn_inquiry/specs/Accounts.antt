@@ -1,16 +1,15 @@
 -- What is written of a run that is explained (own).
-use Rattle.std.specs.Prelude.{◌≡◌, ◌≢◌, ℕ, Bool, true, false, List, [], Option, Some, None, IfSome}
-use Rattle.std.specs.List.{list_any}
+use Rattle.std.specs.Prelude.{◌≡◌, ◌≢◌, ℕ, true, false, List, [], Option, Some, None, IfSome}
 use Rattle.std.specs.Io.KnownBytes.{Appends}
-use Rattle.std.specs.Str.{bytes_eq}
 use Rattle.def_term.specs.Names.{Name}
-use Rattle.def_script.specs.Program.{Command, create, destroy, set_processes, set_function, set_send, set_receive, Program}
+use Rattle.def_script.specs.Program.{Program}
+use Rattle.def_script.specs.Rules.{is_created}
 use Rattle.def_script.specs.Script as script
 use Rattle.def_script.specs.Script.{Refusal, IsScript, IsRefused}
 use Rattle.def_run.specs.Picks.{SpellsPicks}
 use Rattle.def_run.specs.Output.{HasBadPicks, refusal_text}
 use Rattle.def_account.specs.Texts.{Asked, account_text}
-use Rattle.tn_account.specs.Asking.{asked_seen}
+use Rattle.tn_account.specs.Asks.{asked_seen}
 use Rattle.tn_run.specs.Ends.{WritesFront}
 use Rattle.tn_run.specs.Plans.{TakesSome}
 use Rattle.tn_run.specs.Scripts.{refusal_of}
@@ -18,28 +17,15 @@ use Rattle.tn_inquiry.specs.declared.inquiry.Inquiry.{Inquiry}
 use Rattle.tn_inquiry.specs.declared.inquiry.Told.{Told}
 use Rattle.tn_inquiry.specs.declared.inquiry.Told.TheVariants.{Account, Refused, NoSession, NoMove}
 
--- the command creates a session of this name
-abbrev pub creates : Name → Command → Bool
-creates n (create s t) = bytes_eq s n
-creates n (destroy s) = false
-creates n (set_processes s procs how flags) = false
-creates n (set_function s mfa spec options) = false
-creates n (set_send s spec) = false
-creates n (set_receive s spec) = false
-
--- the control list does
-abbrev pub has_session : Name → Program → Bool
-has_session n p = list_any (creates n) p.commands
-
 -- the session that is asked for is there, where a name is given
 abbrev pub HasAskedSession : Option Name → Program → Type 0
 HasAskedSession None p = Unit {0}
-HasAskedSession (Some n) p = has_session n p ≡ true
+HasAskedSession (Some n) p = is_created p.commands n ≡ true
 
 -- and it isn't
 abbrev pub LacksAskedSession : Option Name → Program → Type 0
 LacksAskedSession None p = ⊥
-LacksAskedSession (Some n) p = has_session n p ≡ false
+LacksAskedSession (Some n) p = is_created p.commands n ≡ false
 
 -- where a move's number is given, the account isn't empty: a move has a line at least
 abbrev pub HasAskedMove : Option ℕ → List ℕ → Type 0

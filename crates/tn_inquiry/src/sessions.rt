@@ -2,7 +2,7 @@
 ghost use Rattle.std.specs.Prelude.{◌≡◌};
 ghost use Rattle.tn_flags.specs.Views.{command_of};
 ghost use Rattle.tn_program.specs.Views.{program_of};
-ghost use Rattle.tn_inquiry.specs.Accounts.{creates, has_session};
+ghost use Rattle.def_script.specs.Rules.{creates_session, is_created};
 
 use std::alloc::Allocator;
 use tn_flags::Command;
@@ -10,7 +10,7 @@ use tn_program::Program;
 
 /// Whether the command creates a session of this name.
 fn creates<A: Allocator>(command: &Command<A>, name: &str) -> bool
-    ensures { result ≡ creates name.now (command_of command.now) }
+    ensures { result ≡ creates_session name.now (command_of command.now) }
 {
     match command {
         Command::SessionCreate { session, .. } => session.text() == name,
@@ -20,7 +20,7 @@ fn creates<A: Allocator>(command: &Command<A>, name: &str) -> bool
 
 /// Whether the control list creates a session of this name.
 pub fn has_session<A: Allocator>(program: &Program<A>, name: &str) -> bool
-    ensures { result ≡ has_session name.now (program_of program.now) }
+    ensures { result ≡ is_created (program_of program.now).commands name.now }
 {
     program.commands().iter().any(|command| creates(command, name))
 }
