@@ -112,9 +112,10 @@ echo "${PWD##*/} $*"
 exit 7
 """
     limits = {limit: ["round", "--limit", limit] for limit in ("1", "65536", "65537", "01", "ten")}
+    explain = ["explain", "--picks", "0", "--session", "s1", "--move", "2"]
     words = {
         "tn_plain": (["replay", "--picks", "0 0"], ["replay", "--picks", ""], ["round"], limits["1"], limits["65536"]),
-        "tn_cli": (["--help"], ["replay"], limits["65537"], limits["01"], limits["ten"], ["workers", "--n", "2"]),
+        "tn_cli": (["--help"], ["replay"], limits["65537"], limits["01"], limits["ten"], ["workers", "--n", "2"], explain),
     }
     with tempfile.TemporaryDirectory() as folder:
         top = pathlib.Path(folder)
@@ -138,6 +139,10 @@ exit 7
         ran = run(line, command=(str(top / "tracenode"),), env=path, cwd=folder)
         wanted = f"tn_cli replay {there}/a.term --picks-file {there}/b c\n"
         check("files where nothing is built", ran.stdout.decode() == wanted, ran)
+        line = ["explain", "--session", "s1", "a.term", "--picks-file=b", "--move", "2"]
+        ran = run(line, command=(str(top / "tracenode"),), env=path, cwd=folder)
+        wanted = f"tn_cli explain --session s1 {there}/a.term --picks-file={there}/b --move 2\n"
+        check("files of an explanation where nothing is built", ran.stdout.decode() == wanted, ran)
         line = ["round", "--limit", "5", "/x/a.term"]
         ran = run(line, command=(str(top / "tracenode"),), env=path, cwd=folder)
         check("a whole path where nothing is built", ran.stdout == b"tn_cli round --limit 5 /x/a.term\n", ran)
@@ -279,6 +284,11 @@ def explanations():
         picks.write_text(EVERY_LINE[1])
         ran = run(["explain", str(script), "--picks-file", str(picks), "--move", "24"])
         wants("an explanation of files", ran, 0, b"24 101 nothing\n")
+        there = os.open(folder, os.O_RDONLY)
+        command = [str(PROGRAM), "explain", *EVERY_LINE]
+        ran = subprocess.run(command, stdin=there, stdout=subprocess.PIPE, stderr=subprocess.PIPE, check=False)
+        os.close(there)
+        wants("an explanation of a folder", ran, 3, b"", b"fault 18 read: Is a directory (os error 21)\n")
     with open("/dev/full", "wb") as full:
         command = [str(PROGRAM), "explain", *EVERY_LINE]
         ran = subprocess.run(command, input=every, stdout=full, stderr=subprocess.PIPE, check=False)
