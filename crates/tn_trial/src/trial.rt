@@ -245,7 +245,7 @@ impl<'a, 'c, A: Allocator + Copy> Trial<'a, 'c, A> {
             )? {
                 Verdict::Fails(reason) => self.put_failed(i, reason, out)?,
                 Verdict::Fires { bindings, effects } => {
-                    return self.put_fired(i, &bindings, &effects, out);
+                    return self.put_fired(i, bindings, &effects, out);
                 }
             }
         }

@@ -14,7 +14,7 @@ returns-in-Fires-clause-ok g c =
     let self = c.args.self.now in
     let ks = self.spec.now.clauses in
     let size = c.len-i-end.ensures ∙ ks.ok.0 in
-    let bs = bindings_seen c.in-Fires.bindings in
+    let bs = bindings_seen c.in-Fires.bindings.now in
     ends_ok (dialect_of self.spec.now.dialect) (context_seen self.context.now) ks.items c.loop-i.i c.put_fired.result c.index.result.now bs (map effect_seen c.deref.result.now) c.loop-i.out.items c.put_fired.new.out.items
     (c.args.out.now.items ++ trial_in self) (omega (arith, size)) c.index.ensures
     (ap (λ xs. fires bs (map effect_seen xs)) c.deref.ensures.value ∙ sym (ap (λ v. verdict_seen v) c.in-Fires.is) ∙ c.in_ok-reason.ensures)
