@@ -67,8 +67,8 @@ module _ {A : Type 0} (q : Question) where
         of_caller = m;
         of_spec = s;
         told = made
-        ∙ ap (λ b. b ++ told (in_context ts lent alive)) empty
-        ∙ ap (λ us. told (in_context us lent alive)) of_list
-        ∙ ap (λ f. told (record { matched_list = map tree_of list.items; me = q.me; caller_mfa = f; alive = alive })) (lent_seen lent caller of_caller)
-        ∙ ap (λ living. told (record { matched_list = map tree_of list.items; me = q.me; caller_mfa = mfas_seen caller; alive = living })) of_alive;
+            ∙ ap (λ b. b ++ told (in_context ts lent alive)) empty
+            ∙ ap (λ us. told (in_context us lent alive)) of_list
+            ∙ ap (λ f. told (record { matched_list = map tree_of list.items; me = q.me; caller_mfa = f; alive = alive })) (lent_seen lent caller of_caller)
+            ∙ ap (λ living. told (record { matched_list = map tree_of list.items; me = q.me; caller_mfa = mfas_seen caller; alive = living })) of_alive;
       }

@@ -151,7 +151,8 @@ pub fn is_silent<A: Allocator>(me: u32, effects: &[Effect<A>]) -> bool
 
 /// The same behind one effect.
 fn silent_after<A: Allocator>(me: u32, silent: bool, effect: &Effect<A>) -> bool
-    ensures { (es : List ex.Effect) → silent_behind me silent (effect_seen effect.now ∷ es) ≡ silent_behind me result es }
+    ensures { (es : List ex.Effect) →
+        silent_behind me silent (effect_seen effect.now ∷ es) ≡ silent_behind me result es }
 {
     match effect {
         Effect::Silent(on) => *on,

@@ -43,7 +43,8 @@ fn put_tuple<A: Allocator, B: Allocator>(
     exprs: &Vec<Expr<A>, A>,
     out: &mut Vec<u8, B>,
 ) -> Result<(), AllocError>
-    ensures ok { OnOk result (out.new.items ≡ out.old.items ++ 123 ∷ 123 ∷ joined (spelled_list exprs.now) ++ 125 ∷ 125 ∷ []) }
+    ensures ok { OnOk result (out.new.items ≡
+        out.old.items ++ 123 ∷ 123 ∷ joined (spelled_list exprs.now) ++ 125 ∷ 125 ∷ []) }
     ensures grows { Grows out.old.items out.new.items }
 {
     out.extend_from_slice(b"{{")?;

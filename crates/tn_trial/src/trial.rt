@@ -83,10 +83,8 @@ fn message_or<'e, A: Allocator>(
 {
     match effect {
         Effect::Message(term) => Some(term),
-        Effect::ReturnTrace
-        | Effect::ExceptionTrace
-        | Effect::Silent(_)
-        | Effect::Change { .. } => before,
+        Effect::ReturnTrace | Effect::ExceptionTrace | Effect::Silent(_) | Effect::Change { .. } =>
+            before,
     }
 }
 

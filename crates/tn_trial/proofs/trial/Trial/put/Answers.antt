@@ -27,7 +27,7 @@ loop-i-preserved g c =
     let size = c.len-i-end.ensures ∙ ks.ok.0 in
     record {
       written = goes_on (dialect_of self.spec.now.dialect) (context_seen self.context.now) ks.items c.loop-i.i c.index.result.now (reason_seen c.in-Fails.reason) c.loop-i.out.items c.put_failed.new.out.items
-        (c.args.out.now.items ++ trial_in self) (omega (arith, size)) c.index.ensures (sym (ap (λ v. verdict_seen v) c.in-Fails.is) ∙ c.in_ok-reason.ensures) c.loop-i.invariant.written c.in_ok-put_failed-in-Fails.ensures.ok;
+          (c.args.out.now.items ++ trial_in self) (omega (arith, size)) c.index.ensures (sym (ap (λ v. verdict_seen v) c.in-Fails.is) ∙ c.in_ok-reason.ensures) c.loop-i.invariant.written c.in_ok-put_failed-in-Fails.ensures.ok;
       grows = grown _ _ _ c.loop-i.invariant.grows c.put_failed.ensures.grows;
     }
 
