@@ -1,4 +1,4 @@
-use Rattle.std.proofs.Common.{◌≡◌, ◌∙◌, length, sym, ap}
+use Rattle.std.proofs.Common.{◌∙◌, sym, ap}
 use Rattle.tn_guard.specs.Views.{parts_list}
 use Rattle.tn_spec.specs.Views.{patterns_seen}
 use Rattle.tn_reason.specs.Reasoned.{head_reason_of}
