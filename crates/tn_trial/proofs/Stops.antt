@@ -1,5 +1,5 @@
 -- The first element that is no clause.
-use Rattle.std.proofs.Common.{◌≡◌, ◌∙◌, ℕ, suc, ◌+◌, ◌<◌, ◌≤◌, List, length, get_or, drop, Option, Some, None, Ok, Err, sym, ap, add-one}
+use Rattle.std.proofs.Common.{◌≡◌, ◌∙◌, ℕ, suc, ◌+◌, ◌<◌, ◌≤◌, List, length, get_or, drop, Option, None, Ok, sym, ap, add-one}
 use Rattle.std.proofs.lemmas.List.{drop_all}
 use Rattle.def_spec.specs.Expressions.{Dialect}
 use Rattle.def_spec.specs.Outcome.{Clause}

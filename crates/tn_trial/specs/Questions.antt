@@ -1,5 +1,5 @@
 -- A specification and what it is held against, as texts: the answer, and why there is none.
-use Rattle.std.specs.Prelude.{◌≡◌, ◌≢◌, ◌≤◌, ℕ, List, map, pos, Option, Some, None, Result, Ok, Err}
+use Rattle.std.specs.Prelude.{◌≡◌, ◌≢◌, ◌≤◌, ℕ, List, map, pos, Option, Some, None, Ok}
 use Rattle.std.specs.Option.{option_map}
 use Rattle.std.specs.Borrow.{Bor}
 use Rattle.std.specs.declared.vec.Vec.{Vec}
@@ -15,7 +15,7 @@ use Rattle.def_explain.specs.Places.{stop_of}
 use Rattle.def_explain.specs.Texts.{trial_text}
 use Rattle.tn_term.specs.declared.term.Term.{Term}
 use Rattle.tn_term.specs.declared.mfa.Mfa as code
-use Rattle.tn_term.specs.Views.{tree_of, trees_of, mfa_seen}
+use Rattle.tn_term.specs.Views.{tree_of, mfa_seen}
 use Rattle.tn_text.specs.Answers.{IsRefusal}
 use Rattle.tn_spec.specs.declared.func.Dialect.{Dialect}
 use Rattle.tn_spec.specs.declared.spec.Spec.{Spec}
