@@ -98,7 +98,11 @@ fn tell_text(rt: &impl Eprint, name: &str, bytes: &[u8], fault: TextFault) {
 }
 
 /// Says on standard error why the question has no answer, in one line.
-fn tell_question<A: Allocator>(rt: &impl Eprint, question: &Question<'_>, fault: &QuestionFault<A>) {
+fn tell_question<A: Allocator>(
+    rt: &impl Eprint,
+    question: &Question<'_>,
+    fault: &QuestionFault<A>,
+) {
     match fault {
         QuestionFault::List(fault) => tell_text(rt, "list", question.list, *fault),
         QuestionFault::Caller(fault) => {

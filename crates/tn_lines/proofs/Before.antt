@@ -200,7 +200,8 @@ module _ (s : Session) (p : ℕ) (c : Call) where
       go None e = absurd (cc (some ∙ ap (option_map parts_of) (sym (newest_is s.functions c) ∙ e)))
       go (Some k) e =
           let parts : Some (g, local) ≡ Some (parts_of k) = some ∙ ap (option_map parts_of) (sym (newest_is s.functions c) ∙ e) in
-          let same : local ≡ k.local = cc parts in
+          let pair : (g, local) ≡ parts_of k = cc parts in
+          let same : local ≡ k.local = ap (λ (x : Setting × Bool). x.1) pair in
           let not : (k.local || c.named) ≡ false = ap (λ b. b || c.named) (sym same) ∙ other in
           unsettled s (called p c) of_named_calls
           (is_of_call off (setting_is s.functions c ∙ ap (λ o. by_newest o c) e ∙ ap (λ b. if b then k.setting else off) not)) flag
@@ -215,8 +216,9 @@ module _ (s : Session) (p : ℕ) (c : Call) where
       go None e = absurd (cc (some ∙ ap (option_map parts_of) (sym (newest_is s.functions c) ∙ e)))
       go (Some k) e =
           let parts : Some (g, local) ≡ Some (parts_of k) = some ∙ ap (option_map parts_of) (sym (newest_is s.functions c) ∙ e) in
-          let same : local ≡ k.local = cc parts in
-          let its : k.setting ≡ g = cc parts in
+          let pair : (g, local) ≡ parts_of k = cc parts in
+          let same : local ≡ k.local = ap (λ (x : Setting × Bool). x.1) pair in
+          let its : k.setting ≡ g = sym (ap (λ (x : Setting × Bool). x.0) pair) in
           let yes : (k.local || c.named) ≡ true = ap (λ b. b || c.named) (sym same) ∙ named in
           let is : setting_for s.functions c ≡ g = setting_is s.functions c ∙ ap (λ o. by_newest o c) e ∙ ap (λ b. if b then k.setting else off) yes ∙ its in
           settled s (called p c) g call_context (is_of_call g is) flag

@@ -1,6 +1,7 @@
 -- The lines of an event, by those that are known before the session sees it and those behind them.
-use Rattle.std.proofs.Common.{◌≡◌, ◌∙◌, ℕ, ◌==◌, length, Bool, true, false, if◌then◌else◌, List, [], ◌∷◌, ◌++◌, Option, Some, None, is_some, subst, codes, refl, sym, ap, append_assoc, append-nil}
+use Rattle.std.proofs.Common.{◌≡◌, ◌∙◌, ℕ, suc, ◌==◌, arith, length, Bool, true, false, if◌then◌else◌, List, [], ◌∷◌, ◌++◌, Option, Some, None, is_some, subst, codes, refl, sym, ap, append_assoc, append-nil}
 use Rattle.std.specs.Option.{option_map, unwrap_or}
+use Rattle.std.proofs.lemmas.Bool.Decides.{nat_tests}
 use Rattle.def_term.specs.Tree.{Tree}
 use Rattle.def_term.specs.Order.{same}
 use Rattle.def_term.specs.Names.{Mfa, word}
@@ -229,9 +230,12 @@ marks_are (Done m) (Some es) h = cc h
 
 -- ---- what is said of a process
 
+not_zero : (n : ℕ) → false ≡ (suc n == 0)
+not_zero n = grind (arith, nat_tests)
+
 pub where_empty : (p : ℕ) (text : List ℕ) → (length text == 0) ≡ true → line_where p text ≡ []
 where_empty p [] h = refl
-where_empty p (b ∷ bs) h = absurd (cc h)
+where_empty p (b ∷ bs) h = absurd (cc (sym h ∙ sym (not_zero (length bs))))
 
 pub where_more : (p : ℕ) (text : List ℕ) → (length text == 0) ≡ false → line_where p text ≡ said (pid_text p ++ text) ∷ []
 where_more p [] h = absurd (cc h)

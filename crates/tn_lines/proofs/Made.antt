@@ -1,8 +1,9 @@
 -- What a session makes of an event, of its lines that were appended piece by piece.
-use Rattle.std.proofs.Common.{◌≡◌, ◌∙◌, ℕ, Bool, false, List, [], ◌∷◌, ◌++◌, Option, Some, None, is_some, refl, sym, ap, subst}
+use Rattle.std.proofs.Common.{◌≡◌, ◌∙◌, ℕ, Bool, true, false, List, [], ◌∷◌, ◌++◌, Option, Some, None, is_some, refl, sym, ap, subst}
 use Rattle.std.specs.Option.{option_map}
 use Rattle.def_term.specs.Tree.{Tree}
 use Rattle.def_term.specs.Names as names
+use Rattle.def_spec.specs.Flags.{Flags}
 use Rattle.def_node.specs.Event.{Event}
 use Rattle.def_session.specs.State as definition
 use Rattle.def_session.specs.State.{flags_at}
@@ -18,6 +19,14 @@ use Rattle.tn_lines.specs.Parts.{both_of, changed_lines, lines_before, told_line
 use Rattle.tn_lines.specs.declared.clauses.Evaluation.{Evaluation}
 use Rattle.tn_lines.proofs.Texts.{nothing, more}
 use Rattle.tn_lines.proofs.Behind.{Inherits, inherits, parts_are, done_is, makes_nothing}
+
+-- an event that was evaluated, and of which nothing is told
+pub told_none : (done silent b : Bool) (m : Option Tree) → done ≡ true → silent ≡ b → m ≡ None → told_lines done silent m ≡ told_lines true b None
+told_none done silent b m is same none = ap (λ x. told_lines x silent m) is ∙ ap (λ x. told_lines true x m) same ∙ ap (told_lines true b) none
+
+-- the flags of a process before and afterwards, in other words
+pub flags_changed : (p : ℕ) (a b c d : Flags) → a ≡ b → c ≡ d → changed_lines p a c ≡ changed_lines p b d
+flags_changed p a b c d x y = ap (λ f. changed_lines p f c) x ∙ ap (changed_lines p b) y
 
 module _ {A : Type 0} (fs : List (names.Mfa × Bool)) (s : definition.Session) (e : Event) (n : names.Name) (new : Session A) (after : definition.Session) (m : Option Tree)
     (told : event_told s e ≡ (after, m)) (at : IsAt fs after new) where

@@ -1,5 +1,6 @@
 -- The text of lines, piece by piece and one behind another.
-use Rattle.std.proofs.Common.{◌≡◌, ◌∙◌, ℕ, suc, List, [], ◌∷◌, ◌++◌, codes, decimal, refl, sym, ap, append_assoc, append-nil}
+use Rattle.std.proofs.Common.{◌⊎◌, inl, inr, ◌≡◌, ◌∙◌, ℕ, suc, List, [], ◌∷◌, ◌++◌, codes, decimal, refl, sym, ap, append_assoc, append-nil}
+use Rattle.std.specs.Prelude.{Result, Ok, Err, OnOk}
 use Rattle.tn_text.specs.Writes.{Grows}
 use Rattle.def_term.specs.Names.{Name}
 use Rattle.def_explain.specs.Accounts.{Line}
@@ -49,3 +50,24 @@ grew x e = record { added = x; whole = e }
 -- the pieces of a clause's line
 pub clause_line : (k : ℕ) (verb rest b c d e : List ℕ) → c ≡ b ++ clause_text k [] → d ≡ c ++ verb → e ≡ d ++ rest → e ≡ b ++ clause_text k (verb ++ rest)
 clause_line k verb rest b c d e first second third = third ∙ ap (λ x. x ++ rest) (second ∙ ap (λ x. x ++ verb) first) ∙ simp (append_assoc, append-nil)
+
+-- what follows from what holds where a call answers Ok
+pub on_ok : {T E : Type 0} (r : Result T E) (P Q : Type 0) → (P → Q) → OnOk r P → OnOk r Q
+on_ok (Ok x) P Q f h = f h
+on_ok (Err e) P Q f h = tt
+
+-- other lines that are the same
+pub other : (n : Name) (ks ls : List Line) (o b : List ℕ) → ks ≡ ls → b ≡ o ++ lines_text n ks → b ≡ o ++ lines_text n ls
+other n ks ls o b same made = made ∙ ap (λ l. o ++ lines_text n l) same
+
+-- what follows from each of eight, of which one holds
+pub by_each : {A B C D E F G H : Type 0} (Q : Type 0) → (A → Q) → (B → Q) → (C → Q) → (D → Q) → (E → Q) → (F → Q) → (G → Q) → (H → Q)
+    → A ⊎ (B ⊎ (C ⊎ (D ⊎ (E ⊎ (F ⊎ (G ⊎ H)))))) → Q
+by_each Q a b c d e f g h (inl x) = a x
+by_each Q a b c d e f g h (inr (inl x)) = b x
+by_each Q a b c d e f g h (inr (inr (inl x))) = c x
+by_each Q a b c d e f g h (inr (inr (inr (inl x)))) = d x
+by_each Q a b c d e f g h (inr (inr (inr (inr (inl x))))) = e x
+by_each Q a b c d e f g h (inr (inr (inr (inr (inr (inl x)))))) = f x
+by_each Q a b c d e f g h (inr (inr (inr (inr (inr (inr (inl x))))))) = g x
+by_each Q a b c d e f g h (inr (inr (inr (inr (inr (inr (inr x))))))) = h x

@@ -85,3 +85,7 @@ room_length n xs picks same size room = let e : length xs ≡ length picks = ap 
 -- what a step came to, by whether it moved
 pub came_to : {A K G : Type 0} (Keeps : K → List Tree → Type 0) (Gives : G → List Told → Type 0) (p : Program) (picks : List ℕ) (x : ℕ) (new : Engine A K) (g g' : G) (b c : Bool) → b ≡ c → Steps Keeps Gives p picks x b new g g' → Steps Keeps Gives p picks x c new g g'
 came_to Keeps Gives p picks x new g g' b c same h = subst (λ d. Steps Keeps Gives p picks x d new g g') same h
+
+-- a core that has an engine isn't spent
+pub not_spent : {X : Type 0} (Q : Type 0) (o : Option X) (x : X) → o ≡ Some x → o ≡ None → Q
+not_spent Q o x some none = absurd (cc (sym none ∙ some))

@@ -1,5 +1,7 @@
-use Rattle.std.proofs.Common.{◌∙◌, arith, map, ap}
-use Rattle.def_spec.specs.Matching.{Bindings}
+use Rattle.std.proofs.Common.{◌∙◌, sym, arith, map, ap}
+use Rattle.def_session.specs.Session.{marks_frame}
+use Rattle.def_explain.specs.Verdicts.{fires}
+use Rattle.tn_head.specs.Views.{bindings_seen}
 use Rattle.tn_spec.specs.Views.{dialect_of}
 use Rattle.tn_action.specs.Views.{context_seen, effect_seen}
 use Rattle.tn_reason.specs.Views.{reason_seen, verdict_seen}
@@ -11,8 +13,12 @@ pub returns-in-Fires-clause-ok : goal.returns-in-Fires-clause-ok
 returns-in-Fires-clause-ok g c =
     let ks = c.args.spec.now.clauses.items in
     let size = c.len-i-end.ensures ∙ c.args.spec.now.clauses.ok.0 in
+    let bs = bindings_seen c.in-Fires.bindings.now in
     ends c.args.self.now.name.now (dialect_of c.args.spec.now.dialect) (context_seen c.args.context.now) ks c.loop-i.i _ _ _ c.loop-i.invariant.so_far
-    c.index.result.now _ _ _ (omega (arith, size)) c.index.ensures (ap verdict_seen c.in-Fires.is ∙ c.in_ok-reason.ensures) ? ?
+    c.index.result.now bs (map effect_seen c.deref.result.now) c.marks_frame.result (omega (arith, size)) c.index.ensures
+    (ap (λ xs. fires bs (map effect_seen xs)) c.deref.ensures.value ∙ sym (ap (λ v. verdict_seen v) c.in-Fires.is) ∙ c.in_ok-reason.ensures)
+    c.in_ok-put_firing.ensures.ok
+    (c.marks_frame.ensures ∙ ap (λ xs. marks_frame (map effect_seen xs)) (c.deref-in-Fires.ensures.value ∙ sym c.deref.ensures.value))
 
 pub loop-i-preserved : goal.loop-i-preserved
 loop-i-preserved g c =
@@ -21,7 +27,8 @@ loop-i-preserved g c =
     record {
       so_far =
           goes_on c.args.self.now.name.now (dialect_of c.args.spec.now.dialect) (context_seen c.args.context.now) ks c.loop-i.i _ _ _ c.loop-i.invariant.so_far
-          c.index.result.now (reason_seen c.in-Fails.reason) (omega (arith, size)) c.index.ensures ? c.in_ok-put_failing-in-Fails.ensures.ok;
+          c.index.result.now (reason_seen c.in-Fails.reason) (omega (arith, size)) c.index.ensures
+          (sym (ap (λ v. verdict_seen v) c.in-Fails.is) ∙ c.in_ok-reason.ensures) c.in_ok-put_failing-in-Fails.ensures.ok;
       grows = grown c.loop-i.invariant.grows c.in_ok-put_failing-in-Fails.ensures.grows;
     }
 

@@ -1,5 +1,5 @@
 use Rattle.def_run.proofs.Striking.{struck_view}
-use Rattle.tn_trace.proofs.CoreLemmas.{listed, unlisted}
+use Rattle.tn_trace.proofs.CoreLemmas.{listed, unlisted, not_spent}
 use Rattle.tn_trace.proofs.recording.Core.listing.Goals as goal
 
 pub returns-in_default-clause-isolated : goal.returns-in_default-clause-isolated
@@ -21,3 +21,9 @@ returns-in-None-clause-listing g c = λ p picks core.
 
 pub returns-in-None-clause-isolated : goal.returns-in-None-clause-isolated
 returns-in-None-clause-isolated g c = λ p picks s r. struck_view s r p picks
+
+pub returns-in-Some-get-clause-spent : goal.returns-in-Some-get-clause-spent
+returns-in-Some-get-clause-spent g c = λ none. not_spent _ c.args.self.now.engine c.in-Some.engine c.in-Some.is none
+
+pub returns-in-None-clause-spent : goal.returns-in-None-clause-spent
+returns-in-None-clause-spent g c = λ none. not_spent _ c.args.self.now.engine c.in-Some.engine c.in-Some.is none
