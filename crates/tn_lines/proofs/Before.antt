@@ -1,6 +1,10 @@
 -- The lines that are known before the session sees the event: why it isn't evaluated, or its evaluation.
 use Rattle.std.proofs.Common.{◌≡◌, ◌∙◌, ℕ, Bool, true, false, ◌||◌, if◌then◌else◌, List, [], ◌∷◌, ◌++◌, Option, Some, None, codes, refl, sym, ap}
+use Rattle.std.specs.Prelude.{not}
 use Rattle.std.specs.Option.{option_map}
+use Rattle.std.specs.Borrow.{Bor}
+use Rattle.tn_term.specs.declared.mfa.Mfa as mfas
+use Rattle.tn_term.specs.Views.{mfa_seen}
 use Rattle.def_term.specs.Tree.{Tree, pid}
 use Rattle.def_term.specs.Names.{Mfa, Name, word}
 use Rattle.def_term.specs.Alive.{Alive}
@@ -159,6 +163,23 @@ pub same_context : (me : ℕ) (ts us : List Tree) (f h : Option Mfa) (a b : Aliv
 same_context me ts us f h a b x y z = ap (λ l. context_of me l f a) x ∙ ap (λ o. context_of me us o a) y ∙ ap (context_of me us h) z
 
 -- ---- calls
+
+-- a caller that is lent
+pub caller_lent : {A : Type 0} (r : Option (Bor (mfas.Mfa A))) (o : Option (mfas.Mfa A)) → option_map (λ x. x.now) r ≡ o → option_map (λ m. mfa_seen m.now) r ≡ option_map mfa_seen o
+caller_lent {A} r o h = go r ∙ ap (option_map mfa_seen) h
+  where
+    go : (q : Option (Bor (mfas.Mfa A))) → option_map (λ m. mfa_seen m.now) q ≡ option_map mfa_seen (option_map (λ x. x.now) q)
+    go None = refl
+    go (Some m) = refl
+
+-- a test by what its contrary is
+pub is_false : (b : Bool) → not b ≡ true → b ≡ false
+is_false true h = absurd (cc h)
+is_false false h = refl
+
+pub is_true : (b : Bool) → not b ≡ false → b ≡ true
+is_true true h = refl
+is_true false h = absurd (cc h)
 
 pub newest_is : (ks : List Covering) (c : Call) → newest_of ks c ≡ newest_with ks c.mfa c.exported
 newest_is [] c = refl

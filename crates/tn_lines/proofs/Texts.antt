@@ -71,3 +71,13 @@ by_each Q a b c d e f g h (inr (inr (inr (inr (inl x))))) = e x
 by_each Q a b c d e f g h (inr (inr (inr (inr (inr (inl x)))))) = f x
 by_each Q a b c d e f g h (inr (inr (inr (inr (inr (inr (inl x))))))) = g x
 by_each Q a b c d e f g h (inr (inr (inr (inr (inr (inr (inr x))))))) = h x
+
+-- the same, of seven
+pub by_seven : {A B C D E F G : Type 0} (Q : Type 0) → (A → Q) → (B → Q) → (C → Q) → (D → Q) → (E → Q) → (F → Q) → (G → Q) → A ⊎ (B ⊎ (C ⊎ (D ⊎ (E ⊎ (F ⊎ G))))) → Q
+by_seven Q a b c d e f g (inl x) = a x
+by_seven Q a b c d e f g (inr (inl x)) = b x
+by_seven Q a b c d e f g (inr (inr (inl x))) = c x
+by_seven Q a b c d e f g (inr (inr (inr (inl x)))) = d x
+by_seven Q a b c d e f g (inr (inr (inr (inr (inl x))))) = e x
+by_seven Q a b c d e f g (inr (inr (inr (inr (inr (inl x)))))) = f x
+by_seven Q a b c d e f g (inr (inr (inr (inr (inr (inr x)))))) = g x

@@ -10,7 +10,7 @@ ghost use Rattle.tn_lines.specs.Makes.{MakesLines, MakesLiveLines, TellsLines};
 
 use crate::clauses::Evaluation;
 use crate::inheritance::both_of;
-use crate::line::Lines;
+use crate::line::{Lines, put_text};
 use std::alloc::{AllocError, Allocator};
 use tn_flags::Event;
 use tn_session::{Look, Message, Session};
@@ -73,7 +73,7 @@ impl<A: Allocator + Copy> Lines<'_, A> {
         self.put_behind(&look, event, evaluation, &mut behind)?;
         let message = session.tell(event)?;
         self.put_told(session, evaluation, event, &message, out)?;
-        out.extend_from_slice(&behind)
+        put_text(&behind, out)
     }
 
     /// Appends the message of an event that was evaluated, or why there is none: `silent` silences it, or else

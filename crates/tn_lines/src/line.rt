@@ -20,6 +20,14 @@ pub(crate) struct Lines<'a, A: Allocator> {
     pub name: &'a Atom<A>,
 }
 
+/// Appends a text.
+pub(crate) fn put_text<A: Allocator>(text: &[u8], out: &mut Vec<u8, A>) -> Result<(), AllocError>
+    ensures ok { OnOk result (out.new.items ≡ out.old.items ++ text.now) }
+    ensures grows { Grows out.old.items out.new.items }
+{
+    out.extend_from_slice(text)
+}
+
 /// Appends what a line begins with: two blanks, the name and a colon.
 pub(crate) fn begin<A: Allocator, B: Allocator>(
     name: &Atom<A>,
