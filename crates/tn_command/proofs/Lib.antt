@@ -1,2 +1,1 @@
-mod ExplainedLemmas
 mod WrittenLemmas

@@ -11,7 +11,7 @@ use Rattle.def_term.specs.Alive.{Alive}
 use Rattle.def_term.specs.Text.{is_written_bare}
 use Rattle.def_spec.specs.Flags.{Flag, only, send_flag, receive_flag, call_flag, procs_flag, flags_by_name}
 use Rattle.def_spec.specs.Expressions.{Context, Effect}
-use Rattle.def_node.specs.Event.{Event, Call, sent, received, called, returned, spawning, spawned, exited, linked, unlinked, getting_linked, getting_unlinked}
+use Rattle.def_node.specs.Event.{Event, Call, sent, received, called, returned}
 use Rattle.def_session.specs.Settings.{Covering, Setting, off, plain, by, has_among, setting_for}
 use Rattle.def_session.specs.State.{Session, flags_at}
 use Rattle.def_session.specs.Messages.{process_of}

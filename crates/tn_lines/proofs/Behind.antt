@@ -1,5 +1,5 @@
 -- The lines of an event, by those that are known before the session sees it and those behind them.
-use Rattle.std.proofs.Common.{◌≡◌, ◌∙◌, ℕ, suc, ◌==◌, arith, length, Bool, true, false, if◌then◌else◌, List, [], ◌∷◌, ◌++◌, Option, Some, None, is_some, subst, codes, refl, sym, ap, append_assoc, append-nil}
+use Rattle.std.proofs.Common.{◌≡◌, ◌∙◌, ℕ, suc, ◌==◌, arith, length, Bool, true, false, if◌then◌else◌, List, [], ◌∷◌, ◌++◌, Option, Some, None, is_some, subst, refl, sym, ap, append-nil}
 use Rattle.std.specs.Option.{option_map, unwrap_or}
 use Rattle.std.proofs.lemmas.Bool.Decides.{nat_tests}
 use Rattle.def_term.specs.Tree.{Tree}
@@ -7,14 +7,14 @@ use Rattle.def_term.specs.Order.{same}
 use Rattle.def_term.specs.Names.{Mfa, word}
 use Rattle.def_term.proofs.Same.{same-is}
 use Rattle.def_spec.specs.Flags.{Flag, call_flag, procs_flag, silent_flag, arity_flag, send_flag, receive_flag}
-use Rattle.def_spec.specs.Expressions.{Context, Effect}
-use Rattle.def_node.specs.Event.{Event, Call, sent, received, called, returned, spawning, spawned, exited, linked, unlinked, getting_linked, getting_unlinked}
+use Rattle.def_spec.specs.Expressions.{Effect}
+use Rattle.def_node.specs.Event.{Event, sent, received, called, returned, spawning, spawned, exited, linked, unlinked, getting_linked, getting_unlinked}
 use Rattle.def_session.specs.State.{Phase, absent, live, destroyed, Session, flags_at}
 use Rattle.def_session.specs.Messages.{process_of, last_message, elements_of, decided}
 use Rattle.def_session.specs.Session.{inherited, evaluated, is_marked, where_set, all_affected, marks_frame, is_silenced, message_after, marked, finished, told_for, told_in, event_told}
-use Rattle.def_explain.specs.Causes.{Cause, no_mark, no_flag, silenced, message_false, needed, is_silent_after, is_false_message, cause_by, cause_where, cause_of}
+use Rattle.def_explain.specs.Causes.{no_mark, no_flag, silenced, message_false, needed, is_false_message, cause_by, cause_where, cause_of}
 use Rattle.def_term.specs.Text.{pid_text}
-use Rattle.def_explain.specs.Accounts.{Line, line_where, said, tells, evaluation_lines, message_lines, mark_lines, end_lines, live_lines, inheritance_lines, flag_lines, event_lines_in, event_lines}
+use Rattle.def_explain.specs.Accounts.{Line, line_where, said, evaluation_lines, message_lines, mark_lines, end_lines, live_lines, inheritance_lines, flag_lines, event_lines_in, event_lines}
 use Rattle.tn_session.specs.Looks.{is_live}
 use Rattle.tn_lines.specs.declared.clauses.Evaluation.{Evaluation}
 use Rattle.tn_lines.specs.declared.clauses.Evaluation.TheVariants.{Refused, Done}

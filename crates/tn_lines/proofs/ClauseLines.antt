@@ -1,5 +1,5 @@
 -- The lines of clauses, one behind another, and the outcome that they tell of.
-use Rattle.std.proofs.Common.{◌≡◌, ◌∙◌, ℕ, suc, ◌+◌, ◌<◌, ◌≤◌, Bool, false, List, [], ◌∷◌, ◌++◌, Option, Some, None, codes, length, get_or, drop, map, refl, sym, ap, append_assoc, add-one}
+use Rattle.std.proofs.Common.{◌≡◌, ◌∙◌, ℕ, suc, ◌+◌, ◌<◌, ◌≤◌, Bool, false, List, [], ◌∷◌, ◌++◌, Some, codes, length, get_or, drop, map, refl, sym, ap, append_assoc, add-one}
 use Rattle.std.proofs.lemmas.List.{drop_more, drop_all}
 use Rattle.std.specs.Option.{option_map}
 use Rattle.def_term.specs.Names.{Name}
@@ -9,12 +9,12 @@ use Rattle.def_spec.specs.Outcome as outcome
 use Rattle.def_session.specs.Settings.{off, plain, by}
 use Rattle.def_session.specs.Session.{effects_in, evaluated_by, marks_frame}
 use Rattle.def_explain.specs.Reasons.{Reason}
-use Rattle.def_explain.specs.Verdicts.{Verdict, fails, fires, verdict_of, outcome_after, outcome_by_verdicts}
-use Rattle.def_explain.specs.Accounts.{Line, said, lines_by, clause_lines, setting_lines}
+use Rattle.def_explain.specs.Verdicts.{fails, fires, verdict_of, outcome_after, outcome_by_verdicts}
+use Rattle.def_explain.specs.Accounts.{Line, said, lines_by, clause_lines}
 use Rattle.def_explain.proofs.ClauseVerdicts.{outcome_is_by_verdicts}
 use Rattle.tn_spec.specs.Views.{clause_seen}
 use Rattle.tn_spec.specs.declared.spec.Clause.{Clause}
-use Rattle.tn_lines.specs.Evaluations.{Gives, GivesBySetting}
+use Rattle.tn_lines.specs.Evaluations.{GivesBySetting}
 use Rattle.tn_lines.specs.Parts.{failing_lines, firing_lines}
 use Rattle.tn_lines.specs.Lines.{lines_text}
 use Rattle.tn_lines.specs.declared.clauses.Evaluation.{Evaluation}

@@ -1,6 +1,5 @@
 -- What a session makes of an event, of its lines that were appended piece by piece.
-use Rattle.std.proofs.Common.{◌≡◌, ◌∙◌, ℕ, Bool, true, false, List, [], ◌∷◌, ◌++◌, Option, Some, None, is_some, refl, sym, ap, subst}
-use Rattle.std.specs.Option.{option_map}
+use Rattle.std.proofs.Common.{◌≡◌, ◌∙◌, ℕ, Bool, true, false, List, [], ◌++◌, Option, Some, None, is_some, sym, ap, subst}
 use Rattle.def_term.specs.Tree.{Tree}
 use Rattle.def_term.specs.Names as names
 use Rattle.def_spec.specs.Flags.{Flags}

@@ -1,5 +1,5 @@
 -- The text of lines, piece by piece and one behind another.
-use Rattle.std.proofs.Common.{◌⊎◌, inl, inr, ◌≡◌, ◌∙◌, ℕ, suc, List, [], ◌∷◌, ◌++◌, codes, decimal, refl, sym, ap, append_assoc, append-nil}
+use Rattle.std.proofs.Common.{◌⊎◌, inl, inr, ◌≡◌, ◌∙◌, ℕ, List, [], ◌∷◌, ◌++◌, refl, sym, ap, append_assoc, append-nil}
 use Rattle.std.specs.Prelude.{Result, Ok, Err, OnOk}
 use Rattle.tn_text.specs.Writes.{Grows}
 use Rattle.def_term.specs.Names.{Name}

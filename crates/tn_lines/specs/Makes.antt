@@ -1,5 +1,5 @@
 -- What a session makes of an event, as a text and in its state.
-use Rattle.std.specs.Prelude.{◌≡◌, ℕ, Bool, List, ◌++◌, Option, Some, None}
+use Rattle.std.specs.Prelude.{◌≡◌, ℕ, Bool, List, ◌++◌, Option}
 use Rattle.std.specs.Option.{option_map}
 use Rattle.def_term.specs.Names as names
 use Rattle.def_node.specs.Event.{Event}

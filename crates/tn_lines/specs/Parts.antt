@@ -1,11 +1,10 @@
 -- The lines of an event by when they are known: before the session sees the event, and afterwards.
-use Rattle.std.specs.Prelude.{ℕ, suc, Bool, true, false, if◌then◌else◌, List, [], ◌∷◌, ◌++◌, Option, Some, None, codes}
-use Rattle.std.specs.Option.{option_map}
+use Rattle.std.specs.Prelude.{ℕ, Bool, true, false, if◌then◌else◌, List, [], ◌∷◌, ◌++◌, Option, Some, None, codes}
 use Rattle.def_term.specs.Tree.{Tree}
 use Rattle.def_term.specs.Names.{Mfa}
 use Rattle.def_spec.specs.Flags.{Flags, flags_by_name}
 use Rattle.def_spec.specs.Expressions.{Effect}
-use Rattle.def_node.specs.Event.{Event, called, returned, spawned, getting_linked}
+use Rattle.def_node.specs.Event.{Event, spawned, getting_linked}
 use Rattle.def_session.specs.State.{Session}
 use Rattle.def_session.specs.Session.{evaluated}
 use Rattle.def_explain.specs.Reasons.{Reason}

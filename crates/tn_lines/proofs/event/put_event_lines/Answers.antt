@@ -18,14 +18,14 @@ pub returns-in-Some-both_of-clause-ok : goal.returns-in-Some-both_of-clause-ok
 returns-in-Some-both_of-clause-ok g c =
     on_ok c.put_inheriting.result _ _
     (λ made. λ fs s h. made fs s h
-        (is_in_phase s.phase (ap (λ x. is_live x.phase) (sym (c.in-Some.ensures.state fs s h)) ∙ sym c.is_live.ensures ∙ c.if-not-is_live.false))
-        (sym c.both_of.ensures ∙ c.in-Some-both_of.is))
+    (is_in_phase s.phase (ap (λ x. is_live x.phase) (sym (c.in-Some.ensures.state fs s h)) ∙ sym c.is_live.ensures ∙ c.if-not-is_live.false))
+    (sym c.both_of.ensures ∙ c.in-Some-both_of.is))
     c.put_inheriting.ensures.ok
 
 pub returns-in-None-clause-ok : goal.returns-in-None-clause-ok
 returns-in-None-clause-ok g c =
     on_ok c.put_evaluated.result _ _
     (λ made. λ fs s h. made fs s h
-        (is_in_phase s.phase (ap (λ x. is_live x.phase) (sym (c.in-Some.ensures.state fs s h)) ∙ sym c.is_live.ensures ∙ c.if-not-is_live.false))
-        (sym c.both_of.ensures ∙ c.in-None.is))
+    (is_in_phase s.phase (ap (λ x. is_live x.phase) (sym (c.in-Some.ensures.state fs s h)) ∙ sym c.is_live.ensures ∙ c.if-not-is_live.false))
+    (sym c.both_of.ensures ∙ c.in-None.is))
     c.put_evaluated.ensures.ok

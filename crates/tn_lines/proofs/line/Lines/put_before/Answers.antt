@@ -1,4 +1,4 @@
-use Rattle.std.proofs.Common.{◌≡◌, [], codes, refl, sym, ap, subst}
+use Rattle.std.proofs.Common.{codes, refl, sym, ap, subst}
 use Rattle.std.specs.Prelude.{IfOk}
 use Rattle.std.proofs.lemmas.Result.{IfOk-weaker}
 use Rattle.def_spec.specs.Flags.{procs_flag}
@@ -39,24 +39,24 @@ returns-in-Spawn-clause-ok g c =
     let b = c.flags_at.result.procs in
     by_seven (IfOk r (λ z. GivesOf n s (event_of c.args.event.now) o x z))
     (λ y. subst (λ e. IfOk r (λ z. GivesOf n s (event_of e) o x z)) (sym y.3)
-        (IfOk-weaker r (GivesWhere n b (codes "no flag procs") o x) (GivesOf n s (event_of {A = g.row.A.Denot} (Spawn c.in-Spawn.pid y.0 y.1 y.2)) o x)
-        (λ z h. plainly_so n s (event_of {A = g.row.A.Denot} (Spawn c.in-Spawn.pid y.0 y.1 y.2)) o x z b (codes "no flag procs") (refl, refl) refl (ap (λ f. f procs_flag) c.flags_at.ensures) no_procs h) c.put_where.ensures.ok))
+    (IfOk-weaker r (GivesWhere n b (codes "no flag procs") o x) (GivesOf n s (event_of {A = g.row.A.Denot} (Spawn c.in-Spawn.pid y.0 y.1 y.2)) o x)
+    (λ z h. plainly_so n s (event_of {A = g.row.A.Denot} (Spawn c.in-Spawn.pid y.0 y.1 y.2)) o x z b (codes "no flag procs") (refl, refl) refl (ap (λ f. f procs_flag) c.flags_at.ensures) no_procs h) c.put_where.ensures.ok))
     (λ y. subst (λ e. IfOk r (λ z. GivesOf n s (event_of e) o x z)) (sym y.3)
-        (IfOk-weaker r (GivesWhere n b (codes "no flag procs") o x) (GivesOf n s (event_of {A = g.row.A.Denot} (Spawned c.in-Spawn.pid y.0 y.1 y.2)) o x)
-        (λ z h. plainly_so n s (event_of {A = g.row.A.Denot} (Spawned c.in-Spawn.pid y.0 y.1 y.2)) o x z b (codes "no flag procs") (refl, refl) refl (ap (λ f. f procs_flag) c.flags_at.ensures) no_procs h) c.put_where.ensures.ok))
+    (IfOk-weaker r (GivesWhere n b (codes "no flag procs") o x) (GivesOf n s (event_of {A = g.row.A.Denot} (Spawned c.in-Spawn.pid y.0 y.1 y.2)) o x)
+    (λ z h. plainly_so n s (event_of {A = g.row.A.Denot} (Spawned c.in-Spawn.pid y.0 y.1 y.2)) o x z b (codes "no flag procs") (refl, refl) refl (ap (λ f. f procs_flag) c.flags_at.ensures) no_procs h) c.put_where.ensures.ok))
     (λ y. subst (λ e. IfOk r (λ z. GivesOf n s (event_of e) o x z)) (sym y.1)
-        (IfOk-weaker r (GivesWhere n b (codes "no flag procs") o x) (GivesOf n s (event_of {A = g.row.A.Denot} (Exited c.in-Spawn.pid y.0)) o x)
-        (λ z h. plainly_so n s (event_of {A = g.row.A.Denot} (Exited c.in-Spawn.pid y.0)) o x z b (codes "no flag procs") (refl, refl) refl (ap (λ f. f procs_flag) c.flags_at.ensures) no_procs h) c.put_where.ensures.ok))
+    (IfOk-weaker r (GivesWhere n b (codes "no flag procs") o x) (GivesOf n s (event_of {A = g.row.A.Denot} (Exited c.in-Spawn.pid y.0)) o x)
+    (λ z h. plainly_so n s (event_of {A = g.row.A.Denot} (Exited c.in-Spawn.pid y.0)) o x z b (codes "no flag procs") (refl, refl) refl (ap (λ f. f procs_flag) c.flags_at.ensures) no_procs h) c.put_where.ensures.ok))
     (λ y. subst (λ e. IfOk r (λ z. GivesOf n s (event_of e) o x z)) (sym y.1)
-        (IfOk-weaker r (GivesWhere n b (codes "no flag procs") o x) (GivesOf n s (event_of {A = g.row.A.Denot} (Linked c.in-Spawn.pid y.0)) o x)
-        (λ z h. plainly_so n s (event_of {A = g.row.A.Denot} (Linked c.in-Spawn.pid y.0)) o x z b (codes "no flag procs") (refl, refl) refl (ap (λ f. f procs_flag) c.flags_at.ensures) no_procs h) c.put_where.ensures.ok))
+    (IfOk-weaker r (GivesWhere n b (codes "no flag procs") o x) (GivesOf n s (event_of {A = g.row.A.Denot} (Linked c.in-Spawn.pid y.0)) o x)
+    (λ z h. plainly_so n s (event_of {A = g.row.A.Denot} (Linked c.in-Spawn.pid y.0)) o x z b (codes "no flag procs") (refl, refl) refl (ap (λ f. f procs_flag) c.flags_at.ensures) no_procs h) c.put_where.ensures.ok))
     (λ y. subst (λ e. IfOk r (λ z. GivesOf n s (event_of e) o x z)) (sym y.1)
-        (IfOk-weaker r (GivesWhere n b (codes "no flag procs") o x) (GivesOf n s (event_of {A = g.row.A.Denot} (Unlinked c.in-Spawn.pid y.0)) o x)
-        (λ z h. plainly_so n s (event_of {A = g.row.A.Denot} (Unlinked c.in-Spawn.pid y.0)) o x z b (codes "no flag procs") (refl, refl) refl (ap (λ f. f procs_flag) c.flags_at.ensures) no_procs h) c.put_where.ensures.ok))
+    (IfOk-weaker r (GivesWhere n b (codes "no flag procs") o x) (GivesOf n s (event_of {A = g.row.A.Denot} (Unlinked c.in-Spawn.pid y.0)) o x)
+    (λ z h. plainly_so n s (event_of {A = g.row.A.Denot} (Unlinked c.in-Spawn.pid y.0)) o x z b (codes "no flag procs") (refl, refl) refl (ap (λ f. f procs_flag) c.flags_at.ensures) no_procs h) c.put_where.ensures.ok))
     (λ y. subst (λ e. IfOk r (λ z. GivesOf n s (event_of e) o x z)) (sym y.1)
-        (IfOk-weaker r (GivesWhere n b (codes "no flag procs") o x) (GivesOf n s (event_of {A = g.row.A.Denot} (GettingLinked c.in-Spawn.pid y.0)) o x)
-        (λ z h. plainly_so n s (event_of {A = g.row.A.Denot} (GettingLinked c.in-Spawn.pid y.0)) o x z b (codes "no flag procs") (refl, refl) refl (ap (λ f. f procs_flag) c.flags_at.ensures) no_procs h) c.put_where.ensures.ok))
+    (IfOk-weaker r (GivesWhere n b (codes "no flag procs") o x) (GivesOf n s (event_of {A = g.row.A.Denot} (GettingLinked c.in-Spawn.pid y.0)) o x)
+    (λ z h. plainly_so n s (event_of {A = g.row.A.Denot} (GettingLinked c.in-Spawn.pid y.0)) o x z b (codes "no flag procs") (refl, refl) refl (ap (λ f. f procs_flag) c.flags_at.ensures) no_procs h) c.put_where.ensures.ok))
     (λ y. subst (λ e. IfOk r (λ z. GivesOf n s (event_of e) o x z)) (sym y.1)
-        (IfOk-weaker r (GivesWhere n b (codes "no flag procs") o x) (GivesOf n s (event_of {A = g.row.A.Denot} (GettingUnlinked c.in-Spawn.pid y.0)) o x)
-        (λ z h. plainly_so n s (event_of {A = g.row.A.Denot} (GettingUnlinked c.in-Spawn.pid y.0)) o x z b (codes "no flag procs") (refl, refl) refl (ap (λ f. f procs_flag) c.flags_at.ensures) no_procs h) c.put_where.ensures.ok))
+    (IfOk-weaker r (GivesWhere n b (codes "no flag procs") o x) (GivesOf n s (event_of {A = g.row.A.Denot} (GettingUnlinked c.in-Spawn.pid y.0)) o x)
+    (λ z h. plainly_so n s (event_of {A = g.row.A.Denot} (GettingUnlinked c.in-Spawn.pid y.0)) o x z b (codes "no flag procs") (refl, refl) refl (ap (λ f. f procs_flag) c.flags_at.ensures) no_procs h) c.put_where.ensures.ok))
     c.in-Spawn.is

@@ -1,4 +1,4 @@
-use Rattle.std.proofs.Common.{◌≡◌, [], sym, ap}
+use Rattle.std.proofs.Common.{[], sym, ap}
 use Rattle.tn_flags.specs.Views.{event_of}
 use Rattle.tn_session.specs.Looks.{look_seen}
 use Rattle.tn_lines.specs.Lines.{Puts}

@@ -1,4 +1,4 @@
-use Rattle.std.proofs.Common.{◌≡◌, ◌∙◌, ◌∷◌, [], Some, None, false, codes, map, refl, sym, ap}
+use Rattle.std.proofs.Common.{◌∙◌, None, false, codes, map, refl, sym, ap}
 use Rattle.std.proofs.lemmas.Result.{IfOk-weaker}
 use Rattle.std.specs.Option.{option_map}
 use Rattle.def_spec.specs.Flags.{call_flag}

@@ -1,4 +1,4 @@
-use Rattle.std.proofs.Common.{◌≡◌, ◌∙◌, ◌++◌, [], sym, ap, subst}
+use Rattle.std.proofs.Common.{◌∙◌, ◌++◌, [], ap, subst}
 use Rattle.std.specs.Option.{option_map}
 use Rattle.tn_flags.specs.Views.{event_of}
 use Rattle.tn_session.specs.Looks.{look_seen}
@@ -19,13 +19,13 @@ returns-clause-ok g c =
     let end = c.put_behind.new.out.items in
     on_ok c.put_text.result _ _
     (λ made. λ fs s h phase none.
-        let says = c.in_ok-message.ensures.told fs s h in
-        let same = c.in-Some.ensures.state fs s h in
-        evaluated_made fs s e n c.tell.new.self says.after (option_map message_seen c.in_ok-message.message) says.told says.state r o c.put_before.new.out.items c.put_told.new.out.items _ end phase none
-        (subst (λ x. GivesOf n x e o c.put_before.new.out.items r) same c.in_ok-evaluation.ensures.ok)
-        (subst (λ x. Puts n (lines_behind x e) [] end) same (subst (λ v. Puts n (lines_behind (look_seen c.in-Some.look) e) v end) c.new-behind.ensures.items (c.in_ok-put_behind.ensures.ok c.in_ok-evaluation.ensures.ok.effects)))
-        (c.in_ok-put_told.ensures.ok fs says.after says.state)
-        (made ∙ ap (λ x. c.put_told.new.out.items ++ x) c.deref.ensures.value))
+    let says = c.in_ok-message.ensures.told fs s h in
+    let same = c.in-Some.ensures.state fs s h in
+    evaluated_made fs s e n c.tell.new.self says.after (option_map message_seen c.in_ok-message.message) says.told says.state r o c.put_before.new.out.items c.put_told.new.out.items _ end phase none
+    (subst (λ x. GivesOf n x e o c.put_before.new.out.items r) same c.in_ok-evaluation.ensures.ok)
+    (subst (λ x. Puts n (lines_behind x e) [] end) same (subst (λ v. Puts n (lines_behind (look_seen c.in-Some.look) e) v end) c.new-behind.ensures.items (c.in_ok-put_behind.ensures.ok c.in_ok-evaluation.ensures.ok.effects)))
+    (c.in_ok-put_told.ensures.ok fs says.after says.state)
+    (made ∙ ap (λ x. c.put_told.new.out.items ++ x) c.deref.ensures.value))
     c.put_text.ensures.ok
 
 pub returns-clause-grows : goal.returns-clause-grows

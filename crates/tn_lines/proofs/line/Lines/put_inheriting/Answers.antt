@@ -1,7 +1,7 @@
 use Rattle.std.proofs.Common.{◌∙◌, sym, ap}
 use Rattle.std.specs.Option.{option_map}
 use Rattle.def_session.specs.State.{flags_at}
-use Rattle.tn_flags.specs.Views.{event_of, flags_of}
+use Rattle.tn_flags.specs.Views.{event_of}
 use Rattle.tn_session.specs.Messages.{message_seen}
 use Rattle.tn_lines.specs.Parts.{told_or_no_flag}
 use Rattle.tn_lines.proofs.Made.{inherited_made, flags_changed}
@@ -15,13 +15,13 @@ returns-in-Some-message-clause-ok g c =
     let taker = c.args.taker in
     on_ok c.tell-in-Some-message.result _ _
     (λ made. λ fs s h phase both.
-        let says = c.in_ok-message.ensures.told fs s h in
-        let before = c.in-Some.ensures.state fs s h in
-        let behind = c.in-Some-look.ensures.state fs says.after says.state in
-        inherited_made fs s (event_of c.args.event.now) n c.tell.new.self says.after (option_map message_seen c.in_ok-message.message) says.told says.state giver taker _ _ _ _ phase both
-        (other n _ _ _ _ (flags_changed giver _ (flags_at s giver) _ (flags_at says.after giver) (c.flags_at-given_by.ensures ∙ ap (λ x. flags_at x giver) before) (c.flags_at.ensures ∙ ap (λ x. flags_at x giver) behind)) c.in_ok-put_changed.ensures.ok)
-        (other n _ _ _ _ (flags_changed taker _ (flags_at s taker) _ (flags_at says.after taker) (c.flags_at-had.ensures ∙ ap (λ x. flags_at x taker) before) (c.flags_at-2.ensures ∙ ap (λ x. flags_at x taker) behind)) c.in_ok-put_changed-2.ensures.ok)
-        (other n _ _ _ _ (sym (ap (λ x. told_or_no_flag (option_map message_seen x)) c.in-Some-message.is)) made))
+    let says = c.in_ok-message.ensures.told fs s h in
+    let before = c.in-Some.ensures.state fs s h in
+    let behind = c.in-Some-look.ensures.state fs says.after says.state in
+    inherited_made fs s (event_of c.args.event.now) n c.tell.new.self says.after (option_map message_seen c.in_ok-message.message) says.told says.state giver taker _ _ _ _ phase both
+    (other n _ _ _ _ (flags_changed giver _ (flags_at s giver) _ (flags_at says.after giver) (c.flags_at-given_by.ensures ∙ ap (λ x. flags_at x giver) before) (c.flags_at.ensures ∙ ap (λ x. flags_at x giver) behind)) c.in_ok-put_changed.ensures.ok)
+    (other n _ _ _ _ (flags_changed taker _ (flags_at s taker) _ (flags_at says.after taker) (c.flags_at-had.ensures ∙ ap (λ x. flags_at x taker) before) (c.flags_at-2.ensures ∙ ap (λ x. flags_at x taker) behind)) c.in_ok-put_changed-2.ensures.ok)
+    (other n _ _ _ _ (sym (ap (λ x. told_or_no_flag (option_map message_seen x)) c.in-Some-message.is)) made))
     c.tell-in-Some-message.ensures.ok
 
 pub returns-in-None-clause-ok : goal.returns-in-None-clause-ok
@@ -31,11 +31,11 @@ returns-in-None-clause-ok g c =
     let taker = c.args.taker in
     on_ok c.say.result _ _
     (λ made. λ fs s h phase both.
-        let says = c.in_ok-message.ensures.told fs s h in
-        let before = c.in-Some.ensures.state fs s h in
-        let behind = c.in-Some-look.ensures.state fs says.after says.state in
-        inherited_made fs s (event_of c.args.event.now) n c.tell.new.self says.after (option_map message_seen c.in_ok-message.message) says.told says.state giver taker _ _ _ _ phase both
-        (other n _ _ _ _ (flags_changed giver _ (flags_at s giver) _ (flags_at says.after giver) (c.flags_at-given_by.ensures ∙ ap (λ x. flags_at x giver) before) (c.flags_at.ensures ∙ ap (λ x. flags_at x giver) behind)) c.in_ok-put_changed.ensures.ok)
-        (other n _ _ _ _ (flags_changed taker _ (flags_at s taker) _ (flags_at says.after taker) (c.flags_at-had.ensures ∙ ap (λ x. flags_at x taker) before) (c.flags_at-2.ensures ∙ ap (λ x. flags_at x taker) behind)) c.in_ok-put_changed-2.ensures.ok)
-        (other n _ _ _ _ (sym (ap (λ x. told_or_no_flag (option_map message_seen x)) c.in-None.is)) made))
+    let says = c.in_ok-message.ensures.told fs s h in
+    let before = c.in-Some.ensures.state fs s h in
+    let behind = c.in-Some-look.ensures.state fs says.after says.state in
+    inherited_made fs s (event_of c.args.event.now) n c.tell.new.self says.after (option_map message_seen c.in_ok-message.message) says.told says.state giver taker _ _ _ _ phase both
+    (other n _ _ _ _ (flags_changed giver _ (flags_at s giver) _ (flags_at says.after giver) (c.flags_at-given_by.ensures ∙ ap (λ x. flags_at x giver) before) (c.flags_at.ensures ∙ ap (λ x. flags_at x giver) behind)) c.in_ok-put_changed.ensures.ok)
+    (other n _ _ _ _ (flags_changed taker _ (flags_at s taker) _ (flags_at says.after taker) (c.flags_at-had.ensures ∙ ap (λ x. flags_at x taker) before) (c.flags_at-2.ensures ∙ ap (λ x. flags_at x taker) behind)) c.in_ok-put_changed-2.ensures.ok)
+    (other n _ _ _ _ (sym (ap (λ x. told_or_no_flag (option_map message_seen x)) c.in-None.is)) made))
     c.say.ensures.ok

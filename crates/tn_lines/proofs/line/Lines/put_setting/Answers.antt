@@ -1,5 +1,4 @@
 use Rattle.std.proofs.Common.{sym, ap, subst}
-use Rattle.def_session.specs.Settings.{off, plain}
 use Rattle.tn_action.specs.Views.{context_seen}
 use Rattle.tn_session.specs.Looks.{lent_seen}
 use Rattle.tn_lines.specs.Evaluations.{GivesBySetting}

@@ -1,4 +1,4 @@
-use Rattle.std.proofs.Common.{◌≡◌, ◌∙◌, ◌∷◌, [], codes, Bool, true, false, None, sym, ap}
+use Rattle.std.proofs.Common.{◌∙◌, ◌∷◌, [], codes, true, false, sym, ap}
 use Rattle.std.specs.Option.{option_map}
 use Rattle.def_session.specs.Session.{is_silenced}
 use Rattle.def_explain.specs.Accounts.{said}
@@ -24,8 +24,8 @@ returns-then-is_silenced-clause-ok g c =
     let e = event_of c.args.event.now in
     on_ok c.say.result _ _
     (λ made. λ fs s h. other n (said (codes "silent") ∷ []) _ _ _
-        (sym (told_none (is_done c.args.evaluation) (is_silenced s e) true (option_map message_seen c.args.message.now) (ap is_done c.in-Done.is)
-        (ap (λ x. is_silenced x e) (sym (c.in-Some-look.ensures.state fs s h)) ∙ sym c.is_silenced.ensures ∙ c.if-is_silenced.true) (ap (option_map message_seen) c.in_default-message.is))) made)
+    (sym (told_none (is_done c.args.evaluation) (is_silenced s e) true (option_map message_seen c.args.message.now) (ap is_done c.in-Done.is)
+    (ap (λ x. is_silenced x e) (sym (c.in-Some-look.ensures.state fs s h)) ∙ sym c.is_silenced.ensures ∙ c.if-is_silenced.true) (ap (option_map message_seen) c.in_default-message.is))) made)
     c.say.ensures.ok
 
 pub returns-else-is_silenced-clause-ok : goal.returns-else-is_silenced-clause-ok
@@ -34,6 +34,6 @@ returns-else-is_silenced-clause-ok g c =
     let e = event_of c.args.event.now in
     on_ok c.say-else-is_silenced.result _ _
     (λ made. λ fs s h. other n (said (codes "message false") ∷ []) _ _ _
-        (sym (told_none (is_done c.args.evaluation) (is_silenced s e) false (option_map message_seen c.args.message.now) (ap is_done c.in-Done.is)
-        (ap (λ x. is_silenced x e) (sym (c.in-Some-look.ensures.state fs s h)) ∙ sym c.is_silenced.ensures ∙ c.if-is_silenced.false) (ap (option_map message_seen) c.in_default-message.is))) made)
+    (sym (told_none (is_done c.args.evaluation) (is_silenced s e) false (option_map message_seen c.args.message.now) (ap is_done c.in-Done.is)
+    (ap (λ x. is_silenced x e) (sym (c.in-Some-look.ensures.state fs s h)) ∙ sym c.is_silenced.ensures ∙ c.if-is_silenced.false) (ap (option_map message_seen) c.in_default-message.is))) made)
     c.say-else-is_silenced.ensures.ok

@@ -1,4 +1,3 @@
-use Rattle.std.proofs.Common.{◌≡◌}
 use Rattle.def_explain.specs.Accounts.{said}
 use Rattle.tn_lines.proofs.Texts.{line}
 use Rattle.tn_lines.proofs.line.Lines.say.Goals as goal
