@@ -1,0 +1,118 @@
+-- The texts of what a move shows, piece by piece.
+use Rattle.std.proofs.Common.{◌≡◌, ◌∙◌, ℕ, ◌+◌, ◌<◌, List, [], ◌∷◌, ◌++◌, map, length, drop, get_or, flat_map, refl, sym, ap, subst, append-nil, append_assoc, codes, decimal}
+use Rattle.std.proofs.lemmas.List.{drop_more}
+use Rattle.std.specs.declared.vec.Vec.{Vec}
+use Rattle.def_term.specs.Tree.{Tree, int, atom, pid, tuple, list, Trees, none, more, elements, of_elements}
+use Rattle.def_term.specs.Names.{Name, word}
+use Rattle.def_term.specs.Text.{w, is_written_bare, atom_text, each_after_comma}
+use Rattle.def_script.specs.Program.{create, destroy, set_processes, set_function, set_send, set_receive}
+use Rattle.def_account.specs.Texts.{command_term, behind_first}
+use Rattle.tn_term.specs.Views.{tree_of}
+use Rattle.tn_term.proofs.Views.{tree_of_int, tree_of_atom, tree_of_pid, tree_of_tuple, tree_of_list, elements-of_elements}
+use Rattle.tn_term.specs.declared.term.Term.{Term, Int, Atom, Pid, Tuple, List as ListOf}
+use Rattle.tn_account.proofs.Texts.{twice}
+
+-- a tuple that begins with a word and a name
+named : (name text s : List ℕ) (rest : Trees) → atom_text name ≡ text → w (tuple (more (atom name) (more (atom s) rest))) ≡ (123 ∷ (text ++ 44 ∷ atom_text s)) ++ (each_after_comma rest ++ 125 ∷ [])
+named name text s rest h =
+    ap (λ z. 123 ∷ ((z ++ 44 ∷ (atom_text s ++ each_after_comma rest)) ++ 125 ∷ [])) h
+    ∙ ap (λ z. 123 ∷ z) (simp append_assoc)
+
+three_closed : (a b c : Tree) → each_after_comma (more a (more b (more c none))) ++ 125 ∷ [] ≡ 44 ∷ w a ++ 44 ∷ w b ++ 44 ∷ w c ++ 125 ∷ []
+three_closed a b c = simp (append_assoc, append-nil)
+
+one_closed : (a : Tree) → each_after_comma (more a none) ++ 125 ∷ [] ≡ 44 ∷ w a ++ 125 ∷ []
+one_closed a = ap (λ z. 44 ∷ (z ++ 125 ∷ [])) (append-nil (w a))
+
+create_word : atom_text (codes "session_create") ≡ codes "session_create"
+unfolding is_written_bare
+create_word = refl
+
+destroy_word : atom_text (codes "session_destroy") ≡ codes "session_destroy"
+unfolding is_written_bare
+destroy_word = refl
+
+process_word : atom_text (codes "process") ≡ codes "process"
+unfolding is_written_bare
+process_word = refl
+
+function_word : atom_text (codes "function") ≡ codes "function"
+unfolding is_written_bare
+function_word = refl
+
+send_word : atom_text (codes "send") ≡ codes "send"
+unfolding is_written_bare
+send_word = refl
+
+receive_word : atom_text (codes "receive") ≡ codes "'receive'"
+unfolding is_written_bare
+receive_word = refl
+
+create_closed : (t : Name) → each_after_comma (more (atom t) (more (list none) none)) ++ 125 ∷ [] ≡ (codes "," ++ atom_text t) ++ codes ",[]}"
+create_closed t = ap (λ z. 44 ∷ z) (append_assoc (atom_text t) (codes ",[]") (codes "}"))
+
+pub created : (s t : Name) (o b c d : List ℕ) → b ≡ o ++ (codes " {session_create," ++ atom_text s) → c ≡ b ++ (codes "," ++ atom_text t) → d ≡ c ++ codes ",[]}" → d ≡ o ++ 32 ∷ w (command_term (create s t))
+created s t o b c d first second third =
+    twice o (codes " {session_create," ++ atom_text s) (each_after_comma (more (atom t) (more (list none) none)) ++ 125 ∷ []) (32 ∷ w (command_term (create s t))) b d first
+    (twice b (codes "," ++ atom_text t) (codes ",[]}") (each_after_comma (more (atom t) (more (list none) none)) ++ 125 ∷ []) c d second third (create_closed t))
+    (ap (λ z. 32 ∷ z) (named (codes "session_create") (codes "session_create") s (more (atom t) (more (list none) none)) create_word))
+
+pub destroyed : (s : Name) (o b c : List ℕ) → b ≡ o ++ (codes " {session_destroy," ++ atom_text s) → c ≡ b ++ codes "}" → c ≡ o ++ 32 ∷ w (command_term (destroy s))
+destroyed s o b c first second =
+    twice o (codes " {session_destroy," ++ atom_text s) (codes "}") (32 ∷ w (command_term (destroy s))) b c first second (ap (λ z. 32 ∷ z) (named (codes "session_destroy") (codes "session_destroy") s none destroy_word))
+
+pub processes_set : (s : Name) (x y z : Tree) (o b c : List ℕ) → b ≡ o ++ (codes " {process," ++ atom_text s) → c ≡ b ++ (44 ∷ w x ++ 44 ∷ w y ++ 44 ∷ w z ++ 125 ∷ []) → c ≡ o ++ 32 ∷ w (command_term (set_processes s x y z))
+processes_set s x y z o b c first second =
+    twice o (codes " {process," ++ atom_text s) (44 ∷ w x ++ 44 ∷ w y ++ 44 ∷ w z ++ 125 ∷ []) (32 ∷ w (command_term (set_processes s x y z))) b c first second
+    (ap (λ v. 32 ∷ v) (named (codes "process") (codes "process") s (more x (more y (more z none))) process_word) ∙ ap (λ v. (codes " {process," ++ atom_text s) ++ v) (three_closed x y z))
+
+pub function_set : (s : Name) (x y z : Tree) (o b c : List ℕ) → b ≡ o ++ (codes " {function," ++ atom_text s) → c ≡ b ++ (44 ∷ w x ++ 44 ∷ w y ++ 44 ∷ w z ++ 125 ∷ []) → c ≡ o ++ 32 ∷ w (command_term (set_function s x y z))
+function_set s x y z o b c first second =
+    twice o (codes " {function," ++ atom_text s) (44 ∷ w x ++ 44 ∷ w y ++ 44 ∷ w z ++ 125 ∷ []) (32 ∷ w (command_term (set_function s x y z))) b c first second
+    (ap (λ v. 32 ∷ v) (named (codes "function") (codes "function") s (more x (more y (more z none))) function_word) ∙ ap (λ v. (codes " {function," ++ atom_text s) ++ v) (three_closed x y z))
+
+pub send_set : (s : Name) (x : Tree) (o b c : List ℕ) → b ≡ o ++ (codes " {send," ++ atom_text s) → c ≡ b ++ (44 ∷ w x ++ 125 ∷ []) → c ≡ o ++ 32 ∷ w (command_term (set_send s x))
+send_set s x o b c first second =
+    twice o (codes " {send," ++ atom_text s) (44 ∷ w x ++ 125 ∷ []) (32 ∷ w (command_term (set_send s x))) b c first second
+    (ap (λ v. 32 ∷ v) (named (codes "send") (codes "send") s (more x none) send_word) ∙ ap (λ v. (codes " {send," ++ atom_text s) ++ v) (one_closed x))
+
+pub receive_set : (s : Name) (x : Tree) (o b c : List ℕ) → b ≡ o ++ (codes " {'receive'," ++ atom_text s) → c ≡ b ++ (44 ∷ w x ++ 125 ∷ []) → c ≡ o ++ 32 ∷ w (command_term (set_receive s x))
+receive_set s x o b c first second =
+    twice o (codes " {'receive'," ++ atom_text s) (44 ∷ w x ++ 125 ∷ []) (32 ∷ w (command_term (set_receive s x))) b c first second
+    (ap (λ v. 32 ∷ v) (named (codes "receive") (codes "'receive'") s (more x none) receive_word) ∙ ap (λ v. (codes " {'receive'," ++ atom_text s) ++ v) (one_closed x))
+
+-- ---- the elements of an event's message
+
+elements_in : Tree → List Tree
+elements_in (int n) = []
+elements_in (atom s) = []
+elements_in (pid n) = []
+elements_in (tuple ts) = elements ts
+elements_in (list ts) = []
+
+-- the terms of the tuple are the elements
+pub terms_are : {A : Type 0} (v : Vec (Term A) A) (ts : List Tree) → tree_of (Tuple v) ≡ tuple (of_elements (ts ++ [])) → map tree_of v.items ≡ ts
+unfolding elements_in
+terms_are v ts h = sym (elements-of_elements (map tree_of v.items)) ∙ ap elements_in (sym (tree_of_tuple v) ∙ h) ∙ elements-of_elements (ts ++ []) ∙ append-nil ts
+
+-- it is a tuple
+pub is_a_tuple : {A X : Type 0} (t : Term A) (ts : Trees) → tree_of t ≡ tuple ts → ((v : Vec (Term A) A) → t ≡ Tuple v → ⊥) → X
+is_a_tuple {A} {X} (Int n) ts h other = let e = tree_of_int A n in cc
+is_a_tuple {A} {X} (Atom s) ts h other = let e = tree_of_atom A s in cc
+is_a_tuple {A} {X} (Pid n) ts h other = let e = tree_of_pid A n in cc
+is_a_tuple {A} {X} (Tuple v) ts h other = absurd (other v refl)
+is_a_tuple {A} {X} (ListOf v) ts h other = let e = tree_of_list v in cc
+
+-- ---- elements behind the first
+
+abbrev pub each_behind : List Tree → List ℕ
+each_behind ts = flat_map (λ t. 32 ∷ w t) ts
+
+pub next_element : {A : Type 0} (xs : List (Term A)) (i : ℕ) (x : Term A) (now after whole : List ℕ) → i < length xs → x ≡ get_or xs i x → now ++ each_behind (map tree_of (drop i xs)) ≡ whole → after ≡ now ++ 32 ∷ w (tree_of x)
+    → after ++ each_behind (map tree_of (drop (i + 1) xs)) ≡ whole
+next_element xs i x now after whole below is so_far made =
+    ap (λ l. l ++ each_behind (map tree_of (drop (i + 1) xs))) made
+    ∙ append_assoc now (32 ∷ w (tree_of x)) (each_behind (map tree_of (drop (i + 1) xs)))
+    ∙ ap (λ y. now ++ ((32 ∷ w (tree_of y)) ++ each_behind (map tree_of (drop (i + 1) xs)))) is
+    ∙ ap (λ ys. now ++ each_behind (map tree_of ys)) (sym (drop_more xs i x below))
+    ∙ so_far
