@@ -18,8 +18,8 @@ command_term (create s t) = tuple (more (word "session_create") (more (atom s) (
 command_term (destroy s) = tuple (more (word "session_destroy") (more (atom s) none))
 command_term (set_processes s procs how flags) = tuple (more (word "process") (more (atom s) (more procs (more how (more flags none)))))
 command_term (set_function s mfa spec options) = tuple (more (word "function") (more (atom s) (more mfa (more spec (more options none)))))
-command_term (set_send s spec) = tuple (more (word "send") (more (atom s) (more spec none)))
-command_term (set_receive s spec) = tuple (more (word "receive") (more (atom s) (more spec none)))
+command_term (set_send s spec) = tuple (more (word "send") (more (atom s) (more spec (more (list none) none))))
+command_term (set_receive s spec) = tuple (more (word "recv") (more (atom s) (more spec (more (list none) none))))
 
 -- the elements behind the first, each behind a blank
 abbrev pub behind_first : List Tree → List ℕ

@@ -21,8 +21,8 @@ named name text s rest h =
 three_closed : (a b c : Tree) → each_after_comma (more a (more b (more c none))) ++ 125 ∷ [] ≡ 44 ∷ w a ++ 44 ∷ w b ++ 44 ∷ w c ++ 125 ∷ []
 three_closed a b c = simp (append_assoc, append-nil)
 
-one_closed : (a : Tree) → each_after_comma (more a none) ++ 125 ∷ [] ≡ 44 ∷ w a ++ 125 ∷ []
-one_closed a = ap (λ z. 44 ∷ (z ++ 125 ∷ [])) (append-nil (w a))
+optionless : (a : Tree) → each_after_comma (more a (more (list none) none)) ++ 125 ∷ [] ≡ 44 ∷ w a ++ codes ",[]}"
+optionless a = ap (λ z. 44 ∷ z) (append_assoc (w a) (codes ",[]") (codes "}"))
 
 create_word : atom_text (codes "session_create") ≡ codes "session_create"
 unfolding is_written_bare
@@ -44,12 +44,12 @@ send_word : atom_text (codes "send") ≡ codes "send"
 unfolding is_written_bare
 send_word = refl
 
-receive_word : atom_text (codes "receive") ≡ codes "'receive'"
+receive_word : atom_text (codes "recv") ≡ codes "recv"
 unfolding is_written_bare
 receive_word = refl
 
 create_closed : (t : Name) → each_after_comma (more (atom t) (more (list none) none)) ++ 125 ∷ [] ≡ (codes "," ++ atom_text t) ++ codes ",[]}"
-create_closed t = ap (λ z. 44 ∷ z) (append_assoc (atom_text t) (codes ",[]") (codes "}"))
+create_closed t = optionless (atom t)
 
 pub created : (s t : Name) (o b c d : List ℕ) → b ≡ o ++ (codes " {session_create," ++ atom_text s) → c ≡ b ++ (codes "," ++ atom_text t) → d ≡ c ++ codes ",[]}" → d ≡ o ++ 32 ∷ w (command_term (create s t))
 created s t o b c d first second third =
@@ -71,15 +71,15 @@ function_set s x y z o b c first second =
     twice o (codes " {function," ++ atom_text s) (44 ∷ w x ++ 44 ∷ w y ++ 44 ∷ w z ++ 125 ∷ []) (32 ∷ w (command_term (set_function s x y z))) b c first second
     (ap (λ v. 32 ∷ v) (named (codes "function") (codes "function") s (more x (more y (more z none))) function_word) ∙ ap (λ v. (codes " {function," ++ atom_text s) ++ v) (three_closed x y z))
 
-pub send_set : (s : Name) (x : Tree) (o b c : List ℕ) → b ≡ o ++ (codes " {send," ++ atom_text s) → c ≡ b ++ (44 ∷ w x ++ 125 ∷ []) → c ≡ o ++ 32 ∷ w (command_term (set_send s x))
+pub send_set : (s : Name) (x : Tree) (o b c : List ℕ) → b ≡ o ++ (codes " {send," ++ atom_text s) → c ≡ b ++ (44 ∷ w x ++ codes ",[]}") → c ≡ o ++ 32 ∷ w (command_term (set_send s x))
 send_set s x o b c first second =
-    twice o (codes " {send," ++ atom_text s) (44 ∷ w x ++ 125 ∷ []) (32 ∷ w (command_term (set_send s x))) b c first second
-    (ap (λ v. 32 ∷ v) (named (codes "send") (codes "send") s (more x none) send_word) ∙ ap (λ v. (codes " {send," ++ atom_text s) ++ v) (one_closed x))
+    twice o (codes " {send," ++ atom_text s) (44 ∷ w x ++ codes ",[]}") (32 ∷ w (command_term (set_send s x))) b c first second
+    (ap (λ v. 32 ∷ v) (named (codes "send") (codes "send") s (more x (more (list none) none)) send_word) ∙ ap (λ v. (codes " {send," ++ atom_text s) ++ v) (optionless x))
 
-pub receive_set : (s : Name) (x : Tree) (o b c : List ℕ) → b ≡ o ++ (codes " {'receive'," ++ atom_text s) → c ≡ b ++ (44 ∷ w x ++ 125 ∷ []) → c ≡ o ++ 32 ∷ w (command_term (set_receive s x))
+pub receive_set : (s : Name) (x : Tree) (o b c : List ℕ) → b ≡ o ++ (codes " {recv," ++ atom_text s) → c ≡ b ++ (44 ∷ w x ++ codes ",[]}") → c ≡ o ++ 32 ∷ w (command_term (set_receive s x))
 receive_set s x o b c first second =
-    twice o (codes " {'receive'," ++ atom_text s) (44 ∷ w x ++ 125 ∷ []) (32 ∷ w (command_term (set_receive s x))) b c first second
-    (ap (λ v. 32 ∷ v) (named (codes "receive") (codes "'receive'") s (more x none) receive_word) ∙ ap (λ v. (codes " {'receive'," ++ atom_text s) ++ v) (one_closed x))
+    twice o (codes " {recv," ++ atom_text s) (44 ∷ w x ++ codes ",[]}") (32 ∷ w (command_term (set_receive s x))) b c first second
+    (ap (λ v. 32 ∷ v) (named (codes "recv") (codes "recv") s (more x (more (list none) none)) receive_word) ∙ ap (λ v. (codes " {recv," ++ atom_text s) ++ v) (optionless x))
 
 -- ---- the elements of an event's message
 

@@ -1,5 +1,5 @@
 // The texts of what a move shows.
-ghost use Rattle.std.specs.Prelude.{◌≡◌, ◌++◌, ◌∷◌, [], OnOk, flat_map, map};
+ghost use Rattle.std.specs.Prelude.{◌≡◌, ◌++◌, ◌∷◌, [], OnOk, codes, map};
 ghost use Rattle.def_run.specs.Run.{happened, commanded};
 ghost use Rattle.def_account.specs.Texts.{shown_text, behind_first};
 ghost use Rattle.def_term.specs.Text.{w, atom_text};
@@ -39,17 +39,16 @@ fn put_behind<A: Allocator, B: Allocator>(
     write_term(term, out)
 }
 
-/// Appends the last term of a tuple, behind a comma, and the tuple's brace.
-fn put_last<A: Allocator, B: Allocator>(
+/// Appends a term behind a comma, and the end of a tuple with no options.
+fn put_with_no_options<A: Allocator, B: Allocator>(
     term: &Term<A>,
     out: &mut Vec<u8, B>,
 ) -> Result<(), AllocError>
-    ensures ok { OnOk result (out.new.items ≡ out.old.items ++ 44 ∷ w (tree_of term.now) ++ 125 ∷ []) }
+    ensures ok { OnOk result (out.new.items ≡ out.old.items ++ (44 ∷ w (tree_of term.now) ++ codes ",[]}")) }
     ensures grows { Grows out.old.items out.new.items }
 {
     put_behind(b',', term, out)?;
-    out.push(b'}')?;
-    Ok(())
+    out.extend_from_slice(b",[]}")
 }
 
 /// Appends the last three terms of a tuple, each behind a comma, and the tuple's brace.
@@ -60,12 +59,14 @@ fn put_three<A: Allocator, B: Allocator>(
     out: &mut Vec<u8, B>,
 ) -> Result<(), AllocError>
     ensures ok { OnOk result (out.new.items ≡ out.old.items ++
-        44 ∷ w (tree_of first.now) ++ 44 ∷ w (tree_of second.now) ++ 44 ∷ w (tree_of last.now) ++ 125 ∷ []) }
+        (44 ∷ w (tree_of first.now) ++ 44 ∷ w (tree_of second.now) ++ 44 ∷ w (tree_of last.now) ++ 125 ∷ [])) }
     ensures grows { Grows out.old.items out.new.items }
 {
     put_behind(b',', first, out)?;
     put_behind(b',', second, out)?;
-    put_last(last, out)
+    put_behind(b',', last, out)?;
+    out.push(b'}')?;
+    Ok(())
 }
 
 /// Appends the term that a command was given as, behind a blank. After an `Err` a part of it may stand there.
