@@ -84,3 +84,25 @@ seen_all v step o ss us es fs i new first now same past at h =
       subst (λ ts. AreStanding o ts new) (all.0 ∙ ap (λ l. all_behind o ss (shown_of v l)) same) at,
       all.1 ∙ ap (λ l. first ++ text_by step (entries_over o step.number step.pick ss (shown_of v l))) same,
     )
+
+-- a move that shows nothing
+pub nothing_seen : {A E : Type 0} (v : E → Event) (step : Step) (o : Opening) (ss : List Standing) (es : List E) (new : Sessions A) (first now : List ℕ) → es ≡ [] → AreStanding o ss new
+    → now ≡ first ++ text_by step (shows_nothing step.number step.pick ∷ [])
+    → AreStanding o (all_behind o ss (shown_of v es)) new × (now ≡ first ++ text_by step (entries_of_move o step.number step.pick ss (shown_of v es)))
+nothing_seen v step o ss es new first now none at written = (
+  subst (λ l. AreStanding o (all_behind o ss (shown_of v l)) new) (sym none) at,
+  written ∙ ap (λ l. first ++ text_by step (entries_of_move o step.number step.pick ss (shown_of v l))) (sym none),
+)
+
+none_of_none : {E : Type 0} (v : E → Event) (es : List E) → shown_of v es ≡ [] → es ≡ []
+none_of_none v [] h = refl
+none_of_none v (e ∷ es) h = cc
+
+-- a move that shows something
+pub something_seen : {A E : Type 0} (v : E → Event) (step : Step) (o : Opening) (ss : List Standing) (es : List E) (new : Sessions A) (first now : List ℕ) → (es ≡ [] → ⊥)
+    → AreStanding o (all_behind o ss (shown_of v es)) new × (now ≡ first ++ text_by step (entries_over o step.number step.pick ss (shown_of v es)))
+    → AreStanding o (all_behind o ss (shown_of v es)) new × (now ≡ first ++ text_by step (entries_of_move o step.number step.pick ss (shown_of v es)))
+something_seen v step o ss es new first now some made = (
+  made.0,
+  made.1 ∙ ap (λ l. first ++ text_by step l) (some_shown step.number step.pick o ss (shown_of v es) (λ e. some (none_of_none v es e))),
+)

@@ -1,12 +1,12 @@
 -- The text of the entries of one move, one after the other.
-use Rattle.std.proofs.Common.{◌≡◌, ◌∙◌, ℕ, Bool, true, false, if◌then◌else◌, ◌&&◌, List, [], ◌∷◌, ◌++◌, map, flat_map, refl, sym, ap, append-nil, append_assoc}
+use Rattle.std.proofs.Common.{◌≡◌, ◌∙◌, ℕ, Bool, true, false, if◌then◌else◌, ◌&&◌, List, [], ◌∷◌, ◌++◌, map, flat_map, refl, sym, ap, append-nil, append_assoc, codes, decimal}
 use Rattle.std.proofs.lemmas.Grind.{flat_map-append}
 use Rattle.def_term.specs.Names.{Name}
 use Rattle.def_script.specs.Opening.{Opening}
 use Rattle.def_run.specs.Run.{Shown}
 use Rattle.def_explain.specs.Accounts.{Line}
 use Rattle.def_account.specs.Runs.{Standing, lines_of, Entry, shows, shows_nothing, makes, made_by_all, all_after, entries_over, entries_of_move}
-use Rattle.def_account.specs.Texts.{Asked, is_move, is_session, entry_text, wanted}
+use Rattle.def_account.specs.Texts.{Asked, is_move, is_session, shown_text, entry_text, wanted}
 use Rattle.tn_lines.specs.Lines.{lines_text}
 use Rattle.tn_account.specs.Asks.{text_of}
 
@@ -110,3 +110,24 @@ twice o x y z b c first second whole = second ∙ ap (λ s. s ++ y) first ∙ ap
 -- nothing more
 pub none_more : (o z : List ℕ) → z ≡ [] → o ≡ o ++ z
 none_more o z h = sym (ap (λ s. o ++ s) h ∙ append-nil o)
+
+-- three pieces
+pub thrice : (o x y z u b c d : List ℕ) → b ≡ o ++ x → c ≡ b ++ y → d ≡ c ++ z → u ≡ (x ++ y) ++ z → d ≡ o ++ u
+thrice o x y z u b c d first second third whole = twice o (x ++ y) z u c d (twice o x y (x ++ y) b c first second refl) third whole
+
+-- the line of what a move shows
+pub shown_written : (a : Asked) (k pick : ℕ) (x : Shown) (o b c d : List ℕ) → is_move a.move k ≡ true → b ≡ o ++ (decimal k ++ 32 ∷ decimal pick) → c ≡ b ++ shown_text x → d ≡ c ++ 10 ∷ [] → d ≡ o ++ text_of a k (shows k pick x ∷ [])
+shown_written a k pick x o b c d asked first second third =
+    thrice o (decimal k ++ 32 ∷ decimal pick) (shown_text x) (10 ∷ []) (text_of a k (shows k pick x ∷ [])) b c d first second third (shown_wanted a k pick x asked)
+
+-- the line of a move that shows nothing
+pub nothing_written : (a : Asked) (k pick : ℕ) (o b c : List ℕ) → is_move a.move k ≡ true → b ≡ o ++ (decimal k ++ 32 ∷ decimal pick) → c ≡ b ++ codes " nothing\n" → c ≡ o ++ text_of a k (shows_nothing k pick ∷ [])
+nothing_written a k pick o b c asked first second =
+    twice o (decimal k ++ 32 ∷ decimal pick) (codes " nothing\n") (text_of a k (shows_nothing k pick ∷ [])) b c first second
+    (nothing_wanted a k pick asked ∙ append_assoc (decimal k ++ 32 ∷ decimal pick) (codes " nothing") (10 ∷ []))
+
+pub shown_skipped : (a : Asked) (k pick : ℕ) (x : Shown) (o : List ℕ) → is_move a.move k ≡ false → o ≡ o ++ text_of a k (shows k pick x ∷ [])
+shown_skipped a k pick x o h = none_more o (text_of a k (shows k pick x ∷ [])) (shown_not_wanted a k pick x h)
+
+pub nothing_skipped : (a : Asked) (k pick : ℕ) (o : List ℕ) → is_move a.move k ≡ false → o ≡ o ++ text_of a k (shows_nothing k pick ∷ [])
+nothing_skipped a k pick o h = none_more o (text_of a k (shows_nothing k pick ∷ [])) (nothing_not_wanted a k pick h)

@@ -86,9 +86,13 @@ fn obey_one<A: Allocator + Copy>(
     ensures grows { Grows out.old.items out.new.items }
 {
     let reply = slot.obey(alloc, order.functions, order.living, order.command)?;
-    match reply {
-        Some(reply) if step.is_asked_of(&slot.name) => put_command_line(&slot.name, &reply, out),
-        _ => Ok(()),
+    let Some(reply) = reply else {
+        return Ok(());
+    };
+    if step.is_asked_of(&slot.name) {
+        put_command_line(&slot.name, &reply, out)
+    } else {
+        Ok(())
     }
 }
 

@@ -23,7 +23,7 @@ fn put_numbers<B: Allocator>(
     pick: u32,
     out: &mut Vec<u8, B>,
 ) -> Result<(), AllocError>
-    ensures ok { OnOk result (out.new.items ≡ out.old.items ++ decimal number ++ 32 ∷ decimal pick) }
+    ensures ok { OnOk result (out.new.items ≡ out.old.items ++ (decimal number ++ 32 ∷ decimal pick)) }
     ensures grows { Grows out.old.items out.new.items }
 {
     let mut buffer = Buffer::new();
