@@ -1,3 +1,2 @@
-mod Commands
 mod Rows
 mod Tellings

@@ -1,13 +1,11 @@
 -- What is promised of what the sessions make of a run (own).
--- Stands on listings, on the shapes of commands and on the text of an account.
-use Rattle.std.specs.Prelude.{◌≡◌, ◌≢◌, ◌⊎◌, ℕ, List, [], ◌∷◌, Some}
+-- Stands on listings.
+use Rattle.std.specs.Prelude.{◌≡◌, ◌≢◌, ◌⊎◌, ℕ, List, [], ◌∷◌}
 use Rattle.def_term.specs.Names.{Name}
-use Rattle.def_script.specs.Program.{Command, Program}
+use Rattle.def_script.specs.Program.{Program}
 use Rattle.def_script.specs.Script.{creations}
-use Rattle.def_script.specs.Shapes.{command_in}
 use Rattle.def_run.specs.Listing.{messages}
 use Rattle.def_account.specs.Runs.{entries, told_by}
-use Rattle.def_account.specs.Texts.{command_term}
 
 -- the name doesn't stand among these
 abbrev pub IsNone : Name → List (Name × Name) → Type 0
@@ -22,7 +20,3 @@ IsOnce n (s ∷ ss) = ((n ≡ s.0) × IsNone n ss) ⊎ ((n ≢ s.0) × IsOnce n 
 -- the messages that a session tells in the account of a run are its listing's, in their order
 abbrev pub AccountTellsTheListing : Type 0
 AccountTellsTheListing = (p : Program) (picks : List ℕ) (n : Name) → IsOnce n (creations p.commands) → told_by n (entries p picks) ≡ messages n p picks
-
--- the term of a command is read as that command
-abbrev pub CommandTermIsRead : Type 0
-CommandTermIsRead = (c : Command) → command_in (command_term c) ≡ Some c
