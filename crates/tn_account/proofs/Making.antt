@@ -64,15 +64,3 @@ more_made step o living living' x ss n slots old new first now next below is mad
     let here = place_here (λ s t. Stands o living' (after o s x) t) (Stands o living) n ss slots old new below is h.slots in
     let m = made here.here here.before in
     record { slots = here.after m.0; text = one_more_made step o x n ss here.here now next (first ++ text_by step (made_by_all o ss x)) here.back m.1 h.text }
-
--- ---- what is written
-
--- what grew twice has grown
-pub grown : (a b c : List ℕ) → Grows a b → Grows b c → Grows a c
-grown a b c first second = record {
-  added = first.added ++ second.added;
-  whole = second.whole ∙ ap (λ l. l ++ second.added) first.whole ∙ append_assoc a first.added second.added;
-}
-
-pub not_yet : (a : List ℕ) → Grows a a
-not_yet a = record { added = []; whole = sym (append-nil a) }

@@ -1,15 +1,17 @@
 -- The texts of what a move shows, piece by piece.
 use Rattle.std.proofs.Common.{◌≡◌, ◌∙◌, ℕ, ◌+◌, ◌<◌, List, [], ◌∷◌, ◌++◌, map, length, drop, get_or, flat_map, refl, sym, ap, subst, append-nil, append_assoc, codes, decimal}
+use Rattle.std.specs.Prelude.{Result, Ok, Err, is_ok, OnOk, if◌then◌else◌}
 use Rattle.std.proofs.lemmas.List.{drop_more}
 use Rattle.std.specs.declared.vec.Vec.{Vec}
-use Rattle.def_term.specs.Tree.{Tree, int, atom, pid, tuple, list, Trees, none, more, elements, of_elements}
+use Rattle.def_term.specs.Tree.{Tree, atom, tuple, list, Trees, none, more, of_elements}
 use Rattle.def_term.specs.Names.{Name, word}
 use Rattle.def_term.specs.Text.{w, is_written_bare, atom_text, each_after_comma}
 use Rattle.def_script.specs.Program.{create, destroy, set_processes, set_function, set_send, set_receive}
 use Rattle.def_account.specs.Texts.{command_term, behind_first}
 use Rattle.tn_term.specs.Views.{tree_of}
-use Rattle.tn_term.proofs.Views.{tree_of_int, tree_of_atom, tree_of_pid, tree_of_tuple, tree_of_list, elements-of_elements}
-use Rattle.tn_term.specs.declared.term.Term.{Term, Int, Atom, Pid, Tuple, List as ListOf}
+use Rattle.tn_term.proofs.Views.{tree_of_tuple, elements-of_elements}
+use Rattle.tn_term.specs.declared.term.Term.{Term, Tuple}
+use Rattle.tn_account.specs.Elements.{elements_in}
 use Rattle.tn_account.proofs.Texts.{twice}
 
 -- a tuple that begins with a word and a name
@@ -83,25 +85,16 @@ receive_set s x o b c first second =
 
 -- ---- the elements of an event's message
 
-elements_in : Tree → List Tree
-elements_in (int n) = []
-elements_in (atom s) = []
-elements_in (pid n) = []
-elements_in (tuple ts) = elements ts
-elements_in (list ts) = []
+pub elements_again : (ts : List Tree) → elements_in (tuple (of_elements (ts ++ []))) ≡ ts
+elements_again ts = elements-of_elements (ts ++ []) ∙ append-nil ts
 
--- the terms of the tuple are the elements
-pub terms_are : {A : Type 0} (v : Vec (Term A) A) (ts : List Tree) → tree_of (Tuple v) ≡ tuple (of_elements (ts ++ [])) → map tree_of v.items ≡ ts
-unfolding elements_in
-terms_are v ts h = sym (elements-of_elements (map tree_of v.items)) ∙ ap elements_in (sym (tree_of_tuple v) ∙ h) ∙ elements-of_elements (ts ++ []) ∙ append-nil ts
+-- those of the message's term
+pub message_elements : (t : Tree) (ts : List Tree) (o b : List ℕ) → t ≡ tuple (of_elements (ts ++ [])) → b ≡ o ++ behind_first (elements_in t) → b ≡ o ++ behind_first ts
+message_elements t ts o b is written = written ∙ ap (λ u. o ++ behind_first (elements_in u)) is ∙ ap (λ us. o ++ behind_first us) (elements_again ts)
 
--- it is a tuple
-pub is_a_tuple : {A X : Type 0} (t : Term A) (ts : Trees) → tree_of t ≡ tuple ts → ((v : Vec (Term A) A) → t ≡ Tuple v → ⊥) → X
-is_a_tuple {A} {X} (Int n) ts h other = let e = tree_of_int A n in cc
-is_a_tuple {A} {X} (Atom s) ts h other = let e = tree_of_atom A s in cc
-is_a_tuple {A} {X} (Pid n) ts h other = let e = tree_of_pid A n in cc
-is_a_tuple {A} {X} (Tuple v) ts h other = absurd (other v refl)
-is_a_tuple {A} {X} (ListOf v) ts h other = let e = tree_of_list v in cc
+-- those of a tuple
+pub tuple_elements : {A : Type 0} (v : Vec (Term A) A) → behind_first (map tree_of v.items) ≡ behind_first (elements_in (tree_of (Tuple v)))
+tuple_elements v = sym (ap (λ t. behind_first (elements_in t)) (tree_of_tuple v) ∙ ap behind_first (elements-of_elements (map tree_of v.items)))
 
 -- ---- elements behind the first
 
@@ -116,3 +109,15 @@ next_element xs i x now after whole below is so_far made =
     ∙ ap (λ y. now ++ ((32 ∷ w (tree_of y)) ++ each_behind (map tree_of (drop (i + 1) xs)))) is
     ∙ ap (λ ys. now ++ each_behind (map tree_of ys)) (sym (drop_more xs i x below))
     ∙ so_far
+
+-- ---- a call that ends a function
+
+-- what stands there where the call succeeds
+pub if_written : {T E : Type 0} (r : Result T E) (now more less : List ℕ) → now ≡ (if is_ok r then more else less) → OnOk r (now ≡ more)
+if_written (Ok v) now more less h = h
+if_written (Err e) now more less h = tt
+
+-- what stands there once the elements of a tuple are written
+pub tuple_written : {A : Type 0} (t : Term A) (v : Vec (Term A) A) (xs : List (Term A)) (o b : List ℕ) → t ≡ Tuple v → xs ≡ v.items → b ≡ o ++ behind_first (map tree_of xs) → b ≡ o ++ behind_first (elements_in (tree_of t))
+tuple_written t v xs o b is same written =
+    written ∙ ap (λ ys. o ++ behind_first (map tree_of ys)) same ∙ ap (λ l. o ++ l) (tuple_elements v) ∙ ap (λ u. o ++ behind_first (elements_in (tree_of u))) (sym is)

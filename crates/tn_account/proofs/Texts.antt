@@ -7,6 +7,7 @@ use Rattle.def_run.specs.Run.{Shown}
 use Rattle.def_explain.specs.Accounts.{Line}
 use Rattle.def_account.specs.Runs.{Standing, lines_of, Entry, shows, shows_nothing, makes, made_by_all, all_after, entries_over, entries_of_move}
 use Rattle.def_account.specs.Texts.{Asked, is_move, is_session, shown_text, entry_text, wanted}
+use Rattle.tn_text.specs.Writes.{Grows}
 use Rattle.tn_lines.specs.Lines.{lines_text}
 use Rattle.tn_account.specs.Asks.{text_of}
 
@@ -131,3 +132,15 @@ shown_skipped a k pick x o h = none_more o (text_of a k (shows k pick x ∷ []))
 
 pub nothing_skipped : (a : Asked) (k pick : ℕ) (o : List ℕ) → is_move a.move k ≡ false → o ≡ o ++ text_of a k (shows_nothing k pick ∷ [])
 nothing_skipped a k pick o h = none_more o (text_of a k (shows_nothing k pick ∷ [])) (nothing_not_wanted a k pick h)
+
+-- ---- what is written
+
+-- what grew twice has grown
+pub grown : (a b c : List ℕ) → Grows a b → Grows b c → Grows a c
+grown a b c first second = record {
+  added = first.added ++ second.added;
+  whole = second.whole ∙ ap (λ l. l ++ second.added) first.whole ∙ append_assoc a first.added second.added;
+}
+
+pub not_yet : (a : List ℕ) → Grows a a
+not_yet a = record { added = []; whole = sym (append-nil a) }

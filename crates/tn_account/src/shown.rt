@@ -6,6 +6,7 @@ ghost use Rattle.def_term.specs.Text.{w, atom_text};
 ghost use Rattle.tn_term.specs.Views.{tree_of};
 ghost use Rattle.tn_flags.specs.Views.{command_of, event_of};
 ghost use Rattle.tn_text.specs.Writes.{Grows};
+ghost use Rattle.tn_account.specs.Elements.{elements_in};
 
 use std::alloc::{AllocError, Allocator};
 use tn_flags::{Command, Event};
@@ -110,16 +111,14 @@ pub(crate) fn put_command<A: Allocator, B: Allocator>(
             specification,
         } => {
             put_name(b" {send,", session, out)?;
-            put_behind(b',', specification, out)?;
-            out.extend_from_slice(b",[]}")
+            put_with_no_options(specification, out)
         }
         Command::Recv {
             session,
             specification,
         } => {
             put_name(b" {recv,", session, out)?;
-            put_behind(b',', specification, out)?;
-            out.extend_from_slice(b",[]}")
+            put_with_no_options(specification, out)
         }
     }
 }
@@ -139,8 +138,20 @@ pub(crate) fn put_event<A: Allocator + Copy>(
         short: false,
         last: None,
     };
-    match message.term(alloc)? {
-        Term::Tuple(elements) => put_elements(&elements, out),
+    let term = message.term(alloc)?;
+    put_message(&term, out)
+}
+
+/// Appends all but the first element of a tuple, each behind a blank; of any other term nothing.
+fn put_message<A: Allocator, B: Allocator>(
+    term: &Term<A>,
+    out: &mut Vec<u8, B>,
+) -> Result<(), AllocError>
+    ensures ok { OnOk result (out.new.items ≡ out.old.items ++ behind_first (elements_in (tree_of term.now))) }
+    ensures grows { Grows out.old.items out.new.items }
+{
+    match term {
+        Term::Tuple(elements) => put_elements(elements, out),
         _ => Ok(()),
     }
 }

@@ -1,7 +1,7 @@
 use Rattle.std.proofs.Common.{take}
 use Rattle.tn_program.specs.Views.{program_of}
 use Rattle.tn_account.specs.Asks.{asked_seen}
-use Rattle.tn_account.proofs.Making.{grown, not_yet}
+use Rattle.tn_account.proofs.Texts.{grown, not_yet}
 use Rattle.tn_account.proofs.Picks.{no_picks, one_more_pick, all_picks}
 use Rattle.tn_account.proofs.account.put_moves.Goals as goal
 

@@ -3,7 +3,8 @@ use Rattle.std.proofs.Math.ListN.{length-set}
 use Rattle.def_run.specs.Run.{commanded}
 use Rattle.tn_term.specs.Views.{alive_of}
 use Rattle.tn_flags.specs.Views.{command_of}
-use Rattle.tn_account.proofs.Making.{grown, not_yet, none_made, more_made, all_made}
+use Rattle.tn_account.proofs.Making.{none_made, more_made, all_made}
+use Rattle.tn_account.proofs.Texts.{grown, not_yet}
 use Rattle.tn_account.proofs.slots.obey_each.Goals as goal
 
 pub loop-place-init : goal.loop-place-init

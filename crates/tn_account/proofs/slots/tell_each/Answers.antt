@@ -3,7 +3,8 @@ use Rattle.std.proofs.Math.ListN.{length-set}
 use Rattle.def_session.specs.State.{alive_after}
 use Rattle.def_run.specs.Run.{happened}
 use Rattle.tn_flags.specs.Views.{event_of}
-use Rattle.tn_account.proofs.Making.{grown, not_yet, none_made, more_made, all_made}
+use Rattle.tn_account.proofs.Making.{none_made, more_made, all_made}
+use Rattle.tn_account.proofs.Texts.{grown, not_yet}
 use Rattle.tn_account.proofs.slots.tell_each.Goals as goal
 
 pub loop-place-init : goal.loop-place-init

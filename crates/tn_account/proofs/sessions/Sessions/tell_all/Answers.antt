@@ -3,7 +3,7 @@ use Rattle.def_run.specs.Run.{happened}
 use Rattle.def_account.specs.Runs.{all_after}
 use Rattle.tn_flags.specs.Views.{event_of}
 use Rattle.tn_account.specs.Standings.{AreStanding}
-use Rattle.tn_account.proofs.Making.{grown, not_yet}
+use Rattle.tn_account.proofs.Texts.{grown, not_yet}
 use Rattle.tn_account.proofs.Showing.{none_shown, more_shown, all_shown, shown_of, seen_all}
 use Rattle.tn_account.proofs.sessions.Sessions.tell_all.Goals as goal
 
