@@ -113,9 +113,9 @@ next_element xs i x now after whole below is so_far made =
 -- ---- a call that ends a function
 
 -- what stands there where the call succeeds
-pub if_written : {T E : Type 0} (r : Result T E) (now more less : List ℕ) → now ≡ (if is_ok r then more else less) → OnOk r (now ≡ more)
-if_written (Ok v) now more less h = h
-if_written (Err e) now more less h = tt
+pub if_written : {T E : Type 0} (r : Result T E) (now full same : List ℕ) → now ≡ (if is_ok r then full else same) → OnOk r (now ≡ full)
+if_written (Ok v) now full same h = h
+if_written (Err e) now full same h = tt
 
 -- what stands there once the elements of a tuple are written
 pub tuple_written : {A : Type 0} (t : Term A) (v : Vec (Term A) A) (xs : List (Term A)) (o b : List ℕ) → t ≡ Tuple v → xs ≡ v.items → b ≡ o ++ behind_first (map tree_of xs) → b ≡ o ++ behind_first (elements_in (tree_of t))
