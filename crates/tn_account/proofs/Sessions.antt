@@ -106,7 +106,7 @@ module _ {A : Type 0} (step : Step) (o : Opening) (living : Alive) (s : Standing
         let t = stands_after new (Some r) d in (
           t,
           written ∙ ap (λ n. text ++ lines_text n (said (codes "replies " ++ w r) ∷ [])) t.name ∙ ap (λ ls. text ++ lines_text s.0 ls) (sym (own_lines r new d))
-          ∙ ap (λ l. text ++ l) (sym (lines_wanted (asked_seen step.asked.now) step.number s.0 (lines_of o s (commanded c)) (ap (is_asked step) (sym t.name) ∙ asked))),
+              ∙ ap (λ l. text ++ l) (sym (lines_wanted (asked_seen step.asked.now) step.number s.0 (lines_of o s (commanded c)) (ap (is_asked step) (sym t.name) ∙ asked))),
         )
 
     pub obeys_only : (r : Tree) (new : Slot A Unkept) → is_asked step new.name ≡ false → Obeyed new (Some r) → HasReplied new text

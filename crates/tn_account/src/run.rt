@@ -62,7 +62,8 @@ impl<A: Allocator + Copy> Run<A> {
             Moved::Idle => Ok(()),
             Moved::Control(number) => match command_at(program, number) {
                 Some(command) => {
-                    self.sessions.obey(&step, program.functions(), command, out)?;
+                    self.sessions
+                        .obey(&step, program.functions(), command, out)?;
                     self.moves += 1;
                     Ok(())
                 }

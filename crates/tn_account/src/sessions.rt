@@ -103,7 +103,7 @@ impl<A: Allocator + Copy> Sessions<A> {
     ) -> Result<(), AllocError>
         ensures ok { (o : Opening) → o.functions ≡ visible (functions_of functions.now) →
             ShowsMove step.now o (commanded (command_of command.now) ∷ [])
-                self.old self.new out.old.items out.new.items result }
+            self.old self.new out.old.items out.new.items result }
         ensures grows { Grows out.old.items out.new.items }
     {
         let order = Order {

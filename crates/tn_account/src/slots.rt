@@ -38,7 +38,7 @@ fn tell_one<A: Allocator + Copy>(
 ) -> Result<(), AllocError>
     ensures ok { (o : Opening) (living : alive.Alive) →
         OneMakes step.now o living (alive_after living (event_of event.now)) (happened (event_of event.now))
-            slot.old slot.new out.old.items out.new.items result }
+        slot.old slot.new out.old.items out.new.items result }
     ensures grows { Grows out.old.items out.new.items }
 {
     let is_asked = step.is_asked_of(&slot.name);
@@ -63,7 +63,7 @@ pub(crate) fn tell_each<A: Allocator + Copy>(
 ) -> Result<(), AllocError>
     ensures ok { (o : Opening) (living : alive.Alive) →
         EachMakes step.now o living (alive_after living (event_of event.now)) (happened (event_of event.now))
-            slots.old.items slots.new.items out.old.items out.new.items result }
+        slots.old.items slots.new.items out.old.items out.new.items result }
     ensures grows { Grows out.old.items out.new.items }
 {
     for place in 0..slots.len() {
@@ -82,7 +82,7 @@ fn obey_one<A: Allocator + Copy>(
 ) -> Result<(), AllocError>
     ensures ok { (o : Opening) → o.functions ≡ visible (functions_of order.now.functions.now) →
         OneMakes step.now o (alive_of order.now.living) (alive_of order.now.living)
-            (commanded (command_of order.now.command.now)) slot.old slot.new out.old.items out.new.items result }
+        (commanded (command_of order.now.command.now)) slot.old slot.new out.old.items out.new.items result }
     ensures grows { Grows out.old.items out.new.items }
 {
     let reply = slot.obey(alloc, order.functions, order.living, order.command)?;
@@ -106,8 +106,8 @@ pub(crate) fn obey_each<A: Allocator + Copy>(
 ) -> Result<(), AllocError>
     ensures ok { (o : Opening) → o.functions ≡ visible (functions_of order.now.functions.now) →
         EachMakes step.now o (alive_of order.now.living) (alive_of order.now.living)
-            (commanded (command_of order.now.command.now)) slots.old.items slots.new.items
-            out.old.items out.new.items result }
+        (commanded (command_of order.now.command.now)) slots.old.items slots.new.items
+        out.old.items out.new.items result }
     ensures grows { Grows out.old.items out.new.items }
 {
     for place in 0..slots.len() {

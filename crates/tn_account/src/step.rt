@@ -18,11 +18,7 @@ pub(crate) struct Step<'a> {
 }
 
 /// Appends a move's number and its pick. After an `Err` a part of them may stand there.
-fn put_numbers<B: Allocator>(
-    number: u64,
-    pick: u32,
-    out: &mut Vec<u8, B>,
-) -> Result<(), AllocError>
+fn put_numbers<B: Allocator>(number: u64, pick: u32, out: &mut Vec<u8, B>) -> Result<(), AllocError>
     ensures ok { OnOk result (out.new.items ≡ out.old.items ++ (decimal number ++ 32 ∷ decimal pick)) }
     ensures grows { Grows out.old.items out.new.items }
 {
