@@ -78,6 +78,7 @@ none_wanted a k n (l ∷ ls) h =
 
 -- where they are asked for
 pub lines_wanted : (a : Asked) (k : ℕ) (n : Name) (ls : List Line) → (is_move a.move k && is_session a.session n) ≡ true → text_of a k (map (makes n) ls) ≡ lines_text n ls
+unfolding lines_text
 lines_wanted a k n ls h = ap (flat_map entry_text) (all_wanted a k n ls h)
 
 -- and where they aren't
