@@ -24,16 +24,16 @@ two_sends = program (function "go" [] (send (pid 101) (word "hi") ∷ []) ∷ fu
 
 pub why_a_send_is_missing : account_text everything two_sends (0 ∷ 0 ∷ 0 ∷ 100 ∷ 100 ∷ [])
     ≡ lines ("1 0 {session_create,s1,t1,[]}" ∷ "  s1: replies {session,s1}" ∷ "2 0 {session_create,s2,t2,[]}" ∷ "  s2: replies {session,s2}" ∷ "3 0 {process,s1,all,true,[send]}" ∷ "  s1: replies 2"
-        ∷ "4 100 <0.100.0> call {m,go,[]}" ∷ "  s1: no flag call" ∷ "  s2: no flag call"
-        ∷ "5 100 <0.100.0> send hi <0.101.0>" ∷ "  s1: => {trace,<0.100.0>,send,hi,<0.101.0>}" ∷ "  s2: no flag send"
-        ∷ "5 100 <0.101.0> 'receive' hi" ∷ "  s1: no flag 'receive'" ∷ "  s2: no flag 'receive'" ∷ [])
+    ∷ "4 100 <0.100.0> call {m,go,[]}" ∷ "  s1: no flag call" ∷ "  s2: no flag call"
+    ∷ "5 100 <0.100.0> send hi <0.101.0>" ∷ "  s1: => {trace,<0.100.0>,send,hi,<0.101.0>}" ∷ "  s2: no flag send"
+    ∷ "5 100 <0.101.0> 'receive' hi" ∷ "  s1: no flag 'receive'" ∷ "  s2: no flag 'receive'" ∷ [])
 unfolding is_written_bare digits
 why_a_send_is_missing = refl
 
 -- one session of them, and one move
 pub of_one_session : account_text only_session two_sends (0 ∷ 0 ∷ 0 ∷ 100 ∷ 100 ∷ [])
     ≡ lines ("1 0 {session_create,s1,t1,[]}" ∷ "2 0 {session_create,s2,t2,[]}" ∷ "  s2: replies {session,s2}" ∷ "3 0 {process,s1,all,true,[send]}"
-        ∷ "4 100 <0.100.0> call {m,go,[]}" ∷ "  s2: no flag call" ∷ "5 100 <0.100.0> send hi <0.101.0>" ∷ "  s2: no flag send" ∷ "5 100 <0.101.0> 'receive' hi" ∷ "  s2: no flag 'receive'" ∷ [])
+    ∷ "4 100 <0.100.0> call {m,go,[]}" ∷ "  s2: no flag call" ∷ "5 100 <0.100.0> send hi <0.101.0>" ∷ "  s2: no flag send" ∷ "5 100 <0.101.0> 'receive' hi" ∷ "  s2: no flag 'receive'" ∷ [])
 unfolding is_written_bare digits
 of_one_session = refl
 
@@ -46,24 +46,24 @@ of_one_move = refl
 pub a_child_inherits : account_text everything (program (function "go" [] (spawns "kid" [] ∷ []) ∷ function "kid" [] [] ∷ []) (entry "go" [] ∷ [])
     (creates "s1" "t1" ∷ sets "s1" (pid 100) ("procs" ∷ "set_on_first_spawn" ∷ []) ∷ [])) (0 ∷ 0 ∷ 100 ∷ 100 ∷ 101 ∷ 101 ∷ [])
     ≡ lines ("1 0 {session_create,s1,t1,[]}" ∷ "  s1: replies {session,s1}" ∷ "2 0 {process,s1,<0.100.0>,true,[procs,set_on_first_spawn]}" ∷ "  s1: replies 1"
-        ∷ "3 100 <0.100.0> call {m,go,[]}" ∷ "  s1: no flag call"
-        ∷ "4 100 <0.100.0> spawn <0.101.0> {m,kid,[]}" ∷ "  s1: => {trace,<0.100.0>,spawn,<0.101.0>,{m,kid,[]}}"
-        ∷ "4 100 <0.101.0> spawned <0.100.0> {m,kid,[]}" ∷ "  s1: <0.100.0> loses set_on_first_spawn" ∷ "  s1: <0.101.0> gets procs" ∷ "  s1: => {trace,<0.101.0>,spawned,<0.100.0>,{m,kid,[]}}"
-        ∷ "5 101 <0.101.0> call {m,kid,[]}" ∷ "  s1: no flag call"
-        ∷ "6 101 <0.101.0> return_from {m,kid,0} ok" ∷ "  s1: the call has no mark" ∷ "6 101 <0.101.0> exit normal" ∷ "  s1: => {trace,<0.101.0>,exit,normal}" ∷ "  s1: <0.101.0> loses procs" ∷ [])
+    ∷ "3 100 <0.100.0> call {m,go,[]}" ∷ "  s1: no flag call"
+    ∷ "4 100 <0.100.0> spawn <0.101.0> {m,kid,[]}" ∷ "  s1: => {trace,<0.100.0>,spawn,<0.101.0>,{m,kid,[]}}"
+    ∷ "4 100 <0.101.0> spawned <0.100.0> {m,kid,[]}" ∷ "  s1: <0.100.0> loses set_on_first_spawn" ∷ "  s1: <0.101.0> gets procs" ∷ "  s1: => {trace,<0.101.0>,spawned,<0.100.0>,{m,kid,[]}}"
+    ∷ "5 101 <0.101.0> call {m,kid,[]}" ∷ "  s1: no flag call"
+    ∷ "6 101 <0.101.0> return_from {m,kid,0} ok" ∷ "  s1: the call has no mark" ∷ "6 101 <0.101.0> exit normal" ∷ "  s1: => {trace,<0.101.0>,exit,normal}" ∷ "  s1: <0.101.0> loses procs" ∷ [])
 unfolding is_written_bare digits
 a_child_inherits = refl
 
 -- clauses that don't fire and one that does, marks, and a call without a setting
 pub clauses_of_a_call : account_text everything (program (function "go" [] (call_named "f" (number 1 ∷ []) ∷ []) ∷ function "f" ("X" ∷ []) [] ∷ []) (entry "go" [] ∷ [])
     (creates "s1" "t1" ∷ sets "s1" (word "all") ("call" ∷ []) ∷ sets_function "s1" (mfa_of "f" 1)
-        (brackets (braces (brackets (word "a" ∷ []) ∷ brackets [] ∷ brackets [] ∷ []) ∷ braces (brackets (word "$1" ∷ []) ∷ brackets (braces (word ">" ∷ word "$1" ∷ number 1 ∷ []) ∷ []) ∷ brackets [] ∷ [])
-            ∷ braces (word "_" ∷ brackets [] ∷ brackets (braces (word "return_trace" ∷ []) ∷ []) ∷ []) ∷ [])) [] ∷ [])) (0 ∷ 0 ∷ 0 ∷ 100 ∷ 100 ∷ 100 ∷ [])
+    (brackets (braces (brackets (word "a" ∷ []) ∷ brackets [] ∷ brackets [] ∷ []) ∷ braces (brackets (word "$1" ∷ []) ∷ brackets (braces (word ">" ∷ word "$1" ∷ number 1 ∷ []) ∷ []) ∷ brackets [] ∷ [])
+    ∷ braces (word "_" ∷ brackets [] ∷ brackets (braces (word "return_trace" ∷ []) ∷ []) ∷ []) ∷ [])) [] ∷ [])) (0 ∷ 0 ∷ 0 ∷ 100 ∷ 100 ∷ 100 ∷ [])
     ≡ lines ("1 0 {session_create,s1,t1,[]}" ∷ "  s1: replies {session,s1}" ∷ "2 0 {process,s1,all,true,[call]}" ∷ "  s1: replies 1"
-        ∷ "3 0 {function,s1,{m,f,1},[{[a],[],[]},{['$1'],[{'>','$1',1}],[]},{'_',[],[{return_trace}]}],[]}" ∷ "  s1: replies 1"
-        ∷ "4 100 <0.100.0> call {m,go,[]}" ∷ "  s1: no setting for m:go/0"
-        ∷ "5 100 <0.100.0> call {m,f,[1]}" ∷ "  s1: clause 1: the head doesn't match at element 1" ∷ "  s1: clause 2: condition 1 is false" ∷ "  s1: clause 3 fires: return_trace"
-        ∷ "  s1: => {trace,<0.100.0>,call,{m,f,[1]}}" ∷ "  s1: the call is marked"
-        ∷ "6 100 <0.100.0> return_from {m,f,1} ok" ∷ "  s1: => {trace,<0.100.0>,return_from,{m,f,1},ok}" ∷ "  s1: the mark is gone" ∷ [])
+    ∷ "3 0 {function,s1,{m,f,1},[{[a],[],[]},{['$1'],[{'>','$1',1}],[]},{'_',[],[{return_trace}]}],[]}" ∷ "  s1: replies 1"
+    ∷ "4 100 <0.100.0> call {m,go,[]}" ∷ "  s1: no setting for m:go/0"
+    ∷ "5 100 <0.100.0> call {m,f,[1]}" ∷ "  s1: clause 1: the head doesn't match at element 1" ∷ "  s1: clause 2: condition 1 is false" ∷ "  s1: clause 3 fires: return_trace"
+    ∷ "  s1: => {trace,<0.100.0>,call,{m,f,[1]}}" ∷ "  s1: the call is marked"
+    ∷ "6 100 <0.100.0> return_from {m,f,1} ok" ∷ "  s1: => {trace,<0.100.0>,return_from,{m,f,1},ok}" ∷ "  s1: the mark is gone" ∷ [])
 unfolding is_written_bare digits
 clauses_of_a_call = refl

@@ -223,7 +223,11 @@ fn callers(rt: HostRuntime) -> Result<(), Fail> {
     let question = Question {
         caller: Some(b"{m,f,255}"),
         me: 163,
-        ..asked(Dialect::Call, "[]", "[{'_',[],[{message,{caller}},{enable_trace,{self},call}]}]")
+        ..asked(
+            Dialect::Call,
+            "[]",
+            "[{'_',[],[{message,{caller}},{enable_trace,{self},call}]}]",
+        )
     };
     let expected = "clause 1 fires: message {m,f,255}, <0.163.0> gets call
 => a message that ends in {m,f,255}
@@ -244,12 +248,27 @@ const WRONG: [Wrong; 13] = [
     ("[]", "{m,f,-1}", "[", "caller: no {Module,Function,Arity}"),
     ("[]", "{m,1,0}", "[", "caller: no {Module,Function,Arity}"),
     ("[]", "m", "[", "caller: no {Module,Function,Arity}"),
-    ("[]", "{m,f,0}", "[}", "specification: no term goes on so at 1"),
+    (
+        "[]",
+        "{m,f,0}",
+        "[}",
+        "specification: no term goes on so at 1",
+    ),
     ("[]", "{m,f,0}", "[]", "specification: badarg"),
     ("[]", "{m,f,0}", "a", "specification: badarg"),
     ("[]", "{m,f,0}", "[a]", "specification: badarg"),
-    ("[]", "{m,f,0}", "[{'_',[],[]},{'_',['$1'],[]}]", "specification: badarg"),
-    ("[]", "{m,f,0}", "[{'_',[],[{display,a}]}]", "specification: unsupported function display"),
+    (
+        "[]",
+        "{m,f,0}",
+        "[{'_',[],[]},{'_',['$1'],[]}]",
+        "specification: badarg",
+    ),
+    (
+        "[]",
+        "{m,f,0}",
+        "[{'_',[],[{display,a}]}]",
+        "specification: unsupported function display",
+    ),
 ];
 
 /// The clauses that can't be read in the last four of these.

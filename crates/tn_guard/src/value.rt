@@ -1,11 +1,11 @@
 // Values: terms that are lent, and what functions and expressions make.
-ghost use Rattle.std.specs.Prelude.{◌≡◌, ◌↔◌, IsTrue};
+ghost use Rattle.std.specs.Prelude.{◌≡◌};
 ghost use Rattle.std.specs.Option.{option_map};
 ghost use Rattle.def_term.specs.Tree.{int, atom};
 ghost use Rattle.def_term.specs.Atoms.{IsAtomText};
 ghost use Rattle.def_term.specs.Order.{same};
 ghost use Rattle.def_spec.specs.Functions.{truth};
-ghost use Rattle.tn_term.specs.Views.{tree_of, trees_of};
+ghost use Rattle.tn_term.specs.Views.{tree_of};
 ghost use Rattle.tn_guard.specs.Views.{word_seen, value_seen, shape_seen, parts_seen};
 ghost use Rattle.tn_guard.specs.Views.{text_in, pid_in, tuple_in, list_in};
 

@@ -1,10 +1,10 @@
 -- Reasons, one element, one expression or one condition after another.
-use Rattle.std.proofs.Common.{◌≡◌, ℕ, zero, suc, ◌+◌, ◌<◌, ◌≤◌, List, [], ◌∷◌, length, drop, refl, sym, ap, ◌∙◌, arith, Option, Some, None, Bool, true, false, if◌then◌else◌}
+use Rattle.std.proofs.Common.{◌≡◌, ℕ, zero, suc, ◌+◌, ◌<◌, List, [], ◌∷◌, length, drop, refl, sym, ap, ◌∙◌, arith, Option, Some, None, Bool, true, false, if◌then◌else◌}
 use Rattle.std.specs.Bool.{beq}
 use Rattle.std.specs.Cmp.{booleans_Decides}
 use Rattle.def_term.specs.Tree.{Tree, of_elements}
 use Rattle.def_spec.specs.Functions.{is_true, nth}
-use Rattle.def_spec.specs.Matching.{Pattern, Patterns, no_patterns, and_pattern, Bindings, bind_on, bindings_of}
+use Rattle.def_spec.specs.Matching.{Pattern, Patterns, and_pattern, Bindings, bind_on, bindings_of}
 use Rattle.def_spec.specs.Expressions as ex
 use Rattle.def_spec.specs.Expressions.{Exprs, no_exprs, and_expr}
 use Rattle.def_spec.specs.Outcome.{Clause, matched_term}

@@ -1,5 +1,5 @@
 -- What the code's reasons stand for.
-use Rattle.std.specs.Prelude.{ℕ, Option, map}
+use Rattle.std.specs.Prelude.{Option, map}
 use Rattle.std.specs.Option.{option_map}
 use Rattle.std.specs.Borrow.{Bor}
 use Rattle.std.specs.declared.alloc.Allocator.{Ghosts}
@@ -48,4 +48,4 @@ part_at r = option_map (λ e. expr_seen e.now) r
 -- what becomes of a clause
 abbrev pub verdict_seen : {A : Type 0} {G : Ghosts A} → Verdict A G → verdicts.Verdict
 verdict_seen (Fails r) = verdicts.fails (reason_seen r)
-verdict_seen (Fires b es) = verdicts.fires (bindings_seen b) (map effect_seen es.items)
+verdict_seen (Fires b es) = verdicts.fires (bindings_seen b.now) (map effect_seen es.items)

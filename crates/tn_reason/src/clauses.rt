@@ -44,6 +44,7 @@ pub fn verdict<'a, A: Allocator + Copy>(
         return Ok(Verdict::Fails(reason));
     }
     let effects = body_effects(&clause.body, &scene)?;
+    let bindings = &*arena.try_alloc(bindings)?;
     Ok(Verdict::Fires { bindings, effects })
 }
 

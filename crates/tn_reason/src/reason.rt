@@ -44,9 +44,9 @@ pub enum Reason<'a, A: Allocator> {
 pub enum Verdict<'a, A: Allocator + Copy> {
     /// It doesn't fire.
     Fails(Reason<'a, A>),
-    /// It fires, and its body asks for these effects.
+    /// It fires, and its body asks for these effects. What its variables are bound to lies in the arena.
     Fires {
-        bindings: Bindings<'a, A, &'a Bump<A>>,
+        bindings: &'a Bindings<'a, A, &'a Bump<A>>,
         effects: Vec<Effect<A>, A>,
     },
 }

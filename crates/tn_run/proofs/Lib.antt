@@ -1,6 +1,6 @@
 mod EndsLemmas
 mod AcceptLemmas
-mod RunLemmas
+pub mod RunLemmas
 mod LineLemmas
 mod RuleLemmas
 mod Defined

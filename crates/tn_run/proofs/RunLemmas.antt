@@ -16,7 +16,6 @@ use Rattle.tn_run.specs.declared.outcome.Refusal as code
 use Rattle.tn_run.specs.declared.outcome.Outcome.TheVariants.{Refused}
 use Rattle.tn_run.specs.declared.fault.RunFault.{RunFault}
 use Rattle.tn_run.specs.declared.fault.RunFault.TheVariants.{Write, OutOfMemory}
-use Rattle.tn_run.specs.declared.outcome.Outcome.{Outcome}
 
 -- where the text within the limit was taken, it was all that the reader had
 pub whole_text : (P : List ℕ → Type 0) (old new : Option (List ℕ)) (text : List ℕ) → TakesText old new text → length text ≤ 1048576 → P text → IfSome old P
@@ -52,15 +51,15 @@ refused_so bytes a (script.broken r n) s h = (s, h)
 refused_so bytes a script.bad_picks s h = absurd h
 
 -- what holds of the number that a fault tells
-pub told_number : (P : ℕ → Type 0) (fault : RunFault) → (m : ℕ) × (fault ≡ Write m) × P m → (n : ℕ) → IsErrOf {T = Outcome} (Err fault) (Write n) → P n
+pub told_number : {T : Type 0} (P : ℕ → Type 0) (fault : RunFault) → (m : ℕ) × (fault ≡ Write m) × P m → (n : ℕ) → IsErrOf {T = T} (Err fault) (Write n) → P n
 told_number P fault h n is =
     let (m, said, p) = h in
     let same : m ≡ n = cc in
     subst P same p
 
 -- what the reader's bytes give, with what was written of it
-pub with_front : (old : Option (List ℕ)) (P : List ℕ → Outcome → List ℕ → Type 0) (Q : List ℕ → Type 0) (outcome : Outcome) (output : List ℕ) → IfSome old (λ bytes. P bytes outcome output) → Q output
-    → IfSome old (λ bytes. (o : Outcome) × (out : List ℕ) × P bytes o out × Q out)
+pub with_front : {T : Type 0} (old : Option (List ℕ)) (P : List ℕ → T → List ℕ → Type 0) (Q : List ℕ → Type 0) (outcome : T) (output : List ℕ) → IfSome old (λ bytes. P bytes outcome output) → Q output
+    → IfSome old (λ bytes. (o : T) × (out : List ℕ) × P bytes o out × Q out)
 with_front None P Q outcome output h q = tt
 with_front (Some bytes) P Q outcome output h q = (outcome, output, h, q)
 

@@ -19,9 +19,11 @@ mod plan;
 mod runs;
 mod settling;
 
+pub use acceptance::{Denial, accept};
 pub use ends::{read_text, write_output};
 pub use fault::{LiveFault, RunFault};
 pub use laws::{a_rest_is_of_all_picks, a_run_is_as_defined};
+pub use line::refusal_bytes;
 pub use live::{Ran, Workers, run_live};
 pub use outcome::{Outcome, Refusal, Schedule};
 pub use runs::run;

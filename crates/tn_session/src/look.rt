@@ -19,6 +19,7 @@ pub struct Look<'a, A: Allocator> {
 }
 
 /// What the newest function command that covers a function sets, and whether it is local.
+#[derive(Drop)]
 pub struct Newest<'a, A: Allocator> {
     pub setting: Setting<&'a Spec<A>>,
     pub local: bool,

@@ -1,3 +1,4 @@
+pub mod Effects
 pub mod Questions
 pub mod Spelled
 pub mod Trials

@@ -1,8 +1,9 @@
 -- A specification and what it is held against, as texts: the answer, and why there is none.
-use Rattle.std.specs.Prelude.{◌≡◌, ◌≢◌, ◌≤◌, ℕ, List, map, pos, Option, Some, None, Result, Ok, Err}
+use Rattle.std.specs.Prelude.{◌≡◌, ◌≢◌, ◌≤◌, ℕ, List, map, pos, Option, Some, None, Ok}
+use Rattle.std.specs.Option.{option_map}
 use Rattle.std.specs.Borrow.{Bor}
 use Rattle.std.specs.declared.vec.Vec.{Vec}
-use Rattle.def_term.specs.Tree.{Tree, Trees, int, list, of_elements}
+use Rattle.def_term.specs.Tree.{Tree, int, tuple, list, Trees, none, more, of_elements}
 use Rattle.def_term.specs.Names.{Mfa, mfa_term}
 use Rattle.def_text.specs.Spelling.{Spells}
 use Rattle.def_spec.specs.Expressions as ex
@@ -14,7 +15,7 @@ use Rattle.def_explain.specs.Places.{stop_of}
 use Rattle.def_explain.specs.Texts.{trial_text}
 use Rattle.tn_term.specs.declared.term.Term.{Term}
 use Rattle.tn_term.specs.declared.mfa.Mfa as code
-use Rattle.tn_term.specs.Views.{tree_of, trees_of, mfa_seen}
+use Rattle.tn_term.specs.Views.{tree_of, mfa_seen}
 use Rattle.tn_text.specs.Answers.{IsRefusal}
 use Rattle.tn_spec.specs.declared.func.Dialect.{Dialect}
 use Rattle.tn_spec.specs.declared.spec.Spec.{Spec}
@@ -51,6 +52,10 @@ abbrev pub IsArityOf : Tree → Option ℕ → Type 0
 IsArityOf t (Some n) = (t ≡ int (pos n)) × IsArity n
 IsArityOf t None = (n : ℕ) → IsArity n → t ≢ int (pos n)
 
+-- a tuple of three
+abbrev pub triple : Tree → Tree → Tree → Tree
+triple t u v = tuple (more t (more u (more v none)))
+
 -- a term names a function, or none with at most 255 parameters
 abbrev pub IsMfaOf : {A : Type 0} → Tree → Option (code.Mfa A) → Type 0
 IsMfaOf t (Some m) = t ≡ mfa_term (mfa_seen m)
@@ -64,6 +69,21 @@ IsCallerFault bytes (faults.Caller f) = IsRefusal bytes f
 IsCallerFault bytes faults.NoCaller = (t : Tree) × Spells bytes t × ((f : Mfa) → IsArity f.arity → t ≢ mfa_term f)
 IsCallerFault bytes faults.OutOfMemory = Unit {0}
 IsCallerFault bytes _ = ⊥
+
+-- the function, where there is one
+abbrev pub mfas_seen : {A : Type 0} → Option (code.Mfa A) → Option Mfa
+mfas_seen m = option_map mfa_seen m
+
+-- the text names this function, or there is neither
+abbrev pub caller_is : Option (Bor (List ℕ)) → Option Mfa → Type 0
+caller_is None None = Unit {0}
+caller_is None (Some f) = ⊥
+caller_is (Some bytes) None = ⊥
+caller_is (Some bytes) (Some f) = Spells bytes.now (mfa_term f)
+
+-- there is a text, and it isn't right
+abbrev pub HasCallerFault : {A : Type 0} → Option (Bor (List ℕ)) → QuestionFault A → Type 0
+HasCallerFault text f = (bytes : Bor (List ℕ)) × (text ≡ Some bytes) × IsCallerFault bytes.now f
 
 -- ---- the specification
 
@@ -82,13 +102,6 @@ IsSpecificationFault bytes d faults.OutOfMemory = Unit {0}
 IsSpecificationFault bytes d _ = ⊥
 
 -- ---- the answer
-
--- the text names this function, or there is neither
-abbrev pub caller_is : Option (Bor (List ℕ)) → Option Mfa → Type 0
-caller_is None None = Unit {0}
-caller_is None (Some f) = ⊥
-caller_is (Some bytes) None = ⊥
-caller_is (Some bytes) (Some f) = Spells bytes.now (mfa_term f)
 
 -- what the specification is evaluated in
 abbrev pub context_of : Question → List Tree → Option Mfa → ex.Context
@@ -114,10 +127,10 @@ HasCaller q = (c : Option Mfa) × caller_is q.caller c
 
 -- the texts before it are right, and this one isn't
 abbrev pub IsNoAnswer : {A : Type 0} → Question → QuestionFault A → Type 0
-IsNoAnswer q (faults.List f) = IsListFault q.list.now (faults.List f)
-IsNoAnswer q faults.NoList = IsListFault q.list.now faults.NoList
-IsNoAnswer q (faults.Caller f) = HasList q × ((bytes : Bor (List ℕ)) × (q.caller ≡ Some bytes) × IsCallerFault bytes.now (faults.Caller f))
-IsNoAnswer q faults.NoCaller = HasList q × ((bytes : Bor (List ℕ)) × (q.caller ≡ Some bytes) × IsCallerFault bytes.now faults.NoCaller)
-IsNoAnswer q (faults.Text f) = HasList q × HasCaller q × IsSpecificationFault q.spec.now q.dialect (faults.Text f)
-IsNoAnswer q (faults.Spec n f) = HasList q × HasCaller q × IsSpecificationFault q.spec.now q.dialect (faults.Spec n f)
-IsNoAnswer q faults.OutOfMemory = Unit {0}
+IsNoAnswer {A} q (faults.List f) = IsListFault {A = A} q.list.now (faults.List f)
+IsNoAnswer {A} q faults.NoList = IsListFault {A = A} q.list.now faults.NoList
+IsNoAnswer {A} q (faults.Caller f) = HasList q × ((bytes : Bor (List ℕ)) × (q.caller ≡ Some bytes) × IsCallerFault {A = A} bytes.now (faults.Caller f))
+IsNoAnswer {A} q faults.NoCaller = HasList q × ((bytes : Bor (List ℕ)) × (q.caller ≡ Some bytes) × IsCallerFault {A = A} bytes.now faults.NoCaller)
+IsNoAnswer {A} q (faults.Text f) = HasList q × HasCaller q × IsSpecificationFault {A = A} q.spec.now q.dialect (faults.Text f)
+IsNoAnswer {A} q (faults.Spec n f) = HasList q × HasCaller q × IsSpecificationFault {A = A} q.spec.now q.dialect (faults.Spec n f)
+IsNoAnswer {A} q faults.OutOfMemory = Unit {0}

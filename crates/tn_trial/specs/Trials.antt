@@ -1,15 +1,29 @@
 -- The texts of trials, of the code's specifications and contexts.
-use Rattle.std.specs.Prelude.{ℕ, List, [], ◌∷◌, ◌++◌, codes, map}
+use Rattle.std.specs.Prelude.{ℕ, List, [], ◌∷◌, ◌++◌, Option, codes, map}
+use Rattle.std.specs.Option.{option_map}
+use Rattle.std.specs.Borrow.{Bor}
 use Rattle.std.specs.declared.alloc.Allocator.{Ghosts}
+use Rattle.def_term.specs.Tree.{Tree}
 use Rattle.def_spec.specs.Matching.{Bindings}
-use Rattle.def_spec.specs.Expressions.{Effect}
+use Rattle.def_spec.specs.Expressions.{Dialect, Effect}
+use Rattle.def_session.specs.Messages.{last_message, later}
 use Rattle.def_explain.specs.Reasons.{Reason}
-use Rattle.def_explain.specs.Texts.{clause_text, reason_text, fires_text, trial_text}
+use Rattle.def_explain.specs.Texts.{clause_text, reason_text, effects_text, end_text, fires_text, trial_text}
+use Rattle.tn_term.specs.Views.{tree_of}
+use Rattle.tn_term.specs.declared.term.Term.{Term}
 use Rattle.tn_spec.specs.Views.{dialect_of, clause_seen}
 use Rattle.tn_spec.specs.declared.spec.Spec.{Spec}
 use Rattle.tn_action.specs.Views.{context_seen}
 use Rattle.tn_action.specs.declared.context.Context.{Context}
 use Rattle.tn_trial.specs.declared.trial.Trial.{Trial}
+
+-- the term that is lent, where there is one
+abbrev pub lent_tree : {A : Type 0} → Option (Bor (Term A)) → Option Tree
+lent_tree t = option_map (λ b. tree_of b.now) t
+
+-- the last message of these effects, else the one before them
+abbrev pub message_behind : Option Tree → List Effect → Option Tree
+message_behind before es = later before (last_message es)
 
 -- what becomes of the clauses of a specification in a context
 abbrev pub trial_of : {A : Type 0} → Spec A → Context A → List ℕ
@@ -18,6 +32,14 @@ trial_of s c = trial_text (dialect_of s.dialect) (map clause_seen s.clauses.item
 -- the line of a clause that doesn't fire
 abbrev pub failed_text : ℕ → Reason → List ℕ
 failed_text n r = clause_text n (codes ": " ++ reason_text r ++ 10 ∷ [])
+
+-- that a clause fires, and what its body asks for
+abbrev pub fires_line : ℕ → List Effect → List ℕ
+fires_line n es = clause_text n (codes " fires" ++ effects_text es ++ 10 ∷ [])
+
+-- the line of the message that the effects make
+abbrev pub message_line : Dialect → ℕ → List Effect → List ℕ
+message_line d me es = codes "=> " ++ end_text d me es ++ 10 ∷ []
 
 module _ {A : Type 0} {G : Ghosts A} (t : Trial A G) where
   -- the lines of a clause that fires

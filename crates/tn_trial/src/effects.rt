@@ -1,5 +1,5 @@
 // The texts of effects.
-ghost use Rattle.std.specs.Prelude.{◌≡◌, ◌++◌, ◌∷◌, List, OnOk, false, map};
+ghost use Rattle.std.specs.Prelude.{◌≡◌, ◌++◌, ◌∷◌, ℕ, List, OnOk, false, map};
 ghost use Rattle.def_term.specs.Text.{pid_text};
 ghost use Rattle.def_spec.specs.Expressions as ex;
 ghost use Rattle.def_spec.specs.Flags.{flags_by_name};
@@ -7,26 +7,27 @@ ghost use Rattle.def_explain.specs.Texts.{silent_text, effect_text, effects_text
 ghost use Rattle.tn_flags.specs.Views.{flags_of};
 ghost use Rattle.tn_action.specs.Views.{effect_seen};
 ghost use Rattle.tn_text.specs.Writes.{Grows};
+ghost use Rattle.tn_trial.specs.Effects.{said_where, said_of, next_effect_text};
 
 use crate::spelling::put_term;
-use itoa::Buffer;
 use std::alloc::{AllocError, Allocator};
 use tn_action::Effect;
 use tn_flags::Flags;
+use tn_term::Term;
 
-/// Appends the text of a pid.
-fn put_pid<B: Allocator>(pid: u32, out: &mut Vec<u8, B>) -> Result<(), AllocError>
+/// Appends the text of a pid. After an `Err` a part of it may stand there.
+pub fn put_pid<B: Allocator>(pid: u32, out: &mut Vec<u8, B>) -> Result<(), AllocError>
     ensures ok { OnOk result (out.new.items ≡ out.old.items ++ pid_text pid) }
     ensures grows { Grows out.old.items out.new.items }
 {
-    let mut buffer = Buffer::new();
-    out.extend_from_slice(b"<0.")?;
-    out.extend_from_slice(buffer.format(pid).as_bytes())?;
-    out.extend_from_slice(b".0>")
+    put_term(&Term::<B>::Pid(pid), out)
 }
 
-/// The names of the flags, and whether each is in the set.
-fn named(flags: Flags) -> [(&'static [u8], bool); 10] {
+/// The written names of the flags, and whether each is in the set.
+#[tactic(auto, unfolding(def_term::specs::Text::is_written_bare))]
+fn named(flags: Flags) -> [(&'static [u8], bool); 10]
+    ensures { (verb : List ℕ) → said_of verb result ≡ said_of_each verb (flags_of flags) flags_by_name }
+{
     [
         (b"send", flags.send),
         (b"'receive'", flags.receive),
@@ -41,8 +42,25 @@ fn named(flags: Flags) -> [(&'static [u8], bool); 10] {
     ]
 }
 
-/// Appends each flag of a set behind a verb.
-fn put_flags<B: Allocator>(
+/// Appends a flag behind a verb, where it holds.
+fn put_flag<B: Allocator>(
+    verb: &[u8],
+    name: &[u8],
+    holds: bool,
+    out: &mut Vec<u8, B>,
+) -> Result<(), AllocError>
+    ensures ok { OnOk result (out.new.items ≡ out.old.items ++ said_where holds verb.now name.now) }
+    ensures grows { Grows out.old.items out.new.items }
+{
+    if !holds {
+        return Ok(());
+    }
+    out.extend_from_slice(verb)?;
+    out.extend_from_slice(name)
+}
+
+/// Appends each flag of a set behind a verb. After an `Err` a part of them may stand there.
+pub fn put_flags<B: Allocator>(
     verb: &'static [u8],
     flags: Flags,
     out: &mut Vec<u8, B>,
@@ -50,11 +68,9 @@ fn put_flags<B: Allocator>(
     ensures ok { OnOk result (out.new.items ≡ out.old.items ++ said_of_each verb.now (flags_of flags) flags_by_name) }
     ensures grows { Grows out.old.items out.new.items }
 {
-    for (name, holds) in named(flags) {
-        if holds {
-            out.extend_from_slice(verb)?;
-            out.extend_from_slice(name)?;
-        }
+    let flags = named(flags);
+    for (name, holds) in &flags {
+        put_flag(verb, name, *holds, out)?;
     }
     Ok(())
 }
@@ -90,6 +106,18 @@ fn put_effect<A: Allocator, B: Allocator>(
     }
 }
 
+/// Appends a comma and what an effect is.
+fn put_next_effect<A: Allocator, B: Allocator>(
+    effect: &Effect<A>,
+    out: &mut Vec<u8, B>,
+) -> Result<(), AllocError>
+    ensures ok { OnOk result (out.new.items ≡ out.old.items ++ next_effect_text (effect_seen effect.now)) }
+    ensures grows { Grows out.old.items out.new.items }
+{
+    out.extend_from_slice(b", ")?;
+    put_effect(effect, out)
+}
+
 /// Appends several effects, with a comma between any two, behind a colon. After an `Err` a part of it may
 /// stand there.
 pub fn put_effects<A: Allocator, B: Allocator>(
@@ -105,8 +133,7 @@ pub fn put_effects<A: Allocator, B: Allocator>(
     out.extend_from_slice(b": ")?;
     put_effect(&effects[0], out)?;
     for i in 1..effects.len() {
-        out.extend_from_slice(b", ")?;
-        put_effect(&effects[i], out)?;
+        put_next_effect(&effects[i], out)?;
     }
     Ok(())
 }
@@ -124,7 +151,8 @@ pub fn is_silent<A: Allocator>(me: u32, effects: &[Effect<A>]) -> bool
 
 /// The same behind one effect.
 fn silent_after<A: Allocator>(me: u32, silent: bool, effect: &Effect<A>) -> bool
-    ensures { (es : List ex.Effect) → silent_behind me silent (effect_seen effect.now ∷ es) ≡ silent_behind me result es }
+    ensures { (es : List ex.Effect) →
+        silent_behind me silent (effect_seen effect.now ∷ es) ≡ silent_behind me result es }
 {
     match effect {
         Effect::Silent(on) => *on,

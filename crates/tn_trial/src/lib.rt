@@ -11,6 +11,8 @@ mod reasons;
 mod spelling;
 mod trial;
 
+pub use effects::{put_effects, put_flags, put_pid};
 pub use question::{Question, QuestionFault, answer};
-pub use reasons::put_reason;
-pub use trial::put_trial;
+pub use reasons::{put_number, put_reason};
+pub use spelling::put_term;
+pub use trial::{put_clause, put_trial};

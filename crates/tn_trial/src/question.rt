@@ -1,9 +1,11 @@
 // A specification and what it is held against, as texts.
 ghost use Rattle.std.specs.Prelude.{◌≡◌, IfOk, MatchResult};
+ghost use Rattle.def_term.specs.Tree.{atom, tuple};
 ghost use Rattle.def_explain.specs.Places.{stop_of};
-ghost use Rattle.tn_term.specs.Views.{tree_of};
+ghost use Rattle.tn_term.specs.Views.{tree_of, trees_of};
 ghost use Rattle.tn_spec.specs.Views.{dialect_of};
-ghost use Rattle.tn_trial.specs.Questions.{IsListRead, IsListFault, IsArityOf, IsMfaOf, IsNamed, IsCallerFault};
+ghost use Rattle.tn_trial.specs.Questions.{IsListRead, IsListFault, IsArityOf, triple, IsMfaOf, IsNamed, IsCallerFault};
+ghost use Rattle.tn_trial.specs.Questions.{mfas_seen, caller_is, HasCallerFault};
 ghost use Rattle.tn_trial.specs.Questions.{IsSpecificationRead, IsSpecificationFault, IsAnswer, IsNoAnswer};
 
 use crate::trial::put_trial;
@@ -13,7 +15,7 @@ use thiserror::Error;
 use tn_action::Context;
 use tn_guard::Parts;
 use tn_spec::{Dialect, Spec, SpecFault, clause, spec_of};
-use tn_term::{Alive, Mfa, PROCESSES, Term};
+use tn_term::{Alive, Atom, Mfa, PROCESSES, Term};
 use tn_text::{TextFault, read_term};
 
 /// A specification and what it is held against. Each text is one term, without a full stop.
@@ -87,16 +89,15 @@ fn arity_of<A: Allocator>(term: &Term<A>) -> Option<u8>
     }
 }
 
-/// The function that a term `{M,F,A}` names.
-fn mfa_of<A: Allocator + Copy>(alloc: A, term: &Term<A>) -> Result<Option<Mfa<A>>, AllocError>
-    ensures { IfOk result (λ m. IsMfaOf (tree_of term.now) m) }
+/// The function of this module and name with as many parameters as a term says, where it says so.
+fn with_arity<A: Allocator + Copy>(
+    alloc: A,
+    module: &Atom<A>,
+    name: &Atom<A>,
+    arity: &Term<A>,
+) -> Result<Option<Mfa<A>>, AllocError>
+    ensures { IfOk result (λ m. IsMfaOf (triple (atom «module».now) (atom name.now) (tree_of arity.now)) m) }
 {
-    let Term::Tuple(parts) = term else {
-        return Ok(None);
-    };
-    let [Term::Atom(module), Term::Atom(name), arity] = parts.as_slice() else {
-        return Ok(None);
-    };
     let Some(arity) = arity_of(arity) else {
         return Ok(None);
     };
@@ -105,6 +106,44 @@ fn mfa_of<A: Allocator + Copy>(alloc: A, term: &Term<A>) -> Result<Option<Mfa<A>
         name: name.copy_into(alloc)?,
         arity,
     }))
+}
+
+/// The function that a tuple of these three names.
+fn mfa_of_three<A: Allocator + Copy>(
+    alloc: A,
+    module: &Term<A>,
+    name: &Term<A>,
+    arity: &Term<A>,
+) -> Result<Option<Mfa<A>>, AllocError>
+    ensures { IfOk result (λ m. IsMfaOf (triple (tree_of «module».now) (tree_of name.now) (tree_of arity.now)) m) }
+{
+    match (module, name) {
+        (Term::Atom(module), Term::Atom(name)) => with_arity(alloc, module, name, arity),
+        _ => Ok(None),
+    }
+}
+
+/// The function that a tuple of these fields names.
+fn mfa_in<A: Allocator + Copy>(
+    alloc: A,
+    fields: &Vec<Term<A>, A>,
+) -> Result<Option<Mfa<A>>, AllocError>
+    ensures { IfOk result (λ m. IsMfaOf (tuple (trees_of fields.now.items)) m) }
+{
+    if fields.len() != 3 {
+        return Ok(None);
+    }
+    Ok(mfa_of_three(alloc, &fields[0], &fields[1], &fields[2])?)
+}
+
+/// The function that a term `{M,F,A}` names.
+fn mfa_of<A: Allocator + Copy>(alloc: A, term: &Term<A>) -> Result<Option<Mfa<A>>, AllocError>
+    ensures { IfOk result (λ m. IsMfaOf (tree_of term.now) m) }
+{
+    match term {
+        Term::Tuple(fields) => mfa_in(alloc, fields),
+        _ => Ok(None),
+    }
 }
 
 /// The function that a text `{M,F,A}` names.
@@ -119,6 +158,19 @@ fn named<A: Allocator + Copy>(alloc: A, text: &[u8]) -> Result<Mfa<A>, QuestionF
         },
         Err(TextFault::OutOfMemory) => Err(QuestionFault::OutOfMemory),
         Err(fault) => Err(QuestionFault::Caller(fault)),
+    }
+}
+
+/// The function that the text of a caller names, where there is one.
+fn caller_of<A: Allocator + Copy>(
+    alloc: A,
+    text: Option<&[u8]>,
+) -> Result<Option<Mfa<A>>, QuestionFault<A>>
+    ensures { MatchResult result (λ m. caller_is text.entry (mfas_seen m)) (λ fault. HasCallerFault text.entry fault) }
+{
+    match text {
+        Some(text) => Ok(Some(named(alloc, text)?)),
+        None => Ok(None),
     }
 }
 
@@ -179,10 +231,7 @@ pub fn answer<A: Allocator + Copy>(
     ensures { MatchResult result (λ text. IsAnswer question.now text.items) (λ fault. IsNoAnswer question.now fault) }
 {
     let list = list_of(alloc, question.list)?;
-    let caller = match question.caller {
-        Some(text) => Some(named(alloc, text)?),
-        None => None,
-    };
+    let caller = caller_of(alloc, question.caller)?;
     let spec = specification(alloc, question.spec, question.dialect)?;
     let alive = Alive::first(PROCESSES);
     let context = Context {

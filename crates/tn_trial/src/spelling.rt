@@ -5,7 +5,7 @@ ghost use Rattle.def_explain.specs.Spellings.{spelling, is_itself, reads_as_itse
 ghost use Rattle.tn_term.specs.Views.{tree_of};
 ghost use Rattle.tn_spec.specs.Views.{expr_seen};
 ghost use Rattle.tn_text.specs.Writes.{Grows};
-ghost use Rattle.tn_trial.specs.Spelled.{spelled_list, variable_name};
+ghost use Rattle.tn_trial.specs.Spelled.{spelled_list, spelled_behind, variable_name};
 
 use crate::names::{action_text, function_text};
 use itoa::Buffer;
@@ -43,7 +43,8 @@ fn put_tuple<A: Allocator, B: Allocator>(
     exprs: &Vec<Expr<A>, A>,
     out: &mut Vec<u8, B>,
 ) -> Result<(), AllocError>
-    ensures ok { OnOk result (out.new.items ≡ out.old.items ++ 123 ∷ 123 ∷ joined (spelled_list exprs.now) ++ 125 ∷ 125 ∷ []) }
+    ensures ok { OnOk result (out.new.items ≡
+        out.old.items ++ 123 ∷ 123 ∷ joined (spelled_list exprs.now) ++ 125 ∷ 125 ∷ []) }
     ensures grows { Grows out.old.items out.new.items }
 {
     out.extend_from_slice(b"{{")?;
@@ -79,10 +80,7 @@ fn put_named<A: Allocator, B: Allocator>(
 {
     out.push(b'{')?;
     out.extend_from_slice(name)?;
-    for i in 0..exprs.len() {
-        out.push(b',')?;
-        put_expr(&exprs[i], out)?;
-    }
+    put_behind(exprs, 0, out)?;
     out.push(b'}')?;
     Ok(())
 }
@@ -100,7 +98,20 @@ fn put_all<A: Allocator, B: Allocator>(
         return Ok(());
     }
     put_expr(&exprs[0], out)?;
-    for i in 1..exprs.len() {
+    put_behind(exprs, 1, out)
+}
+
+/// Appends the texts of the expressions behind the first so many, each with a comma before it.
+#[cycle(put)]
+fn put_behind<A: Allocator, B: Allocator>(
+    exprs: &Vec<Expr<A>, A>,
+    count: usize,
+    out: &mut Vec<u8, B>,
+) -> Result<(), AllocError>
+    ensures ok { OnOk result (out.new.items ≡ out.old.items ++ each_after_comma (spelled_behind count exprs.now)) }
+    ensures grows { Grows out.old.items out.new.items }
+{
+    for i in count..exprs.len() {
         out.push(b',')?;
         put_expr(&exprs[i], out)?;
     }

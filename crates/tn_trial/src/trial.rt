@@ -1,16 +1,16 @@
 // What becomes of the clauses of a specification.
-ghost use Rattle.std.specs.Prelude.{◌≡◌, ◌++◌, [], OnOk, OnErr, flat_map, map};
-ghost use Rattle.std.specs.Option.{option_map};
-ghost use Rattle.def_session.specs.Messages.{last_message};
+ghost use Rattle.std.specs.Prelude.{◌≡◌, ◌++◌, ◌∷◌, List, [], OnOk, OnErr, flat_map, map};
+ghost use Rattle.def_session.specs.Messages as messages;
+ghost use Rattle.def_spec.specs.Expressions as ex;
 ghost use Rattle.def_explain.specs.Texts.{binding_line, ending_text, end_text, clause_text};
-ghost use Rattle.tn_term.specs.Views.{tree_of};
 ghost use Rattle.tn_guard.specs.Views.{value_seen};
-ghost use Rattle.tn_head.specs.Views.{bindings_seen};
+ghost use Rattle.tn_head.specs.Views.{binding_seen, bindings_seen};
 ghost use Rattle.tn_spec.specs.Views.{dialect_of};
 ghost use Rattle.tn_action.specs.Views.{effect_seen};
 ghost use Rattle.tn_reason.specs.Views.{reason_seen};
 ghost use Rattle.tn_text.specs.Writes.{Grows};
-ghost use Rattle.tn_trial.specs.Trials.{trial_of, trial_in, failed_text, fired_text};
+ghost use Rattle.tn_trial.specs.Trials.{lent_tree, message_behind, trial_of, trial_in, failed_text, fired_text};
+ghost use Rattle.tn_trial.specs.Trials.{fires_line, message_line};
 
 use crate::effects::{is_silent, put_effects};
 use crate::reasons::{put_number, put_reason, put_value};
@@ -19,7 +19,7 @@ use bumpalo::Bump;
 use std::alloc::{AllocError, Allocator};
 use tn_action::{Context, Effect};
 use tn_guard::Value;
-use tn_head::Bindings;
+use tn_head::{Binding, Bindings};
 use tn_reason::{Reason, Verdict, verdict};
 use tn_spec::{Dialect, Spec};
 use tn_term::Term;
@@ -42,6 +42,22 @@ fn put_binding<A: Allocator, C: Allocator + Copy, B: Allocator>(
     Ok(())
 }
 
+/// Appends the line of each of the bindings.
+fn put_each<A: Allocator, C: Allocator + Copy, B: Allocator>(
+    alloc: C,
+    bindings: &[Binding<'_, A>],
+    out: &mut Vec<u8, B>,
+) -> Result<(), AllocError>
+    ensures ok { OnOk result (out.new.items ≡
+        out.old.items ++ flat_map binding_line (map binding_seen bindings.now)) }
+    ensures grows { Grows out.old.items out.new.items }
+{
+    for binding in bindings {
+        put_binding(alloc, binding.number, binding.value, out)?;
+    }
+    Ok(())
+}
+
 /// Appends the line of each binding, by rising number.
 fn put_bindings<'a, A: Allocator, D: Allocator, C: Allocator + Copy, B: Allocator>(
     alloc: C,
@@ -51,25 +67,34 @@ fn put_bindings<'a, A: Allocator, D: Allocator, C: Allocator + Copy, B: Allocato
     ensures ok { OnOk result (out.new.items ≡ out.old.items ++ flat_map binding_line (bindings_seen bindings.now)) }
     ensures grows { Grows out.old.items out.new.items }
 {
-    let bindings = match bindings {
-        Bindings::Whole(number, list) => return put_binding(alloc, *number, list.list(), out),
-        Bindings::Each(bindings) => bindings.as_slice(),
-    };
-    for i in 0..bindings.len() {
-        put_binding(alloc, bindings[i].number, bindings[i].value, out)?;
+    match bindings {
+        Bindings::Whole(number, list) => put_binding(alloc, *number, list.list(), out),
+        Bindings::Each(bindings) => put_each(alloc, bindings.as_slice(), out),
     }
-    Ok(())
+}
+
+/// The message that an effect gives, else the one before it.
+fn message_or<'e, A: Allocator>(
+    before: Option<&'e Term<A>>,
+    effect: &'e Effect<A>,
+) -> Option<&'e Term<A>>
+    ensures { (es : List ex.Effect) →
+        message_behind (lent_tree before.entry) (effect_seen effect.now ∷ es) ≡ message_behind (lent_tree result) es }
+{
+    match effect {
+        Effect::Message(term) => Some(term),
+        Effect::ReturnTrace | Effect::ExceptionTrace | Effect::Silent(_) | Effect::Change { .. } =>
+            before,
+    }
 }
 
 /// The last message that the effects give.
 fn last_message<A: Allocator>(effects: &[Effect<A>]) -> Option<&Term<A>>
-    ensures { option_map (λ t. tree_of t.now) result ≡ last_message (map effect_seen effects.now) }
+    ensures { lent_tree result ≡ messages.last_message (map effect_seen effects.now) }
 {
     let mut last = None;
     for effect in effects {
-        if let Effect::Message(term) = effect {
-            last = Some(term);
-        }
+        last = message_or(last, effect);
     }
     last
 }
@@ -79,7 +104,7 @@ fn put_ending<A: Allocator, B: Allocator>(
     last: Option<&Term<A>>,
     out: &mut Vec<u8, B>,
 ) -> Result<(), AllocError>
-    ensures ok { OnOk result (out.new.items ≡ out.old.items ++ ending_text (option_map (λ t. tree_of t.now) last)) }
+    ensures ok { OnOk result (out.new.items ≡ out.old.items ++ ending_text (lent_tree last.entry)) }
     ensures grows { Grows out.old.items out.new.items }
 {
     let Some(term) = last else {
@@ -114,13 +139,46 @@ fn put_end<A: Allocator, B: Allocator>(
     put_ending(last_message(effects), out)
 }
 
-/// Appends a clause's number, behind so many clauses.
-fn put_clause<B: Allocator>(before: usize, out: &mut Vec<u8, B>) -> Result<(), AllocError>
+/// Appends a clause's number, behind so many clauses. After an `Err` a part of it may stand there.
+pub fn put_clause<B: Allocator>(before: usize, out: &mut Vec<u8, B>) -> Result<(), AllocError>
     ensures ok { OnOk result (out.new.items ≡ out.old.items ++ clause_text before []) }
     ensures grows { Grows out.old.items out.new.items }
 {
     out.extend_from_slice(b"clause ")?;
     put_number(before, out)
+}
+
+/// Appends that the clause fires, and what its body asks for.
+fn put_fires<A: Allocator, B: Allocator>(
+    before: usize,
+    effects: &[Effect<A>],
+    out: &mut Vec<u8, B>,
+) -> Result<(), AllocError>
+    ensures ok { OnOk result (out.new.items ≡ out.old.items ++ fires_line before (map effect_seen effects.now)) }
+    ensures grows { Grows out.old.items out.new.items }
+{
+    put_clause(before, out)?;
+    out.extend_from_slice(b" fires")?;
+    put_effects(effects, out)?;
+    out.push(b'\n')?;
+    Ok(())
+}
+
+/// Appends the line of the message that the effects of a clause that fires in this process make.
+fn put_message<A: Allocator, B: Allocator>(
+    dialect: Dialect,
+    me: u32,
+    effects: &[Effect<A>],
+    out: &mut Vec<u8, B>,
+) -> Result<(), AllocError>
+    ensures ok { OnOk result (out.new.items ≡
+        out.old.items ++ message_line (dialect_of dialect) me (map effect_seen effects.now)) }
+    ensures grows { Grows out.old.items out.new.items }
+{
+    out.extend_from_slice(b"=> ")?;
+    put_end(dialect, me, effects, out)?;
+    out.push(b'\n')?;
+    Ok(())
 }
 
 /// A specification that is held against a list.
@@ -164,15 +222,9 @@ impl<'a, 'c, A: Allocator + Copy> Trial<'a, 'c, A> {
             fired_text self.now before (bindings_seen bindings.now) (map effect_seen effects.now)) }
         ensures grows { Grows out.old.items out.new.items }
     {
-        put_clause(before, out)?;
-        out.extend_from_slice(b" fires")?;
-        put_effects(effects, out)?;
-        out.push(b'\n')?;
+        put_fires(before, effects, out)?;
         put_bindings(self.alloc, bindings, out)?;
-        out.extend_from_slice(b"=> ")?;
-        put_end(self.spec.dialect, self.context.me, effects, out)?;
-        out.push(b'\n')?;
-        Ok(())
+        put_message(self.spec.dialect, self.context.me, effects, out)
     }
 
     /// Appends what becomes of the clauses, up to the first that fires.
@@ -182,10 +234,16 @@ impl<'a, 'c, A: Allocator + Copy> Trial<'a, 'c, A> {
     {
         let clauses = &self.spec.clauses;
         for i in 0..clauses.len() {
-            match verdict(self.alloc, self.arena, self.spec.dialect, &clauses[i], self.context)? {
+            match verdict(
+                self.alloc,
+                self.arena,
+                self.spec.dialect,
+                &clauses[i],
+                self.context,
+            )? {
                 Verdict::Fails(reason) => self.put_failed(i, reason, out)?,
                 Verdict::Fires { bindings, effects } => {
-                    return self.put_fired(i, &bindings, &effects, out);
+                    return self.put_fired(i, bindings, &effects, out);
                 }
             }
         }

@@ -1,14 +1,11 @@
-use Rattle.std.proofs.Common.{◌≡◌, ◌∙◌, ◌+◌, suc, sym, ap, refl, arith, drop, Some, None}
+use Rattle.std.proofs.Common.{◌∙◌, ◌+◌, suc, sym, ap, refl, arith, drop}
 use Rattle.std.specs.Option.{option_map}
-use Rattle.def_term.specs.Tree.{Tree}
-use Rattle.def_spec.specs.Expressions as ex
 use Rattle.def_explain.specs.Reasons.{untrue_in}
 use Rattle.tn_guard.specs.Views.{value_seen}
 use Rattle.tn_head.specs.Views.{bindings_seen}
 use Rattle.tn_spec.specs.Views.{dialect_of, expr_seen, exprs_seen}
 use Rattle.tn_action.specs.Views.{context_seen}
 use Rattle.tn_action.proofs.Steps.{exprs_here}
-use Rattle.tn_reason.specs.Reasoned.{untrue_of}
 use Rattle.tn_reason.specs.Views.{part_at}
 use Rattle.tn_reason.proofs.Steps.{untrue-has-value, untrue-faults, untrue-goes-on, in-conditions}
 use Rattle.tn_reason.proofs.clauses.first_untrue.Goals as goal

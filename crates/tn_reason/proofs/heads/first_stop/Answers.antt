@@ -1,4 +1,4 @@
-use Rattle.std.proofs.Common.{◌≡◌, ◌∙◌, ◌+◌, ◌<◌, length, sym, ap, refl, arith, drop, map, Some, None, if◌then◌else◌}
+use Rattle.std.proofs.Common.{◌≡◌, ◌∙◌, ◌+◌, ap, refl, arith, drop, map, Some, None, if◌then◌else◌}
 use Rattle.def_spec.specs.Matching.{bind_on}
 use Rattle.tn_guard.specs.Views.{value_seen, parts_list}
 use Rattle.tn_head.specs.Views.{binding_seen}

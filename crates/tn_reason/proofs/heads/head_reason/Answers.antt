@@ -1,4 +1,4 @@
-use Rattle.std.proofs.Common.{◌≡◌, ◌∙◌, length, sym, ap}
+use Rattle.std.proofs.Common.{◌∙◌, sym, ap}
 use Rattle.tn_guard.specs.Views.{parts_list}
 use Rattle.tn_spec.specs.Views.{patterns_seen}
 use Rattle.tn_reason.specs.Reasoned.{head_reason_of}
@@ -12,13 +12,13 @@ pub returns-then-len : goal.returns-then-len
 returns-then-len g c =
     let ps = c.in-List.patterns in
     sym (
-        ap (λ h. head_reason_of h c.args.list) c.in-List.is
-        ∙ other-length (patterns_seen ps.items) (parts_list c.args.list) (λ e. c.if-len.true (c.len.ensures ∙ ps.ok.0 ∙ sym (count-patterns ps.items) ∙ e ∙ sym (count-elements (parts_list c.args.list)) ∙ sym c.len-in-List.ensures.counted)))
+    ap (λ h. head_reason_of h c.args.list) c.in-List.is
+    ∙ other-length (patterns_seen ps.items) (parts_list c.args.list) (λ e. c.if-len.true (c.len.ensures ∙ ps.ok.0 ∙ sym (count-patterns ps.items) ∙ e ∙ sym (count-elements (parts_list c.args.list)) ∙ sym c.len-in-List.ensures.counted)))
 
 pub returns-in_ok-first_stop-in-List : goal.returns-in_ok-first_stop-in-List
 returns-in_ok-first_stop-in-List g c =
     let ps = c.in-List.patterns in
     c.in_ok-first_stop-in-List.ensures
     ∙ sym (
-        ap (λ h. head_reason_of h c.args.list) c.in-List.is
-        ∙ same-length (patterns_seen ps.items) (parts_list c.args.list) (count-patterns ps.items ∙ sym (c.len.ensures ∙ ps.ok.0) ∙ c.if-len.false ∙ c.len-in-List.ensures.counted ∙ count-elements (parts_list c.args.list)))
+    ap (λ h. head_reason_of h c.args.list) c.in-List.is
+    ∙ same-length (patterns_seen ps.items) (parts_list c.args.list) (count-patterns ps.items ∙ sym (c.len.ensures ∙ ps.ok.0) ∙ c.if-len.false ∙ c.len-in-List.ensures.counted ∙ count-elements (parts_list c.args.list)))

@@ -1,0 +1,5 @@
+pub mod Before
+pub mod ClauseLines
+pub mod Behind
+pub mod Made
+pub mod Texts

@@ -1,0 +1,15 @@
+use Rattle.std.proofs.Common.{◌++◌, [], ◌∷◌, codes, map}
+use Rattle.def_explain.specs.Accounts.{said}
+use Rattle.def_explain.specs.Texts.{clause_text, effects_text}
+use Rattle.tn_action.specs.Views.{effect_seen}
+use Rattle.tn_lines.proofs.Texts.{line, clause_line, grown, grew}
+use Rattle.tn_lines.proofs.line.Lines.put_firing.Goals as goal
+
+pub returns-clause-ok : goal.returns-clause-ok
+returns-clause-ok g c =
+    line c.args.self.now.name.now (said (clause_text c.args.before (codes " fires" ++ effects_text (map effect_seen c.args.effects.now)))) _ _ _ _ c.in_ok-begin.ensures.ok
+    (clause_line c.args.before (codes " fires") _ _ _ _ _ c.in_ok-put_clause.ensures.ok c.in_ok-extend_from_slice.ensures.items c.in_ok-put_effects.ensures.ok) c.in_ok-push.ensures.items
+
+pub returns-clause-grows : goal.returns-clause-grows
+returns-clause-grows g c =
+    grown c.in_ok-begin.ensures.grows (grown c.in_ok-put_clause.ensures.grows (grown (grew _ c.in_ok-extend_from_slice.ensures.items) (grown c.in_ok-put_effects.ensures.grows (grew (10 ∷ []) c.in_ok-push.ensures.items))))

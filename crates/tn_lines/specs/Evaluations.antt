@@ -1,0 +1,63 @@
+-- What the code's evaluations stand for.
+use Rattle.std.specs.Prelude.{◌≡◌, ℕ, Bool, true, false, if◌then◌else◌, List, [], ◌∷◌, ◌++◌, map, Option, Some, None}
+use Rattle.std.specs.Option.{option_map}
+use Rattle.def_term.specs.Names.{Name}
+use Rattle.def_spec.specs.Expressions.{Context, Effect}
+use Rattle.def_node.specs.Event.{Event}
+use Rattle.def_session.specs.Settings.{Setting}
+use Rattle.def_session.specs.State.{Session}
+use Rattle.def_session.specs.Session.{context, marks_frame, evaluated, evaluated_by}
+use Rattle.def_explain.specs.Accounts.{Line, said, setting_lines}
+use Rattle.tn_guard.specs.Views.{value_seen}
+use Rattle.tn_guard.specs.declared.value.Value.{Value}
+use Rattle.tn_lines.specs.Parts.{lines_before}
+use Rattle.tn_lines.specs.Lines.{lines_text}
+use Rattle.tn_lines.specs.declared.clauses.Evaluation.{Evaluation}
+use Rattle.tn_lines.specs.declared.clauses.Evaluation.TheVariants.{Refused, Done}
+
+-- whether the effects mark the frame of a call, where there are any
+abbrev pub evaluation_seen : Evaluation → Option Bool
+evaluation_seen Refused = None
+evaluation_seen (Done marks) = Some marks
+
+-- whether there are any
+abbrev pub is_done : Evaluation → Bool
+is_done Refused = false
+is_done (Done marks) = true
+
+-- whether they mark it
+abbrev pub marks_of : Evaluation → Bool
+marks_of Refused = false
+marks_of (Done marks) = marks
+
+-- these lines were appended, and these are the effects
+pub record Gives (n : Name) (ls : List Line) (es : Option (List Effect)) (old new : List ℕ) (r : Evaluation) : Type 0 where
+  pub text : new ≡ old ++ lines_text n ls
+  pub effects : evaluation_seen r ≡ option_map marks_frame es
+
+-- those of a setting
+abbrev pub GivesBySetting : Name → Setting → Context → List ℕ → List ℕ → Evaluation → Type 0
+GivesBySetting n g c old new r = Gives n (setting_lines g c) (evaluated_by g c) old new r
+
+-- those of an event
+abbrev pub GivesOf : Name → Session → Event → List ℕ → List ℕ → Evaluation → Type 0
+GivesOf n s e old new r = Gives n (lines_before s e) (evaluated s e) old new r
+
+-- no effects, where an event is evaluated
+abbrev pub effects_where : Bool → Option (List Effect)
+effects_where evaluated = if evaluated then Some [] else None
+
+-- why it isn't, where it isn't
+abbrev pub lines_where : Bool → List ℕ → List Line
+lines_where evaluated why = if evaluated then [] else said why ∷ []
+
+abbrev pub GivesWhere : Name → Bool → List ℕ → List ℕ → List ℕ → Evaluation → Type 0
+GivesWhere n evaluated why old new r = Gives n (lines_where evaluated why) (effects_where evaluated) old new r
+
+-- what a specification is evaluated in, on these values
+abbrev pub on_values : {A : Type 0} → Session → ℕ → List (Value A) → Context
+on_values s me vs = context s me (map value_seen vs) None
+
+-- of this event
+abbrev pub IsOf : Session → Event → Evaluation → Type 0
+IsOf s e r = evaluation_seen r ≡ option_map marks_frame (evaluated s e)

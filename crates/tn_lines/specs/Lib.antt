@@ -1,0 +1,4 @@
+pub mod Evaluations
+pub mod Lines
+pub mod Makes
+pub mod Parts

@@ -1,0 +1,19 @@
+-- The text of what a session of a name makes of something.
+use Rattle.std.specs.Prelude.{◌≡◌, ℕ, List, ◌++◌, map, flat_map, codes}
+use Rattle.def_term.specs.Names.{Name}
+use Rattle.def_term.specs.Text.{atom_text}
+use Rattle.def_explain.specs.Accounts.{Line}
+use Rattle.def_account.specs.Runs.{makes}
+use Rattle.def_account.specs.Texts.{entry_text}
+
+-- a line each, indented, behind the name
+unfoldable pub lines_text : Name → List Line → List ℕ
+lines_text n ls = flat_map entry_text (map (makes n) ls)
+
+-- what each of them begins with
+abbrev pub beginning : Name → List ℕ
+beginning n = codes "  " ++ atom_text n ++ codes ": "
+
+-- these lines were appended
+abbrev pub Puts : Name → List Line → (old new : List ℕ) → Type 0
+Puts n ls old new = new ≡ old ++ lines_text n ls

@@ -1,0 +1,151 @@
+// The evaluation of an event, clause by clause.
+ghost use Rattle.std.specs.Prelude.{◌≡◌, ◌++◌, OnOk, IfOk, map};
+ghost use Rattle.def_session.specs.Session as session;
+ghost use Rattle.def_session.specs.Settings.{by};
+ghost use Rattle.tn_spec.specs.Wholes.{spec_seen};
+ghost use Rattle.tn_action.specs.Views.{context_seen, effect_seen};
+ghost use Rattle.tn_reason.specs.Views.{reason_seen};
+ghost use Rattle.tn_session.specs.Looks.{lent_seen};
+ghost use Rattle.tn_text.specs.Writes.{Grows};
+ghost use Rattle.tn_lines.specs.Evaluations.{GivesBySetting};
+ghost use Rattle.tn_lines.specs.Parts.{failing_lines, firing_lines};
+ghost use Rattle.tn_lines.specs.Lines.{Puts};
+
+use crate::line::{Lines, begin};
+use bumpalo::Bump;
+use std::alloc::{AllocError, Allocator};
+use tn_action::{Context, Effect};
+use tn_index::Setting;
+use tn_reason::{Reason, Verdict, verdict};
+use tn_spec::Spec;
+use tn_trial::{put_clause, put_effects, put_reason};
+
+/// What comes of the evaluation of an event.
+#[derive(Clone, Copy)]
+pub(crate) enum Evaluation {
+    /// The event isn't evaluated, or by a setting that is `false` or whose clauses don't fire.
+    Refused,
+    /// There are effects, and they mark the frame of a call or don't.
+    Done { marks: bool },
+}
+
+/// Whether the effects mark the frame of the call.
+fn marks_frame<A: Allocator>(effects: &[Effect<A>]) -> bool
+    ensures { result ≡ session.marks_frame (map effect_seen effects.now) }
+{
+    for effect in effects {
+        match effect {
+            Effect::ReturnTrace | Effect::ExceptionTrace => return true,
+            Effect::Message(_) | Effect::Silent(_) | Effect::Change { .. } => {}
+        }
+    }
+    false
+}
+
+impl<A: Allocator + Copy> Lines<'_, A> {
+    /// Appends what a setting makes of a context: that it is `false`, or what becomes of the clauses of its
+    /// specification.
+    pub(crate) fn put_setting(
+        &self,
+        setting: Setting<&Spec<A>>,
+        context: &Context<'_, A>,
+        out: &mut Vec<u8, A>,
+    ) -> Result<Evaluation, AllocError>
+        ensures ok { IfOk result (λ r.
+            GivesBySetting self.now.name.now (lent_seen setting.entry) (context_seen context.now)
+            out.old.items out.new.items r) }
+        ensures grows { Grows out.old.items out.new.items }
+    {
+        match setting {
+            Setting::Off => {
+                self.say(b"the setting is false", out)?;
+                Ok(Evaluation::Refused)
+            }
+            Setting::Plain => Ok(Evaluation::Done { marks: false }),
+            Setting::By(spec) => self.put_spec(spec, context, out),
+        }
+    }
+
+    /// Appends what becomes of the clauses of a specification, up to the first that fires. What is evaluated lies
+    /// in an arena that is given up with the evaluation.
+    fn put_spec(
+        &self,
+        spec: &Spec<A>,
+        context: &Context<'_, A>,
+        out: &mut Vec<u8, A>,
+    ) -> Result<Evaluation, AllocError>
+        ensures ok { IfOk result (λ r.
+            GivesBySetting self.now.name.now (by (spec_seen spec.now)) (context_seen context.now)
+            out.old.items out.new.items r) }
+        ensures grows { Grows out.old.items out.new.items }
+    {
+        let arena = Bump::new(self.alloc);
+        Ok(self.put_clauses(&arena, spec, context, out)?)
+    }
+
+    /// The same in this arena.
+    fn put_clauses<'a>(
+        &self,
+        arena: &'a Bump<A>,
+        spec: &'a Spec<A>,
+        context: &Context<'a, A>,
+        out: &mut Vec<u8, A>,
+    ) -> Result<Evaluation, AllocError>
+        ensures ok { IfOk result (λ r.
+            GivesBySetting self.now.name.now (by (spec_seen spec.now)) (context_seen context.now)
+            out.old.items out.new.items r) }
+        ensures grows { Grows out.old.items out.new.items }
+    {
+        let clauses = &spec.clauses;
+        for i in 0..clauses.len() {
+            match verdict(self.alloc, arena, spec.dialect, &clauses[i], context)? {
+                Verdict::Fails(reason) => self.put_failing(i, reason, out)?,
+                Verdict::Fires { effects, .. } => {
+                    self.put_firing(i, &effects, out)?;
+                    let marks = marks_frame(&effects);
+                    return Ok(Evaluation::Done { marks });
+                }
+            }
+        }
+        self.say(b"no clause fires", out)?;
+        Ok(Evaluation::Refused)
+    }
+
+    /// Appends the line of a clause that doesn't fire, behind so many.
+    fn put_failing(
+        &self,
+        before: usize,
+        reason: Reason<'_, A>,
+        out: &mut Vec<u8, A>,
+    ) -> Result<(), AllocError>
+        ensures ok { OnOk result (
+            Puts self.now.name.now (failing_lines before (reason_seen reason.entry)) out.old.items out.new.items) }
+        ensures grows { Grows out.old.items out.new.items }
+    {
+        begin(self.name, out)?;
+        put_clause(before, out)?;
+        out.extend_from_slice(b": ")?;
+        put_reason(self.alloc, reason, out)?;
+        out.push(b'\n')?;
+        Ok(())
+    }
+
+    /// Appends the line of a clause that fires, behind so many.
+    fn put_firing(
+        &self,
+        before: usize,
+        effects: &[Effect<A>],
+        out: &mut Vec<u8, A>,
+    ) -> Result<(), AllocError>
+        ensures ok { OnOk result (
+            Puts self.now.name.now (firing_lines before (map effect_seen effects.now)) out.old.items out.new.items) }
+        ensures grows { Grows out.old.items out.new.items }
+    {
+        begin(self.name, out)?;
+        put_clause(before, out)?;
+        out.extend_from_slice(b" fires")?;
+        put_effects(effects, out)?;
+        out.push(b'\n')?;
+        Ok(())
+    }
+}

@@ -1,0 +1,99 @@
+// Marks, and the end of a process.
+ghost use Rattle.std.specs.Prelude.{◌≡◌, ◌++◌, OnOk};
+ghost use Rattle.def_explain.specs.Accounts.{line_where};
+ghost use Rattle.tn_flags.specs.Views.{event_of, flags_of};
+ghost use Rattle.tn_session.specs.Looks.{look_seen};
+ghost use Rattle.tn_text.specs.Writes.{Grows};
+ghost use Rattle.tn_lines.specs.Evaluations.{marks_of, IsOf};
+ghost use Rattle.tn_lines.specs.Parts.{said_where, lines_behind, lost_lines};
+ghost use Rattle.tn_lines.specs.Lines.{Puts};
+
+use crate::clauses::Evaluation;
+use crate::line::{Lines, begin};
+use std::alloc::{AllocError, Allocator};
+use tn_flags::{Event, Flags};
+use tn_session::Look;
+use tn_trial::{put_flags, put_pid};
+
+/// Whether the evaluation marks the frame of a call.
+fn is_marking(evaluation: Evaluation) -> bool
+    ensures { result ≡ marks_of evaluation }
+{
+    match evaluation {
+        Evaluation::Refused => false,
+        Evaluation::Done { marks } => marks,
+    }
+}
+
+impl<A: Allocator + Copy> Lines<'_, A> {
+    /// Appends the line of what is said, where it is.
+    fn say_where(&self, holds: bool, text: &[u8], out: &mut Vec<u8, A>) -> Result<(), AllocError>
+        ensures ok { OnOk result (Puts self.now.name.now (said_where holds text.now) out.old.items out.new.items) }
+        ensures grows { Grows out.old.items out.new.items }
+    {
+        if holds { self.say(text, out) } else { Ok(()) }
+    }
+
+    /// Appends a line of a process, where there is something to say of it.
+    pub(crate) fn put_of_process(
+        &self,
+        pid: u32,
+        text: &[u8],
+        out: &mut Vec<u8, A>,
+    ) -> Result<(), AllocError>
+        ensures ok { OnOk result (Puts self.now.name.now (line_where pid text.now) out.old.items out.new.items) }
+        ensures grows { Grows out.old.items out.new.items }
+    {
+        if text.is_empty() {
+            return Ok(());
+        }
+        begin(self.name, out)?;
+        put_pid(pid, out)?;
+        out.extend_from_slice(text)?;
+        out.push(b'\n')?;
+        Ok(())
+    }
+
+    /// Appends the flags that a process loses at its end.
+    fn put_lost(&self, pid: u32, flags: Flags, out: &mut Vec<u8, A>) -> Result<(), AllocError>
+        ensures ok { OnOk result (
+            Puts self.now.name.now (lost_lines pid (flags_of flags)) out.old.items out.new.items) }
+        ensures grows { Grows out.old.items out.new.items }
+    {
+        let mut lost = Vec::new(self.alloc);
+        put_flags(b" loses ", flags, &mut lost)?;
+        self.put_of_process(pid, &lost, out)
+    }
+
+    /// Appends the lines that stand at the end: what becomes of the mark of a call, and of the flags of a process
+    /// that exits. They are known before the session sees the event.
+    pub(crate) fn put_behind(
+        &self,
+        look: &Look<'_, A>,
+        event: &Event<A>,
+        evaluation: Evaluation,
+        out: &mut Vec<u8, A>,
+    ) -> Result<(), AllocError>
+        ensures ok { IsOf (look_seen look.now) (event_of event.now) evaluation → OnOk result (Puts
+            self.now.name.now (lines_behind (look_seen look.now) (event_of event.now)) out.old.items out.new.items) }
+        ensures grows { Grows out.old.items out.new.items }
+    {
+        match event {
+            Event::Called { .. } => {
+                self.say_where(is_marking(evaluation), b"the call is marked", out)
+            }
+            Event::Returned { pid, depth, .. } => {
+                self.say_where(look.is_marked(*pid, *depth), b"the mark is gone", out)
+            }
+            Event::Exited { pid, .. } => self.put_lost(*pid, look.flags_at(*pid), out),
+            Event::Sent { .. }
+            | Event::Received { .. }
+            | Event::Spawn { .. }
+            | Event::Spawned { .. }
+            | Event::Linked { .. }
+            | Event::Unlinked { .. }
+            | Event::GettingLinked { .. }
+            | Event::GettingUnlinked { .. } => Ok(()),
+        }
+    }
+}

@@ -1,0 +1,82 @@
+// One line of a session.
+ghost use Rattle.std.specs.Prelude.{◌≡◌, ◌++◌, ◌∷◌, [], OnOk, codes};
+ghost use Rattle.def_term.specs.Text.{w};
+ghost use Rattle.def_explain.specs.Accounts.{said, tells};
+ghost use Rattle.tn_term.specs.Views.{tree_of};
+ghost use Rattle.tn_session.specs.Messages.{message_seen};
+ghost use Rattle.tn_text.specs.Writes.{Grows};
+ghost use Rattle.tn_lines.specs.Lines.{Puts, beginning};
+
+use std::alloc::{AllocError, Allocator};
+use tn_session::Message;
+use tn_term::{Atom, Term};
+use tn_text::{write_atom, write_term};
+
+/// The lines of the session of a name.
+#[derive(Drop)]
+pub(crate) struct Lines<'a, A: Allocator> {
+    /// For what is evaluated, and for texts that are kept for a while.
+    pub alloc: A,
+    pub name: &'a Atom<A>,
+}
+
+/// Appends what a line begins with: two blanks, the name and a colon.
+pub(crate) fn begin<A: Allocator, B: Allocator>(
+    name: &Atom<A>,
+    out: &mut Vec<u8, B>,
+) -> Result<(), AllocError>
+    ensures ok { OnOk result (out.new.items ≡ out.old.items ++ beginning name.now) }
+    ensures grows { Grows out.old.items out.new.items }
+{
+    out.extend_from_slice(b"  ")?;
+    write_atom(name, out)?;
+    out.extend_from_slice(b": ")
+}
+
+impl<A: Allocator> Lines<'_, A> {
+    /// Appends the line of what is said.
+    pub(crate) fn say(&self, text: &[u8], out: &mut Vec<u8, A>) -> Result<(), AllocError>
+        ensures ok { OnOk result (Puts self.now.name.now (said text.now ∷ []) out.old.items out.new.items) }
+        ensures grows { Grows out.old.items out.new.items }
+    {
+        begin(self.name, out)?;
+        out.extend_from_slice(text)?;
+        out.push(b'\n')?;
+        Ok(())
+    }
+
+    /// Appends the line of a message that is told.
+    pub(crate) fn tell(
+        &self,
+        message: &Message<'_, A>,
+        out: &mut Vec<u8, A>,
+    ) -> Result<(), AllocError>
+        ensures ok { OnOk result (
+            Puts self.now.name.now (tells (message_seen message.now) ∷ []) out.old.items out.new.items) }
+        ensures grows { Grows out.old.items out.new.items }
+    {
+        begin(self.name, out)?;
+        out.extend_from_slice(b"=> ")?;
+        message.append_text(out)?;
+        out.push(b'\n')?;
+        Ok(())
+    }
+}
+
+/// Appends the line of the reply to a command of the session of this name. After an `Err`, which is refused memory,
+/// a part of it may stand there.
+pub fn put_command_line<A: Allocator, B: Allocator>(
+    name: &Atom<A>,
+    reply: &Term<A>,
+    out: &mut Vec<u8, B>,
+) -> Result<(), AllocError>
+    ensures ok { OnOk result (
+        Puts name.now (said (codes "replies " ++ w (tree_of reply.now)) ∷ []) out.old.items out.new.items) }
+    ensures grows { Grows out.old.items out.new.items }
+{
+    begin(name, out)?;
+    out.extend_from_slice(b"replies ")?;
+    write_term(reply, out)?;
+    out.push(b'\n')?;
+    Ok(())
+}

@@ -1,0 +1,85 @@
+// What is known of a send and of a receive before the session sees it.
+ghost use Rattle.std.specs.Prelude.{◌≡◌, IfOk, Bool};
+ghost use Rattle.def_node.specs.Event.{sent, received};
+ghost use Rattle.tn_term.specs.Views.{tree_of};
+ghost use Rattle.tn_session.specs.Looks.{look_seen, lent_seen};
+ghost use Rattle.tn_text.specs.Writes.{Grows};
+ghost use Rattle.tn_lines.specs.Evaluations.{GivesOf, GivesBySetting, on_values};
+
+use crate::clauses::Evaluation;
+use crate::line::Lines;
+use std::alloc::{AllocError, Allocator};
+use tn_action::Context;
+use tn_guard::{Parts, Value, Word};
+use tn_index::Setting;
+use tn_session::Look;
+use tn_spec::Spec;
+use tn_term::Term;
+
+impl<A: Allocator + Copy> Lines<'_, A> {
+    /// Appends what the send setting makes of a send, or that the process has no flag for it.
+    pub(crate) fn put_send<'a>(
+        &self,
+        look: &Look<'a, A>,
+        pid: u32,
+        message: &'a Term<A>,
+        to: u32,
+        out: &mut Vec<u8, A>,
+    ) -> Result<Evaluation, AllocError>
+        ensures ok { (b : Bool) → IfOk result (λ r. GivesOf self.now.name.now (look_seen look.now)
+            (sent pid (tree_of message.now) to b) out.old.items out.new.items r) }
+        ensures grows { Grows out.old.items out.new.items }
+    {
+        if !look.flags_at(pid).send {
+            return self.put_where(false, b"no flag send", out);
+        }
+        let list = [Value::Pid(to), Value::Lent(message)];
+        Ok(self.put_values(look.sending(), look, pid, &list, out)?)
+    }
+
+    /// Appends what the receive setting makes of a receive, or that the process has no flag for it.
+    pub(crate) fn put_receive<'a>(
+        &self,
+        look: &Look<'a, A>,
+        pid: u32,
+        sender: u32,
+        message: &'a Term<A>,
+        out: &mut Vec<u8, A>,
+    ) -> Result<Evaluation, AllocError>
+        ensures ok { IfOk result (λ r. GivesOf self.now.name.now (look_seen look.now)
+            (received pid sender (tree_of message.now)) out.old.items out.new.items r) }
+        ensures grows { Grows out.old.items out.new.items }
+    {
+        if !look.flags_at(pid).receive {
+            return self.put_where(false, b"no flag 'receive'", out);
+        }
+        let list = [
+            Value::Word(Word::Node),
+            Value::Pid(sender),
+            Value::Lent(message),
+        ];
+        Ok(self.put_values(look.receiving(), look, pid, &list, out)?)
+    }
+
+    /// Appends what a setting makes of these values.
+    fn put_values<'a>(
+        &self,
+        setting: Setting<&'a Spec<A>>,
+        look: &Look<'a, A>,
+        me: u32,
+        list: &'a [Value<'a, A>],
+        out: &mut Vec<u8, A>,
+    ) -> Result<Evaluation, AllocError>
+        ensures ok { IfOk result (λ r. GivesBySetting self.now.name.now (lent_seen setting.entry)
+            (on_values (look_seen look.now) me list.now) out.old.items out.new.items r) }
+        ensures grows { Grows out.old.items out.new.items }
+    {
+        let context = Context {
+            list: Parts::Values(list),
+            me,
+            caller: None,
+            alive: look.alive(),
+        };
+        self.put_setting(setting, &context, out)
+    }
+}

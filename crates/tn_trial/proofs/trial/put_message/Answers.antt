@@ -1,0 +1,16 @@
+use Rattle.tn_trial.proofs.Pieces.{grown, grown_by, not_grown}
+use Rattle.tn_trial.proofs.trial.put_message.Goals as goal
+
+pub returns-in_err-extend_from_slice-clause-grows : goal.returns-in_err-extend_from_slice-clause-grows
+returns-in_err-extend_from_slice-clause-grows g c = not_grown _ _ c.in_err-extend_from_slice.ensures.items
+
+pub returns-in_err-put_end-clause-grows : goal.returns-in_err-put_end-clause-grows
+returns-in_err-put_end-clause-grows g c = grown _ _ _ (grown_by _ _ _ c.in_ok-extend_from_slice.ensures.items) c.put_end.ensures.grows
+
+pub returns-in_err-push-clause-grows : goal.returns-in_err-push-clause-grows
+returns-in_err-push-clause-grows g c =
+    grown _ _ _ (grown_by _ _ _ c.in_ok-extend_from_slice.ensures.items) (grown _ _ _ c.put_end.ensures.grows (not_grown _ _ c.in_err-push.ensures.items))
+
+pub returns-clause-grows : goal.returns-clause-grows
+returns-clause-grows g c =
+    grown _ _ _ (grown_by _ _ _ c.in_ok-extend_from_slice.ensures.items) (grown _ _ _ c.put_end.ensures.grows (grown_by _ _ _ c.in_ok-push.ensures.items))
