@@ -1,6 +1,6 @@
 pub mod Texts
 pub mod Making
-pub mod Sessions
+pub mod OneSession
 pub mod Showing
 pub mod Picks
 pub mod ShownTexts

@@ -41,26 +41,26 @@ one_more_made step o x n ss here now next whole back made so_far =
 
 -- the sessions up to a place see what is shown, and what the others make of it is still to come
 pub record IsHalfway {A : Type 0} (step : Step) (o : Opening) (living living' : Alive) (x : Shown) (ss : List Standing) (n : ℕ) (slots : List (Slot A Unkept)) (first now : List ℕ) : Type 0 where
-  pub slots : EachUpTo (λ s t. Stands o living' (after o s x) t) (Stands o living) n ss slots
+  pub seen : EachUpTo (λ s t. Stands o living' (after o s x) t) (Stands o living) n ss slots
   pub text : now ++ text_by step (made_by_all o (drop n ss) x) ≡ first ++ text_by step (made_by_all o ss x)
 
 -- all of them
 pub all_made : {A : Type 0} (step : Step) (o : Opening) (living living' : Alive) (x : Shown) (ss : List Standing) (n : ℕ) (slots : List (Slot A Unkept)) (first now : List ℕ) → length slots ≤ n → IsHalfway step o living living' x ss n slots first now
     → Each (Stands o living') (all_after o ss x) slots × (now ≡ first ++ text_by step (made_by_all o ss x))
 all_made step o living living' x ss n slots first now past h = (
-  each_mapped (Stands o living') (λ s. after o s x) ss slots (up_to_all (λ s t. Stands o living' (after o s x) t) (Stands o living) n ss slots past h.slots),
-  sym (ap (λ ts. now ++ text_by step (made_by_all o ts x)) (all_dropped (λ s t. Stands o living' (after o s x) t) (Stands o living) n ss slots past h.slots) ∙ append-nil now) ∙ h.text,
+  each_mapped (Stands o living') (λ s. after o s x) ss slots (up_to_all (λ s t. Stands o living' (after o s x) t) (Stands o living) n ss slots past h.seen),
+  sym (ap (λ ts. now ++ text_by step (made_by_all o ts x)) (all_dropped (λ s t. Stands o living' (after o s x) t) (Stands o living) n ss slots past h.seen) ∙ append-nil now) ∙ h.text,
 )
 
 -- none of them yet
 pub none_made : {A : Type 0} (step : Step) (o : Opening) (living living' : Alive) (x : Shown) (ss : List Standing) (slots : List (Slot A Unkept)) (text : List ℕ) → Each (Stands o living) ss slots → IsHalfway step o living living' x ss 0 slots text text
-none_made step o living living' x ss slots text h = record { slots = up_to_none (λ s t. Stands o living' (after o s x) t) (Stands o living) ss slots h; text = refl }
+none_made step o living living' x ss slots text h = record { seen = up_to_none (λ s t. Stands o living' (after o s x) t) (Stands o living) ss slots h; text = refl }
 
 -- one more of them
 pub more_made : {A : Type 0} (step : Step) (o : Opening) (living living' : Alive) (x : Shown) (ss : List Standing) (n : ℕ) (slots : List (Slot A Unkept)) (old new : Slot A Unkept) (first now next : List ℕ) → n < length slots → old ≡ get_or slots n old
     → ((s : Standing) → Stands o living s old → Stands o living' (after o s x) new × (next ≡ now ++ text_by step (map (makes s.0) (lines_of o s x))))
     → IsHalfway step o living living' x ss n slots first now → IsHalfway step o living living' x ss (n + 1) (set slots n new) first next
 more_made step o living living' x ss n slots old new first now next below is made h =
-    let here = place_here (λ s t. Stands o living' (after o s x) t) (Stands o living) n ss slots old new below is h.slots in
+    let here = place_here (λ s t. Stands o living' (after o s x) t) (Stands o living) n ss slots old new below is h.seen in
     let m = made here.here here.before in
-    record { slots = here.after m.0; text = one_more_made step o x n ss here.here now next (first ++ text_by step (made_by_all o ss x)) here.back m.1 h.text }
+    record { seen = here.after m.0; text = one_more_made step o x n ss here.here now next (first ++ text_by step (made_by_all o ss x)) here.back m.1 h.text }

@@ -1,5 +1,5 @@
 -- What the sessions make of a move, event by event.
-use Rattle.std.proofs.Common.{◌≡◌, ◌∙◌, ℕ, ◌+◌, ◌<◌, ◌≤◌, List, [], ◌∷◌, ◌++◌, map, length, drop, get_or, refl, sym, ap, subst, append-nil, append_assoc}
+use Rattle.std.proofs.Common.{◌≡◌, ◌∙◌, ℕ, ◌+◌, ◌<◌, ◌≤◌, List, [], ◌∷◌, ◌++◌, map, length, drop, get_or, refl, sym, ap, subst, append-nil, append_assoc, arith}
 use Rattle.std.proofs.lemmas.List.{drop_more, drop_all}
 use Rattle.def_term.specs.Alive.{Alive}
 use Rattle.def_script.specs.Opening.{Opening}
@@ -84,6 +84,10 @@ seen_all v step o ss us es fs i new first now same past at h =
       subst (λ ts. AreStanding o ts new) (all.0 ∙ ap (λ l. all_behind o ss (shown_of v l)) same) at,
       all.1 ∙ ap (λ l. first ++ text_by step (entries_over o step.number step.pick ss (shown_of v l))) same,
     )
+
+pub no_items : {E : Type 0} (es : List E) → length es ≡ 0 → es ≡ []
+no_items [] h = refl
+no_items (e ∷ es) h = absurd (omega arith)
 
 -- a move that shows nothing
 pub nothing_seen : {A E : Type 0} (v : E → Event) (step : Step) (o : Opening) (ss : List Standing) (es : List E) (new : Sessions A) (first now : List ℕ) → es ≡ [] → AreStanding o ss new

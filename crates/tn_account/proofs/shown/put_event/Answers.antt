@@ -1,3 +1,4 @@
+use Rattle.std.proofs.Common.{false}
 use Rattle.std.proofs.lemmas.Result.{on_ok_weaker}
 use Rattle.def_session.specs.Messages.{elements_of}
 use Rattle.tn_term.specs.Views.{tree_of}

@@ -3,7 +3,7 @@ use Rattle.std.specs.Option.{option_map}
 use Rattle.std.proofs.lemmas.Result.{on_ok_weaker}
 use Rattle.tn_term.specs.Views.{tree_of, alive_of}
 use Rattle.tn_flags.specs.Views.{command_of}
-use Rattle.tn_account.proofs.Sessions.{track, tracked, Obeyed, obeys_none, obeys_asked, obeys_only}
+use Rattle.tn_account.proofs.OneSession.{track, tracked, Obeyed, obeys_none, obeys_asked, obeys_only}
 use Rattle.tn_account.proofs.slots.obey_one.Goals as goal
 
 pub returns-in_default-clause-ok : goal.returns-in_default-clause-ok

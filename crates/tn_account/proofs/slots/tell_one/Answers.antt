@@ -1,7 +1,7 @@
 use Rattle.std.proofs.Common.{◌∙◌, sym}
 use Rattle.std.proofs.lemmas.Result.{on_ok_weaker}
 use Rattle.tn_flags.specs.Views.{event_of}
-use Rattle.tn_account.proofs.Sessions.{is_at, tells_absent, tells_asked, tells_only}
+use Rattle.tn_account.proofs.OneSession.{is_at, tells_absent, tells_asked, tells_only}
 use Rattle.tn_account.proofs.slots.tell_one.Goals as goal
 
 pub returns-in_default-clause-ok : goal.returns-in_default-clause-ok

@@ -12,6 +12,6 @@ pub returns-clause-ok : goal.returns-clause-ok
 returns-clause-ok g c = λ o ss h.
     let x = happened (event_of c.args.event.now) in
     let made = c.in_ok-tell_each.ensures.ok o (alive_of c.args.self.now.living) ss h in (
-      subst (λ living. Each (Stands o living) (all_after o ss x) c.tell_each.new.slots.items) (sym c.living_after.ensures) made.0,
+      subst (λ living. Each (Stands o living) (all_after o ss x) c.tell_each.new.slots.items) (sym c.living_after-self.ensures) made.0,
       shown_and_made c.args.step.now o ss x c.args.out.now.items c.put_event.new.out.items c.tell_each.new.out.items c.in_ok-put_event.ensures.ok made.1,
     )

@@ -28,6 +28,9 @@ loop-event-preserved g c =
           );
     }
 
+pub returns-in_err-tell-clause-grows : goal.returns-in_err-tell-clause-grows
+returns-in_err-tell-clause-grows g c = grown c.args.out.now.items c.loop-event.out.items c.tell.new.out.items c.loop-event.invariant.grows c.tell.ensures.grows
+
 pub returns-clause-ok : goal.returns-clause-ok
 returns-clause-ok g c = λ o ss h.
     let l = c.loop-event in
