@@ -1,29 +1,18 @@
 -- The sessions side by side, one after the other.
-use Rattle.std.proofs.Common.{◌≡◌, ◌∙◌, ℕ, ◌+◌, Bool, true, false, if◌then◌else◌, ◌&&◌, List, [], ◌∷◌, ◌++◌, map, length, ◌<◌, ◌≤◌, drop, get_or, None, refl, sym, ap, subst, append-nil, append_assoc, codes}
+use Rattle.std.proofs.Common.{◌≡◌, ◌∙◌, ℕ, ◌+◌, List, ◌∷◌, ◌++◌, map, length, ◌<◌, ◌≤◌, drop, get_or, refl, sym, ap, append-nil, append_assoc}
 use Rattle.std.proofs.Math.ListN.{set}
-use Rattle.std.specs.Str.{bytes_eq}
 use Rattle.def_term.specs.Alive.{Alive}
-use Rattle.def_term.specs.Names.{Name}
-use Rattle.def_term.specs.Tree.{Tree}
-use Rattle.def_script.specs.Program.{Command, session_of}
 use Rattle.def_script.specs.Opening.{Opening}
-use Rattle.def_node.specs.Event.{Event}
-use Rattle.def_session.specs.State.{absent, unset, alive_after}
-use Rattle.def_session.specs.Session.{event_told}
-use Rattle.def_session.specs.Commands.{command_done}
-use Rattle.def_explain.specs.Accounts.{event_lines}
-use Rattle.def_run.specs.Run.{Shown, happened, commanded}
+use Rattle.def_run.specs.Run.{Shown}
 use Rattle.def_account.specs.Runs.{Standing, lines_of, after, all_after, makes, made_by_all}
-use Rattle.tn_text.specs.Writes.{Grows}
-use Rattle.tn_trace.specs.Slots.{IsSession, IsTracked, Each, EachUpTo, ObeysOwn}
-use Rattle.tn_trace.specs.Tracks.{Track}
+use Rattle.tn_trace.specs.Slots.{Each, EachUpTo}
 use Rattle.tn_trace.specs.declared.slot.Slot.{Slot}
 use Rattle.tn_trace.proofs.Places.{up_to_none, up_to_all, all_dropped, each_mapped, place_here}
-use Rattle.tn_account.specs.Asks.{asked_seen, text_of, text_by}
+use Rattle.tn_account.specs.Asks.{asked_seen, text_by}
 use Rattle.tn_account.specs.Standings.{Stands}
 use Rattle.tn_account.specs.declared.step.Step.{Step}
 use Rattle.tn_account.specs.declared.unkept.Unkept.{Unkept}
-use Rattle.tn_account.proofs.Texts.{AreOf, are_made, text-append}
+use Rattle.tn_account.proofs.Texts.{are_made, text-append}
 
 -- what the first of some sessions makes, and then the others
 first_makes : (step : Step) (o : Opening) (x : Shown) (s : Standing) (ss : List Standing) → text_by step (made_by_all o (s ∷ ss) x) ≡ text_by step (map (makes s.0) (lines_of o s x)) ++ text_by step (made_by_all o ss x)

@@ -1,7 +1,5 @@
 -- One session: an event, and a command.
 use Rattle.std.proofs.Common.{◌≡◌, ◌∙◌, ℕ, Bool, true, false, if◌then◌else◌, ◌&&◌, List, [], ◌∷◌, ◌++◌, map, Option, Some, None, refl, sym, ap, subst, append-nil, codes}
-use Rattle.std.specs.Prelude.{MatchOption}
-use Rattle.std.specs.Option.{option_map}
 use Rattle.std.specs.Str.{bytes_eq}
 use Rattle.def_term.specs.Alive.{Alive}
 use Rattle.def_term.specs.Tree.{Tree}
@@ -15,14 +13,14 @@ use Rattle.def_session.specs.Session.{event_told}
 use Rattle.def_session.specs.Commands.{command_done}
 use Rattle.def_run.specs.Run.{happened, commanded}
 use Rattle.def_explain.specs.Accounts.{said, event_lines, command_lines}
-use Rattle.def_account.specs.Runs.{Standing, lines_of, state_after, after, makes}
+use Rattle.def_account.specs.Runs.{Standing, lines_of, after, makes}
 use Rattle.def_account.specs.Texts.{is_move, is_session}
 use Rattle.tn_session.specs.Sessions.{IsAt, Says}
 use Rattle.tn_session.specs.declared.message.Message.{Message}
 use Rattle.tn_session.specs.declared.session.Session.{Session}
 use Rattle.tn_lines.specs.Lines.{lines_text}
 use Rattle.tn_trace.specs.Slots.{IsSession, IsTracked, ObeysOwn}
-use Rattle.tn_trace.specs.Tracks.{Track, with_command}
+use Rattle.tn_trace.specs.Tracks.{Track}
 use Rattle.tn_trace.specs.declared.slot.Slot.{Slot}
 use Rattle.tn_account.specs.Asks.{asked_seen, text_by}
 use Rattle.tn_account.specs.Standings.{Stands}

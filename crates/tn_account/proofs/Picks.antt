@@ -1,17 +1,15 @@
 -- One more pick, and all picks.
 use Rattle.std.proofs.Common.{◌≡◌, ◌∙◌, ℕ, suc, ◌+◌, ◌-◌, ◌<◌, ◌≤◌, Bool, true, false, if◌then◌else◌, List, [], ◌∷◌, ◌++◌, map, length, take, drop, get_or, Some, None, refl, sym, ap, subst, add-one, append-nil, append_assoc, length-append, arith}
-use Rattle.std.specs.Prelude.{slice_get}
 use Rattle.std.proofs.lemmas.List.{drop_more, drop_all, take_more}
-use Rattle.def_script.specs.Program.{Function, Command, Program}
-use Rattle.def_script.specs.Opening.{Opening, opening}
-use Rattle.def_node.specs.Event.{Event}
-use Rattle.def_node.specs.Node.{State, gives_events, gives_command, gives_nothing, next, opening_world, opening_state}
-use Rattle.def_run.specs.Run.{Shown, happened, commanded, Place, Turn, stays, turn_with, turn_of, start, place_after, moves}
+use Rattle.def_script.specs.Program.{Command, Program}
+use Rattle.def_script.specs.Opening.{opening}
+use Rattle.def_node.specs.Node.{State, gives_events, gives_command, next, opening_world, opening_state}
+use Rattle.def_run.specs.Run.{Shown, happened, commanded, Place, Turn, stays, turn_with, start, place_after, moves}
 use Rattle.def_run.specs.Laws.{state_at, IsNext}
 use Rattle.def_run.proofs.Appends.{place-append}
 use Rattle.def_run.proofs.Nexts.{pick_is_next}
 use Rattle.def_run.proofs.Replay.{turn_kept, room_spent}
-use Rattle.def_account.specs.Runs.{Standing, Entry, all_behind, entries_of_move, entries_from, standings}
+use Rattle.def_account.specs.Runs.{Standing, all_behind, entries_of_move, entries_from, standings}
 use Rattle.def_account.specs.Texts.{Asked, account_text}
 use Rattle.tn_flags.specs.Views.{event_of}
 use Rattle.tn_node.specs.Nodes.{IsAt, next_seen}

@@ -1,19 +1,15 @@
 -- What the sessions make of a move, event by event.
 use Rattle.std.proofs.Common.{◌≡◌, ◌∙◌, ℕ, ◌+◌, ◌<◌, ◌≤◌, List, [], ◌∷◌, ◌++◌, map, length, drop, get_or, refl, sym, ap, subst, append-nil, append_assoc, arith}
 use Rattle.std.proofs.lemmas.List.{drop_more, drop_all}
-use Rattle.def_term.specs.Alive.{Alive}
 use Rattle.def_script.specs.Opening.{Opening}
 use Rattle.def_node.specs.Event.{Event}
 use Rattle.def_run.specs.Run.{Shown, happened}
-use Rattle.def_account.specs.Runs.{Standing, Entry, shows, shows_nothing, made_by_all, all_after, all_behind, entries_over, entries_of_move}
-use Rattle.tn_trace.specs.Slots.{Each}
-use Rattle.tn_trace.specs.declared.slot.Slot.{Slot}
-use Rattle.tn_account.specs.Asks.{asked_seen, text_of, text_by}
-use Rattle.tn_account.specs.Standings.{Stands, AreStanding}
+use Rattle.def_account.specs.Runs.{Standing, shows, shows_nothing, made_by_all, all_after, all_behind, entries_over, entries_of_move}
+use Rattle.tn_account.specs.Asks.{asked_seen, text_by}
+use Rattle.tn_account.specs.Standings.{AreStanding}
 use Rattle.tn_account.specs.declared.step.Step.{Step}
-use Rattle.tn_account.specs.declared.unkept.Unkept.{Unkept}
 use Rattle.tn_account.specs.declared.sessions.Sessions.{Sessions}
-use Rattle.tn_account.proofs.Texts.{AreOf, are_made_by_all, text-append, twice}
+use Rattle.tn_account.proofs.Texts.{are_made_by_all, text-append, twice}
 
 -- the line of what is shown, and then what the sessions make of it
 pub shown_and_made : (step : Step) (o : Opening) (ss : List Standing) (x : Shown) (first now next : List ℕ) → now ≡ first ++ text_by step (shows step.number step.pick x ∷ []) → next ≡ now ++ text_by step (made_by_all o ss x)

@@ -1,10 +1,10 @@
 -- The texts of what a move shows, piece by piece.
-use Rattle.std.proofs.Common.{◌≡◌, ◌∙◌, ℕ, ◌+◌, ◌<◌, List, [], ◌∷◌, ◌++◌, map, length, drop, get_or, flat_map, refl, sym, ap, subst, append-nil, append_assoc, codes, decimal}
+use Rattle.std.proofs.Common.{◌≡◌, ◌∙◌, ℕ, ◌+◌, ◌<◌, List, [], ◌∷◌, ◌++◌, map, length, drop, get_or, flat_map, refl, sym, ap, append-nil, append_assoc, codes}
 use Rattle.std.specs.Prelude.{Result, Ok, Err, is_ok, OnOk, if◌then◌else◌}
 use Rattle.std.proofs.lemmas.List.{drop_more}
 use Rattle.std.specs.declared.vec.Vec.{Vec}
 use Rattle.def_term.specs.Tree.{Tree, atom, tuple, list, Trees, none, more, of_elements}
-use Rattle.def_term.specs.Names.{Name, word}
+use Rattle.def_term.specs.Names.{Name}
 use Rattle.def_term.specs.Text.{w, is_written_bare, atom_text, each_after_comma}
 use Rattle.def_script.specs.Program.{create, destroy, set_processes, set_function, set_send, set_receive}
 use Rattle.def_account.specs.Texts.{command_term, behind_first}

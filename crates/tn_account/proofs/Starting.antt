@@ -1,11 +1,10 @@
 -- The sessions before any pick.
-use Rattle.std.proofs.Common.{◌≡◌, ◌∙◌, ℕ, suc, List, [], ◌∷◌, map, length, refl, sym, ap, subst}
+use Rattle.std.proofs.Common.{ℕ, suc, List, [], ◌∷◌, map}
 use Rattle.def_term.specs.Alive.{Alive}
 use Rattle.def_term.specs.Names.{Name}
 use Rattle.def_term.specs.Tree.{Tree}
 use Rattle.def_script.specs.Opening.{Opening}
 use Rattle.def_session.specs.State.{absent_session}
-use Rattle.def_account.specs.Runs.{Standing}
 use Rattle.tn_trace.specs.Slots.{IsTracked, Each}
 use Rattle.tn_trace.specs.Tracks.{tracks_from}
 use Rattle.tn_trace.specs.declared.slot.Slot.{Slot}

@@ -3,7 +3,7 @@ use Rattle.std.specs.Prelude.{◌≡◌, ℕ, suc, if◌then◌else◌, List, []
 use Rattle.std.specs.declared.alloc.AllocError.{AllocError}
 use Rattle.def_script.specs.Program.{Program}
 use Rattle.def_script.specs.Opening.{opening}
-use Rattle.def_run.specs.Run.{Place, start, place_after, Turn, turn_of, moves}
+use Rattle.def_run.specs.Run.{start, place_after, Turn, turn_of, moves}
 use Rattle.def_run.specs.Laws.{state_at}
 use Rattle.def_account.specs.Runs.{Standing, Entry, entries_of_move, all_behind}
 use Rattle.def_account.specs.Texts.{Asked}

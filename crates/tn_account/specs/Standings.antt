@@ -4,7 +4,7 @@ use Rattle.std.specs.declared.alloc.AllocError.{AllocError}
 use Rattle.def_term.specs.Alive.{Alive}
 use Rattle.def_script.specs.Opening.{Opening}
 use Rattle.def_run.specs.Run.{Shown}
-use Rattle.def_account.specs.Runs.{Standing, lines_of, after, Entry, shows, makes, made_by_all, all_after, all_behind, entries_over, entries_of_move}
+use Rattle.def_account.specs.Runs.{Standing, lines_of, after, shows, makes, made_by_all, all_after, all_behind, entries_over, entries_of_move}
 use Rattle.tn_term.specs.Views.{alive_of}
 use Rattle.tn_trace.specs.Slots.{IsSession, Each}
 use Rattle.tn_trace.specs.declared.slot.Slot.{Slot}

@@ -1,10 +1,8 @@
-use Rattle.std.proofs.Common.{◌≤◌, length, map, sym, ap, subst, arith}
 use Rattle.def_run.specs.Run.{happened}
 use Rattle.def_account.specs.Runs.{all_after}
 use Rattle.tn_flags.specs.Views.{event_of}
-use Rattle.tn_account.specs.Standings.{AreStanding}
 use Rattle.tn_account.proofs.Texts.{grown, not_yet}
-use Rattle.tn_account.proofs.Showing.{none_shown, more_shown, all_shown, shown_of, seen_all}
+use Rattle.tn_account.proofs.Showing.{none_shown, more_shown, shown_of, seen_all}
 use Rattle.tn_account.proofs.sessions.Sessions.tell_all.Goals as goal
 
 pub loop-event-init : goal.loop-event-init
