@@ -16,6 +16,7 @@ use Rattle.tn_run.specs.declared.outcome.Refusal as code
 use Rattle.tn_run.specs.declared.outcome.Outcome.TheVariants.{Refused}
 use Rattle.tn_run.specs.declared.fault.RunFault.{RunFault}
 use Rattle.tn_run.specs.declared.fault.RunFault.TheVariants.{Write, OutOfMemory}
+use Rattle.tn_run.specs.declared.outcome.Outcome.{Outcome}
 
 -- where the text within the limit was taken, it was all that the reader had
 pub whole_text : (P : List ℕ → Type 0) (old new : Option (List ℕ)) (text : List ℕ) → TakesText old new text → length text ≤ 1048576 → P text → IfSome old P
