@@ -71,17 +71,17 @@ module _ (left : List Instruction) where
             (λ b le then own. call_accepted q g d b m (registers_of env es d) k T targets few then own (after (suc b) (omega (arith, le))))
         expr_accepted (and_also es) d a m k T targets few fine here set after =
             let k1 : List Instruction = load_constant d (truth true) ∷ k in
-            let T1 : ℕ → Type 0 = With (length k) T in
+            let WithEnd : ℕ → Type 0 = With (length k) T in
             by_setting left a (load_constant d (truth false)) _ T here d m targets.above [] refl tt (while_few es (suc d) (length k) m k1 (omega (arith, few))) tt
-            (λ next own. while_accepted es (suc d) (suc a) (length k) k1 T1 (targets_with f m (length k) T targets few) (inl refl) (omega arith) fine (with_more (suc a) _ (length k) T next) (registers_later left a (suc a) m (length k) env (omega arith) few set)
-            (λ b le then. by_step left b (load_constant d (truth true)) k T1 then m few tt (tt, tt)
+            (λ next own. while_accepted es (suc d) (suc a) (length k) k1 WithEnd (targets_with f m (length k) T targets few) (inl refl) (omega arith) fine (with_more (suc a) _ (length k) T next) (registers_later left a (suc a) m (length k) env (omega arith) few set)
+            (λ b le then. by_step left b (load_constant d (truth true)) k WithEnd then m few tt (tt, tt)
             (λ last. after (suc b) (omega (arith, le)) (without (suc b) k T last) (set_on left (suc a) (suc b) m d (omega (arith, le)) own))))
         expr_accepted (or_else es) d a m k T targets few fine here set after =
             let k1 : List Instruction = load_constant d (truth false) ∷ k in
-            let T1 : ℕ → Type 0 = With (length k) T in
+            let WithEnd : ℕ → Type 0 = With (length k) T in
             by_setting left a (load_constant d (truth true)) _ T here d m targets.above [] refl tt (until_few es (suc d) (length k) m k1 (omega (arith, few))) tt
-            (λ next own. until_accepted es (suc d) (suc a) (length k) k1 T1 (targets_with f m (length k) T targets few) (inl refl) (omega arith) fine (with_more (suc a) _ (length k) T next) (registers_later left a (suc a) m (length k) env (omega arith) few set)
-            (λ b le then. by_step left b (load_constant d (truth false)) k T1 then m few tt (tt, tt)
+            (λ next own. until_accepted es (suc d) (suc a) (length k) k1 WithEnd (targets_with f m (length k) T targets few) (inl refl) (omega arith) fine (with_more (suc a) _ (length k) T next) (registers_later left a (suc a) m (length k) env (omega arith) few set)
+            (λ b le then. by_step left b (load_constant d (truth false)) k WithEnd then m few tt (tt, tt)
             (λ last. after (suc b) (omega (arith, le)) (without (suc b) k T last) (set_on left (suc a) (suc b) m d (omega (arith, le)) own))))
         expr_accepted (perform c es) d a m k T targets few fine here set after =
             exprs_accepted es d a m _ T targets (omega (arith, few)) (action_fine q p c es fine) here set
@@ -112,11 +112,11 @@ module _ (left : List Instruction) where
         until_accepted no_exprs d a g k T targets target few fine here set after = after a (omega arith) here
         until_accepted (and_expr e es) d a g k T targets target few fine here set after =
             let k1 : List Instruction = until_true_code dialect q f env es d g k in
-            let T1 : ℕ → Type 0 = With (length k1) T in
+            let WithEnd : ℕ → Type 0 = With (length k1) T in
             let few1 : g ≤ length k1 = until_few es d g g k few in
             expr_accepted e d a g _ T targets (omega (arith, few1)) fine.0 here set
             (λ b le then own. by_setting left b (load_constant (suc d) (truth true)) _ T then (suc d) g targets.above [] refl tt (omega (arith, few1)) tt
-            (λ next own1. by_step left (suc b) (test_equal (register_of env e d) (suc d) 1) _ T1 (with_more (suc b) _ (length k1) T next) g (omega (arith, few1)) (next_set left b g _ own, (own1, tt)) (tt, (inl (omega (arith, next.size)), tt))
-            (λ next1. by_step left (suc (suc b)) (jump (length k1 - g)) k1 T1 next1 g few1 tt (jump_target left (suc (suc b)) g _ k1 T1 next1 few1 (inr target), tt)
+            (λ next own1. by_step left (suc b) (test_equal (register_of env e d) (suc d) 1) _ WithEnd (with_more (suc b) _ (length k1) T next) g (omega (arith, few1)) (next_set left b g _ own, (own1, tt)) (tt, (inl (omega (arith, next.size)), tt))
+            (λ next1. by_step left (suc (suc b)) (jump (length k1 - g)) k1 WithEnd next1 g few1 tt (jump_target left (suc (suc b)) g _ k1 WithEnd next1 few1 (inr target), tt)
             (λ next2. until_accepted es d (suc (suc (suc b))) g k T targets target few fine.1 (without (suc (suc (suc b))) k1 T next2) (registers_later left a (suc (suc (suc b))) g g env (omega (arith, le)) (omega arith) set)
             (λ c le1 last. after c (omega (arith, le, le1)) last)))))
