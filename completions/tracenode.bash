@@ -4,10 +4,10 @@ _tracenode() {
     local word=${COMP_WORDS[COMP_CWORD]} before=${COMP_WORDS[COMP_CWORD - 1]} command=${COMP_WORDS[1]} words=
     COMPREPLY=()
     if [ "$COMP_CWORD" -eq 1 ]; then
-        words='replay round workers spec help --help --version'
+        words='replay round workers explain spec help --help --version'
     else
         case $before in
-            --picks | --limit | --n | --turns | --list | --me | --caller) return ;;
+            --picks | --limit | --n | --turns | --session | --move | --list | --me | --caller) return ;;
             --for)
                 COMPREPLY=($(compgen -W 'call send receive' -- "$word"))
                 return
@@ -21,13 +21,14 @@ _tracenode() {
             replay) words='--picks --picks-file --help' ;;
             round) words='--limit --help' ;;
             workers) words='--n --turns --help' ;;
+            explain) words='--picks --picks-file --session --move --help' ;;
             spec) words='--list --for --me --caller --help' ;;
-            help) words='replay round workers spec' ;;
+            help) words='replay round workers explain spec' ;;
         esac
     fi
     COMPREPLY=($(compgen -W "$words" -- "$word"))
     case $command in
-        replay | round | workers) COMPREPLY+=($(compgen -f -- "$word")) ;;
+        replay | round | workers | explain) COMPREPLY+=($(compgen -f -- "$word")) ;;
     esac
 }
 

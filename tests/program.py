@@ -112,9 +112,10 @@ echo "${PWD##*/} $*"
 exit 7
 """
     limits = {limit: ["round", "--limit", limit] for limit in ("1", "65536", "65537", "01", "ten")}
+    explain = ["explain", "--picks", "0", "--session", "s1", "--move", "2"]
     words = {
         "tn_plain": (["replay", "--picks", "0 0"], ["replay", "--picks", ""], ["round"], limits["1"], limits["65536"]),
-        "tn_cli": (["--help"], ["replay"], limits["65537"], limits["01"], limits["ten"], ["workers", "--n", "2"]),
+        "tn_cli": (["--help"], ["replay"], limits["65537"], limits["01"], limits["ten"], ["workers", "--n", "2"], explain),
     }
     with tempfile.TemporaryDirectory() as folder:
         top = pathlib.Path(folder)
@@ -138,6 +139,10 @@ exit 7
         ran = run(line, command=(str(top / "tracenode"),), env=path, cwd=folder)
         wanted = f"tn_cli replay {there}/a.term --picks-file {there}/b c\n"
         check("files where nothing is built", ran.stdout.decode() == wanted, ran)
+        line = ["explain", "--session", "s1", "a.term", "--picks-file=b", "--move", "2"]
+        ran = run(line, command=(str(top / "tracenode"),), env=path, cwd=folder)
+        wanted = f"tn_cli explain --session s1 {there}/a.term --picks-file={there}/b --move 2\n"
+        check("files of an explanation where nothing is built", ran.stdout.decode() == wanted, ran)
         line = ["round", "--limit", "5", "/x/a.term"]
         ran = run(line, command=(str(top / "tracenode"),), env=path, cwd=folder)
         check("a whole path where nothing is built", ran.stdout == b"tn_cli round --limit 5 /x/a.term\n", ran)
@@ -187,14 +192,107 @@ def files():
         check("a script from a file by workers", ran.returncode == 0 and ran.stdout.startswith(b"== session s1"), ran)
 
 
+def notes_of(script):
+    """The commands in an example's comments, each with the lines that stand below it."""
+    notes = [line[4:] for line in script.read_text().splitlines() if line.startswith("%   ")]
+    places = [place for place, line in enumerate(notes) if line.startswith("./tracenode ")]
+    return [(notes[here], notes[here + 1 : there]) for here, there in zip(places, [*places[1:], len(notes)])]
+
+
 def examples():
-    """Each example, by the command in its comments; where they show a listing, it is that one."""
+    """Each example, by the commands in its comments: the listing where one is shown, and an explanation."""
     for script in sorted(EXAMPLES.glob("*.term")):
-        notes = [line[4:] for line in script.read_text().splitlines() if line.startswith("%   ")]
-        ran = run(shlex.split(notes[0].partition(" < ")[0])[1:], script.read_bytes())
-        listings = ran.stdout.decode().partition("== replies\n")[0].splitlines()
-        shown = [line for line in listings if not line.startswith("== session ")]
-        check(f"example {script.stem}", ran.returncode == 0 and notes[1:] in ([], shown), ran)
+        commands = []
+        for command, shown in notes_of(script):
+            words = shlex.split(command.partition(" < ")[0])[1:]
+            commands.append(words[0])
+            ran = run(words, script.read_bytes())
+            lines = ran.stdout.decode().splitlines()
+            if words[0] == "replay":
+                listings = ran.stdout.decode().partition("== replies\n")[0].splitlines()
+                lines = [line for line in listings if not line.startswith("== session ")] if shown else []
+            check(f"{words[0]} of example {script.stem}", ran.returncode == 0 and lines == shown and not ran.stderr, ran)
+        check(f"the commands of example {script.stem}", commands == ["replay", "explain"], commands)
+
+
+def chapter(title):
+    """The lines of a chapter of the manual."""
+    text = (TOP / "docs" / "MANUAL.md").read_text()
+    return text.partition(f"\n## {title}\n")[2].partition("\n## ")[0].splitlines()
+
+
+def blocks(lines):
+    """The indented blocks of a text."""
+    return [[line[4:] for line in block.splitlines()] for block in re.findall(r"(?:^    .*\n)+", "\n".join(lines) + "\n", re.M)]
+
+
+EVERY_LINE = ["--picks", " ".join(["0"] * 6 + ["100"] * 16 + ["101"] * 2)]
+NO_SESSION = b"error: the script creates no session s9\n"
+NO_MOVE = b"error: the run has no move 25\n"
+
+
+def is_line(said, told):
+    """Whether the line was told, with a session's name before it or without one."""
+    return said in told or f"  s: {said}" in told
+
+
+def explanations():
+    """The samples of the manual's chapter, the lines of its table, and what is asked for that isn't there."""
+    lines = chapter("Reading an explanation")
+    samples = blocks(lines)
+    words = shlex.split(samples[0][0].partition(" < ")[0])[1:]
+    ran = run(words, (EXAMPLES / "second_send.term").read_bytes())
+    wants("the sample of an explanation", ran, 0, ("\n".join(samples[1]) + "\n").encode())
+    check("the samples of refused explanations", samples[2] == [NO_SESSION.decode()[:-1], NO_MOVE.decode()[:-1]], samples)
+    every = (EXAMPLES / "every_line.term").read_bytes()
+    whole = run(["explain", *EVERY_LINE], every)
+    told = whole.stdout.decode().splitlines()
+    check("an explanation of each kind of line", whole.returncode == 0 and not whole.stderr, whole)
+    table = [line for line in lines if line.startswith("| `")]
+    check("the table of lines", len(table) >= 20, table)
+    for row in table:
+        said = row.split("`")[1]
+        check(f"the line {said}", is_line(said, told), told)
+    check("a move that shows nothing", told[-1] == "24 101 nothing", told)
+    listing = run(["replay", *EVERY_LINE], every).stdout.decode().partition("== replies\n")[0].splitlines()[1:]
+    arrows = [line.partition("=> ")[2] for line in told if line.startswith("  s: => ")]
+    check("the messages of an explanation are the listing's", arrows == listing, (arrows, listing))
+    moves = [run(["explain", *EVERY_LINE, "--move", str(number)], every).stdout for number in range(1, 25)]
+    check("the moves of an explanation are its whole", b"".join(moves) == whole.stdout, moves)
+    two = (EXAMPLES / "two_sessions.term").read_bytes()
+    picks = ["explain", "--picks", "0 0 0 0 100 0 100"]
+    whole = run(picks, two).stdout.decode().splitlines()
+    for name, other in (("s1", "s2"), ("s2", "s1")):
+        wanted = [line for line in whole if not line.startswith(f"  {other}: ")]
+        ran = run([*picks, "--session", name], two)
+        check(f"the session {name} alone", ran.stdout.decode().splitlines() == wanted and ran.returncode == 0, ran)
+    wants("an unknown session", run(["explain", *EVERY_LINE, "--session", "s9"], every), 2, b"", NO_SESSION)
+    wants("a move past the last", run(["explain", *EVERY_LINE, "--move", "25"], every), 2, b"", NO_MOVE)
+    ran = run(["explain", *EVERY_LINE, "--move", "0"], every)
+    wants("a move 0", ran, 2, b"", b"error: the run has no move 0\n")
+    wants("no move", run(["explain", "--picks", ""], every), 0, b"")
+    wants("a refused script", run(["explain", "--picks", ""], b"{"), 2, b"refused 2 token at 1\n")
+    wants("refused picks", run(["explain", "--picks", "0 x"], every), 2, b"refused 20 bad picks\n")
+    long = run(["explain", "--picks", ""], b" " * (TEXT_BYTES + 1))
+    wants("an explanation of 1,048,577 blanks", long, 2, b"refused 1 too long\n")
+    for words in ([], ["--picks", "", "--move", "x"], ["--picks", "", "--move", "-1"], ["--picks", "", "--session"]):
+        ran = run(["explain", *words], every)
+        check(f"explain {' '.join(words)}", ran.returncode == 2 and not ran.stdout and ran.stderr, ran)
+    with tempfile.TemporaryDirectory() as folder:
+        script, picks = pathlib.Path(folder) / "script.term", pathlib.Path(folder) / "picks"
+        script.write_bytes(every)
+        picks.write_text(EVERY_LINE[1])
+        ran = run(["explain", str(script), "--picks-file", str(picks), "--move", "24"])
+        wants("an explanation of files", ran, 0, b"24 101 nothing\n")
+        there = os.open(folder, os.O_RDONLY)
+        command = [str(PROGRAM), "explain", *EVERY_LINE]
+        ran = subprocess.run(command, stdin=there, stdout=subprocess.PIPE, stderr=subprocess.PIPE, check=False)
+        os.close(there)
+        wants("an explanation of a folder", ran, 3, b"", b"fault 18 read: Is a directory (os error 21)\n")
+    with open("/dev/full", "wb") as full:
+        command = [str(PROGRAM), "explain", *EVERY_LINE]
+        ran = subprocess.run(command, input=every, stdout=full, stderr=subprocess.PIPE, check=False)
+    check("an explanation to a full end", ran.returncode == 3 and ran.stderr.startswith(b"fault 19 write after 0"), ran)
 
 
 def refusals():
@@ -239,7 +337,7 @@ def command_lines():
         wants(f"version by {word}", run([word]), 0, b"tracenode 0.1.0\n" + kit)
     for word in ("--help", "-h"):
         ran = run([word])
-        names = (b"replay", b"round", b"workers", b"Example:", b"Exit status:", b"A pick says")
+        names = (b"replay", b"round", b"workers", b"explain", b"spec", b"Example:", b"Exit status:", b"A pick says")
         good = ran.returncode == 0 and all(name in ran.stdout for name in names)
         check(f"help by {word}", good and not ran.stderr, ran)
     wrong = {
@@ -273,12 +371,15 @@ def command_lines():
     wants("the greatest pick", run(["replay", "--picks", "4294967295"]), 0, EMPTY)
 
 
+COMMANDS = (("replay",), ("round",), ("workers",), ("explain",), ("spec",))
+
+
 def documents():
     """The man page and the completions name the commands and options of the help, and no others."""
-    helps = {word: run([*word, "--help"]).stdout.decode() for word in ((), ("replay",), ("round",), ("workers",), ("spec",))}
+    helps = {word: run([*word, "--help"]).stdout.decode() for word in ((), *COMMANDS)}
     commands = set(re.findall(r"^  ([a-z]+) ", helps[()], re.M))
     options = set(re.findall(r"--[a-z-]+", "".join(text.partition("\nExample:")[0] for text in helps.values())))
-    check("the help has commands and options", len(commands) >= 4 and len(options) >= 7, (commands, options))
+    check("the help has commands and options", len(commands) >= 5 and len(options) >= 9, (commands, options))
     files = [TOP / "docs" / "tracenode.1", *sorted((TOP / "completions").iterdir())]
     for file in files:
         text = file.read_text().replace("\\-", "-")
@@ -412,7 +513,8 @@ def growths():
         library = pathlib.Path(folder) / "refusing_growth.so"
         source = TOP / "tests" / "refusing_growth.c"
         subprocess.run([compiler, "-shared", "-fPIC", "-o", library, source, "-ldl"], check=True)
-        for words in (["workers", "--n", "1", "--turns", "2"], ["workers", "--n", "1"], ["round"], SEND_HI_PICKS):
+        explain = ["explain", "--picks", "0 0 0 100 100 100"]
+        for words in (["workers", "--n", "1", "--turns", "2"], ["workers", "--n", "1"], ["round"], SEND_HI_PICKS, explain):
             whole = run(words, numbers).stdout
             for number in range(100_000):
                 ran, is_refused = refused_growth(library, number, words, numbers)
@@ -455,7 +557,7 @@ def main():
         print("the program is not built")
         print("0 passed, 1 failed")
         sys.exit(1)
-    parts = (rows, plain, tries, files, documents, examples, workers, trials, refusals)
+    parts = (rows, plain, tries, files, documents, examples, workers, explanations, trials, refusals)
     parts += (long_texts, command_lines, ends, memory, growths, starts)
     for part in parts:
         try:

@@ -26,9 +26,9 @@ fn script<'a>(alloc: Global) -> Arg<'a> {
         .action(ArgAction::Set)
 }
 
-/// The subcommand `replay [SCRIPT]` with `--picks TEXT` or `--picks-file FILE`. TEXT may begin with a hyphen:
-/// the run refuses it, not the command line.
-fn replay<'a>(alloc: Global) -> Result<Command<'a>, AllocError> {
+/// A command that runs the script by picks, with `--picks TEXT` or `--picks-file FILE`. TEXT may begin with a
+/// hyphen: the run refuses it, not the command line.
+fn by_picks<'a>(alloc: Global, name: &'a str, about: &'a str) -> Result<Command<'a>, AllocError> {
     let picks = Arg::new(alloc, "picks")
         .long("picks")
         .value_name("TEXT")
@@ -42,11 +42,35 @@ fn replay<'a>(alloc: Global) -> Result<Command<'a>, AllocError> {
         .value_name("FILE")
         .help("The file of the picks; standard input where it is -")
         .action(ArgAction::Set);
-    Command::new(alloc, "replay")
-        .about("Runs the script by the given picks, and prints what its sessions saw")
+    Command::new(alloc, name)
+        .about(about)
         .arg(script(alloc))?
         .arg(picks)?
         .arg(picks_file)
+}
+
+/// The subcommand `replay [SCRIPT]` with picks.
+fn replay<'a>(alloc: Global) -> Result<Command<'a>, AllocError> {
+    let about = "Runs the script by the given picks, and prints what its sessions saw";
+    by_picks(alloc, "replay", about)
+}
+
+/// The subcommand `explain [SCRIPT] [--session NAME] [--move N]` with picks.
+fn explain<'a>(alloc: Global) -> Result<Command<'a>, AllocError> {
+    let session = Arg::new(alloc, "session")
+        .long("session")
+        .value_name("NAME")
+        .help("Explains what the session of this name makes of the run, and no other")
+        .allow_hyphen_values(true)
+        .action(ArgAction::Set);
+    let number = Arg::new(alloc, "move")
+        .long("move")
+        .value_name("N")
+        .help("Explains the move of this number alone, counted from 1")
+        .value_parser(value_parser!(u32))
+        .action(ArgAction::Set);
+    let about = "Runs the script by the given picks, and prints why each session tells or doesn't";
+    by_picks(alloc, "explain", about)?.arg(session)?.arg(number)
 }
 
 /// The subcommand `round [SCRIPT] [--limit N]`.
@@ -148,5 +172,6 @@ pub fn command<'a>(alloc: Global) -> Result<Command<'a>, AllocError> {
         .subcommand(replay(alloc)?)?
         .subcommand(round(alloc)?)?
         .subcommand(workers(alloc)?)?
+        .subcommand(explain(alloc)?)?
         .subcommand(spec(alloc)?)
 }

@@ -18,10 +18,12 @@ use std::process::ExitCode;
 use std::rt::{Env, Files};
 use std::sync::Wait;
 use std::thread::Threads;
+use tn_account::Asked;
 use tn_command::{
-    FAULT, Noted, REFUSED, Source, arguments, perform, perform_trial, perform_workers, picks_of,
-    report, source_of, tell_fault,
+    FAULT, Noted, REFUSED, Source, arguments, perform, perform_explain, perform_trial,
+    perform_workers, picks_of, report, source_of, tell_fault,
 };
+use tn_inquiry::Inquiry;
 use tn_pool::Open;
 use tn_run::{RunFault, Schedule, Workers, write_output};
 use tn_spec::Dialect;
@@ -48,9 +50,34 @@ fn run_workers<R: Input + Files + Print + Eprint + AllocGlobal + Threads + Wait 
     perform_workers(rt, script(matches), &workers)
 }
 
-/// Runs the subcommand `replay` with a file of picks, or with standard input for one.
-fn replay_from<R: Input + Files + Print + Eprint + AllocGlobal>(
+/// What is done with a script and a text of picks.
+#[derive(Clone, Copy)]
+enum Task<'a> {
+    /// The run's output is printed.
+    Replay,
+    /// The run is explained: the session and the move that are asked for.
+    Explain(Asked<'a>),
+}
+
+/// Does the task with this text of picks.
+fn run_task<R: Input + Files + Print + Eprint + AllocGlobal>(
     rt: &R,
+    task: Task<'_>,
+    script: Source<'_>,
+    picks: &[u8],
+) -> ExitCode
+    ensures { IsStatus (exit_status result) }
+{
+    match task {
+        Task::Replay => perform(rt, script, Schedule::Picks(picks)),
+        Task::Explain(asked) => perform_explain(rt, script, &Inquiry { picks, asked }),
+    }
+}
+
+/// Does the task with a file of picks, or with standard input for one.
+fn run_from<R: Input + Files + Print + Eprint + AllocGlobal>(
+    rt: &R,
+    task: Task<'_>,
     script: Source<'_>,
     picks: Source<'_>,
 ) -> ExitCode
@@ -61,23 +88,32 @@ fn replay_from<R: Input + Files + Print + Eprint + AllocGlobal>(
         return ExitCode::from(REFUSED);
     }
     match picks_of(rt, picks) {
-        Ok(text) => perform(rt, script, Schedule::Picks(&text)),
+        Ok(text) => run_task(rt, task, script, &text),
         Err(status) => status,
     }
 }
 
-/// Runs the subcommand `replay`.
-fn run_replay<R: Input + Files + Print + Eprint + AllocGlobal>(
+/// Does the task with the script and the picks that the command line names.
+fn run_by_picks<R: Input + Files + Print + Eprint + AllocGlobal>(
     rt: &R,
+    task: Task<'_>,
     matches: &ArgMatches<'_>,
 ) -> ExitCode
     ensures { IsStatus (exit_status result) }
 {
     if let Some(file) = matches.get_str("picks-file") {
-        return replay_from(rt, script(matches), source_of(Some(file)));
+        return run_from(rt, task, script(matches), source_of(Some(file)));
     }
     let picks = matches.get_str("picks").unwrap_or("");
-    perform(rt, script(matches), Schedule::Picks(picks.as_bytes()))
+    run_task(rt, task, script(matches), picks.as_bytes())
+}
+
+/// The session and the move that `explain` is asked for.
+fn asked<'a>(matches: &'a ArgMatches<'_>) -> Asked<'a> {
+    Asked {
+        session: matches.get_str("session"),
+        move_number: matches.get_one::<u32>("move").map(|number| number as u64),
+    }
 }
 
 /// What the specification of this event is for.
@@ -137,7 +173,8 @@ fn run_command<R: Input + Files + Print + Eprint + AllocGlobal + Threads + Wait 
             let limit = round.get_one::<u32>("limit").unwrap_or(0);
             perform(rt, script(round), Schedule::Round(limit))
         }
-        Some((_, replay)) => run_replay(rt, replay),
+        Some(("explain", explain)) => run_by_picks(rt, Task::Explain(asked(explain)), explain),
+        Some((_, replay)) => run_by_picks(rt, Task::Replay, replay),
         None => ExitCode::from(REFUSED),
     }
 }

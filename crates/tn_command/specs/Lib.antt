@@ -1,4 +1,5 @@
 pub mod Ends
+pub mod Explained
 pub mod Lines
 pub mod Status
 pub mod Trials

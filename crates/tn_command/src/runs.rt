@@ -25,7 +25,7 @@ use tn_run::{LiveFault, Outcome, RunFault, Schedule, Workers, read_text, run, ru
 use tn_text::Watched;
 
 /// What the script of standard input is called.
-const INPUT: &str = "script";
+pub(crate) const INPUT: &str = "script";
 
 /// How a run ended.
 #[derive(Drop)]
@@ -87,15 +87,15 @@ pub fn perform_workers_over<T: Threads + Wait + Sync, R: Read, W: Write, G: Gate
 }
 
 /// A reader of a script that keeps its text, and why it failed.
-type Script<R> = Watched<Noted<Recorded<R, Global>>>;
+pub(crate) type Script<R> = Watched<Noted<Recorded<R, Global>>>;
 
 /// A reader of a script, of which nothing was read yet.
-fn script_of<R>(alloc: Global, reader: R) -> Script<R> {
+pub(crate) fn script_of<R>(alloc: Global, reader: R) -> Script<R> {
     Watched::of(Noted::of(Recorded::of(alloc, reader)))
 }
 
 /// The status of a run, after a line on standard error where it gave no listing.
-fn told<R: Eprint + AllocGlobal, S: Drop, W: Drop, F: Display + Drop>(
+pub(crate) fn told<R: Eprint + AllocGlobal, S: Drop, W: Drop, F: Display + Drop>(
     rt: &R,
     ended: Ended<F>,
     name: &str,

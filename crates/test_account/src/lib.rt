@@ -1,0 +1,5 @@
+//! Tests of the account of a run.
+#![tactic(auto)]
+
+#[cfg(test)]
+mod account;

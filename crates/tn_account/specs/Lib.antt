@@ -1,0 +1,4 @@
+pub mod Elements
+pub mod Asks
+pub mod Standings
+pub mod Runs

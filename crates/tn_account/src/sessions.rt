@@ -1,0 +1,117 @@
+// The sessions of a run, and what they make of a move.
+use crate::slots::{Order, obey_each, tell_each};
+use crate::step::Step;
+use crate::unkept::Unkept;
+use std::alloc::{AllocError, Allocator};
+use tn_flags::{Command, Event};
+use tn_program::Program;
+use tn_script::Function;
+use tn_term::Alive;
+use tn_trace::{Slot, absent_sessions, living_after};
+
+/// The sessions of the control list, and who lives.
+#[derive(Drop)]
+pub(crate) struct Sessions<A: Allocator> {
+    pub alloc: A,
+    pub living: Alive,
+    pub slots: Vec<Slot<A, Unkept>, A>,
+}
+
+impl<A: Allocator + Copy> Sessions<A> {
+    ghost use Rattle.std.specs.Prelude.{◌≡◌, ◌∷◌, [], IfOk, map};
+    ghost use Rattle.def_script.specs.Opening.{Opening, opening};
+    ghost use Rattle.def_run.specs.Run.{happened, commanded};
+    ghost use Rattle.def_account.specs.Runs.{standings};
+    ghost use Rattle.tn_flags.specs.Views.{event_of, command_of};
+    ghost use Rattle.tn_script.specs.Views.{functions_of};
+    ghost use Rattle.tn_program.specs.Views.{program_of};
+    ghost use Rattle.tn_text.specs.Writes.{Grows};
+    ghost use Rattle.tn_trace.specs.Tracks.{visible};
+    ghost use Rattle.tn_account.specs.Standings.{AreStanding, ShowsOne, ShowsAll, ShowsMove};
+
+    /// The sessions of a program, before they are created.
+    pub fn new(alloc: A, program: &Program<A>) -> Result<Sessions<A>, AllocError>
+        ensures { IfOk result (λ s.
+            AreStanding (opening (program_of program.now)) (standings (program_of program.now)) s) }
+    {
+        Ok(Sessions {
+            alloc,
+            living: Alive::first(program.entries().len()),
+            slots: absent_sessions(alloc, program)?,
+        })
+    }
+
+    /// The sessions see an event of a move. After an `Err` a part of it may be appended.
+    fn tell(
+        &mut self,
+        step: &Step<'_>,
+        event: &Event<A>,
+        out: &mut Vec<u8, A>,
+    ) -> Result<(), AllocError>
+        ensures ok { (o : Opening) → ShowsOne step.now o (happened (event_of event.now))
+            self.old self.new out.old.items out.new.items result }
+        ensures grows { Grows out.old.items out.new.items }
+    {
+        step.put_event(self.alloc, event, out)?;
+        tell_each(self.alloc, step, &mut self.slots, event, out)?;
+        self.living = living_after(self.living, event);
+        Ok(())
+    }
+
+    /// The sessions see several events of a move, in order. After an `Err` a part of it may be appended.
+    fn tell_all(
+        &mut self,
+        step: &Step<'_>,
+        events: &Vec<Event<A>, A>,
+        out: &mut Vec<u8, A>,
+    ) -> Result<(), AllocError>
+        ensures ok { (o : Opening) → ShowsAll step.now o (map happened (map event_of events.now.items))
+            self.old self.new out.old.items out.new.items result }
+        ensures grows { Grows out.old.items out.new.items }
+    {
+        for event in events {
+            self.tell(step, event, out)?;
+        }
+        Ok(())
+    }
+
+    /// The sessions see the events of a move of a process. After an `Err` a part of it may be appended.
+    pub fn see(
+        &mut self,
+        step: &Step<'_>,
+        events: &Vec<Event<A>, A>,
+        out: &mut Vec<u8, A>,
+    ) -> Result<(), AllocError>
+        ensures ok { (o : Opening) → ShowsMove step.now o (map happened (map event_of events.now.items))
+            self.old self.new out.old.items out.new.items result }
+        ensures grows { Grows out.old.items out.new.items }
+    {
+        if events.is_empty() {
+            step.put_nothing(out)
+        } else {
+            self.tell_all(step, events, out)
+        }
+    }
+
+    /// The session that a command names does it. After an `Err` a part of it may be appended.
+    pub fn obey(
+        &mut self,
+        step: &Step<'_>,
+        functions: &[Function<A>],
+        command: &Command<A>,
+        out: &mut Vec<u8, A>,
+    ) -> Result<(), AllocError>
+        ensures ok { (o : Opening) → o.functions ≡ visible (functions_of functions.now) →
+            ShowsMove step.now o (commanded (command_of command.now) ∷ [])
+            self.old self.new out.old.items out.new.items result }
+        ensures grows { Grows out.old.items out.new.items }
+    {
+        let order = Order {
+            functions,
+            living: self.living,
+            command,
+        };
+        step.put_command(command, out)?;
+        obey_each(self.alloc, step, &mut self.slots, &order, out)
+    }
+}

@@ -1,0 +1,117 @@
+// The sessions of the control list side by side, each seeing what a move shows.
+ghost use Rattle.def_term.specs.Alive as alive;
+ghost use Rattle.def_script.specs.Opening.{Opening};
+ghost use Rattle.def_session.specs.State.{alive_after};
+ghost use Rattle.def_run.specs.Run.{happened, commanded};
+ghost use Rattle.std.specs.Prelude.{◌≡◌};
+ghost use Rattle.tn_term.specs.Views.{alive_of};
+ghost use Rattle.tn_flags.specs.Views.{event_of, command_of};
+ghost use Rattle.tn_script.specs.Views.{functions_of};
+ghost use Rattle.tn_text.specs.Writes.{Grows};
+ghost use Rattle.tn_trace.specs.Tracks.{visible};
+ghost use Rattle.tn_account.specs.Standings.{OneMakes, EachMakes};
+
+use crate::step::Step;
+use crate::unkept::Unkept;
+use std::alloc::{AllocError, Allocator};
+use tn_flags::{Command, Event};
+use tn_lines::{put_command_line, put_event_lines};
+use tn_script::Function;
+use tn_term::Alive;
+use tn_trace::Slot;
+
+/// A command with what its session needs to know: the functions of the program, and who lives.
+#[derive(Drop)]
+pub(crate) struct Order<'a, A: Allocator> {
+    pub functions: &'a [Function<A>],
+    pub living: Alive,
+    pub command: &'a Command<A>,
+}
+
+/// A session sees an event, and what it makes of it is appended, where it is asked for.
+fn tell_one<A: Allocator + Copy>(
+    alloc: A,
+    step: &Step<'_>,
+    slot: &mut Slot<A, Unkept>,
+    event: &Event<A>,
+    out: &mut Vec<u8, A>,
+) -> Result<(), AllocError>
+    ensures ok { (o : Opening) (living : alive.Alive) →
+        OneMakes step.now o living (alive_after living (event_of event.now)) (happened (event_of event.now))
+        slot.old slot.new out.old.items out.new.items result }
+    ensures grows { Grows out.old.items out.new.items }
+{
+    let is_asked = step.is_asked_of(&slot.name);
+    let Some(session) = &mut slot.session else {
+        return Ok(());
+    };
+    if is_asked {
+        put_event_lines(alloc, &slot.name, session, event, out)
+    } else {
+        session.tell(event)?;
+        Ok(())
+    }
+}
+
+/// Each session sees an event, and what it makes of it is appended, as far as it is asked for.
+pub(crate) fn tell_each<A: Allocator + Copy>(
+    alloc: A,
+    step: &Step<'_>,
+    slots: &mut Vec<Slot<A, Unkept>, A>,
+    event: &Event<A>,
+    out: &mut Vec<u8, A>,
+) -> Result<(), AllocError>
+    ensures ok { (o : Opening) (living : alive.Alive) →
+        EachMakes step.now o living (alive_after living (event_of event.now)) (happened (event_of event.now))
+        slots.old.items slots.new.items out.old.items out.new.items result }
+    ensures grows { Grows out.old.items out.new.items }
+{
+    for place in 0..slots.len() {
+        tell_one(alloc, step, &mut slots[place], event, out)?;
+    }
+    Ok(())
+}
+
+/// A session does a command that is its own, and its reply is appended, where it is asked for.
+fn obey_one<A: Allocator + Copy>(
+    alloc: A,
+    step: &Step<'_>,
+    slot: &mut Slot<A, Unkept>,
+    order: &Order<'_, A>,
+    out: &mut Vec<u8, A>,
+) -> Result<(), AllocError>
+    ensures ok { (o : Opening) → o.functions ≡ visible (functions_of order.now.functions.now) →
+        OneMakes step.now o (alive_of order.now.living) (alive_of order.now.living)
+        (commanded (command_of order.now.command.now)) slot.old slot.new out.old.items out.new.items result }
+    ensures grows { Grows out.old.items out.new.items }
+{
+    let reply = slot.obey(alloc, order.functions, order.living, order.command)?;
+    let Some(reply) = reply else {
+        return Ok(());
+    };
+    if step.is_asked_of(&slot.name) {
+        put_command_line(&slot.name, &reply, out)
+    } else {
+        Ok(())
+    }
+}
+
+/// The session that a command names does it, and its reply is appended, where it is asked for.
+pub(crate) fn obey_each<A: Allocator + Copy>(
+    alloc: A,
+    step: &Step<'_>,
+    slots: &mut Vec<Slot<A, Unkept>, A>,
+    order: &Order<'_, A>,
+    out: &mut Vec<u8, A>,
+) -> Result<(), AllocError>
+    ensures ok { (o : Opening) → o.functions ≡ visible (functions_of order.now.functions.now) →
+        EachMakes step.now o (alive_of order.now.living) (alive_of order.now.living)
+        (commanded (command_of order.now.command.now)) slots.old.items slots.new.items
+        out.old.items out.new.items result }
+    ensures grows { Grows out.old.items out.new.items }
+{
+    for place in 0..slots.len() {
+        obey_one(alloc, step, &mut slots[place], order, out)?;
+    }
+    Ok(())
+}
