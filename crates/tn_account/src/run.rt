@@ -5,10 +5,10 @@ use crate::step::Step;
 use std::alloc::{AllocError, Allocator};
 use tn_node::{Moved, Node};
 use tn_program::Program;
-use tn_trace::command_at;
+use tn_trace::{JOURNAL, command_at};
 
 /// The greatest number of moves.
-const MOST_MOVES: u64 = 65536;
+const MOST_MOVES: u64 = JOURNAL as u64;
 
 /// The node of a program with its sessions, and how many picks moved.
 #[derive(Drop)]

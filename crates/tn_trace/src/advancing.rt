@@ -9,7 +9,7 @@ use std::alloc::Allocator;
 use tn_program::Program;
 
 /// The greatest number of journal entries.
-pub(crate) const JOURNAL: usize = 65536;
+pub const JOURNAL: usize = 65536;
 
 /// One more pick, unless the journal is full.
 pub(crate) fn advance<A: Allocator + Copy>(

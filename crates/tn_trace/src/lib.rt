@@ -21,6 +21,7 @@ mod slot;
 mod texts;
 mod transcript;
 
+pub use advancing::JOURNAL;
 pub use functions::command_at;
 pub use item::{Answer, Item, StepFault};
 pub use kept::Kept;
