@@ -1,6 +1,6 @@
 -- What was read of a script, and what is told of it.
 use Rattle.std.proofs.Common.{◌≡◌, List, Err, subst, sym}
-use Rattle.std.specs.Prelude.{MatchResult, Result, Ok, Option, None, Some}
+use Rattle.std.specs.Prelude.{MatchResult, Result, Ok}
 use Rattle.std.specs.declared.vec.Vec.{Vec}
 use Rattle.std.proofs.Common.{ℕ}
 use Rattle.def_script.specs.Script as script

@@ -1,5 +1,5 @@
 // The sessions that a control list creates.
-ghost use Rattle.std.specs.Prelude.{◌≡◌};
+ghost use Rattle.std.specs.Prelude.{◌≡◌, map};
 ghost use Rattle.tn_flags.specs.Views.{command_of};
 ghost use Rattle.tn_program.specs.Views.{program_of};
 ghost use Rattle.def_script.specs.Rules.{creates_session, is_created};
@@ -18,12 +18,21 @@ fn creates<A: Allocator>(command: &Command<A>, name: &str) -> bool
     }
 }
 
+/// Whether one of the commands creates a session of this name.
+fn is_created<A: Allocator>(commands: &[Command<A>], name: &str) -> bool
+    ensures { result ≡ is_created (map command_of commands.now) name.now }
+{
+    for command in commands {
+        if creates(command, name) {
+            return true;
+        }
+    }
+    false
+}
+
 /// Whether the control list creates a session of this name.
 pub fn has_session<A: Allocator>(program: &Program<A>, name: &str) -> bool
     ensures { result ≡ is_created (program_of program.now).commands name.now }
 {
-    program
-        .commands()
-        .iter()
-        .any(|command| creates(command, name))
+    is_created(program.commands(), name)
 }
