@@ -1,7 +1,6 @@
 -- What was written of a run that is explained is what the status says.
-use Rattle.std.proofs.Common.{◌≡◌, ◌≢◌, ◌⊎◌, ℕ, List, Option, arith, inl, inr, refl}
+use Rattle.std.proofs.Common.{◌≡◌, ℕ, List, Option, arith}
 use Rattle.std.specs.Prelude.{Result, Ok, Err, IfOk}
-use Rattle.std.specs.Result.{IsErrOf}
 use Rattle.tn_inquiry.specs.Accounts.{Writes}
 use Rattle.tn_inquiry.specs.declared.inquiry.Inquiry.{Inquiry}
 use Rattle.tn_inquiry.specs.declared.inquiry.Told.{Told}
