@@ -83,6 +83,7 @@ fn a_whole_account(rt: HostRuntime) -> Result<(), Fail> {
   s2: the call has no mark
 7 101 <0.101.0> exit normal
   s1: no flag procs
+  s1: <0.101.0> loses send
   s2: no flag procs
 ",
     )
