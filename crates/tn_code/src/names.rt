@@ -1,5 +1,7 @@
-// The names of functions, actions and dialects, as they stand in the text of code.
+// The names of instructions, functions, actions and dialects, as they stand in the text of code.
 
+use crate::instr::Instr;
+use std::alloc::Allocator;
 use tn_spec::{Action, Dialect, Func};
 
 /// The name of a function, as specifications spell it.
@@ -71,5 +73,26 @@ pub fn dialect_name(dialect: Dialect) -> &'static str {
         Dialect::Call => "call",
         Dialect::Send => "send",
         Dialect::Recv => "receive",
+    }
+}
+
+/// What an instruction is called.
+pub fn instr_name<A: Allocator>(instr: &Instr<A>) -> &'static str {
+    match instr {
+        Instr::LoadConstant { .. } => "load_constant",
+        Instr::LoadList { .. } => "load_list",
+        Instr::LoadOwnPid { .. } => "load_own_pid",
+        Instr::LoadCaller { .. } => "load_caller",
+        Instr::TakeElement { .. } => "take_element",
+        Instr::TakeRest { .. } => "take_rest",
+        Instr::TestKind { .. } => "test_kind",
+        Instr::TestLength { .. } => "test_length",
+        Instr::TestEqual { .. } => "test_equal",
+        Instr::Jump { .. } => "jump",
+        Instr::Build { .. } => "build",
+        Instr::Apply { .. } => "apply",
+        Instr::Perform { .. } => "perform",
+        Instr::EndMatch => "end_match",
+        Instr::EndNoMatch => "end_no_match",
     }
 }

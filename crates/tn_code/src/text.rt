@@ -4,9 +4,11 @@ ghost use Rattle.tn_text.specs.Writes.{Grows};
 
 use crate::code::Code;
 use crate::instr::{Instr, Kind, OnFault};
-use crate::names::{action_name, dialect_name, func_name};
+use crate::names::{action_name, dialect_name, func_name, instr_name};
 use itoa::Buffer;
 use std::alloc::{AllocError, Allocator};
+use tn_spec::{Action, Dialect, Func};
+use tn_term::Term;
 use tn_text::write_term;
 
 /// Appends a line for each instruction: its place from 0, what it does, and its operands. `r4` is register
@@ -110,6 +112,187 @@ fn put_kind<B: Allocator>(kind: Kind, out: &mut Vec<u8, B>) -> Result<(), AllocE
     }
 }
 
+/// Appends a blank and a word.
+fn put_word<B: Allocator>(word: &str, out: &mut Vec<u8, B>) -> Result<(), AllocError>
+    ensures { Grows out.old.items out.new.items }
+{
+    put_text(" ", out)?;
+    put_text(word, out)
+}
+
+/// Appends the register that is set, and the one that is read.
+fn put_pair<B: Allocator>(to: usize, from: usize, out: &mut Vec<u8, B>) -> Result<(), AllocError>
+    ensures { Grows out.old.items out.new.items }
+{
+    put_register(to, out)?;
+    put_register(from, out)
+}
+
+/// Appends the register that is set, and those that are read.
+fn put_all<B: Allocator>(to: usize, from: &[usize], out: &mut Vec<u8, B>) -> Result<(), AllocError>
+    ensures { Grows out.old.items out.new.items }
+{
+    put_register(to, out)?;
+    put_registers(from, out)
+}
+
+/// Appends the operands of a constant.
+fn put_constant<A: Allocator, B: Allocator>(
+    to: usize,
+    term: &Term<A>,
+    out: &mut Vec<u8, B>,
+) -> Result<(), AllocError>
+    ensures { Grows out.old.items out.new.items }
+{
+    put_register(to, out)?;
+    put_text(" ", out)?;
+    Ok(write_term(term, out)?)
+}
+
+/// Appends the operands of an element.
+fn put_element<B: Allocator>(
+    to: usize,
+    from: usize,
+    index: usize,
+    place: usize,
+    out: &mut Vec<u8, B>,
+) -> Result<(), AllocError>
+    ensures { Grows out.old.items out.new.items }
+{
+    put_pair(to, from, out)?;
+    put_operand(index, out)?;
+    put_place(place, out)
+}
+
+/// Appends two registers, and where to go on.
+fn put_pair_else<B: Allocator>(
+    one: usize,
+    other: usize,
+    place: usize,
+    out: &mut Vec<u8, B>,
+) -> Result<(), AllocError>
+    ensures { Grows out.old.items out.new.items }
+{
+    put_pair(one, other, out)?;
+    put_place(place, out)
+}
+
+/// Appends the operands of a test of a kind.
+fn put_kind_test<B: Allocator>(
+    from: usize,
+    kind: Kind,
+    place: usize,
+    out: &mut Vec<u8, B>,
+) -> Result<(), AllocError>
+    ensures { Grows out.old.items out.new.items }
+{
+    put_register(from, out)?;
+    put_kind(kind, out)?;
+    put_place(place, out)
+}
+
+/// Appends the operands of a test of a length.
+fn put_length_test<B: Allocator>(
+    from: usize,
+    length: usize,
+    place: usize,
+    out: &mut Vec<u8, B>,
+) -> Result<(), AllocError>
+    ensures { Grows out.old.items out.new.items }
+{
+    put_register(from, out)?;
+    put_operand(length, out)?;
+    put_place(place, out)
+}
+
+/// Appends what is built, and of what.
+fn put_build<B: Allocator>(
+    kind: Kind,
+    to: usize,
+    from: &[usize],
+    out: &mut Vec<u8, B>,
+) -> Result<(), AllocError>
+    ensures { Grows out.old.items out.new.items }
+{
+    put_kind(kind, out)?;
+    put_all(to, from, out)
+}
+
+/// Appends which function is applied, and to what.
+fn put_apply<B: Allocator>(
+    func: Func,
+    to: usize,
+    from: &[usize],
+    on_fault: OnFault,
+    out: &mut Vec<u8, B>,
+) -> Result<(), AllocError>
+    ensures { Grows out.old.items out.new.items }
+{
+    put_word(func_name(func), out)?;
+    put_all(to, from, out)?;
+    put_on_fault(on_fault, out)
+}
+
+/// Appends which action is performed, and on what.
+fn put_perform<B: Allocator>(
+    dialect: Dialect,
+    action: Action,
+    to: usize,
+    from: &[usize],
+    out: &mut Vec<u8, B>,
+) -> Result<(), AllocError>
+    ensures { Grows out.old.items out.new.items }
+{
+    put_word(dialect_name(dialect), out)?;
+    put_word(action_name(action), out)?;
+    put_all(to, from, out)
+}
+
+/// Appends the operands of an instruction.
+fn put_operands<A: Allocator, B: Allocator>(
+    instr: &Instr<A>,
+    out: &mut Vec<u8, B>,
+) -> Result<(), AllocError>
+    ensures { Grows out.old.items out.new.items }
+{
+    match instr {
+        Instr::LoadConstant { to, term } => Ok(put_constant(*to, term, out)?),
+        Instr::LoadList { to } => Ok(put_register(*to, out)?),
+        Instr::LoadOwnPid { to } => Ok(put_register(*to, out)?),
+        Instr::LoadCaller { to } => Ok(put_register(*to, out)?),
+        Instr::TakeElement {
+            to,
+            from,
+            index,
+            place,
+        } => Ok(put_element(*to, *from, *index, *place, out)?),
+        Instr::TakeRest { to, from, place } => Ok(put_pair_else(*to, *from, *place, out)?),
+        Instr::TestKind { from, kind, place } => Ok(put_kind_test(*from, *kind, *place, out)?),
+        Instr::TestLength {
+            from,
+            length,
+            place,
+        } => Ok(put_length_test(*from, *length, *place, out)?),
+        Instr::TestEqual { left, right, place } => Ok(put_pair_else(*left, *right, *place, out)?),
+        Instr::Jump { place } => Ok(put_operand(*place, out)?),
+        Instr::Build { kind, to, from } => Ok(put_build(*kind, *to, from.as_slice(), out)?),
+        Instr::Apply {
+            func,
+            to,
+            from,
+            on_fault,
+        } => Ok(put_apply(*func, *to, from.as_slice(), *on_fault, out)?),
+        Instr::Perform {
+            dialect,
+            action,
+            to,
+            from,
+        } => Ok(put_perform(*dialect, *action, *to, from.as_slice(), out)?),
+        Instr::EndMatch => Ok(()),
+        Instr::EndNoMatch => Ok(()),
+    }
+}
+
 /// Appends what an instruction does, and its operands.
 fn put_instr<A: Allocator, B: Allocator>(
     instr: &Instr<A>,
@@ -117,101 +300,6 @@ fn put_instr<A: Allocator, B: Allocator>(
 ) -> Result<(), AllocError>
     ensures { Grows out.old.items out.new.items }
 {
-    match instr {
-        Instr::LoadConstant { to, term } => {
-            put_text(" load_constant", out)?;
-            put_register(*to, out)?;
-            put_text(" ", out)?;
-            Ok(write_term(term, out)?)
-        }
-        Instr::LoadList { to } => {
-            put_text(" load_list", out)?;
-            Ok(put_register(*to, out)?)
-        }
-        Instr::LoadOwnPid { to } => {
-            put_text(" load_own_pid", out)?;
-            Ok(put_register(*to, out)?)
-        }
-        Instr::LoadCaller { to } => {
-            put_text(" load_caller", out)?;
-            Ok(put_register(*to, out)?)
-        }
-        Instr::TakeElement {
-            to,
-            from,
-            index,
-            place,
-        } => {
-            put_text(" take_element", out)?;
-            put_register(*to, out)?;
-            put_register(*from, out)?;
-            put_operand(*index, out)?;
-            Ok(put_place(*place, out)?)
-        }
-        Instr::TakeRest { to, from, place } => {
-            put_text(" take_rest", out)?;
-            put_register(*to, out)?;
-            put_register(*from, out)?;
-            Ok(put_place(*place, out)?)
-        }
-        Instr::TestKind { from, kind, place } => {
-            put_text(" test_kind", out)?;
-            put_register(*from, out)?;
-            put_kind(*kind, out)?;
-            Ok(put_place(*place, out)?)
-        }
-        Instr::TestLength {
-            from,
-            length,
-            place,
-        } => {
-            put_text(" test_length", out)?;
-            put_register(*from, out)?;
-            put_operand(*length, out)?;
-            Ok(put_place(*place, out)?)
-        }
-        Instr::TestEqual { left, right, place } => {
-            put_text(" test_equal", out)?;
-            put_register(*left, out)?;
-            put_register(*right, out)?;
-            Ok(put_place(*place, out)?)
-        }
-        Instr::Jump { place } => {
-            put_text(" jump", out)?;
-            Ok(put_operand(*place, out)?)
-        }
-        Instr::Build { kind, to, from } => {
-            put_text(" build", out)?;
-            put_kind(*kind, out)?;
-            put_register(*to, out)?;
-            Ok(put_registers(from.as_slice(), out)?)
-        }
-        Instr::Apply {
-            func,
-            to,
-            from,
-            on_fault,
-        } => {
-            put_text(" apply ", out)?;
-            put_text(func_name(*func), out)?;
-            put_register(*to, out)?;
-            put_registers(from.as_slice(), out)?;
-            Ok(put_on_fault(*on_fault, out)?)
-        }
-        Instr::Perform {
-            dialect,
-            action,
-            to,
-            from,
-        } => {
-            put_text(" perform ", out)?;
-            put_text(dialect_name(*dialect), out)?;
-            put_text(" ", out)?;
-            put_text(action_name(*action), out)?;
-            put_register(*to, out)?;
-            Ok(put_registers(from.as_slice(), out)?)
-        }
-        Instr::EndMatch => Ok(put_text(" end_match", out)?),
-        Instr::EndNoMatch => Ok(put_text(" end_no_match", out)?),
-    }
+    put_word(instr_name(instr), out)?;
+    put_operands(instr, out)
 }
