@@ -17,7 +17,10 @@ import subprocess
 import sys
 import tempfile
 
+import accounts
+import values
 from refusals import REFUSALS
+from trials import TRIALS
 
 TOP = pathlib.Path(__file__).resolve().parent.parent
 PROGRAM = TOP / "crates" / "tn_cli" / "out" / "tn_cli"
@@ -259,6 +262,9 @@ def explanations():
     check("the messages of an explanation are the listing's", arrows == listing, (arrows, listing))
     moves = [run(["explain", *EVERY_LINE, "--move", str(number)], every).stdout for number in range(1, 25)]
     check("the moves of an explanation are its whole", b"".join(moves) == whole.stdout, moves)
+    for script, words, account in accounts.ACCOUNTS:
+        ran = run(["explain", "--picks", accounts.PICKS, *words], script.encode())
+        wants(f"the account {' '.join(words)} of {script[:60]}", ran, 0, account.encode())
     two = (EXAMPLES / "two_sessions.term").read_bytes()
     picks = ["explain", "--picks", "0 0 0 0 100 0 100"]
     whole = run(picks, two).stdout.decode().splitlines()
@@ -326,8 +332,23 @@ def long_texts():
         for here, below in zip(names, names[1:])
     )
     script = functions + "{function,m,d,exported,[],[]}.\n{process,m,a,[]}.\n"
-    output = b"== replies\n== journal\n" + b" ".join([b"100"] * 65536) + b"\n"
+    journal = b" ".join([b"100"] * 65536)
+    output = b"== replies\n== journal\n" + journal + b"\n"
     wants("a full journal", run(["round", "--limit", "65536"], script.encode()), 0, output)
+    with tempfile.NamedTemporaryFile() as picks:
+        picks.write(journal + b" 100 999 0")
+        picks.flush()
+        ran = run(["replay", "--picks-file", picks.name], script.encode())
+        wants("picks behind a full journal", ran, 0, output)
+
+
+def passes():
+    """The picks of passes, replayed, give what a round gives."""
+    one = " ".join(["0", *(str(pid) for pid in range(100, 164))])
+    for name in ("round-of-send-hi", "recursion-to-the-limit"):
+        row = ROWS / name
+        ran = run(["replay", "--picks", " ".join([one] * 67)], (row / "stdin").read_bytes())
+        wants(f"the passes of {name}", ran, 0, (row / "stdout").read_bytes())
 
 
 def command_lines():
@@ -404,8 +425,17 @@ def trials():
     wants("a specification", run([*hi_one, TWO_CLAUSES]), 0, TWO_CLAUSES_TOLD)
     wants("a specification from standard input", run(hi_one, TWO_CLAUSES.encode() + b"\n"), 0, TWO_CLAUSES_TOLD)
     wants("a specification from -", run([*hi_one, "-"], TWO_CLAUSES.encode()), 0, TWO_CLAUSES_TOLD)
+    for terms, spec, lines in TRIALS:
+        told = "".join(f"{line}\n" for line in lines).encode()
+        wants(f"spec {spec} on {terms}", run(["spec", "--list", terms, spec]), 0, told)
     sends = run(["spec", "--for", "send", "--list", "[<0.101.0>,hi]", "[{'_',[],[{silent,true}]}]"])
     wants("a specification of sends", sends, 0, b"clause 1 fires: silent true\n=> a message\n")
+    of_send = ["spec", "--for", "send", "--list", "[<0.101.0>,hi]", "[{['_','$2'],[],[{silent,true},{message,'$2'}]}]"]
+    told = b"clause 1 fires: silent true, message hi\n  '$2' is hi\n=> a message that ends in hi\n"
+    wants("a message of a silent send", run(of_send), 0, told)
+    of_flag = ["spec", "--list", "[]", "--me", "163", "--caller", "{m,f,255}"]
+    told = b"clause 1 fires: message {m,f,255}, <0.163.0> gets call\n=> a message that ends in {m,f,255}\n"
+    wants("a caller and a flag", run([*of_flag, "[{'_',[],[{message,{caller}},{enable_trace,{self},call}]}]"]), 0, told)
     of_caller = ["spec", "--list", "[]", "--me", "163", "--caller", "{m,f,2}"]
     told = b"clause 1 fires: message [<0.163.0>,{m,f,2}]\n=> a message that ends in [<0.163.0>,{m,f,2}]\n"
     wants("a caller", run([*of_caller, "[{'_',[],[{message,[{self},{caller}]}]}]"]), 0, told)
@@ -416,11 +446,19 @@ def trials():
         (["--list", "-1"], b"list: no list\n"),
         (["--list", "[]", "--caller", "{m,f}"], b"caller: no {Module,Function,Arity}\n"),
         (["--list", "[]", "--caller", "{m,f,1"], b"caller:1:7: no term goes on so\n"),
+        (["--list", "[]", "--caller", "{m,f,256}"], b"caller: no {Module,Function,Arity}\n"),
+        (["--list", "[]", "--caller", "{m,f,-1}"], b"caller: no {Module,Function,Arity}\n"),
+        (["--list", "[]", "--caller", "{m,1,0}"], b"caller: no {Module,Function,Arity}\n"),
+        (["--list", "[]", "--caller", "m"], b"caller: no {Module,Function,Arity}\n"),
+        (["--list", "[", "--caller", "{m,f"], b"list:1:2: no term goes on so\n"),
     ):
         wants(f"spec {' '.join(words)}", run(["spec", *words, "[{'_',[],[]}]"]), 2, b"", line)
     for spec, line in (
         ("[", b"specification:1:2: no term goes on so\n"),
+        ("[}", b"specification:1:2: no term goes on so\n"),
         ("[]", b"specification: badarg\n"),
+        ("a", b"specification: badarg\n"),
+        ("[a]", b"specification: clause 1: badarg\n"),
         ("[{'_',[],[]},{'_',['$1'],[]}]", b"specification: clause 2: badarg\n"),
         ("[{'_',[],[{display,a}]}]", b"specification: clause 1: unsupported function display\n"),
     ):
@@ -432,6 +470,31 @@ def trials():
         ran = subprocess.run([str(PROGRAM), *hi_one, TWO_CLAUSES], stdout=full, stderr=subprocess.PIPE, check=False)
     full_told = b"fault 19 write after 0 bytes: No space left on device"
     check("a specification to a full end", ran.returncode == 3 and ran.stderr.startswith(full_told), ran)
+
+
+def told_value(expressions):
+    """The message of a body whose message is the list of these, held against the kinds of arguments."""
+    variables = ",".join(f"'${place}'" for place in range(len(values.KINDS)))
+    body = f"{{message,[{','.join(expressions)}]}}"
+    ran = run(["spec", "--list", f"[{','.join(values.KINDS)}]", f"[{{[{variables}],[],[{body}]}}]"])
+    return ran.stdout.decode().rpartition("=> a message that ends in ")[2].removesuffix("\n")
+
+
+def functions():
+    """Each function of specifications on each kind of argument, as it is bound and as it is made."""
+    bound = [f"'${place}'" for place in range(len(values.KINDS))]
+    made = [values.expression(kind) for kind in values.KINDS]
+    for name, wanted in values.of_one():
+        for way, kinds in (("bound", bound), ("made", made)):
+            told = told_value([f"{{'{name}',{kind}}}" for kind in kinds])
+            check(f"'{name}' of what is {way}", told == f"[{','.join(wanted)}]", told)
+    for name, first, wanted in values.of_two():
+        for way, ones, others in (("bound", bound, bound), ("made", made, bound), ("bound and made", bound, made)):
+            told = told_value([f"{{'{name}',{ones[first]},{kind}}}" for kind in others])
+            check(f"'{name}' of place {first}, {way}", told == f"[{','.join(wanted)}]", told)
+    for call, wanted in values.others():
+        told = told_value([call])
+        check(f"the value of {call}", told == f"[{wanted}]", told)
 
 
 def workers():
@@ -557,8 +620,8 @@ def main():
         print("the program is not built")
         print("0 passed, 1 failed")
         sys.exit(1)
-    parts = (rows, plain, tries, files, documents, examples, workers, explanations, trials, refusals)
-    parts += (long_texts, command_lines, ends, memory, growths, starts)
+    parts = (rows, plain, tries, files, documents, examples, workers, explanations, trials, functions, refusals)
+    parts += (long_texts, passes, command_lines, ends, memory, growths, starts)
     for part in parts:
         try:
             part()

@@ -1,17 +1,13 @@
-// Every function with every kind of argument, by the table of functions: on terms that are lent, and on
-// values that evaluation makes.
+// Functions on terms that are lent, and on values that evaluation makes. The program's own tests hold each of
+// them against every kind of argument.
 use crate::head::elements;
-use std::alloc::{AllocError, Global};
+use std::alloc::Global;
 use std::process::Abort;
 use std::test::Fail;
 use tn_guard::{Value, Word, apply};
 use tn_spec::Func;
-use tn_term::{Atom, Term};
+use tn_term::Term;
 use tn_text::read_term;
-
-const LEAST: i64 = i64::MIN;
-
-const MOST: i64 = i64::MAX;
 
 /// The pid of the process whose event it is.
 const OWN: u32 = 163;
@@ -24,151 +20,6 @@ const KINDS: &str = "[-9223372036854775808,-1,0,9223372036854775807,'EXIT',false
 
 /// How many kinds there are.
 const COUNT: usize = 16;
-
-/// Functions of one argument that answer `true` from the first place up to the second, and else `false`.
-const TESTS: [(Func, usize, usize); 17] = [
-    (Func::IsInteger, 0, 4),
-    (Func::IsNumber, 0, 4),
-    (Func::IsAtom, 4, 7),
-    (Func::IsBoolean, 5, 7),
-    (Func::IsFalse, 5, 6),
-    (Func::AllOf, 6, 7),
-    (Func::OneOf, 6, 7),
-    (Func::IsPid, 7, 9),
-    (Func::IsTuple, 9, 12),
-    (Func::IsList, 12, 16),
-    (Func::IsFloat, 0, 0),
-    (Func::IsPort, 0, 0),
-    (Func::IsReference, 0, 0),
-    (Func::IsMap, 0, 0),
-    (Func::IsBinary, 0, 0),
-    (Func::IsBitstring, 0, 0),
-    (Func::IsFunction, 0, 0),
-];
-
-/// Functions of two integers.
-const OF_INTEGERS: [(Func, Table); 8] = [
-    (Func::Add, SUMS),
-    (Func::Subtract, DIFFERENCES),
-    (Func::Multiply, PRODUCTS),
-    (Func::Divide, QUOTIENTS),
-    (Func::Remainder, REMAINDERS),
-    (Func::BitAnd, BITS_OF_BOTH),
-    (Func::BitOr, BITS_OF_EITHER),
-    (Func::BitXor, BITS_OF_ONE),
-];
-
-/// The integers at both ends of 64 bits, -1 and 0.
-const ENDS: [i64; 4] = [LEAST, -1, 0, MOST];
-
-/// What a function answers of two of these integers: a row for each first one.
-type Table = [[Option<i64>; 4]; 4];
-
-/// `+`
-const SUMS: Table = [
-    [None, None, Some(LEAST), Some(-1)],
-    [None, Some(-2), Some(-1), Some(MOST - 1)],
-    [Some(LEAST), Some(-1), Some(0), Some(MOST)],
-    [Some(-1), Some(MOST - 1), Some(MOST), None],
-];
-
-/// `-`
-const DIFFERENCES: Table = [
-    [Some(0), Some(-MOST), Some(LEAST), None],
-    [Some(MOST), Some(0), Some(-1), Some(LEAST)],
-    [None, Some(1), Some(0), Some(-MOST)],
-    [None, None, Some(MOST), Some(0)],
-];
-
-/// `*`
-const PRODUCTS: Table = [
-    [None, None, Some(0), None],
-    [None, Some(1), Some(0), Some(-MOST)],
-    [Some(0), Some(0), Some(0), Some(0)],
-    [None, Some(-MOST), Some(0), None],
-];
-
-/// `div`
-const QUOTIENTS: Table = [
-    [Some(1), None, None, Some(-1)],
-    [Some(0), Some(1), None, Some(0)],
-    [Some(0), Some(0), None, Some(0)],
-    [Some(0), Some(-MOST), None, Some(1)],
-];
-
-/// `rem`
-const REMAINDERS: Table = [
-    [Some(0), Some(0), None, Some(-1)],
-    [Some(-1), Some(0), None, Some(-1)],
-    [Some(0), Some(0), None, Some(0)],
-    [Some(MOST), Some(0), None, Some(0)],
-];
-
-/// `band`
-const BITS_OF_BOTH: Table = [
-    [Some(LEAST), Some(LEAST), Some(0), Some(0)],
-    [Some(LEAST), Some(-1), Some(0), Some(MOST)],
-    [Some(0), Some(0), Some(0), Some(0)],
-    [Some(0), Some(MOST), Some(0), Some(MOST)],
-];
-
-/// `bor`
-const BITS_OF_EITHER: Table = [
-    [Some(LEAST), Some(-1), Some(LEAST), Some(-1)],
-    [Some(-1), Some(-1), Some(-1), Some(-1)],
-    [Some(LEAST), Some(-1), Some(0), Some(MOST)],
-    [Some(-1), Some(-1), Some(MOST), Some(MOST)],
-];
-
-/// `bxor`
-const BITS_OF_ONE: Table = [
-    [Some(0), Some(MOST), Some(LEAST), Some(-1)],
-    [Some(MOST), Some(0), Some(-1), Some(LEAST)],
-    [Some(LEAST), Some(-1), Some(0), Some(MOST)],
-    [Some(-1), Some(LEAST), Some(MOST), Some(0)],
-];
-
-/// Other integers: signs of quotients and remainders, products at the ends, and bits.
-const OTHERS: [(Func, i64, i64, Option<i64>); 26] = [
-    (Func::Add, 2, 3, Some(5)),
-    (Func::Add, MOST, 1, None),
-    (Func::Subtract, 2, 3, Some(-1)),
-    (Func::Subtract, LEAST, 1, None),
-    (Func::Multiply, -3, 5, Some(-15)),
-    (Func::Multiply, MOST, 2, None),
-    (Func::Multiply, LEAST, 1, Some(LEAST)),
-    (Func::Multiply, 4294967296, 2147483648, None),
-    (Func::Multiply, 4294967296, -2147483648, Some(LEAST)),
-    (Func::Divide, 7, 2, Some(3)),
-    (Func::Divide, -7, 2, Some(-3)),
-    (Func::Divide, 7, -2, Some(-3)),
-    (Func::Divide, -7, -2, Some(3)),
-    (Func::Divide, 1, 0, None),
-    (Func::Divide, LEAST, 1, Some(LEAST)),
-    (Func::Remainder, 7, 2, Some(1)),
-    (Func::Remainder, -7, 2, Some(-1)),
-    (Func::Remainder, 7, -2, Some(1)),
-    (Func::Remainder, -7, -2, Some(-1)),
-    (Func::Remainder, 1, 0, None),
-    (Func::BitAnd, 12, 10, Some(8)),
-    (Func::BitAnd, -4, 7, Some(4)),
-    (Func::BitOr, 12, 10, Some(14)),
-    (Func::BitOr, -4, 1, Some(-3)),
-    (Func::BitXor, 12, 10, Some(6)),
-    (Func::BitXor, -1, 10, Some(-11)),
-];
-
-/// The values of the terms.
-fn lent<'a>(
-    alloc: Global,
-    terms: &'a Vec<Term<Global>, Global>,
-) -> Result<Vec<Value<'a, Global>, Global>, AllocError> {
-    let mut values = Vec::new(alloc);
-    for term in terms {
-        values.push(Value::Lent(term))?;
-    }
-    Ok(values)
-}
 
 /// Whether the function answers that value, or is a fault where there is none.
 fn answers<'a, 'b>(
@@ -190,262 +41,6 @@ fn is_fault<'a>(func: Func, args: &[Value<'a, Global>]) -> bool {
 /// `true` or `false`.
 fn truth<'a>(holds: bool) -> Value<'a, Global> {
     Value::Word(if holds { Word::True } else { Word::False })
-}
-
-/// The value that a row gives for this place, where one does.
-fn in_rows<'a>(rows: &[(usize, Value<'a, Global>)], place: usize) -> Option<Value<'a, Global>> {
-    for row in rows {
-        if row.0 == place {
-            return Some(row.1);
-        }
-    }
-    None
-}
-
-/// The function of each kind: these places have these values, and every other is a fault.
-fn check_each<'a, 'b>(
-    rt: &impl Abort,
-    func: Func,
-    kinds: &[Value<'a, Global>],
-    rows: &[(usize, Value<'b, Global>)],
-) {
-    for (place, kind) in kinds.iter().enumerate() {
-        let wanted = in_rows(rows, place);
-        assert!(rt; answers(func, &[*kind], wanted), "at {place}");
-    }
-}
-
-fn check_test<'a>(rt: &impl Abort, func: Func, holds: (usize, usize), kinds: &[Value<'a, Global>]) {
-    for (place, kind) in kinds.iter().enumerate() {
-        let is_true = holds.0 <= place && place < holds.1;
-        let wanted = Some(truth(is_true));
-        assert!(rt; answers(func, &[*kind], wanted), "at {place}");
-    }
-}
-
-fn check_tests<'a>(rt: &impl Abort, kinds: &[Value<'a, Global>]) {
-    for (func, from, to) in &TESTS {
-        check_test(rt, *func, (*from, *to), kinds);
-    }
-}
-
-fn check_lists<'a>(rt: &impl Abort, kinds: &[Value<'a, Global>]) {
-    assert_eq!(rt; kinds.len(), COUNT);
-    let heads = [(13, kinds[2]), (14, kinds[2]), (15, kinds[4])];
-    check_each(rt, Func::Head, kinds, &heads);
-    let tails = [(13, kinds[12]), (14, kinds[15]), (15, kinds[12])];
-    check_each(rt, Func::Tail, kinds, &tails);
-}
-
-fn check_sizes<'a>(rt: &impl Abort, kinds: &[Value<'a, Global>]) {
-    let lengths = [
-        (12, Value::Int(0)),
-        (13, Value::Int(1)),
-        (14, Value::Int(2)),
-        (15, Value::Int(1)),
-    ];
-    check_each(rt, Func::Length, kinds, &lengths);
-    let sizes = [(9, Value::Int(0)), (10, Value::Int(1)), (11, Value::Int(2))];
-    check_each(rt, Func::Size, kinds, &sizes);
-    check_each(rt, Func::TupleSize, kinds, &sizes);
-}
-
-fn check_elements<'a>(rt: &impl Abort, kinds: &[Value<'a, Global>]) {
-    assert_eq!(rt; kinds.len(), COUNT);
-    let (zero, exit, of_exit, zeros) = (kinds[2], kinds[4], kinds[10], kinds[11]);
-    for (place, kind) in kinds.iter().enumerate() {
-        let first = in_rows(&[(10, exit), (11, zero)], place);
-        assert!(rt;
-            answers(Func::Element, &[Value::Int(1), *kind], first),
-            "of {place}"
-        );
-        assert!(rt; is_fault(Func::Element, &[*kind, of_exit]), "at {place}");
-    }
-    assert!(rt; answers(Func::Element, &[Value::Int(2), zeros], Some(zero)));
-    assert!(rt; is_fault(Func::Element, &[Value::Int(3), zeros]));
-    assert!(rt; is_fault(Func::Element, &[Value::Int(2), of_exit]));
-}
-
-fn check_one_integer<'a>(rt: &impl Abort, kinds: &[Value<'a, Global>]) {
-    let magnitudes = [
-        (1, Value::Int(1)),
-        (2, Value::Int(0)),
-        (3, Value::Int(MOST)),
-    ];
-    check_each(rt, Func::Absolute, kinds, &magnitudes);
-    let turned = [
-        (0, Value::Int(MOST)),
-        (1, Value::Int(0)),
-        (2, Value::Int(-1)),
-        (3, Value::Int(LEAST)),
-    ];
-    check_each(rt, Func::BitNot, kinds, &turned);
-}
-
-/// A function of two integers with an argument that is none.
-fn check_no_integers<'a>(rt: &impl Abort, func: Func, others: &[Value<'a, Global>]) {
-    for (place, other) in others.iter().enumerate() {
-        assert!(rt;
-            is_fault(func, &[Value::Int(1), *other]),
-            "with {place} behind"
-        );
-        assert!(rt;
-            is_fault(func, &[*other, Value::Int(1)]),
-            "with {place} in front"
-        );
-        assert!(rt; is_fault(func, &[*other, *other]), "with {place} twice");
-    }
-}
-
-fn check_node<'a>(rt: &impl Abort, kinds: &[Value<'a, Global>]) {
-    let node = Value::Word(Word::Node);
-    check_each(rt, Func::OwnNode, kinds, &[(7, node), (8, node)]);
-}
-
-fn check_pair<'a>(
-    rt: &impl Abort,
-    places: (usize, usize),
-    one: Value<'a, Global>,
-    other: Value<'a, Global>,
-) {
-    let (i, j) = places;
-    for (func, holds) in &[
-        (Func::Greater, j < i),
-        (Func::GreaterOrEqual, j <= i),
-        (Func::Less, i < j),
-        (Func::LessOrEqual, i <= j),
-        (Func::Equal, i == j),
-        (Func::ExactlyEqual, i == j),
-        (Func::NotEqual, i != j),
-        (Func::ExactlyNotEqual, i != j),
-        (Func::AllOf, i == 6 && j == 6),
-        (Func::OneOf, i == 6 || j == 6),
-        (Func::JustOneOf, (i == 5 && j == 6) || (i == 6 && j == 5)),
-    ] {
-        let wanted = Some(truth(*holds));
-        assert!(rt; answers(*func, &[one, other], wanted), "of {i} and {j}");
-    }
-}
-
-fn check_beside<'a>(
-    rt: &impl Abort,
-    i: usize,
-    one: Value<'a, Global>,
-    others: &[Value<'a, Global>],
-) {
-    for (j, other) in others.iter().enumerate() {
-        check_pair(rt, (i, j), one, *other);
-    }
-}
-
-/// Order, equality and logic of each of the ones beside each of the others.
-fn check_order<'a>(rt: &impl Abort, ones: &[Value<'a, Global>], others: &[Value<'a, Global>]) {
-    for (i, one) in ones.iter().enumerate() {
-        check_beside(rt, i, *one, others);
-    }
-}
-
-/// Each function of the kinds.
-fn check_kinds<'a>(rt: &impl Abort, kinds: &[Value<'a, Global>]) {
-    assert_eq!(rt; kinds.len(), COUNT);
-    check_tests(rt, kinds);
-    check_lists(rt, kinds);
-    check_sizes(rt, kinds);
-    check_elements(rt, kinds);
-    check_one_integer(rt, kinds);
-    check_node(rt, kinds);
-    for (func, _) in &OF_INTEGERS {
-        check_no_integers(rt, *func, &kinds[4..]);
-    }
-}
-
-/// Each function of the kinds that are made, and beside those that are lent.
-fn check_made<'a>(
-    rt: &impl Abort,
-    alloc: Global,
-    kinds: &[Value<'a, Global>],
-    terms: &'a Vec<Term<Global>, Global>,
-) -> Result<(), Fail> {
-    check_kinds(rt, kinds);
-    check_order(rt, kinds, kinds);
-    let lent = lent(alloc, terms)?;
-    check_order(rt, kinds, &lent);
-    check_order(rt, &lent, kinds);
-    for (place, term) in terms.iter().enumerate() {
-        let Some(value) = kinds.get(place) else {
-            return Err(Fail::new("no such kind"));
-        };
-        assert!(rt; value.copy_into(alloc)?.same(term));
-    }
-    Ok(())
-}
-
-#[test]
-fn lent_terms(rt: HostRuntime) -> Result<(), Fail> {
-    let terms = elements(rt.alloc(), KINDS)?;
-    let others = elements(rt.alloc(), KINDS)?;
-    let kinds = lent(rt.alloc(), &terms)?;
-    check_kinds(&rt, &kinds);
-    check_order(&rt, &kinds, &lent(rt.alloc(), &others)?);
-    Ok(())
-}
-
-/// The kinds as values that are made, of `0`, `0` and `'EXIT'`.
-fn made<'a>(items: &'a [Value<'a, Global>; 3]) -> [Value<'a, Global>; COUNT] {
-    [
-        Value::Int(LEAST),
-        Value::Int(-1),
-        Value::Int(0),
-        Value::Int(MOST),
-        Value::Word(Word::Exit),
-        Value::Word(Word::False),
-        Value::Word(Word::True),
-        Value::Pid(0),
-        Value::Pid(u32::MAX),
-        Value::Tuple(&items[..0]),
-        Value::Tuple(&items[2..]),
-        Value::Tuple(&items[..2]),
-        Value::List(&items[3..]),
-        Value::List(&items[..1]),
-        Value::List(&items[1..]),
-        Value::List(&items[2..]),
-    ]
-}
-
-#[test]
-fn made_values(rt: HostRuntime) -> Result<(), Fail> {
-    let terms = elements(rt.alloc(), KINDS)?;
-    let items = [Value::Int(0), Value::Int(0), Value::Word(Word::Exit)];
-    check_made(&rt, rt.alloc(), &made(&items), &terms)
-}
-
-/// The kinds with the lists as rests of a longer one, and an atom that is lent without its term.
-fn rests<'a>(
-    alloc: Global,
-    terms: &'a Vec<Term<Global>, Global>,
-    items: &'a [Term<Global>],
-) -> Result<Vec<Value<'a, Global>, Global>, Fail> {
-    let mut kinds = lent(alloc, terms)?;
-    if kinds.len() != COUNT || items.len() != 3 {
-        return Err(Fail::new("other kinds"));
-    }
-    kinds[12] = Value::Rest(&items[3..]);
-    kinds[13] = Value::Rest(&items[1..2]);
-    kinds[14] = Value::Rest(&items[1..]);
-    kinds[15] = Value::Rest(&items[2..]);
-    if let Term::Atom(name) = &items[2] {
-        kinds[4] = Value::Name(name);
-    }
-    Ok(kinds)
-}
-
-#[test]
-fn rests_of_lists(rt: HostRuntime) -> Result<(), Fail> {
-    let alloc = rt.alloc();
-    let terms = elements(alloc, KINDS)?;
-    let exit = Atom::new(alloc, "EXIT")?.ok_or("no atom")?;
-    let items = [Term::Int(7), Term::Int(0), Term::Atom(exit)];
-    check_made(&rt, alloc, &rests(alloc, &terms, &items)?, &terms)
 }
 
 /// What is left of the list behind its first element, which is that term.
@@ -471,37 +66,6 @@ fn tails_of_tails(rt: HostRuntime) -> Result<(), Fail> {
     Ok(())
 }
 
-fn check_row(rt: &impl Abort, func: Func, one: i64, row: &[Option<i64>; 4]) {
-    for (place, wanted) in row.iter().enumerate() {
-        let other = ENDS[place];
-        let args = [Value::Int(one), Value::Int(other)];
-        let wanted = Value::<Global>::integer(*wanted);
-        assert!(rt; answers(func, &args, wanted), "of {one} and {other}");
-    }
-}
-
-fn check_table(rt: &impl Abort, func: Func, table: &Table) {
-    for (place, row) in table.iter().enumerate() {
-        check_row(rt, func, ENDS[place], row);
-    }
-}
-
-#[test]
-fn integers_at_both_ends(rt: HostRuntime) {
-    for (func, table) in &OF_INTEGERS {
-        check_table(&rt, *func, table);
-    }
-}
-
-#[test]
-fn other_integers(rt: HostRuntime) {
-    for (func, one, other, wanted) in &OTHERS {
-        let args = [Value::Int(*one), Value::Int(*other)];
-        let wanted = Value::<Global>::integer(*wanted);
-        assert!(rt; answers(*func, &args, wanted), "of {one} and {other}");
-    }
-}
-
 #[test]
 fn own_pid_and_node(rt: HostRuntime) -> Result<(), Fail> {
     let alloc = rt.alloc();
@@ -509,6 +73,14 @@ fn own_pid_and_node(rt: HostRuntime) -> Result<(), Fail> {
     assert!(rt; answers(Func::OwnPid, &[], Some(Value::Pid(OWN))));
     assert!(rt; answers(Func::OwnNode, &[], Some(Value::Lent(&node))));
     Ok(())
+}
+
+#[test]
+fn sums(rt: HostRuntime) {
+    let sum = Value::<Global>::integer(Some(5));
+    assert!(rt; answers(Func::Add, &[Value::Int(2), Value::Int(3)], sum));
+    let past: Option<Value<'_, Global>> = Value::integer(None);
+    assert!(rt; answers(Func::Add, &[Value::Int(i64::MAX), Value::Int(1)], past));
 }
 
 #[test]

@@ -1,5 +1,0 @@
-//! Tests of the account of a run.
-#![tactic(auto)]
-
-#[cfg(test)]
-mod account;

@@ -1,0 +1,89 @@
+"""Accounts of runs, worked out from the manual: a script, its picks, and what `tracenode explain` tells."""
+
+# A send to another process, traced by one session and not by the other.
+SENDS = """{function,m,go,exported,[],[{send,<0.101.0>,hi}]}.
+{function,m,peer,exported,[],[]}.
+{process,m,go,[]}.
+{process,m,peer,[]}.
+{control,[{session_create,s1,t1,[]},{session_create,s2,t2,[]},{process,s1,all,true,[send]}]}.
+"""
+
+# Each command, and a process that takes a message out of its mailbox.
+COMMANDS = """{function,m,go,exported,[],[{send,<0.101.0>,hi}]}.
+{function,m,peer,exported,[],[{'receive','X'}]}.
+{process,m,go,[]}.
+{process,m,peer,[]}.
+{control,[{session_create,s1,t1,[]},{function,s1,{m,'_','_'},true,[local]},{send,s1,[],[]},
+  {recv,s1,false,[]},{session_destroy,s1}]}.
+"""
+
+PICKS = "0 0 7 0 0 0 100 100 101 101 102"
+
+WHOLE = """1 0 {session_create,s1,t1,[]}
+  s1: replies {session,s1}
+2 0 {session_create,s2,t2,[]}
+  s2: replies {session,s2}
+3 0 {process,s1,all,true,[send]}
+  s1: replies 2
+4 100 <0.100.0> call {m,go,[]}
+  s1: no flag call
+  s2: no flag call
+5 100 <0.100.0> send hi <0.101.0>
+  s1: => {trace,<0.100.0>,send,hi,<0.101.0>}
+  s2: no flag send
+5 100 <0.101.0> 'receive' hi
+  s1: no flag 'receive'
+  s2: no flag 'receive'
+6 101 <0.101.0> call {m,peer,[]}
+  s1: no flag call
+  s2: no flag call
+7 101 <0.101.0> return_from {m,peer,0} ok
+  s1: the call has no mark
+  s2: the call has no mark
+7 101 <0.101.0> exit normal
+  s1: no flag procs
+  s1: <0.101.0> loses send
+  s2: no flag procs
+"""
+
+SECOND_SESSION = """1 0 {session_create,s1,t1,[]}
+2 0 {session_create,s2,t2,[]}
+  s2: replies {session,s2}
+3 0 {process,s1,all,true,[send]}
+4 100 <0.100.0> call {m,go,[]}
+  s2: no flag call
+5 100 <0.100.0> send hi <0.101.0>
+  s2: no flag send
+5 100 <0.101.0> 'receive' hi
+  s2: no flag 'receive'
+6 101 <0.101.0> call {m,peer,[]}
+  s2: no flag call
+7 101 <0.101.0> return_from {m,peer,0} ok
+  s2: the call has no mark
+7 101 <0.101.0> exit normal
+  s2: no flag procs
+"""
+
+FIFTH_MOVE = """5 100 <0.100.0> send hi <0.101.0>
+  s1: => {trace,<0.100.0>,send,hi,<0.101.0>}
+  s2: no flag send
+5 100 <0.101.0> 'receive' hi
+  s1: no flag 'receive'
+  s2: no flag 'receive'
+"""
+
+SECOND_COMMAND = """2 0 {function,s1,{m,'_','_'},true,[local]}
+  s1: replies 2
+"""
+
+LAST_MOVE = """9 101 nothing
+"""
+
+# A script, the words of an explanation behind its picks, and its text.
+ACCOUNTS = (
+    (SENDS, (), WHOLE),
+    (SENDS, ("--session", "s2"), SECOND_SESSION),
+    (SENDS, ("--move", "5"), FIFTH_MOVE),
+    (COMMANDS, ("--move", "2"), SECOND_COMMAND),
+    (COMMANDS, ("--move", "9"), LAST_MOVE),
+)
