@@ -105,7 +105,8 @@ fn run_core<J: Naming + Send + Sync, T: Threads + Wait + Sync, G: Gate>(
 /// What a refusal writes, with no picks.
 fn refused_live(alloc: Global, refusal: Refusal) -> Result<(Ran, Vec<u8>), LiveFault>
     ensures { MatchResult result
-        (λ r. (r.0.outcome ≡ Outcome.Refused refusal) × (r.0.picks.items ≡ []) × (r.1.items ≡ refusal_text (refusal_of refusal)))
+        (λ r. (r.0.outcome ≡ Outcome.Refused refusal) × (r.0.picks.items ≡ [])
+        × (r.1.items ≡ refusal_text (refusal_of refusal)))
         (λ e. e ≡ LiveFault.Run RunFault.OutOfMemory) }
 {
     match refused(alloc, refusal) {
