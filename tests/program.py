@@ -354,8 +354,9 @@ def passes():
 def command_lines():
     """Help, wrong usage and wrong arguments."""
     kit = subprocess.run(["rt", "version"], stdout=subprocess.PIPE, check=False).stdout
+    logic = b"".join(kit.partition(b"logic")[1:])
     for word in ("--version", "-V"):
-        wants(f"version by {word}", run([word]), 0, b"tracenode 0.1.0\n" + kit)
+        wants(f"version by {word}", run([word]), 0, b"tracenode 0.1.0\n" + logic)
     for word in ("--help", "-h"):
         ran = run([word])
         names = (b"replay", b"round", b"workers", b"explain", b"spec", b"Example:", b"Exit status:", b"A pick says")

@@ -3,7 +3,7 @@ use clap::{Arg, ArgAction, Command, value_parser};
 use std::alloc::{AllocError, Global};
 
 /// What `--version` prints after the program's name.
-const VERSION: &str = "0.1.0\nrattle-kit-13f logic dac8208d650f15bf";
+const VERSION: &str = "0.1.0\nlogic dac8208d650f15bf";
 
 /// What stands below the commands in the help.
 const MORE: &str = "\
