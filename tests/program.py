@@ -485,14 +485,20 @@ def functions():
     """Each function of specifications on each kind of argument, as it is bound and as it is made."""
     bound = [f"'${place}'" for place in range(len(values.KINDS))]
     made = [values.expression(kind) for kind in values.KINDS]
+    rests = [values.rest(kind) for kind in values.KINDS]
     for name, wanted in values.of_one():
-        for way, kinds in (("bound", bound), ("made", made)):
+        for way, kinds in (("bound", bound), ("made", made), ("left of a list", rests)):
             told = told_value([f"{{'{name}',{kind}}}" for kind in kinds])
             check(f"'{name}' of what is {way}", told == f"[{','.join(wanted)}]", told)
     for name, first, wanted in values.of_two():
-        for way, ones, others in (("bound", bound, bound), ("made", made, bound), ("bound and made", bound, made)):
+        ways = (("bound", bound, bound), ("made", made, bound), ("bound and made", bound, made), ("left", rests, made))
+        for way, ones, others in ways:
             told = told_value([f"{{'{name}',{ones[first]},{kind}}}" for kind in others])
             check(f"'{name}' of place {first}, {way}", told == f"[{','.join(wanted)}]", told)
+    for call, wanted in values.of_elements():
+        for way, kinds in (("bound", bound), ("made", made), ("left of a list", rests)):
+            told = told_value([call.format(kind) for kind in kinds])
+            check(f"{call} of what is {way}", told == f"[{','.join(wanted)}]", told)
     for call, wanted in values.others():
         told = told_value([call])
         check(f"the value of {call}", told == f"[{wanted}]", told)

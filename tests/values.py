@@ -196,6 +196,13 @@ def of_two():
             yield name, i, values + [FAULT] * (len(KINDS) - len(values))
 
 
+def of_elements():
+    """A call of element with room for one argument of any kind, and its values on the kinds."""
+    first = {10: "a", 11: "0"}
+    yield "{{element,1,{}}}", [first.get(place, FAULT) for place in range(len(KINDS))]
+    yield "{{element,{},{{{{a}}}}}}", [FAULT] * len(KINDS)
+
+
 def others():
     """Each other call, and its value."""
     for call, value in OTHERS:
@@ -205,3 +212,10 @@ def others():
 def expression(kind):
     """The kind as an expression of its own, whose tuples and lists are made."""
     return kind.replace("{", "{{").replace("}", "}}")
+
+
+def rest(kind):
+    """The kind as an expression of its own, whose lists are what is left of longer ones."""
+    if not kind.startswith("["):
+        return expression(kind)
+    return "{tl,{const,[" + ",".join(["7", *filter(None, [kind[1:-1]])]) + "]}}"
