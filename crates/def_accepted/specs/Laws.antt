@@ -1,4 +1,4 @@
--- What is promised of the test of code and of compiling.
+-- What is promised of the test of code and of compiling (own).
 -- Stands on the test, on the code of a specification and on sound specifications.
 use Rattle.std.specs.Prelude.{◌≡◌, true}
 use Rattle.def_spec.specs.Outcome.{Spec}

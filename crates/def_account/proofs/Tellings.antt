@@ -10,13 +10,13 @@ use Rattle.def_script.specs.Script.{creations}
 use Rattle.def_session.specs.State.{Session, absent_session}
 use Rattle.def_session.specs.Session.{event_told}
 use Rattle.def_session.specs.Commands.{command_done}
-use Rattle.def_run.specs.Run.{Shown, happened, commanded, Place, Turn, turn_of, shown_from, start, events}
+use Rattle.def_run.specs.Run.{Shown, happened, commanded, RunState, PickStep, pick_step, shown_from, start, events}
 use Rattle.def_run.specs.View.{is_own}
-use Rattle.def_run.proofs.Replay.{turn_kept}
+use Rattle.def_run.proofs.Replay.{pick_kept}
 use Rattle.def_run.specs.Listing.{messages_from, messages}
 use Rattle.def_explain.specs.Accounts.{Line, said, tells, told_in_lines, event_lines, command_lines}
 use Rattle.def_explain.proofs.AccountLines.{joined-told, lines_tell_the_message}
-use Rattle.def_account.specs.Runs.{Standing, lines_of, state_after, after, lines_over, Entry, shows, shows_nothing, makes, made_by_all, all_after, all_behind, entries_over, entries_of_move, entries_from, standings, entries, told_by}
+use Rattle.def_account.specs.Runs.{Standing, lines_of, state_behind, after, lines_over, Entry, shows, shows_nothing, makes, made_by_all, all_after, all_behind, entries_over, entries_of_move, entries_from, standings, entries, told_by}
 use Rattle.def_account.specs.Laws.{IsNone, IsOnce, AccountTellsTheListing}
 
 -- ---- names
@@ -37,13 +37,13 @@ module _ (o : Opening) (n : Name) where
   -- its state behind what is shown
   abbrev behind : Session → List Shown → Session
   behind s [] = s
-  behind s (x ∷ xs) = behind (state_after o (n, s) x) xs
+  behind s (x ∷ xs) = behind (state_behind o (n, s) x) xs
 
   over-both : (s : Session) (xs ys : List Shown) → lines_over o (n, s) (xs ++ ys) ≡ lines_over o (n, s) xs ++ lines_over o (n, behind s xs) ys
   over-both s [] ys = refl
   over-both s (x ∷ xs) ys =
-      ap (λ ls. lines_of o (n, s) x ++ ls) (over-both (state_after o (n, s) x) xs ys)
-      ∙ sym (append_assoc (lines_of o (n, s) x) (lines_over o (n, state_after o (n, s) x) xs) (lines_over o (n, behind (state_after o (n, s) x) xs) ys))
+      ap (λ ls. lines_of o (n, s) x ++ ls) (over-both (state_behind o (n, s) x) xs ys)
+      ∙ sym (append_assoc (lines_of o (n, s) x) (lines_over o (n, state_behind o (n, s) x) xs) (lines_over o (n, behind (state_behind o (n, s) x) xs) ys))
 
   -- its messages are those of what it sees
   over-tells : (s : Session) (xs : List Shown) → told_in_lines (lines_over o (n, s) xs) ≡ messages_from o s (filter (is_own n) xs)
@@ -113,33 +113,33 @@ module _ (o : Opening) (n : Name) where
   still-missed [] x h = tt
   still-missed (s ∷ ss) x h = (h.0, still-missed ss x h.1)
 
-  still-held : (t : Session) (ss : List Standing) (x : Shown) → Holds t ss → Holds (state_after o (n, t) x) (all_after o ss x)
+  still-held : (t : Session) (ss : List Standing) (x : Shown) → Holds t ss → Holds (state_behind o (n, t) x) (all_after o ss x)
   still-held t [] x h = absurd h
   still-held t (s ∷ ss) x (inl h) = inl (ap (λ z. after o z x) h.0, still-missed ss x h.1)
   still-held t (s ∷ ss) x (inr h) = inr (h.0, still-held t ss x h.1)
 
   held-behind : (t : Session) (ss : List Standing) (xs : List Shown) → Holds t ss → Holds (behind t xs) (all_behind o ss xs)
   held-behind t ss [] h = h
-  held-behind t ss (x ∷ xs) h = held-behind (state_after o (n, t) x) (all_after o ss x) xs (still-held t ss x h)
+  held-behind t ss (x ∷ xs) h = held-behind (state_behind o (n, t) x) (all_after o ss x) xs (still-held t ss x h)
 
   over : (k pick : ℕ) (t : Session) (ss : List Standing) (xs : List Shown) → Holds t ss → told_by n (entries_over o k pick ss xs) ≡ told_in_lines (lines_over o (n, t) xs)
   over k pick t ss [] h = refl
   over k pick t ss (x ∷ xs) h =
       told-both (made_by_all o ss x) (entries_over o k pick (all_after o ss x) xs)
-      ∙ ap₂ (λ a b. a ++ b) (made t ss x h) (over k pick (state_after o (n, t) x) (all_after o ss x) xs (still-held t ss x h))
-      ∙ sym (joined-told (lines_of o (n, t) x) (lines_over o (n, state_after o (n, t) x) xs))
+      ∙ ap₂ (λ a b. a ++ b) (made t ss x h) (over k pick (state_behind o (n, t) x) (all_after o ss x) xs (still-held t ss x h))
+      ∙ sym (joined-told (lines_of o (n, t) x) (lines_over o (n, state_behind o (n, t) x) xs))
 
   of-move : (k pick : ℕ) (t : Session) (ss : List Standing) (xs : List Shown) → Holds t ss → told_by n (entries_of_move o k pick ss xs) ≡ told_in_lines (lines_over o (n, t) xs)
   of-move k pick t ss [] h = refl
   of-move k pick t ss (x ∷ xs) h = over k pick t ss (x ∷ xs) h
 
   -- pick by pick
-  from : (fs : List Function) (p : Place) (k : ℕ) (t : Session) (ss : List Standing) (picks : List ℕ) → Holds t ss → told_by n (entries_from o fs p k ss picks) ≡ told_in_lines (lines_over o (n, t) (shown_from fs p picks))
+  from : (fs : List Function) (p : RunState) (k : ℕ) (t : Session) (ss : List Standing) (picks : List ℕ) → Holds t ss → told_by n (entries_from o fs p k ss picks) ≡ told_in_lines (lines_over o (n, t) (shown_from fs p picks))
   from fs p k t ss [] h = refl
-  from fs p k t ss (pick ∷ picks) h = go (turn_of fs p pick) (turn_of fs p pick).moved refl refl (λ q j u vs g. from fs q j u vs picks g)
+  from fs p k t ss (pick ∷ picks) h = go (pick_step fs p pick) (pick_step fs p pick).moved refl refl (λ q j u vs g. from fs q j u vs picks g)
     where
-      go : (u : Turn) (b : Bool) → turn_of fs p pick ≡ u → u.moved ≡ b
-          → ((q : Place) (j : ℕ) (v : Session) (vs : List Standing) → Holds v vs → told_by n (entries_from o fs q j vs picks) ≡ told_in_lines (lines_over o (n, v) (shown_from fs q picks)))
+      go : (u : PickStep) (b : Bool) → pick_step fs p pick ≡ u → u.moved ≡ b
+          → ((q : RunState) (j : ℕ) (v : Session) (vs : List Standing) → Holds v vs → told_by n (entries_from o fs q j vs picks) ≡ told_in_lines (lines_over o (n, v) (shown_from fs q picks)))
           → told_by n (if b then entries_of_move o (suc k) pick ss u.shown ++ entries_from o fs u.after (suc k) (all_behind o ss u.shown) picks else entries_from o fs u.after k ss picks) ≡ told_in_lines (lines_over o (n, t) (u.shown ++ shown_from fs u.after picks))
       go u true e m again =
           told-both (entries_of_move o (suc k) pick ss u.shown) (entries_from o fs u.after (suc k) (all_behind o ss u.shown) picks)
@@ -147,7 +147,7 @@ module _ (o : Opening) (n : Name) where
           ∙ sym (joined-told (lines_over o (n, t) u.shown) (lines_over o (n, behind t u.shown) (shown_from fs u.after picks)))
           ∙ ap told_in_lines (sym (over-both t u.shown (shown_from fs u.after picks)))
       go u false e m again =
-          let none : u.shown ≡ [] = ap (λ v. v.shown) (sym e ∙ turn_kept fs p pick (ap (λ v. v.moved) e ∙ m)) in
+          let none : u.shown ≡ [] = ap (λ v. v.shown) (sym e ∙ pick_kept fs p pick (ap (λ v. v.moved) e ∙ m)) in
           again u.after k t ss h ∙ ap (λ xs. told_in_lines (lines_over o (n, t) (xs ++ shown_from fs u.after picks))) (sym none)
 
   at-first : (t : Session) (ss : List (Name × Name)) → IsNone n ss → Misses (map (λ s. (s.0, t)) ss)

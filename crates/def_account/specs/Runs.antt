@@ -10,7 +10,7 @@ use Rattle.def_script.specs.Script.{creations}
 use Rattle.def_session.specs.State.{Session, absent_session}
 use Rattle.def_session.specs.Session.{event_told}
 use Rattle.def_session.specs.Commands.{command_done}
-use Rattle.def_run.specs.Run.{Shown, happened, commanded, Place, Turn, turn_of, start, events}
+use Rattle.def_run.specs.Run.{Shown, happened, commanded, RunState, PickStep, pick_step, start, events}
 use Rattle.def_explain.specs.Accounts.{Line, said, tells, event_lines, command_lines}
 
 -- a session by its name, and where it stands
@@ -23,13 +23,13 @@ lines_of o s (happened e) = event_lines s.1 e
 lines_of o s (commanded c) = if bytes_eq s.0 (session_of c) then command_lines o s.1 c else []
 
 -- its state then
-abbrev pub state_after : Opening → Standing → Shown → Session
-state_after o s (happened e) = (event_told s.1 e).0
-state_after o s (commanded c) = if bytes_eq s.0 (session_of c) then (command_done o s.1 c).0 else s.1
+abbrev pub state_behind : Opening → Standing → Shown → Session
+state_behind o s (happened e) = (event_told s.1 e).0
+state_behind o s (commanded c) = if bytes_eq s.0 (session_of c) then (command_done o s.1 c).0 else s.1
 
 -- where it stands then
 abbrev pub after : Opening → Standing → Shown → Standing
-after o s x = (s.0, state_after o s x)
+after o s x = (s.0, state_behind o s x)
 
 -- the lines of one session over what is shown
 abbrev pub lines_over : Opening → Standing → List Shown → List Line
@@ -69,10 +69,10 @@ entries_of_move o k pick ss [] = shows_nothing k pick ∷ []
 entries_of_move o k pick ss (x ∷ xs) = entries_over o k pick ss (x ∷ xs)
 
 -- of the picks that move, behind so many moves
-abbrev pub entries_from : Opening → List Function → Place → ℕ → List Standing → List ℕ → List Entry
+abbrev pub entries_from : Opening → List Function → RunState → ℕ → List Standing → List ℕ → List Entry
 entries_from o fs p k ss [] = []
 entries_from o fs p k ss (pick ∷ picks) =
-    let t : Turn = turn_of fs p pick in
+    let t : PickStep = pick_step fs p pick in
     if t.moved
     then entries_of_move o (suc k) pick ss t.shown ++ entries_from o fs t.after (suc k) (all_behind o ss t.shown) picks
     else entries_from o fs t.after k ss picks

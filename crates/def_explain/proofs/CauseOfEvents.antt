@@ -12,7 +12,8 @@ use Rattle.def_session.specs.Settings.{Covering, Setting, off, by}
 use Rattle.def_session.specs.State.{Session, flags_at}
 use Rattle.def_session.specs.Messages.{elements_of, process_of, last_message, decided}
 use Rattle.def_session.specs.Session.{evaluated, evaluated_by, context, where_set, is_marked, all_affected, message_after, told_for}
-use Rattle.def_explain.specs.Causes.{Cause, no_mark, no_flag, no_setting, of_named_calls, switched_off, no_clause, silenced, message_false, needed, HasFlag, IsOfMarked, IsOfSetting, newest_of, IsOfCall, IsOfEvent, IsOfUnmarked, is_silent_after, IsCause, cause_of_event, is_false_message, cause_by, cause_where, cause_of}
+use Rattle.def_session.specs.Laws.{needed_for}
+use Rattle.def_explain.specs.Causes.{Cause, no_mark, no_flag, no_setting, of_named_calls, switched_off, no_clause, silenced, message_false, HasFlag, IsOfMarked, IsOfSetting, newest_of, IsOfCall, IsOfEvent, IsOfUnmarked, is_silent_after, IsCause, cause_of_event, is_false_message, cause_by, cause_where, cause_of}
 use Rattle.def_explain.specs.Laws.{CauseWhereNothingTold, CauseIsOne, CauseIsComputed}
 use Rattle.def_explain.proofs.CauseOfSettings.{setting_sound, setting_complete, setting_by, setting_is, call_sound, call_complete}
 
@@ -123,11 +124,11 @@ by_sound s e x (Some es) f m h k = go (is_silent_after s e es) refl (is_false_me
     go false a false b l = absurd (cc l)
 
 where_sound : (s : Session) (e : Event) (x : Cause) → IsOfMarked s e → cause_where s e ≡ Some x → IsCause s e x
-where_sound s e x m k = go (flags_at s (process_of e) (needed e)) refl k
+where_sound s e x m k = go (flags_at s (process_of e) (needed_for e)) refl k
   where
-    go : (q : Bool) → flags_at s (process_of e) (needed e) ≡ q → (if q then cause_by s e (evaluated s e) else Some (no_flag (needed e))) ≡ Some x → IsCause s e x
+    go : (q : Bool) → flags_at s (process_of e) (needed_for e) ≡ q → (if q then cause_by s e (evaluated s e) else Some (no_flag (needed_for e))) ≡ Some x → IsCause s e x
     go true f l = by_sound s e x (evaluated s e) f m refl l
-    go false f l = subst (IsCause s e) (the_same (no_flag (needed e)) x l) (refl, m, f)
+    go false f l = subst (IsCause s e) (the_same (no_flag (needed_for e)) x l) (refl, m, f)
 
 cause_sound : (s : Session) (e : Event) (x : Cause) → cause_of s e ≡ Some x → IsCause s e x
 cause_sound s (returned p g t depth) x k = go (is_marked s p depth) refl k
@@ -164,7 +165,7 @@ by_flag s (getting_unlinked p q) m = refl
 
 -- the flag is set, and so the event is evaluated or not
 where_flag : (s : Session) (e : Event) → IsOfMarked s e → HasFlag s e → cause_of s e ≡ cause_by s e (evaluated s e)
-where_flag s e m f = by_flag s e m ∙ ap (λ q. if q then cause_by s e (evaluated s e) else Some (no_flag (needed e))) f
+where_flag s e m f = by_flag s e m ∙ ap (λ q. if q then cause_by s e (evaluated s e) else Some (no_flag (needed_for e))) f
 
 set_there : (q : Bool) (r : Option (List Effect)) (es : List Effect) → (if q then r else None) ≡ Some es → q ≡ true
 set_there true r es h = refl
@@ -206,7 +207,7 @@ cause_complete : (s : Session) (e : Event) (x : Cause) → IsCause s e x → cau
 cause_complete s e no_mark h = unmarked_complete s e h
 cause_complete s e (no_flag f) h =
     by_flag s e h.1
-    ∙ ap (λ q. if q then cause_by s e (evaluated s e) else Some (no_flag (needed e))) (subst (λ g. flags_at s (process_of e) g ≡ false) h.0 h.2)
+    ∙ ap (λ q. if q then cause_by s e (evaluated s e) else Some (no_flag (needed_for e))) (subst (λ g. flags_at s (process_of e) g ≡ false) h.0 h.2)
     ∙ ap (λ g. Some (no_flag g)) (sym h.0)
 cause_complete s e silenced h =
     by_effects s e h.0 h.1 ∙ ap (λ q. if q then Some silenced else if is_false_message (last_message h.0) then Some message_false else None) h.2
@@ -270,11 +271,11 @@ told_then s e (Some es) h f m k = go (is_silent_after s e es) refl (is_false_mes
 cause_there : (s : Session) (e : Event) → (told_for s e (evaluated s e)).1 ≡ None → (x : Cause) × (cause_of s e ≡ Some x)
 cause_there s e k = marked_or e k
   where
-    flagged : (e : Event) → (told_for s e (evaluated s e)).1 ≡ None → IsOfMarked s e → (q : Bool) → flags_at s (process_of e) (needed e) ≡ q → (x : Cause) × (cause_of s e ≡ Some x)
+    flagged : (e : Event) → (told_for s e (evaluated s e)).1 ≡ None → IsOfMarked s e → (q : Bool) → flags_at s (process_of e) (needed_for e) ≡ q → (x : Cause) × (cause_of s e ≡ Some x)
     flagged e k m true f =
         let r : (x : Cause) × (cause_by s e (evaluated s e) ≡ Some x) = told_then s e (evaluated s e) refl f m k in
         (r.0, where_flag s e m f ∙ r.1)
-    flagged e k m false f = (no_flag (needed e), by_flag s e m ∙ ap (λ q. if q then cause_by s e (evaluated s e) else Some (no_flag (needed e))) f)
+    flagged e k m false f = (no_flag (needed_for e), by_flag s e m ∙ ap (λ q. if q then cause_by s e (evaluated s e) else Some (no_flag (needed_for e))) f)
 
     marked_or : (e : Event) → (told_for s e (evaluated s e)).1 ≡ None → (x : Cause) × (cause_of s e ≡ Some x)
     marked_or (returned p g t depth) k = go (is_marked s p depth) refl

@@ -36,10 +36,11 @@ followed_by_line ls text = ls ++ said text ∷ []
 
 -- ---- flags
 
--- flags that a process has now and hadn't, and that it had and hasn't now; no line where there are none
+-- the flags that a process had and hasn't now, and those that it has now and hadn't
 abbrev pub changed_text : ℕ → (old new : Flags) → List ℕ
 changed_text p old new = said_of_each (codes " loses ") (without old new) flags_by_name ++ said_of_each (codes " gets ") (without new old) flags_by_name
 
+-- what is said of a process; no line where it is nothing
 abbrev pub line_where : ℕ → List ℕ → List Line
 line_where p [] = []
 line_where p (b ∷ bs) = said (pid_text p ++ b ∷ bs) ∷ []
@@ -85,6 +86,7 @@ evaluation_lines s e = []
 abbrev pub mfa_text : Mfa → List ℕ
 mfa_text f = atom_text f.module_name ++ 58 ∷ atom_text f.function_name ++ 47 ∷ decimal f.arity
 
+-- the function that has no setting, where the event is a call
 abbrev pub no_setting_text : Event → List ℕ
 no_setting_text (called p c) = codes "no setting for " ++ mfa_text c.mfa
 no_setting_text e = codes "no setting"

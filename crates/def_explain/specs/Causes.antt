@@ -5,7 +5,7 @@ use Rattle.std.specs.Bool.{⊤}
 use Rattle.def_term.specs.Tree.{Tree, pid}
 use Rattle.def_term.specs.Order.{same}
 use Rattle.def_term.specs.Names.{word}
-use Rattle.def_spec.specs.Flags.{Flag, send_flag, receive_flag, call_flag, procs_flag}
+use Rattle.def_spec.specs.Flags.{Flag}
 use Rattle.def_spec.specs.Expressions.{Dialect, Context, Effect}
 use Rattle.def_spec.specs.Outcome.{Clause}
 use Rattle.def_node.specs.Event.{Event, Call, sent, received, called, returned}
@@ -13,9 +13,11 @@ use Rattle.def_session.specs.Settings.{Covering, Setting, off, by, has_among}
 use Rattle.def_session.specs.State.{Session, flags_at}
 use Rattle.def_session.specs.Messages.{process_of, last_message}
 use Rattle.def_session.specs.Session.{evaluated, context, is_marked, all_affected, is_silenced}
+use Rattle.def_session.specs.Laws.{needed_for}
 use Rattle.def_explain.specs.Reasons.{Reason, IsReason, reason_of}
 
--- the frame of the return isn't marked; the process doesn't have the flag; no command covers the function, or the newest that does is about calls that name the module; it is `false`, or no clause fires; or the message is silenced, or `false`
+-- the frame of the return isn't marked; the process doesn't have the flag; no command covers the function, or the newest that
+-- does is about calls that name the module; it is `false`, or no clause fires; or the message is silenced, or `false`
 pub data Cause : Type 0 where
   no_mark : Cause
   no_flag : Flag → Cause
@@ -26,17 +28,9 @@ pub data Cause : Type 0 where
   silenced : Cause
   message_false : Cause
 
--- the flag that the process of an event needs
-abbrev pub needed : Event → Flag
-needed (sent p t to alive) = send_flag
-needed (received p sender t) = receive_flag
-needed (called p c) = call_flag
-needed (returned p f t depth) = call_flag
-needed _ = procs_flag
-
--- the process of the event has it
+-- the process of the event has the flag that its message needs
 abbrev pub HasFlag : Session → Event → Type 0
-HasFlag s e = flags_at s (process_of e) (needed e) ≡ true
+HasFlag s e = flags_at s (process_of e) (needed_for e) ≡ true
 
 -- a return is that of a marked frame
 abbrev pub IsOfMarked : Session → Event → Type 0
@@ -61,7 +55,7 @@ abbrev pub newest_of : List Covering → Call → Option Covering
 newest_of [] c = None
 newest_of (k ∷ ks) c = if has_among k c.mfa c.exported then Some k else newest_of ks c
 
--- why the newest command tells nothing of a call; none covers its function
+-- why the newest command tells nothing of a call, or that none covers its function
 abbrev pub IsOfCall : Option Covering → Call → Context → Cause → Type 0
 IsOfCall None call c no_setting = ⊤
 IsOfCall None call c cause = ⊥
@@ -91,7 +85,7 @@ is_silent_after s e es = is_silenced (all_affected (process_of e) s es) e
 -- why a session that is there tells nothing of an event, the session as it is once flags were inherited
 abbrev pub IsCause : Session → Event → Cause → Type 0
 IsCause s e no_mark = IsOfUnmarked s e
-IsCause s e (no_flag f) = (f ≡ needed e) × IsOfMarked s e × (flags_at s (process_of e) f ≡ false)
+IsCause s e (no_flag f) = (f ≡ needed_for e) × IsOfMarked s e × (flags_at s (process_of e) f ≡ false)
 IsCause s e silenced = (es : List Effect) × IsEvaluated s e es × (is_silent_after s e es ≡ true)
 IsCause s e message_false = (es : List Effect) × IsEvaluated s e es × (is_silent_after s e es ≡ false) × (last_message es ≡ Some (word "false"))
 IsCause s e cause = HasFlag s e × IsOfEvent s e cause
@@ -137,7 +131,7 @@ cause_by s e (Some es) = if is_silent_after s e es then Some silenced else if is
 
 -- of an event whose frame, if it is a return, is marked
 abbrev pub cause_where : Session → Event → Option Cause
-cause_where s e = if flags_at s (process_of e) (needed e) then cause_by s e (evaluated s e) else Some (no_flag (needed e))
+cause_where s e = if flags_at s (process_of e) (needed_for e) then cause_by s e (evaluated s e) else Some (no_flag (needed_for e))
 
 -- why the session tells nothing of the event; none where it tells of it
 abbrev pub cause_of : Session → Event → Option Cause

@@ -17,16 +17,18 @@ use Rattle.def_explain.specs.Verdicts.{Verdict, fails, fires, verdict_of}
 
 -- ---- reasons
 
--- elements and conditions are counted from 1
+-- elements are counted from 1
 abbrev pub head_reason_text : HeadReason → List ℕ
 head_reason_text no_list = codes "the head doesn't match"
 head_reason_text other_length = codes "the head has another number of elements"
 head_reason_text (behind_matching n) = codes "the head doesn't match at element " ++ decimal (suc n)
 
+-- the value that a condition has, or the part of it that faults
 abbrev pub condition_reason_text : ConditionReason → List ℕ
 condition_reason_text (has_value t) = codes " is " ++ w t
 condition_reason_text (faults_at e) = codes " faults at " ++ w (spelling e)
 
+-- conditions are counted from 1
 abbrev pub reason_text : Reason → List ℕ
 reason_text (by_head h) = head_reason_text h
 reason_text (by_condition n r) = codes "condition " ++ decimal (suc n) ++ condition_reason_text r
@@ -38,10 +40,12 @@ abbrev pub said_of_each : List ℕ → Flags → List (Name × Flag) → List �
 said_of_each verb fs [] = []
 said_of_each verb fs (e ∷ es) = (if fs e.1 then verb ++ atom_text e.0 else []) ++ said_of_each verb fs es
 
+-- the flag `silent` that an effect sets or clears
 abbrev pub silent_text : Bool → List ℕ
 silent_text true = codes "silent true"
 silent_text false = codes "silent false"
 
+-- what an effect asks for
 abbrev pub effect_text : Effect → List ℕ
 effect_text (gives_message t) = codes "message " ++ w t
 effect_text traces_return = codes "return_trace"

@@ -10,7 +10,7 @@ use Rattle.def_node.specs.Process.{FRAMES, Process, Act, waits, continues, sends
 abbrev pub IsOwn : ℕ → List Bool → Process → Type 0
 IsOwn most ls q = (q.links ≡ ls) × (length q.frames ≤ most)
 
--- an act of a process with these links changes its own frames alone, a spawn gives the given pid, and an exit tells the partners that the process has
+-- after its own act a process has the links that it had and at most so many frames, a spawn gives the given pid, and an exit tells the partners that the process has
 abbrev pub IsOwnAct : ℕ → List Bool → Option ℕ → Act → Type 0
 IsOwnAct most ls child (waits q) = IsOwn most ls q
 IsOwnAct most ls child (continues q e) = IsOwn most ls q

@@ -151,7 +151,7 @@ taken_past xs k h =
     take_all (suc k) xs (omega arith) ∙ sym (take_all k xs r)
 
 module _ (p : Program) (n : ℕ) (s tracer : Name) (known : slice_get (creations p.commands) n ≡ Some (s, tracer)) where
-  -- one more pick adds to a listing what its turn answers for that session
+  -- one more pick adds to a listing what its step answers for that session
   pub pick-listing : (picks : List ℕ) (pick : ℕ) → messages s p (picks ++ pick ∷ []) ≡ messages s p picks ++ for_session (suc n) (added p picks (Some pick))
   pick-listing picks pick =
       let o : Opening = opening p in

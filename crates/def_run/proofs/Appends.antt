@@ -8,23 +8,23 @@ use Rattle.def_session.specs.State.{Session, absent_session}
 use Rattle.def_script.specs.Opening.{Opening}
 use Rattle.def_session.specs.Session.{event_told}
 use Rattle.def_session.specs.Commands.{command_done}
-use Rattle.def_run.specs.Run.{Shown, happened, commanded, Place, turn_of, shown_from, moves_from, place_after}
+use Rattle.def_run.specs.Run.{Shown, happened, commanded, RunState, pick_step, shown_from, moves_from, run_state_after}
 use Rattle.def_run.specs.View.{is_own}
 use Rattle.def_run.specs.Listing.{messages_from, session_after, replies_from}
 
-pub shown-append : (ks : List Function) (p : Place) (xs ys : List ℕ) → shown_from ks p (xs ++ ys) ≡ shown_from ks p xs ++ shown_from ks (place_after ks p xs) ys
+pub shown-append : (ks : List Function) (p : RunState) (xs ys : List ℕ) → shown_from ks p (xs ++ ys) ≡ shown_from ks p xs ++ shown_from ks (run_state_after ks p xs) ys
 shown-append ks p [] ys = refl
-shown-append ks p (x ∷ xs) ys = ap ((turn_of ks p x).shown ++◌) (shown-append ks (turn_of ks p x).after xs ys) ∙ sym (append_assoc (turn_of ks p x).shown _ _)
+shown-append ks p (x ∷ xs) ys = ap ((pick_step ks p x).shown ++◌) (shown-append ks (pick_step ks p x).after xs ys) ∙ sym (append_assoc (pick_step ks p x).shown _ _)
 
-pub moves-append : (ks : List Function) (p : Place) (xs ys : List ℕ) → moves_from ks p (xs ++ ys) ≡ moves_from ks p xs ++ moves_from ks (place_after ks p xs) ys
+pub moves-append : (ks : List Function) (p : RunState) (xs ys : List ℕ) → moves_from ks p (xs ++ ys) ≡ moves_from ks p xs ++ moves_from ks (run_state_after ks p xs) ys
 moves-append ks p [] ys = refl
 moves-append ks p (x ∷ xs) ys =
-    let own : List ℕ = if (turn_of ks p x).moved then x ∷ [] else [] in
-    ap (own ++◌) (moves-append ks (turn_of ks p x).after xs ys) ∙ sym (append_assoc own _ _)
+    let own : List ℕ = if (pick_step ks p x).moved then x ∷ [] else [] in
+    ap (own ++◌) (moves-append ks (pick_step ks p x).after xs ys) ∙ sym (append_assoc own _ _)
 
-pub place-append : (ks : List Function) (p : Place) (xs ys : List ℕ) → place_after ks p (xs ++ ys) ≡ place_after ks (place_after ks p xs) ys
+pub place-append : (ks : List Function) (p : RunState) (xs ys : List ℕ) → run_state_after ks p (xs ++ ys) ≡ run_state_after ks (run_state_after ks p xs) ys
 place-append ks p [] ys = refl
-place-append ks p (x ∷ xs) ys = place-append ks (turn_of ks p x).after xs ys
+place-append ks p (x ∷ xs) ys = place-append ks (pick_step ks p x).after xs ys
 
 pub own-append : (s : Name) (xs ys : List Shown) → filter (is_own s) (xs ++ ys) ≡ filter (is_own s) xs ++ filter (is_own s) ys
 own-append s [] ys = refl

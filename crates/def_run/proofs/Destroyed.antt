@@ -8,7 +8,7 @@ use Rattle.def_script.specs.Opening.{Opening, opening}
 use Rattle.def_session.specs.Session.{event_told}
 use Rattle.def_session.specs.Commands.{command_done}
 use Rattle.def_session.proofs.Destroyed.{event-silent, event-destroyed, command-destroyed}
-use Rattle.def_run.specs.Run.{Shown, happened, commanded, shown_from, place_after, start}
+use Rattle.def_run.specs.Run.{Shown, happened, commanded, shown_from, run_state_after, start}
 use Rattle.def_run.specs.View.{is_own, view}
 use Rattle.def_run.specs.Listing.{messages_from, session_after, messages, state_of}
 use Rattle.def_run.proofs.Appends.{own-append, shown-append, messages-append, state-append}
@@ -29,7 +29,7 @@ module _ (s : Name) (p : Program) (picks more : List ℕ) (h : (state_of (view s
   seen = shown_from p.functions (start p) picks
 
   abbrev next : List Shown
-  next = shown_from p.functions (place_after p.functions (start p) picks) more
+  next = shown_from p.functions (run_state_after p.functions (start p) picks) more
 
   pub destroyed_listing : messages s p (picks ++ more) ≡ messages s p picks
   destroyed_listing =

@@ -2,26 +2,26 @@
 use Rattle.std.proofs.Common.{◌≡◌, ◌+◌, ◌<◌, ℕ, zero, suc, List, [], ◌∷◌, length, refl, ap, arith}
 use Rattle.def_script.specs.Program.{Function, Program, Command}
 use Rattle.def_node.specs.Node.{Move, moved, idle, next_of}
-use Rattle.def_run.specs.Run.{Place, takes_command, goes_to, turn_with, place_after, start, moves}
+use Rattle.def_run.specs.Run.{RunState, takes_command, goes_to, pick_step_with, run_state_after, start, moves}
 use Rattle.def_run.specs.Laws.{IsStep, Takes, PickIsItsStep, PickTakesACommand, FullJournalStays}
 use Rattle.def_run.proofs.Replay.{room_spent}
 
-abbrev place_of : Program → List ℕ → Place
-place_of p picks = place_after p.functions (start p) picks
+abbrev place_of : Program → List ℕ → RunState
+place_of p picks = run_state_after p.functions (start p) picks
 
-step_goes : (q : Place) (room : ℕ) (m : Move) → IsStep m (goes_to q room m)
+step_goes : (q : RunState) (room : ℕ) (m : Move) → IsStep m (goes_to q room m)
 step_goes q room (moved w es) = (refl, refl, refl)
 step_goes q room (idle w) = refl
 
-command_goes : (q : Place) (room : ℕ) (cs : List Command) → Takes cs (takes_command q room cs)
+command_goes : (q : RunState) (room : ℕ) (cs : List Command) → Takes cs (takes_command q room cs)
 command_goes q room [] = refl
 command_goes q room (c ∷ cs) = (refl, refl, refl)
 
-step_with : (ks : List Function) (q : Place) (n room : ℕ) → 0 < room → IsStep (next_of ks q.world (suc n)) (turn_with ks q room (suc n))
+step_with : (ks : List Function) (q : RunState) (n room : ℕ) → 0 < room → IsStep (next_of ks q.world (suc n)) (pick_step_with ks q room (suc n))
 step_with ks q n zero h = absurd (omega arith)
 step_with ks q n (suc room) h = step_goes q room (next_of ks q.world (suc n))
 
-command_with : (ks : List Function) (q : Place) (room : ℕ) → 0 < room → Takes q.commands (turn_with ks q room 0)
+command_with : (ks : List Function) (q : RunState) (room : ℕ) → 0 < room → Takes q.commands (pick_step_with ks q room 0)
 command_with ks q zero h = absurd (omega arith)
 command_with ks q (suc room) h = command_goes q room q.commands
 
@@ -42,4 +42,4 @@ pub full_journal_stays : FullJournalStays
 full_journal_stays p picks pick h =
     let e : length (moves p picks) + (place_of p picks).room ≡ 65536 = spent p picks in
     let none : (place_of p picks).room ≡ 0 = omega arith in
-    ap (λ r. (turn_with p.functions (place_of p picks) r pick).moved) none
+    ap (λ r. (pick_step_with p.functions (place_of p picks) r pick).moved) none

@@ -3,13 +3,13 @@ use Rattle.std.proofs.Common.{◌≡◌, ◌+◌, ◌<◌, ◌≤◌, min, ℕ, 
 use Rattle.std.proofs.lemmas.List.{take_all}
 use Rattle.def_script.specs.Program.{Function, Program, Command}
 use Rattle.def_node.specs.Node.{World, Move, moved, idle, next_of, opening_world}
-use Rattle.def_run.specs.Run.{Place, goes_to, turn_of, moves_from, place_after, start, moves}
+use Rattle.def_run.specs.Run.{RunState, goes_to, pick_step, moves_from, run_state_after, start, moves}
 use Rattle.def_run.specs.Round.{is_empty, pass, passes, round}
 use Rattle.def_run.specs.Laws.{repeated, RoundMoves, RoundIsShort, RoundIsInOrder, RoundRests}
 use Rattle.def_run.proofs.Appends.{moves-append, place-append}
 use Rattle.def_run.proofs.Replay.{moves_again, place_again, room_spent}
 
-abbrev at : World → List Command → ℕ → Place
+abbrev at : World → List Command → ℕ → RunState
 at w cs k = record { world = w; commands = cs; room = k }
 
 -- ---- less room
@@ -37,59 +37,59 @@ less_room ks (suc n ∷ picks) w cs (suc k) (suc j) h = go (λ v l i a. less_roo
 -- ---- passes of any picks
 
 module _ (once : List ℕ) where
-  abbrev pub passes_by : List Function → ℕ → Place → List ℕ
+  abbrev pub passes_by : List Function → ℕ → RunState → List ℕ
   passes_by ks zero q = []
   passes_by ks (suc n) q =
       let made : List ℕ = moves_from ks q once in
-      let rest : List ℕ = passes_by ks n (place_after ks q once) in
+      let rest : List ℕ = passes_by ks n (run_state_after ks q once) in
       made ++ (if is_empty made then [] else rest)
 
-  stays_there : (ks : List Function) (q : Place) → moves_from ks q once ≡ [] → place_after ks q once ≡ q
-  stays_there ks q h = sym (place_again ks q once) ∙ ap (place_after ks q) h
+  stays_there : (ks : List Function) (q : RunState) → moves_from ks q once ≡ [] → run_state_after ks q once ≡ q
+  stays_there ks q h = sym (place_again ks q once) ∙ ap (run_state_after ks q) h
 
-  rests : (ks : List Function) (q : Place) (n : ℕ) → moves_from ks q once ≡ [] → moves_from ks q (repeated once n) ≡ []
+  rests : (ks : List Function) (q : RunState) (n : ℕ) → moves_from ks q once ≡ [] → moves_from ks q (repeated once n) ≡ []
   rests ks q zero h = refl
   rests ks q (suc n) h =
       moves-append ks q once (repeated once n)
-      ∙ ap (λ xs. xs ++ moves_from ks (place_after ks q once) (repeated once n)) h
+      ∙ ap (λ xs. xs ++ moves_from ks (run_state_after ks q once) (repeated once n)) h
       ∙ ap (λ x. moves_from ks x (repeated once n)) (stays_there ks q h)
       ∙ rests ks q n h
 
-  pub passes_move : (ks : List Function) (n : ℕ) (q : Place) → passes_by ks n q ≡ moves_from ks q (repeated once n)
+  pub passes_move : (ks : List Function) (n : ℕ) (q : RunState) → passes_by ks n q ≡ moves_from ks q (repeated once n)
   passes_move ks zero q = refl
-  passes_move ks (suc n) q = go (moves_from ks q once) refl (passes_move ks n (place_after ks q once)) ∙ sym (moves-append ks q once (repeated once n))
+  passes_move ks (suc n) q = go (moves_from ks q once) refl (passes_move ks n (run_state_after ks q once)) ∙ sym (moves-append ks q once (repeated once n))
     where
-      go : (made : List ℕ) → moves_from ks q once ≡ made → passes_by ks n (place_after ks q once) ≡ moves_from ks (place_after ks q once) (repeated once n)
-          → made ++ (if is_empty made then [] else passes_by ks n (place_after ks q once)) ≡ made ++ moves_from ks (place_after ks q once) (repeated once n)
+      go : (made : List ℕ) → moves_from ks q once ≡ made → passes_by ks n (run_state_after ks q once) ≡ moves_from ks (run_state_after ks q once) (repeated once n)
+          → made ++ (if is_empty made then [] else passes_by ks n (run_state_after ks q once)) ≡ made ++ moves_from ks (run_state_after ks q once) (repeated once n)
       go [] e ih = sym (ap (λ x. moves_from ks x (repeated once n)) (stays_there ks q e) ∙ rests ks q n e)
       go (x ∷ made) e ih = ap ((x ∷ made) ++◌) ih
 
   -- so many passes each moved something, or the last of them moved nothing
-  pub ends_at_rest : (ks : List Function) (n : ℕ) (q : Place) → length (moves_from ks q (repeated once n)) < n → moves_from ks (place_after ks q (repeated once n)) once ≡ []
+  pub ends_at_rest : (ks : List Function) (n : ℕ) (q : RunState) → length (moves_from ks q (repeated once n)) < n → moves_from ks (run_state_after ks q (repeated once n)) once ≡ []
   ends_at_rest ks zero q h = absurd (omega arith)
-  ends_at_rest ks (suc n) q h = go (moves_from ks q once) refl (λ g. ends_at_rest ks n (place_after ks q once) g)
+  ends_at_rest ks (suc n) q h = go (moves_from ks q once) refl (λ g. ends_at_rest ks n (run_state_after ks q once) g)
     where
       go : (made : List ℕ) → moves_from ks q once ≡ made
-          → (length (moves_from ks (place_after ks q once) (repeated once n)) < n → moves_from ks (place_after ks (place_after ks q once) (repeated once n)) once ≡ [])
-          → moves_from ks (place_after ks q (once ++ repeated once n)) once ≡ []
+          → (length (moves_from ks (run_state_after ks q once) (repeated once n)) < n → moves_from ks (run_state_after ks (run_state_after ks q once) (repeated once n)) once ≡ [])
+          → moves_from ks (run_state_after ks q (once ++ repeated once n)) once ≡ []
       go [] e ih =
-          ap (λ x. moves_from ks x once) (sym (place_again ks q (once ++ repeated once n)) ∙ ap (place_after ks q) (rests ks q (suc n) e))
+          ap (λ x. moves_from ks x once) (sym (place_again ks q (once ++ repeated once n)) ∙ ap (run_state_after ks q) (rests ks q (suc n) e))
           ∙ e
       go (x ∷ made) e ih =
-          let split : moves_from ks q (once ++ repeated once n) ≡ (x ∷ made) ++ moves_from ks (place_after ks q once) (repeated once n) = moves-append ks q once (repeated once n) ∙ ap (λ xs. xs ++ moves_from ks (place_after ks q once) (repeated once n)) e in
-          let counted : length (moves_from ks q (once ++ repeated once n)) ≡ length (x ∷ made) + length (moves_from ks (place_after ks q once) (repeated once n)) = ap length split ∙ length-append (x ∷ made) _ in
+          let split : moves_from ks q (once ++ repeated once n) ≡ (x ∷ made) ++ moves_from ks (run_state_after ks q once) (repeated once n) = moves-append ks q once (repeated once n) ∙ ap (λ xs. xs ++ moves_from ks (run_state_after ks q once) (repeated once n)) e in
+          let counted : length (moves_from ks q (once ++ repeated once n)) ≡ length (x ∷ made) + length (moves_from ks (run_state_after ks q once) (repeated once n)) = ap length split ∙ length-append (x ∷ made) _ in
           ap (λ y. moves_from ks y once) (place-append ks q once (repeated once n))
           ∙ ih (omega arith)
 
 -- ---- the passes of a round
 
-passes_same : (ks : List Function) (n : ℕ) (q : Place) → passes ks n q ≡ passes_by pass ks n q
+passes_same : (ks : List Function) (n : ℕ) (q : RunState) → passes ks n q ≡ passes_by pass ks n q
 passes_same ks zero q = refl
-passes_same ks (suc n) q = ap (λ rest. moves_from ks q pass ++ (if is_empty (moves_from ks q pass) then [] else rest)) (passes_same ks n (place_after ks q pass))
+passes_same ks (suc n) q = ap (λ rest. moves_from ks q pass ++ (if is_empty (moves_from ks q pass) then [] else rest)) (passes_same ks n (run_state_after ks q pass))
 
 -- ---- a place with less room and one with more
 
-record IsSamePlace (q r : Place) : Type 0 where
+record IsSamePlace (q r : RunState) : Type 0 where
   world : World
   commands : List Command
   less : ℕ
@@ -100,7 +100,7 @@ record IsSamePlace (q r : Place) : Type 0 where
   second : r ≡ at world commands more
 
 same_place : (ks : List Function) (picks : List ℕ) (w : World) (cs : List Command) (k j : ℕ) → length (moves_from ks (at w cs k) picks) < k → k ≤ j
-    → IsSamePlace (place_after ks (at w cs k) picks) (place_after ks (at w cs j) picks)
+    → IsSamePlace (run_state_after ks (at w cs k) picks) (run_state_after ks (at w cs j) picks)
 same_place ks [] w cs k j h g = record { world = w; commands = cs; less = k; more = j; some_room = omega arith; no_less = g; first = refl; second = refl }
 same_place ks (pick ∷ picks) w cs zero j h g = absurd (omega arith)
 same_place ks (pick ∷ picks) w cs (suc k) zero h g = absurd (omega arith)
@@ -108,19 +108,19 @@ same_place ks (zero ∷ picks) w [] (suc k) (suc j) h g = same_place ks picks w 
 same_place ks (zero ∷ picks) w (c ∷ cs) (suc k) (suc j) h g = same_place ks picks w cs k j (omega arith) (omega arith)
 same_place ks (suc n ∷ picks) w cs (suc k) (suc j) h g = go (λ v l i a b. same_place ks picks v cs l i a b) (next_of ks w (suc n)) h
   where
-    go : ((v : World) (l i : ℕ) → length (moves_from ks (at v cs l) picks) < l → l ≤ i → IsSamePlace (place_after ks (at v cs l) picks) (place_after ks (at v cs i) picks))
+    go : ((v : World) (l i : ℕ) → length (moves_from ks (at v cs l) picks) < l → l ≤ i → IsSamePlace (run_state_after ks (at v cs l) picks) (run_state_after ks (at v cs i) picks))
         → (m : Move) → length ((if (goes_to (at w cs (suc k)) k m).moved then suc n ∷ [] else []) ++ moves_from ks (goes_to (at w cs (suc k)) k m).after picks) < suc k
-        → IsSamePlace (place_after ks (goes_to (at w cs (suc k)) k m).after picks) (place_after ks (goes_to (at w cs (suc j)) j m).after picks)
+        → IsSamePlace (run_state_after ks (goes_to (at w cs (suc k)) k m).after picks) (run_state_after ks (goes_to (at w cs (suc j)) j m).after picks)
     go ih (idle v) f = ih w (suc k) (suc j) f g
     go ih (moved v es) f = ih v k j (omega arith) (omega arith)
 
 -- ---- rounds
 
-moves_among : (ks : List Function) (q : Place) (xs : List ℕ) → length (moves_from ks q xs) ≤ length xs
+moves_among : (ks : List Function) (q : RunState) (xs : List ℕ) → length (moves_from ks q xs) ≤ length xs
 moves_among ks q [] = omega arith
-moves_among ks q (x ∷ xs) = go (turn_of ks q x).moved (moves_among ks (turn_of ks q x).after xs)
+moves_among ks q (x ∷ xs) = go (pick_step ks q x).moved (moves_among ks (pick_step ks q x).after xs)
   where
-    go : (b : Bool) → length (moves_from ks (turn_of ks q x).after xs) ≤ length xs → length ((if b then x ∷ [] else []) ++ moves_from ks (turn_of ks q x).after xs) ≤ suc (length xs)
+    go : (b : Bool) → length (moves_from ks (pick_step ks q x).after xs) ≤ length xs → length ((if b then x ∷ [] else []) ++ moves_from ks (pick_step ks q x).after xs) ≤ suc (length xs)
     go true h = omega arith
     go false h = omega arith
 
@@ -141,7 +141,7 @@ module _ (p : Program) (limit : ℕ) where
   abbrev many : List ℕ
   many = repeated pass (room + 1)
 
-  abbrev opening_at : ℕ → Place
+  abbrev opening_at : ℕ → RunState
   opening_at k = at (opening_world p.entries) p.commands k
 
   by_moves : round p limit ≡ moves_from p.functions (opening_at room) many
@@ -149,7 +149,7 @@ module _ (p : Program) (limit : ℕ) where
 
   short : length (round p limit) ≤ room
   short =
-      let e : length (moves_from p.functions (opening_at room) many) + (place_after p.functions (opening_at room) many).room ≡ room = room_spent p.functions (opening_at room) many in
+      let e : length (moves_from p.functions (opening_at room) many) + (run_state_after p.functions (opening_at room) many).room ≡ room = room_spent p.functions (opening_at room) many in
       let same : length (round p limit) ≡ length (moves_from p.functions (opening_at room) many) = ap length by_moves in
       omega arith
 
@@ -170,13 +170,13 @@ module _ (p : Program) (limit : ℕ) where
   at_rest h =
       let ks : List Function = p.functions in
       let less : length (moves_from ks (opening_at room) many) < room = subst (λ xs. length xs < room) by_moves h in
-      let q : IsSamePlace (place_after ks (opening_at room) many) (place_after ks (opening_at 65536) many) = same_place ks many (opening_world p.entries) p.commands room 65536 less (omega arith) in
+      let q : IsSamePlace (run_state_after ks (opening_at room) many) (run_state_after ks (opening_at 65536) many) = same_place ks many (opening_world p.entries) p.commands room 65536 less (omega arith) in
       let nothing : moves_from ks (at q.world q.commands q.less) pass ≡ [] = ap (λ x. moves_from ks x pass) (sym q.first) ∙ ends_at_rest pass ks (room + 1) (opening_at room) (omega arith) in
       let nothing_more : moves_from ks (at q.world q.commands q.more) pass ≡ [] = taken_none q.less (moves_from ks (at q.world q.commands q.more) pass) q.some_room (sym (less_room ks pass q.world q.commands q.less q.more q.no_less) ∙ nothing) in
       let whole : moves p many ≡ round p limit = sym (in_order ∙ taken_whole room (moves p many) (subst (λ xs. length xs < room) in_order h)) in
       moves-append ks (start p) (round p limit) pass
-      ∙ ap (λ xs. xs ++ moves_from ks (place_after ks (start p) (round p limit)) pass) all_move
-      ∙ ap (λ x. round p limit ++ moves_from ks x pass) (ap (place_after ks (start p)) (sym whole) ∙ place_again ks (start p) many ∙ q.second)
+      ∙ ap (λ xs. xs ++ moves_from ks (run_state_after ks (start p) (round p limit)) pass) all_move
+      ∙ ap (λ x. round p limit ++ moves_from ks x pass) (ap (run_state_after ks (start p)) (sym whole) ∙ place_again ks (start p) many ∙ q.second)
       ∙ ap (round p limit ++◌) nothing_more
       ∙ append-nil (round p limit)
 

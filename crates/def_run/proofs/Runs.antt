@@ -2,7 +2,7 @@
 use Rattle.std.proofs.Common.{◌≤◌, ℕ, List, [], ◌∷◌, ◌++◌, length, Option, Some, None, ap, ◌∙◌, append-nil, arith}
 use Rattle.std.specs.Prelude.{codes, filter, option_to_list}
 use Rattle.def_script.specs.Program.{Program}
-use Rattle.def_run.specs.Run.{Shown, start, place_after, moves_from}
+use Rattle.def_run.specs.Run.{Shown, start, run_state_after, moves_from}
 use Rattle.def_script.specs.Opening.{opening}
 use Rattle.def_run.specs.Listing.{messages_of, messages_from, session_after, replies_from, listing_text, listings_text, lines_of}
 use Rattle.def_run.specs.Picks.{picks_text}
@@ -13,7 +13,7 @@ use Rattle.def_session.specs.Session.{event_told}
 use Rattle.def_run.specs.View.{is_own}
 use Rattle.def_run.specs.Laws.{IdleLeavesThePlace, EventAddsOneAtMost, CommandAddsNone, IdleShowsNothing, IdleIsNotJournaled, IdleChangesNoOutput, JournalGivesTheOutput, RunsGrow, ListingGoesByTheView, SessionsAreIsolated}
 use Rattle.def_run.proofs.Appends.{moves-append, place-append, messages-append}
-use Rattle.def_run.proofs.Replay.{turn_kept, idle-shown, idle-moves, events_again, journal_again}
+use Rattle.def_run.proofs.Replay.{pick_kept, idle-shown, idle-moves, events_again, journal_again}
 use Rattle.def_run.proofs.Striking.{struck_view}
 
 -- the output of what was shown and what moved
@@ -26,7 +26,7 @@ output_of p items journal =
 pub idle_place : IdleLeavesThePlace
 idle_place p picks pick h =
     place-append p.functions (start p) picks (pick ∷ [])
-    ∙ ap (λ t. t.after) (turn_kept p.functions (place_after p.functions (start p) picks) pick h)
+    ∙ ap (λ t. t.after) (pick_kept p.functions (run_state_after p.functions (start p) picks) pick h)
 
 one_at_most : (m : Option Tree) → length (option_to_list m) ≤ 1
 one_at_most None = omega arith
@@ -53,7 +53,7 @@ pub journal_output : JournalGivesTheOutput
 journal_output p picks = λ i. output_of p (events_again p picks i) (journal_again p picks i)
 
 pub runs_grow : RunsGrow
-runs_grow p picks more = (moves_from p.functions (place_after p.functions (start p) picks) more, moves-append p.functions (start p) picks more)
+runs_grow p picks more = (moves_from p.functions (run_state_after p.functions (start p) picks) more, moves-append p.functions (start p) picks more)
 
 pub by_the_view : ListingGoesByTheView
 by_the_view s tracer p q picks others h = (ap messages_of h, ap (λ v. listing_text s tracer (messages_of v)) h)

@@ -6,12 +6,12 @@ use Rattle.std.proofs.lemmas.Slice.Eq.{bytes_eq-Decides}
 use Rattle.def_term.specs.Names.{Name}
 use Rattle.def_script.specs.Program.{Function, Program, Command, session_of}
 use Rattle.def_node.specs.Node.{World, Move, moved, idle, next_of, opening_world}
-use Rattle.def_run.specs.Run.{happened, commanded, Place, goes_to, shown_from, moves_from, moves}
+use Rattle.def_run.specs.Run.{happened, commanded, RunState, goes_to, shown_from, moves_from, moves}
 use Rattle.def_script.specs.Opening.{opening}
 use Rattle.def_run.specs.View.{is_own, view, strike_commands, strike_program, strike_picks}
 use Rattle.def_run.proofs.Appends.{own-append}
 
-abbrev at : World → List Command → ℕ → Place
+abbrev at : World → List Command → ℕ → RunState
 at w cs k = record { world = w; commands = cs; room = k }
 
 same_name-is : (a b : Name) → bytes_eq a b ≡ true → a ≡ b
@@ -25,7 +25,7 @@ no_longer_own r s c apart e = go (bytes_eq s c) refl
     go false f = refl
     go true f = cc (apart, sym (ap (bytes_eq r) (same_name-is s c f)), e)
 
-abbrev Goal : List Function → Name → Place → List ℕ → Place → List ℕ → Type 0
+abbrev Goal : List Function → Name → RunState → List ℕ → RunState → List ℕ → Type 0
 Goal ks s q struck p picks = filter (is_own s) (shown_from ks q struck) ≡ filter (is_own s) (shown_from ks p picks)
 
 struck : (ks : List Function) (s r : Name) → bytes_eq r s ≡ false → (picks : List ℕ) (w : World) (cs : List Command) (k j : ℕ) → length (moves_from ks (at w cs k) picks) < k → k ≤ j → Goal ks s (at w (strike_commands r cs) j) (strike_picks r picks cs) (at w cs k) picks

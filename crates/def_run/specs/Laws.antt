@@ -9,7 +9,7 @@ use Rattle.def_session.specs.State.{destroyed, Session}
 use Rattle.def_script.specs.Opening.{Opening}
 use Rattle.def_node.specs.Event.{Event}
 use Rattle.def_node.specs.Node.{Move, moved, idle, next_of, State, Next, gives_events, gives_command, gives_nothing, next}
-use Rattle.def_run.specs.Run.{JOURNAL, Shown, Place, Turn, happened, commanded, start, turn_of, place_after, events, moves}
+use Rattle.def_run.specs.Run.{JOURNAL, Shown, RunState, PickStep, happened, commanded, start, pick_step, run_state_after, events, moves}
 use Rattle.def_run.specs.Round.{pass, round}
 use Rattle.def_run.specs.View.{view, strike_program, strike_picks}
 use Rattle.def_run.specs.Picks.{SpellsPicks}
@@ -21,13 +21,13 @@ use Rattle.def_script.specs.Script.{creations}
 
 -- after these picks the pick moves nothing
 abbrev pub IsIdleAfter : Program → List ℕ → ℕ → Type 0
-IsIdleAfter p picks pick = (turn_of p.functions (place_after p.functions (start p) picks) pick).moved ≡ false
+IsIdleAfter p picks pick = (pick_step p.functions (run_state_after p.functions (start p) picks) pick).moved ≡ false
 
 -- an idle pick changes nothing
 abbrev pub IdleLeavesThePlace : Type 0
 IdleLeavesThePlace =
     (p : Program) (picks : List ℕ) (pick : ℕ) → IsIdleAfter p picks pick →
-    place_after p.functions (start p) (picks ++ pick ∷ []) ≡ place_after p.functions (start p) picks
+    run_state_after p.functions (start p) (picks ++ pick ∷ []) ≡ run_state_after p.functions (start p) picks
 
 -- put anywhere, it leaves no trace: not in what is shown
 abbrev pub IdleShowsNothing : Type 0
@@ -147,13 +147,13 @@ AnswersAreListings =
 
 -- ---- what a pick does
 
--- the turn moves where the process does, and shows the events of its step
-abbrev pub IsStep : Move → Turn → Type 0
+-- the pick moves where the process does, and shows the events of its step
+abbrev pub IsStep : Move → PickStep → Type 0
 IsStep (moved w es) t = (t.moved ≡ true) × (t.shown ≡ map happened es) × (t.after.world ≡ w)
 IsStep (idle w) t = t.moved ≡ false
 
--- the turn takes the next command, where one is left
-abbrev pub Takes : List Command → Turn → Type 0
+-- the pick takes the next command, where one is left
+abbrev pub Takes : List Command → PickStep → Type 0
 Takes [] t = t.moved ≡ false
 Takes (c ∷ cs) t = (t.moved ≡ true) × (t.shown ≡ commanded c ∷ []) × (t.after.commands ≡ cs)
 
@@ -161,24 +161,24 @@ Takes (c ∷ cs) t = (t.moved ≡ true) × (t.shown ≡ commanded c ∷ []) × (
 abbrev pub PickIsItsStep : Type 0
 PickIsItsStep =
     (p : Program) (picks : List ℕ) (n : ℕ) → length (moves p picks) < JOURNAL →
-    IsStep (next_of p.functions (place_after p.functions (start p) picks).world (suc n)) (turn_of p.functions (place_after p.functions (start p) picks) (suc n))
+    IsStep (next_of p.functions (run_state_after p.functions (start p) picks).world (suc n)) (pick_step p.functions (run_state_after p.functions (start p) picks) (suc n))
 
 -- and a pick 0 takes the next command
 abbrev pub PickTakesACommand : Type 0
 PickTakesACommand =
     (p : Program) (picks : List ℕ) → length (moves p picks) < JOURNAL →
-    Takes (place_after p.functions (start p) picks).commands (turn_of p.functions (place_after p.functions (start p) picks) 0)
+    Takes (run_state_after p.functions (start p) picks).commands (pick_step p.functions (run_state_after p.functions (start p) picks) 0)
 
 -- with 65,536 moves every pick is passed over
 abbrev pub FullJournalStays : Type 0
 FullJournalStays = (p : Program) (picks : List ℕ) (pick : ℕ) → length (moves p picks) ≡ JOURNAL → IsIdleAfter p picks pick
 
--- the node's state at a place of the run
-abbrev pub state_at : Program → Place → State
+-- the node's state where a run stands
+abbrev pub state_at : Program → RunState → State
 state_at p q = record { world = q.world; taken = length p.commands - length q.commands }
 
--- what the node gives for a pick is what its turn shows, and both lead to the same place
-abbrev pub IsNext : Program → Next → Turn → Type 0
+-- what the node gives for a pick is what its step shows, and both lead to the same state
+abbrev pub IsNext : Program → Next → PickStep → Type 0
 IsNext p (gives_events s es) t = (t.moved ≡ true) × (s ≡ state_at p t.after) × (t.shown ≡ map happened es)
 IsNext p (gives_command s n) t = (t.moved ≡ true) × (s ≡ state_at p t.after) × ((k : ℕ) × (c : Command) × (n ≡ suc k) × (slice_get p.commands k ≡ Some c) × (t.shown ≡ commanded c ∷ []))
 IsNext p (gives_nothing s) t = (t.moved ≡ false) × (s ≡ state_at p t.after)
@@ -187,7 +187,7 @@ IsNext p (gives_nothing s) t = (t.moved ≡ false) × (s ≡ state_at p t.after)
 abbrev pub PickIsNext : Type 0
 PickIsNext =
     (p : Program) (picks : List ℕ) (pick : ℕ) → length (moves p picks) < JOURNAL →
-    IsNext p (next p (state_at p (place_after p.functions (start p) picks)) pick) (turn_of p.functions (place_after p.functions (start p) picks) pick)
+    IsNext p (next p (state_at p (run_state_after p.functions (start p) picks)) pick) (pick_step p.functions (run_state_after p.functions (start p) picks) pick)
 
 -- ---- rounds
 

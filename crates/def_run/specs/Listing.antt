@@ -11,7 +11,7 @@ use Rattle.def_node.specs.Event.{Event}
 use Rattle.def_session.specs.State.{Session, absent_session}
 use Rattle.def_session.specs.Session.{event_told}
 use Rattle.def_session.specs.Commands.{command_done}
-use Rattle.def_run.specs.Run.{Shown, happened, commanded, events, moves, turn_of, place_after, start}
+use Rattle.def_run.specs.Run.{Shown, happened, commanded, events, moves, pick_step, run_state_after, start}
 use Rattle.def_run.specs.View.{is_own, View, view}
 use Rattle.def_run.specs.Picks.{picks_text}
 
@@ -83,7 +83,7 @@ answers_from o ss past (commanded c ∷ items) = answers_from o ss (past ++ comm
 -- what a pick shows after these
 abbrev pub shown_by : Program → List ℕ → Option ℕ → List Shown
 shown_by p before None = []
-shown_by p before (Some pick) = (turn_of p.functions (place_after p.functions (start p) before) pick).shown
+shown_by p before (Some pick) = (pick_step p.functions (run_state_after p.functions (start p) before) pick).shown
 
 -- the messages that the move k adds, by order of its events, and for one event by rising session number
 abbrev pub answer : Program → List ℕ → ℕ → List Item

@@ -3,7 +3,7 @@
 use Rattle.std.specs.Prelude.{ℕ, zero, suc, ◌+◌, min, Bool, true, false, if◌then◌else◌, List, [], ◌∷◌, ◌++◌}
 use Rattle.def_term.specs.Alive.{FIRST_PID, PROCESSES}
 use Rattle.def_script.specs.Program.{Function, Program}
-use Rattle.def_run.specs.Run.{JOURNAL, Place, start, moves_from, place_after}
+use Rattle.def_run.specs.Run.{JOURNAL, RunState, start, moves_from, run_state_after}
 
 -- so many picks, from this one on
 abbrev pub pass_from : ℕ → ℕ → List ℕ
@@ -20,11 +20,11 @@ is_empty [] = true
 is_empty (x ∷ xs) = false
 
 -- the moves of passes, until one moves nothing; at most n passes
-abbrev pub passes : List Function → ℕ → Place → List ℕ
+abbrev pub passes : List Function → ℕ → RunState → List ℕ
 passes ks zero p = []
 passes ks (suc n) p =
     let made : List ℕ = moves_from ks p pass in
-    let rest : List ℕ = passes ks n (place_after ks p pass) in
+    let rest : List ℕ = passes ks n (run_state_after ks p pass) in
     made ++ (if is_empty made then [] else rest)
 
 -- a limit past the most picks that move counts as that

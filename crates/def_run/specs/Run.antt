@@ -11,66 +11,66 @@ pub data Shown : Type 0 where
   commanded : Command → Shown
 
 -- where a run stands: the processes, the commands that are not yet taken, and how many moves the journal has room for
-pub record Place : Type 0 where
+pub record RunState : Type 0 where
   pub world : World
   pub commands : List Command
   pub room : ℕ
 
--- what one pick does: whether it moved, what it shows, and the place afterwards
-pub record Turn : Type 0 where
+-- what one pick does: whether it moved, what it shows, and where the run stands afterwards
+pub record PickStep : Type 0 where
   pub moved : Bool
   pub shown : List Shown
-  pub after : Place
+  pub after : RunState
 
 -- an idle pick changes nothing, and shows nothing
-abbrev pub stays : Place → Turn
+abbrev pub stays : RunState → PickStep
 stays p = record { moved = false; shown = []; after = p }
 
 -- a pick 0: the next command, where one is left
-abbrev pub takes_command : Place → ℕ → List Command → Turn
+abbrev pub takes_command : RunState → ℕ → List Command → PickStep
 takes_command p room [] = stays p
 takes_command p room (c ∷ cs) = record { moved = true; shown = commanded c ∷ []; after = record { world = p.world; commands = cs; room = room } }
 
 -- a pick of a process: what its step gives
-abbrev pub goes_to : Place → ℕ → Move → Turn
+abbrev pub goes_to : RunState → ℕ → Move → PickStep
 goes_to p room (idle w) = stays p
 goes_to p room (moved w es) = record { moved = true; shown = map happened es; after = record { world = w; commands = p.commands; room = room } }
 
 -- pick 0 is the control list, pick n the process n
-abbrev pub turn_in : List Function → Place → ℕ → ℕ → Turn
-turn_in ks p room zero = takes_command p room p.commands
-turn_in ks p room (suc n) = goes_to p room (next_of ks p.world (suc n))
+abbrev pub pick_step_in : List Function → RunState → ℕ → ℕ → PickStep
+pick_step_in ks p room zero = takes_command p room p.commands
+pick_step_in ks p room (suc n) = goes_to p room (next_of ks p.world (suc n))
 
 -- with no room left every pick is passed over
-abbrev pub turn_with : List Function → Place → ℕ → ℕ → Turn
-turn_with ks p zero pick = stays p
-turn_with ks p (suc room) pick = turn_in ks p room pick
+abbrev pub pick_step_with : List Function → RunState → ℕ → ℕ → PickStep
+pick_step_with ks p zero pick = stays p
+pick_step_with ks p (suc room) pick = pick_step_in ks p room pick
 
 -- one pick
-abbrev pub turn_of : List Function → Place → ℕ → Turn
-turn_of ks p pick = turn_with ks p p.room pick
+abbrev pub pick_step : List Function → RunState → ℕ → PickStep
+pick_step ks p pick = pick_step_with ks p p.room pick
 
 -- what the picks show, each from where the ones before it lead
-abbrev pub shown_from : List Function → Place → List ℕ → List Shown
+abbrev pub shown_from : List Function → RunState → List ℕ → List Shown
 shown_from ks p [] = []
-shown_from ks p (pick ∷ picks) = let t : Turn = turn_of ks p pick in t.shown ++ shown_from ks t.after picks
+shown_from ks p (pick ∷ picks) = let t : PickStep = pick_step ks p pick in t.shown ++ shown_from ks t.after picks
 
 -- those of the picks that move
-abbrev pub moves_from : List Function → Place → List ℕ → List ℕ
+abbrev pub moves_from : List Function → RunState → List ℕ → List ℕ
 moves_from ks p [] = []
-moves_from ks p (pick ∷ picks) = let t : Turn = turn_of ks p pick in (if t.moved then pick ∷ [] else []) ++ moves_from ks t.after picks
+moves_from ks p (pick ∷ picks) = let t : PickStep = pick_step ks p pick in (if t.moved then pick ∷ [] else []) ++ moves_from ks t.after picks
 
 -- where they lead
-abbrev pub place_after : List Function → Place → List ℕ → Place
-place_after ks p [] = p
-place_after ks p (pick ∷ picks) = let t : Turn = turn_of ks p pick in place_after ks t.after picks
+abbrev pub run_state_after : List Function → RunState → List ℕ → RunState
+run_state_after ks p [] = p
+run_state_after ks p (pick ∷ picks) = let t : PickStep = pick_step ks p pick in run_state_after ks t.after picks
 
 -- the most picks that move
 abbrev pub JOURNAL : ℕ
 JOURNAL = 65536
 
 -- nothing has moved yet
-abbrev pub start : Program → Place
+abbrev pub start : Program → RunState
 start p = record { world = opening_world p.entries; commands = p.commands; room = JOURNAL }
 
 -- the events of the moves in order, with each command taken in its place

@@ -2,13 +2,17 @@
 -- Stands on the program's data.
 use Rattle.std.specs.Prelude.{ℕ, Bool, List, map, length}
 use Rattle.def_term.specs.Names.{Mfa}
-use Rattle.def_script.specs.Program.{mfa_of, Program}
+use Rattle.def_script.specs.Program.{Function, mfa_of, Program}
 
 -- what every session knows of the program: the functions with their visibility, and how many processes it begins with
 pub record Opening : Type 0 where
   pub functions : List (Mfa × Bool)
   pub processes : ℕ
 
+-- the functions with their visibility
+abbrev pub visible : List Function → List (Mfa × Bool)
+visible ks = map (λ k. (mfa_of k, k.exported)) ks
+
 -- the functions with their visibility, and the number of initial processes
 abbrev pub opening : Program → Opening
-opening p = record { functions = map (λ k. (mfa_of k, k.exported)) p.functions; processes = length p.entries }
+opening p = record { functions = visible p.functions; processes = length p.entries }

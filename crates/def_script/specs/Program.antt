@@ -77,7 +77,7 @@ pub record Program : Type 0 where
   pub entries : List Entry
   pub commands : List Command
 
--- the number of the first function of this name and number of parameters, counted from i
+-- the number of the first function of this module, name and number of parameters, counted from i
 abbrev pub number_from : ℕ → List Function → Mfa → Option ℕ
 number_from i [] f = None
 number_from i (k ∷ ks) f = if same_mfa (mfa_of k) f then Some i else number_from (suc i) ks f

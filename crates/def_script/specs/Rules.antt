@@ -203,7 +203,8 @@ breaks_not_exported fs (declares k) = list_any (λ s. passes (is_internal fs) (n
 breaks_not_exported fs (starts e) = is_internal fs (entry_mfa e)
 breaks_not_exported fs (controls cs) = false
 
--- 10: has in a step, elsewhere than as that step's target, a variable other than 'Self' that is no parameter and no target of an earlier step of the function; or has a variable in a process form's Args
+-- 10: has in a step, elsewhere than as that step's target, a variable other than 'Self' that is no parameter and no target
+-- of an earlier step of the function; or has a variable in a process form's Args
 abbrev pub breaks_unbound : Form → Bool
 breaks_unbound (declares k) = any_with_earlier (λ before s. any_has_other (bound_before k.params before) (terms_of s)) [] k.steps
 breaks_unbound (starts e) = any_has_other [] e.args
@@ -247,7 +248,7 @@ is_creation c = false
 abbrev pub holds_past : ℕ → ℕ → ℕ → Bool
 holds_past limit earlier held = nat_lt 0 held && nat_lt limit (earlier + held)
 
--- of the whole form
+-- 13: is a function or process form past their limit, has more steps than a function may, or holds a command or a creation past theirs
 abbrev pub breaks_limit : List Form → Form → Bool
 breaks_limit earlier (declares k) = nat_le FUNCTIONS (count_by is_function earlier) || nat_lt STEPS (length k.steps)
 breaks_limit earlier (starts e) = nat_le INITIAL_PROCESSES (count_by is_process earlier)

@@ -128,7 +128,7 @@ params_in t = and_then (and_then (args_in t) (λ ts. each_in variable_in ts)) if
 
 -- ---- steps
 
--- the atom of these characters
+-- the term is the atom of these characters
 abbrev pub is_atom_of : List ℕ → Tree → Bool
 is_atom_of word (atom s) = bytes_eq s word
 is_atom_of word t = false

@@ -2,13 +2,14 @@
 use Rattle.std.proofs.Common.{◌≡◌, ℕ, List, [], ◌∷◌, Bool, true, false, if◌then◌else◌, refl, ap, ◌∙◌, Option, Some, None}
 use Rattle.def_term.specs.Alive.{Alive, with_alive}
 use Rattle.def_script.specs.Program.{Command, create}
+use Rattle.def_script.specs.Rules.{is_creation}
 use Rattle.def_node.specs.Event.{Event, called, returned, spawned, exited, getting_linked}
 use Rattle.def_spec.specs.Expressions.{Effect, gives_message, traces_return, traces_exception, silences, changes}
 use Rattle.def_session.specs.State.{Phase, absent, live, destroyed, Session, alive_after}
 use Rattle.def_session.specs.Session.{inherited, evaluated, affected, all_affected, marks_frame, marked, finished, told_for, told_in}
 use Rattle.def_session.specs.Commands.{refused, done_absent, done_in}
 use Rattle.def_session.specs.Messages.{process_of}
-use Rattle.def_session.specs.Laws.{is_creation, CreationMakesLive, CommandBeforeCreation, EventBeforeCreation, LifeGoesByEvents, EventKeepsThePhase}
+use Rattle.def_session.specs.Laws.{CreationMakesLive, CommandBeforeCreation, EventBeforeCreation, LifeGoesByEvents, EventKeepsThePhase}
 
 pub creation_makes_live : CreationMakesLive
 creation_makes_live o s name tracer h = ap (λ p. done_in p o s (create name tracer)) h

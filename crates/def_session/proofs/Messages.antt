@@ -1,9 +1,9 @@
 -- A message is told by a live session, of a process with the flag that is needed, and is its event's.
-use Rattle.std.proofs.Common.{◌≡◌, ℕ, List, [], ◌∷◌, ◌++◌, Bool, true, false, if◌then◌else◌, refl, sym, ap, ◌∙◌, Option, Some, None, unwrap_or, inl, inr}
+use Rattle.std.proofs.Common.{◌≡◌, ◌≢◌, ℕ, List, [], ◌∷◌, ◌++◌, Bool, true, false, if◌then◌else◌, refl, sym, ap, ◌∙◌, Option, Some, None, unwrap_or, inl, inr}
 use Rattle.def_term.specs.Tree.{Tree, tuple, of_elements}
 use Rattle.def_term.specs.Order.{same}
 use Rattle.def_term.specs.Names.{word}
-use Rattle.def_term.proofs.Same.{same-is}
+use Rattle.def_term.proofs.Same.{same-is, same-self}
 use Rattle.def_node.specs.Event.{Event, sent, received, called, returned, spawning, spawned, exited, linked, unlinked, getting_linked, getting_unlinked}
 use Rattle.def_spec.specs.Flags.{Flag, arity_flag}
 use Rattle.def_spec.specs.Expressions.{Effect}
@@ -15,6 +15,12 @@ use Rattle.def_session.specs.Laws.{needed_for, IsMessageOf, plainly, with_one_mo
 value_in : (t u : Tree) → Some t ≡ Some u → t ≡ u
 value_in t u e = ap (λ o. unwrap_or o t) e
 
+other_than : (t u : Tree) → same t u ≡ false → t ≢ u
+other_than t u h e = go (sym (same-self t) ∙ ap (same t) e ∙ h)
+  where
+    go : true ≡ false → ⊥
+    go x = cc
+
 at_the_end : (ts : List Tree) (t : Tree) → followed_by ts t ≡ ts ++ t ∷ []
 at_the_end [] t = refl
 at_the_end (u ∷ us) t = ap (u ∷◌) (at_the_end us t)
@@ -24,13 +30,13 @@ module _ (e : Event) (short : Bool) (m : Tree) where
   decided_is None h = plainly (inl refl) (sym (value_in _ _ h))
   decided_is (Some t) h = first (same t (word "true")) refl h
     where
-      last : (b : Bool) → (if b then None else Some (tuple (of_elements (followed_by (elements_of short e) t)))) ≡ Some m → IsMessageOf e short (Some t) m
-      last true g = cc
-      last false g = with_one_more t refl (sym (value_in _ _ g) ∙ ap (λ ts. tuple (of_elements ts)) (at_the_end (elements_of short e) t))
+      last : t ≢ word "true" → (b : Bool) → same t (word "false") ≡ b → (if b then None else Some (tuple (of_elements (followed_by (elements_of short e) t)))) ≡ Some m → IsMessageOf e short (Some t) m
+      last other true isn't g = cc
+      last other false isn't g = with_one_more t refl other (other_than t (word "false") isn't) (sym (value_in _ _ g) ∙ ap (λ ts. tuple (of_elements ts)) (at_the_end (elements_of short e) t))
 
       first : (b : Bool) → same t (word "true") ≡ b → (if b then Some (tuple (of_elements (elements_of short e))) else if same t (word "false") then None else Some (tuple (of_elements (followed_by (elements_of short e) t)))) ≡ Some m → IsMessageOf e short (Some t) m
       first true is g = plainly (inr (ap Some (same-is t (word "true") is))) (sym (value_in _ _ g))
-      first false is g = last (same t (word "false")) g
+      first false is g = last (other_than t (word "true") is) (same t (word "false")) refl g
 
 set_where : (s : Session) (p : ℕ) (f : Flag) (r : Option (List Effect)) (es : List Effect) → where_set s p f r ≡ Some es → flags_at s p f ≡ true
 set_where s p f r es h = go (flags_at s p f) h

@@ -6,6 +6,7 @@ use Rattle.def_term.specs.Alive.{FIRST_PID, with_alive}
 use Rattle.def_term.specs.Names.{Name, Mfa, word}
 use Rattle.def_script.specs.Program.{Command, create, destroy, set_function}
 use Rattle.def_script.specs.Opening.{Opening}
+use Rattle.def_script.specs.Rules.{is_creation}
 use Rattle.def_node.specs.Event.{Event, Call, sent, received, called, returned, spawning, spawned, exited, linked, unlinked, getting_linked, getting_unlinked}
 use Rattle.def_spec.specs.Flags.{Flag, no_flags, send_flag, receive_flag, call_flag, procs_flag, arity_flag}
 use Rattle.def_spec.specs.Expressions.{for_calls, Effect}
@@ -44,7 +45,10 @@ FunctionCommandIsNewest =
     (o : Opening) (s : Session) (name : Name) (mfa spec options : Tree) (covered : Covered) (local : Bool) (setting : Setting) →
     s.phase ≡ live → covered_of mfa ≡ Some covered → options_of options ≡ Some local → setting_of for_calls spec ≡ Ok setting →
     command_done o s (set_function name mfa spec options)
-    ≡ (record s { functions = record { covered = covered; setting = setting; local = local } ∷ s.functions }, number (matching_count o (record { covered = covered; setting = setting; local = local })))
+    ≡ (
+      record s { functions = record { covered = covered; setting = setting; local = local } ∷ s.functions },
+      number (matching_count o (record { covered = covered; setting = setting; local = local })),
+    )
 
 -- a command that is answered `badarg` or `{unsupported,Name}` changes nothing
 abbrev pub RefusedChangesNothing : Type 0
@@ -80,10 +84,10 @@ needed_for (unlinked p q) = procs_flag
 needed_for (getting_linked p q) = procs_flag
 needed_for (getting_unlinked p q) = procs_flag
 
--- the message of an event, short or not: plain where the last message that the effects give is `true`, or none is given; else with that term as one more element at its end
+-- the message of an event, short or not: plain where the last message that the effects give is `true`, or none is given; with that term as one more element at its end where it is neither `true` nor `false`; and none where it is `false`
 pub data IsMessageOf (e : Event) (short : Bool) (last : Option Tree) (m : Tree) : Type 0 where
   plainly : (last ≡ None) ⊎ (last ≡ Some (word "true")) → m ≡ tuple (of_elements (elements_of short e)) → IsMessageOf e short last m
-  with_one_more : (t : Tree) → last ≡ Some t → m ≡ tuple (of_elements (elements_of short e ++ t ∷ [])) → IsMessageOf e short last m
+  with_one_more : (t : Tree) → last ≡ Some t → t ≢ word "true" → t ≢ word "false" → m ≡ tuple (of_elements (elements_of short e ++ t ∷ [])) → IsMessageOf e short last m
 
 -- a session that tells m of an event is live, and the process has the flag that the event needs. The message is short where the process has the flag `arity` after inheritance and the effects
 pub record IsToldOf (s : Session) (e : Event) (m : Tree) : Type 0 where
@@ -163,22 +167,17 @@ ExitEndsTheLife = (s : Session) (p : ℕ) (r : Tree) → s.phase ≡ live → (e
 
 -- ---- before creation, and life
 
--- `session_create`
-abbrev pub is_creation : Command → Bool
-is_creation (create name tracer) = true
-is_creation _ = false
-
--- only a creation does anything to an absent session, and it changes its phase alone
+-- a creation changes the phase of an absent session alone
 abbrev pub CreationMakesLive : Type 0
 CreationMakesLive =
     (o : Opening) (s : Session) (name tracer : Name) → s.phase ≡ absent →
     command_done o s (create name tracer) ≡ (record s { phase = live }, tuple (of_elements (word "session" ∷ atom name ∷ [])))
 
--- any other is refused
+-- any other command is refused, and changes nothing
 abbrev pub CommandBeforeCreation : Type 0
 CommandBeforeCreation = (o : Opening) (s : Session) (c : Command) → s.phase ≡ absent → is_creation c ≡ false → command_done o s c ≡ (s, word "badarg")
 
--- before its creation a session is told nothing
+-- before its creation a session tells nothing, and learns who lives alone
 abbrev pub EventBeforeCreation : Type 0
 EventBeforeCreation = (s : Session) (e : Event) → s.phase ≡ absent → event_told s e ≡ (record s { alive = alive_after s.alive e }, None)
 

@@ -51,7 +51,8 @@ is_marked s p depth = list_any (λ d. d == depth) (marks_at s p)
 abbrev pub where_set : Session → ℕ → Flag → Option (List Effect) → Option (List Effect)
 where_set s p f r = if flags_at s p f then r else None
 
--- the effects, or none where the event gives no message. The list that is matched: a call's arguments, [Receiver,Msg] for a send, [Node,Sender,Msg] for a receive. The return of a marked frame is told where `call` is set at that moment (own)
+-- the effects, or none where the event isn't evaluated. The list that is matched: a call's arguments, [Receiver,Msg] for a send,
+-- [Node,Sender,Msg] for a receive. The return of a marked frame is told where `call` is set at that moment (own)
 abbrev pub evaluated : Session → Event → Option (List Effect)
 evaluated s (sent p t to alive) = where_set s p send_flag (evaluated_by s.sending (context s p (pid to ∷ t ∷ []) None))
 evaluated s (received p sender t) = where_set s p receive_flag (evaluated_by s.receiving (context s p (word "nonode@nohost" ∷ pid sender ∷ t ∷ []) None))
@@ -80,7 +81,7 @@ abbrev pub all_affected : ℕ → Session → List Effect → Session
 all_affected p s [] = s
 all_affected p s (e ∷ es) = all_affected p (affected p s e) es
 
--- until exceptions exist, exception_trace acts as return_trace (own)
+-- exception_trace acts as return_trace, since there are no exceptions here (own)
 abbrev pub marks_frame : List Effect → Bool
 marks_frame [] = false
 marks_frame (traces_return ∷ es) = true

@@ -32,7 +32,16 @@ alive_at_start n = replicate n true ++ replicate (PROCESSES - n) false
 
 -- a session without settings: no flags, no function settings, send and receive `true`
 abbrev pub unset : Phase → Alive → Session
-unset phase alive = record { phase = phase; alive = alive; flags = replicate PROCESSES no_flags; for_new = no_flags; functions = []; sending = plain; receiving = plain; marks = replicate PROCESSES [] }
+unset phase alive = record {
+  phase = phase;
+  alive = alive;
+  flags = replicate PROCESSES no_flags;
+  for_new = no_flags;
+  functions = [];
+  sending = plain;
+  receiving = plain;
+  marks = replicate PROCESSES [];
+}
 
 -- before the session is created
 abbrev pub absent_session : Opening → Session

@@ -61,7 +61,7 @@ pub fn ends_take_marks_and_flags()
     ensures life { ExitEndsTheLife }
 {}
 
-/// Before its creation a session is told nothing, and every command but the creation is refused, which
+/// Before its creation a session tells nothing, and every command but the creation is refused, which
 /// makes it live (`trace:session_create/3`).
 pub fn nothing_precedes_creation()
     ensures creation { CreationMakesLive }

@@ -4,12 +4,12 @@ use Rattle.std.specs.Prelude.{Ok, Err, length}
 use Rattle.std.specs.Bool.{⊤}
 use Rattle.std.proofs.lemmas.Bool.{leb-true}
 use Rattle.def_term.specs.Tree.{Tree, int, atom, pid, tuple, list, Trees, none, more}
-use Rattle.def_term.specs.Text.{is_digit}
+use Rattle.def_term.specs.Text.{is_digit, number_after}
 use Rattle.def_term.specs.Names.{Name}
 use Rattle.def_spec.specs.Matching.{Pattern, variable, anything, only_term, in_tuple, in_list, Patterns, no_patterns, and_pattern, occurs, occurs_in_some}
 use Rattle.def_spec.specs.Expressions.{Dialect, Exprs, in_condition, in_body}
 use Rattle.def_spec.specs.Outcome.{Clause, Spec}
-use Rattle.def_spec.specs.Reading.{then_read, badarg, AtomKind, a_variable, a_wrong_variable, a_plain_atom, atom_kind, all_digits, decimal_from, is_dollar_number, is_plain_number, digits_of, is_wildcard, pattern_of_kind, pattern_of, patterns_of, head_of_kind, head_of, exprs_of, clause_of_parts, clause_of, clauses_of, spec_of}
+use Rattle.def_spec.specs.Reading.{then_read, badarg, AtomKind, a_variable, a_wrong_variable, a_plain_atom, atom_kind, all_digits, is_dollar_number, is_plain_number, digits_of, is_wildcard, pattern_of_kind, pattern_of, patterns_of, head_of_kind, head_of, exprs_of, clause_of_parts, clause_of, clauses_of, spec_of}
 use Rattle.def_spec.specs.Laws.{AreNumbered, VariablesAreNumbered}
 use Rattle.def_spec.proofs.Reading.{read, then_ok, ok_is, both_true}
 
@@ -17,7 +17,7 @@ digit_value : (c : ℕ) → is_digit c ≡ true → c - 48 ≤ 9
 digit_value c h = let most : c ≤ 57 = leb-true c 57 (both_true (nat_le 48 c) (nat_le c 57) h).1 in omega arith
 
 -- at most three digits are at most 999
-pub plain_value : (ds : List ℕ) → all_digits ds ≡ true → is_plain_number ds ≡ true → decimal_from 0 ds ≤ 999
+pub plain_value : (ds : List ℕ) → all_digits ds ≡ true → is_plain_number ds ≡ true → number_after 0 ds ≤ 999
 plain_value [] h p = cc
 plain_value (d ∷ []) h p =
     let a : d - 48 ≤ 9 = digit_value d (both_true (is_digit d) true h).0 in
@@ -51,7 +51,7 @@ KindNumbered a_plain_atom = ⊤
 kind_numbered : (s : Name) → KindNumbered (atom_kind s)
 kind_numbered s = go (is_dollar_number s) (is_plain_number (digits_of s)) refl refl
   where
-    go : (a b : Bool) → is_dollar_number s ≡ a → is_plain_number (digits_of s) ≡ b → KindNumbered (if a then (if b then a_variable (decimal_from 0 (digits_of s)) else a_wrong_variable) else a_plain_atom)
+    go : (a b : Bool) → is_dollar_number s ≡ a → is_plain_number (digits_of s) ≡ b → KindNumbered (if a then (if b then a_variable (number_after 0 (digits_of s)) else a_wrong_variable) else a_plain_atom)
     go true true h p = plain_value (digits_of s) (digits_true s h) p
     go true false h p = tt
     go false b h p = tt

@@ -30,9 +30,10 @@ mutual
     tuple_of : Exprs → Expr
     list_of : Exprs → Expr
     call : Func → Exprs → Expr
-    -- these stop early
+    -- andalso and orelse, which stop early
     and_also : Exprs → Expr
     or_else : Exprs → Expr
+    -- a call of an action
     perform : Action → Exprs → Expr
 
   -- several expressions in their order
@@ -123,12 +124,12 @@ values_bound (e ∷ es) = e.1 ∷ values_bound es
 abbrev pub value_part : Option (Tree × List Effect) → Option Tree
 value_part r = option_map (λ p. p.0) r
 
--- goes on where the value is true: false where it is another, and a fault where it is one
+-- goes on where the value is true: false where it is another (own), and a fault where it is one
 abbrev pub if_true : Option Tree → Option Tree → Option Tree
 if_true None rest = None
 if_true (Some t) rest = if is_true t then rest else Some (truth false)
 
--- goes on where the value is not true: true where it is, and a fault where it is one
+-- goes on where the value is not true (own): true where it is, and a fault where it is one
 abbrev pub unless_true : Option Tree → Option Tree → Option Tree
 unless_true None rest = None
 unless_true (Some t) rest = if is_true t then Some (truth true) else rest

@@ -30,13 +30,13 @@ truth false = word "false"
 abbrev pub is_true : Tree → Bool
 is_true t = same t (word "true")
 
--- a function of so many arguments; with another number it is a fault
+-- a function of one argument; with another number it is a fault
 abbrev pub on_one : (Tree → Option Tree) → List Tree → Option Tree
 on_one f [] = None
 on_one f (t ∷ []) = f t
 on_one f (t ∷ u ∷ us) = None
 
--- with two arguments
+-- a function of two arguments; with another number it is a fault
 abbrev pub on_two : (Tree → Tree → Option Tree) → List Tree → Option Tree
 on_two f [] = None
 on_two f (t ∷ []) = None
@@ -78,7 +78,7 @@ abbrev pub pid_test : Tree → Bool
 pid_test (pid n) = true
 pid_test _ = false
 
--- is_boolean: `true` for the atoms `true` and `false` (own)
+-- is_boolean: `true` for the atoms `true` and `false`
 abbrev pub boolean_test : Tree → Bool
 boolean_test t = same t (word "true") || same t (word "false")
 

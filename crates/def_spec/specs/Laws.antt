@@ -125,7 +125,7 @@ numbers_of an_and_also = (1, None)
 numbers_of an_or_else = (1, None)
 numbers_of (an_action a) = numbers_of_action a
 
--- a call with a number of arguments that fits, and in a part where it is allowed: no action stands in a condition, nor one that the dialect lacks
+-- a call in a part where it is allowed: no action stands in a condition, nor one that the dialect lacks
 abbrev pub IsAllowed : Dialect → Part → Called → Type 0
 IsAllowed d in_condition (an_action a) = ⊥
 IsAllowed d in_body (an_action a) = has_action d a ≡ true

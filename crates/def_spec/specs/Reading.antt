@@ -5,7 +5,7 @@ use Rattle.std.specs.Prelude.{ℕ, ◌+◌, ◌*◌, ◌-◌, ◌==◌, nat_le, 
 use Rattle.std.specs.Str.{bytes_eq}
 use Rattle.def_term.specs.Tree.{Tree, int, atom, pid, tuple, list, Trees, none, more, count}
 use Rattle.def_term.specs.Names.{Name}
-use Rattle.def_term.specs.Text.{is_digit, is_among}
+use Rattle.def_term.specs.Text.{is_digit, number_after, is_among}
 use Rattle.def_spec.specs.Matching.{Pattern, variable, anything, only_term, in_tuple, in_list, Patterns, no_patterns, and_pattern, occurs}
 use Rattle.def_spec.specs.Functions as fn
 use Rattle.def_spec.specs.Functions.{Func}
@@ -33,11 +33,6 @@ then_read (Err e) f = Err e
 abbrev pub all_digits : List ℕ → Bool
 all_digits [] = true
 all_digits (c ∷ cs) = is_digit c && all_digits cs
-
--- the number that decimal digits spell behind a number
-abbrev pub decimal_from : ℕ → List ℕ → ℕ
-decimal_from n [] = n
-decimal_from n (d ∷ ds) = decimal_from (n * 10 + (d - 48)) ds
 
 -- `$` and one or more digits
 abbrev pub is_dollar_number : Name → Bool
@@ -67,7 +62,7 @@ digits_of (c ∷ cs) = cs
 abbrev pub atom_kind : Name → AtomKind
 atom_kind s =
     if is_dollar_number s
-    then (if is_plain_number (digits_of s) then a_variable (decimal_from 0 (digits_of s)) else a_wrong_variable)
+    then (if is_plain_number (digits_of s) then a_variable (number_after 0 (digits_of s)) else a_wrong_variable)
     else a_plain_atom
 
 -- the atom '_'
@@ -76,7 +71,7 @@ is_wildcard s = bytes_eq s (codes "_")
 
 -- ---- heads
 
--- an atom as a pattern
+-- an atom as a pattern; `$_` and `$$` are plain atoms in a head (own)
 abbrev pub pattern_of_kind : Name → AtomKind → Reads Pattern
 pattern_of_kind s (a_variable n) = Ok (variable n)
 pattern_of_kind s a_wrong_variable = Err badarg
@@ -234,7 +229,7 @@ module _ (d : Dialect) (part : Part) (head : Pattern) where
     expr_of (list ts) = then_read (exprs_of ts) (λ es. Ok (list_of es))
     -- {{E1,..}} is a tuple
     expr_of (tuple (more (tuple ts) none)) = then_read (exprs_of ts) (λ es. Ok (tuple_of es))
-    -- {const,T} is T, and {F,E1,..} a call; any other tuple is a fault
+    -- {const,T} is T, and {F,E1,..} a call; any other tuple is a fault (own)
     expr_of (tuple (more (atom s) ts)) =
         if is_constant s ts then Ok (constant (only_element ts)) else
         then_read (named_call d part s (count ts)) (λ f. then_read (exprs_of ts) (λ es. Ok (call_of f es)))

@@ -1,6 +1,6 @@
 -- The written text of a tree.
 -- Stands on terms. It is that of `~w` of `io_lib`; where it differs, its line says (own).
-use Rattle.std.specs.Prelude.{ℕ, List, [], ◌∷◌, ◌++◌, Bool, true, false, ◌&&◌, ◌||◌, not, cond, nat_le, ◌==◌, codes, decimal, flat_map}
+use Rattle.std.specs.Prelude.{ℕ, ◌+◌, ◌-◌, ◌*◌, List, [], ◌∷◌, ◌++◌, Bool, true, false, ◌&&◌, ◌||◌, not, cond, nat_le, ◌==◌, codes, decimal, flat_map}
 use Rattle.std.specs.Fmt.{signed_decimal}
 use Rattle.std.specs.Str.{bytes_eq}
 use Rattle.def_term.specs.Tree.{Tree, int, atom, pid, tuple, list, Trees, none, more}
@@ -16,6 +16,11 @@ is_upper b = nat_le 65 b && nat_le b 90
 -- a digit 0 to 9
 abbrev pub is_digit : ℕ → Bool
 is_digit b = nat_le 48 b && nat_le b 57
+
+-- the number that decimal digits spell, where a number stands before them
+abbrev pub number_after : ℕ → List ℕ → ℕ
+number_after n [] = n
+number_after n (d ∷ ds) = number_after (n * 10 + (d - 48)) ds
 
 -- what may follow the first letter of a bare atom: letters, digits, `_` and `@`
 abbrev pub is_name_byte : ℕ → Bool

@@ -1,8 +1,8 @@
 -- The digits of a number, as std's numerals.
 use Rattle.std.proofs.Common.{◌≡◌, ℕ, List, true, rules}
 use Rattle.std.proofs.lemmas.Str.Parse.{IsNumeralModel, numerals_by_fold}
-use Rattle.def_term.specs.Text.{is_digit}
-use Rattle.def_text.specs.Tokens.{all_are, number_after}
+use Rattle.def_term.specs.Text.{is_digit, number_after}
+use Rattle.def_text.specs.Tokens.{all_are}
 
 abbrev pub AreDigits : List ℕ → Type 0
 AreDigits ds = all_are is_digit ds ≡ true

@@ -1,7 +1,8 @@
 -- The tokens of a text: which bytes are which token, and the list of a text's tokens with their offsets.
--- Stands on the classes of characters and the reserved words of written terms. The tokens are those of terms in the Erlang Reference Manual ("Data Types", "Reserved Words"); where one differs, its line says (own).
+-- Stands on the classes of characters and the reserved words of written terms. The tokens are those of terms in the
+-- Erlang Reference Manual ("Data Types", "Reserved Words"); where one differs, its line says (own).
 use Rattle.std.specs.Prelude.{◌≡◌, ℕ, ℤ, pos, neg_ℤ, ◌+◌, ◌-◌, ◌*◌, ◌<◌, List, [], ◌∷◌, ◌++◌, length, drop, flat_map, Bool, true, false, not, ◌&&◌, ◌||◌, ◌⊎◌, if◌then◌else◌, nat_le, ◌==◌, codes}
-use Rattle.def_term.specs.Text.{is_digit, is_name, is_name_byte, is_among, reserved_words}
+use Rattle.def_term.specs.Text.{is_digit, number_after, is_name, is_name_byte, is_among, reserved_words}
 
 -- what stands in a text: punctuation, full stop, integer, atom, string, pid
 pub data Token : Type 0 where
@@ -43,11 +44,6 @@ stops p (b ∷ bs) = not (p b)
 abbrev pub ends_form : List ℕ → Bool
 ends_form [] = true
 ends_form (b ∷ bs) = is_blank b || (b == 37)
-
--- the number that decimal digits spell, where a number stands before them
-abbrev pub number_after : ℕ → List ℕ → ℕ
-number_after n [] = n
-number_after n (d ∷ ds) = number_after (n * 10 + (d - 48)) ds
 
 -- the number that decimal digits spell; leading zeros are allowed
 abbrev pub number : List ℕ → ℕ

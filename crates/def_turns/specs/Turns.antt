@@ -1,5 +1,6 @@
 -- Turns: where each slot is, in the run queue or with an end, and the steps that move it (own).
--- A run queue is a scheduler's word for what waits for a worker. `push` and `steal` are those of the crate crossbeam_deque, of an `Injector`: a queue, first in first out, that all threads push to and steal from. End, view and slot are this project's words.
+-- A run queue is a scheduler's word for what waits for a worker. `push` and `steal` are those of the crate crossbeam_deque,
+-- of an `Injector`: a queue, first in first out, that all threads push to and steal from. End, view and slot are this project's words.
 -- Stands on slots.
 use Rattle.std.specs.Prelude.{◌≡◌, ◌≤◌, ◌+◌, ℕ, nat_eq, not, List, [], ◌∷◌, ◌++◌, Some, slice_get, slice_set}
 use Rattle.std.specs.List.{count_by, sum_by, filter}

@@ -4,11 +4,11 @@ use Rattle.std.proofs.lemmas.List.{drop_more, drop_all, take_more}
 use Rattle.def_script.specs.Program.{Command, Program}
 use Rattle.def_script.specs.Opening.{opening}
 use Rattle.def_node.specs.Node.{State, gives_events, gives_command, next, opening_world, opening_state}
-use Rattle.def_run.specs.Run.{Shown, happened, commanded, Place, Turn, stays, turn_with, start, place_after, moves}
+use Rattle.def_run.specs.Run.{Shown, happened, commanded, RunState, PickStep, stays, pick_step_with, start, run_state_after, moves}
 use Rattle.def_run.specs.Laws.{state_at, IsNext}
 use Rattle.def_run.proofs.Appends.{place-append}
 use Rattle.def_run.proofs.Nexts.{pick_is_next}
-use Rattle.def_run.proofs.Replay.{turn_kept, room_spent}
+use Rattle.def_run.proofs.Replay.{pick_kept, room_spent}
 use Rattle.def_account.specs.Runs.{Standing, all_behind, entries_of_move, entries_from, standings}
 use Rattle.def_account.specs.Texts.{Asked, account_text}
 use Rattle.tn_flags.specs.Views.{event_of}
@@ -24,8 +24,8 @@ use Rattle.tn_account.specs.Runs.{turn_after, IsAfter, entries_of_turn, Takes}
 use Rattle.tn_account.specs.declared.run.Run.{Run}
 use Rattle.tn_account.proofs.Texts.{text_of_next, none_more}
 
-abbrev place_at : Program → List ℕ → Place
-place_at p picks = place_after p.functions (start p) picks
+abbrev place_at : Program → List ℕ → RunState
+place_at p picks = run_state_after p.functions (start p) picks
 
 place_more : (p : Program) (picks : List ℕ) (pick : ℕ) → place_at p (picks ++ pick ∷ []) ≡ (turn_after p picks pick).after
 place_more p picks pick = place-append p.functions (start p) picks (pick ∷ [])
@@ -37,12 +37,12 @@ module _ {A : Type 0} (p : Program) (a : Asked) (picks : List ℕ) (ss : List St
   stays_so : (new : Run A) (text : List ℕ) → turn_after p picks pick ≡ stays (place_at p picks) → IsAt p (state_at p (place_at p picks)) new.node → new.sessions ≡ old.sessions → new.moves ≡ old.moves → Takes p a picks ss pick new text text
   stays_so new text turn node sessions count = record {
     after = record {
-      node = subst (λ q. IsAt p (state_at p q) new.node) (sym (place_more p picks pick ∙ ap (λ (t : Turn). t.after) turn)) node;
-      sessions = subst (λ (t : Turn). AreStanding (opening p) (all_behind (opening p) ss t.shown) new.sessions) (sym turn) (subst (AreStanding (opening p) ss) (sym sessions) run.sessions);
-      counted = count ∙ run.counted ∙ sym (ap length (moves_more p picks pick ∙ ap (λ (t : Turn). moves p picks ++ (if t.moved then pick ∷ [] else [])) turn ∙ append-nil (moves p picks)));
+      node = subst (λ q. IsAt p (state_at p q) new.node) (sym (place_more p picks pick ∙ ap (λ (t : PickStep). t.after) turn)) node;
+      sessions = subst (λ (t : PickStep). AreStanding (opening p) (all_behind (opening p) ss t.shown) new.sessions) (sym turn) (subst (AreStanding (opening p) ss) (sym sessions) run.sessions);
+      counted = count ∙ run.counted ∙ sym (ap length (moves_more p picks pick ∙ ap (λ (t : PickStep). moves p picks ++ (if t.moved then pick ∷ [] else [])) turn ∙ append-nil (moves p picks)));
     };
     written = none_more text (text_of a (suc (length (moves p picks))) (entries_of_turn p (length (moves p picks)) pick ss (turn_after p picks pick)))
-        (ap (λ (t : Turn). text_of a (suc (length (moves p picks))) (entries_of_turn p (length (moves p picks)) pick ss t)) turn);
+        (ap (λ (t : PickStep). text_of a (suc (length (moves p picks))) (entries_of_turn p (length (moves p picks)) pick ss t)) turn);
   }
 
   -- as many as there may be have moved
@@ -51,7 +51,7 @@ module _ {A : Type 0} (p : Program) (a : Asked) (picks : List ℕ) (ss : List St
       let spent : length (moves p picks) + (place_at p picks).room ≡ 65536 = room_spent p.functions (start p) picks in
       let counted : old.moves ≡ length (moves p picks) = run.counted in
       let none : (place_at p picks).room ≡ 0 = omega arith in
-      stays_so old text (ap (λ r. turn_with p.functions (place_at p picks) r pick) none) run.node refl refl
+      stays_so old text (ap (λ r. pick_step_with p.functions (place_at p picks) r pick) none) run.node refl refl
 
   few : old.moves < 65536 → length (moves p picks) < 65536
   few below = subst (λ n. n < 65536) run.counted below
@@ -64,7 +64,7 @@ module _ {A : Type 0} (p : Program) (a : Asked) (picks : List ℕ) (ss : List St
   takes_idle node m text below answers is =
       let r = answers (state_at p (place_at p picks)) run.node in
       let n = nothing_pick p picks pick r.0 (few below) (sym (ap (next_seen r.0) is) ∙ r.2) in
-      stays_so (record old { node = node }) text (turn_kept p.functions (place_at p picks) pick n.1) (subst (λ s. IsAt p s node) n.0 r.1) refl refl
+      stays_so (record old { node = node }) text (pick_kept p.functions (place_at p picks) pick n.1) (subst (λ s. IsAt p s node) n.0 r.1) refl refl
 
   -- a move that shows this
   moves_so : (new : Run A) (s : State) (shown : List Shown) (text text' : List ℕ) → (turn_after p picks pick).moved ≡ true → s ≡ state_at p (turn_after p picks pick).after → (turn_after p picks pick).shown ≡ shown
@@ -120,7 +120,7 @@ module _ {A : Type 0} (p : Program) (a : Asked) (picks : List ℕ) (ss : List St
 -- ---- all picks
 
 -- what is written of a turn, and then of the picks behind it
-turn_text : (p : Program) (a : Asked) (k j pick : ℕ) (ss : List Standing) (t : Turn) (rest : List ℕ) (b : Bool) → t.moved ≡ b → (t.moved ≡ false → t.shown ≡ []) → j ≡ (if b then suc k else k)
+turn_text : (p : Program) (a : Asked) (k j pick : ℕ) (ss : List Standing) (t : PickStep) (rest : List ℕ) (b : Bool) → t.moved ≡ b → (t.moved ≡ false → t.shown ≡ []) → j ≡ (if b then suc k else k)
     → text_of a k (if b then entries_of_move (opening p) (suc k) pick ss t.shown ++ entries_from (opening p) p.functions t.after (suc k) (all_behind (opening p) ss t.shown) rest else entries_from (opening p) p.functions t.after k ss rest)
     ≡ text_of a (suc k) (if b then entries_of_move (opening p) (suc k) pick ss t.shown else []) ++ text_of a j (entries_from (opening p) p.functions t.after j (all_behind (opening p) ss t.shown) rest)
 turn_text p a k j pick ss t rest true e none count =
@@ -143,10 +143,10 @@ later_more : (p : Program) (a : Asked) (picks : List ℕ) (ss : List Standing) (
     → later_text p a picks ss (pick ∷ rest)
     ≡ text_of a (suc (length (moves p picks))) (entries_of_turn p (length (moves p picks)) pick ss (turn_after p picks pick)) ++ later_text p a (picks ++ pick ∷ []) (all_behind (opening p) ss (turn_after p picks pick).shown) rest
 later_more p a picks ss pick rest =
-    let t : Turn = turn_after p picks pick in
+    let t : PickStep = turn_after p picks pick in
     let k : ℕ = length (moves p picks) in
     let j : ℕ = length (moves p (picks ++ pick ∷ [])) in
-    turn_text p a k j pick ss t rest t.moved refl (λ e. ap (λ (u : Turn). u.shown) (turn_kept p.functions (place_at p picks) pick e)) (counted_more p picks pick t.moved refl)
+    turn_text p a k j pick ss t rest t.moved refl (λ e. ap (λ (u : PickStep). u.shown) (pick_kept p.functions (place_at p picks) pick e)) (counted_more p picks pick t.moved refl)
     ∙ ap (λ q. text_of a (suc k) (entries_of_turn p k pick ss t) ++ text_of a j (entries_from (opening p) p.functions q j (all_behind (opening p) ss t.shown) rest)) (sym (place_more p picks pick))
 
 -- some picks are taken, and the others are still to come

@@ -3,7 +3,7 @@ use Rattle.std.specs.Prelude.{◌≡◌, ℕ, suc, if◌then◌else◌, List, []
 use Rattle.std.specs.declared.alloc.AllocError.{AllocError}
 use Rattle.def_script.specs.Program.{Program}
 use Rattle.def_script.specs.Opening.{opening}
-use Rattle.def_run.specs.Run.{start, place_after, Turn, turn_of, moves}
+use Rattle.def_run.specs.Run.{start, run_state_after, PickStep, pick_step, moves}
 use Rattle.def_run.specs.Laws.{state_at}
 use Rattle.def_account.specs.Runs.{Standing, Entry, entries_of_move, all_behind}
 use Rattle.def_account.specs.Texts.{Asked}
@@ -13,17 +13,17 @@ use Rattle.tn_account.specs.Standings.{AreStanding}
 use Rattle.tn_account.specs.declared.run.Run.{Run}
 
 -- what one more pick does after these
-abbrev pub turn_after : Program → List ℕ → ℕ → Turn
-turn_after p picks pick = turn_of p.functions (place_after p.functions (start p) picks) pick
+abbrev pub turn_after : Program → List ℕ → ℕ → PickStep
+turn_after p picks pick = pick_step p.functions (run_state_after p.functions (start p) picks) pick
 
 -- the run is that of the program after these picks, and its sessions stand so
 pub record IsAfter {A : Type 0} (p : Program) (picks : List ℕ) (ss : List Standing) (r : Run A) : Type 0 where
-  pub node : IsAt p (state_at p (place_after p.functions (start p) picks)) r.node
+  pub node : IsAt p (state_at p (run_state_after p.functions (start p) picks)) r.node
   pub sessions : AreStanding (opening p) ss r.sessions
   pub counted : r.moves ≡ length (moves p picks)
 
 -- what is written of one more pick, behind so many moves
-abbrev pub entries_of_turn : Program → ℕ → ℕ → List Standing → Turn → List Entry
+abbrev pub entries_of_turn : Program → ℕ → ℕ → List Standing → PickStep → List Entry
 entries_of_turn p k pick ss t = if t.moved then entries_of_move (opening p) (suc k) pick ss t.shown else []
 
 -- one more pick was taken: its entries were appended, as far as they are asked for

@@ -19,14 +19,13 @@ pub(crate) struct Sessions<A: Allocator> {
 
 impl<A: Allocator + Copy> Sessions<A> {
     ghost use Rattle.std.specs.Prelude.{◌≡◌, ◌∷◌, [], IfOk, map};
-    ghost use Rattle.def_script.specs.Opening.{Opening, opening};
+    ghost use Rattle.def_script.specs.Opening.{Opening, opening, visible};
     ghost use Rattle.def_run.specs.Run.{happened, commanded};
     ghost use Rattle.def_account.specs.Runs.{standings};
     ghost use Rattle.tn_flags.specs.Views.{event_of, command_of};
     ghost use Rattle.tn_script.specs.Views.{functions_of};
     ghost use Rattle.tn_program.specs.Views.{program_of};
     ghost use Rattle.tn_text.specs.Writes.{Grows};
-    ghost use Rattle.tn_trace.specs.Tracks.{visible};
     ghost use Rattle.tn_account.specs.Standings.{AreStanding, ShowsOne, ShowsAll, ShowsMove};
 
     /// The sessions of a program, before they are created.

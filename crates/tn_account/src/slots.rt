@@ -1,6 +1,6 @@
 // The sessions of the control list side by side, each seeing what a move shows.
 ghost use Rattle.def_term.specs.Alive as alive;
-ghost use Rattle.def_script.specs.Opening.{Opening};
+ghost use Rattle.def_script.specs.Opening.{Opening, visible};
 ghost use Rattle.def_session.specs.State.{alive_after};
 ghost use Rattle.def_run.specs.Run.{happened, commanded};
 ghost use Rattle.std.specs.Prelude.{◌≡◌};
@@ -8,7 +8,6 @@ ghost use Rattle.tn_term.specs.Views.{alive_of};
 ghost use Rattle.tn_flags.specs.Views.{event_of, command_of};
 ghost use Rattle.tn_script.specs.Views.{functions_of};
 ghost use Rattle.tn_text.specs.Writes.{Grows};
-ghost use Rattle.tn_trace.specs.Tracks.{visible};
 ghost use Rattle.tn_account.specs.Standings.{OneMakes, EachMakes};
 
 use crate::step::Step;

@@ -16,7 +16,8 @@ use Rattle.def_session.specs.Settings.{Covering, Setting, off, plain, by, has_am
 use Rattle.def_session.specs.State.{Session, flags_at}
 use Rattle.def_session.specs.Messages.{process_of}
 use Rattle.def_session.specs.Session.{context, marks_frame, is_marked, where_set, evaluated, evaluated_by}
-use Rattle.def_explain.specs.Causes.{Cause, no_mark, no_flag, no_setting, of_named_calls, needed, newest_of, cause_of_setting, cause_of_call, cause_of_event, cause_by, cause_where, cause_of}
+use Rattle.def_session.specs.Laws.{needed_for}
+use Rattle.def_explain.specs.Causes.{Cause, no_mark, no_flag, no_setting, of_named_calls, newest_of, cause_of_setting, cause_of_call, cause_of_event, cause_by, cause_where, cause_of}
 use Rattle.def_explain.specs.Texts.{said_of_each}
 use Rattle.def_explain.specs.Accounts.{Line, said, setting_lines, evaluation_lines, cause_lines, message_lines}
 use Rattle.tn_session.specs.Looks.{parts_of}
@@ -55,26 +56,26 @@ module _ (s : Session) (e : Event) where
 
   -- all but the mark of a return is as of any event
   abbrev pub IsWhere : Option (List Effect) → Type 0
-  IsWhere r = (cause_of s e ≡ cause_where s e) × (evaluated s e ≡ where_set s (process_of e) (needed e) r)
+  IsWhere r = (cause_of s e ≡ cause_where s e) × (evaluated s e ≡ where_set s (process_of e) (needed_for e) r)
 
   pub refused : (x : Cause) → evaluated s e ≡ None → cause_of s e ≡ Some x → Refuses (cause_lines s e x)
   refused x h k = (sym (ap (lines_by_effects s e) h ∙ ap (λ o. message_lines s e o None) k), sym h)
 
   -- the process hasn't the flag
-  pub unflagged : (r : Option (List Effect)) → IsWhere r → flags_at s (process_of e) (needed e) ≡ false → Refuses (cause_lines s e (no_flag (needed e)))
+  pub unflagged : (r : Option (List Effect)) → IsWhere r → flags_at s (process_of e) (needed_for e) ≡ false → Refuses (cause_lines s e (no_flag (needed_for e)))
   unflagged r is h =
-      refused (no_flag (needed e)) (is.1 ∙ ap (λ b. if b then r else None) h) (is.0 ∙ ap (λ b. if b then cause_by s e (evaluated s e) else Some (no_flag (needed e))) h)
+      refused (no_flag (needed_for e)) (is.1 ∙ ap (λ b. if b then r else None) h) (is.0 ∙ ap (λ b. if b then cause_by s e (evaluated s e) else Some (no_flag (needed_for e))) h)
 
   -- it has
-  with_flag : (r : Option (List Effect)) → IsWhere r → flags_at s (process_of e) (needed e) ≡ true → evaluated s e ≡ r
+  with_flag : (r : Option (List Effect)) → IsWhere r → flags_at s (process_of e) (needed_for e) ≡ true → evaluated s e ≡ r
   with_flag r is h = is.1 ∙ ap (λ b. if b then r else None) h
 
-  its_cause : (r : Option (List Effect)) → IsWhere r → flags_at s (process_of e) (needed e) ≡ true → cause_of s e ≡ cause_by s e r
+  its_cause : (r : Option (List Effect)) → IsWhere r → flags_at s (process_of e) (needed_for e) ≡ true → cause_of s e ≡ cause_by s e r
   its_cause r is h =
-      is.0 ∙ ap (λ b. if b then cause_by s e (evaluated s e) else Some (no_flag (needed e))) h ∙ ap (cause_by s e) (with_flag r is h)
+      is.0 ∙ ap (λ b. if b then cause_by s e (evaluated s e) else Some (no_flag (needed_for e))) h ∙ ap (cause_by s e) (with_flag r is h)
 
   -- and no setting
-  pub unsettled : (x : Cause) → IsWhere None → flags_at s (process_of e) (needed e) ≡ true → cause_of_event s e ≡ x → Refuses (cause_lines s e x)
+  pub unsettled : (x : Cause) → IsWhere None → flags_at s (process_of e) (needed_for e) ≡ true → cause_of_event s e ≡ x → Refuses (cause_lines s e x)
   unsettled x is h k = refused x (with_flag None is h) (its_cause None is h ∙ ap Some k)
 
   of_setting : (g : Setting) (c : Context) → cause_lines s e (cause_of_setting g c) ≡ evaluation_lines s e
@@ -83,7 +84,7 @@ module _ (s : Session) (e : Event) where
   of_setting (by sp) c = refl
 
   -- and a setting
-  pub settled : (g : Setting) (c : Context) → IsWhere (evaluated_by g c) → flags_at s (process_of e) (needed e) ≡ true → cause_of_event s e ≡ cause_of_setting g c → evaluation_lines s e ≡ setting_lines g c → IsBy g c
+  pub settled : (g : Setting) (c : Context) → IsWhere (evaluated_by g c) → flags_at s (process_of e) (needed_for e) ≡ true → cause_of_event s e ≡ cause_of_setting g c → evaluation_lines s e ≡ setting_lines g c → IsBy g c
   settled g c is h k lines = (sym (ap (lines_by_effects s e) ev ∙ go (evaluated_by g c) refl ∙ lines), sym ev)
     where
       ev : evaluated s e ≡ evaluated_by g c
@@ -94,12 +95,12 @@ module _ (s : Session) (e : Event) where
       go (Some es) f = refl
 
   -- an event that no setting is of
-  pub plainly : (b : Bool) (why : List ℕ) → IsWhere (Some []) → evaluation_lines s e ≡ [] → b ≡ flags_at s (process_of e) (needed e) → cause_lines s e (no_flag (needed e)) ≡ said why ∷ [] → (lines_where b why ≡ lines_before s e) × (effects_where b ≡ evaluated s e)
+  pub plainly : (b : Bool) (why : List ℕ) → IsWhere (Some []) → evaluation_lines s e ≡ [] → b ≡ flags_at s (process_of e) (needed_for e) → cause_lines s e (no_flag (needed_for e)) ≡ said why ∷ [] → (lines_where b why ≡ lines_before s e) × (effects_where b ≡ evaluated s e)
   plainly true why is none h text =
       let ev : evaluated s e ≡ Some [] = with_flag (Some []) is (sym h) in
       (sym (ap (lines_by_effects s e) ev ∙ none), sym ev)
   plainly false why is none h text =
-      let r : Refuses (cause_lines s e (no_flag (needed e))) = unflagged (Some []) is (sym h) in
+      let r : Refuses (cause_lines s e (no_flag (needed_for e))) = unflagged (Some []) is (sym h) in
       (sym text ∙ r.0, r.1)
 
 -- ---- the texts of flags that are needed
@@ -131,9 +132,9 @@ module _ (n : Name) (s : Session) (e : Event) (old new : List ℕ) (r : Evaluati
   refused_so ls is g = given n ls (lines_before s e) None (evaluated s e) old new r is.0 is.1 g
 
   -- where its process hasn't the flag
-  pub unflagged_so : (es : Option (List Effect)) (text : List ℕ) → IsWhere s e es → flags_at s (process_of e) (needed e) ≡ false → no_flag_text (needed e) ≡ text → Gives n (said text ∷ []) None old new r → GivesOf n s e old new r
+  pub unflagged_so : (es : Option (List Effect)) (text : List ℕ) → IsWhere s e es → flags_at s (process_of e) (needed_for e) ≡ false → no_flag_text (needed_for e) ≡ text → Gives n (said text ∷ []) None old new r → GivesOf n s e old new r
   unflagged_so es text is h same g =
-      let z : Refuses s e (cause_lines s e (no_flag (needed e))) = unflagged s e es is h in
+      let z : Refuses s e (cause_lines s e (no_flag (needed_for e))) = unflagged s e es is h in
       given n (said text ∷ []) (lines_before s e) None (evaluated s e) old new r (ap (λ t. said t ∷ []) (sym same) ∙ z.0) z.1 g
 
   -- where a setting is of it
@@ -143,7 +144,7 @@ module _ (n : Name) (s : Session) (e : Event) (old new : List ℕ) (r : Evaluati
       (ap (λ x. setting_lines x c) same ∙ ap (setting_lines h) alike ∙ is.0) (ap (λ x. evaluated_by x c) same ∙ ap (evaluated_by h) alike ∙ is.1) z
 
   -- where none is
-  pub plainly_so : (b : Bool) (why : List ℕ) → IsWhere s e (Some []) → evaluation_lines s e ≡ [] → b ≡ flags_at s (process_of e) (needed e) → no_flag_text (needed e) ≡ why → GivesWhere n b why old new r → GivesOf n s e old new r
+  pub plainly_so : (b : Bool) (why : List ℕ) → IsWhere s e (Some []) → evaluation_lines s e ≡ [] → b ≡ flags_at s (process_of e) (needed_for e) → no_flag_text (needed_for e) ≡ why → GivesWhere n b why old new r → GivesOf n s e old new r
   plainly_so b why is none h text g =
       let z : (lines_where b why ≡ lines_before s e) × (effects_where b ≡ evaluated s e) = plainly s e b why is none h (ap (λ t. said t ∷ []) text) in
       given n (lines_where b why) (lines_before s e) (effects_where b) (evaluated s e) old new r z.0 z.1 g

@@ -12,7 +12,8 @@ use Rattle.def_node.specs.Event.{Event, sent, received, called, returned, spawni
 use Rattle.def_session.specs.State.{Phase, absent, live, destroyed, Session, flags_at}
 use Rattle.def_session.specs.Messages.{process_of, last_message, elements_of, decided}
 use Rattle.def_session.specs.Session.{inherited, evaluated, is_marked, where_set, all_affected, marks_frame, is_silenced, message_after, marked, finished, told_for, told_in, event_told}
-use Rattle.def_explain.specs.Causes.{no_mark, no_flag, silenced, message_false, needed, is_false_message, cause_by, cause_where, cause_of}
+use Rattle.def_session.specs.Laws.{needed_for}
+use Rattle.def_explain.specs.Causes.{no_mark, no_flag, silenced, message_false, is_false_message, cause_by, cause_where, cause_of}
 use Rattle.def_term.specs.Text.{pid_text}
 use Rattle.def_explain.specs.Accounts.{Line, line_where, said, evaluation_lines, message_lines, mark_lines, end_lines, live_lines, inheritance_lines, flag_lines, event_lines_in, event_lines}
 use Rattle.tn_session.specs.Looks.{is_live}
@@ -32,8 +33,8 @@ has_flag s p x r es h = go (flags_at s p x) refl
     go true e = e
     go false e = absurd (cc (sym (ap (λ b. if b then r else None) e) ∙ h))
 
-by_flag : (s : Session) (e : Event) (es : List Effect) → evaluated s e ≡ Some es → flags_at s (process_of e) (needed e) ≡ true → cause_where s e ≡ cause_by s e (Some es)
-by_flag s e es h f = ap (λ b. if b then cause_by s e (evaluated s e) else Some (no_flag (needed e))) f ∙ ap (cause_by s e) h
+by_flag : (s : Session) (e : Event) (es : List Effect) → evaluated s e ≡ Some es → flags_at s (process_of e) (needed_for e) ≡ true → cause_where s e ≡ cause_by s e (Some es)
+by_flag s e es h f = ap (λ b. if b then cause_by s e (evaluated s e) else Some (no_flag (needed_for e))) f ∙ ap (cause_by s e) h
 
 cause_is : (s : Session) (e : Event) (es : List Effect) → evaluated s e ≡ Some es → cause_of s e ≡ cause_by s e (Some es)
 cause_is s (sent p t to alive) es h = by_flag s (sent p t to alive) es h (has_flag s p send_flag _ es h)

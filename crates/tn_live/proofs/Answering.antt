@@ -16,7 +16,7 @@ use Rattle.def_run.specs.Run.{Shown, happened, commanded, events, moves}
 use Rattle.def_run.specs.Listing.{Item, told, told_by_all, answers_from, shown_by, answer, messages}
 use Rattle.def_run.specs.Laws.{is_for, numbered, answers}
 use Rattle.def_run.proofs.Answers.{answers_are_listings}
-use Rattle.tn_live.specs.declared.entry.Place.{Place}
+use Rattle.tn_live.specs.declared.entry.ItemPlace.{ItemPlace}
 use Rattle.tn_live.specs.Places.{place_of, places_of, told_at, message_in, told_message}
 use Rattle.tn_trace.specs.Cores.{creation_numbered}
 
@@ -59,7 +59,7 @@ get_or-end (x ∷ xs) y zero d at = absurd (omega arith)
 get_or-end (x ∷ xs) y (suc k) d at = get_or-end xs y k d (omega arith)
 
 -- the places of an answer
-pub places_at : (p : Program) (picks : List ℕ) (n k more : ℕ) (d : List Place) → n ≡ more + suc k → get_or (places_of p picks n) k d ≡ map place_of (answer p picks k)
+pub places_at : (p : Program) (picks : List ℕ) (n k more : ℕ) (d : List ItemPlace) → n ≡ more + suc k → get_or (places_of p picks n) k d ≡ map place_of (answer p picks k)
 places_at p picks zero k more d is = absurd (omega arith)
 places_at p picks (suc n) k zero d is =
     let same : k ≡ n = omega arith in
@@ -188,7 +188,7 @@ abbrev message_or : Tree → Option Item → Tree
 message_or t None = t
 message_or t (Some x) = x.message
 
-pub told_same : (place : Place) (x : Item) (o : Option Tree) (t : Tree) (b : Bool) → place.session ≡ x.session → place.index ≡ x.index → Some t ≡ o → IsTrue b ↔ (t ≡ x.message) → IsTrue b ↔ (told_message place o ≡ Some x)
+pub told_same : (place : ItemPlace) (x : Item) (o : Option Tree) (t : Tree) (b : Bool) → place.session ≡ x.session → place.index ≡ x.index → Some t ≡ o → IsTrue b ↔ (t ≡ x.message) → IsTrue b ↔ (told_message place o ≡ Some x)
 told_same place x o t b session index is same = (
   λ h.
       let m : t ≡ x.message = same.0 h in
@@ -197,7 +197,7 @@ told_same place x o t b session index is same = (
   λ e. same.1 (ap (message_or t) (ap (told_message place) is ∙ e)),
 )
 
-pub told_none : (place : Place) (x : Item) (o : Option Tree) → None ≡ o → IsTrue false ↔ (told_message place o ≡ Some x)
+pub told_none : (place : ItemPlace) (x : Item) (o : Option Tree) → None ≡ o → IsTrue false ↔ (told_message place o ≡ Some x)
 told_none place x o is = (λ h. absurd (false≢true h), λ e. absurd (none_some (ap (told_message place) is ∙ e)))
   where
     none_some : None ≡ Some x → ⊥
@@ -212,11 +212,11 @@ index_or d None = d
 index_or d (Some x) = x.index
 
 -- an item that is told at a place has its session and index
-pub told_session : (place : Place) (x : Item) (o : Option Tree) → told_message place o ≡ Some x → place.session ≡ x.session
+pub told_session : (place : ItemPlace) (x : Item) (o : Option Tree) → told_message place o ≡ Some x → place.session ≡ x.session
 told_session place x None e = absurd (cc e)
 told_session place x (Some m) e = ap (session_or 0) e
 
-pub told_index : (place : Place) (x : Item) (o : Option Tree) → told_message place o ≡ Some x → place.index ≡ x.index
+pub told_index : (place : ItemPlace) (x : Item) (o : Option Tree) → told_message place o ≡ Some x → place.index ≡ x.index
 told_index place x None e = absurd (cc e)
 told_index place x (Some m) e = ap (index_or 0) e
 

@@ -8,7 +8,7 @@ use Rattle.def_run.specs.Listing.{answer}
 use Rattle.tn_trace.specs.Items.{item_seen}
 use Rattle.tn_trace.specs.declared.item.Item.{Item}
 use Rattle.tn_live.specs.declared.entry.Entry.{Entry}
-use Rattle.tn_live.specs.declared.entry.Place.{Place}
+use Rattle.tn_live.specs.declared.entry.ItemPlace.{ItemPlace}
 use Rattle.tn_live.specs.declared.entry.Receipt.{Receipt}
 use Rattle.tn_live.specs.Journal.{entry, picks_of}
 use Rattle.tn_live.specs.Places.{place_of, places_of, told_at, AreTold}
@@ -39,7 +39,7 @@ module _ {A : Type 0} (p : Program) (es : List Entry) (r : Receipt A) where
   entered_as e at h = at ∙ get_or_from_slice_get es r.number (entry r.seat r.pick) e h.entered
 
   -- a receipt of the entry's seat and pick
-  pub confirms_where : (e : Entry) (placed : List Place) (more : ℕ) (b : Bool) → length es ≡ more + suc r.number → moves p (picks_of es) ≡ picks_of es → e ≡ get_or es r.number e → e.seat ≡ r.seat → e.pick ≡ r.pick
+  pub confirms_where : (e : Entry) (placed : List ItemPlace) (more : ℕ) (b : Bool) → length es ≡ more + suc r.number → moves p (picks_of es) ≡ picks_of es → e ≡ get_or es r.number e → e.seat ≡ r.seat → e.pick ≡ r.pick
       → placed ≡ map place_of (answer p (picks_of es) r.number) → IsTrue b ↔ AreTold p (picks_of es) placed r.items.items → IsTrue b ↔ Confirms p es r
   confirms_where e placed more b size journal at seat pick there told =
       let picks : List ℕ = picks_of es in
@@ -54,11 +54,11 @@ module _ {A : Type 0} (p : Program) (es : List Entry) (r : Receipt A) where
       )
 
 -- the places of an entry of a record
-pub placed_at : {V : Type 0} (p : Program) (picks : List ℕ) (n k more : ℕ) (items_of : V → List Place) (vs : List V) (v : V) → n ≡ more + suc k → map items_of vs ≡ places_of p picks n → k < length vs → v ≡ get_or vs k v
+pub placed_at : {V : Type 0} (p : Program) (picks : List ℕ) (n k more : ℕ) (items_of : V → List ItemPlace) (vs : List V) (v : V) → n ≡ more + suc k → map items_of vs ≡ places_of p picks n → k < length vs → v ≡ get_or vs k v
     → items_of v ≡ map place_of (answer p picks k)
 placed_at p picks n k more items_of vs v size placed below at =
     get_map items_of vs k v [] below at ∙ ap (λ ps. get_or ps k []) placed ∙ places_at p picks n k more [] size
 
 -- as many places as entries
-pub placed-length : {V : Type 0} (p : Program) (picks : List ℕ) (n : ℕ) (items_of : V → List Place) (vs : List V) → map items_of vs ≡ places_of p picks n → length vs ≡ n
+pub placed-length : {V : Type 0} (p : Program) (picks : List ℕ) (n : ℕ) (items_of : V → List ItemPlace) (vs : List V) → map items_of vs ≡ places_of p picks n → length vs ≡ n
 placed-length p picks n items_of vs placed = sym (length-map vs items_of) ∙ ap length placed ∙ places-length p picks n

@@ -2,7 +2,7 @@
 use Rattle.std.proofs.Common.{◌≡◌, ◌∙◌, ℕ, suc, ◌+◌, ◌<◌, ◌≤◌, List, [], ◌∷◌, ◌++◌, length, map, Option, Some, None, Ok, Err, Result, refl, sym, ap, subst, arith, length-append}
 use Rattle.def_script.specs.Program.{Program}
 use Rattle.def_run.specs.Run.{moves}
-use Rattle.def_run.specs.Listing.{Item as Told, answer}
+use Rattle.def_run.specs.Listing.{Item as DefinedItem, answer}
 use Rattle.tn_trace.specs.Items.{item_seen}
 use Rattle.tn_trace.specs.Cores.{IsCore, HoldsIn}
 use Rattle.tn_trace.specs.declared.recording.Core.{Core}
@@ -76,7 +76,7 @@ module _ {A J : Type 0} (p : Program) where
       }
 
   -- the record with one more entry
-  pub record_more : (r q : Record A J) (n pick : ℕ) (items : List Told) → HasMoved p pick r items → AddsEntry n pick (map place_of items) r q → IsRecord p q
+  pub record_more : (r q : Record A J) (n pick : ℕ) (items : List DefinedItem) → HasMoved p pick r items → AddsEntry n pick (map place_of items) r q → IsRecord p q
   record_more r q n pick items moved adds =
       let es : List Entry = r.entries.items in
       let picks : List ℕ = picks_of es in

@@ -3,7 +3,7 @@ use Rattle.std.specs.Prelude.{◌≡◌, ℕ, zero, suc, Bool, IsTrue, ◌↔◌
 use Rattle.def_term.specs.Tree.{Tree}
 use Rattle.def_term.specs.Names.{Name}
 use Rattle.def_script.specs.Program.{Program}
-use Rattle.def_run.specs.Listing.{Item as Told, answer, messages}
+use Rattle.def_run.specs.Listing.{Item as DefinedItem, answer, messages}
 use Rattle.tn_trace.specs.Items.{item_seen}
 use Rattle.tn_trace.specs.Cores.{IsCore, creation_numbered}
 use Rattle.tn_trace.specs.declared.item.Item.{Item}
@@ -12,19 +12,19 @@ use Rattle.tn_term.specs.Views.{tree_of}
 use Rattle.tn_term.specs.declared.term.Term.{Term}
 use Rattle.std.specs.Option.{option_map}
 use denote.Ref.{Bor}
-use Rattle.tn_live.specs.declared.entry.Place.{Place}
+use Rattle.tn_live.specs.declared.entry.ItemPlace.{ItemPlace}
 
 -- where a message stands
-abbrev pub place_of : Told → Place
+abbrev pub place_of : DefinedItem → ItemPlace
 place_of x = record { session = x.session; index = x.index }
 
 -- where the messages stand that each of the first n moves adds
-abbrev pub places_of : Program → List ℕ → ℕ → List (List Place)
+abbrev pub places_of : Program → List ℕ → ℕ → List (List ItemPlace)
 places_of program picks zero = []
 places_of program picks (suc n) = places_of program picks n ++ map place_of (answer program picks n) ∷ []
 
 -- a message, if any, as the item of this place
-abbrev pub told_message : Place → Option Tree → Option Told
+abbrev pub told_message : ItemPlace → Option Tree → Option DefinedItem
 told_message place None = None
 told_message place (Some m) = Some (record { session = place.session; index = place.index; message = m })
 
@@ -33,15 +33,15 @@ message_in program picks index None = None
 message_in program picks index (Some s) = slice_get (messages s.0 program picks) index
 
 -- the message at a place of the listings, where there is one
-abbrev pub message_at : Program → List ℕ → Place → Option Tree
+abbrev pub message_at : Program → List ℕ → ItemPlace → Option Tree
 message_at program picks place = message_in program picks place.index (creation_numbered program place.session)
 
 -- the item of the message at a place of the listings
-abbrev pub told_at : Program → List ℕ → Place → Option Told
+abbrev pub told_at : Program → List ℕ → ItemPlace → Option DefinedItem
 told_at program picks place = told_message place (message_at program picks place)
 
 -- the items are the messages at these places, in order
-abbrev pub AreTold : {A : Type 0} → Program → List ℕ → List Place → List (Item A) → Type 0
+abbrev pub AreTold : {A : Type 0} → Program → List ℕ → List ItemPlace → List (Item A) → Type 0
 AreTold program picks places items = map (told_at program picks) places ≡ map (λ x. Some (item_seen x)) items
 
 -- whatever journal the core is of, the test is true exactly where this holds of it
@@ -49,6 +49,6 @@ abbrev pub TellsWhether : {A : Type 0} → Core A → Bool → (Program → List
 TellsWhether core result Holds = (p : Program) (picks : List ℕ) → IsCore p picks core → IsTrue result ↔ Holds p picks
 
 -- whatever journal the core is of, this is the message at the place
-abbrev pub IsMessageAt : {A : Type 0} → Core A → Place → Option (Bor (Term A)) → Type 0
+abbrev pub IsMessageAt : {A : Type 0} → Core A → ItemPlace → Option (Bor (Term A)) → Type 0
 IsMessageAt core place result =
     (p : Program) (picks : List ℕ) → IsCore p picks core → option_map (λ t. tree_of t.now) result ≡ message_at p picks place

@@ -3,11 +3,11 @@ use Rattle.std.specs.Prelude.{◌≡◌, ℕ, ◌<◌, List, [], ◌∷◌, ◌+
 use Rattle.def_script.specs.Program.{Program}
 use Rattle.def_run.specs.Run.{JOURNAL}
 use Rattle.def_run.specs.Laws.{IsIdleAfter}
-use Rattle.def_run.specs.Listing.{Item as Told}
+use Rattle.def_run.specs.Listing.{Item as DefinedItem}
 use Rattle.tn_trace.specs.Cores.{MovesOn}
 use Rattle.tn_trace.specs.declared.item.StepFault.{StepFault}
 use Rattle.tn_trace.specs.declared.item.StepFault.TheVariants.{LimitReached, Spent, OutOfMemory}
-use Rattle.tn_live.specs.declared.entry.Place.{Place}
+use Rattle.tn_live.specs.declared.entry.ItemPlace.{ItemPlace}
 use Rattle.tn_live.specs.declared.entry.Turn.{Turn}
 use Rattle.tn_live.specs.declared.entry.Turn.TheVariants.{Moved, Idle}
 use Rattle.tn_live.specs.declared.entry.Receipt.{Receipt}
@@ -41,7 +41,7 @@ pub record HasRoom {A J : Type 0} (r : Record A J) (s : Seen A J) : Type 0 where
   pub seen : length r.entries.items < vec_capacity s.entries
 
 -- the core moved with this answer, and the record does not have the entry yet
-pub record HasMoved {A J : Type 0} (program : Program) (pick : ℕ) (r : Record A J) (items : List Told) : Type 0 where
+pub record HasMoved {A J : Type 0} (program : Program) (pick : ℕ) (r : Record A J) (items : List DefinedItem) : Type 0 where
   pub reached : r.front ≡ r.entries.items
   pub journal : IsJournal program r.entries.items
   pub moved : MovesOn program (picks_of r.entries.items) pick r.core items
@@ -49,7 +49,7 @@ pub record HasMoved {A J : Type 0} (program : Program) (pick : ℕ) (r : Record 
   pub counted : CountsMade r.counts r.entries.items
 
 -- the record has one more entry, whose messages stand at these places
-pub record AddsEntry {A J : Type 0} (seat pick : ℕ) (new : List Place) (r q : Record A J) : Type 0 where
+pub record AddsEntry {A J : Type 0} (seat pick : ℕ) (new : List ItemPlace) (r q : Record A J) : Type 0 where
   pub front : q.front ≡ q.entries.items
   pub core : q.core ≡ r.core
   pub entries : q.entries.items ≡ r.entries.items ++ entry seat pick ∷ []

@@ -11,7 +11,7 @@ pub struct Entry {
 
 /// Where a message stands: the session's number, from 1, and the place in its listing, from 0.
 #[derive(Clone, Copy, PartialEq, Eq, Drop)]
-pub(crate) struct Place {
+pub(crate) struct ItemPlace {
     pub session: u32,
     pub index: u64,
 }

@@ -5,7 +5,7 @@ ghost use Rattle.tn_live.specs.Places.{place_of, told_at, AreTold, TellsWhether,
 ghost use Rattle.std.specs.Option.{option_map};
 ghost use Rattle.tn_term.specs.Views.{tree_of};
 
-use crate::entry::Place;
+use crate::entry::ItemPlace;
 use std::alloc::{AllocError, Allocator};
 use tn_term::Term;
 use tn_trace::{Core, Item};
@@ -14,12 +14,12 @@ use tn_trace::{Core, Item};
 pub(crate) fn find_places<A: Allocator + Copy>(
     alloc: A,
     items: &[Item<A>],
-) -> Result<Vec<Place, A>, AllocError>
+) -> Result<Vec<ItemPlace, A>, AllocError>
     ensures { IfOk result (λ v. v.items ≡ map place_of (map item_seen items.now)) }
 {
     let mut places = Vec::with_capacity(alloc, items.len())?;
     for item in items {
-        places.push(Place {
+        places.push(ItemPlace {
             session: item.session,
             index: item.index,
         })?;
@@ -38,7 +38,7 @@ fn nth_message<A: Allocator>(messages: &[Term<A>], index: u64) -> Option<&Term<A
 }
 
 /// The message at this place of the core's listings, if any.
-fn find_message<A: Allocator + Copy>(core: &Core<A>, place: Place) -> Option<&Term<A>>
+fn find_message<A: Allocator + Copy>(core: &Core<A>, place: ItemPlace) -> Option<&Term<A>>
     ensures { IsMessageAt core.now place result }
 {
     match core.listing(place.session) {
@@ -49,7 +49,7 @@ fn find_message<A: Allocator + Copy>(core: &Core<A>, place: Place) -> Option<&Te
 }
 
 /// Whether the item is the message at this place of the core's listings.
-fn is_told<A: Allocator + Copy>(core: &Core<A>, place: Place, item: &Item<A>) -> bool
+fn is_told<A: Allocator + Copy>(core: &Core<A>, place: ItemPlace, item: &Item<A>) -> bool
     ensures { TellsWhether core.now result (λ p picks. told_at p picks place ≡ Some (item_seen item.now)) }
 {
     if place.session != item.session || place.index != item.index {
@@ -64,7 +64,7 @@ fn is_told<A: Allocator + Copy>(core: &Core<A>, place: Place, item: &Item<A>) ->
 /// Whether the items are the messages at these places, in order.
 pub(crate) fn are_told<A: Allocator + Copy>(
     core: &Core<A>,
-    places: &[Place],
+    places: &[ItemPlace],
     items: &[Item<A>],
 ) -> bool
     ensures { TellsWhether core.now result (λ p picks. AreTold p picks places.now items.now) }

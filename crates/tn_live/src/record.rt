@@ -1,5 +1,5 @@
 // What a book has while it isn't spent, and what a seat has.
-use crate::entry::{Entry, Place, Receipt, Turn};
+use crate::entry::{Entry, ItemPlace, Receipt, Turn};
 use crate::front::{Front, Head, Naming};
 use crate::places::{are_told, find_places};
 use std::alloc::{AllocError, Allocator};
@@ -26,7 +26,7 @@ pub(crate) struct Record<A: Allocator, J: Naming> {
     pub front: Front<J>,
     pub core: Core<A>,
     pub entries: Vec<Entry, A>,
-    pub places: Vec<Vec<Place, A>, A>,
+    pub places: Vec<Vec<ItemPlace, A>, A>,
     pub counts: [u64; 16],
 }
 
@@ -89,7 +89,7 @@ impl<A: Allocator + Copy, J: Naming> Record<A, J> {
     }
 
     /// Adds an entry, for which there is room, with the places of its messages: the entry's number.
-    fn add(&mut self, seat: u32, pick: u32, places: Vec<Place, A>) -> Result<u64, AllocError>
+    fn add(&mut self, seat: u32, pick: u32, places: Vec<ItemPlace, A>) -> Result<u64, AllocError>
         requires seat { seat < 16 }
         requires few { length self.old.entries.items < 65536 }
         requires reached { self.old.front ≡ self.old.entries.items }

@@ -66,7 +66,7 @@ use Rattle.tn_flags.proofs.flags.Flags.TheSendSync as flags_sent
 use Rattle.tn_session.proofs.state.Phase.TheSendSync as phase_sent
 use Rattle.tn_live.proofs.front.Head.TheSendSync as head_sent
 use Rattle.tn_live.proofs.front.Front.TheSendSync as front_sent
-use Rattle.tn_live.proofs.entry.Place.TheSendSync as place_sent
+use Rattle.tn_live.proofs.entry.ItemPlace.TheSendSync as place_sent
 use Rattle.tn_live.proofs.entry.Entry.TheSendSync as entry_sent
 use Rattle.tn_live.specs.declared.front.Naming as naming
 use Rattle.tn_spec.proofs.func.Func.TheSendSync as func_sent

@@ -9,29 +9,29 @@ use Rattle.def_node.specs.Node.{World, Move, moved, idle, next_of, living, place
 use Rattle.def_node.specs.Limits.{IsWithin, world_after}
 use Rattle.def_node.proofs.Limits.{next_keeps, opening_within}
 use Rattle.def_node.proofs.Steps.{living_nowhere}
-use Rattle.def_run.specs.Run.{Place, goes_to, takes_command, turn_with, turn_of, place_after, start}
+use Rattle.def_run.specs.Run.{RunState, goes_to, takes_command, pick_step_with, pick_step, run_state_after, start}
 use Rattle.def_run.specs.Round.{pass, pass_from}
 use Rattle.def_run.specs.Laws.{IsIdleAfter}
 use Rattle.tn_run.specs.Laws.{RestIsOfAllPicks}
 
 -- ---- at most 64 processes are started
 
-goes_within : (q : Place) (room : ℕ) (m : Move) → IsWithin q.world → IsWithin (world_after m) → IsWithin (goes_to q room m).after.world
+goes_within : (q : RunState) (room : ℕ) (m : Move) → IsWithin q.world → IsWithin (world_after m) → IsWithin (goes_to q room m).after.world
 goes_within q room (moved w es) was now = now
 goes_within q room (idle w) was now = was
 
-takes_within : (q : Place) (room : ℕ) (cs : List Command) → IsWithin q.world → IsWithin (takes_command q room cs).after.world
+takes_within : (q : RunState) (room : ℕ) (cs : List Command) → IsWithin q.world → IsWithin (takes_command q room cs).after.world
 takes_within q room [] was = was
 takes_within q room (c ∷ cs) was = was
 
-turn_within : (ks : List Function) (q : Place) (room pick : ℕ) → IsWithin q.world → IsWithin (turn_with ks q room pick).after.world
+turn_within : (ks : List Function) (q : RunState) (room pick : ℕ) → IsWithin q.world → IsWithin (pick_step_with ks q room pick).after.world
 turn_within ks q zero pick was = was
 turn_within ks q (suc room) zero was = takes_within q room q.commands was
 turn_within ks q (suc room) (suc n) was = goes_within q room (next_of ks q.world (suc n)) was (next_keeps ks q.world (suc n) was).0
 
-place_within : (ks : List Function) (q : Place) (picks : List ℕ) → IsWithin q.world → IsWithin (place_after ks q picks).world
+place_within : (ks : List Function) (q : RunState) (picks : List ℕ) → IsWithin q.world → IsWithin (run_state_after ks q picks).world
 place_within ks q [] was = was
-place_within ks q (pick ∷ picks) was = place_within ks (turn_of ks q pick).after picks (turn_within ks q q.room pick was)
+place_within ks q (pick ∷ picks) was = place_within ks (pick_step ks q pick).after picks (turn_within ks q q.room pick was)
 
 -- ---- no other pid lives
 
@@ -53,7 +53,7 @@ high_lives_not : (w : World) (n : ℕ) → length w.slots ≤ 64 → 164 ≤ n �
 high_lives_not w n few h = high_if w n (nat_le 100 n) (slice_get_past w.slots (n - 100) (omega arith))
 
 -- so its picks are idle
-idle_turn : (ks : List Function) (q : Place) (room n : ℕ) → living q.world (suc n) ≡ None → (turn_with ks q room (suc n)).moved ≡ false
+idle_turn : (ks : List Function) (q : RunState) (room n : ℕ) → living q.world (suc n) ≡ None → (pick_step_with ks q room (suc n)).moved ≡ false
 idle_turn ks q zero n h = refl
 idle_turn ks q (suc room) n h = ap (λ m. (goes_to q room m).moved) (sym (living_nowhere ks q.world (suc n) h))
 
@@ -77,7 +77,7 @@ in_pass P rests n low high =
 pub rest_is_of_all_picks : RestIsOfAllPicks
 rest_is_of_all_picks p picks few rests zero = All-get_or (IsIdleAfter p picks) (0 ∷ pass_from 64 100) 0 0 (omega arith) rests
 rest_is_of_all_picks p picks few rests (suc n) =
-    let q : Place = place_after p.functions (start p) picks in
+    let q : RunState = run_state_after p.functions (start p) picks in
     let within : IsWithin q.world = place_within p.functions (start p) picks (opening_within p.entries few) in
     let other : living q.world (suc n) ≡ None → IsIdleAfter p picks (suc n) = idle_turn p.functions q q.room n in
     elim (nat_lt n 99) as (λ b. nat_lt n 99 ≡ b → IsIdleAfter p picks (suc n)) [

@@ -7,7 +7,7 @@ use Rattle.def_session.specs.Session.{event_told}
 use Rattle.tn_term.specs.declared.term.Term.{Term}
 use Rattle.tn_session.specs.Views.{state_seen, function_seen}
 use Rattle.tn_session.specs.Sessions.{Holds, HoldsIn, Says, Tells}
-use Rattle.tn_session.specs.Told.{told, told_as_term}
+use Rattle.tn_session.specs.Telling.{told, told_as_term}
 use Rattle.tn_session.specs.declared.message.Message.{Message}
 use Rattle.tn_session.specs.declared.state.State.{State}
 

@@ -12,9 +12,9 @@ ghost use Rattle.tn_term.specs.Views.{tree_of};
 ghost use Rattle.tn_flags.specs.Views.{event_of, call_of};
 ghost use Rattle.tn_machine.specs.Lent.{context_seen, effect_seen};
 ghost use Rattle.tn_session.specs.Views.{state_seen};
-ghost use Rattle.tn_session.specs.Told.{told, told_as_term, telling, telling_live, telling_by, following, finishing};
-ghost use Rattle.tn_session.specs.Told.{asked, given, evaluating, evaluating_by, evaluating_send, on_values};
-ghost use Rattle.tn_session.specs.Told.{message_in, deciding};
+ghost use Rattle.tn_session.specs.Telling.{told, told_as_term, telling, telling_live, telling_by, following, finishing};
+ghost use Rattle.tn_session.specs.Telling.{asked, given, evaluating, evaluating_by, evaluating_send, on_values};
+ghost use Rattle.tn_session.specs.Telling.{message_in, deciding};
 
 use crate::compiled::Compiled;
 use crate::message::Message;

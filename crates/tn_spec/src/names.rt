@@ -1,7 +1,8 @@
 // What atoms are in heads and expressions.
 ghost use Rattle.std.specs.Prelude.{◌≡◌, ◌≤◌, length, IsTrue, codes};
 ghost use Rattle.std.specs.Str.{bytes_eq};
-ghost use Rattle.def_spec.specs.Reading.{all_digits, decimal_from, is_dollar_number, is_plain_number};
+ghost use Rattle.def_term.specs.Text.{number_after};
+ghost use Rattle.def_spec.specs.Reading.{all_digits, is_dollar_number, is_plain_number};
 ghost use Rattle.def_spec.specs.Reading.{atom_kind, is_wildcard};
 ghost use Rattle.tn_spec.specs.Names.{IsNumbered, kind_seen};
 
@@ -52,7 +53,7 @@ fn is_number(digits: &[u8]) -> bool
 fn number(digits: &[u8]) -> u16
     requires digits { IsTrue (all_digits digits.now) }
     requires short { length digits.now ≤ 3 }
-    ensures { result ≡ decimal_from 0 digits.now }
+    ensures { result ≡ number_after 0 digits.now }
 {
     let mut n: u16 = 0;
     for digit in digits {

@@ -13,7 +13,7 @@ use Rattle.tn_trace.specs.Tracks.{Track, track_after, tracks_from}
 use Rattle.tn_trace.specs.Slots.{IsTracked, Each}
 use Rattle.tn_trace.specs.Items.{AreTerms}
 use Rattle.def_term.specs.Tree.{Tree}
-use Rattle.def_run.specs.Listing.{Item as Told}
+use Rattle.def_run.specs.Listing.{Item as DefinedItem}
 use Rattle.tn_trace.specs.Runs.{IsRun, Steps}
 use Rattle.tn_trace.specs.Cores.{creation_numbered, HoldsIn}
 use Rattle.tn_trace.specs.declared.slot.Slot.{Slot}
@@ -83,7 +83,7 @@ pub room_length : (n : ℕ) (xs picks : List ℕ) → xs ≡ picks → n ≡ len
 room_length n xs picks same size room = let e : length xs ≡ length picks = ap length same in omega arith
 
 -- what a step came to, by whether it moved
-pub came_to : {A K G : Type 0} (Keeps : K → List Tree → Type 0) (Gives : G → List Told → Type 0) (p : Program) (picks : List ℕ) (x : ℕ) (new : Engine A K) (g g' : G) (b c : Bool) → b ≡ c → Steps Keeps Gives p picks x b new g g' → Steps Keeps Gives p picks x c new g g'
+pub came_to : {A K G : Type 0} (Keeps : K → List Tree → Type 0) (Gives : G → List DefinedItem → Type 0) (p : Program) (picks : List ℕ) (x : ℕ) (new : Engine A K) (g g' : G) (b c : Bool) → b ≡ c → Steps Keeps Gives p picks x b new g g' → Steps Keeps Gives p picks x c new g g'
 came_to Keeps Gives p picks x new g g' b c same h = subst (λ d. Steps Keeps Gives p picks x d new g g') same h
 
 -- a core that has an engine isn't spent

@@ -12,7 +12,7 @@ use Rattle.def_script.specs.Opening.{Opening}
 use Rattle.def_session.specs.State.{Session, absent, absent_session}
 use Rattle.def_session.specs.Session.{event_told, told_in}
 use Rattle.def_session.specs.Commands.{command_done, done_in, done_absent}
-use Rattle.def_run.specs.Run.{Shown, happened, commanded, Place, takes_command, goes_to, turn_with, shown_from}
+use Rattle.def_run.specs.Run.{Shown, happened, commanded, RunState, takes_command, goes_to, pick_step_with, shown_from}
 use Rattle.def_run.specs.View.{is_own}
 use Rattle.def_run.specs.Listing.{session_after}
 use Rattle.def_script.specs.Script.{creations}
@@ -83,23 +83,23 @@ never_happened : (n : Name) (es : List Event) (items : List Shown) → NeverShow
 never_happened n [] items h = h
 never_happened n (e ∷ es) items h = never_happened n es items h
 
-never_command : (n : Name) (p : Place) (room : ℕ) (cs : List Command) (rest : Place → List Shown) → ((q : Place) → NeverIn n q.commands → NeverShown n (rest q))
+never_command : (n : Name) (p : RunState) (room : ℕ) (cs : List Command) (rest : RunState → List Shown) → ((q : RunState) → NeverIn n q.commands → NeverShown n (rest q))
     → NeverIn n p.commands → NeverIn n cs → NeverShown n ((takes_command p room cs).shown ++ rest (takes_command p room cs).after)
 never_command n p room [] rest go h k = go p h
 never_command n p room (c ∷ cs) rest go h k = (k.0, go (record { world = p.world; commands = cs; room = room }) k.1)
 
-never_move : (n : Name) (p : Place) (room : ℕ) (m : Move) (rest : Place → List Shown) → ((q : Place) → NeverIn n q.commands → NeverShown n (rest q))
+never_move : (n : Name) (p : RunState) (room : ℕ) (m : Move) (rest : RunState → List Shown) → ((q : RunState) → NeverIn n q.commands → NeverShown n (rest q))
     → NeverIn n p.commands → NeverShown n ((goes_to p room m).shown ++ rest (goes_to p room m).after)
 never_move n p room (idle w) rest go h = go p h
 never_move n p room (moved w es) rest go h = never_happened n es (rest (record { world = w; commands = p.commands; room = room })) (go (record { world = w; commands = p.commands; room = room }) h)
 
-never_turn : (ks : List Function) (n : Name) (p : Place) (room pick : ℕ) (rest : Place → List Shown) → ((q : Place) → NeverIn n q.commands → NeverShown n (rest q))
-    → NeverIn n p.commands → NeverShown n ((turn_with ks p room pick).shown ++ rest (turn_with ks p room pick).after)
+never_turn : (ks : List Function) (n : Name) (p : RunState) (room pick : ℕ) (rest : RunState → List Shown) → ((q : RunState) → NeverIn n q.commands → NeverShown n (rest q))
+    → NeverIn n p.commands → NeverShown n ((pick_step_with ks p room pick).shown ++ rest (pick_step_with ks p room pick).after)
 never_turn ks n p zero pick rest go h = go p h
 never_turn ks n p (suc room) zero rest go h = never_command n p room p.commands rest go h h
 never_turn ks n p (suc room) (suc m) rest go h = never_move n p room (next_of ks p.world (suc m)) rest go h
 
-never_from : (ks : List Function) (n : Name) (p : Place) (picks : List ℕ) → NeverIn n p.commands → NeverShown n (shown_from ks p picks)
+never_from : (ks : List Function) (n : Name) (p : RunState) (picks : List ℕ) → NeverIn n p.commands → NeverShown n (shown_from ks p picks)
 never_from ks n p [] h = tt
 never_from ks n p (pick ∷ picks) h = never_turn ks n p p.room pick (λ q. shown_from ks q picks) (λ q. never_from ks n q picks) h
 
@@ -123,7 +123,7 @@ stays_absent o n s (commanded c ∷ items) a h = go (bytes_eq n (session_of c)) 
     go false e other own = other
 
 -- the reply of a session that is never created is `badarg`
-pub never_created : (o : Opening) (ks : List Function) (p : Place) (picks : List ℕ) (c : Command) → is_created (creations p.commands) (session_of c) ≡ false → creates (session_of c) c ≡ false
+pub never_created : (o : Opening) (ks : List Function) (p : RunState) (picks : List ℕ) (c : Command) → is_created (creations p.commands) (session_of c) ≡ false → creates (session_of c) c ≡ false
     → reply_of o (shown_from ks p picks) c ≡ word "badarg"
 never_created o ks p picks c e k =
     let n : Name = session_of c in

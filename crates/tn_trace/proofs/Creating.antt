@@ -11,7 +11,7 @@ use Rattle.tn_term.proofs.Views.{tree_of_tuple}
 use Rattle.tn_term.specs.declared.term.Term.{Term, Tuple as TupleOf}
 use Rattle.def_script.specs.Program as program
 use Rattle.def_script.specs.Program.{mfa_of, Command, create, destroy, set_processes, set_function, set_send, set_receive}
-use Rattle.def_script.specs.Opening.{Opening}
+use Rattle.def_script.specs.Opening.{Opening, visible}
 use Rattle.def_session.specs.State.{absent_session, alive_at_start}
 use Rattle.def_script.specs.Script.{creations}
 use Rattle.tn_flags.specs.Views.{command_of}
@@ -22,7 +22,7 @@ use Rattle.tn_term.specs.declared.mfa.Mfa as code_mfa
 use Rattle.tn_script.specs.Views.{function_of, functions_of}
 use Rattle.tn_script.specs.declared.form.Function.{Function}
 use Rattle.tn_session.specs.Views.{function_seen}
-use Rattle.tn_trace.specs.Tracks.{track_after, tracks_from, command_numbered, visible}
+use Rattle.tn_trace.specs.Tracks.{track_after, tracks_from, command_numbered}
 use Rattle.tn_trace.specs.Slots.{IsSession, IsTracked, Each}
 use Rattle.tn_trace.specs.declared.slot.Slot.{Slot}
 

@@ -3,8 +3,8 @@ use Rattle.std.proofs.Common.{◌≡◌, ◌∙◌, ℕ, zero, suc, ◌+◌, ◌
 use Rattle.std.proofs.lemmas.List.{take_all, take_more}
 use Rattle.def_term.specs.Tree.{Tree}
 use Rattle.def_script.specs.Program.{Function, Program}
-use Rattle.def_run.specs.Listing.{Item as Told}
-use Rattle.def_run.specs.Run.{Place, moves, moves_from, place_after, start}
+use Rattle.def_run.specs.Listing.{Item as DefinedItem}
+use Rattle.def_run.specs.Run.{RunState, moves, moves_from, run_state_after, start}
 use Rattle.def_run.specs.Round.{pass, pass_from, round}
 use Rattle.def_run.specs.Laws.{repeated}
 use Rattle.def_run.proofs.Appends.{moves-append}
@@ -31,22 +31,22 @@ first_full (suc n) (x ∷ xs) ys h = ap (λ zs. x ∷ zs) (first_full n xs ys (o
 -- the picks that did not move can be left out
 moves_after : (p : Program) (before more : List ℕ) → moves p (before ++ more) ≡ moves p (moves p before ++ more)
 moves_after p before more =
-    let rest : Place → List ℕ = λ q. moves_from p.functions q more in
+    let rest : RunState → List ℕ = λ q. moves_from p.functions q more in
     moves-append p.functions (start p) before more
-    ∙ ap (λ xs. xs ++ rest (place_after p.functions (start p) before)) (sym (moves_again p.functions (start p) before))
+    ∙ ap (λ xs. xs ++ rest (run_state_after p.functions (start p) before)) (sym (moves_again p.functions (start p) before))
     ∙ ap (λ q. moves p (moves p before) ++ rest q) (sym (place_again p.functions (start p) before))
     ∙ sym (moves-append p.functions (start p) (moves p before) more)
 
 -- once there are so many, more picks change nothing
 pub full_stays : (p : Program) (limit : ℕ) (before more : List ℕ) → limit ≤ length (take limit (moves p before)) → take limit (moves p (before ++ more)) ≡ take limit (moves p before)
-full_stays p limit before more full = ap (take limit) (moves-append p.functions (start p) before more) ∙ first_full limit (moves p before) (moves_from p.functions (place_after p.functions (start p) before) more) full
+full_stays p limit before more full = ap (take limit) (moves-append p.functions (start p) before more) ∙ first_full limit (moves p before) (moves_from p.functions (run_state_after p.functions (start p) before) more) full
 
 -- ---- one pick
 
 pub passed_over : {A K : Type 0} (Keeps : K → List Tree → Type 0) (p : Program) (limit : ℕ) (before more : List ℕ) (e : Engine A K) → limit ≤ length e.journal.items → IsRun Keeps p (take limit (moves p before)) e → IsRun Keeps p (take limit (moves p (before ++ more))) e
 passed_over Keeps p limit before more e full run = subst (λ xs. IsRun Keeps p xs e) (sym (full_stays p limit before more (subst (λ js. limit ≤ length js) run.journaled full))) run
 
-module _ {A K G : Type 0} (Keeps : K → List Tree → Type 0) (Gives : G → List Told → Type 0) (p : Program) (limit : ℕ) (before : List ℕ) (x : ℕ) where
+module _ {A K G : Type 0} (Keeps : K → List Tree → Type 0) (Gives : G → List DefinedItem → Type 0) (p : Program) (limit : ℕ) (before : List ℕ) (x : ℕ) where
   -- the engine of these picks
   abbrev At : List ℕ → Engine A K → Type 0
   At picks e = IsRun Keeps p (take limit (moves p picks)) e
@@ -124,12 +124,12 @@ turns_in_all before once turn count below =
     append_assoc before (repeated once turn) (repeated once (count - turn)) ∙ ap (λ ys. before ++ ys) (repeated_sum once turn (count - turn) ∙ ap (repeated once) sum)
 
 -- where none of them moves, none moves later
-still : (ks : List Function) (q : Place) (once : List ℕ) (n : ℕ) → moves_from ks q once ≡ [] → moves_from ks q (repeated once n) ≡ []
+still : (ks : List Function) (q : RunState) (once : List ℕ) (n : ℕ) → moves_from ks q once ≡ [] → moves_from ks q (repeated once n) ≡ []
 still ks q once zero h = refl
 still ks q once (suc n) h =
-    let rest : Place → List ℕ = λ r. moves_from ks r (repeated once n) in
-    let back : place_after ks q once ≡ q = sym (place_again ks q once) ∙ ap (place_after ks q) h in
-    moves-append ks q once (repeated once n) ∙ ap (λ xs. xs ++ rest (place_after ks q once)) h ∙ ap rest back ∙ still ks q once n h
+    let rest : RunState → List ℕ = λ r. moves_from ks r (repeated once n) in
+    let back : run_state_after ks q once ≡ q = sym (place_again ks q once) ∙ ap (run_state_after ks q) h in
+    moves-append ks q once (repeated once n) ∙ ap (λ xs. xs ++ rest (run_state_after ks q once)) h ∙ ap rest back ∙ still ks q once n h
 
 -- the first of a list are the same with others behind it, where they are as many
 stays_short : (n : ℕ) (xs ys zs : List ℕ) → length (take n (xs ++ ys)) ≡ length (take n xs) → (ys ≡ [] → zs ≡ []) → take n (xs ++ zs) ≡ take n xs
@@ -145,7 +145,7 @@ pub ended : {A K : Type 0} (Keeps : K → List Tree → Type 0) (p : Program) (l
 ended Keeps p limit turn count before once old new below same was is =
     let ks : List Function = p.functions in
     let reached : List ℕ = before ++ repeated once turn in
-    let place : Place = place_after ks (start p) reached in
+    let place : RunState = run_state_after ks (start p) reached in
     let made : List ℕ = moves_from ks place once in
     let later : List ℕ = repeated once (count - turn) in
     let counted : length (take limit (moves p (reached ++ once))) ≡ length (take limit (moves p reached)) = sym (ap length is.journaled) ∙ same ∙ ap length was.journaled in

@@ -6,25 +6,25 @@ use Rattle.def_script.specs.Program.{Command, session_of, Program}
 use Rattle.def_node.specs.Event.{Event}
 use Rattle.def_node.specs.Node.{State, gives_events, gives_command, gives_nothing, next}
 use Rattle.def_script.specs.Opening.{Opening}
-use Rattle.def_run.specs.Run.{Shown, happened, commanded, Place, Turn, turn_of, start, place_after, events, moves}
+use Rattle.def_run.specs.Run.{Shown, happened, commanded, RunState, PickStep, pick_step, start, run_state_after, events, moves}
 use Rattle.def_script.specs.Opening.{opening}
-use Rattle.def_run.specs.Listing.{Item as Told, replies, replies_from, answers_from, shown_by, answer}
+use Rattle.def_run.specs.Listing.{Item as DefinedItem, replies, replies_from, answers_from, shown_by, answer}
 use Rattle.def_script.specs.Script.{creations}
 use Rattle.def_run.specs.Laws.{IsIdleAfter, IsNext, state_at}
 use Rattle.def_run.proofs.Appends.{shown-append, moves-append, place-append, replies-append}
 use Rattle.def_run.proofs.Nexts.{pick_is_next}
-use Rattle.def_run.proofs.Replay.{turn_kept}
+use Rattle.def_run.proofs.Replay.{pick_kept}
 use Rattle.tn_trace.specs.Tracks.{Track, tracks_from, with_command, with_events, told_by, reply_in, command_numbered}
 use Rattle.tn_trace.proofs.Tracking.{command_more_all, events_more_all, told_answers}
 use Rattle.tn_trace.proofs.Created.{is_created, reply_of, reply_is, never_created, no_creation}
 
 -- where the picks lead
-abbrev pub place_at : Program → List ℕ → Place
-place_at p picks = place_after p.functions (start p) picks
+abbrev pub place_at : Program → List ℕ → RunState
+place_at p picks = run_state_after p.functions (start p) picks
 
 -- the turn that one more pick is
-abbrev pub turn_at : Program → List ℕ → ℕ → Turn
-turn_at p picks x = turn_of p.functions (place_at p picks) x
+abbrev pub turn_at : Program → List ℕ → ℕ → PickStep
+turn_at p picks x = pick_step p.functions (place_at p picks) x
 
 abbrev pub tracks_at : Program → List ℕ → List Track
 tracks_at p picks = tracks_from (opening p) (events p picks) 1 (creations p.commands)
@@ -49,7 +49,7 @@ last_got (y ∷ xs) x = last_got xs x
 -- the answer of the last of picks that all move
 last_answer : (p : Program) (picks : List ℕ) (x : ℕ) → moves p (picks ++ x ∷ []) ≡ picks ++ x ∷ [] → answer p (picks ++ x ∷ []) (length picks) ≡ answers_from (opening p) (creations p.commands) (events p picks) (turn_at p picks x).shown
 last_answer p picks x all =
-    let shown : List ℕ → Option ℕ → List Told = λ before o. answers_from (opening p) (creations p.commands) (events p before) (shown_by p before o) in
+    let shown : List ℕ → Option ℕ → List DefinedItem = λ before o. answers_from (opening p) (creations p.commands) (events p before) (shown_by p before o) in
     ap (λ js. shown (take (length picks) js) (slice_get js (length picks))) all
     ∙ ap (λ before. shown before (slice_get (picks ++ x ∷ []) (length picks))) (taken_front picks x)
     ∙ ap (shown picks) (last_got picks x)
@@ -76,7 +76,7 @@ moved_so p picks x s shown all moved state are =
 pub nothing_pick : (p : Program) (picks : List ℕ) (x : ℕ) (s : State) → length (moves p picks) < 65536 → gives_nothing s ≡ next p (state_at p (place_at p picks)) x → (s ≡ state_at p (place_at p picks)) × IsIdleAfter p picks x
 nothing_pick p picks x s below h =
     let law : IsNext p (gives_nothing s) (turn_at p picks x) = subst (λ n. IsNext p n (turn_at p picks x)) (sym h) (pick_is_next p picks x below) in
-    (law.1 ∙ ap (λ (t : Turn). state_at p t.after) (turn_kept p.functions (place_at p picks) x law.0), law.0)
+    (law.1 ∙ ap (λ (t : PickStep). state_at p t.after) (pick_kept p.functions (place_at p picks) x law.0), law.0)
 
 -- ---- events
 

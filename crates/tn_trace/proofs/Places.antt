@@ -3,7 +3,7 @@ use Rattle.std.proofs.Common.{◌≡◌, ◌∙◌, ℕ, zero, suc, ◌+◌, ◌
 use Rattle.std.specs.Prelude.{MatchOption, Option, Some, None, if◌then◌else◌, Bool, true, false}
 use Rattle.std.proofs.Math.ListN.{set}
 use Rattle.def_node.specs.Event.{Event}
-use Rattle.def_run.specs.Listing.{Item as Told}
+use Rattle.def_run.specs.Listing.{Item as DefinedItem}
 use Rattle.std.specs.Str.{bytes_eq}
 use Rattle.std.proofs.lemmas.List.{drop_more, drop_all}
 use Rattle.def_term.specs.Tree.{Tree}
@@ -94,16 +94,16 @@ pub more_then : {G X : Type 0} (Gives : G → List X → Type 0) (fs bs : List X
 more_then Gives fs bs first now next a b = λ xs h. subst (Gives next) (append_assoc xs fs bs) (b (xs ++ fs) (a xs h))
 
 -- some events are told; what the others add follows
-pub record GoesOn {G E : Type 0} (Gives : G → List Told → Type 0) (v : E → Event) (ts us : List Track) (es : List E) (i : ℕ) (first now : G) : Type 0 where
+pub record GoesOn {G E : Type 0} (Gives : G → List DefinedItem → Type 0) (v : E → Event) (ts us : List Track) (es : List E) (i : ℕ) (first now : G) : Type 0 where
   pub sessions : with_events (map v es) ts ≡ with_events (map v (drop i es)) us
-  pub added : List Told
+  pub added : List DefinedItem
   pub given : AreMore Gives added first now
   pub all : told_by (map v es) ts ≡ added ++ told_by (map v (drop i es)) us
 
-pub goes_on_init : {G E : Type 0} (Gives : G → List Told → Type 0) (v : E → Event) (ts : List Track) (es : List E) (g : G) → GoesOn Gives v ts ts es 0 g g
+pub goes_on_init : {G E : Type 0} (Gives : G → List DefinedItem → Type 0) (v : E → Event) (ts : List Track) (es : List E) (g : G) → GoesOn Gives v ts ts es 0 g g
 goes_on_init Gives v ts es g = record { sessions = refl; added = []; given = none_more Gives g; all = refl }
 
-pub goes_on_more : {G E : Type 0} (Gives : G → List Told → Type 0) (v : E → Event) (ts us : List Track) (es : List E) (i : ℕ) (x : E) (first now next : G) → i < length es → x ≡ get_or es i x → AreMore Gives (flat_map (told_to (v x)) us) now next
+pub goes_on_more : {G E : Type 0} (Gives : G → List DefinedItem → Type 0) (v : E → Event) (ts us : List Track) (es : List E) (i : ℕ) (x : E) (first now next : G) → i < length es → x ≡ get_or es i x → AreMore Gives (flat_map (told_to (v x)) us) now next
     → GoesOn Gives v ts us es i first now → GoesOn Gives v ts (map (with_event (v x)) us) es (i + 1) first next
 goes_on_more Gives v ts us es i x first now next below is more so_far =
     let left : drop i es ≡ x ∷ drop (i + 1) es = drop_more es i x below ∙ ap (λ y. y ∷ drop (i + 1) es) (sym is) in
@@ -114,10 +114,10 @@ goes_on_more Gives v ts us es i x first now next below is more so_far =
       all = so_far.all ∙ ap (λ l. so_far.added ++ told_by (map v l) us) left ∙ sym (append_assoc so_far.added (flat_map (told_to (v x)) us) (told_by (map v (drop (i + 1) es)) (map (with_event (v x)) us)));
     }
 
-pub all_sessions : {G E : Type 0} (Gives : G → List Told → Type 0) (v : E → Event) (ts us : List Track) (es : List E) (i : ℕ) (first now : G) → length es ≤ i → GoesOn Gives v ts us es i first now → us ≡ with_events (map v es) ts
+pub all_sessions : {G E : Type 0} (Gives : G → List DefinedItem → Type 0) (v : E → Event) (ts us : List Track) (es : List E) (i : ℕ) (first now : G) → length es ≤ i → GoesOn Gives v ts us es i first now → us ≡ with_events (map v es) ts
 all_sessions Gives v ts us es i first now past h = sym (h.sessions ∙ ap (λ l. with_events (map v l) us) (drop_all i es past))
 
-pub all_given : {G E : Type 0} (Gives : G → List Told → Type 0) (v : E → Event) (ts us : List Track) (es : List E) (i : ℕ) (first now : G) → length es ≤ i → GoesOn Gives v ts us es i first now → AreMore Gives (told_by (map v es) ts) first now
+pub all_given : {G E : Type 0} (Gives : G → List DefinedItem → Type 0) (v : E → Event) (ts us : List Track) (es : List E) (i : ℕ) (first now : G) → length es ≤ i → GoesOn Gives v ts us es i first now → AreMore Gives (told_by (map v es) ts) first now
 all_given Gives v ts us es i first now past h = subst (λ xs. AreMore Gives xs first now) (sym (h.all ∙ ap (λ l. h.added ++ told_by (map v l) us) (drop_all i es past) ∙ append-nil h.added)) h.given
 
 -- ---- replies

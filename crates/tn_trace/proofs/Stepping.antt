@@ -7,7 +7,7 @@ use Rattle.def_session.specs.State.{alive_at_start}
 use Rattle.def_run.specs.Run.{moves}
 use Rattle.def_script.specs.Opening.{opening}
 use Rattle.def_run.specs.Laws.{state_at}
-use Rattle.def_run.specs.Listing.{Item as Told, replies}
+use Rattle.def_run.specs.Listing.{Item as DefinedItem, replies}
 use Rattle.tn_term.specs.Views.{alive_of}
 use Rattle.tn_flags.specs.Views.{event_of}
 use Rattle.tn_node.specs.Nodes.{IsAt, next_seen}
@@ -42,7 +42,7 @@ first_run Keeps p e node living sessions replied journaled = record {
 abbrev Answers : {A : Type 0} → Program → ℕ → Node A → Node A → Moved A → Type 0
 Answers p x old new m = (s : State) → IsAt p s old → (t : State) × IsAt p t new × (next_seen t m ≡ next p s x)
 
-module _ {A K G : Type 0} (Keeps : K → List Tree → Type 0) (Gives : G → List Told → Type 0) (p : Program) (picks : List ℕ) (x : ℕ) (old : Engine A K) (run : IsRun Keeps p picks old) (below : length picks < 65536) where
+module _ {A K G : Type 0} (Keeps : K → List Tree → Type 0) (Gives : G → List DefinedItem → Type 0) (p : Program) (picks : List ℕ) (x : ℕ) (old : Engine A K) (run : IsRun Keeps p picks old) (below : length picks < 65536) where
   few : length (moves p picks) < 65536
   few = subst (λ ks. length ks < 65536) (sym run.moved) below
 

@@ -13,7 +13,7 @@ use Rattle.def_script.specs.Opening.{Opening}
 use Rattle.def_session.specs.State.{absent, live, unset, alive_after}
 use Rattle.def_session.specs.Session.{event_told}
 use Rattle.def_session.specs.Commands.{command_done, done_absent}
-use Rattle.def_run.specs.Listing.{Item as Told}
+use Rattle.def_run.specs.Listing.{Item as DefinedItem}
 use Rattle.tn_flags.specs.Views.{command_of}
 use Rattle.tn_flags.specs.declared.command.Command as code
 use Rattle.tn_flags.specs.declared.command.Command.TheVariants.{SessionCreate, SessionDestroy, Process, Function, Send, Recv}
@@ -25,7 +25,7 @@ use Rattle.tn_trace.specs.Tracks.{Track, item_at, with_event, told_to, IsOneMore
 use Rattle.tn_trace.specs.Slots.{IsSession, IsTracked, Obeys, ObeysOwn}
 use Rattle.tn_trace.specs.declared.slot.Slot.{Slot}
 
-module _ {A K G : Type 0} (Keeps : K → List Tree → Type 0) (Gives : G → List Told → Type 0) (o : Opening) (living : Alive) (t : Track) (old : Slot A K) (h : IsTracked Keeps o living t old) where
+module _ {A K G : Type 0} (Keeps : K → List Tree → Type 0) (Gives : G → List DefinedItem → Type 0) (o : Opening) (living : Alive) (t : Track) (old : Slot A K) (h : IsTracked Keeps o living t old) where
   -- the session is there
   pub is_at : (session : Session A) → old.session ≡ Some session → IsAt o.functions t.session session
   is_at session is = subst (IsSession o.functions living t.session) is h.session

@@ -5,7 +5,7 @@ use Rattle.def_term.specs.Names.{Name}
 use Rattle.def_script.specs.Program.{Program}
 use Rattle.def_run.specs.Run.{JOURNAL, moves}
 use Rattle.def_run.specs.View.{view, strike_program, strike_picks}
-use Rattle.def_run.specs.Listing.{Item as Told, answer, messages, replies}
+use Rattle.def_run.specs.Listing.{Item as DefinedItem, answer, messages, replies}
 use Rattle.def_script.specs.Script.{creations}
 use Rattle.def_run.specs.Laws.{IsIdleAfter, IsDestroyedAfter}
 use Rattle.tn_term.specs.Views.{tree_of}
@@ -36,7 +36,7 @@ abbrev pub IsSpent : {A : Type 0} → Core A → Type 0
 IsSpent c = c.engine ≡ None
 
 -- the pick moved: the journal has it at its end, and the items are the answer of its move
-pub record MovesOn {A : Type 0} (p : Program) (picks : List ℕ) (pick : ℕ) (new : Core A) (items : List Told) : Type 0 where
+pub record MovesOn {A : Type 0} (p : Program) (picks : List ℕ) (pick : ℕ) (new : Core A) (items : List DefinedItem) : Type 0 where
   pub room : length picks < JOURNAL
   pub after : IsCore p (picks ++ pick ∷ []) new
   pub moved : moves p (picks ++ pick ∷ []) ≡ picks ++ pick ∷ []

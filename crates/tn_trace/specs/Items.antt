@@ -1,13 +1,13 @@
 -- What the code keeps of messages, and what it hands out.
 use Rattle.std.specs.Prelude.{◌≡◌, List, map}
 use Rattle.def_term.specs.Tree.{Tree}
-use Rattle.def_run.specs.Listing.{Item as Told, lines_of}
+use Rattle.def_run.specs.Listing.{Item as DefinedItem, lines_of}
 use Rattle.tn_term.specs.Views.{tree_of}
 use Rattle.tn_trace.specs.declared.item.Item.{Item}
 use Rattle.tn_trace.specs.declared.keeping.Terms.{Terms}
 use Rattle.tn_trace.specs.declared.keeping.Lines.{Lines}
 
-abbrev pub item_seen : {A : Type 0} → Item A → Told
+abbrev pub item_seen : {A : Type 0} → Item A → DefinedItem
 item_seen i = record { session = i.session; index = i.index; message = tree_of i.message }
 
 -- messages kept as terms

@@ -4,7 +4,7 @@ use Rattle.std.specs.Option.{option_map}
 use Rattle.std.specs.declared.alloc.AllocError.{AllocError}
 use Rattle.def_term.specs.Tree.{Tree}
 use Rattle.def_script.specs.Program.{Program}
-use Rattle.def_script.specs.Opening.{Opening}
+use Rattle.def_script.specs.Opening.{Opening, visible}
 use Rattle.tn_term.specs.Views.{tree_of, alive_of}
 use Rattle.tn_term.specs.declared.term.Term.{Term}
 use Rattle.tn_term.specs.declared.alive.Alive.{Alive}
@@ -12,7 +12,7 @@ use Rattle.tn_flags.specs.Views.{command_of}
 use Rattle.tn_flags.specs.declared.command.Command.{Command}
 use Rattle.tn_script.specs.Views.{functions_of}
 use Rattle.tn_script.specs.declared.form.Function.{Function}
-use Rattle.tn_trace.specs.Tracks.{Track, with_command, reply_from, visible}
+use Rattle.tn_trace.specs.Tracks.{Track, with_command, reply_from}
 use Rattle.tn_trace.specs.Slots.{IsTracked, Obeys, ObeysOwn, Each}
 use Rattle.tn_trace.specs.Runs.{AreTracked, Takes}
 use Rattle.tn_trace.specs.declared.slot.Slot.{Slot}

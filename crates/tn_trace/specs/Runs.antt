@@ -4,9 +4,9 @@ use Rattle.std.specs.declared.alloc.AllocError.{AllocError}
 use Rattle.def_term.specs.Tree.{Tree}
 use Rattle.def_script.specs.Program.{Command, Program}
 use Rattle.def_script.specs.Opening.{Opening}
-use Rattle.def_run.specs.Run.{JOURNAL, Place, start, place_after, events, moves}
+use Rattle.def_run.specs.Run.{JOURNAL, RunState, start, run_state_after, events, moves}
 use Rattle.def_script.specs.Opening.{opening}
-use Rattle.def_run.specs.Listing.{Item as Told, replies, answer}
+use Rattle.def_run.specs.Listing.{Item as DefinedItem, replies, answer}
 use Rattle.def_script.specs.Script.{creations}
 use Rattle.def_run.specs.Laws.{IsIdleAfter, state_at}
 use Rattle.tn_term.specs.Views.{alive_of}
@@ -16,8 +16,8 @@ use Rattle.tn_trace.specs.Slots.{IsTracked, Each}
 use Rattle.tn_trace.specs.declared.engine.Engine.{Engine}
 
 -- where the picks lead
-abbrev pub place_of : Program → List ℕ → Place
-place_of p picks = place_after p.functions (start p) picks
+abbrev pub place_of : Program → List ℕ → RunState
+place_of p picks = run_state_after p.functions (start p) picks
 
 -- the sessions after the picks
 abbrev pub tracks_of : Program → List ℕ → List Track
@@ -43,12 +43,12 @@ pub record IsRun {A K : Type 0} (Keeps : K → List Tree → Type 0) (p : Progra
   pub moved : moves p picks ≡ picks
 
 -- one more pick moved or not; the items are those that the move adds
-abbrev pub Steps : {A K G : Type 0} → (K → List Tree → Type 0) → (G → List Told → Type 0) → Program → List ℕ → ℕ → Bool → Engine A K → G → G → Type 0
+abbrev pub Steps : {A K G : Type 0} → (K → List Tree → Type 0) → (G → List DefinedItem → Type 0) → Program → List ℕ → ℕ → Bool → Engine A K → G → G → Type 0
 Steps Keeps Gives p picks pick true new given given' = IsRun Keeps p (picks ++ pick ∷ []) new × AreMore Gives (answer p (picks ++ pick ∷ []) (length picks)) given given'
 Steps Keeps Gives p picks pick false new given given' = IsRun Keeps p picks new × IsIdleAfter p picks pick × AreMore Gives [] given given'
 
 -- whatever picks led to the engine, where they leave room in the journal, one more is taken
-abbrev pub TakesPick : {A K G : Type 0} → (K → List Tree → Type 0) → (G → List Told → Type 0) → Program → ℕ → Engine A K → Engine A K → G → G → Result Bool AllocError → Type 0
+abbrev pub TakesPick : {A K G : Type 0} → (K → List Tree → Type 0) → (G → List DefinedItem → Type 0) → Program → ℕ → Engine A K → Engine A K → G → G → Result Bool AllocError → Type 0
 TakesPick Keeps Gives p pick old new given given' result =
     (picks : List ℕ) → IsRun Keeps p picks old → length picks < JOURNAL
     → IfOk result (λ moved. Steps Keeps Gives p picks pick moved new given given')

@@ -5,7 +5,7 @@ use Rattle.def_term.specs.Alive.{Alive}
 use Rattle.def_term.specs.Tree.{Tree}
 use Rattle.def_script.specs.Opening.{Opening}
 use Rattle.def_session.specs.State.{alive_after}
-use Rattle.def_run.specs.Listing.{Item as Told}
+use Rattle.def_run.specs.Listing.{Item as DefinedItem}
 use Rattle.tn_flags.specs.Views.{event_of}
 use Rattle.tn_flags.specs.declared.event.Event.{Event}
 use Rattle.tn_trace.specs.Tracks.{Track, with_event, with_events, told_to, told_by, AreMore}
@@ -21,7 +21,7 @@ Sees Keeps event old new result =
     → IfOk result (λ _. IsTracked Keeps o (alive_after living (event_of event)) (with_event (event_of event) t) new)
 
 -- what the session tells of the event was handed out
-abbrev pub HandsOut : {A K G : Type 0} → (K → List Tree → Type 0) → (G → List Told → Type 0) → Event A → Slot A K → G → G → Result (Unit {0}) AllocError → Type 0
+abbrev pub HandsOut : {A K G : Type 0} → (K → List Tree → Type 0) → (G → List DefinedItem → Type 0) → Event A → Slot A K → G → G → Result (Unit {0}) AllocError → Type 0
 HandsOut Keeps Gives event old given given' result =
     (o : Opening) (living : Alive) (t : Track) → IsTracked Keeps o living t old
     → IfOk result (λ _. AreMore Gives (told_to (event_of event) t) given given')
@@ -33,7 +33,7 @@ EachSees Keeps event old new result =
     → IfOk result (λ _. Each (IsTracked Keeps o (alive_after living (event_of event))) (map (with_event (event_of event)) ts) new)
 
 -- what each session tells of the event was handed out, by rising number
-abbrev pub EachHandsOut : {A K G : Type 0} → (K → List Tree → Type 0) → (G → List Told → Type 0) → Event A → List (Slot A K) → G → G → Result (Unit {0}) AllocError → Type 0
+abbrev pub EachHandsOut : {A K G : Type 0} → (K → List Tree → Type 0) → (G → List DefinedItem → Type 0) → Event A → List (Slot A K) → G → G → Result (Unit {0}) AllocError → Type 0
 EachHandsOut Keeps Gives event old given given' result =
     (o : Opening) (living : Alive) (ts : List Track) → Each (IsTracked Keeps o living) ts old
     → IfOk result (λ _. AreMore Gives (flat_map (told_to (event_of event)) ts) given given')
@@ -45,7 +45,7 @@ AllSee Keeps event old new result =
     → IfOk result (λ _. AreTracked Keeps o (map (with_event (event_of event)) ts) new)
 
 -- what they tell of it was handed out
-abbrev pub AllHandOut : {A K G : Type 0} → (K → List Tree → Type 0) → (G → List Told → Type 0) → Event A → Engine A K → G → G → Result (Unit {0}) AllocError → Type 0
+abbrev pub AllHandOut : {A K G : Type 0} → (K → List Tree → Type 0) → (G → List DefinedItem → Type 0) → Event A → Engine A K → G → G → Result (Unit {0}) AllocError → Type 0
 AllHandOut Keeps Gives event old given given' result =
     (o : Opening) (ts : List Track) → AreTracked Keeps o ts old
     → IfOk result (λ _. AreMore Gives (flat_map (told_to (event_of event)) ts) given given')
@@ -57,7 +57,7 @@ AllSeeEach Keeps events old new result =
     → IfOk result (λ _. AreTracked Keeps o (with_events (map event_of events) ts) new)
 
 -- what they tell of them was handed out
-abbrev pub AllHandOutEach : {A K G : Type 0} → (K → List Tree → Type 0) → (G → List Told → Type 0) → List (Event A) → Engine A K → G → G → Result (Unit {0}) AllocError → Type 0
+abbrev pub AllHandOutEach : {A K G : Type 0} → (K → List Tree → Type 0) → (G → List DefinedItem → Type 0) → List (Event A) → Engine A K → G → G → Result (Unit {0}) AllocError → Type 0
 AllHandOutEach Keeps Gives events old given given' result =
     (o : Opening) (ts : List Track) → AreTracked Keeps o ts old
     → IfOk result (λ _. AreMore Gives (told_by (map event_of events) ts) given given')

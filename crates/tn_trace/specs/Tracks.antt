@@ -13,7 +13,7 @@ use Rattle.def_session.specs.Session.{event_told}
 use Rattle.def_session.specs.Commands.{command_done}
 use Rattle.def_run.specs.Run.{Shown}
 use Rattle.def_run.specs.View.{is_own}
-use Rattle.def_run.specs.Listing.{Item as Told, messages_from, session_after}
+use Rattle.def_run.specs.Listing.{Item as DefinedItem, messages_from, session_after}
 
 -- a session of the control list, its state and its messages
 pub record Track : Type 0 where
@@ -21,10 +21,6 @@ pub record Track : Type 0 where
   pub name : Name
   pub session : Session
   pub messages : List Tree
-
--- the functions with their visibility
-abbrev pub visible : List Function → List (Mfa × Bool)
-visible ks = map (λ k. (mfa_of k, k.exported)) ks
 
 -- what the session of this number and name is after these items
 abbrev pub track_after : Opening → List Shown → ℕ → Name → Track
@@ -41,7 +37,7 @@ tracks_from o items n [] = []
 tracks_from o items n (s ∷ ss) = track_after o items n s.0 ∷ tracks_from o items (suc n) ss
 
 -- a message of the session of this number, at this index
-abbrev pub item_at : ℕ → ℕ → Tree → Told
+abbrev pub item_at : ℕ → ℕ → Tree → DefinedItem
 item_at n i m = record { session = n; index = i; message = m }
 
 -- after one more event
@@ -49,7 +45,7 @@ abbrev pub with_event : Event → Track → Track
 with_event e t = record t { session = (event_told t.session e).0; messages = t.messages ++ option_to_list (event_told t.session e).1 }
 
 -- what the event adds to the session's messages
-abbrev pub told_to : Event → Track → List Told
+abbrev pub told_to : Event → Track → List DefinedItem
 told_to e t = map (item_at t.number (length t.messages)) (option_to_list (event_told t.session e).1)
 
 -- after one more command, where it is the session's own
@@ -76,7 +72,7 @@ with_events [] ts = ts
 with_events (e ∷ es) ts = with_events es (map (with_event e) ts)
 
 -- what the events add, by their order, and for one event by rising session number
-abbrev pub told_by : List Event → List Track → List Told
+abbrev pub told_by : List Event → List Track → List DefinedItem
 told_by [] ts = []
 told_by (e ∷ es) ts = flat_map (told_to e) ts ++ told_by es (map (with_event e) ts)
 
@@ -89,7 +85,7 @@ abbrev pub AreMore : {K X : Type 0} → (K → List X → Type 0) → List X →
 AreMore {K} {X} Of more old new = (xs : List X) → Of old xs → Of new (xs ++ more)
 
 -- a message of the session of this number is handed out, at the index behind what was kept
-abbrev pub IsHandedOut : {K G : Type 0} → (K → List Tree → Type 0) → (G → List Told → Type 0) → ℕ → Tree → K → G → G → Result (Unit {0}) AllocError → Type 0
+abbrev pub IsHandedOut : {K G : Type 0} → (K → List Tree → Type 0) → (G → List DefinedItem → Type 0) → ℕ → Tree → K → G → G → Result (Unit {0}) AllocError → Type 0
 IsHandedOut Keeps Gives n m kept given given' result =
     (ts : List Tree) → Keeps kept ts → IfOk result (λ _. IsOneMore Gives (item_at n (length ts) m) given given')
 

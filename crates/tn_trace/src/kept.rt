@@ -9,7 +9,7 @@ use tn_term::Term;
 pub trait Kept<A: Allocator> {
     ghost use Rattle.std.specs.Prelude.{List, [], IfOk};
     ghost use Rattle.def_term.specs.Tree.{Tree};
-    ghost use Rattle.def_run.specs.Listing.{Item as Told};
+    ghost use Rattle.def_run.specs.Listing.{Item as DefinedItem};
     ghost use Rattle.tn_term.specs.Views.{tree_of};
     ghost use Rattle.tn_session.specs.Messages.{message_seen};
     ghost use Rattle.tn_trace.specs.Tracks.{IsOneMore, IsHandedOut};
@@ -20,7 +20,7 @@ pub trait Kept<A: Allocator> {
     ghost keeps: { Self → List Tree → Type 0 };
 
     /// It is what is handed out of these.
-    ghost gives: { Vec (Item A) A → List Told → Type 0 };
+    ghost gives: { Vec (Item A) A → List DefinedItem → Type 0 };
 
     /// What is kept of no message.
     fn nothing(alloc: A) -> Self

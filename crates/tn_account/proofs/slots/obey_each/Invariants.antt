@@ -7,7 +7,7 @@ use Rattle.tn_flags.specs.Views.{command_of}
 use Rattle.tn_script.specs.Views.{functions_of}
 use Rattle.tn_text.specs.Writes.{Grows}
 use Rattle.tn_trace.specs.Slots.{Each}
-use Rattle.tn_trace.specs.Tracks.{visible}
+use Rattle.def_script.specs.Opening.{visible}
 use Rattle.tn_account.specs.Standings.{Stands}
 use Rattle.tn_account.proofs.Making.{IsHalfway}
 use Rattle.tn_account.proofs.slots.obey_each.Given as goal

@@ -4,7 +4,8 @@ use Rattle.def_script.specs.Opening.{Opening}
 use Rattle.tn_term.specs.Views.{tree_of, alive_of}
 use Rattle.tn_flags.specs.Views.{command_of}
 use Rattle.tn_script.specs.Views.{functions_of}
-use Rattle.tn_trace.specs.Tracks.{Track, with_command, reply_from, visible}
+use Rattle.def_script.specs.Opening.{visible}
+use Rattle.tn_trace.specs.Tracks.{Track, with_command, reply_from}
 use Rattle.tn_trace.specs.Slots.{IsTracked, Each, EachUpTo}
 use Rattle.tn_trace.proofs.sessions.obey_each.Given as goal
 

@@ -3,7 +3,7 @@ use Rattle.std.specs.Option.{option_map}
 use Rattle.def_script.specs.Opening.{opening}
 use Rattle.tn_flags.specs.Views.{command_of}
 use Rattle.tn_program.specs.Views.{program_of}
-use Rattle.tn_trace.specs.Tracks.{visible}
+use Rattle.def_script.specs.Opening.{visible}
 use Rattle.tn_account.specs.Asks.{asked_seen}
 use Rattle.tn_account.proofs.Picks.{takes_none, takes_idle, takes_events, takes_command, takes_no_command}
 use Rattle.tn_account.proofs.run.Run.take.Goals as goal

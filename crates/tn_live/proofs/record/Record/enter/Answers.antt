@@ -1,6 +1,6 @@
 use Rattle.std.proofs.Common.{◌≡◌, ◌∙◌, ◌+◌, ◌++◌, ◌∷◌, [], List, map, Some, refl, ap, subst, append_assoc}
 use Rattle.tn_trace.specs.Items.{item_seen}
-use Rattle.tn_live.specs.declared.entry.Place.{Place}
+use Rattle.tn_live.specs.declared.entry.ItemPlace.{ItemPlace}
 use Rattle.tn_live.specs.Journal.{entry}
 use Rattle.tn_live.specs.Places.{place_of}
 use Rattle.tn_live.specs.Stepping.{AddsEntry}
@@ -16,6 +16,6 @@ show-requires-clause-begins g c =
 pub returns : goal.returns
 returns g c =
     let places : c.in-Ok.places.items ≡ map place_of (map item_seen c.args.items.items) = c.in-Ok.ensures ∙ ap (λ xs. map place_of (map item_seen xs)) c.deref.ensures.value in
-    let adds = subst (λ (ps : List Place). AddsEntry c.args.seen.now.number c.args.pick ps c.args.self.now c.add.new.self) places c.in-Ok-add.ensures.added in
+    let adds = subst (λ (ps : List ItemPlace). AddsEntry c.args.seen.now.number c.args.pick ps c.args.self.now c.add.new.self) places c.in-Ok-add.ensures.added in
     enters g.J.Naming.program c.args.self.now c.add.new.self c.args.seen.now _ c.args.pick _ c.requires.moved c.requires.seen c.requires.begins adds c.show.ensures.front c.show.ensures.entries c.show.ensures.number
     (ap (λ m. m + 1) c.show.ensures.made) (ap Some c.in-Ok-add.ensures.number) c.show.ensures.number c.in-Ok-add.ensures.number refl

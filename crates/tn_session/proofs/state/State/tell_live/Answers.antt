@@ -1,7 +1,7 @@
 use Rattle.std.proofs.Common.{◌∙◌, None, [], refl, sym, ap}
 use Rattle.tn_flags.specs.Views.{event_of}
 use Rattle.tn_session.specs.Views.{state_seen}
-use Rattle.tn_session.specs.Told.{given}
+use Rattle.tn_session.specs.Telling.{given}
 use Rattle.tn_session.proofs.Telling.{told_is, live_case}
 use Rattle.tn_session.proofs.state.State.tell_live.Goals as goal
 
