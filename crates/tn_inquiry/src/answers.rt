@@ -104,8 +104,7 @@ pub fn prepare<A: Allocator + Copy, R: Read>(
     reader: &mut Watched<R>,
     inquiry: &Inquiry<'_>,
 ) -> Result<(Told, Vec<u8, A>), RunFault>
-    ensures answer { IfOk result
-        (λ r. Tells (R.remaining (watched_inner reader.old)) inquiry.now r.0 r.1.items) }
+    ensures answer { IfOk result (λ r. Tells (R.remaining (watched_inner reader.old)) inquiry.now r.0 r.1.items) }
     ensures taken { OnOk result (TakesFor inquiry.now
         (R.remaining (watched_inner reader.old)) (R.remaining (watched_inner reader.new))) }
     ensures unread { HasBadPicks inquiry.now.picks.now → reader.new ≡ reader.old }
