@@ -22,8 +22,7 @@ use tn_text::{MAX_TEXT, Watched};
 
 /// The line of a refusal.
 fn refused<A: Allocator>(alloc: A, refusal: Refusal) -> Result<(Told, Vec<u8, A>), RunFault>
-    ensures { MatchResult result
-        (λ r. (r.0 ≡ Told.Refused refusal) × (r.1.items ≡ refusal_text (refusal_of refusal)))
+    ensures { MatchResult result (λ r. (r.0 ≡ Told.Refused refusal) × (r.1.items ≡ refusal_text (refusal_of refusal)))
         (λ e. e ≡ RunFault.OutOfMemory) }
 {
     let Ok(line) = refusal_bytes(alloc, refusal) else {
