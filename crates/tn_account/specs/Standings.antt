@@ -1,14 +1,20 @@
 -- What the code's sessions of an account stand for, and what becomes of them.
-use Rattle.std.specs.Prelude.{◌≡◌, ℕ, List, ◌∷◌, ◌++◌, map, Result, OnOk}
+use Rattle.std.specs.Prelude.{◌≡◌, ℕ, List, [], ◌∷◌, ◌++◌, map, Result, OnOk}
 use Rattle.std.specs.declared.alloc.AllocError.{AllocError}
 use Rattle.def_term.specs.Alive.{Alive}
-use Rattle.def_script.specs.Opening.{Opening}
-use Rattle.def_run.specs.Run.{Shown}
+use Rattle.def_script.specs.Program.{Function, Command}
+use Rattle.def_script.specs.Opening.{Opening, visible}
+use Rattle.def_node.specs.Event.{Event}
+use Rattle.def_session.specs.State.{alive_after}
+use Rattle.def_run.specs.Run.{Shown, happened, commanded}
 use Rattle.def_account.specs.Runs.{Standing, lines_of, after, shows, makes, made_by_all, all_after, all_behind, entries_over, entries_of_move}
 use Rattle.tn_term.specs.Views.{alive_of}
+use Rattle.tn_flags.specs.Views.{command_of}
+use Rattle.tn_script.specs.Views.{functions_of}
 use Rattle.tn_trace.specs.Slots.{IsSession, Each}
 use Rattle.tn_trace.specs.declared.slot.Slot.{Slot}
 use Rattle.tn_account.specs.Asks.{text_by}
+use Rattle.tn_account.specs.declared.slots.Order.{Order}
 use Rattle.tn_account.specs.declared.step.Step.{Step}
 use Rattle.tn_account.specs.declared.unkept.Unkept.{Unkept}
 use Rattle.tn_account.specs.declared.sessions.Sessions.{Sessions}
@@ -34,6 +40,28 @@ EachMakes step o living living' x old new text text' result =
     (ss : List Standing) → Each (Stands o living) ss old
     → OnOk result (Each (Stands o living') (all_after o ss x) new × (text' ≡ text ++ text_by step (made_by_all o ss x)))
 
+-- where a session saw an event, whoever lived before it, what it makes of it was appended as far as it is asked for
+abbrev pub OneTells : {A : Type 0} → Step → Event → Slot A Unkept → Slot A Unkept → List ℕ → List ℕ → Result (Unit {0}) AllocError → Type 0
+OneTells step e old new text text' result =
+    (o : Opening) (living : Alive) → OneMakes step o living (alive_after living e) (happened e) old new text text' result
+
+-- the same of all sessions
+abbrev pub EachTells : {A : Type 0} → Step → Event → List (Slot A Unkept) → List (Slot A Unkept) → List ℕ → List ℕ → Result (Unit {0}) AllocError → Type 0
+EachTells step e old new text text' result =
+    (o : Opening) (living : Alive) → EachMakes step o living (alive_after living e) (happened e) old new text text' result
+
+-- where a session saw a command, what it makes of it was appended as far as it is asked for; nobody starts or ends by it
+abbrev pub OneObeys : {A : Type 0} → Step → Order A → Slot A Unkept → Slot A Unkept → List ℕ → List ℕ → Result (Unit {0}) AllocError → Type 0
+OneObeys step order old new text text' result =
+    (o : Opening) → o.functions ≡ visible (functions_of order.functions.now) →
+    OneMakes step o (alive_of order.living) (alive_of order.living) (commanded (command_of order.command.now)) old new text text' result
+
+-- the same of all sessions
+abbrev pub EachObeys : {A : Type 0} → Step → Order A → List (Slot A Unkept) → List (Slot A Unkept) → List ℕ → List ℕ → Result (Unit {0}) AllocError → Type 0
+EachObeys step order old new text text' result =
+    (o : Opening) → o.functions ≡ visible (functions_of order.functions.now) →
+    EachMakes step o (alive_of order.living) (alive_of order.living) (commanded (command_of order.command.now)) old new text text' result
+
 -- the sessions saw what is shown, and it was appended with what they make of it, as far as it is asked for
 abbrev pub ShowsOne : {A : Type 0} → Step → Opening → Shown → Sessions A → Sessions A → List ℕ → List ℕ → Result (Unit {0}) AllocError → Type 0
 ShowsOne step o x old new text text' result =
@@ -51,3 +79,8 @@ abbrev pub ShowsMove : {A : Type 0} → Step → Opening → List Shown → Sess
 ShowsMove step o xs old new text text' result =
     (ss : List Standing) → AreStanding o ss old
     → OnOk result (AreStanding o (all_behind o ss xs) new × (text' ≡ text ++ text_by step (entries_of_move o step.number step.pick ss xs)))
+
+-- the same of a command, which is all that its move shows, over the functions of the program
+abbrev pub ShowsCommand : {A : Type 0} → Step → List Function → Command → Sessions A → Sessions A → List ℕ → List ℕ → Result (Unit {0}) AllocError → Type 0
+ShowsCommand step ks k old new text text' result =
+    (o : Opening) → o.functions ≡ visible ks → ShowsMove step o (commanded k ∷ []) old new text text' result

@@ -18,15 +18,15 @@ pub(crate) struct Sessions<A: Allocator> {
 }
 
 impl<A: Allocator + Copy> Sessions<A> {
-    ghost use Rattle.std.specs.Prelude.{◌≡◌, ◌∷◌, [], IfOk, map};
-    ghost use Rattle.def_script.specs.Opening.{Opening, opening, visible};
-    ghost use Rattle.def_run.specs.Run.{happened, commanded};
+    ghost use Rattle.std.specs.Prelude.{IfOk, map};
+    ghost use Rattle.def_script.specs.Opening.{Opening, opening};
+    ghost use Rattle.def_run.specs.Run.{happened};
     ghost use Rattle.def_account.specs.Runs.{standings};
     ghost use Rattle.tn_flags.specs.Views.{event_of, command_of};
     ghost use Rattle.tn_script.specs.Views.{functions_of};
     ghost use Rattle.tn_program.specs.Views.{program_of};
     ghost use Rattle.tn_text.specs.Writes.{Grows};
-    ghost use Rattle.tn_account.specs.Standings.{AreStanding, ShowsOne, ShowsAll, ShowsMove};
+    ghost use Rattle.tn_account.specs.Standings.{AreStanding, ShowsOne, ShowsAll, ShowsMove, ShowsCommand};
 
     /// The sessions of a program, before they are created.
     pub fn new(alloc: A, program: &Program<A>) -> Result<Sessions<A>, AllocError>
@@ -100,8 +100,7 @@ impl<A: Allocator + Copy> Sessions<A> {
         command: &Command<A>,
         out: &mut Vec<u8, A>,
     ) -> Result<(), AllocError>
-        ensures ok { (o : Opening) → o.functions ≡ visible (functions_of functions.now) →
-            ShowsMove step.now o (commanded (command_of command.now) ∷ [])
+        ensures ok { ShowsCommand step.now (functions_of functions.now) (command_of command.now)
             self.old self.new out.old.items out.new.items result }
         ensures grows { Grows out.old.items out.new.items }
     {

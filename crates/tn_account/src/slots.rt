@@ -1,14 +1,7 @@
 // The sessions of the control list side by side, each seeing what a move shows.
-ghost use Rattle.def_term.specs.Alive as alive;
-ghost use Rattle.def_script.specs.Opening.{Opening, visible};
-ghost use Rattle.def_session.specs.State.{alive_after};
-ghost use Rattle.def_run.specs.Run.{happened, commanded};
-ghost use Rattle.std.specs.Prelude.{◌≡◌};
-ghost use Rattle.tn_term.specs.Views.{alive_of};
-ghost use Rattle.tn_flags.specs.Views.{event_of, command_of};
-ghost use Rattle.tn_script.specs.Views.{functions_of};
+ghost use Rattle.tn_flags.specs.Views.{event_of};
 ghost use Rattle.tn_text.specs.Writes.{Grows};
-ghost use Rattle.tn_account.specs.Standings.{OneMakes, EachMakes};
+ghost use Rattle.tn_account.specs.Standings.{OneTells, EachTells, OneObeys, EachObeys};
 
 use crate::step::Step;
 use crate::unkept::Unkept;
@@ -35,9 +28,7 @@ fn tell_one<A: Allocator + Copy>(
     event: &Event<A>,
     out: &mut Vec<u8, A>,
 ) -> Result<(), AllocError>
-    ensures ok { (o : Opening) (living : alive.Alive) →
-        OneMakes step.now o living (alive_after living (event_of event.now)) (happened (event_of event.now))
-        slot.old slot.new out.old.items out.new.items result }
+    ensures ok { OneTells step.now (event_of event.now) slot.old slot.new out.old.items out.new.items result }
     ensures grows { Grows out.old.items out.new.items }
 {
     let is_asked = step.is_asked_of(&slot.name);
@@ -60,9 +51,8 @@ pub(crate) fn tell_each<A: Allocator + Copy>(
     event: &Event<A>,
     out: &mut Vec<u8, A>,
 ) -> Result<(), AllocError>
-    ensures ok { (o : Opening) (living : alive.Alive) →
-        EachMakes step.now o living (alive_after living (event_of event.now)) (happened (event_of event.now))
-        slots.old.items slots.new.items out.old.items out.new.items result }
+    ensures ok { EachTells step.now (event_of event.now) slots.old.items slots.new.items
+        out.old.items out.new.items result }
     ensures grows { Grows out.old.items out.new.items }
 {
     for place in 0..slots.len() {
@@ -79,9 +69,7 @@ fn obey_one<A: Allocator + Copy>(
     order: &Order<'_, A>,
     out: &mut Vec<u8, A>,
 ) -> Result<(), AllocError>
-    ensures ok { (o : Opening) → o.functions ≡ visible (functions_of order.now.functions.now) →
-        OneMakes step.now o (alive_of order.now.living) (alive_of order.now.living)
-        (commanded (command_of order.now.command.now)) slot.old slot.new out.old.items out.new.items result }
+    ensures ok { OneObeys step.now order.now slot.old slot.new out.old.items out.new.items result }
     ensures grows { Grows out.old.items out.new.items }
 {
     let reply = slot.obey(alloc, order.functions, order.living, order.command)?;
@@ -103,10 +91,7 @@ pub(crate) fn obey_each<A: Allocator + Copy>(
     order: &Order<'_, A>,
     out: &mut Vec<u8, A>,
 ) -> Result<(), AllocError>
-    ensures ok { (o : Opening) → o.functions ≡ visible (functions_of order.now.functions.now) →
-        EachMakes step.now o (alive_of order.now.living) (alive_of order.now.living)
-        (commanded (command_of order.now.command.now)) slots.old.items slots.new.items
-        out.old.items out.new.items result }
+    ensures ok { EachObeys step.now order.now slots.old.items slots.new.items out.old.items out.new.items result }
     ensures grows { Grows out.old.items out.new.items }
 {
     for place in 0..slots.len() {

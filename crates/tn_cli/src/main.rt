@@ -232,6 +232,7 @@ fn start<R: Env + Input + Files + Print + Eprint + AllocGlobal + Threads + Wait 
     }
 }
 
+/// The program with the runtime of its process.
 fn main(rt: HostRuntime) -> ExitCode {
     start(&rt)
 }

@@ -71,8 +71,7 @@ impl<W: Write> Write for Noted<W> {
     }
 
     fn flush(&mut self) -> Result<()>
-        ensures bytes { Keeps (W.contents (noted_inner self.old))
-            (W.contents (noted_inner self.new)) }
+        ensures bytes { Keeps (W.contents (noted_inner self.old)) (W.contents (noted_inner self.new)) }
         ensures kept { self.new.error ≡ latest result self.old.error }
     {
         let result = self.inner.flush();

@@ -46,6 +46,7 @@ fn holds_if(a: bool, b: bool) -> bool
     a || !b
 }
 
+/// No flag.
 const NONE: Flags = Flags {
     send: false,
     receive: false,

@@ -22,8 +22,7 @@ use tn_text::{MAX_TEXT, Watched};
 
 /// The line of a refusal.
 fn refused<A: Allocator>(alloc: A, refusal: Refusal) -> Result<(Told, Vec<u8, A>), RunFault>
-    ensures { MatchResult result
-        (λ r. (r.0 ≡ Told.Refused refusal) × (r.1.items ≡ refusal_text (refusal_of refusal)))
+    ensures { MatchResult result (λ r. (r.0 ≡ Told.Refused refusal) × (r.1.items ≡ refusal_text (refusal_of refusal)))
         (λ e. e ≡ RunFault.OutOfMemory) }
 {
     let Ok(line) = refusal_bytes(alloc, refusal) else {
@@ -104,8 +103,7 @@ pub fn prepare<A: Allocator + Copy, R: Read>(
     reader: &mut Watched<R>,
     inquiry: &Inquiry<'_>,
 ) -> Result<(Told, Vec<u8, A>), RunFault>
-    ensures answer { IfOk result
-        (λ r. Tells (R.remaining (watched_inner reader.old)) inquiry.now r.0 r.1.items) }
+    ensures answer { IfOk result (λ r. Tells (R.remaining (watched_inner reader.old)) inquiry.now r.0 r.1.items) }
     ensures taken { OnOk result (TakesFor inquiry.now
         (R.remaining (watched_inner reader.old)) (R.remaining (watched_inner reader.new))) }
     ensures unread { HasBadPicks inquiry.now.picks.now → reader.new ≡ reader.old }

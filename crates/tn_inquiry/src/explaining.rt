@@ -38,9 +38,8 @@ pub fn explain<A: Allocator + Copy, R: Read, W: Write>(
     ensures read { IsErrOf result RunFault.Read → has_failed reader.new ≡ true }
     ensures read_wrote_nothing { IsErrOf result RunFault.Read → writer.new ≡ writer.old }
     ensures write { (n : ℕ) → IsErrOf result (RunFault.Write n) → has_failed writer.new ≡ true }
-    ensures written { (n : ℕ) → IsErrOf result (RunFault.Write n) →
-        WritesSome (R.remaining (watched_inner reader.old)) inquiry.now
-        (W.contents (watched_inner writer.old)) (W.contents (watched_inner writer.new)) n }
+    ensures written { (n : ℕ) → IsErrOf result (RunFault.Write n) → WritesSome (R.remaining (watched_inner reader.old))
+        inquiry.now (W.contents (watched_inner writer.old)) (W.contents (watched_inner writer.new)) n }
     ensures write_took { (n : ℕ) → IsErrOf result (RunFault.Write n) → TakesFor inquiry.now
         (R.remaining (watched_inner reader.old)) (R.remaining (watched_inner reader.new)) }
     ensures memory { IsErrOf result RunFault.OutOfMemory → has_failed reader.new ≡ has_failed reader.old }

@@ -51,9 +51,8 @@ impl<A: Allocator + Copy> Lines<'_, A> {
         context: &Context<'_, A>,
         out: &mut Vec<u8, A>,
     ) -> Result<Evaluation, AllocError>
-        ensures ok { IfOk result (λ r.
-            GivesBySetting self.now.name.now (lent_seen setting.entry) (context_seen context.now)
-            out.old.items out.new.items r) }
+        ensures ok { IfOk result (λ r. GivesBySetting self.now.name.now (lent_seen setting.entry)
+            (context_seen context.now) out.old.items out.new.items r) }
         ensures grows { Grows out.old.items out.new.items }
     {
         match setting {
@@ -74,9 +73,8 @@ impl<A: Allocator + Copy> Lines<'_, A> {
         context: &Context<'_, A>,
         out: &mut Vec<u8, A>,
     ) -> Result<Evaluation, AllocError>
-        ensures ok { IfOk result (λ r.
-            GivesBySetting self.now.name.now (by (spec_seen spec.now)) (context_seen context.now)
-            out.old.items out.new.items r) }
+        ensures ok { IfOk result (λ r. GivesBySetting self.now.name.now (by (spec_seen spec.now))
+            (context_seen context.now) out.old.items out.new.items r) }
         ensures grows { Grows out.old.items out.new.items }
     {
         let arena = Bump::new(self.alloc);
@@ -91,9 +89,8 @@ impl<A: Allocator + Copy> Lines<'_, A> {
         context: &Context<'a, A>,
         out: &mut Vec<u8, A>,
     ) -> Result<Evaluation, AllocError>
-        ensures ok { IfOk result (λ r.
-            GivesBySetting self.now.name.now (by (spec_seen spec.now)) (context_seen context.now)
-            out.old.items out.new.items r) }
+        ensures ok { IfOk result (λ r. GivesBySetting self.now.name.now (by (spec_seen spec.now))
+            (context_seen context.now) out.old.items out.new.items r) }
         ensures grows { Grows out.old.items out.new.items }
     {
         let clauses = &spec.clauses;

@@ -25,8 +25,7 @@ pub enum PicksFault {
 
 /// The number that the piece writes, without a leading zero.
 fn number(piece: &[u8]) -> Option<u32>
-    ensures { MatchOption result ((n : ℕ) → n < 2 ^ 32 → piece.now ≢ decimal n)
-        (λ n. piece.now ≡ decimal n) }
+    ensures { MatchOption result ((n : ℕ) → n < 2 ^ 32 → piece.now ≢ decimal n) (λ n. piece.now ≡ decimal n) }
 {
     if piece.is_empty() || piece[0] == b'+' {
         return None;
@@ -63,8 +62,7 @@ fn first_piece(text: &[u8]) -> (&[u8], Option<&[u8]>)
 pub fn read_picks<A: Allocator>(alloc: A, text: &[u8]) -> Result<Vec<u32, A>, PicksFault>
     ensures picks { IfOk result (λ v. SpellsPicks text.now v.items) }
     ensures alone { IfOk result (λ v. (picks : List ℕ) → SpellsPicks text.now picks → picks ≡ v.items) }
-    ensures bad { IsErrOf result PicksFault.BadPicks →
-        (picks : List ℕ) → SpellsPicks text.now picks → ⊥ }
+    ensures bad { IsErrOf result PicksFault.BadPicks → (picks : List ℕ) → SpellsPicks text.now picks → ⊥ }
 {
     if text.len() > MAX_TEXT {
         return Err(PicksFault::BadPicks);

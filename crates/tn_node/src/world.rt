@@ -40,6 +40,7 @@ impl<A: Allocator + Copy> World<A> {
         Ok(World { slots })
     }
 
+    /// The place of the process with this pid; None where none with it lives.
     fn living(&self, pid: u32) -> Option<usize>
         ensures place { result ≡ living (world_of self.now) pid }
         ensures within { IfSome result (λ i. (i < length self.now.slots.items) × (pid ≡ 100 + i)) }
@@ -68,6 +69,7 @@ impl<A: Allocator + Copy> World<A> {
         }
     }
 
+    /// Whether the process at this place has a link to the pid.
     fn is_linked(&self, place: usize, pid: u32) -> bool
         requires { place < length self.now.slots.items }
         ensures linked { result ≡ linked_at (world_of self.now) place pid }
@@ -79,6 +81,7 @@ impl<A: Allocator + Copy> World<A> {
         }
     }
 
+    /// The process at this place gets the message; where none is there, nothing changes.
     fn put_message(&mut self, place: usize, message: Term<A>) -> Result<(), AllocError>
         requires { place < length self.old.slots.items }
         ensures { IfOk result (λ _. ChangesAt self.old self.new place (with_message (tree_of message))) }
@@ -92,6 +95,7 @@ impl<A: Allocator + Copy> World<A> {
         }
     }
 
+    /// The process at this place has a link to the pid from now on, or has none.
     fn set_link(&mut self, place: usize, pid: u32, linked: bool)
         requires place_within { place < length self.old.slots.items }
         requires low { 100 ≤ pid }
@@ -105,6 +109,7 @@ impl<A: Allocator + Copy> World<A> {
         }
     }
 
+    /// The process at this place gets an exit signal; where none is there, nothing changes.
     fn put_signal(&mut self, place: usize, reason: Term<A>)
         requires { place < length self.old.slots.items }
         ensures { ChangesAt self.old self.new place (with_signal (tree_of reason)) }

@@ -60,6 +60,7 @@ fn start<R: Env + Input + Files + Print + Eprint + AllocGlobal>(rt: &R) -> ExitC
     }
 }
 
+/// The program with the runtime of its process.
 fn main(rt: HostRuntime) -> ExitCode {
     start(&rt)
 }

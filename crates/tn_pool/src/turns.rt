@@ -25,8 +25,10 @@ const FIRST_PID: u32 = 100;
 /// The number behind the last pid.
 const PIDS_END: u32 = 164;
 
+/// The queue that the tokens go through.
 type Turns<A> = Injector<Token, A, Hand, Exclusive>;
 
+/// A pass for that queue: what it holds of it.
 type Pass<A> = InjectorPass<Token, Hand, A>;
 
 /// One worker's end of the run queue. Contracts see it as its view, the slots that it holds.

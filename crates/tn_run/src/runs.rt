@@ -57,8 +57,7 @@ fn output_of<A: Allocator + Copy>(
     text: &[u8],
     plan: Plan<'_>,
 ) -> Result<(Outcome, Vec<u8, A>), RunFault>
-    ensures { MatchResult result
-        (λ r. (a : Asked) → IsPlanOf a plan.entry → IsRunOf text.now a r.0 r.1.items)
+    ensures { MatchResult result (λ r. (a : Asked) → IsPlanOf a plan.entry → IsRunOf text.now a r.0 r.1.items)
         (λ e. e ≡ RunFault.OutOfMemory) }
 {
     let program = match accept(alloc, text) {
@@ -147,9 +146,8 @@ pub fn run<A: Allocator + Copy, R: Read, W: Write>(
     ensures read { IsErrOf result RunFault.Read → has_failed reader.new ≡ true }
     ensures read_wrote_nothing { IsErrOf result RunFault.Read → writer.new ≡ writer.old }
     ensures write { (n : ℕ) → IsErrOf result (RunFault.Write n) → has_failed writer.new ≡ true }
-    ensures written { (n : ℕ) → IsErrOf result (RunFault.Write n) →
-        WritesSome (R.remaining (watched_inner reader.old)) (asked schedule.entry)
-        (W.contents (watched_inner writer.old)) (W.contents (watched_inner writer.new)) n }
+    ensures written { (n : ℕ) → IsErrOf result (RunFault.Write n) → WritesSome (R.remaining (watched_inner reader.old))
+        (asked schedule.entry) (W.contents (watched_inner writer.old)) (W.contents (watched_inner writer.new)) n }
     ensures write_took { (n : ℕ) → IsErrOf result (RunFault.Write n) → TakesFor (asked schedule.entry)
         (R.remaining (watched_inner reader.old)) (R.remaining (watched_inner reader.new)) }
     ensures memory { IsErrOf result RunFault.OutOfMemory → has_failed reader.new ≡ has_failed reader.old }

@@ -294,6 +294,7 @@ fn evaluated_by<A: Allocator + Copy>(
 
 // ---- effects
 
+/// The flag `silent` alone.
 const SILENT: Flags = Flags {
     send: false,
     receive: false,

@@ -55,6 +55,7 @@ impl<A: Allocator> Atom<A> {
         self.text.as_str()
     }
 
+    /// The same atom in another allocator.
     pub fn copy_into<B: Allocator>(&self, b: B) -> Result<Atom<B>, AllocError>
         ensures { IfOk result (λ a. a ≡ self.now) }
     {

@@ -7,6 +7,7 @@ use crate::term::Term;
 use std::alloc::Allocator;
 use std::cmp::Ordering;
 
+/// Whether both are the same term.
 #[cycle(same)]
 pub fn same_term<A: Allocator, B: Allocator>(one: &Term<A>, other: &Term<B>) -> bool
     ensures { IsTrue result ↔ (tree_of one.now ≡ tree_of other.now) }
@@ -37,6 +38,7 @@ pub fn same_terms<A: Allocator, B: Allocator>(one: &[Term<A>], other: &[Term<B>]
     true
 }
 
+/// The rank of a term's kind: kinds are in the order integers, atoms, pids, tuples, lists.
 fn rank_of<A: Allocator>(term: &Term<A>) -> u8
     ensures { result ≡ rank (tree_of term.now) }
 {
@@ -49,6 +51,7 @@ fn rank_of<A: Allocator>(term: &Term<A>) -> u8
     }
 }
 
+/// The order of two terms.
 #[cycle(order)]
 pub fn order_terms<A: Allocator, B: Allocator>(one: &Term<A>, other: &Term<B>) -> Ordering
     ensures { result ≡ tree_cmp (tree_of one.now) (tree_of other.now) }
@@ -66,6 +69,7 @@ pub fn order_terms<A: Allocator, B: Allocator>(one: &Term<A>, other: &Term<B>) -
     }
 }
 
+/// The order of two lists of terms: that of the first unequal two, then that of the lengths.
 #[cycle(order)]
 fn order_all<A: Allocator, B: Allocator>(v: &Vec<Term<A>, A>, w: &Vec<Term<B>, B>) -> Ordering
     ensures { result ≡ trees_cmp (trees_of v.now.items) (trees_of w.now.items) }

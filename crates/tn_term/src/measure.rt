@@ -7,6 +7,7 @@ use crate::term::Term;
 use std::alloc::Allocator;
 
 impl<A: Allocator> Term<A> {
+    /// How deep its tuples and lists nest: 0 for a term that is neither.
     #[cycle(depth)]
     pub fn depth(&self) -> u64
         ensures { result ≡ min (nesting (tree_of self.now)) u64.MAX }
@@ -17,6 +18,7 @@ impl<A: Allocator> Term<A> {
         }
     }
 
+    /// How many terms it consists of, with itself.
     #[cycle(size)]
     pub fn size(&self) -> u64
         ensures { result ≡ min (extent (tree_of self.now)) u64.MAX }
@@ -28,6 +30,7 @@ impl<A: Allocator> Term<A> {
     }
 }
 
+/// The greatest depth of the terms; 0 where there are none.
 #[cycle(depth)]
 fn deepest<A: Allocator>(items: &Vec<Term<A>, A>) -> u64
     ensures { result ≡ min (greatest_depth (trees_of items.now.items)) u64.MAX }
@@ -39,6 +42,7 @@ fn deepest<A: Allocator>(items: &Vec<Term<A>, A>) -> u64
     greatest
 }
 
+/// The sum of the sizes of the terms.
 #[cycle(size)]
 fn total_size<A: Allocator>(items: &Vec<Term<A>, A>) -> u64
     ensures { result ≡ min (sum_of_sizes (trees_of items.now.items)) u64.MAX }

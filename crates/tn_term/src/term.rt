@@ -9,6 +9,7 @@ use crate::compare::{order_terms, same_term};
 use std::alloc::{AllocError, Allocator};
 use std::cmp::Ordering;
 
+/// A term: an integer, an atom, a pid, a tuple or a list.
 #[derive(Drop)]
 pub enum Term<A: Allocator> {
     Int(i64),
@@ -19,18 +20,21 @@ pub enum Term<A: Allocator> {
 }
 
 impl<A: Allocator> Term<A> {
+    /// The same term in another allocator.
     pub fn copy_into<B: Allocator + Copy>(&self, b: B) -> Result<Term<B>, AllocError>
         ensures { IfOk result (λ t. tree_of t ≡ tree_of self.now) }
     {
         copy_term(self, b)
     }
 
+    /// Whether both are the same term.
     pub fn same<B: Allocator>(&self, other: &Term<B>) -> bool
         ensures { IsTrue result ↔ (tree_of self.now ≡ tree_of other.now) }
     {
         same_term(self, other)
     }
 
+    /// The order of the two terms.
     pub fn order<B: Allocator>(&self, other: &Term<B>) -> Ordering
         ensures { result ≡ tree_cmp (tree_of self.now) (tree_of other.now) }
     {

@@ -12,6 +12,7 @@ use crate::value::{content, integer_value, pid_value, plain_content};
 use std::alloc::{AllocError, Allocator};
 use tn_term::{Atom, Term};
 
+/// The integer that these bytes spell.
 pub fn put_integer<A: Allocator>(
     bytes: &[u8],
     frames: Vec<Frame<A>, A>,
@@ -25,6 +26,7 @@ pub fn put_integer<A: Allocator>(
     }
 }
 
+/// The pid that these bytes spell.
 pub fn put_pid<A: Allocator>(
     bytes: &[u8],
     frames: Vec<Frame<A>, A>,
@@ -57,6 +59,7 @@ pub fn put_atom<A: Allocator>(
     }
 }
 
+/// The atom that these bytes spell in quotes.
 pub fn put_quoted<A: Allocator + Copy>(
     alloc: A,
     bytes: &[u8],
@@ -74,6 +77,7 @@ pub fn put_quoted<A: Allocator + Copy>(
     }
 }
 
+/// The list of the codes of the string that these bytes spell.
 pub fn put_string<A: Allocator + Copy>(
     alloc: A,
     bytes: &[u8],
@@ -112,6 +116,7 @@ fn put_codes<A: Allocator + Copy>(
     }
 }
 
+/// The list of these codes as integers.
 fn list_of<A: Allocator + Copy>(alloc: A, codes: &[u8]) -> Result<Term<A>, AllocError>
     ensures { IfOk result (λ t. tree_of t ≡ list (of_codes codes.now)) }
 {

@@ -14,6 +14,7 @@ pub const MAX_DEPTH: usize = 32;
 /// The most elements of a list, and the most characters of a string, which is one.
 pub const MAX_LIST: usize = 4096;
 
+/// The kind of an open term: a tuple's brace or a list's bracket.
 #[derive(Clone, Copy)]
 pub enum Bracket {
     Brace,
@@ -36,12 +37,14 @@ pub enum Position {
     Behind,
 }
 
+/// How far the term is read: what may stand next in the open frames, or the whole term.
 #[derive(Drop)]
 pub enum Progress<A: Allocator> {
     Inside(Position, Vec<Frame<A>, A>),
     Done(Term<A>),
 }
 
+/// Why a token ends the reading.
 #[derive(Clone, Copy)]
 pub enum StepError {
     OutOfMemory,

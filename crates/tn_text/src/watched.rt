@@ -91,8 +91,7 @@ impl<W: Write> Write for Watched<W> {
     }
 
     fn flush(&mut self) -> Result<()>
-        ensures bytes { Keeps (W.contents (watched_inner self.old))
-            (W.contents (watched_inner self.new)) }
+        ensures bytes { Keeps (W.contents (watched_inner self.old)) (W.contents (watched_inner self.new)) }
         ensures watch { has_failed self.new ≡ (has_failed self.old || is_err result) }
         ensures flushed { is_flushed self.new ≡ (is_flushed self.old || is_ok result) }
     {

@@ -48,8 +48,7 @@ fn put_each<A: Allocator, C: Allocator + Copy, B: Allocator>(
     bindings: &[Binding<'_, A>],
     out: &mut Vec<u8, B>,
 ) -> Result<(), AllocError>
-    ensures ok { OnOk result (out.new.items ≡
-        out.old.items ++ flat_map binding_line (map binding_seen bindings.now)) }
+    ensures ok { OnOk result (out.new.items ≡ out.old.items ++ flat_map binding_line (map binding_seen bindings.now)) }
     ensures grows { Grows out.old.items out.new.items }
 {
     for binding in bindings {
