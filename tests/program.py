@@ -18,6 +18,7 @@ import sys
 import tempfile
 
 import accounts
+import readings
 import values
 from refusals import REFUSALS
 from trials import TRIALS
@@ -459,6 +460,7 @@ def trials():
         ("[}", b"specification:1:2: no term goes on so\n"),
         ("[]", b"specification: badarg\n"),
         ("a", b"specification: badarg\n"),
+        ("true", b"specification: badarg\n"),
         ("[a]", b"specification: clause 1: badarg\n"),
         ("[{'_',[],[]},{'_',['$1'],[]}]", b"specification: clause 2: badarg\n"),
         ("[{'_',[],[{display,a}]}]", b"specification: clause 1: unsupported function display\n"),
@@ -502,6 +504,23 @@ def functions():
     for call, wanted in values.others():
         told = told_value([call])
         check(f"the value of {call}", told == f"[{wanted}]", told)
+
+
+def specifications():
+    """Each specification set in its dialect: the reply says that it is one, or its first fault."""
+    rows = list(readings.rows())
+    check("specifications of each kind", len(rows) > 2000, len(rows))
+    opening = "{function,m,f,exported,['X'],[]}. {control,[{session_create,s,t,[]}%s]}."
+    most = 255
+    for first in range(0, len(rows), most):
+        some = rows[first : first + most]
+        commands = "".join("," + readings.COMMANDS[dialect].format(spec) for dialect, spec, _ in some)
+        picks = " ".join(["0"] * (len(some) + 1))
+        ran = run(["replay", "--picks", picks], (opening % commands).encode())
+        replies = ran.stdout.decode().partition("== replies\n{session,s}\n")[2].partition("== journal")[0].splitlines()
+        check(f"the replies to the specifications from {first} on", len(replies) == len(some), ran)
+        for (dialect, spec, answer), reply in zip(some, replies):
+            check(f"{spec} in dialect {dialect}", reply == readings.reply(answer), reply)
 
 
 def workers():
@@ -627,7 +646,7 @@ def main():
         print("the program is not built")
         print("0 passed, 1 failed")
         sys.exit(1)
-    parts = (rows, plain, tries, files, documents, examples, workers, explanations, trials, functions, refusals)
+    parts = (rows, plain, tries, files, documents, examples, workers, explanations, trials, functions, specifications, refusals)
     parts += (long_texts, passes, command_lines, ends, memory, growths, starts)
     for part in parts:
         try:
