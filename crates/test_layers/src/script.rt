@@ -1,6 +1,5 @@
 // Texts of forms, and the refusals of others.
 use crate::checks::check;
-use crate::long::{Long, spelled};
 use std::alloc::Global;
 use std::process::Abort;
 use std::test::Fail;
@@ -51,42 +50,6 @@ const SCRIPTS: [Script; 9] = [
     },
 ];
 
-/// Control forms, by themselves and behind a term without a shape.
-struct Controls {
-    text: Long,
-    forms: Result<usize, ScriptFault>,
-}
-
-const CONTROLS: [Controls; 3] = [
-    Controls {
-        text: Long {
-            head: "",
-            part: "{control,[]}.\n",
-            parts: 256,
-            tail: "",
-        },
-        forms: Ok(256),
-    },
-    Controls {
-        text: Long {
-            head: "",
-            part: "{control,[]}.\n",
-            parts: 257,
-            tail: "",
-        },
-        forms: Err(ScriptFault::TooManyForms),
-    },
-    Controls {
-        text: Long {
-            head: "7.\n",
-            part: "{control,[]}.\n",
-            parts: 256,
-            tail: "",
-        },
-        forms: Err(ScriptFault::TooManyForms),
-    },
-];
-
 /// How many forms the text has, or why it has none.
 fn count(alloc: Global, text: &[u8]) -> Result<usize, ScriptFault> {
     Ok(forms(alloc, text)?.len())
@@ -99,15 +62,6 @@ fn texts_are_answered(rt: HostRuntime) {
         check(&rt, seen == script.forms, script.text);
     }
     assert!(rt; is_variable("To"));
-}
-
-#[test]
-fn many_forms(rt: HostRuntime) -> Result<(), Fail> {
-    for controls in &CONTROLS {
-        let text = spelled(rt.alloc(), &controls.text)?;
-        assert!(rt; count(rt.alloc(), &text) == controls.forms);
-    }
-    Ok(())
 }
 
 /// The function is `go`, exported, with one parameter and one step.
