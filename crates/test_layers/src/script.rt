@@ -1,68 +1,8 @@
-// Texts of forms, and the refusals of others.
-use crate::checks::check;
+// The forms of a text.
 use std::alloc::Global;
 use std::process::Abort;
 use std::test::Fail;
-use tn_script::{Form, Function, ScriptFault, forms, is_variable};
-
-/// A text, and how many forms it has, or why it has none.
-struct Script {
-    text: &'static str,
-    forms: Result<usize, ScriptFault>,
-}
-
-const SCRIPTS: [Script; 9] = [
-    Script {
-        text: "",
-        forms: Ok(0),
-    },
-    Script {
-        text: "{process,m,go,[<0.101.0>]}. {control,[]}.",
-        forms: Ok(2),
-    },
-    Script {
-        text: "{control,[",
-        forms: Err(ScriptFault::Token { at: 10 }),
-    },
-    Script {
-        text: "{control,[]}",
-        forms: Err(ScriptFault::Token { at: 12 }),
-    },
-    Script {
-        text: "{a b}.",
-        forms: Err(ScriptFault::Token { at: 3 }),
-    },
-    Script {
-        text: "X.",
-        forms: Err(ScriptFault::Token { at: 0 }),
-    },
-    Script {
-        text: "1.5.",
-        forms: Err(ScriptFault::Token { at: 1 }),
-    },
-    Script {
-        text: "7.",
-        forms: Err(ScriptFault::Form { form: 1 }),
-    },
-    Script {
-        text: "{control,[]}. {control,[{send,s,true}]}. 7.",
-        forms: Err(ScriptFault::Form { form: 2 }),
-    },
-];
-
-/// How many forms the text has, or why it has none.
-fn count(alloc: Global, text: &[u8]) -> Result<usize, ScriptFault> {
-    Ok(forms(alloc, text)?.len())
-}
-
-#[test]
-fn texts_are_answered(rt: HostRuntime) {
-    for script in &SCRIPTS {
-        let seen = count(rt.alloc(), script.text.as_bytes());
-        check(&rt, seen == script.forms, script.text);
-    }
-    assert!(rt; is_variable("To"));
-}
+use tn_script::{Form, Function, forms};
 
 /// The function is `go`, exported, with one parameter and one step.
 fn check_function(rt: &impl Abort, function: &Function<Global>) {
