@@ -21,7 +21,7 @@ import accounts
 import readings
 import values
 from refusals import REFUSALS
-from trials import TRIALS
+from trials import TRIALS, of_depth, of_faults, of_heads, of_length
 
 TOP = pathlib.Path(__file__).resolve().parent.parent
 PROGRAM = TOP / "crates" / "tn_cli" / "out" / "tn_cli"
@@ -430,6 +430,14 @@ def trials():
     for terms, spec, lines in TRIALS:
         told = "".join(f"{line}\n" for line in lines).encode()
         wants(f"spec {spec} on {terms}", run(["spec", "--list", terms, spec]), 0, told)
+    for rows_of in (of_heads, of_depth, of_length):
+        for terms, spec, lines in rows_of():
+            told = "".join(f"{line}\n" for line in lines).encode()
+            ran = run(["spec", "--list", terms], spec.encode())
+            wants(f"spec {spec[:80]} on {terms[:80]}", ran, 0, told)
+    for event, spec, line in of_faults():
+        ran = run(["spec", "--list", "[]", "--for", event], spec.encode())
+        wants(f"spec {spec[:80]} for {event}", ran, 2, b"", f"specification: {line}\n".encode())
     sends = run(["spec", "--for", "send", "--list", "[<0.101.0>,hi]", "[{'_',[],[{silent,true}]}]"])
     wants("a specification of sends", sends, 0, b"clause 1 fires: silent true\n=> a message\n")
     of_send = ["spec", "--for", "send", "--list", "[<0.101.0>,hi]", "[{['_','$2'],[],[{silent,true},{message,'$2'}]}]"]
