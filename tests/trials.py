@@ -351,7 +351,7 @@ def of_length():
 
 
 def of_faults():
-    """A fault at the greatest depth, and one in the last clause of 4,096: an event, a specification, and its refusal."""
+    """Faults at the greatest depth and in the last clause of 4,096: an event, a specification, and its refusal."""
     for call, fault in (("{trace}", "unsupported function trace"), ("{'$1'}", "badarg")):
         condition = nested("{'not',", call, "}", DEEPEST - 1)
         yield "call", f"[{{['$1'],[{condition}],[]}}]", f"clause 1: {fault}"
