@@ -1,6 +1,5 @@
 // Heads and lists, with the bindings that they have.
 use std::alloc::{AllocError, Allocator, Global};
-use std::process::Abort;
 use std::test::Fail;
 use tn_guard::{Parts, Value};
 use tn_head::{Binding, Bindings, bind};
