@@ -18,9 +18,10 @@ import sys
 import tempfile
 
 import accounts
+import readings
 import values
 from refusals import REFUSALS
-from trials import TRIALS
+from trials import TRIALS, of_depth, of_faults, of_heads, of_length
 
 TOP = pathlib.Path(__file__).resolve().parent.parent
 PROGRAM = TOP / "crates" / "tn_cli" / "out" / "tn_cli"
@@ -429,6 +430,14 @@ def trials():
     for terms, spec, lines in TRIALS:
         told = "".join(f"{line}\n" for line in lines).encode()
         wants(f"spec {spec} on {terms}", run(["spec", "--list", terms, spec]), 0, told)
+    for rows_of in (of_heads, of_depth, of_length):
+        for terms, spec, lines in rows_of():
+            told = "".join(f"{line}\n" for line in lines).encode()
+            ran = run(["spec", "--list", terms], spec.encode())
+            wants(f"spec {spec[:80]} on {terms[:80]}", ran, 0, told)
+    for event, spec, line in of_faults():
+        ran = run(["spec", "--list", "[]", "--for", event], spec.encode())
+        wants(f"spec {spec[:80]} for {event}", ran, 2, b"", f"specification: {line}\n".encode())
     sends = run(["spec", "--for", "send", "--list", "[<0.101.0>,hi]", "[{'_',[],[{silent,true}]}]"])
     wants("a specification of sends", sends, 0, b"clause 1 fires: silent true\n=> a message\n")
     of_send = ["spec", "--for", "send", "--list", "[<0.101.0>,hi]", "[{['_','$2'],[],[{silent,true},{message,'$2'}]}]"]
@@ -459,6 +468,7 @@ def trials():
         ("[}", b"specification:1:2: no term goes on so\n"),
         ("[]", b"specification: badarg\n"),
         ("a", b"specification: badarg\n"),
+        ("true", b"specification: badarg\n"),
         ("[a]", b"specification: clause 1: badarg\n"),
         ("[{'_',[],[]},{'_',['$1'],[]}]", b"specification: clause 2: badarg\n"),
         ("[{'_',[],[{display,a}]}]", b"specification: clause 1: unsupported function display\n"),
@@ -502,6 +512,23 @@ def functions():
     for call, wanted in values.others():
         told = told_value([call])
         check(f"the value of {call}", told == f"[{wanted}]", told)
+
+
+def specifications():
+    """Each specification set in its dialect: the reply says that it is one, or its first fault."""
+    rows = list(readings.rows())
+    check("specifications of each kind", len(rows) > 2000, len(rows))
+    opening = "{function,m,f,exported,['X'],[]}. {control,[{session_create,s,t,[]}%s]}."
+    most = 255
+    for first in range(0, len(rows), most):
+        some = rows[first : first + most]
+        commands = "".join("," + readings.COMMANDS[dialect].format(spec) for dialect, spec, _ in some)
+        picks = " ".join(["0"] * (len(some) + 1))
+        ran = run(["replay", "--picks", picks], (opening % commands).encode())
+        replies = ran.stdout.decode().partition("== replies\n{session,s}\n")[2].partition("== journal")[0].splitlines()
+        check(f"the replies to the specifications from {first} on", len(replies) == len(some), ran)
+        for (dialect, spec, answer), reply in zip(some, replies):
+            check(f"{spec} in dialect {dialect}", reply == readings.reply(answer), reply)
 
 
 def workers():
@@ -627,7 +654,7 @@ def main():
         print("the program is not built")
         print("0 passed, 1 failed")
         sys.exit(1)
-    parts = (rows, plain, tries, files, documents, examples, workers, explanations, trials, functions, refusals)
+    parts = (rows, plain, tries, files, documents, examples, workers, explanations, trials, functions, specifications, refusals)
     parts += (long_texts, passes, command_lines, ends, memory, growths, starts)
     for part in parts:
         try:

@@ -1,6 +1,7 @@
 """What becomes of the clauses of specifications on lists, worked out from the manual.
 
-Each row has a list, a specification of calls, and the lines that `tracenode spec` tells of it.
+Each row of TRIALS has a list, a specification of calls, and the lines that `tracenode spec` tells of it. The
+others are rows for each head, each kind of term and each limit.
 """
 
 TRIALS = (
@@ -197,3 +198,162 @@ TRIALS = (
         ),
     ),
 )
+
+# What is told of a head with another number of elements than the list has.
+OTHER = "the head has another number of elements"
+
+
+def at(place):
+    """What is told of a head that stops at an element."""
+    return f"the head doesn't match at element {place}"
+
+
+# A head, the list that it is held against, and the values that its variables are bound to, or why it doesn't match.
+HEADS = (
+    # Heads of no list.
+    ("'_'", "[]", {}),
+    ("'_'", "[a,[b]]", {}),
+    ("'$0'", "[]", {"$0": "[]"}),
+    ("'$999'", "[a,{b}]", {"$999": "[a,{b}]"}),
+    # A pattern for each element.
+    ("[]", "[]", {}),
+    ("[]", "[a]", OTHER),
+    ("['_']", "[]", OTHER),
+    ("['_']", "[a]", {}),
+    ("['_']", "[a,b]", OTHER),
+    ("['_','_']", "[a,b]", {}),
+    ("['$1','$2']", "[a]", OTHER),
+    ("['$1']", "[[]]", {"$1": "[]"}),
+    ("['$1','_','$2']", "[a,{},<0.100.0>]", {"$1": "a", "$2": "<0.100.0>"}),
+    # Patterns with parts.
+    ("[{'$2'},a]", "[{7},a]", {"$2": "7"}),
+    ("[{'$2'},a]", "[[7],a]", at(1)),
+    ("[{'$2'},a]", "[{7},b]", at(2)),
+    ("[{'$2'},a]", "[7,a]", at(1)),
+    ("[{'$2'},a]", "[{},a]", at(1)),
+    ("[{'$2'},a]", "[{7,7},a]", at(1)),
+    ("[['$2','_']]", "[[{7},8]]", {"$2": "{7}"}),
+    ("[['$2','_']]", "[{7,8}]", at(1)),
+    ("[{const,'$1'}]", "[{const,b}]", {"$1": "b"}),
+    ("[{const,'$1'}]", "['$1']", at(1)),
+    # A second occurrence must equal the first.
+    ("['$1','$1']", "[a,a]", {"$1": "a"}),
+    ("['$1','$1']", "[a,b]", at(2)),
+    ("['$1',{'$1'}]", "[[a],{[a]}]", {"$1": "[a]"}),
+    ("['$1',{'$1'}]", "[[a],{{a}}]", at(2)),
+    ("['$1','$2','$1']", "[a,b,b]", at(3)),
+    ("['$1','$2','$1']", "[a,b,a]", {"$1": "a", "$2": "b"}),
+    ("['$2','$1','$2']", "[0,0,1]", at(3)),
+    ("['_','_']", "[a,b]", {}),
+    # Variables come by rising number.
+    ("['$3','$1']", "[a,b]", {"$1": "b", "$3": "a"}),
+    ("['$2',{'$999','$0'},['$10']]", "[a,{b,c},[d]]", {"$0": "c", "$2": "a", "$10": "d", "$999": "b"}),
+)
+
+# Terms that are no variable, nor '_': each matches itself alone.
+CONSTANTS = ("0", "-1", "a", "'$_'", "'$$'", "<0.0.0>", "{}", "{a}", "[]", "[a]")
+
+# The most elements of a list and of a tuple, and what stands around an expression that is as deep as it may be.
+ELEMENTS, FIELDS, DEEPEST = 4096, 255, 29
+
+
+def fires(bindings, asks=(), end=""):
+    """The lines of a first clause that fires, with what its body asks for and the message's last element."""
+    yield "clause 1 fires" + (f": {', '.join(asks)}" if asks else "")
+    for name, value in bindings.items():
+        yield f"  '{name}' is {value}"
+    yield "=> a message" + (f" that ends in {end}" if end else "")
+
+
+def fails(why, clause=1):
+    """The lines of one clause that doesn't fire."""
+    return (f"clause {clause}: {why}", "=> no message: no clause fires")
+
+
+def of_heads():
+    """Each head, and each kind of term behind all others: a list, a specification and its lines."""
+    for head, terms, answer in HEADS:
+        yield terms, f"[{{{head},[],[]}}]", fails(answer) if isinstance(answer, str) else fires(answer)
+    for own in CONSTANTS:
+        others = [kind for kind in CONSTANTS if kind != own]
+        clauses = ",".join(f"{{[{kind}],[],[]}}" for kind in [*others, own])
+        told = [f"clause {number + 1}: {at(1)}" for number in range(len(others))]
+        yield f"[{own}]", f"[{clauses}]", (*told, f"clause {len(CONSTANTS)} fires", "=> a message")
+
+
+def nested(before, inner, behind, levels):
+    """The inner text between so many openings and as many ends."""
+    return before * levels + inner + behind * levels
+
+
+def many(item, count=ELEMENTS):
+    """So many of the item, with a comma between any two."""
+    return ",".join([item] * count)
+
+
+def of_depth():
+    """Heads and expressions by which a specification is as deep as a term may be."""
+    for before, behind, levels in (("[", "]", DEEPEST), ("{", "}", DEEPEST)):
+        head = nested(before, "'$1'", behind, levels)
+        yield f"[{nested(before, 'true', behind, levels)}]", f"[{{[{head}],['$1'],['$1']}}]", fires({"$1": "true"})
+    head, terms = nested("{'_',[b,", "['$1']", "],a}", 14), nested("{x,[b,", "[true]", "],a}", 14)
+    yield f"[{terms}]", f"[{{[{head}],['$1'],['$1']}}]", fires({"$1": "true"})
+    for before, inner, behind, levels, value in (
+        ("[", "'$1'", "]", DEEPEST, nested("[", "false", "]", DEEPEST)),
+        ("{{", "{self}", "}}", 14, nested("{", "<0.100.0>", "}", 14)),
+        ("{'not',", "'$1'", "}", DEEPEST, "true"),
+        ("{'and',true,", "'$_'", ",{is_pid,a}}", DEEPEST - 1, "false"),
+        ("{'orelse',", "'$$'", ",true}", DEEPEST, "true"),
+        ("{const,", "{const,[]}", "}", DEEPEST - 2, nested("{const,", "{const,[]}", "}", DEEPEST - 3)),
+    ):
+        expression = nested(before, inner, behind, levels)
+        lines = fires({"$1": "false"}) if value == "true" else fails(f"condition 1 is {value}")
+        yield "[false]", f"[{{['$1'],[{expression}],[]}}]", lines
+        yield "[false]", f"[{{['$1'],[],[{expression}]}}]", fires({"$1": "false"})
+    asks = ["return_trace", *["message true"] * (DEEPEST - 1)]
+    action = nested("{message,", "{return_trace}", "}", DEEPEST - 1)
+    yield "[]", f"[{{'_',[],[{action}]}}]", fires({}, asks)
+
+
+def of_length():
+    """Lists of 4,096 clauses, expressions and patterns, tuples of 255 elements, and all variables."""
+    all_fire, none_fires = many("{'_',[],[]}"), many("{[],[],[]}", ELEMENTS - 1)
+    yield "[a]", f"[{all_fire}]", fires({})
+    told = [f"clause {number}: {OTHER}" for number in range(1, ELEMENTS)]
+    last = (f"clause {ELEMENTS} fires: message last", "=> a message that ends in last")
+    yield "[a]", f"[{none_fires},{{'_',[],[{{message,last}}]}}]", (*told, *last)
+    values = "[" + many("'$1'") + "]"
+    lists, lists_but_one, pids = many("{is_list,'$1'}"), many("{is_list,'$1'}", ELEMENTS - 1), many("{is_pid,'$1'}")
+    yield "[]", f"[{{'$1',[{lists}],[{values},{{const,{values}}}]}}]", fires({"$1": "[]"})
+    yield "[]", f"[{{'$1',[{lists_but_one},{{is_pid,'$1'}}],[]}}]", fails(f"condition {ELEMENTS} is false")
+    yield "[]", f"[{{'$1',[{pids}],[]}}]", fails("condition 1 is false")
+    for body, value in ((values, f"[{many('[]')}]"), (f"{{const,{values}}}", values)):
+        yield "[]", f"[{{'$1',[],[{{message,{body}}}]}}]", fires({"$1": "[]"}, [f"message {value}"], value)
+    args, fields = many("true", FIELDS - 1), "{" + many("7", FIELDS) + "}"
+    spec = f"[{{'_',[{{'or',{args}}},{{'andalso',{args}}}],[{{message,{{{fields}}}}}]}}]"
+    yield "[]", spec, fires({}, [f"message {fields}"], fields)
+    for name in ("and", "andalso"):
+        args = many("true", FIELDS - 2)
+        yield "[]", f"[{{'_',[{{'{name}',{args},false}}],[]}}]", fails("condition 1 is false")
+    same, short = many("a"), many("a", ELEMENTS - 1)
+    for pattern, bindings, of_other in (
+        ("'_'", {}, fires({})),
+        ("'$999'", {"$999": "a"}, fails(at(ELEMENTS))),
+        ("a", {}, fails(at(ELEMENTS))),
+    ):
+        spec = f"[{{[{many(pattern)}],[],[]}}]"
+        yield f"[{same}]", spec, fires(bindings)
+        yield f"[{short}]", spec, fails(OTHER)
+        yield f"[{short},b]", spec, of_other
+    variables = ",".join(f"'${number}'" for number in range(999, -1, -1))
+    bindings = {f"${number}": "1" if number == 0 else "0" for number in range(1000)}
+    yield f"[{many('0', 999)},1]", f"[{{[{variables}],[],['$0','$999']}}]", fires(bindings)
+
+
+def of_faults():
+    """Faults at the greatest depth and in the last clause of 4,096: an event, a specification, and its refusal."""
+    for call, fault in (("{trace}", "unsupported function trace"), ("{'$1'}", "badarg")):
+        condition = nested("{'not',", call, "}", DEEPEST - 1)
+        yield "call", f"[{{['$1'],[{condition}],[]}}]", f"clause 1: {fault}"
+    clauses = many("{'_',[],[]}", ELEMENTS - 1)
+    yield "receive", f"[{clauses},{{'_',[],[{{ceil}}]}}]", f"clause {ELEMENTS}: unsupported function ceil"

@@ -7,7 +7,6 @@ use tn_flags::Event;
 use tn_process::{Act, Process};
 use tn_program::{Program, program};
 use tn_script::{Function, copy_entry, copy_functions, forms};
-use tn_term::Term;
 use tn_text::read_term;
 
 const SCRIPT: &str = "{function,m,go,exported,[],[{'receive','X'},{send,<0.101.0>,'X'}]}.
@@ -192,11 +191,4 @@ fn the_oldest_signal_ends_a_process(rt: HostRuntime) -> Result<(), Fail> {
     let program = accepted(rt.alloc())?;
     let mut process = started(rt.alloc(), &program)?;
     check_signals(&rt, rt.alloc(), &mut process, program.functions())
-}
-
-#[test]
-fn pids_as_terms(rt: HostRuntime) -> Result<(), Fail> {
-    let pid = read_term(rt.alloc(), b"<0.100.0>")?;
-    assert!(rt; Term::<Global>::Pid(100).same(&pid));
-    Ok(())
 }

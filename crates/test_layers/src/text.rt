@@ -1,4 +1,5 @@
-// Texts of terms and of scripts: what is written back, the refusals of others, and the limits.
+// Texts of terms: what is written back, the refusals of others, and the limits; the tokens of a text and the
+// terms of a script.
 use crate::checks::{check, check_term};
 use crate::long::{Long, spelled};
 use std::alloc::Global;
@@ -77,29 +78,6 @@ const TERMS: [Short; 6] = [
     Short {
         text: "% nothing",
         fault: Some(TextFault::Token { at: 9 }),
-    },
-];
-
-const SCRIPTS: [Short; 5] = [
-    Short {
-        text: "{control,[",
-        fault: Some(TextFault::Token { at: 10 }),
-    },
-    Short {
-        text: "{control,[]}",
-        fault: Some(TextFault::Token { at: 12 }),
-    },
-    Short {
-        text: "{a b}.",
-        fault: Some(TextFault::Token { at: 3 }),
-    },
-    Short {
-        text: "X.",
-        fault: Some(TextFault::Token { at: 0 }),
-    },
-    Short {
-        text: "1.5.",
-        fault: Some(TextFault::Token { at: 1 }),
     },
 ];
 
@@ -213,27 +191,6 @@ const LONG_TERMS: [Limit; 11] = [
     },
 ];
 
-const LONG_SCRIPTS: [Limit; 2] = [
-    Limit {
-        text: Long {
-            head: "",
-            part: " ",
-            parts: 1_048_576,
-            tail: "",
-        },
-        fault: None,
-    },
-    Limit {
-        text: Long {
-            head: "",
-            part: " ",
-            parts: 1_048_577,
-            tail: "",
-        },
-        fault: Some(TextFault::TooLong),
-    },
-];
-
 /// Texts that are written of their own terms.
 const WRITTEN_BACK: [Long; 2] = [
     Long {
@@ -288,11 +245,6 @@ fn fault_of_term(alloc: Global, text: &[u8]) -> Option<TextFault> {
     read_term(alloc, text).err()
 }
 
-/// Why the script is refused, if it is.
-fn fault_of_script(alloc: Global, text: &[u8]) -> Option<TextFault> {
-    read_terms(alloc, text).err()
-}
-
 #[test]
 fn short_terms(rt: HostRuntime) {
     for short in &TERMS {
@@ -302,28 +254,10 @@ fn short_terms(rt: HostRuntime) {
 }
 
 #[test]
-fn short_scripts(rt: HostRuntime) {
-    for short in &SCRIPTS {
-        let fault = fault_of_script(rt.alloc(), short.text.as_bytes());
-        check(&rt, fault == short.fault, short.text);
-    }
-}
-
-#[test]
 fn limits_of_terms(rt: HostRuntime) -> Result<(), Fail> {
     for limit in &LONG_TERMS {
         let text = spelled(rt.alloc(), &limit.text)?;
         let fault = fault_of_term(rt.alloc(), &text);
-        check(&rt, fault == limit.fault, limit.text.part);
-    }
-    Ok(())
-}
-
-#[test]
-fn limits_of_scripts(rt: HostRuntime) -> Result<(), Fail> {
-    for limit in &LONG_SCRIPTS {
-        let text = spelled(rt.alloc(), &limit.text)?;
-        let fault = fault_of_script(rt.alloc(), &text);
         check(&rt, fault == limit.fault, limit.text.part);
     }
     Ok(())

@@ -9,8 +9,8 @@ use std::sync::atomic::{AtomicU64, Ordering};
 use std::test::Fail;
 use std::thread::Threads;
 use tn_listing::write_picks;
-use tn_pool::{Gate, Open};
-use tn_run::{Outcome, Ran, Refusal, Schedule, Workers, run, run_live};
+use tn_pool::Gate;
+use tn_run::{Outcome, Ran, Schedule, Workers, run, run_live};
 use tn_text::Watched;
 
 /// How often the gate looks for another worker before it gives up.
@@ -194,20 +194,5 @@ fn varied_schedules(rt: HostRuntime) -> Result<(), Fail> {
         let moved = check_replayed(&rt, alloc, FAMILY, &workers)?;
         assert!(rt; moved > 20, "only {moved} moves");
     }
-    Ok(())
-}
-
-/// A script without shape gets its refusal's line, and no picks.
-#[test]
-fn a_refused_script(rt: HostRuntime) -> Result<(), Fail> {
-    let workers = Workers {
-        count: 2,
-        turns: 1,
-        gate: &Open,
-    };
-    let (ran, written) = written_by(&rt, rt.alloc(), "7.", &workers)?;
-    assert_eq!(rt; ran.outcome, Outcome::Refused(Refusal::Form { form: 1 }));
-    assert!(rt; ran.picks.is_empty());
-    assert_eq!(rt; written.as_slice(), b"refused 5 form 1\n".as_slice());
     Ok(())
 }

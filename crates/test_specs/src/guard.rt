@@ -6,7 +6,6 @@ use std::process::Abort;
 use std::test::Fail;
 use tn_guard::{Value, Word, apply};
 use tn_spec::Func;
-use tn_term::Term;
 use tn_text::read_term;
 
 /// The pid of the process whose event it is.
@@ -17,9 +16,6 @@ const OWN: u32 = 163;
 /// (9 to 11); `[]`, `[0]`, `[0,'EXIT']`, `['EXIT']` (12 to 15).
 const KINDS: &str = "[-9223372036854775808,-1,0,9223372036854775807,'EXIT',false,true,
  <0.0.0>,<0.4294967295.0>,{},{'EXIT'},{0,0},[],[0],[0,'EXIT'],['EXIT']]";
-
-/// How many kinds there are.
-const COUNT: usize = 16;
 
 /// Whether the function answers that value, or is a fault where there is none.
 fn answers<'a, 'b>(
@@ -41,58 +37,6 @@ fn is_fault<'a>(func: Func, args: &[Value<'a, Global>]) -> bool {
 /// `true` or `false`.
 fn truth<'a>(holds: bool) -> Value<'a, Global> {
     Value::Word(if holds { Word::True } else { Word::False })
-}
-
-/// What is left of the list behind its first element, which is that term.
-fn tail_of<'a>(list: Value<'a, Global>, wanted: &Term<Global>) -> Result<Value<'a, Global>, Fail> {
-    match apply(Func::Tail, &[list], OWN) {
-        Some(rest) if rest.same(Value::Lent(wanted)) => Ok(rest),
-        Some(_) => Err(Fail::new("another rest")),
-        None => Err(Fail::new("no rest")),
-    }
-}
-
-#[test]
-fn tails_of_tails(rt: HostRuntime) -> Result<(), Fail> {
-    let alloc = rt.alloc();
-    let whole = read_term(alloc, b"[{},0,'EXIT']")?;
-    let wanted = elements(alloc, KINDS)?;
-    assert_eq!(rt; wanted.len(), COUNT);
-    let two = tail_of(Value::Lent(&whole), &wanted[14])?;
-    let one = tail_of(two, &wanted[15])?;
-    let none = tail_of(one, &wanted[12])?;
-    assert!(rt; is_fault(Func::Tail, &[none]));
-    assert!(rt; is_fault(Func::Head, &[none]));
-    Ok(())
-}
-
-#[test]
-fn own_pid_and_node(rt: HostRuntime) -> Result<(), Fail> {
-    let alloc = rt.alloc();
-    let node = read_term(alloc, b"nonode@nohost")?;
-    assert!(rt; answers(Func::OwnPid, &[], Some(Value::Pid(OWN))));
-    assert!(rt; answers(Func::OwnNode, &[], Some(Value::Lent(&node))));
-    Ok(())
-}
-
-#[test]
-fn sums(rt: HostRuntime) {
-    let sum = Value::<Global>::integer(Some(5));
-    assert!(rt; answers(Func::Add, &[Value::Int(2), Value::Int(3)], sum));
-    let past: Option<Value<'_, Global>> = Value::integer(None);
-    assert!(rt; answers(Func::Add, &[Value::Int(i64::MAX), Value::Int(1)], past));
-}
-
-#[test]
-fn logic_of_three(rt: HostRuntime) {
-    let yes: Value<'_, Global> = Value::truth(true);
-    let no: Value<'_, Global> = Value::truth(false);
-    let number: Value<'_, Global> = Value::Int(7);
-    assert!(rt; answers(Func::AllOf, &[yes, yes, yes], Some(yes)));
-    assert!(rt; answers(Func::AllOf, &[yes, number, yes], Some(no)));
-    assert!(rt; answers(Func::AllOf, &[yes, yes, no], Some(no)));
-    assert!(rt; answers(Func::OneOf, &[no, number, yes], Some(yes)));
-    assert!(rt; answers(Func::OneOf, &[no, number, no], Some(no)));
 }
 
 /// The words that evaluation makes, with the text of each.

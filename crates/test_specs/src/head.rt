@@ -1,6 +1,5 @@
 // Heads and lists, with the bindings that they have.
 use std::alloc::{AllocError, Allocator, Global};
-use std::process::Abort;
 use std::test::Fail;
 use tn_guard::{Parts, Value};
 use tn_head::{Binding, Bindings, bind};
@@ -77,113 +76,6 @@ pub fn only_clause(spec: &Spec<Global>) -> Result<&Clause<Global>, Fail> {
         return Err(Fail::new("another number of clauses"));
     }
     Ok(&spec.clauses[0])
-}
-
-/// The bindings of the specification's one head on the list; `none` where it doesn't match.
-fn bound(alloc: Global, spec: &Spec<Global>, list: &[Term<Global>]) -> Result<Term<Global>, Fail> {
-    let clause = only_clause(spec)?;
-    match bind(alloc, &clause.head, Parts::Terms(list))? {
-        Some(bindings) => Ok(as_term(alloc, &bindings)?),
-        None => Ok(read_term(alloc, b"none")?),
-    }
-}
-
-/// The bindings of the head on the list.
-fn seen(alloc: Global, head: &str, list: &str) -> Result<Term<Global>, Fail> {
-    let spec = with_head(alloc, head)?;
-    let list = elements(alloc, list)?;
-    bound(alloc, &spec, list.as_slice())
-}
-
-/// The bindings of the head on the list are those of the text.
-fn check(rt: &impl Abort, alloc: Global, head: &str, list: &str, wanted: &str) -> Result<(), Fail> {
-    let seen = seen(alloc, head, list)?;
-    let is_wanted = is_text(alloc, &seen, wanted)?;
-    assert!(rt; is_wanted, "{head} on {list}");
-    Ok(())
-}
-
-/// A head, the list that it is held against, and its bindings, or `none`.
-type Row = (&'static str, &'static str, &'static str);
-
-const ROWS: [Row; 33] = [
-    // Heads of no list.
-    ("'_'", "[]", "[]"),
-    ("'_'", "[a,[b]]", "[]"),
-    ("'$0'", "[]", "{0}"),
-    ("'$999'", "[a,{b}]", "{999,a,{b}}"),
-    // A pattern for each element.
-    ("[]", "[]", "[]"),
-    ("[]", "[a]", "none"),
-    ("['_']", "[]", "none"),
-    ("['_']", "[a]", "[]"),
-    ("['_']", "[a,b]", "none"),
-    ("['_','_']", "[a,b]", "[]"),
-    ("['$1','$2']", "[a]", "none"),
-    ("['$1']", "[[]]", "[{1,[]}]"),
-    (
-        "['$1','_','$2']",
-        "[a,{},<0.100.0>]",
-        "[{1,a},{2,<0.100.0>}]",
-    ),
-    // Patterns with parts.
-    ("[{'$2'},a]", "[{7},a]", "[{2,7}]"),
-    ("[{'$2'},a]", "[[7],a]", "none"),
-    ("[{'$2'},a]", "[{7},b]", "none"),
-    ("[{'$2'},a]", "[7,a]", "none"),
-    ("[{'$2'},a]", "[{},a]", "none"),
-    ("[{'$2'},a]", "[{7,7},a]", "none"),
-    ("[['$2','_']]", "[[{7},8]]", "[{2,{7}}]"),
-    ("[['$2','_']]", "[{7,8}]", "none"),
-    ("[{const,'$1'}]", "[{const,b}]", "[{1,b}]"),
-    ("[{const,'$1'}]", "['$1']", "none"),
-    // A second occurrence must equal the first.
-    ("['$1','$1']", "[a,a]", "[{1,a}]"),
-    ("['$1','$1']", "[a,b]", "none"),
-    ("['$1',{'$1'}]", "[[a],{[a]}]", "[{1,[a]}]"),
-    ("['$1',{'$1'}]", "[[a],{{a}}]", "none"),
-    ("['$1','$2','$1']", "[a,b,b]", "none"),
-    ("['$1','$2','$1']", "[a,b,a]", "[{1,a},{2,b}]"),
-    ("['$2','$1','$2']", "[0,0,1]", "none"),
-    ("['_','_']", "[a,b]", "[]"),
-    // Bindings by their numbers.
-    ("['$3','$1']", "[a,b]", "[{1,b},{3,a}]"),
-    (
-        "['$2',{'$999','$0'},['$10']]",
-        "[a,{b,c},[d]]",
-        "[{0,c},{2,a},{10,d},{999,b}]",
-    ),
-];
-
-#[test]
-fn rows(rt: HostRuntime) -> Result<(), Fail> {
-    for row in &ROWS {
-        check(&rt, rt.alloc(), row.0, row.1, row.2)?;
-    }
-    Ok(())
-}
-
-/// Terms that are no variable, nor '_': each matches itself alone.
-const KINDS: [&str; 10] = [
-    "0", "-1", "a", "'$_'", "'$$'", "<0.0.0>", "{}", "{a}", "[]", "[a]",
-];
-
-#[test]
-fn other_terms(rt: HostRuntime) -> Result<(), Fail> {
-    for (own, pattern) in KINDS.iter().enumerate() {
-        check_kinds(&rt, rt.alloc(), pattern, own)?;
-    }
-    Ok(())
-}
-
-fn check_kinds(rt: &impl Abort, alloc: Global, pattern: &str, own: usize) -> Result<(), Fail> {
-    let head = format!(in alloc; "[{pattern}]")?;
-    for (place, kind) in KINDS.iter().enumerate() {
-        let list = format!(in alloc; "[{kind}]")?;
-        let wanted = if place == own { "[]" } else { "none" };
-        check(rt, alloc, &head, &list, wanted)?;
-    }
-    Ok(())
 }
 
 /// What the head of one clause binds this variable to on the list `[a,b]`.

@@ -14,8 +14,6 @@ mod guard;
 #[cfg(test)]
 mod head;
 #[cfg(test)]
-mod large;
-#[cfg(test)]
 mod memory;
 #[cfg(test)]
 mod outcome;

@@ -1,0 +1,52 @@
+// The texts of faults, which are read where a fault is told.
+use crate::checks::check;
+use std::test::Fail;
+use tn_program::RuleFault;
+use tn_script::ScriptFault;
+use tn_text::TextFault;
+
+const OF_TEXTS: [(TextFault, &str); 5] = [
+    (TextFault::TooLong, "the text is too long"),
+    (TextFault::Token { at: 10 }, "no term goes on so at 10"),
+    (TextFault::TooDeep { at: 32 }, "too deep at 32"),
+    (TextFault::TooLarge { at: 0 }, "too large at 0"),
+    (TextFault::OutOfMemory, "out of memory"),
+];
+
+const OF_SCRIPTS: [(ScriptFault, &str); 7] = [
+    (ScriptFault::TooLong, "the script is too long"),
+    (ScriptFault::Token { at: 10 }, "no script goes on so at 10"),
+    (ScriptFault::TooDeep { at: 32 }, "too deep at 32"),
+    (ScriptFault::TooLarge { at: 0 }, "too large at 0"),
+    (ScriptFault::Form { form: 256 }, "form 256 has no shape"),
+    (ScriptFault::TooManyForms, "too many forms"),
+    (ScriptFault::OutOfMemory, "out of memory"),
+];
+
+const OF_RULES: [(RuleFault, &str); 8] = [
+    (RuleFault::Duplicate { form: 1 }, "duplicate in form 1"),
+    (RuleFault::Undeclared { form: 2 }, "undeclared in form 2"),
+    (RuleFault::NotExported { form: 3 }, "not exported in form 3"),
+    (RuleFault::Unbound { form: 4 }, "unbound in form 4"),
+    (RuleFault::TracerTaken { form: 5 }, "tracer taken in form 5"),
+    (RuleFault::Arity { form: 6 }, "arity in form 6"),
+    (RuleFault::Limit { form: 256 }, "limit in form 256"),
+    (RuleFault::OutOfMemory, "out of memory"),
+];
+
+#[test]
+fn texts_of_faults(rt: HostRuntime) -> Result<(), Fail> {
+    for (fault, text) in &OF_TEXTS {
+        let told = format!(in rt.alloc(); "{fault}")?;
+        check(&rt, told.as_str() == *text, text);
+    }
+    for (fault, text) in &OF_SCRIPTS {
+        let told = format!(in rt.alloc(); "{fault}")?;
+        check(&rt, told.as_str() == *text, text);
+    }
+    for (fault, text) in &OF_RULES {
+        let told = format!(in rt.alloc(); "{fault}")?;
+        check(&rt, told.as_str() == *text, text);
+    }
+    Ok(())
+}
