@@ -37,7 +37,7 @@ const GREATEST_DEPTH: u64 = 32;
 const GREATEST_SIZE: u64 = 65536;
 
 /// The least size past that.
-const TOO_LARGE: u64 = 65537;
+const SIZE_END: u64 = 65537;
 
 /// The number, where the term is a pid.
 pub fn pid_in<A: Allocator>(term: &Term<A>) -> Option<u32>
@@ -204,31 +204,31 @@ impl<A: Allocator + Copy> Env<A> {
     }
 }
 
-/// The size of what the template stands for, at most `TOO_LARGE`.
+/// The size of what the template stands for, at most `SIZE_END`.
 #[cycle(built_size)]
 fn built_size<A: Allocator + Copy>(template: &Term<A>, env: &Env<A>) -> u64
-    ensures { result ≡ min (extent (built (env_of env.now) (tree_of template.now))) TOO_LARGE }
+    ensures { result ≡ min (extent (built (env_of env.now) (tree_of template.now))) SIZE_END }
 {
     match template {
         Term::Int(_) | Term::Pid(_) => 1,
         Term::Atom(a) => match env.value_of(a.text()) {
-            Some(value) => value.size().min(TOO_LARGE),
+            Some(value) => value.size().min(SIZE_END),
             None => 1,
         },
-        Term::Tuple(v) | Term::List(v) => (built_sizes(v, env) + 1).min(TOO_LARGE),
+        Term::Tuple(v) | Term::List(v) => (built_sizes(v, env) + 1).min(SIZE_END),
     }
 }
 
-/// The sum of the sizes, at most `TOO_LARGE`.
+/// The sum of the sizes, at most `SIZE_END`.
 #[cycle(built_size)]
 fn built_sizes<A: Allocator + Copy>(templates: &Vec<Term<A>, A>, env: &Env<A>) -> u64
-    ensures { result ≡ min (sum_of_sizes (all_built (env_of env.now) (trees_of templates.now.items))) TOO_LARGE }
+    ensures { result ≡ min (sum_of_sizes (all_built (env_of env.now) (trees_of templates.now.items))) SIZE_END }
 {
     let mut total: u64 = 0;
     for template in templates {
         total += built_size(template, env);
-        if total >= TOO_LARGE {
-            return TOO_LARGE;
+        if total >= SIZE_END {
+            return SIZE_END;
         }
     }
     total

@@ -33,7 +33,7 @@ const FUNCTIONS: u64 = 64;
 const STEPS: usize = 64;
 
 /// The greatest number of initial processes.
-const PROCESSES: u64 = 16;
+const INITIAL_PROCESSES: u64 = 16;
 
 /// The greatest number of commands.
 const COMMANDS: u64 = 256;
@@ -287,7 +287,7 @@ fn is_long<A: Allocator>(steps: &[Step<A>]) -> bool
 fn is_crowded<A: Allocator>(earlier: &[Form<A>]) -> bool
     ensures { result ≡ nat_le process_limit (count_by is_process (map form_of earlier.now)) }
 {
-    PROCESSES <= process_total(earlier)
+    INITIAL_PROCESSES <= process_total(earlier)
 }
 
 /// Whether one of the commands, which follow those of the forms, is past the greatest number of them.

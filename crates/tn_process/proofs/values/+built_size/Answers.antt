@@ -6,8 +6,8 @@ use Rattle.tn_term.proofs.Trees.{here}
 use Rattle.tn_process.specs.Views.{env_of}
 use Rattle.tn_process.proofs.values.+built_size.Goals as goal
 
-pub built_sizes-returns-then-total-ge-TOO_LARGE : goal.built_sizes-returns-then-total-ge-TOO_LARGE
-built_sizes-returns-then-total-ge-TOO_LARGE g t c =
+pub built_sizes-returns-then-total-ge-SIZE_END : goal.built_sizes-returns-then-total-ge-SIZE_END
+built_sizes-returns-then-total-ge-SIZE_END g t c =
     let e = env_of c.args.env.now in
     let xs = c.deref-template-items.result.now in
     let next = ap (λ ts. sum_of_sizes (all_built e ts)) (here tree_of xs c.loop-template.template-index c.template-item.result (omega arith) c.template-item.is) in
