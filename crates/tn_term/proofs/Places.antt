@@ -1,5 +1,5 @@
 -- Lists of places, the first of which are set.
-use Rattle.std.proofs.Common.{◌≡◌, ℕ, zero, suc, ◌+◌, ◌-◌, Bool, true, false, List, [], ◌∷◌, ◌++◌, replicate, set, refl, ap, sym, ◌∙◌, ◌<◌, arith}
+use Rattle.std.proofs.Common.{◌≡◌, ℕ, zero, suc, ◌+◌, ◌-◌, ◌∷◌, ◌++◌, replicate, set, refl, ap, sym, ◌∙◌, ◌<◌, arith}
 
 one_set : {X : Type 0} (x y : X) (i m : ℕ) → set (replicate i x ++ replicate (suc m) y) i x ≡ replicate (suc i) x ++ replicate m y
 one_set x y zero m = refl

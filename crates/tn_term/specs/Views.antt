@@ -1,5 +1,5 @@
 -- What the code's values stand for: the tree of a term in any allocator, the function that is named, the living pids.
-use Rattle.std.specs.Prelude.{List, Bool, map}
+use Rattle.std.specs.Prelude.{List, map}
 use Rattle.def_term.specs.Tree.{Tree, int, atom, pid, tuple, list, Trees, of_elements}
 use Rattle.def_term.specs.Names as names
 use Rattle.def_term.specs.Alive as alive

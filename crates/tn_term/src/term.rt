@@ -47,18 +47,18 @@ fn copy_term<A: Allocator, B: Allocator + Copy>(term: &Term<A>, b: B) -> Result<
         Term::Int(n) => Ok(Term::Int(*n)),
         Term::Atom(a) => Ok(Term::Atom(a.copy_into(b)?)),
         Term::Pid(n) => Ok(Term::Pid(*n)),
-        Term::Tuple(v) => Ok(Term::Tuple(copy_terms(v, b)?)),
-        Term::List(v) => Ok(Term::List(copy_terms(v, b)?)),
+        Term::Tuple(v) => Ok(Term::Tuple(copy_terms(v.as_slice(), b)?)),
+        Term::List(v) => Ok(Term::List(copy_terms(v.as_slice(), b)?)),
     }
 }
 
 /// Copies of terms in another allocator, in order.
 #[cycle(copy)]
 pub fn copy_terms<A: Allocator, B: Allocator + Copy>(
-    items: &Vec<Term<A>, A>,
+    items: &[Term<A>],
     b: B,
 ) -> Result<Vec<Term<B>, B>, AllocError>
-    ensures { IfOk result (λ v. map tree_of v.items ≡ map tree_of items.now.items) }
+    ensures { IfOk result (λ v. map tree_of v.items ≡ map tree_of items.now) }
 {
     let mut copies = Vec::with_capacity(b, items.len())?;
     for item in items {
