@@ -39,7 +39,7 @@ pub struct Scene<'a, 'b, A: Allocator + Copy> {
 
 impl<'a, 'b, A: Allocator + Copy> Scene<'a, 'b, A> {
     /// `'$$'`: the list of the values that are bound, by rising number. An error is refused memory.
-    pub fn all_bound(&self) -> Result<Value<'a, A>, AllocError>
+    pub(crate) fn all_bound(&self) -> Result<Value<'a, A>, AllocError>
         ensures { IfOk result (λ v. value_seen v ≡ list_bound (bindings_seen self.now.bindings.now)) }
     {
         match self.bindings {
@@ -64,7 +64,7 @@ impl<'a, 'b, A: Allocator + Copy> Scene<'a, 'b, A> {
     }
 
     /// The value of a call: in a body `'EXIT'` where it faults.
-    pub fn settled(&self, value: Option<Value<'a, A>>) -> Option<Value<'a, A>>
+    pub(crate) fn settled(&self, value: Option<Value<'a, A>>) -> Option<Value<'a, A>>
         ensures { option_map value_seen result ≡ settled_in self.now.part (option_map value_seen value.entry) }
     {
         match (self.part, value) {

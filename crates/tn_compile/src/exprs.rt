@@ -14,7 +14,7 @@ use crate::scene::{Part, Scene, VariableRegister, all_registers, emit, register_
 use std::alloc::{AllocError, Allocator};
 use tn_code::{Instr, Kind, OnFault};
 use tn_spec::Expr;
-use tn_term::{Atom, Term};
+use tn_term::Term;
 
 /// The register of an expression's value: a variable's own, or the free one.
 fn register_of<P: Allocator>(variables: &[VariableRegister], expr: &Expr<P>, free: usize) -> usize
@@ -50,10 +50,10 @@ fn registers_of<P: Allocator, A: Allocator + Copy>(
 fn truth<A: Allocator + Copy>(alloc: A, holds: bool) -> Result<Term<A>, AllocError>
     ensures { IfOk result (λ t. tree_of t ≡ truth holds) }
 {
-    let text = if holds { "true" } else { "false" };
-    match Atom::new(alloc, text)? {
-        Some(atom) => Ok(Term::Atom(atom)),
-        None => unreachable!(),
+    if holds {
+        Term::word(alloc, "true")
+    } else {
+        Term::word(alloc, "false")
     }
 }
 

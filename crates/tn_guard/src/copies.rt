@@ -6,17 +6,14 @@ ghost use Rattle.tn_guard.specs.Views.{word_seen, value_seen, values_seen};
 
 use crate::value::{Value, Word};
 use std::alloc::{AllocError, Allocator};
-use tn_term::{Atom, Term};
+use tn_term::{Atom, Term, copy_terms};
 
 impl Word {
     /// The atom in another allocator.
     fn copy_into<B: Allocator>(self, alloc: B) -> Result<Atom<B>, AllocError>
         ensures { IfOk result (λ a. atom a ≡ word_seen self) }
     {
-        match Atom::new(alloc, self.text())? {
-            Some(name) => Ok(name),
-            None => unreachable!(),
-        }
+        Atom::of(alloc, self.text())
     }
 }
 
@@ -60,20 +57,6 @@ fn copy_values<A: Allocator, B: Allocator + Copy>(
     let mut copies = Vec::with_capacity(alloc, items.len())?;
     for i in 0..items.len() {
         copies.push(copy_value(items[i], alloc)?)?;
-    }
-    Ok(copies)
-}
-
-/// The terms in another allocator.
-fn copy_terms<A: Allocator, B: Allocator + Copy>(
-    items: &[Term<A>],
-    alloc: B,
-) -> Result<Vec<Term<B>, B>, AllocError>
-    ensures { IfOk result (λ v. trees_of v.items ≡ trees_of items.now) }
-{
-    let mut copies = Vec::with_capacity(alloc, items.len())?;
-    for item in items {
-        copies.push(item.copy_into(alloc)?)?;
     }
     Ok(copies)
 }

@@ -1,6 +1,0 @@
-use Rattle.std.proofs.Common.{◌≡◌, map, take}
-use Rattle.tn_term.specs.Views.{tree_of}
-use Rattle.tn_guard.proofs.copies.copy_terms.Given as goal
-
-abbrev pub invariant-loop-item : goal.invariant-loop-item
-invariant-loop-item g l = map tree_of l.copies.items ≡ map tree_of (take l.item-index l.items)
