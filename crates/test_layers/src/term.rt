@@ -192,7 +192,7 @@ fn order_and_equality(rt: HostRuntime) -> Result<(), Fail> {
 /// A copy of the term, and a list of copies of its elements, equal it.
 fn check_copies(rt: &impl Abort, alloc: Global, term: &Term<Global>) -> Result<(), Fail> {
     assert!(rt; term.copy_into(alloc)?.same(term));
-    let copies = Term::List(copy_terms(elements(term)?, alloc)?);
+    let copies = Term::List(copy_terms(elements(term)?.as_slice(), alloc)?);
     assert!(rt; copies.order(term) == Ordering::Equal);
     Ok(())
 }

@@ -15,7 +15,7 @@ impl Asked<'_> {
     ghost use Rattle.tn_account.specs.Asks.{asked_seen};
 
     /// Whether the move of this number is asked for.
-    pub fn is_move(&self, number: u64) -> bool
+    pub(crate) fn is_move(&self, number: u64) -> bool
         ensures { result ≡ is_move (asked_seen self.now).move number }
     {
         match self.move_number {
@@ -25,7 +25,7 @@ impl Asked<'_> {
     }
 
     /// Whether the session of this name is asked for.
-    pub fn is_session<A: Allocator>(&self, name: &Atom<A>) -> bool
+    pub(crate) fn is_session<A: Allocator>(&self, name: &Atom<A>) -> bool
         ensures { result ≡ is_session (asked_seen self.now).session name.now }
     {
         match self.session {

@@ -21,7 +21,7 @@ mod words;
 pub use explained::{Explained, perform_explain, perform_explain_over};
 pub use noted::Noted;
 pub use runs::{Ended, perform, perform_over, perform_workers, perform_workers_over, picks_of};
-pub use source::{Source, open, source_of};
+pub use source::{Source, source_of};
 pub use status::{FAULT, REFUSED, report};
 pub use telling::tell_fault;
 pub use trial::{TrialFault, Tried, perform_trial, perform_trial_over};
