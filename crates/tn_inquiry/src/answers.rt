@@ -85,6 +85,7 @@ fn prepare_picks<A: Allocator + Copy, R: Read>(
         (λ r. TellsBy (R.remaining (watched_inner reader.old)) picks.now (asked_seen asked.now) r.0 r.1.items) }
     ensures taken { OnOk result
         (TakesSome (R.remaining (watched_inner reader.old)) (R.remaining (watched_inner reader.new))) }
+    ensures front { TakesFront (R.remaining (watched_inner reader.old)) (R.remaining (watched_inner reader.new)) }
     ensures unfailed { OnOk result (has_failed reader.new ≡ has_failed reader.old) }
     ensures read { IsErrOf result RunFault.Read → has_failed reader.new ≡ true }
     ensures memory { IsErrOf result RunFault.OutOfMemory → has_failed reader.new ≡ has_failed reader.old }
@@ -106,6 +107,7 @@ pub fn prepare<A: Allocator + Copy, R: Read>(
     ensures answer { IfOk result (λ r. Tells (R.remaining (watched_inner reader.old)) inquiry.now r.0 r.1.items) }
     ensures taken { OnOk result (TakesFor inquiry.now
         (R.remaining (watched_inner reader.old)) (R.remaining (watched_inner reader.new))) }
+    ensures front { TakesFront (R.remaining (watched_inner reader.old)) (R.remaining (watched_inner reader.new)) }
     ensures unread { HasBadPicks inquiry.now.picks.now → reader.new ≡ reader.old }
     ensures unfailed { OnOk result (has_failed reader.new ≡ has_failed reader.old) }
     ensures read { IsErrOf result RunFault.Read → has_failed reader.new ≡ true }

@@ -2,6 +2,7 @@
 ghost use Rattle.std.specs.Prelude.{◌≡◌, ℕ, true, IfOk, OnOk, IsErrOf};
 ghost use Rattle.def_run.specs.Output.{HasBadPicks};
 ghost use Rattle.tn_text.specs.Watch.{watched_inner, has_failed, is_flushed};
+ghost use Rattle.tn_run.specs.Ends.{TakesFront};
 ghost use Rattle.tn_inquiry.specs.Accounts.{Writes, WritesSome, TakesFor};
 
 use crate::answers::prepare;
@@ -30,6 +31,8 @@ pub fn explain<A: Allocator + Copy, R: Read, W: Write>(
     ensures unread { HasBadPicks inquiry.now.picks.now → reader.new ≡ reader.old }
     ensures taken { OnOk result (TakesFor inquiry.now
         (R.remaining (watched_inner reader.old)) (R.remaining (watched_inner reader.new))) }
+    // Whatever the answer, nothing else was taken of the reader than some bytes at its front.
+    ensures front { TakesFront (R.remaining (watched_inner reader.old)) (R.remaining (watched_inner reader.new)) }
     ensures reader_unfailed { OnOk result (has_failed reader.new ≡ has_failed reader.old) }
     ensures writer_unfailed { OnOk result (has_failed writer.new ≡ has_failed writer.old) }
     ensures flushed { OnOk result (is_flushed writer.new ≡ true) }

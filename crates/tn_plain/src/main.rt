@@ -12,12 +12,13 @@ use std::process::ExitCode;
 use std::rt::{Env, Files};
 use tn_command::{REFUSED, Source, arguments, perform};
 use tn_run::Schedule;
+use tn_trace::JOURNAL;
 
 /// How many picks of a round may move where no limit is given.
 const LIMIT: u32 = 10_000;
 
-/// The most picks of a round that may move.
-const MOST: u32 = 65_536;
+/// The most picks of a round that may move: as many as a journal has places.
+const MOST: u32 = JOURNAL as u32;
 
 /// The limit that a word spells: a number from 1 to 65536.
 fn limit(word: &str) -> Option<u32> {

@@ -2,7 +2,7 @@
 ghost use Rattle.std.specs.Prelude.{◌≡◌, ◌≢◌, ℕ, true, IfOk, IfErr, OnOk, OnErr, IsErrOf};
 ghost use Rattle.std.specs.Io.KnownBytes.{Appends};
 ghost use Rattle.tn_text.specs.Watch.{watched_inner, has_failed, is_flushed};
-ghost use Rattle.tn_run.specs.Ends.{TakesText, WritesFront};
+ghost use Rattle.tn_run.specs.Ends.{TakesText, TakesFront, WritesFront};
 
 use crate::fault::RunFault;
 use std::alloc::Allocator;
@@ -12,13 +12,14 @@ use tn_text::{MAX_TEXT, Watched};
 /// The most bytes that are read: those of the longest text, and one more.
 const FULL: usize = MAX_TEXT + 1;
 
-/// Reads to the reader's end, or to byte `FULL`.
+/// Reads to the reader's end, or to byte `FULL`. A read that fails takes nothing.
 pub fn read_text<A: Allocator, R: Read>(
     alloc: A,
     reader: &mut Watched<R>,
 ) -> Result<Vec<u8, A>, RunFault>
     ensures text { IfOk result (λ v. TakesText (R.remaining (watched_inner reader.old))
         (R.remaining (watched_inner reader.new)) v.items) }
+    ensures front { TakesFront (R.remaining (watched_inner reader.old)) (R.remaining (watched_inner reader.new)) }
     ensures unfailed { OnOk result (has_failed reader.new ≡ has_failed reader.old) }
     ensures read { IsErrOf result RunFault.Read → has_failed reader.new ≡ true }
     ensures memory { IsErrOf result RunFault.OutOfMemory → has_failed reader.new ≡ has_failed reader.old }

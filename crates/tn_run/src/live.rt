@@ -6,6 +6,7 @@ ghost use Rattle.tn_run.specs.declared.fault.LiveFault.{LiveFault};
 ghost use Rattle.tn_run.specs.declared.fault.RunFault.{RunFault};
 ghost use Rattle.def_run.specs.Output.{refusal_text};
 ghost use Rattle.tn_run.specs.declared.outcome.Outcome.{Outcome};
+ghost use Rattle.tn_run.specs.Ends.{TakesFront};
 ghost use Rattle.tn_run.specs.Scripts.{refusal_of};
 ghost use Rattle.tn_run.specs.Settled.{RunsToRest, IsClosedOutput};
 ghost use Rattle.tn_run.specs.Out.{by_workers, IsRunOf};
@@ -162,6 +163,7 @@ fn prepare_live<R: Read, T: Threads + Wait + Sync, G: Gate>(
     ensures picks { IfOk result (λ r. HasPicksWhereListed r.0.outcome r.0.picks.items) }
     ensures taken { OnOk result
         (TakesSome (R.remaining (watched_inner reader.old)) (R.remaining (watched_inner reader.new))) }
+    ensures front { TakesFront (R.remaining (watched_inner reader.old)) (R.remaining (watched_inner reader.new)) }
     ensures unfailed { OnOk result (has_failed reader.new ≡ has_failed reader.old) }
     ensures read { IsErrOf result (LiveFault.Run RunFault.Read) → has_failed reader.new ≡ true }
     ensures inside { IfErr result (λ e. IsOfNoEnd e → has_failed reader.new ≡ has_failed reader.old) }
@@ -200,6 +202,8 @@ pub fn run_live<R: Read, W: Write, T: Threads + Wait + Sync, G: Gate>(
     ensures picks { IfOk result (λ r. HasPicksWhereListed r.outcome r.picks.items) }
     ensures taken { OnOk result
         (TakesSome (R.remaining (watched_inner reader.old)) (R.remaining (watched_inner reader.new))) }
+    // Whatever the answer, nothing else was taken of the reader than some bytes at its front.
+    ensures front { TakesFront (R.remaining (watched_inner reader.old)) (R.remaining (watched_inner reader.new)) }
     ensures reader_unfailed { OnOk result (has_failed reader.new ≡ has_failed reader.old) }
     ensures writer_unfailed { OnOk result (has_failed writer.new ≡ has_failed writer.old) }
     ensures flushed { OnOk result (is_flushed writer.new ≡ true) }

@@ -5,6 +5,7 @@ ghost use Rattle.def_run.specs.Listing.{program_output};
 ghost use Rattle.def_run.specs.Output.{refusal_text};
 ghost use Rattle.tn_program.specs.Views.{program_of};
 ghost use Rattle.tn_run.specs.declared.outcome.Outcome.{Outcome};
+ghost use Rattle.tn_run.specs.Ends.{TakesFront};
 ghost use Rattle.tn_run.specs.Scripts.{refusal_of};
 ghost use Rattle.tn_run.specs.Out.{Asked, asked, HasNoPicks, IsRunOf};
 ghost use Rattle.tn_run.specs.Plans.{IsPlanOf, planned, Gives, GivesAsPlanned, Writes, WritesSome, TakesSome, TakesFor};
@@ -81,6 +82,7 @@ fn prepare_plan<A: Allocator + Copy, R: Read>(
         (λ r. GivesAsPlanned (R.remaining (watched_inner reader.old)) plan.entry r.0 r.1.items) }
     ensures taken { OnOk result
         (TakesSome (R.remaining (watched_inner reader.old)) (R.remaining (watched_inner reader.new))) }
+    ensures front { TakesFront (R.remaining (watched_inner reader.old)) (R.remaining (watched_inner reader.new)) }
     ensures unfailed { OnOk result (has_failed reader.new ≡ has_failed reader.old) }
     ensures read { IsErrOf result RunFault.Read → has_failed reader.new ≡ true }
     ensures memory { IsErrOf result RunFault.OutOfMemory → has_failed reader.new ≡ has_failed reader.old }
@@ -103,6 +105,7 @@ fn prepare<A: Allocator + Copy, R: Read>(
         (λ r. Gives (R.remaining (watched_inner reader.old)) (asked schedule.entry) r.0 r.1.items) }
     ensures taken { OnOk result (TakesFor (asked schedule.entry)
         (R.remaining (watched_inner reader.old)) (R.remaining (watched_inner reader.new))) }
+    ensures front { TakesFront (R.remaining (watched_inner reader.old)) (R.remaining (watched_inner reader.new)) }
     ensures unread { HasNoPicks (asked schedule.entry) → reader.new ≡ reader.old }
     ensures unfailed { OnOk result (has_failed reader.new ≡ has_failed reader.old) }
     ensures read { IsErrOf result RunFault.Read → has_failed reader.new ≡ true }
@@ -138,6 +141,8 @@ pub fn run<A: Allocator + Copy, R: Read, W: Write>(
     ensures unread { HasNoPicks (asked schedule.entry) → reader.new ≡ reader.old }
     ensures taken { OnOk result (TakesFor (asked schedule.entry)
         (R.remaining (watched_inner reader.old)) (R.remaining (watched_inner reader.new))) }
+    // Whatever the answer, nothing else was taken of the reader than some bytes at its front.
+    ensures front { TakesFront (R.remaining (watched_inner reader.old)) (R.remaining (watched_inner reader.new)) }
     ensures reader_unfailed { OnOk result (has_failed reader.new ≡ has_failed reader.old) }
     ensures writer_unfailed { OnOk result (has_failed writer.new ≡ has_failed writer.old) }
     ensures flushed { OnOk result (is_flushed writer.new ≡ true) }

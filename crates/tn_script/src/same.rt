@@ -1,28 +1,12 @@
 // Equality of the parts of forms; it takes no memory.
 ghost use Rattle.std.specs.Prelude.{◌≡◌, ◌↔◌, IsTrue, map};
 ghost use Rattle.tn_flags.specs.Views.{command_of};
-ghost use Rattle.tn_term.specs.Views.{tree_of};
 ghost use Rattle.tn_script.specs.Views.{args_of, step_of, function_of, entry_of};
 
 use crate::form::{Arguments, Entry, Function, Step};
 use std::alloc::Allocator;
 use tn_flags::Command;
-use tn_term::{Atom, Term};
-
-/// Whether the terms are the same.
-fn same_terms<A: Allocator>(one: &[Term<A>], other: &[Term<A>]) -> bool
-    ensures { IsTrue result ↔ (map tree_of one.now ≡ map tree_of other.now) }
-{
-    if one.len() != other.len() {
-        return false;
-    }
-    for i in 0..one.len() {
-        if !one[i].same(&other[i]) {
-            return false;
-        }
-    }
-    true
-}
+use tn_term::{Atom, same_terms};
 
 /// Whether the names are the same.
 fn same_name<A: Allocator>(one: &Atom<A>, other: &Atom<A>) -> bool
