@@ -3,13 +3,7 @@ use crate::callee::{declared_by, put_callee};
 use crate::put::Detail;
 use std::alloc::Allocator;
 use tn_flags::Command;
-use tn_script::Form;
-
-/// The greatest number of steps of a function.
-const STEPS: usize = 64;
-
-/// The greatest number of commands.
-const COMMANDS: usize = 256;
+use tn_script::{Form, MAX_COMMANDS, MAX_STEPS};
 
 /// How many functions, processes and commands forms have, and how many of the commands create a session.
 #[derive(Clone, Copy)]
@@ -64,13 +58,13 @@ pub fn put_limit<A: Allocator>(out: &mut Detail<A>, earlier: &[Form<A>], form: &
     let mut totals = totals_of(earlier);
     totals.add(form);
     match form {
-        Form::Function(function) if function.steps.len() > STEPS => {
+        Form::Function(function) if function.steps.len() > MAX_STEPS => {
             out.number(b": ", function.steps.len());
             put_callee(out, b" steps in function ", &declared_by(function));
         }
         Form::Function(_) => put_total(out, totals.functions, b" functions"),
         Form::Process(_) => put_total(out, totals.processes, b" processes"),
-        Form::Control(_) if totals.commands > COMMANDS => {
+        Form::Control(_) if totals.commands > MAX_COMMANDS => {
             put_total(out, totals.commands, b" commands")
         }
         Form::Control(_) => put_total(out, totals.sessions, b" sessions"),

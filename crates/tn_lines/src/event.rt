@@ -17,7 +17,8 @@ use tn_session::{Look, Message, Session};
 use tn_term::Atom;
 
 /// Appends, a line each, what the session of this name makes of an event, and has the session see the event. One
-/// that was destroyed makes nothing of it. After an `Err`, which is refused memory, a part of it may stand there.
+/// that was destroyed makes nothing of it. After an `Err`, which is refused memory, a part of it may stand there, and
+/// the session is spent, as it was, or past the event.
 pub fn put_event_lines<A: Allocator + Copy>(
     alloc: A,
     name: &Atom<A>,

@@ -24,19 +24,13 @@ use crate::sessions::{CommandRule, any_breaks};
 use crate::variables::{has_variable, is_unbound};
 use std::alloc::{AllocError, Allocator};
 use tn_flags::Command;
-use tn_script::{Form, Function, Step};
+use tn_script::{Form, Function, MAX_COMMANDS, MAX_STEPS, Step};
 
 /// The greatest number of functions.
 const FUNCTIONS: u64 = 64;
 
-/// The greatest number of steps of a function.
-const STEPS: usize = 64;
-
 /// The greatest number of initial processes.
 const INITIAL_PROCESSES: u64 = 16;
-
-/// The greatest number of commands.
-const COMMANDS: u64 = 256;
 
 /// The greatest number of sessions.
 const SESSIONS: u64 = 32;
@@ -280,7 +274,7 @@ fn is_full<A: Allocator>(earlier: &[Form<A>]) -> bool
 fn is_long<A: Allocator>(steps: &[Step<A>]) -> bool
     ensures { result ≡ nat_lt step_limit (length (map step_of steps.now)) }
 {
-    STEPS < steps.len()
+    MAX_STEPS < steps.len()
 }
 
 /// Whether as many processes are started as may be.
@@ -294,7 +288,11 @@ fn is_crowded<A: Allocator>(earlier: &[Form<A>]) -> bool
 fn has_late_command<A: Allocator>(earlier: &[Form<A>], commands: &[Command<A>]) -> bool
     ensures { result ≡ passes_commands earlier.now commands.now }
 {
-    holds_past(COMMANDS, all_commands(earlier), commands.len() as u64)
+    holds_past(
+        MAX_COMMANDS as u64,
+        all_commands(earlier),
+        commands.len() as u64,
+    )
 }
 
 /// Whether one of the commands, which follow those of the forms, is a creation past the greatest number of them.
