@@ -69,13 +69,6 @@ impl<'a, A: Allocator + Copy> Look<'a, A> {
         self.state.flags_at(pid)
     }
 
-    /// The flags that new processes get.
-    pub fn flags_for_new(&self) -> Flags
-        ensures { flags_of result ≡ (look_seen self.now).for_new }
-    {
-        self.state.for_new
-    }
-
     /// Whether the frame of this depth is marked: its return is told.
     pub fn is_marked(&self, pid: u32, depth: usize) -> bool
         ensures { result ≡ session.is_marked (look_seen self.now) pid depth }

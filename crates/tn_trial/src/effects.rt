@@ -9,18 +9,18 @@ ghost use Rattle.tn_action.specs.Views.{effect_seen};
 ghost use Rattle.tn_text.specs.Writes.{Grows};
 ghost use Rattle.tn_trial.specs.Effects.{said_where, said_of, next_effect_text};
 
-use crate::spelling::put_term;
 use std::alloc::{AllocError, Allocator};
 use tn_action::Effect;
 use tn_flags::Flags;
 use tn_term::Term;
+use tn_text::write_term;
 
 /// Appends the text of a pid. After an `Err` a part of it may stand there.
 pub fn put_pid<B: Allocator>(pid: u32, out: &mut Vec<u8, B>) -> Result<(), AllocError>
     ensures ok { OnOk result (out.new.items ≡ out.old.items ++ pid_text pid) }
     ensures grows { Grows out.old.items out.new.items }
 {
-    put_term(&Term::<B>::Pid(pid), out)
+    write_term(&Term::<B>::Pid(pid), out)
 }
 
 /// The written names of the flags, and whether each is in the set.
@@ -93,7 +93,7 @@ fn put_effect<A: Allocator, B: Allocator>(
     match effect {
         Effect::Message(term) => {
             out.extend_from_slice(b"message ")?;
-            put_term(term, out)
+            write_term(term, out)
         }
         Effect::ReturnTrace => out.extend_from_slice(b"return_trace"),
         Effect::ExceptionTrace => out.extend_from_slice(b"exception_trace"),

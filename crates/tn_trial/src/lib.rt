@@ -13,6 +13,5 @@ mod trial;
 
 pub use effects::{put_effects, put_flags, put_pid};
 pub use question::{Question, QuestionFault, answer};
-pub use reasons::{put_number, put_reason};
-pub use spelling::put_term;
+pub use reasons::put_reason;
 pub use trial::{put_clause, put_trial};

@@ -6,11 +6,12 @@ ghost use Rattle.tn_guard.specs.Views.{value_seen};
 ghost use Rattle.tn_reason.specs.Views.{head_reason_seen, condition_seen, reason_seen};
 ghost use Rattle.tn_text.specs.Writes.{Grows};
 
-use crate::spelling::{put_expr, put_term};
+use crate::spelling::put_expr;
 use itoa::Buffer;
 use std::alloc::{AllocError, Allocator};
 use tn_guard::Value;
 use tn_reason::{ConditionReason, HeadReason, Reason};
+use tn_text::write_term;
 
 /// Appends the number of what stands behind so many.
 pub fn put_number<B: Allocator>(before: usize, out: &mut Vec<u8, B>) -> Result<(), AllocError>
@@ -31,7 +32,7 @@ pub fn put_value<A: Allocator, C: Allocator + Copy, B: Allocator>(
     ensures grows { Grows out.old.items out.new.items }
 {
     let term = value.copy_into(alloc)?;
-    put_term(&term, out)
+    write_term(&term, out)
 }
 
 /// Appends why a head doesn't match.

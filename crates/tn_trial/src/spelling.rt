@@ -139,23 +139,11 @@ fn put_constant<A: Allocator, B: Allocator>(
     ensures grows { Grows out.old.items out.new.items }
 {
     if is_read_as_itself(term) {
-        return put_term(term, out);
+        return write_term(term, out);
     }
     out.extend_from_slice(b"{const,")?;
-    put_term(term, out)?;
-    out.push(b'}')?;
-    Ok(())
-}
-
-/// Appends the text of the term.
-pub fn put_term<A: Allocator, B: Allocator>(
-    term: &Term<A>,
-    out: &mut Vec<u8, B>,
-) -> Result<(), AllocError>
-    ensures ok { OnOk result (out.new.items ≡ out.old.items ++ w (tree_of term.now)) }
-    ensures grows { Grows out.old.items out.new.items }
-{
     write_term(term, out)?;
+    out.push(b'}')?;
     Ok(())
 }
 

@@ -14,7 +14,7 @@ ghost use Rattle.tn_trial.specs.Trials.{fires_line, message_line};
 
 use crate::effects::{is_silent, put_effects};
 use crate::reasons::{put_number, put_reason, put_value};
-use crate::spelling::{put_term, put_variable};
+use crate::spelling::put_variable;
 use bumpalo::Bump;
 use std::alloc::{AllocError, Allocator};
 use tn_action::{Context, Effect};
@@ -23,6 +23,7 @@ use tn_head::{Binding, Bindings};
 use tn_reason::{Reason, Verdict, verdict};
 use tn_spec::{Dialect, Spec};
 use tn_term::Term;
+use tn_text::write_term;
 
 /// Appends the line of a binding.
 fn put_binding<A: Allocator, C: Allocator + Copy, B: Allocator>(
@@ -116,7 +117,7 @@ fn put_ending<A: Allocator, B: Allocator>(
         return out.extend_from_slice(b"no message: it is false");
     }
     out.extend_from_slice(b"a message that ends in ")?;
-    put_term(term, out)
+    Ok(write_term(term, out)?)
 }
 
 /// Appends what the effects of a clause that fires in this process make of the message.

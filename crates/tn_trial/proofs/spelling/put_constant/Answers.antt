@@ -12,5 +12,5 @@ returns-clause-ok g c =
     let first = c.extend_from_slice.new.self.items in
     let last = c.push.new.self.items in
     behind o (codes "{const,") (w t ++ 125 ∷ []) first last c.in_ok-extend_from_slice.ensures.items
-    (behind first (w t) (125 ∷ []) c.put_term-2.new.out.items last c.in_ok-put_term.ensures.ok c.in_ok-push.ensures.items)
+    (behind first (w t) (125 ∷ []) c.write_term-2.new.out.items last c.in_ok-write_term.ensures.ok c.in_ok-push.ensures.items)
     ∙ ap (λ l. o ++ l) (constant_text t (sym c.is_read_as_itself.ensures ∙ c.if-is_read_as_itself.false))
