@@ -233,5 +233,9 @@ def rows():
 
 
 def reply(answer):
-    """The reply to a command with a specification of this answer: one function, or one setting."""
-    return {"ok": "1", "badarg": "badarg"}.get(answer, "{unsupported,%s}" % answer)
+    """The reply to a command with a specification of this answer: one function, or one setting.
+
+    A name that is a reserved word is written between quotes.
+    """
+    name = f"'{answer}'" if answer in ("bsl", "bsr") else answer
+    return {"ok": "1", "badarg": "badarg"}.get(answer, "{unsupported,%s}" % name)
