@@ -5,6 +5,7 @@ ghost use Rattle.def_run.specs.Output.{HasBadPicks, refusal_text};
 ghost use Rattle.tn_text.specs.Watch.{watched_inner, has_failed};
 ghost use Rattle.tn_account.specs.Asks.{asked_seen};
 ghost use Rattle.tn_program.specs.Views.{program_of};
+ghost use Rattle.tn_run.specs.Ends.{TakesFront};
 ghost use Rattle.tn_run.specs.Plans.{TakesSome};
 ghost use Rattle.tn_run.specs.Scripts.{refusal_of};
 ghost use Rattle.tn_inquiry.specs.Accounts.{IsAnswer, IsToldOf, TellsBy, Tells, TakesFor};
