@@ -599,22 +599,50 @@ def refused_growth(library, number, words, script):
     return ran, is_refused
 
 
-def growths():
-    """Each growth of memory refused in turn: a fault and nothing written, or the whole output."""
+def preloaded(name, folder):
+    """The library that tests/NAME.c is compiled to; None where there is no C compiler."""
     compiler = shutil.which("cc") or shutil.which("gcc") or shutil.which("clang")
     if not compiler:
-        print("growths: not run, since there is no C compiler")
-        return
+        print(f"{name}: not run, since there is no C compiler")
+        return None
+    library = pathlib.Path(folder) / f"{name}.so"
+    source = TOP / "tests" / f"{name}.c"
+    subprocess.run([compiler, "-shared", "-fPIC", "-o", library, source, "-ldl"], check=True)
+    return library
+
+
+# Worked runs whose sessions set specifications, inherit flags, enable one another and are destroyed.
+GROWING = (
+    "guard-fault-skips-clause",
+    "caller-of-each-call",
+    "nothing-after-destroy",
+    "set-on-first-spawn",
+    "enable-on-another-pid",
+    "two-sessions",
+)
+
+
+def growing():
+    """Command lines and scripts that take memory in every way."""
     numbers = (EXAMPLES / "numbers.term").read_bytes()
+    every = (EXAMPLES / "every_line.term").read_bytes()
+    explain = ["explain", "--picks", "0 0 0 100 100 100"]
+    for words in (["workers", "--n", "1", "--turns", "2"], ["workers", "--n", "1"], ["round"], SEND_HI_PICKS, explain):
+        yield words, numbers
+    for words in (["workers", "--n", "1"], ["replay", *EVERY_LINE]):
+        yield words, every
+    for name in GROWING:
+        yield (ROWS / name / "args").read_text().removesuffix("\n").split("\n"), (ROWS / name / "stdin").read_bytes()
+
+
+def growths():
+    """Each growth of memory refused in turn: a fault and nothing written, or the whole output."""
     with tempfile.TemporaryDirectory() as folder:
-        library = pathlib.Path(folder) / "refusing_growth.so"
-        source = TOP / "tests" / "refusing_growth.c"
-        subprocess.run([compiler, "-shared", "-fPIC", "-o", library, source, "-ldl"], check=True)
-        explain = ["explain", "--picks", "0 0 0 100 100 100"]
-        for words in (["workers", "--n", "1", "--turns", "2"], ["workers", "--n", "1"], ["round"], SEND_HI_PICKS, explain):
-            whole = run(words, numbers).stdout
+        library = preloaded("refusing_growth", folder)
+        for words, script in growing() if library else ():
+            whole = run(words, script).stdout
             for number in range(100_000):
-                ran, is_refused = refused_growth(library, number, words, numbers)
+                ran, is_refused = refused_growth(library, number, words, script)
                 if not is_refused:
                     break
                 is_fault = ran.returncode == 3 and ran.stderr in (b"fault memory\n", b"fault workers\n")
@@ -622,6 +650,34 @@ def growths():
                     check(f"growth {number} of {words}", False, ran)
             good = ran.returncode == 0 and ran.stdout == whole and number > 100
             check(f"each growth of {words}, {number} of them", good, ran)
+
+
+def fronts():
+    """Each front of a script: the line of a refusal, or an output where it ends behind a form's full stop."""
+    for end in range(len(SEND_HI)):
+        front = SEND_HI[:end]
+        is_whole = front.rstrip().endswith(b"}.") or not front
+        ran = run(SEND_HI_PICKS, front)
+        first, rest = (b"== ", 0) if is_whole else (b"refused ", 1)
+        good = ran.stdout.startswith(first) and ran.stderr.count(b"\n") == rest and ran.returncode == 2 * rest
+        check(f"the first {end} bytes of a script", good, ran)
+
+
+def failing_ends():
+    """Standard input and output that fail after each byte, for good or once, or take nothing more."""
+    failed_read = b"fault 18 read: Input/output error (os error 5)\n"
+    with tempfile.TemporaryDirectory() as folder:
+        library = preloaded("failing_ends", folder)
+        for way in ("FAILS", "FAILS_ONCE", "TAKES_NONE") if library else ():
+            places = dict(os.environ, LD_PRELOAD=str(library), **{way: "1"})
+            for count in range(len(SEND_HI) + 1 if way != "TAKES_NONE" else 0):
+                ran = run(SEND_HI_PICKS, SEND_HI, env=dict(places, READ_BYTES=str(count)))
+                wants(f"a read that {way} after {count} bytes", ran, 3, b"", failed_read)
+            for count in range(len(SEND_HI_OUTPUT)):
+                ran = run(SEND_HI_PICKS, SEND_HI, env=dict(places, WRITE_BYTES=str(count)))
+                told = b"fault 19 write after %d bytes" % count
+                good = ran.returncode == 3 and ran.stderr.startswith(told) and ran.stderr.count(b"\n") == 1
+                check(f"a write that {way} after {count} bytes", good and ran.stdout == SEND_HI_OUTPUT[:count], ran)
 
 
 def starts():
@@ -655,7 +711,7 @@ def main():
         print("0 passed, 1 failed")
         sys.exit(1)
     parts = (rows, plain, tries, files, documents, examples, workers, explanations, trials, functions, specifications, refusals)
-    parts += (long_texts, passes, command_lines, ends, memory, growths, starts)
+    parts += (long_texts, passes, command_lines, ends, memory, growths, fronts, failing_ends, starts)
     for part in parts:
         try:
             part()

@@ -1,5 +1,5 @@
-// Each growth refused in turn, over the steps of a lock and of a book with two seats: what is answered, what
-// the seats have seen, and that lock and book are spent from then on.
+// Each growth refused in turn, over the steps of a lock with two seats: what is answered, what the seats have
+// seen, and that the lock is spent from then on.
 ghost use Rattle.std.specs.Prelude.{◌≡◌, []};
 ghost use Rattle.tn_trace.specs.Cores.{IsCore};
 
@@ -9,7 +9,7 @@ use std::marker::Brand;
 use std::process::Abort;
 use std::sync::Wait;
 use test_allocator::Refusing;
-use tn_live::{Book, CloseFault, Live, Naming, Opened, Seat, Turn};
+use tn_live::{CloseFault, Live, Naming, Opened, Seat, Turn};
 use tn_program::{Program, program};
 use tn_script::forms;
 use tn_trace::{Core, StepFault};
@@ -127,73 +127,6 @@ fn steps_under_a_lock(rt: HostRuntime) {
     for served in 0..ENOUGH {
         let heap = Refusing::after(alloc, served);
         walk_a_lock(&rt, &heap);
-        if !heap.has_refused() {
-            assert!(&rt; served > 50, "only {served} growths");
-            return;
-        }
-    }
-    assert!(&rt; false, "it doesn't end");
-}
-
-/// Two seats of a book take the picks by turns, until a step is refused memory: whether all moved. Each seat
-/// fits the book before its step.
-fn take_of_a_book<A: Allocator + Copy, J: Naming>(
-    rt: &impl Abort,
-    book: &mut Book<A, J>,
-    program: &Program<A>,
-    seats: &mut [Seat<A, J>],
-) -> bool {
-    for (at, pick) in PICKS.iter().enumerate() {
-        let Some(seat) = seats.get_mut(at % 2) else {
-            return false;
-        };
-        if !book.fits(program, seat) {
-            assert!(rt; false, "it fits");
-            return false;
-        }
-        if !has_moved(rt, book.step(seat, *pick)) {
-            return false;
-        }
-    }
-    true
-}
-
-/// The picks by two seats of a book. After a refusal no seat fits it.
-fn steps_of_a_book<A: Allocator + Copy, J: Naming, R: Abort>(
-    rt: &R,
-    program: &Program<A>,
-    alloc: A,
-    core: Core<A>,
-    opened: Opened,
-)
-    requires core { IsCore J.program [] core }
-    requires named { opened ≡ J.log }
-{
-    let Ok((mut book, mut seats)) = Book::<A, J>::begin(alloc, core, opened, 2) else {
-        return;
-    };
-    let moved = take_of_a_book(rt, &mut book, program, seats.as_mut_slice());
-    for seat in &seats {
-        assert!(rt; book.fits(program, seat) == moved);
-    }
-}
-
-/// The script's core in a book, where memory isn't refused before.
-fn walk_a_book<A: Allocator + Copy, R: Abort>(rt: &R, alloc: A) {
-    let (Some(program), Some(same)) = (program_of(alloc), program_of(alloc)) else {
-        return;
-    };
-    if let Ok(core) = Core::new(alloc, program) {
-        steps_of_a_book::<A, Brand, R>(rt, &same, alloc, core, Opened::new());
-    }
-}
-
-#[test]
-fn steps_of_books(rt: HostRuntime) {
-    let alloc = rt.alloc();
-    for served in 0..ENOUGH {
-        let heap = Refusing::after(alloc, served);
-        walk_a_book(&rt, &heap);
         if !heap.has_refused() {
             assert!(&rt; served > 50, "only {served} growths");
             return;

@@ -7,7 +7,6 @@ use std::marker::Brand;
 use std::process::Abort;
 use std::sync::Wait;
 use std::test::Fail;
-use test_allocator::Refusing;
 use tn_listing::{Line, line_of};
 use tn_live::{Closed, Live, Naming, Opened, Receipt, Seat, Turn};
 use tn_pool::{Board, assemble};
@@ -147,26 +146,6 @@ fn check_output<J: Naming>(
     Ok(())
 }
 
-/// Each growth of an output is refused in turn, and the next call gives it.
-fn check_refusals<J: Naming>(
-    rt: &impl Abort,
-    alloc: Global,
-    closed: &Closed<Global, J>,
-    board: &Board<Global>,
-) -> Result<(), Fail> {
-    for served in 0..1000 {
-        let heap = Refusing::after(alloc, served);
-        if assemble(&heap, closed, board).is_ok() {
-            assert!(rt; served > 2 && !heap.has_refused(), "after {served} growths");
-            return Ok(());
-        }
-        assert!(rt; heap.has_refused(), "nothing was refused");
-        let again = assemble(&heap, closed, board)?;
-        assert_eq!(rt; again.text.as_slice(), OUTPUT.as_bytes());
-    }
-    Err(Fail::new("each growth was refused"))
-}
-
 /// The output with no line, with all, and with another message's line at the index 2.
 fn check_boards<J: Naming, R: Wait + Abort>(
     rt: &R,
@@ -185,7 +164,6 @@ fn check_boards<J: Naming, R: Wait + Abort>(
     };
     let board = Board::new(alloc, alloc, 1, 4)?;
     check_output(rt, alloc, &closed, &board, 0)?;
-    check_refusals(rt, alloc, &closed, &board)?;
     fill(alloc, &board, receipts, other)?;
     check_output(
         rt,
@@ -193,8 +171,7 @@ fn check_boards<J: Naming, R: Wait + Abort>(
         &closed,
         &board,
         if other < LINES { 3 } else { LINES },
-    )?;
-    check_refusals(rt, alloc, &closed, &board)
+    )
 }
 
 /// The program of the spawns.
@@ -215,19 +192,4 @@ fn all_lines_but_one(rt: HostRuntime) -> Result<(), Fail> {
     let alloc = rt.alloc();
     let core = Core::new(alloc, spawns(alloc)?)?;
     check_boards::<Brand, _>(&rt, alloc, core, Opened::new(), 2)
-}
-
-/// Each growth of a new board is refused in turn.
-#[test]
-fn boards_refused(rt: HostRuntime) -> Result<(), Fail> {
-    let alloc = rt.alloc();
-    for served in 0..1000 {
-        let heap = Refusing::after(alloc, served);
-        if Board::new(&heap, alloc, 2, 4).is_ok() {
-            assert!(rt; served > 2 && !heap.has_refused(), "after {served} growths");
-            return Ok(());
-        }
-        assert!(rt; heap.has_refused(), "nothing was refused");
-    }
-    Err("each growth was refused".into())
 }

@@ -3,11 +3,9 @@
 use crate::code::check_code;
 use crate::head::{elements, is_text, spec_in};
 use bumpalo::Bump;
-use linked_list_allocator::LocalHeap;
 use std::alloc::{AllocError, Allocator, Global};
 use std::process::Abort;
 use std::test::Fail;
-use test_allocator::Refusing;
 use tn_action::{Context, Effect, Outcome, outcome};
 use tn_code::Code;
 use tn_compile::compile;
@@ -20,9 +18,6 @@ use tn_text::read_term;
 
 /// The pid of the process whose event it is.
 const OWN: u32 = 100;
-
-/// More growths than any of these calls needs.
-const ENOUGH: u64 = 10_000;
 
 /// The living pids: that process and another.
 fn two_alive() -> Alive {
@@ -117,12 +112,12 @@ fn context<'a>(
 
 /// Whether an outcome is evaluated plainly, or by the specification's code.
 #[derive(Clone, Copy)]
-enum Way {
+pub enum Way {
     Plain,
     Code,
 }
 
-const WAYS: [Way; 2] = [Way::Plain, Way::Code];
+pub const WAYS: [Way; 2] = [Way::Plain, Way::Code];
 
 /// The outcome of the specification's code.
 fn outcome_by_code<A: Allocator + Copy>(
@@ -145,7 +140,7 @@ fn outcome_of_code<A: Allocator + Copy>(
 }
 
 /// The outcome of the specification.
-fn outcome_by<A: Allocator + Copy>(
+pub fn outcome_by<A: Allocator + Copy>(
     way: Way,
     alloc: A,
     spec: &Spec<A>,
@@ -680,16 +675,39 @@ fn caller<A: Allocator + Copy>(alloc: A) -> Result<Option<Mfa<A>>, AllocError> {
     }))
 }
 
+/// Bindings, made values, each kind of effect and a fault, behind a clause whose condition is a fault.
+const SPEC: &str = "[{['$1','$2'],[{hd,[{'div','$1',0}]}],[]},
+ {['$1','$2'],[{'==',{{'$1',['$2']}},{{'$1',{tl,[a,'$2']}}}}],
+  [{message,[{{'$1','$2'}},'$_','$$',{hd,[]},{caller}]},{return_trace},{exception_trace},{silent,true},
+   {enable_trace,<0.101.0>,call},{message,{const,[a,{b}]}}]}]";
+
+const EFFECTS: &str =
+    "[{message,[{7,{x,[y]}},[7,{x,[y]}],[7,{x,[y]}],'EXIT',{m,go,2}]},return_trace,
+ exception_trace,{silent,true},{change,<0.101.0>,[],[call]},{message,[a,{b}]}]";
+
+/// Specifications on lists, and their outcomes where the caller is `{m,go,2}`.
+const WITH_CALLER: [(&str, &str, &str); 3] = [
+    (
+        "[{'_',[],[{message,{caller}},{message,[{element,2,{caller}}]}]}]",
+        "[]",
+        "[{message,{m,go,2}},{message,[go]}]",
+    ),
+    (SPEC, "[7,{x,[y]}]", EFFECTS),
+    (SPEC, "[7,[{x},{y}],8]", "no_match"),
+];
+
 #[test]
 fn callers(rt: HostRuntime) -> Result<(), Fail> {
     let caller = caller(rt.alloc())?.ok_or("no caller")?;
-    let case = Case {
-        dialect: Dialect::Call,
-        spec: "[{'_',[],[{message,{caller}},{message,[{element,2,{caller}}]}]}]",
-        list: "[]",
-    };
-    let wanted = "[{message,{m,go,2}},{message,[go]}]";
-    check_in(&rt, rt.alloc(), &case, Some(&caller), &two_alive(), wanted)
+    for (spec, list, wanted) in &WITH_CALLER {
+        let case = Case {
+            dialect: Dialect::Call,
+            spec,
+            list,
+        };
+        check_in(&rt, rt.alloc(), &case, Some(&caller), &two_alive(), wanted)?;
+    }
+    Ok(())
 }
 
 /// Clauses that match the numbers from 1 to 63, and a last one that matches any.
@@ -738,80 +756,5 @@ fn a_list_of_values(rt: HostRuntime) -> Result<(), Fail> {
     };
     let wanted = "[{message,[[{hi,[1]}],[1],[<0.101.0>,{hi,[1]},[{hi,[1]}]]]}]";
     assert!(rt; is_outcome(alloc, &spec, &context, wanted)?);
-    Ok(())
-}
-
-/// Bindings, made values, each kind of effect and a fault, behind a clause whose condition is a fault.
-const SPEC: &str = "[{['$1','$2'],[{hd,[{'div','$1',0}]}],[]},
- {['$1','$2'],[{'==',{{'$1',['$2']}},{{'$1',{tl,[a,'$2']}}}}],
-  [{message,[{{'$1','$2'}},'$_','$$',{hd,[]},{caller}]},{return_trace},{exception_trace},{silent,true},
-   {enable_trace,<0.101.0>,call},{message,{const,[a,{b}]}}]}]";
-
-const EFFECTS: &str =
-    "[{message,[{7,{x,[y]}},[7,{x,[y]}],[7,{x,[y]}],'EXIT',{m,go,2}]},return_trace,
- exception_trace,{silent,true},{change,<0.101.0>,[],[call]},{message,[a,{b}]}]";
-
-/// A memory that refuses one growth, over a block that knows how much of it is taken.
-type Heap<'a> = Refusing<&'a LocalHeap>;
-
-/// The outcome of the case, with the caller `{m,go,2}`; None where memory was refused.
-fn attempted<'h, 'm>(
-    heap: &'h Heap<'m>,
-    way: Way,
-    case: &Case<'_>,
-) -> Option<Outcome<&'h Heap<'m>>> {
-    let spec_term = read_term(heap, case.spec.as_bytes()).ok()?;
-    let spec = spec_of(heap, &spec_term, case.dialect).ok()?;
-    let Term::List(terms) = read_term(heap, case.list.as_bytes()).ok()? else {
-        return None;
-    };
-    let caller = caller(heap).ok()??;
-    let context = Context {
-        list: Parts::Terms(terms.as_slice()),
-        me: OWN,
-        caller: Some(&caller),
-        alive: &two_alive(),
-    };
-    outcome_by(way, heap, &spec, &context).ok()
-}
-
-/// Each growth refused in turn: the outcome of the text, or none where a growth was refused, and each block
-/// given back. The arena may ask again for less, so that there may be an outcome after a refusal.
-fn check_growths(
-    rt: &impl Abort,
-    alloc: Global,
-    way: Way,
-    case: &Case<'_>,
-    wanted: &str,
-) -> Result<(), Fail> {
-    let wanted = read_term(alloc, wanted.as_bytes())?;
-    let memory = LocalHeap::new(alloc, 1 << 16)?;
-    let before = memory.used();
-    for served in 0..ENOUGH {
-        let heap = Refusing::after(&memory, served);
-        match attempted(&heap, way, case) {
-            Some(outcome) => assert!(rt; outcome_term(alloc, &outcome)?.same(&wanted)),
-            None => assert!(rt; heap.has_refused(), "nothing was refused"),
-        }
-        assert_eq!(rt; memory.used(), before);
-        if !heap.has_refused() {
-            assert!(rt; served > 20, "only {served} growths");
-            return Ok(());
-        }
-    }
-    panic!(rt; "each outcome was refused memory")
-}
-
-#[test]
-fn growths_refused(rt: HostRuntime) -> Result<(), Fail> {
-    for (list, wanted) in &[("[7,{x,[y]}]", EFFECTS), ("[7,[{x},{y}],8]", "no_match")] {
-        let case = Case {
-            dialect: Dialect::Call,
-            spec: SPEC,
-            list,
-        };
-        check_growths(&rt, rt.alloc(), Way::Plain, &case, wanted)?;
-        check_growths(&rt, rt.alloc(), Way::Code, &case, wanted)?;
-    }
     Ok(())
 }

@@ -66,7 +66,7 @@ fn count<A: Allocator>(expression: &Expr<A>) -> usize {
 }
 
 /// The expression at a place.
-pub fn at<'a, A: Allocator>(whole: &'a [Expr<A>], place: &[usize]) -> Option<&'a Expr<A>> {
+fn at<'a, A: Allocator>(whole: &'a [Expr<A>], place: &[usize]) -> Option<&'a Expr<A>> {
     let mut found = None;
     let mut left = whole;
     for number in place {
@@ -78,7 +78,7 @@ pub fn at<'a, A: Allocator>(whole: &'a [Expr<A>], place: &[usize]) -> Option<&'a
 }
 
 /// Whether the row is of what stands there.
-pub fn is_seen<A: Allocator>(whole: &[Expr<A>], row: Row<'_>) -> bool {
+fn is_seen<A: Allocator>(whole: &[Expr<A>], row: Row<'_>) -> bool {
     match at(whole, row.0) {
         Some(expression) => kind(expression) == row.1 && count(expression) == row.2,
         None => false,
