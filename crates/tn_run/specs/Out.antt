@@ -10,6 +10,7 @@ use Rattle.def_run.specs.Output.{HasBadPicks, refusal_text}
 use Rattle.tn_run.specs.Settled.{IsAtRest}
 use Rattle.tn_run.specs.declared.outcome.Outcome.{Outcome}
 use Rattle.tn_run.specs.declared.outcome.Outcome.TheVariants.{Listed, Refused}
+use Rattle.tn_run.specs.declared.outcome.Refusal as told
 use Rattle.tn_run.specs.declared.outcome.Schedule.{Schedule}
 use Rattle.tn_run.specs.declared.outcome.Schedule.TheVariants.{Picks, Round}
 use Rattle.tn_run.specs.Scripts.{refusal_of}
@@ -59,6 +60,15 @@ IsRefusedSo bytes a r = HasPicks a × IsRefused bytes r
 abbrev pub IsRunOf : List ℕ → Asked → Outcome → List ℕ → Type 0
 IsRunOf bytes a Listed output = IsListed bytes a output
 IsRunOf bytes a (Refused r) output = IsRefusedSo bytes a (refusal_of r) × (output ≡ refusal_text (refusal_of r))
+
+-- the outcome and the line of a refusal
+abbrev pub IsToldRefusal : told.Refusal → Outcome → List ℕ → Type 0
+IsToldRefusal refusal outcome output = (outcome ≡ Refused refusal) × (output ≡ refusal_text (refusal_of refusal))
+
+-- the same, with no picks
+abbrev pub IsToldWithoutPicks : told.Refusal → Outcome → (picks output : List ℕ) → Type 0
+IsToldWithoutPicks refusal outcome picks output =
+    (outcome ≡ Refused refusal) × (picks ≡ []) × (output ≡ refusal_text (refusal_of refusal))
 
 -- a number at the end of a line, where there is one
 abbrev pub number_text : Option ℕ → List ℕ

@@ -1,6 +1,6 @@
 -- Runs by workers: how many there are, and which faults are of no end.
 -- Stands on what a run writes.
-use Rattle.std.specs.Prelude.{◌≡◌, ℕ, ◌<◌, ◌≤◌, List, [], Option, IfSome}
+use Rattle.std.specs.Prelude.{◌≡◌, ℕ, ◌<◌, ◌≤◌, List, [], Option, IfSome, Result, IsErrOf}
 use Rattle.tn_run.specs.declared.outcome.Outcome.{Outcome}
 use Rattle.tn_run.specs.declared.outcome.Outcome.TheVariants.{Listed, Refused}
 use Rattle.tn_run.specs.declared.fault.LiveFault.{LiveFault}
@@ -26,6 +26,10 @@ IsOfNoWrite (Run Read) = Unit {0}
 IsOfNoWrite (Run (Write n)) = ⊥
 IsOfNoWrite (Run OutOfMemory) = Unit {0}
 IsOfNoWrite (Pool fault) = Unit {0}
+
+-- a write failed once the writer had taken n bytes
+abbrev pub FailsWrite : {A : Type 0} → Result A LiveFault → ℕ → Type 0
+FailsWrite result n = IsErrOf result (Run (Write n))
 
 -- a refused script has no picks
 abbrev pub HasPicksWhereListed : Outcome → List ℕ → Type 0

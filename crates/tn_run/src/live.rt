@@ -4,14 +4,11 @@ ghost use Rattle.tn_text.specs.Watch.{watched_inner, has_failed, is_flushed};
 ghost use Rattle.tn_trace.specs.Cores.{IsCore};
 ghost use Rattle.tn_run.specs.declared.fault.LiveFault.{LiveFault};
 ghost use Rattle.tn_run.specs.declared.fault.RunFault.{RunFault};
-ghost use Rattle.def_run.specs.Output.{refusal_text};
-ghost use Rattle.tn_run.specs.declared.outcome.Outcome.{Outcome};
 ghost use Rattle.tn_run.specs.Ends.{TakesFront};
-ghost use Rattle.tn_run.specs.Scripts.{refusal_of};
 ghost use Rattle.tn_run.specs.Settled.{RunsToRest, IsClosedOutput};
-ghost use Rattle.tn_run.specs.Out.{by_workers, IsRunOf};
+ghost use Rattle.tn_run.specs.Out.{by_workers, IsRunOf, IsToldWithoutPicks};
 ghost use Rattle.tn_run.specs.Plans.{Gives, Writes, TakesSome};
-ghost use Rattle.tn_run.specs.Workers.{IsOfNoEnd, IsOfNoWrite, IsWorkerCount, HasPicksWhereListed, WritesSomeByWorkers};
+ghost use Rattle.tn_run.specs.Workers.{IsOfNoEnd, IsOfNoWrite, IsWorkerCount, HasPicksWhereListed, FailsWrite, WritesSomeByWorkers};
 
 use crate::acceptance::{Denial, accept};
 use crate::ends::{read_text, write_output};
@@ -105,9 +102,7 @@ fn run_core<J: Naming + Send + Sync, T: Threads + Wait + Sync, G: Gate>(
 
 /// What a refusal writes, with no picks.
 fn refused_live(alloc: Global, refusal: Refusal) -> Result<(Ran, Vec<u8>), LiveFault>
-    ensures { MatchResult result
-        (λ r. (r.0.outcome ≡ Outcome.Refused refusal) × (r.0.picks.items ≡ [])
-        × (r.1.items ≡ refusal_text (refusal_of refusal)))
+    ensures { MatchResult result (λ r. IsToldWithoutPicks refusal r.0.outcome r.0.picks.items r.1.items)
         (λ e. e ≡ LiveFault.Run RunFault.OutOfMemory) }
 {
     match refused(alloc, refusal) {
@@ -211,9 +206,8 @@ pub fn run_live<R: Read, W: Write, T: Threads + Wait + Sync, G: Gate>(
     // A fault says which end failed; only a failed write has written anything.
     ensures read { IsErrOf result (LiveFault.Run RunFault.Read) → has_failed reader.new ≡ true }
     ensures read_wrote_nothing { IsErrOf result (LiveFault.Run RunFault.Read) → writer.new ≡ writer.old }
-    ensures write { (n : ℕ) → IsErrOf result (LiveFault.Run (RunFault.Write n)) → has_failed writer.new ≡ true }
-    ensures written { (n : ℕ) → IsErrOf result (LiveFault.Run (RunFault.Write n)) →
-        WritesSomeByWorkers (R.remaining (watched_inner reader.old))
+    ensures write { (n : ℕ) → FailsWrite result n → has_failed writer.new ≡ true }
+    ensures written { (n : ℕ) → FailsWrite result n → WritesSomeByWorkers (R.remaining (watched_inner reader.old))
         (W.contents (watched_inner writer.old)) (W.contents (watched_inner writer.new)) n }
     ensures inside { IfErr result (λ e. IsOfNoEnd e → has_failed reader.new ≡ has_failed reader.old) }
     ensures inside_wrote_nothing { IfErr result (λ e. IsOfNoEnd e → writer.new ≡ writer.old) }

@@ -2,12 +2,9 @@
 ghost use Rattle.std.specs.Prelude.{◌≡◌, ◌≢◌, ℕ, true, IfOk, IfErr, MatchResult, OnOk, IsErrOf};
 ghost use Rattle.tn_text.specs.Watch.{watched_inner, has_failed, is_flushed};
 ghost use Rattle.def_run.specs.Listing.{program_output};
-ghost use Rattle.def_run.specs.Output.{refusal_text};
 ghost use Rattle.tn_program.specs.Views.{program_of};
-ghost use Rattle.tn_run.specs.declared.outcome.Outcome.{Outcome};
 ghost use Rattle.tn_run.specs.Ends.{TakesFront};
-ghost use Rattle.tn_run.specs.Scripts.{refusal_of};
-ghost use Rattle.tn_run.specs.Out.{Asked, asked, HasNoPicks, IsRunOf};
+ghost use Rattle.tn_run.specs.Out.{Asked, asked, HasNoPicks, IsRunOf, IsToldRefusal};
 ghost use Rattle.tn_run.specs.Plans.{IsPlanOf, planned, Gives, GivesAsPlanned, Writes, WritesSome, TakesSome, TakesFor};
 
 use crate::acceptance::{Denial, accept};
@@ -27,9 +24,7 @@ pub(crate) fn refused<A: Allocator>(
     alloc: A,
     refusal: Refusal,
 ) -> Result<(Outcome, Vec<u8, A>), RunFault>
-    ensures { MatchResult result
-        (λ r. (r.0 ≡ Outcome.Refused refusal) × (r.1.items ≡ refusal_text (refusal_of refusal)))
-        (λ e. e ≡ RunFault.OutOfMemory) }
+    ensures { MatchResult result (λ r. IsToldRefusal refusal r.0 r.1.items) (λ e. e ≡ RunFault.OutOfMemory) }
 {
     let Ok(line) = refusal_bytes(alloc, refusal) else {
         return Err(RunFault::OutOfMemory);
