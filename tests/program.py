@@ -648,7 +648,7 @@ def growths():
                 is_fault = ran.returncode == 3 and ran.stderr in (b"fault memory\n", b"fault workers\n")
                 if not (is_fault and not ran.stdout or ran.returncode == 0 and ran.stdout == whole):
                     check(f"growth {number} of {words}", False, ran)
-            good = ran.returncode == 0 and ran.stdout == whole and number > 100
+            good = ran.returncode == 0 and ran.stdout == whole and number > 50
             check(f"each growth of {words}, {number} of them", good, ran)
 
 
