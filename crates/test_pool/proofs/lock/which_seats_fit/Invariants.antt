@@ -1,5 +1,5 @@
 use Rattle.tn_program.specs.Views.{program_of}
-use Rattle.test_live.proofs.lock.which_seats_fit.Given as goal
+use Rattle.test_pool.proofs.lock.which_seats_fit.Given as goal
 
 -- the log that was just opened, and the core's program
 abbrev pub ghosts-seats_that_fit : goal.ghosts-seats_that_fit

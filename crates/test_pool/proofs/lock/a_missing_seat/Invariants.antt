@@ -1,5 +1,5 @@
 use Rattle.tn_program.specs.Views.{program_of}
-use Rattle.test_live.proofs.lock.a_missing_seat.Given as goal
+use Rattle.test_pool.proofs.lock.a_missing_seat.Given as goal
 
 -- the log that was just opened, and the core's program
 abbrev pub ghosts-closed_twice : goal.ghosts-closed_twice

@@ -1,5 +1,5 @@
 use Rattle.tn_program.specs.Views.{program_of}
-use Rattle.test_live.proofs.lock.two_seats_in_turn.Given as goal
+use Rattle.test_pool.proofs.lock.two_seats_in_turn.Given as goal
 
 -- the log that was just opened, and the core's program
 abbrev pub ghosts-spawns_by_two : goal.ghosts-spawns_by_two
