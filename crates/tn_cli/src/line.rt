@@ -26,27 +26,40 @@ fn script<'a>(alloc: Global) -> Arg<'a> {
         .action(ArgAction::Set)
 }
 
-/// A command that runs the script by picks, with `--picks TEXT` or `--picks-file FILE`. TEXT may begin with a
-/// hyphen: the run refuses it, not the command line.
-fn by_picks<'a>(alloc: Global, name: &'a str, about: &'a str) -> Result<Command<'a>, AllocError> {
+/// `--picks TEXT`. TEXT may begin with a hyphen: the run refuses it, not the command line.
+fn picks<'a>(alloc: Global) -> Result<Arg<'a>, AllocError> {
     let picks = Arg::new(alloc, "picks")
         .long("picks")
         .value_name("TEXT")
         .help("The picks: decimal numbers, one space between each two")
-        .required_unless_present("picks-file")?
-        .conflicts_with("picks-file")?
         .allow_hyphen_values(true)
         .action(ArgAction::Set);
-    let picks_file = Arg::new(alloc, "picks-file")
+    picks
+        .required_unless_present("picks-file")?
+        .conflicts_with("picks-file")
+}
+
+/// `--picks-file FILE`.
+fn picks_file<'a>(alloc: Global) -> Arg<'a> {
+    Arg::new(alloc, "picks-file")
         .long("picks-file")
         .value_name("FILE")
         .help("The file of the picks; standard input where it is -")
-        .action(ArgAction::Set);
-    Command::new(alloc, name)
-        .about(about)
-        .arg(script(alloc))?
-        .arg(picks)?
-        .arg(picks_file)
+        .action(ArgAction::Set)
+}
+
+/// The command with one argument more, where there was memory for that.
+fn with_argument<'a>(
+    command: Command<'a>,
+    argument: Result<Arg<'a>, AllocError>,
+) -> Result<Command<'a>, AllocError> {
+    command.arg(argument?)
+}
+
+/// A command that runs the script by picks, with `--picks TEXT` or `--picks-file FILE`.
+fn by_picks<'a>(alloc: Global, name: &'a str, about: &'a str) -> Result<Command<'a>, AllocError> {
+    let command = Command::new(alloc, name).about(about).arg(script(alloc))?;
+    with_argument(command, picks(alloc))?.arg(picks_file(alloc))
 }
 
 /// The subcommand `replay [SCRIPT]` with picks.
@@ -55,68 +68,87 @@ fn replay<'a>(alloc: Global) -> Result<Command<'a>, AllocError> {
     by_picks(alloc, "replay", about)
 }
 
-/// The subcommand `explain [SCRIPT] [--session NAME] [--move N]` with picks.
-fn explain<'a>(alloc: Global) -> Result<Command<'a>, AllocError> {
-    let session = Arg::new(alloc, "session")
+/// `--session NAME`. NAME may begin with a hyphen.
+fn session<'a>(alloc: Global) -> Arg<'a> {
+    Arg::new(alloc, "session")
         .long("session")
         .value_name("NAME")
         .help("Explains what the session of this name makes of the run, and no other")
         .allow_hyphen_values(true)
-        .action(ArgAction::Set);
-    let number = Arg::new(alloc, "move")
+        .action(ArgAction::Set)
+}
+
+/// `--move N`.
+fn move_number<'a>(alloc: Global) -> Arg<'a> {
+    Arg::new(alloc, "move")
         .long("move")
         .value_name("N")
         .help("Explains the move of this number alone, counted from 1")
         .value_parser(value_parser!(u32))
-        .action(ArgAction::Set);
-    let about = "Runs the script by the given picks, and prints why each session tells or doesn't";
-    by_picks(alloc, "explain", about)?.arg(session)?.arg(number)
+        .action(ArgAction::Set)
 }
 
-/// The subcommand `round [SCRIPT] [--limit N]`.
-fn round<'a>(alloc: Global) -> Result<Command<'a>, AllocError> {
-    let limit = Arg::new(alloc, "limit")
+/// The subcommand `explain [SCRIPT] [--session NAME] [--move N]` with picks.
+fn explain<'a>(alloc: Global) -> Result<Command<'a>, AllocError> {
+    let about = "Runs the script by the given picks, and prints why each session tells or doesn't";
+    by_picks(alloc, "explain", about)?
+        .arg(session(alloc))?
+        .arg(move_number(alloc))
+}
+
+/// `--limit N`.
+fn limit<'a>(alloc: Global) -> Arg<'a> {
+    Arg::new(alloc, "limit")
         .long("limit")
         .value_name("N")
         .help("How many picks may move, from 1 to 65536")
         .value_parser(value_parser!(u32).range(1..=65536))
         .default_value("10000")
-        .action(ArgAction::Set);
+        .action(ArgAction::Set)
+}
+
+/// The subcommand `round [SCRIPT] [--limit N]`.
+fn round<'a>(alloc: Global) -> Result<Command<'a>, AllocError> {
     Command::new(alloc, "round")
         .about("Runs the script in rounds of all processes, until nothing moves")
         .arg(script(alloc))?
-        .arg(limit)
+        .arg(limit(alloc))
 }
 
-/// The subcommand `workers [SCRIPT] --n N [--turns T]`.
-fn workers<'a>(alloc: Global) -> Result<Command<'a>, AllocError> {
-    let count = Arg::new(alloc, "n")
+/// `--n N`.
+fn worker_count<'a>(alloc: Global) -> Arg<'a> {
+    Arg::new(alloc, "n")
         .long("n")
         .value_name("N")
         .help("How many workers there are, from 1 to 16")
         .required(true)
         .value_parser(value_parser!(u32).range(1..=16))
-        .action(ArgAction::Set);
-    let turns = Arg::new(alloc, "turns")
+        .action(ArgAction::Set)
+}
+
+/// `--turns T`.
+fn turns<'a>(alloc: Global) -> Arg<'a> {
+    Arg::new(alloc, "turns")
         .long("turns")
         .value_name("T")
         .help("How many turns each worker takes at most, from 1 to 65536")
         .value_parser(value_parser!(u32).range(1..=65536))
         .default_value("1000")
-        .action(ArgAction::Set);
+        .action(ArgAction::Set)
+}
+
+/// The subcommand `workers [SCRIPT] --n N [--turns T]`.
+fn workers<'a>(alloc: Global) -> Result<Command<'a>, AllocError> {
     Command::new(alloc, "workers")
         .about("Runs the script by workers in threads, and then until nothing moves")
         .arg(script(alloc))?
-        .arg(count)?
-        .arg(turns)
+        .arg(worker_count(alloc))?
+        .arg(turns(alloc))
 }
 
-/// What the specification of `spec` is for.
-const EVENTS: &[&str] = &["call", "send", "receive"];
-
-/// The subcommand `spec --list TERM [--for EVENT] [--me N] [--caller TERM] [SPECIFICATION]`.
-fn spec<'a>(alloc: Global) -> Result<Command<'a>, AllocError> {
-    let list = Arg::new(alloc, "list")
+/// `--list TERM`. TERM may begin with a hyphen, as in all words of `spec`.
+fn list<'a>(alloc: Global) -> Arg<'a> {
+    Arg::new(alloc, "list")
         .long("list")
         .value_name("TERM")
         .help(
@@ -124,54 +156,85 @@ fn spec<'a>(alloc: Global) -> Result<Command<'a>, AllocError> {
         )
         .required(true)
         .allow_hyphen_values(true)
-        .action(ArgAction::Set);
-    let event = Arg::new(alloc, "for")
+        .action(ArgAction::Set)
+}
+
+/// What the specification of `spec` is for.
+const EVENTS: &[&str] = &["call", "send", "receive"];
+
+/// `--for EVENT`.
+fn event<'a>(alloc: Global) -> Arg<'a> {
+    Arg::new(alloc, "for")
         .long("for")
         .value_name("EVENT")
         .help("What the specification is for: call, send or receive")
         .value_parser(EVENTS)
         .default_value("call")
-        .action(ArgAction::Set);
-    let me = Arg::new(alloc, "me")
+        .action(ArgAction::Set)
+}
+
+/// `--me N`.
+fn own_process<'a>(alloc: Global) -> Arg<'a> {
+    Arg::new(alloc, "me")
         .long("me")
         .value_name("N")
         .help("The process whose event it is, <0.N.0>")
         .value_parser(value_parser!(u32))
         .default_value("100")
-        .action(ArgAction::Set);
-    let caller = Arg::new(alloc, "caller")
+        .action(ArgAction::Set)
+}
+
+/// `--caller TERM`.
+fn caller<'a>(alloc: Global) -> Arg<'a> {
+    Arg::new(alloc, "caller")
         .long("caller")
         .value_name("TERM")
         .help("The function that the call comes from, {Module,Function,Arity}")
         .allow_hyphen_values(true)
-        .action(ArgAction::Set);
-    let specification = Arg::new(alloc, "specification")
+        .action(ArgAction::Set)
+}
+
+/// The specification of `spec`.
+fn specification<'a>(alloc: Global) -> Arg<'a> {
+    Arg::new(alloc, "specification")
         .value_name("SPECIFICATION")
         .help("The specification; standard input where it is absent or -")
         .allow_hyphen_values(true)
-        .action(ArgAction::Set);
+        .action(ArgAction::Set)
+}
+
+/// The subcommand `spec --list TERM [--for EVENT] [--me N] [--caller TERM] [SPECIFICATION]`.
+fn spec<'a>(alloc: Global) -> Result<Command<'a>, AllocError> {
     Command::new(alloc, "spec")
         .about(
             "Holds one match specification against a list, and prints why each clause fires or doesn't",
         )
-        .arg(list)?
-        .arg(event)?
-        .arg(me)?
-        .arg(caller)?
-        .arg(specification)
+        .arg(list(alloc))?
+        .arg(event(alloc))?
+        .arg(own_process(alloc))?
+        .arg(caller(alloc))?
+        .arg(specification(alloc))
+}
+
+/// The command with one subcommand more, where there was memory for that.
+fn with_subcommand<'a>(
+    command: Command<'a>,
+    subcommand: Result<Command<'a>, AllocError>,
+) -> Result<Command<'a>, AllocError> {
+    command.subcommand(subcommand?)
 }
 
 /// The command with its subcommands.
 pub fn command<'a>(alloc: Global) -> Result<Command<'a>, AllocError> {
-    Command::new(alloc, "tracenode")
+    let command = Command::new(alloc, "tracenode")
         .bin_name("tracenode")?
         .version(VERSION)
         .about("Runs a node of scripted processes under trace sessions")
         .after_help(MORE)
-        .subcommand_required(true)
-        .subcommand(replay(alloc)?)?
-        .subcommand(round(alloc)?)?
-        .subcommand(workers(alloc)?)?
-        .subcommand(explain(alloc)?)?
-        .subcommand(spec(alloc)?)
+        .subcommand_required(true);
+    let command = with_subcommand(command, replay(alloc))?;
+    let command = with_subcommand(command, round(alloc))?;
+    let command = with_subcommand(command, workers(alloc))?;
+    let command = with_subcommand(command, explain(alloc))?;
+    with_subcommand(command, spec(alloc))
 }
