@@ -7,3 +7,4 @@ pub mod Leaves
 pub mod Entering
 pub mod Reading
 pub mod Scripts
+pub mod Writing

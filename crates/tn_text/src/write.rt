@@ -3,7 +3,7 @@ ghost use Rattle.std.specs.Prelude.{◌≡◌, ◌++◌, ◌∷◌, [], OnOk, On
 ghost use Rattle.std.specs.Fmt.{signed_decimal};
 ghost use Rattle.def_term.specs.Text.{w, joined, atom_text, pid_text, escaped};
 ghost use Rattle.tn_term.specs.Views.{tree_of, trees_of};
-ghost use Rattle.tn_text.specs.Writes.{Grows};
+ghost use Rattle.tn_text.specs.Writes.{Grows, enclosed};
 
 use crate::name::is_bare;
 use itoa::Buffer;
@@ -55,19 +55,25 @@ fn put<A: Allocator, B: Allocator>(term: &Term<A>, out: &mut Vec<u8, B>) -> Resu
         Term::Int(n) => put_integer(*n, out),
         Term::Atom(a) => put_atom(a.text(), out),
         Term::Pid(n) => put_pid(*n, out),
-        Term::Tuple(v) => {
-            out.push(b'{')?;
-            put_all(v, out)?;
-            out.push(b'}')?;
-            Ok(())
-        }
-        Term::List(v) => {
-            out.push(b'[')?;
-            put_all(v, out)?;
-            out.push(b']')?;
-            Ok(())
-        }
+        Term::Tuple(v) => put_enclosed(b'{', v, b'}', out),
+        Term::List(v) => put_enclosed(b'[', v, b']', out),
     }
+}
+
+/// Appends the texts of terms, with a comma between any two, and a bracket on each side.
+#[cycle(put)]
+fn put_enclosed<A: Allocator, B: Allocator>(
+    left: u8,
+    items: &Vec<Term<A>, A>,
+    right: u8,
+    out: &mut Vec<u8, B>,
+) -> Result<(), AllocError>
+    ensures ok { OnOk result (out.new.items ≡ out.old.items ++ enclosed left (trees_of items.now.items) right) }
+    ensures grows { Grows out.old.items out.new.items }
+{
+    put_one(left, out)?;
+    put_all(items, out)?;
+    put_one(right, out)
 }
 
 /// Appends the texts of terms, with a comma between any two.
@@ -84,7 +90,7 @@ fn put_all<A: Allocator, B: Allocator>(
     }
     put(&items[0], out)?;
     for i in 1..items.len() {
-        out.push(b',')?;
+        put_one(b',', out)?;
         put(&items[i], out)?;
     }
     Ok(())
@@ -118,10 +124,9 @@ fn put_atom<B: Allocator>(text: &str, out: &mut Vec<u8, B>) -> Result<(), AllocE
     if is_bare(text) {
         return out.extend_from_slice(text.as_bytes());
     }
-    out.push(b'\'')?;
+    put_one(b'\'', out)?;
     put_escaped(text.as_bytes(), out)?;
-    out.push(b'\'')?;
-    Ok(())
+    put_one(b'\'', out)
 }
 
 /// Appends the bytes, with a backslash before each quote and backslash.
@@ -141,10 +146,16 @@ fn put_byte<B: Allocator>(b: u8, out: &mut Vec<u8, B>) -> Result<(), AllocError>
     ensures grows { Grows out.old.items out.new.items }
 {
     if b == b'\'' || b == b'\\' {
-        out.push(b'\\')?;
-        out.push(b)?;
-        return Ok(());
+        put_one(b'\\', out)?;
     }
+    put_one(b, out)
+}
+
+/// Appends a byte as it is.
+fn put_one<B: Allocator>(b: u8, out: &mut Vec<u8, B>) -> Result<(), AllocError>
+    ensures ok { OnOk result (out.new.items ≡ out.old.items ++ b ∷ []) }
+    ensures grows { Grows out.old.items out.new.items }
+{
     out.push(b)?;
     Ok(())
 }
