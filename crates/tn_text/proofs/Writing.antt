@@ -1,10 +1,10 @@
 -- What is written in parts.
-use Rattle.std.proofs.Common.{◌≡◌, ℕ, ◌+◌, ◌<◌, ◌≤◌, List, [], ◌∷◌, ◌++◌, length, get_or, drop, Result, Ok, Err, OnOk, IsErrAnd, ap, sym, ◌∙◌, subst, arith, append_assoc, append-nil, false, eqb, vec_len}
+use Rattle.std.proofs.Common.{◌≡◌, ℕ, ◌+◌, ◌<◌, ◌≤◌, List, [], ◌∷◌, ◌++◌, length, get_or, drop, Result, Ok, Err, OnOk, IsErrAnd, ap, sym, ◌∙◌, subst, arith, append_assoc, append-nil, false, eqb, vec_len, flat_map}
 use Rattle.std.specs.declared.vec.Vec.{Vec}
 use Rattle.std.proofs.lemmas.Bool.{eqb-false}
 use Rattle.std.proofs.lemmas.List.{drop_more, drop_all}
 use Rattle.def_term.specs.Tree.{Trees}
-use Rattle.def_term.specs.Text.{w, joined, each_after_comma}
+use Rattle.def_term.specs.Text.{w, joined, each_after_comma, escaped}
 use Rattle.tn_term.specs.declared.term.Term.{Term}
 use Rattle.tn_term.specs.Views.{tree_of, trees_of}
 use Rattle.tn_text.specs.Writes.{Grows, enclosed}
@@ -55,3 +55,13 @@ all_written items i a z over so_far = sym (append-nil a) ∙ sym (ap (λ ts. a +
 pub enclosed_written : (ts : Trees) (left right : ℕ) (a b d e : List ℕ) → b ≡ a ++ left ∷ [] → d ≡ b ++ joined ts → e ≡ d ++ right ∷ [] → e ≡ a ++ enclosed left ts right
 enclosed_written ts left right a b d e first between last =
     last ∙ ap (λ o. o ++ right ∷ []) (between ∙ ap (λ o. o ++ joined ts) first) ∙ append_assoc (a ++ left ∷ []) (joined ts) (right ∷ []) ∙ append_assoc a (left ∷ []) (joined ts ++ right ∷ [])
+
+-- one more byte, escaped
+pub escaped_more : (bytes : List ℕ) (i : ℕ) (a b z : List ℕ) → i < length bytes → a ++ flat_map escaped (drop i bytes) ≡ z → b ≡ a ++ escaped (get_or bytes i 0) → b ++ flat_map escaped (drop (i + 1) bytes) ≡ z
+escaped_more bytes i a b z below so_far text =
+    let rest = flat_map escaped (drop (i + 1) bytes) in
+    let first = escaped (get_or bytes i 0) in
+    ap (λ o. o ++ rest) text ∙ append_assoc a first rest ∙ ap (λ t. a ++ t) (sym (ap (flat_map escaped) (drop_more bytes i 0 below))) ∙ so_far
+
+pub all_escaped : (bytes : List ℕ) (i : ℕ) (a z : List ℕ) → length bytes ≤ i → a ++ flat_map escaped (drop i bytes) ≡ z → a ≡ z
+all_escaped bytes i a z over so_far = sym (append-nil a) ∙ sym (ap (λ bs. a ++ flat_map escaped bs) (drop_all i bytes over)) ∙ so_far
