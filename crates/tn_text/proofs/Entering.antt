@@ -1,12 +1,14 @@
 -- Tokens by their kinds, and where they stand in a text.
-use Rattle.std.proofs.Common.{◌≡◌, ◌≢◌, ℕ, ◌+◌, ◌-◌, ◌≤◌, List, [], ◌∷◌, length, take, drop, true, false, Result, refl, ap, sym, ◌∙◌, subst, arith}
+use Rattle.std.proofs.Common.{◌≡◌, ◌≢◌, ℕ, ℤ, ◌+◌, ◌-◌, ◌≤◌, List, [], ◌∷◌, length, take, drop, true, false, Result, refl, ap, sym, ◌∙◌, subst, arith}
 use Rattle.std.proofs.lemmas.Bool.{and_parts, and_from}
 use Rattle.std.proofs.lemmas.Bool.Decides.{nat_tests}
 use Rattle.std.proofs.lemmas.List.{drop-drop, take_at}
-use Rattle.def_term.specs.Tree.{atom}
+use Rattle.def_term.specs.Tree as tree
+use Rattle.def_term.specs.Tree.{int, atom, list}
 use Rattle.def_term.specs.Text.{is_lower, is_name, is_name_byte, are_name_bytes}
 use Rattle.def_text.specs.Tokens as text
-use Rattle.def_text.specs.Tokens.{open_brace, close_brace, open_bracket, close_bracket, comma, stop, integer, characters, pid, bad, gap_len, all_are, is_printable, IsBare, IsQuoted, IsToken, Stands}
+use Rattle.def_text.specs.Tokens.{open_brace, close_brace, open_bracket, close_bracket, comma, stop, integer, characters, pid, bad, gap_len, all_are, is_printable, IsInteger, IsPid, IsBare, IsQuoted, IsToken, Stands}
+use Rattle.def_text.specs.Grammar.{of_codes}
 use Rattle.def_text.specs.Scan.{IsOf}
 use Rattle.def_text.specs.Reading.{Frame, inside, next, leaf_at, step}
 use Rattle.def_text.specs.Faults.{Kind}
@@ -42,6 +44,21 @@ enters_bare r u rest s t fs h e b =
 pub enters_quoted : {A : Type 0} (r : Result (Progress A) StepError) (u s : List ℕ) (t : text.Token) (fs : List Frame)
     → ((s : List ℕ) → IsQuoted 39 u s → Steps r (leaf_at 32 true (atom s) fs)) → t ≡ text.atom s → IsQuoted 39 u s → Steps r (step 32 true (inside next fs) t)
 enters_quoted r u s t fs h e q = subst (λ x. Steps r (step 32 true (inside next fs) x)) (sym e) (h s q)
+
+pub enters_as : {A : Type 0} (r : Result (Progress A) StepError) (t x : text.Token) (fs : List Frame) → t ≡ x → Steps r (step 32 true (inside next fs) x) → Steps r (step 32 true (inside next fs) t)
+enters_as r t x fs e h = subst (λ y. Steps r (step 32 true (inside next fs) y)) (sym e) h
+
+pub enters_integer : {A : Type 0} (r : Result (Progress A) StepError) (u rest : List ℕ) (n : ℤ) (t : text.Token) (fs : List Frame)
+    → ((rest : List ℕ) (n : ℤ) → IsInteger u rest n → Steps r (leaf_at 32 true (int n) fs)) → t ≡ integer n → IsToken u rest t → Steps r (step 32 true (inside next fs) t)
+enters_integer r u rest n t fs h e is = enters_as r t (integer n) fs e (h rest n (subst (λ x. IsToken u rest x) e is))
+
+pub enters_pid : {A : Type 0} (r : Result (Progress A) StepError) (u rest : List ℕ) (n : ℕ) (t : text.Token) (fs : List Frame)
+    → ((ds : List ℕ) (n : ℕ) → IsPid u ds n → Steps r (leaf_at 32 true (tree.pid n) fs)) → t ≡ pid n → IsToken u rest t → Steps r (step 32 true (inside next fs) t)
+enters_pid r u rest n t fs h e is = let p = subst (λ x. IsToken u rest x) e is in enters_as r t (pid n) fs e (h p.0 n p.1)
+
+pub enters_string : {A : Type 0} (r : Result (Progress A) StepError) (u rest s : List ℕ) (t : text.Token) (fs : List Frame)
+    → ((s : List ℕ) → IsQuoted 34 u s → Steps r (leaf_at 32 true (list (of_codes s)) fs)) → t ≡ characters s → IsToken u rest t → Steps r (step 32 true (inside next fs) t)
+enters_string r u rest s t fs h e is = enters_as r t (characters s) fs e (h s (subst (λ x. IsToken u rest x) e is))
 
 good_token : (t : text.Token) (u rest : List ℕ) → Stands u rest t → (t ≢ bad) → IsToken u rest t
 good_token bad u rest h g = absurd (g refl)
