@@ -19,7 +19,7 @@ use Rattle.tn_text.specs.declared.stack.StepError.TheVariants.{OutOfMemory, Misp
 use Rattle.tn_text.specs.declared.fault.TextFault.{TextFault}
 use Rattle.tn_text.specs.Kinds.{kind_of}
 use Rattle.tn_text.specs.Lexing.{Stood}
-use Rattle.tn_text.specs.Stack.{Steps, IsErrorOf, IsFaultOf, fault_of}
+use Rattle.tn_text.specs.Stack.{state_of, Steps, IsErrorOf, IsFaultOf, fault_of}
 
 lower_printable : (b : ℕ) → is_lower b ≡ true → is_printable b ≡ true
 lower_printable b h = grind (arith, nat_tests)
@@ -59,6 +59,9 @@ enters_pid r u rest n t fs h e is = let p = subst (λ x. IsToken u rest x) e is 
 pub enters_string : {A : Type 0} (r : Result (Progress A) StepError) (u rest s : List ℕ) (t : text.Token) (fs : List Frame)
     → ((s : List ℕ) → IsQuoted 34 u s → Steps r (leaf_at 32 true (list (of_codes s)) fs)) → t ≡ characters s → IsToken u rest t → Steps r (step 32 true (inside next fs) t)
 enters_string r u rest s t fs h e is = enters_as r t (characters s) fs e (h s (subst (λ x. IsToken u rest x) e is))
+
+pub goes_as : {A : Type 0} (r : Result (Progress A) StepError) (p q : Progress A) (t x : text.Token) → p ≡ q → t ≡ x → Steps r (step 32 true (state_of q) x) → Steps r (step 32 true (state_of p) t)
+goes_as r p q t x e f h = subst (λ y. Steps r (step 32 true (state_of y) t)) (sym e) (subst (λ y. Steps r (step 32 true (state_of q) y)) (sym f) h)
 
 good_token : (t : text.Token) (u rest : List ℕ) → Stands u rest t → (t ≢ bad) → IsToken u rest t
 good_token bad u rest h g = absurd (g refl)
