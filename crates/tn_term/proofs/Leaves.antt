@@ -1,0 +1,28 @@
+-- Equality of terms that have no elements.
+use Rattle.std.proofs.Common.{◌≡◌, ◌∙◌, ◌↔◌, ℕ, List, Bool, IsTrue, nat_eq, sym, ap, arith}
+use Rattle.std.specs.Str.{bytes_eq}
+use Rattle.std.proofs.lemmas.Bool.Decides.{nat_tests}
+use Rattle.std.proofs.lemmas.Slice.Eq.{bytes_eq-Decides}
+use Rattle.def_term.specs.Tree.{atom, pid}
+use Rattle.tn_term.specs.Views.{tree_of}
+use Rattle.tn_term.specs.declared.term.Term.{Term, Atom, Pid}
+use Rattle.tn_term.proofs.Views.{tree_of_atom, tree_of_pid}
+
+pub same_pids : {A B : Type 0} (s : Term A) (t : Term B) (m n : ℕ) → s ≡ Pid m → t ≡ Pid n → IsTrue (nat_eq m n) ↔ (tree_of s ≡ tree_of t)
+same_pids s t m n e f =
+    let one : tree_of s ≡ pid m = ap tree_of e ∙ tree_of_pid _ m in
+    let other : tree_of t ≡ pid n = ap tree_of f ∙ tree_of_pid _ n in (
+      λ h. let k : m ≡ n = grind (arith, nat_tests) in cc,
+      λ h. let k : m ≡ n = cc in grind (arith, nat_tests),
+    )
+
+-- where a and b, the texts that are compared, are those of the two atoms
+pub same_atoms : {A B : Type 0} (s : Term A) (t : Term B) (x y a b : List ℕ) (r : Bool)
+    → s ≡ Atom x → t ≡ Atom y → a ≡ x → b ≡ y → r ≡ bytes_eq a b → IsTrue r ↔ (tree_of s ≡ tree_of t)
+same_atoms s t x y a b r e f p q h =
+    let one : tree_of s ≡ atom x = ap tree_of e ∙ tree_of_atom _ x in
+    let other : tree_of t ≡ atom y = ap tree_of f ∙ tree_of_atom _ y in
+    let same = bytes_eq-Decides a b in (
+      λ yes. let k : a ≡ b = same.0 (sym h ∙ yes) in cc,
+      λ e. let k : a ≡ b = cc in h ∙ same.1 k,
+    )
