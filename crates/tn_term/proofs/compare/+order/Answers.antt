@@ -2,11 +2,14 @@ use Rattle.std.proofs.Common.{◌≡◌, ap, ap₂, ◌∙◌, sym, arith, rules
 use Rattle.std.specs.Ordering.{nat_cmp, ordering_then}
 use Rattle.std.specs.declared.cmp.Ordering.TheVariants.{Equal}
 use Rattle.def_term.specs.Tree.{tuple}
-use Rattle.def_term.specs.Order.{tree_cmp, trees_cmp}
+use Rattle.def_term.specs.Order.{rank, tree_cmp, trees_cmp}
 use Rattle.tn_term.specs.Views.{tree_of, trees_of}
 use Rattle.tn_term.specs.declared.term.Term.{the_lemmas}
 use Rattle.tn_term.proofs.Trees.{cmp_end, tuple_order, then_unequal}
+use Rattle.tn_term.proofs.Leaves.{order_of_ints, order_of_atoms, order_of_pids}
+use Rattle.tn_term.proofs.Ranks.{only_int, only_atom, only_pid, only_tuple, only_list, ranks_decide}
 use Rattle.tn_term.proofs.compare.+order.Goals as goal
+use Rattle.tn_term.proofs.compare.+order.Goals.{order_terms-in_default-via-in-Int+in_default, order_terms-in_default-via-in-Atom+in_default, order_terms-in_default-via-in-Pid+in_default, order_terms-in_default-via-in-Tuple+in_default, order_terms-in_default-via-in-List+in_default}
 
 pub order_all-returns : goal.order_all-returns
 order_all-returns g t c =
@@ -38,3 +41,26 @@ order_terms-returns-in_default-cmp g t c =
     let sizes : c.cmp-in-Tuple-Tuple.result ≡ nat_cmp (length v.items) (length w.items) =
     c.cmp-in-Tuple-Tuple.ensures ∙ ap₂ nat_cmp (c.len.ensures ∙ v.ok.0) (c.len-in-Tuple-Tuple.ensures ∙ w.ok.0) in
     then_unequal _ _ c.in_default-cmp.not-Equal ∙ ap (λ r. ordering_then r (trees_cmp (trees_of v.items) (trees_of w.items))) sizes ∙ sym both
+
+pub order_terms-returns-in-Int-Int : goal.order_terms-returns-in-Int-Int
+order_terms-returns-in-Int-Int g t c = c.cmp.ensures ∙ sym (order_of_ints _ _ _ _ c.in-Int-Int.is-0 c.in-Int-Int.is-1)
+
+pub order_terms-returns-in-Atom-Atom : goal.order_terms-returns-in-Atom-Atom
+order_terms-returns-in-Atom-Atom g t c =
+    let p = c.in-Atom-Atom in
+    c.cmp-in-Atom-Atom.ensures ∙ sym (order_of_atoms _ _ _ _ _ _ p.is-0 p.is-1 c.text.ensures.text c.text-in-Atom-Atom.ensures.text)
+
+pub order_terms-returns-in-Pid-Pid : goal.order_terms-returns-in-Pid-Pid
+order_terms-returns-in-Pid-Pid g t c = c.cmp-in-Pid-Pid.ensures ∙ sym (order_of_pids _ _ _ _ c.in-Pid-Pid.is-0 c.in-Pid-Pid.is-1)
+
+pub order_terms-returns-in_default : goal.order_terms-returns-in_default
+order_terms-returns-in_default g t c =
+    let apart : rank (tree_of c.args.one.now) ≡ rank (tree_of c.args.other.now) → ⊥ =
+    elim c.in_default.branch [
+      | order_terms-in_default-via-in-Int+in_default w ↦ only_int _ _ _ w.in_default.is-0 w.in_default.not-Int-1
+      | order_terms-in_default-via-in-Atom+in_default w ↦ only_atom _ _ _ w.in_default.is-0 w.in_default.not-Atom-1
+      | order_terms-in_default-via-in-Pid+in_default w ↦ only_pid _ _ _ w.in_default.is-0 w.in_default.not-Pid-1
+      | order_terms-in_default-via-in-Tuple+in_default w ↦ only_tuple _ _ _ w.in_default.is-0 w.in_default.not-Tuple-1
+      | order_terms-in_default-via-in-List+in_default w ↦ only_list _ _ _ w.in_default.is-0 w.in_default.not-List-1
+    ] in
+    c.cmp-in_default.ensures ∙ ap₂ nat_cmp c.rank_of.ensures c.rank_of-in_default.ensures ∙ sym (ranks_decide _ _ apart)
