@@ -1,8 +1,9 @@
 -- The table of a head's variables.
-use Rattle.std.proofs.Common.{◌≡◌, ◌≢◌, ℕ, ◌==◌, ◌<◌, Bool, true, false, ◌||◌, List, length, get_or, set, replicate, refl, sym, ap, ◌∙◌, subst, arith, length-set, get_or-set_same, get_or-set_other, eqb-true}
-use Rattle.std.proofs.lemmas.List.{length-replicate, get_or-replicate}
+use Rattle.std.proofs.Common.{◌≡◌, ◌≢◌, ℕ, ◌==◌, ◌<◌, Bool, true, false, ◌||◌, List, length, get_or, set, replicate, refl, sym, ap, ◌∙◌, ◌+◌, ◌≤◌, ◌∷◌, drop, map, subst, arith, length-set, get_or-set_same, get_or-set_other, eqb-true}
+use Rattle.std.proofs.lemmas.List.{drop_more, drop_all, length-replicate, get_or-replicate}
 use Rattle.def_spec.specs.Matching.{Pattern, variable, anything, only_term, in_tuple, in_list, Patterns, no_patterns, and_pattern, occurs, occurs_in_some}
 use Rattle.tn_spec.specs.Variables.{IsTableOf, marked, marked_all}
+use Rattle.tn_spec.specs.Views.{patterns_from}
 
 mutual
   marked_length : (p : Pattern) (bs : List Bool) → length (marked p bs) ≡ length bs
@@ -60,3 +61,16 @@ table_right p table empty k size fresh made n small =
     ∙ marked_at p empty n long
     ∙ ap (λ b. occurs n p || b) (ap (λ xs. get_or xs n false) fresh ∙ get_or-replicate k n false false within)
     ∙ or_none (occurs n p)
+
+-- ---- the loop that marks each of some patterns
+
+module _ {X : Type 0} (f : X → Pattern) (xs : List X) (i : ℕ) (table whole : List Bool) where
+  pub marked_more : (x : X) (new : List Bool) → i < length xs → x ≡ get_or xs i x → new ≡ marked (f x) table
+      → marked_all (patterns_from (map f (drop i xs))) table ≡ whole → marked_all (patterns_from (map f (drop (i + 1) xs))) new ≡ whole
+  marked_more x new below is made so_far =
+      ap (marked_all (patterns_from (map f (drop (i + 1) xs)))) made
+      ∙ sym (ap (λ ys. marked_all (patterns_from (map f ys)) table) (drop_more xs i x below) ∙ ap (λ y. marked_all (patterns_from (map f (y ∷ drop (i + 1) xs))) table) (sym is))
+      ∙ so_far
+
+  pub marked_past : length xs ≤ i → marked_all (patterns_from (map f (drop i xs))) table ≡ whole → table ≡ whole
+  marked_past past so_far = sym (ap (λ ys. marked_all (patterns_from (map f ys)) table) (drop_all i xs past)) ∙ so_far

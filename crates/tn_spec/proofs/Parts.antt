@@ -1,14 +1,16 @@
 -- Clauses that are tuples of three, and specifications that are nonempty lists.
-use Rattle.std.proofs.Common.{◌≡◌, ◌≢◌, ◌∙◌, List, [], ◌∷◌, length, get_or, Some, None, refl, ap, arith}
+use Rattle.std.proofs.Common.{◌≡◌, ◌≢◌, ◌∙◌, sym, subst, List, [], ◌∷◌, length, get_or, Some, None, refl, ap, arith}
 use Rattle.std.specs.Prelude.{Ok, Err}
 use Rattle.def_term.specs.Tree.{Tree, int, atom, pid, tuple, list, Trees, none, more}
-use Rattle.def_spec.specs.Expressions.{Dialect}
+use Rattle.def_spec.specs.Matching.{Pattern}
+use Rattle.def_spec.specs.Expressions.{Dialect, Exprs, in_condition, in_body}
 use Rattle.def_spec.specs.Outcome.{Clause}
-use Rattle.def_spec.specs.Reading.{badarg, clause_of, clauses_of, spec_of}
+use Rattle.def_spec.specs.Reading.{badarg, head_of, exprs_of, clause_of_parts, clause_of, clauses_of, spec_of}
 use Rattle.tn_term.specs.Views.{tree_of, trees_of}
 use Rattle.tn_term.specs.declared.term.Term.{Term}
-use Rattle.tn_spec.specs.Answers.{elements_in}
-use Rattle.tn_spec.proofs.Each.{ok_then}
+use Rattle.tn_spec.specs.declared.fault.SpecFault.{SpecFault}
+use Rattle.tn_spec.specs.Answers.{IsFaultOf, elements_in}
+use Rattle.tn_spec.proofs.Each.{fault_then, ok_then}
 
 module _ (d : Dialect) where
   -- ---- tuples of another size
@@ -77,6 +79,24 @@ module _ (d : Dialect) where
   no_body (a ∷ b ∷ []) z three third other = absurd (omega (arith, three))
   no_body (a ∷ b ∷ e ∷ []) z three third other = body_none (tree_of a) (tree_of b) (tree_of e) (other ∙ ap (λ t. elements_in (tree_of t)) third)
   no_body (a ∷ b ∷ e ∷ f ∷ fs) z three third other = absurd (omega (arith, three))
+
+  -- ---- the three parts of a clause, read in order
+
+  pub parts_read : (h : Tree) (cs bs : Trees) (p : Pattern) (es fs : Exprs) → head_of h ≡ Ok p → exprs_of d in_condition p cs ≡ Ok es → exprs_of d in_body p bs ≡ Ok fs
+      → clause_of_parts d h cs bs ≡ Ok (record { head = p; conditions = es; body = fs })
+  parts_read h cs bs p es fs first second third = ok_then _ _ p first ∙ ok_then _ _ es second ∙ ok_then _ _ fs third
+
+  pub head_fails : {A : Type 0} (h : Tree) (cs bs : Trees) (e : SpecFault A) → IsFaultOf (head_of h) e → IsFaultOf (clause_of_parts d h cs bs) e
+  head_fails h cs bs e fault = fault_then _ _ e fault
+
+  pub conditions_fail : {A : Type 0} (h : Tree) (cs bs : Trees) (p : Pattern) (e : SpecFault A) → head_of h ≡ Ok p → IsFaultOf (exprs_of d in_condition p cs) e
+      → IsFaultOf (clause_of_parts d h cs bs) e
+  conditions_fail h cs bs p e first fault = subst (λ r. IsFaultOf r e) (sym (ok_then (head_of h) _ p first)) (fault_then _ _ e fault)
+
+  pub body_fails : {A : Type 0} (h : Tree) (cs bs : Trees) (p : Pattern) (es : Exprs) (e : SpecFault A) → head_of h ≡ Ok p → exprs_of d in_condition p cs ≡ Ok es
+      → IsFaultOf (exprs_of d in_body p bs) e → IsFaultOf (clause_of_parts d h cs bs) e
+  body_fails h cs bs p es e first second fault =
+      subst (λ r. IsFaultOf r e) (sym (ok_then (head_of h) _ p first ∙ ok_then (exprs_of d in_condition p cs) _ es second)) (fault_then _ _ e fault)
 
   -- ---- specifications
 
