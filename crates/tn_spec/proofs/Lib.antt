@@ -1,3 +1,4 @@
+pub mod Arms
 pub mod Calls
 pub mod Each
 pub mod Marked

@@ -9,6 +9,7 @@ use Rattle.tn_spec.specs.Answers.{IsRead, each_read}
 use Rattle.tn_spec.specs.Names.{called_seen, part_seen}
 use Rattle.tn_spec.specs.Readings.{head_in}
 use Rattle.tn_spec.specs.Views.{dialect_of, expr_seen, expr_list}
+use Rattle.tn_spec.proofs.Arms.{atom_expr_read, pid_expr, tuple_expr_read}
 use Rattle.tn_spec.proofs.Each.{read_fails, read_next, read_ends, exprs_read, exprs_fail}
 use Rattle.tn_spec.proofs.Tuples.{nested_read, nested_fails, crowded, constant_read, unnamed, call_fails, call_read, const_is, further_counted, second_seen, first_is, one_further}
 use Rattle.tn_spec.proofs.Views.{expr_seen_constant, expr_seen_tuple}
@@ -115,3 +116,14 @@ tuple_expr-returns-in-Int g t c =
         | inr p ↦ ap read (first_is xs x (list (trees_of p.0.items)) some c.index.ensures (ap tree_of p.1 ∙ tree_of_list p.0))
       ]
     ]
+
+pub expr-returns-in-Atom : goal.expr-returns-in-Atom
+expr-returns-in-Atom g t c =
+    atom_expr_read c.args.term.now (dialect_of c.args.dialect) (part_seen c.args.part) (head_in c.args.head.now) c.in-Atom.name c.atom_expr.result c.in-Atom.is c.atom_expr.ensures
+
+pub expr-returns-in-Pid : goal.expr-returns-in-Pid
+expr-returns-in-Pid g t c = pid_expr c.args.term.now (dialect_of c.args.dialect) (part_seen c.args.part) (head_in c.args.head.now) c.in-Pid.n c.in-Pid.is
+
+pub expr-returns-in-Tuple : goal.expr-returns-in-Tuple
+expr-returns-in-Tuple g t c =
+    tuple_expr_read c.args.term.now (dialect_of c.args.dialect) (part_seen c.args.part) (head_in c.args.head.now) c.in-Tuple.v c.tuple_expr.result c.in-Tuple.is c.tuple_expr.ensures
