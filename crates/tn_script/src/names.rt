@@ -2,6 +2,7 @@
 ghost use Rattle.std.specs.Prelude.{◌≡◌};
 ghost use Rattle.def_script.specs.Program.{is_variable as is_variable_name};
 ghost use Rattle.def_script.specs.Shapes.{is_plain_name, is_own_variable, name_in, variable_in, target_in, exported_in};
+ghost use Rattle.def_script.specs.Shapes.{both, target_of, exported_of};
 ghost use Rattle.tn_term.specs.Views.{tree_of};
 
 use std::alloc::Allocator;
@@ -45,6 +46,14 @@ pub fn name<A: Allocator>(term: Term<A>) -> Option<Atom<A>>
     }
 }
 
+/// The atoms, where both terms are names.
+pub fn two_names<A: Allocator>(one: Term<A>, other: Term<A>) -> Option<(Atom<A>, Atom<A>)>
+    ensures { result ≡ both (λ x y. (x, y)) (name_in (tree_of one)) (name_in (tree_of other)) }
+{
+    let one = name(one)?;
+    Some((one, name(other)?))
+}
+
 /// The atom, where the term is a variable other than `'Self'`.
 pub fn variable<A: Allocator>(term: Term<A>) -> Option<Atom<A>>
     ensures { result ≡ variable_in (tree_of term) }
@@ -59,13 +68,10 @@ pub fn variable<A: Allocator>(term: Term<A>) -> Option<Atom<A>>
     }
 }
 
-/// The target, where the term is one: no variable for `'_'`.
-pub fn target<A: Allocator>(term: Term<A>) -> Option<Option<Atom<A>>>
-    ensures { result ≡ target_in (tree_of term) }
+/// The target that the atom names, if it names one.
+fn named_target<A: Allocator>(atom: Atom<A>) -> Option<Option<Atom<A>>>
+    ensures { result ≡ target_of atom }
 {
-    let Term::Atom(atom) = term else {
-        return None;
-    };
     if atom.text() == "_" {
         Some(None)
     } else if is_bindable(atom.text()) {
@@ -75,18 +81,33 @@ pub fn target<A: Allocator>(term: Term<A>) -> Option<Option<Atom<A>>>
     }
 }
 
+/// The target, where the term is one: no variable for `'_'`.
+pub fn target<A: Allocator>(term: Term<A>) -> Option<Option<Atom<A>>>
+    ensures { result ≡ target_in (tree_of term) }
+{
+    match term {
+        Term::Atom(atom) => named_target(atom),
+        _ => None,
+    }
+}
+
+/// The visibility of this name: true for `exported`, false for `internal`.
+fn named_visibility(text: &str) -> Option<bool>
+    ensures { result ≡ exported_of text.now }
+{
+    match text {
+        "exported" => Some(true),
+        "internal" => Some(false),
+        _ => None,
+    }
+}
+
 /// True for `exported`, false for `internal`.
 pub fn exported<A: Allocator>(term: Term<A>) -> Option<bool>
     ensures { result ≡ exported_in (tree_of term) }
 {
-    let Term::Atom(atom) = term else {
-        return None;
-    };
-    if atom.text() == "exported" {
-        Some(true)
-    } else if atom.text() == "internal" {
-        Some(false)
-    } else {
-        None
+    match term {
+        Term::Atom(atom) => named_visibility(atom.text()),
+        _ => None,
     }
 }
