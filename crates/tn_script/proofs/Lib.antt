@@ -1,3 +1,4 @@
+pub mod Created
 pub mod Each
 pub mod Equal
 pub mod OfTerms

@@ -18,11 +18,7 @@ use tn_term::{Atom, Term};
 fn create_command<A: Allocator>(fields: Vec<Term<A>, A>) -> Option<Command<A>>
     ensures { option_map command_of result ≡ create_in (map tree_of fields.items) }
 {
-    let (_, session, tracer, options) = four(fields)?;
-    if !is_empty_list(&options) {
-        return None;
-    }
-    let session = name(session)?;
+    let (session, tracer) = specified(fields)?;
     let tracer = name(tracer)?;
     Some(Command::SessionCreate { session, tracer })
 }
