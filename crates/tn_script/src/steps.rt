@@ -1,15 +1,19 @@
 // The steps of a function, by their shapes.
-ghost use Rattle.std.specs.Prelude.{◌≡◌, IfOk, map};
+ghost use Rattle.std.specs.Prelude.{◌≡◌, IfOk, List, Option, map};
 ghost use Rattle.std.specs.Option.{option_map};
-ghost use Rattle.def_script.specs.Program.{link, unlink, give_back, exit};
+ghost use Rattle.def_term.specs.Names.{Name};
+ghost use Rattle.def_term.specs.Tree.{Tree};
+ghost use Rattle.def_script.specs.Program.{Step as StepOf, call_local, link, unlink, give_back, exit};
+ghost use Rattle.def_script.specs.Shapes.{all_three, target_in, name_in, args_in, callee_in};
+ghost use Rattle.def_script.specs.Shapes.{remote_call as remote_call_of};
 ghost use Rattle.def_script.specs.Shapes.{callee_in, send_in, receive_in, call_in, spawn_in, of_one_in, step_of_fields};
 ghost use Rattle.def_script.specs.Shapes.{step_in, steps_in};
 ghost use Rattle.tn_term.specs.Views.{tree_of};
 ghost use Rattle.tn_script.specs.Views.{args_of, step_of};
 
 use crate::fields::{four, three, two};
-use crate::form::Step;
-use crate::names::{name, target};
+use crate::form::{Arguments, Step};
+use crate::names::{name, target, two_names};
 use crate::parts::{arguments, is_tagged, is_tuple, list, tuple};
 use std::alloc::{AllocError, Allocator};
 use tn_term::{Atom, Term};
@@ -20,7 +24,7 @@ fn callee<A: Allocator>(term: Term<A>) -> Option<(Atom<A>, Atom<A>)>
 {
     let fields = tuple(term)?;
     let (module, function) = two(fields)?;
-    Some((name(module)?, name(function)?))
+    two_names(module, function)
 }
 
 /// `{send,To,Msg}`
@@ -39,26 +43,54 @@ fn receive_step<A: Allocator>(fields: Vec<Term<A>, A>) -> Option<Step<A>>
     Some(Step::Receive { target: target(v)? })
 }
 
+/// The target, the names and the arguments of `V`, `{M,F}` and `Args`.
+fn remote_parts<A: Allocator>(
+    v: Term<A>,
+    function: Term<A>,
+    args: Term<A>,
+) -> Option<(Option<Atom<A>>, (Atom<A>, Atom<A>), Arguments<A>)>
+    ensures { (f : Option Name → Name × Name → List Tree → StepOf) → option_map (λ p. f p.0 p.1 (args_of p.2)) result
+        ≡ all_three f (target_in (tree_of v)) (callee_in (tree_of function)) (args_in (tree_of args)) }
+{
+    let callee = callee(function)?;
+    let target = target(v)?;
+    Some((target, callee, arguments(args)?))
+}
+
+/// The call of `{M,F}` with `Args`, whose value goes to `V`.
+fn remote_call<A: Allocator>(v: Term<A>, function: Term<A>, args: Term<A>) -> Option<Step<A>>
+    ensures { option_map step_of result
+        ≡ all_three remote_call_of (target_in (tree_of v)) (callee_in (tree_of function)) (args_in (tree_of args)) }
+{
+    let (target, (module, name), args) = remote_parts(v, function, args)?;
+    Some(Step::CallRemote {
+        target,
+        module,
+        name,
+        args,
+    })
+}
+
+/// The call of `F`, in the same module, with `Args`, whose value goes to `V`.
+fn local_call<A: Allocator>(v: Term<A>, function: Term<A>, args: Term<A>) -> Option<Step<A>>
+    ensures { option_map step_of result
+        ≡ all_three call_local (target_in (tree_of v)) (name_in (tree_of function)) (args_in (tree_of args)) }
+{
+    let name = name(function)?;
+    let target = target(v)?;
+    let args = arguments(args)?;
+    Some(Step::CallLocal { target, name, args })
+}
+
 /// `{call,V,{M,F},Args}` or `{call,V,F,Args}`
 fn call_step<A: Allocator>(fields: Vec<Term<A>, A>) -> Option<Step<A>>
     ensures { option_map step_of result ≡ call_in (map tree_of fields.items) }
 {
     let (_, v, function, args) = four(fields)?;
     if is_tuple(&function) {
-        let target = target(v)?;
-        let (module, name) = callee(function)?;
-        let args = arguments(args)?;
-        Some(Step::CallRemote {
-            target,
-            module,
-            name,
-            args,
-        })
+        remote_call(v, function, args)
     } else {
-        let target = target(v)?;
-        let name = name(function)?;
-        let args = arguments(args)?;
-        Some(Step::CallLocal { target, name, args })
+        local_call(v, function, args)
     }
 }
 
@@ -67,9 +99,7 @@ fn spawn_step<A: Allocator>(fields: Vec<Term<A>, A>) -> Option<Step<A>>
     ensures { option_map step_of result ≡ spawn_in (map tree_of fields.items) }
 {
     let (_, v, function, args) = four(fields)?;
-    let target = target(v)?;
-    let (module, name) = callee(function)?;
-    let args = arguments(args)?;
+    let (target, (module, name), args) = remote_parts(v, function, args)?;
     Some(Step::Spawn {
         target,
         module,
@@ -78,11 +108,19 @@ fn spawn_step<A: Allocator>(fields: Vec<Term<A>, A>) -> Option<Step<A>>
     })
 }
 
+/// The `T` of `{Tag,T}`.
+fn of_one<A: Allocator>(fields: Vec<Term<A>, A>) -> Option<Term<A>>
+    ensures { (f : Tree → StepOf) → option_map (λ t. f (tree_of t)) result ≡ of_one_in f (map tree_of fields.items) }
+{
+    let (_, only) = two(fields)?;
+    Some(only)
+}
+
 /// `{link,T}`
 fn link_step<A: Allocator>(fields: Vec<Term<A>, A>) -> Option<Step<A>>
     ensures { option_map step_of result ≡ of_one_in link (map tree_of fields.items) }
 {
-    let (_, other) = two(fields)?;
+    let other = of_one(fields)?;
     Some(Step::Link(other))
 }
 
@@ -90,7 +128,7 @@ fn link_step<A: Allocator>(fields: Vec<Term<A>, A>) -> Option<Step<A>>
 fn unlink_step<A: Allocator>(fields: Vec<Term<A>, A>) -> Option<Step<A>>
     ensures { option_map step_of result ≡ of_one_in unlink (map tree_of fields.items) }
 {
-    let (_, other) = two(fields)?;
+    let other = of_one(fields)?;
     Some(Step::Unlink(other))
 }
 
@@ -98,7 +136,7 @@ fn unlink_step<A: Allocator>(fields: Vec<Term<A>, A>) -> Option<Step<A>>
 fn return_step<A: Allocator>(fields: Vec<Term<A>, A>) -> Option<Step<A>>
     ensures { option_map step_of result ≡ of_one_in give_back (map tree_of fields.items) }
 {
-    let (_, value) = two(fields)?;
+    let value = of_one(fields)?;
     Some(Step::Return(value))
 }
 
@@ -106,7 +144,7 @@ fn return_step<A: Allocator>(fields: Vec<Term<A>, A>) -> Option<Step<A>>
 fn exit_step<A: Allocator>(fields: Vec<Term<A>, A>) -> Option<Step<A>>
     ensures { option_map step_of result ≡ of_one_in exit (map tree_of fields.items) }
 {
-    let (_, reason) = two(fields)?;
+    let reason = of_one(fields)?;
     Some(Step::Exit(reason))
 }
 
