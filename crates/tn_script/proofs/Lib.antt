@@ -1,4 +1,5 @@
 pub mod Created
+pub mod Declared
 pub mod Each
 pub mod Equal
 pub mod OfTerms

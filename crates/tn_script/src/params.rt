@@ -2,7 +2,7 @@
 ghost use Rattle.std.specs.Prelude.{◌≡◌, ◌≤◌, IfOk, IfSome, length, map};
 ghost use Rattle.std.specs.Option.{option_map};
 ghost use Rattle.def_term.specs.Text.{is_among};
-ghost use Rattle.def_script.specs.Shapes.{each_in, variable_in, are_distinct, params_in};
+ghost use Rattle.def_script.specs.Shapes.{each_in, variable_in, are_distinct, if_distinct, params_in};
 ghost use Rattle.tn_term.specs.Views.{tree_of};
 
 use crate::names::variable;
@@ -51,6 +51,18 @@ fn variables<A: Allocator>(
     Ok(Some(variables))
 }
 
+/// The atoms, where no two of them are the same.
+fn distinct<A: Allocator>(atoms: Vec<Atom<A>, A>) -> Option<Vec<Atom<A>, A>>
+    ensures value { option_map (λ v. v.items) result ≡ if_distinct atoms.items }
+    ensures same { IfSome result (λ v. v.items ≡ atoms.items) }
+{
+    if is_distinct(&atoms) {
+        Some(atoms)
+    } else {
+        None
+    }
+}
+
 /// The parameters, where the term is a list of at most 255 distinct variables, none of them `'Self'`.
 pub fn params<A: Allocator>(alloc: A, term: Term<A>) -> Result<Option<Vec<Atom<A>, A>>, AllocError>
     ensures value { IfOk result (λ o. option_map (λ v. v.items) o ≡ params_in (tree_of term)) }
@@ -59,12 +71,8 @@ pub fn params<A: Allocator>(alloc: A, term: Term<A>) -> Result<Option<Vec<Atom<A
     let Some(args) = arguments(term) else {
         return Ok(None);
     };
-    let Some(params) = variables(alloc, args.terms)? else {
-        return Ok(None);
-    };
-    if is_distinct(&params) {
-        Ok(Some(params))
-    } else {
-        Ok(None)
+    match variables(alloc, args.terms)? {
+        Some(params) => Ok(distinct(params)),
+        None => Ok(None),
     }
 }
