@@ -38,3 +38,9 @@ not_declared (Some m) (Some f) (Some x) (Some ps) (Some ss) i = cc
 pub few_still : {A : Type 0} (o : Option (Vec Name A)) (xs : List Name) → IfSome o (λ v. v.items ≡ xs) → length xs ≤ 255 → IfSome o (λ v. length v.items ≤ 255)
 few_still None xs h few = h
 few_still (Some v) xs h few = omega (arith, ap length h)
+
+pub headless : (om of : Option Name) (oe : Option Bool) (op : Option (List Name)) (os : Option (List Step)) → None ≡ head_of om of oe → None ≡ declared_by om of oe op os
+headless None of oe op os e = refl
+headless (Some m) None oe op os e = refl
+headless (Some m) (Some f) None op os e = refl
+headless (Some m) (Some f) (Some x) op os e = cc

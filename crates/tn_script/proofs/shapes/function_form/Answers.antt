@@ -5,11 +5,17 @@ use Rattle.tn_term.specs.Views.{tree_of}
 use Rattle.tn_script.specs.Views.{step_of}
 use Rattle.tn_script.specs.Bodies.{body_of}
 use Rattle.tn_script.proofs.OfTerms.{no_function}
-use Rattle.tn_script.proofs.Declared.{declared, not_declared}
+use Rattle.tn_script.proofs.Declared.{declared, headless, not_declared}
 use Rattle.tn_script.proofs.shapes.function_form.Goals as goal
 
 pub returns-in_default : goal.returns-in_default
 returns-in_default g c = no_function {A = g.row.A.Denot} c.args.fields.items c.in_default.ensures
+
+pub returns-in_default-function_head : goal.returns-in_default-function_head
+returns-in_default-function_head g c =
+    headless (name_in (tree_of {A = g.row.A.Denot} c.in-Some.home)) (name_in (tree_of {A = g.row.A.Denot} c.in-Some.function)) (exported_in (tree_of {A = g.row.A.Denot} c.in-Some.visibility)) (params_in (tree_of {A = g.row.A.Denot} c.in-Some.parameters)) (steps_in (tree_of {A = g.row.A.Denot} c.in-Some.body))
+    c.in_default-function_head.ensures
+    ∙ ap (λ xs. function_in (map (tree_of {A = g.row.A.Denot}) xs)) (sym c.in-Some.ensures)
 
 pub returns-in_default-2 : goal.returns-in_default-2
 returns-in_default-2 g c =
