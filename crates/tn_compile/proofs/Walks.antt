@@ -1,13 +1,13 @@
 -- A walk over a head, step by step.
-use Rattle.std.proofs.Common.{◌≡◌, ◌∙◌, sym, ap, refl, ℕ, suc, ◌+◌, ◌<◌, ◌==◌, nat_lt, nat_cmp, Bool, true, false, not, cond, List, [], ◌∷◌, ◌++◌, length, drop, get_or, Some, None, arith, append_assoc}
+use Rattle.std.proofs.Common.{◌≡◌, ◌∙◌, sym, ap, refl, ℕ, suc, ◌+◌, ◌<◌, ◌≤◌, ◌==◌, nat_lt, nat_cmp, Bool, true, false, not, cond, List, [], ◌∷◌, ◌++◌, length, drop, get_or, Some, None, arith, append_assoc}
 use Rattle.std.specs.List.{insert, position_or_len}
 use Rattle.std.specs.Ordering.{is_eq}
 use Rattle.std.specs.declared.cmp.Ordering.TheVariants.{Less, Equal, Greater}
 use Rattle.std.specs.FinMap.{find, put}
 use Rattle.std.specs.FinMap.Entries.{by_order}
-use Rattle.std.proofs.lemmas.List.{drop_more}
-use Rattle.def_spec.specs.Matching.{Pattern, Patterns, and_pattern}
-use Rattle.def_machine.specs.Instructions.{Instruction, take_element}
+use Rattle.std.proofs.lemmas.List.{drop_more, drop_all}
+use Rattle.def_spec.specs.Matching.{Pattern, Patterns, no_patterns, and_pattern}
+use Rattle.def_machine.specs.Instructions.{Instruction, take_element, test_length}
 use Rattle.def_machine.specs.Compiling.{VariableRegisters, registers_taken, variables_after, variables_after_each}
 use Rattle.tn_spec.specs.Views.{pattern_seen, patterns_seen}
 use Rattle.tn_spec.specs.declared.pattern.Pattern as code
@@ -38,6 +38,9 @@ module _ (b : VariableRegister) where
 pub patterns_here : {P : Type 0} (ps : List (code.Pattern P)) (i : ℕ) (p : code.Pattern P) → i < length ps → p ≡ get_or ps i p → patterns_seen (drop i ps) ≡ and_pattern (pattern_seen p) (patterns_seen (drop (i + 1) ps))
 patterns_here ps i p below is = ap patterns_seen (drop_more ps i p below) ∙ ap (λ q. and_pattern (pattern_seen q) (patterns_seen (drop (i + 1) ps))) (sym is)
 
+pub patterns_past : {P : Type 0} (ps : List (code.Pattern P)) (i : ℕ) → length ps ≤ i → patterns_seen (drop i ps) ≡ no_patterns
+patterns_past ps i past = ap patterns_seen (drop_all i ps past)
+
 -- the first of several patterns, and then the others
 pub steps-more : (total front front1 front2 : List Instruction) (es rest : Patterns) (p : Pattern) (v w : VariableRegisters) (r i free d : ℕ) → es ≡ and_pattern p rest → front1 ≡ front ++ take_element free r i 0 ∷ [] → front2 ≡ front1 ++ pattern_steps p v free (free + 1) → w ≡ variables_after p v free (free + 1) → d ≡ free + 1 + registers_taken p → front ++ each_steps es v r i free ≡ total → front2 ++ each_steps rest w r (i + 1) d ≡ total
 steps-more total front front1 front2 es rest p v w r i free d is pushed walked after more h =
@@ -65,3 +68,7 @@ variables-more total v w es rest p free d is after more h =
     ∙ ap (variables_after_each rest (variables_after p v free (suc free))) k
     ∙ sym (ap (λ y. variables_after_each y v free) is)
     ∙ h
+
+-- after the last of several patterns
+pub steps-done : (total front new : List Instruction) (es : Patterns) (v : VariableRegisters) (r i n free : ℕ) → es ≡ no_patterns → n ≡ i → new ≡ front ++ test_length r n 0 ∷ [] → front ++ each_steps es v r i free ≡ total → new ≡ total
+steps-done total front new es v r i n free none same pushed h = pushed ∙ ap (λ m. front ++ test_length r m 0 ∷ []) same ∙ ap (λ q. front ++ each_steps q v r i free) (sym none) ∙ h

@@ -1,10 +1,11 @@
-use Rattle.std.proofs.Common.{◌+◌, ◌∷◌, [], ◌∙◌, Some, ap, sym, arith, drop, map, option_map}
+use Rattle.std.proofs.Common.{rules, ◌≡◌, true, is_some, ◌+◌, ◌∷◌, [], ◌∙◌, Some, ap, sym, arith, drop, map, option_map}
 use Rattle.std.proofs.lemmas.List.{map-append, drop_all}
 use Rattle.def_spec.specs.Laws.{trees_before}
-use Rattle.def_machine.specs.Folding.{constants_in}
+use Rattle.def_machine.specs.Folding.{constant_in, constants_in}
 use Rattle.tn_term.specs.Views.{tree_of}
+use Rattle.tn_spec.specs.declared.pattern.Pattern as pattern
 use Rattle.tn_spec.specs.Views.{pattern_seen, patterns_seen}
-use Rattle.tn_compile.proofs.Alone.{constants-more, before-none}
+use Rattle.tn_compile.proofs.Alone.{constant-here, constants-more, before-none}
 use Rattle.tn_compile.proofs.Walks.{patterns_here}
 use Rattle.tn_compile.proofs.constants.+copy.Goals as goal
 
@@ -25,3 +26,12 @@ constants_of-returns g t c =
     let us = map tree_of c.loop-index.terms.items in
     let none_left = drop_all c.loop-index.index c.args.patterns.now.items (omega (arith, c.loop-index-test.false, size)) in
     sym c.loop-index.invariant ∙ ap (λ ps. option_map (trees_before us) (constants_in (patterns_seen ps))) none_left ∙ ap Some (before-none us)
+
+pub constants_of-constant_of-requires : goal.constants_of-constant_of-requires
+constants_of-constant_of-requires g t c κs within =
+    let size = c.len-index-end.ensures ∙ c.args.patterns.now.ok.0 in
+    let ps = c.args.patterns.now.items in
+    let here = patterns_here ps c.loop-index.index c.index-pattern.result.now (omega (arith, size, c.loop-index-test.true)) c.index-pattern.ensures in
+    let first : is_some (constant_in (pattern_seen c.index-pattern.result.now)) ≡ true =
+    constant-here (map tree_of c.loop-index.terms.items) (patterns_seen (drop c.loop-index.index ps)) (patterns_seen (drop (c.loop-index.index + 1) ps)) (pattern_seen c.index-pattern.result.now) _ here c.loop-index.invariant c.requires in
+    search (rules, pattern.the_lemmas)

@@ -1,12 +1,12 @@
-use Rattle.std.proofs.Common.{◌≡◌, suc, ◌+◌, ◌∷◌, [], ◌++◌, ◌∙◌, ap, arith, drop}
+use Rattle.std.proofs.Common.{◌≡◌, suc, ◌+◌, ◌≤◌, ◌∷◌, [], length, ◌++◌, ◌∙◌, sym, ap, arith, drop}
 use Rattle.std.proofs.lemmas.List.{map-append}
 use Rattle.def_machine.specs.Compiling.{registers_taken, registers_taken_each}
-use Rattle.def_machine.specs.Instructions.{take_element}
+use Rattle.def_machine.specs.Instructions.{take_element, test_length}
 use Rattle.def_machine.specs.Folding.{folded, folded_each}
 use Rattle.tn_code.specs.Views.{instruction_of, instructions_of}
 use Rattle.tn_spec.specs.Views.{pattern_seen, patterns_seen}
 use Rattle.tn_compile.specs.Views.{variables_seen}
-use Rattle.tn_compile.proofs.Walks.{patterns_here, steps-more, variables-more}
+use Rattle.tn_compile.proofs.Walks.{patterns_here, patterns_past, steps-done, steps-more, variables-more}
 use Rattle.tn_compile.proofs.heads.+walk.Goals as goal
 
 pub walk_each-overflow_add-head : goal.walk_each-overflow_add-head
@@ -32,3 +32,15 @@ walk_each-loop-index-preserved g t c =
           here c.in_ok-walk.ensures.variables c.in_ok-walk.ensures.free c.loop-index.invariant.variables;
       free = omega (arith, taken, c.in_ok-walk.ensures.free, c.loop-index.invariant.free);
     }
+
+pub walk_each-returns-clause-steps : goal.walk_each-returns-clause-steps
+walk_each-returns-clause-steps g t c =
+    let ps = c.args.patterns.now.items in
+    let ended : length ps ≡ c.len-index-end.result = sym (c.len-index-end.ensures ∙ c.args.patterns.now.ok.0) in
+    let past : length ps ≤ c.loop-index.index = omega (arith, ended, c.loop-index-test.false) in
+    let counted : c.len.result ≡ length ps = c.len.ensures ∙ c.args.patterns.now.ok.0 in
+    let same : c.len.result ≡ c.loop-index.index = omega (arith, ended, counted, past, c.loop-index.auto.index-end) in
+    let pushed : instructions_of c.push-2.new.self.items ≡ instructions_of c.loop-index.head.steps.items ++ test_length c.args.register c.len.result 0 ∷ [] =
+    ap instructions_of c.in_ok-push-2.ensures.items ∙ map-append instruction_of c.loop-index.head.steps.items (_ ∷ []) in
+    steps-done _ (instructions_of c.loop-index.head.steps.items) (instructions_of c.push-2.new.self.items) (folded_each (patterns_seen (drop c.loop-index.index ps))) (variables_seen c.loop-index.head.variables.items) c.args.register c.loop-index.index c.len.result c.loop-index.head.free
+    (ap folded_each (patterns_past ps c.loop-index.index past)) same pushed c.loop-index.invariant.steps
