@@ -6,10 +6,10 @@ use Rattle.def_spec.specs.Functions.{truth}
 use Rattle.def_spec.specs.Expressions as ex
 use Rattle.def_spec.specs.Expressions.{Exprs, no_exprs, and_expr}
 use Rattle.def_spec.specs.Functions.{Func}
-use Rattle.def_machine.specs.Instructions.{OnFault, Instruction, load_constant, test_equal, jump, apply_function}
+use Rattle.def_machine.specs.Instructions.{kind_tuple, kind_list, OnFault, Instruction, load_constant, test_equal, jump, build, apply_function, perform_action}
 use Rattle.def_machine.specs.Compiling.{VariableRegisters, register_of, registers_of, call_code}
 use Rattle.tn_spec.specs.Sizes.{expr_size, exprs_size}
-use Rattle.tn_spec.specs.Views.{expr_seen, exprs_seen}
+use Rattle.tn_spec.specs.Views.{dialect_of, expr_seen, exprs_seen}
 use Rattle.tn_spec.specs.declared.expr.Expr.{Expr}
 use Rattle.tn_code.specs.Views.{instruction_of}
 use Rattle.tn_code.specs.declared.instr.Instr.{Instr}
@@ -64,11 +64,24 @@ call-is Condition f i k = refl
 call-is Body f i k = refl
 
 module _ (s : Scene) where
-  pub call-emitted : (g : Func) (es : Exprs) (free n : ℕ) (rs : List ℕ) (fault : OnFault) (k old new : List Instruction) → n ≡ length k → rs ≡ registers_of (variables_seen s.variables.now) es free → fault ≡ fault_emitted s n → old ≡ apply_function g free rs fault ∷ k → new ≡ exprs_emitted s es free old → new ≡ expr_emitted s (ex.call g es) free k
-  call-emitted g es free n rs fault k old new is regs on before after =
+  -- the code of an expression that is seen as this one
+  pub seen-emitted : (e f : ex.Expr) (free : ℕ) (k new : List Instruction) → e ≡ f → new ≡ expr_emitted s f free k → new ≡ expr_emitted s e free k
+  seen-emitted e f free k new is h = h ∙ sym (ap (λ x. expr_emitted s x free k) is)
+
+  pub tuple-emitted : (es : Exprs) (free : ℕ) (k old new : List Instruction) → old ≡ build kind_tuple free (registers_of (variables_seen s.variables.now) es free) ∷ k → new ≡ exprs_emitted s es free old → new ≡ expr_emitted s (ex.tuple_of es) free k
+  tuple-emitted es free k old new before after = after ∙ ap (exprs_emitted s es free) before
+
+  pub list-emitted : (es : Exprs) (free : ℕ) (k old new : List Instruction) → old ≡ build kind_list free (registers_of (variables_seen s.variables.now) es free) ∷ k → new ≡ exprs_emitted s es free old → new ≡ expr_emitted s (ex.list_of es) free k
+  list-emitted es free k old new before after = after ∙ ap (exprs_emitted s es free) before
+
+  pub call-emitted : (g : Func) (es : Exprs) (free n : ℕ) (k old new : List Instruction) → n ≡ length k → old ≡ apply_function g free (registers_of (variables_seen s.variables.now) es free) (fault_emitted s n) ∷ k → new ≡ exprs_emitted s es free old → new ≡ expr_emitted s (ex.call g es) free k
+  call-emitted g es free n k old new is before after =
       after ∙ ap (exprs_emitted s es free)
-      (before ∙ ap (λ x. apply_function g free rs x ∷ k) (on ∙ ap (fault_emitted s) is) ∙ ap (λ x. apply_function g free x (fault_emitted s (length k)) ∷ k) regs
+      (before ∙ ap (λ m. apply_function g free (registers_of (variables_seen s.variables.now) es free) (fault_emitted s m) ∷ k) is
       ∙ sym (call-is s.part s.left (apply_function g free (registers_of (variables_seen s.variables.now) es free)) k))
+
+  pub perform-emitted : (a : ex.Action) (es : Exprs) (free : ℕ) (k old new : List Instruction) → old ≡ perform_action (dialect_of s.dialect) a free (registers_of (variables_seen s.variables.now) es free) ∷ k → new ≡ exprs_emitted s es free old → new ≡ expr_emitted s (ex.perform a es) free k
+  perform-emitted a es free k old new before after = after ∙ ap (exprs_emitted s es free) before
 
   pub and-emitted : (es : Exprs) (free end : ℕ) (k a b new : List Instruction) → end ≡ length k → a ≡ load_constant free (truth true) ∷ k → b ≡ while_emitted s es (free + 1) end a → new ≡ load_constant free (truth false) ∷ b → new ≡ expr_emitted s (ex.and_also es) free k
   and-emitted es free end k a b new is one two three =

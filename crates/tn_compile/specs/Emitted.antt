@@ -1,16 +1,19 @@
 -- The code of expressions, by what it is emitted for.
-use Rattle.std.specs.Prelude.{◌≡◌, ℕ, List, [], ◌∷◌}
+use Rattle.std.specs.Prelude.{◌≡◌, ℕ, List, [], ◌∷◌, length}
 use Rattle.std.specs.declared.vec.Vec.{Vec}
 use Rattle.def_spec.specs.Expressions.{Dialect, Expr, Exprs}
 use Rattle.def_spec.specs.Outcome.{Clause}
-use Rattle.def_machine.specs.Instructions.{Instruction}
-use Rattle.def_machine.specs.Compiling.{expr_code, exprs_code, while_true_code, until_true_code, clause_code}
+use Rattle.def_machine.specs.Instructions.{Instruction, build, apply_function, perform_action}
+use Rattle.def_machine.specs.Compiling.{registers_of, expr_code, exprs_code, while_true_code, until_true_code, clause_code}
 use Rattle.def_machine.specs.Folding.{folded_clause}
-use Rattle.tn_spec.specs.Views.{dialect_of}
-use Rattle.tn_code.specs.Views.{instructions_of}
+use Rattle.tn_spec.specs.Views.{dialect_of, func_of, action_of}
+use Rattle.tn_spec.specs.declared.func.Func.{Func}
+use Rattle.tn_spec.specs.declared.func.Action.{Action}
+use Rattle.tn_code.specs.Views.{instructions_of, kind_of}
+use Rattle.tn_code.specs.declared.instr.Kind.{Kind}
 use Rattle.tn_code.specs.declared.instr.Instr.{Instr}
 use Rattle.tn_compile.specs.Heads.{in_front}
-use Rattle.tn_compile.specs.Views.{code_left, part_of, variables_seen}
+use Rattle.tn_compile.specs.Views.{code_left, fault_emitted, part_of, variables_seen}
 use Rattle.tn_compile.specs.declared.scene.Scene.{Scene}
 
 abbrev pub expr_emitted : Scene → Expr → ℕ → List Instruction → List Instruction
@@ -37,6 +40,18 @@ EmitsExpr s e d old new = code_left new ≡ expr_emitted s e d (code_left old)
 
 abbrev pub EmitsExprs : {A : Type 0} → Scene → Exprs → ℕ → Vec (Instr A) A → Vec (Instr A) A → Type 0
 EmitsExprs s es d old new = code_left new ≡ exprs_emitted s es d (code_left old)
+
+-- the instruction alone that makes a tuple or list of the values, or calls a function or an action on them
+abbrev pub EmitsBuild : {A : Type 0} → Scene → Kind → Exprs → ℕ → Vec (Instr A) A → Vec (Instr A) A → Type 0
+EmitsBuild s k es d old new = code_left new ≡ build (kind_of k) d (registers_of (variables_seen s.variables.now) es d) ∷ code_left old
+
+abbrev pub EmitsApply : {A : Type 0} → Scene → Func → Exprs → ℕ → Vec (Instr A) A → Vec (Instr A) A → Type 0
+EmitsApply s f es d old new =
+    code_left new ≡ apply_function (func_of f) d (registers_of (variables_seen s.variables.now) es d) (fault_emitted s (length old.items)) ∷ code_left old
+
+abbrev pub EmitsPerform : {A : Type 0} → Scene → Action → Exprs → ℕ → Vec (Instr A) A → Vec (Instr A) A → Type 0
+EmitsPerform s a es d old new =
+    code_left new ≡ perform_action (dialect_of s.dialect) (action_of a) d (registers_of (variables_seen s.variables.now) es d) ∷ code_left old
 
 abbrev pub EmitsWhileTrue : {A : Type 0} → Scene → Exprs → (d g : ℕ) → Vec (Instr A) A → Vec (Instr A) A → Type 0
 EmitsWhileTrue s es d g old new = code_left new ≡ while_emitted s es d g (code_left old)

@@ -1,6 +1,7 @@
 // The code of expressions.
 ghost use Rattle.std.specs.Prelude.{◌≡◌, ◌∷◌, ◌+◌, ◌<◌, ◌≤◌, ◌^◌, OnOk, IfOk, length};
 ghost use Rattle.def_spec.specs.Functions.{truth};
+ghost use Rattle.def_spec.specs.Expressions.{all_bound, and_also, or_else};
 ghost use Rattle.def_machine.specs.Compiling.{register_of, registers_of};
 ghost use Rattle.def_machine.specs.Instructions.{load_constant};
 ghost use Rattle.tn_spec.specs.Sizes.{expr_size, exprs_size};
@@ -9,11 +10,12 @@ ghost use Rattle.tn_term.specs.Views.{tree_of};
 ghost use Rattle.tn_code.specs.Views.{fault_of};
 ghost use Rattle.tn_compile.specs.Views.{code_left, variables_seen, fault_emitted};
 ghost use Rattle.tn_compile.specs.Emitted.{EmitsExpr, EmitsExprs, EmitsWhileTrue, EmitsUntilTrue};
+ghost use Rattle.tn_compile.specs.Emitted.{EmitsBuild, EmitsApply, EmitsPerform};
 
 use crate::scene::{Part, Scene, VariableRegister, all_registers, emit, register_of_variable};
 use std::alloc::{AllocError, Allocator};
 use tn_code::{Instr, Kind, OnFault};
-use tn_spec::Expr;
+use tn_spec::{Action, Expr, Func};
 use tn_term::Term;
 
 /// The register of an expression's value: a variable's own, or the free one.
@@ -83,6 +85,111 @@ fn on_fault<A: Allocator>(code: &Vec<Instr<A>, A>, scene: &Scene<'_>) -> OnFault
     }
 }
 
+/// Puts the instruction that makes a tuple or list of the values in front of the code.
+fn emit_build<P: Allocator, A: Allocator + Copy>(
+    alloc: A,
+    code: &mut Vec<Instr<A>, A>,
+    kind: Kind,
+    exprs: &Vec<Expr<P>, P>,
+    scene: &Scene<'_>,
+    to: usize,
+) -> Result<(), AllocError>
+    requires room { to + exprs_size (exprs_seen exprs.now.items) < 2 ^ 64 }
+    ensures emitted { OnOk result (EmitsBuild scene.now kind (exprs_seen exprs.now.items) to code.old code.new) }
+    ensures longer { OnOk result (length code.old.items ≤ length code.new.items) }
+{
+    let from = registers_of(alloc, scene.variables, exprs.as_slice(), to)?;
+    emit(code, Instr::Build { kind, to, from })
+}
+
+/// Puts the call of a function on the values in front of the code.
+fn emit_apply<P: Allocator, A: Allocator + Copy>(
+    alloc: A,
+    code: &mut Vec<Instr<A>, A>,
+    func: Func,
+    exprs: &Vec<Expr<P>, P>,
+    scene: &Scene<'_>,
+    to: usize,
+) -> Result<(), AllocError>
+    requires room { to + exprs_size (exprs_seen exprs.now.items) < 2 ^ 64 }
+    requires behind { scene.now.left ≤ length code.old.items }
+    ensures emitted { OnOk result (EmitsApply scene.now func (exprs_seen exprs.now.items) to code.old code.new) }
+    ensures longer { OnOk result (length code.old.items ≤ length code.new.items) }
+{
+    let from = registers_of(alloc, scene.variables, exprs.as_slice(), to)?;
+    let on_fault = on_fault(code, scene);
+    emit(
+        code,
+        Instr::Apply {
+            func,
+            to,
+            from,
+            on_fault,
+        },
+    )
+}
+
+/// Puts an action on the values in front of the code.
+fn emit_perform<P: Allocator, A: Allocator + Copy>(
+    alloc: A,
+    code: &mut Vec<Instr<A>, A>,
+    action: Action,
+    exprs: &Vec<Expr<P>, P>,
+    scene: &Scene<'_>,
+    to: usize,
+) -> Result<(), AllocError>
+    requires room { to + exprs_size (exprs_seen exprs.now.items) < 2 ^ 64 }
+    ensures emitted { OnOk result (EmitsPerform scene.now action (exprs_seen exprs.now.items) to code.old code.new) }
+    ensures longer { OnOk result (length code.old.items ≤ length code.new.items) }
+{
+    let from = registers_of(alloc, scene.variables, exprs.as_slice(), to)?;
+    let dialect = scene.dialect;
+    emit(
+        code,
+        Instr::Perform {
+            dialect,
+            action,
+            to,
+            from,
+        },
+    )
+}
+
+/// Puts the instruction that makes the list of all bound values in front of the code.
+fn emit_all_bound<A: Allocator + Copy>(
+    alloc: A,
+    code: &mut Vec<Instr<A>, A>,
+    scene: &Scene<'_>,
+    to: usize,
+) -> Result<(), AllocError>
+    ensures emitted { OnOk result (EmitsExpr scene.now all_bound to code.old code.new) }
+    ensures longer { OnOk result (length code.old.items ≤ length code.new.items) }
+{
+    let from = all_registers(alloc, scene.variables)?;
+    emit(
+        code,
+        Instr::Build {
+            kind: Kind::List,
+            to,
+            from,
+        },
+    )
+}
+
+/// Puts the instruction that loads a term as it stands in front of the code.
+fn emit_constant<P: Allocator, A: Allocator + Copy>(
+    alloc: A,
+    code: &mut Vec<Instr<A>, A>,
+    term: &Term<P>,
+    to: usize,
+) -> Result<(), AllocError>
+    ensures emitted { OnOk result (code_left code.new ≡ load_constant to (tree_of term.now) ∷ code_left code.old) }
+    ensures longer { OnOk result (length code.old.items ≤ length code.new.items) }
+{
+    let term = term.copy_into(alloc)?;
+    emit(code, Instr::LoadConstant { to, term })
+}
+
 /// Puts the code of an expression's value in front of the code.
 #[cycle(emit)]
 pub fn emit_expr<P: Allocator, A: Allocator + Copy>(
@@ -99,87 +206,68 @@ pub fn emit_expr<P: Allocator, A: Allocator + Copy>(
 {
     match expr {
         Expr::Variable(_) => Ok(()),
-        Expr::WholeList => Ok(emit(code, Instr::LoadList { to: free })?),
-        Expr::AllBound => {
-            let from = all_registers(alloc, scene.variables)?;
-            Ok(emit(
-                code,
-                Instr::Build {
-                    kind: Kind::List,
-                    to: free,
-                    from,
-                },
-            )?)
-        }
-        Expr::Constant(term) => {
-            let term = term.copy_into(alloc)?;
-            Ok(emit(code, Instr::LoadConstant { to: free, term })?)
-        }
+        Expr::WholeList => emit(code, Instr::LoadList { to: free }),
+        Expr::AllBound => emit_all_bound(alloc, code, scene, free),
+        Expr::Constant(term) => emit_constant(alloc, code, term, free),
         Expr::Tuple(exprs) => {
-            let from = registers_of(alloc, scene.variables, exprs.as_slice(), free)?;
-            emit(
-                code,
-                Instr::Build {
-                    kind: Kind::Tuple,
-                    to: free,
-                    from,
-                },
-            )?;
-            Ok(emit_exprs(alloc, code, exprs, scene, free)?)
+            emit_build(alloc, code, Kind::Tuple, exprs, scene, free)?;
+            emit_exprs(alloc, code, exprs, scene, free)
         }
         Expr::List(exprs) => {
-            let from = registers_of(alloc, scene.variables, exprs.as_slice(), free)?;
-            emit(
-                code,
-                Instr::Build {
-                    kind: Kind::List,
-                    to: free,
-                    from,
-                },
-            )?;
-            Ok(emit_exprs(alloc, code, exprs, scene, free)?)
+            emit_build(alloc, code, Kind::List, exprs, scene, free)?;
+            emit_exprs(alloc, code, exprs, scene, free)
         }
         Expr::Call(func, exprs) => {
-            let from = registers_of(alloc, scene.variables, exprs.as_slice(), free)?;
-            let on_fault = on_fault(code, scene);
-            emit(
-                code,
-                Instr::Apply {
-                    func: *func,
-                    to: free,
-                    from,
-                    on_fault,
-                },
-            )?;
-            Ok(emit_exprs(alloc, code, exprs, scene, free)?)
+            emit_apply(alloc, code, *func, exprs, scene, free)?;
+            emit_exprs(alloc, code, exprs, scene, free)
         }
-        Expr::AndAlso(exprs) => {
-            let end = code.len();
-            emit_truth(alloc, code, free, true)?;
-            emit_while_true(alloc, code, exprs, scene, free + 1, end)?;
-            Ok(emit_truth(alloc, code, free, false)?)
-        }
-        Expr::OrElse(exprs) => {
-            let end = code.len();
-            emit_truth(alloc, code, free, false)?;
-            emit_until_true(alloc, code, exprs, scene, free + 1, end)?;
-            Ok(emit_truth(alloc, code, free, true)?)
-        }
+        Expr::AndAlso(exprs) => emit_and_also(alloc, code, exprs, scene, free),
+        Expr::OrElse(exprs) => emit_or_else(alloc, code, exprs, scene, free),
         Expr::Perform(action, exprs) => {
-            let from = registers_of(alloc, scene.variables, exprs.as_slice(), free)?;
-            let dialect = scene.dialect;
-            emit(
-                code,
-                Instr::Perform {
-                    dialect,
-                    action: *action,
-                    to: free,
-                    from,
-                },
-            )?;
-            Ok(emit_exprs(alloc, code, exprs, scene, free)?)
+            emit_perform(alloc, code, *action, exprs, scene, free)?;
+            emit_exprs(alloc, code, exprs, scene, free)
         }
     }
+}
+
+/// Puts the code of `andalso` in front of the code.
+#[cycle(emit)]
+fn emit_and_also<P: Allocator, A: Allocator + Copy>(
+    alloc: A,
+    code: &mut Vec<Instr<A>, A>,
+    exprs: &Vec<Expr<P>, P>,
+    scene: &Scene<'_>,
+    free: usize,
+) -> Result<(), AllocError>
+    requires room { free + 2 + exprs_size (exprs_seen exprs.now.items) < 2 ^ 64 }
+    requires behind { scene.now.left ≤ length code.old.items }
+    ensures emitted { OnOk result (EmitsExpr scene.now (and_also (exprs_seen exprs.now.items)) free code.old code.new) }
+    ensures longer { OnOk result (length code.old.items ≤ length code.new.items) }
+{
+    let end = code.len();
+    emit_truth(alloc, code, free, true)?;
+    emit_while_true(alloc, code, exprs, scene, free + 1, end)?;
+    emit_truth(alloc, code, free, false)
+}
+
+/// Puts the code of `orelse` in front of the code.
+#[cycle(emit)]
+fn emit_or_else<P: Allocator, A: Allocator + Copy>(
+    alloc: A,
+    code: &mut Vec<Instr<A>, A>,
+    exprs: &Vec<Expr<P>, P>,
+    scene: &Scene<'_>,
+    free: usize,
+) -> Result<(), AllocError>
+    requires room { free + 2 + exprs_size (exprs_seen exprs.now.items) < 2 ^ 64 }
+    requires behind { scene.now.left ≤ length code.old.items }
+    ensures emitted { OnOk result (EmitsExpr scene.now (or_else (exprs_seen exprs.now.items)) free code.old code.new) }
+    ensures longer { OnOk result (length code.old.items ≤ length code.new.items) }
+{
+    let end = code.len();
+    emit_truth(alloc, code, free, false)?;
+    emit_until_true(alloc, code, exprs, scene, free + 1, end)?;
+    emit_truth(alloc, code, free, true)
 }
 
 /// Puts the code of the values of several expressions in front of the code.

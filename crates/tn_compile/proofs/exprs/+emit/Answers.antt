@@ -1,44 +1,61 @@
 use Rattle.std.proofs.Common.{rules, ◌≡◌, ◌+◌, ◌-◌, ◌<◌, ◌≤◌, ◌^◌, ◌∙◌, sym, ap, arith, length, drop}
 use Rattle.def_spec.specs.Expressions.{and_expr}
 use Rattle.tn_spec.specs.Sizes.{expr_size}
-use Rattle.tn_spec.specs.Views.{func_of, expr_seen, exprs_seen}
-use Rattle.tn_spec.proofs.Views.{expr_seen_call, expr_seen_and_also, expr_seen_or_else}
+use Rattle.std.proofs.lemmas.Result.{on_ok_weaker}
+use Rattle.tn_spec.specs.Views.{func_of, action_of, expr_seen, exprs_seen}
+use Rattle.tn_spec.proofs.Views.{expr_seen_tuple, expr_seen_list, expr_seen_call, expr_seen_and_also, expr_seen_or_else, expr_seen_perform}
 use Rattle.tn_spec.specs.declared.expr.Expr as expr
-use Rattle.tn_code.specs.Views.{fault_of}
-use Rattle.tn_compile.specs.Views.{code_left, variables_seen}
-use Rattle.tn_compile.specs.Emitted.{expr_emitted}
-use Rattle.def_machine.specs.Compiling.{registers_of}
-use Rattle.tn_compile.proofs.Steps.{exprs_here, exprs-length, expr-within, left-length, call-emitted, and-emitted, or-emitted, while-more, until-more}
+use Rattle.tn_compile.specs.Views.{code_left}
+use Rattle.tn_compile.proofs.Steps.{exprs_here, exprs-length, expr-within, left-length, seen-emitted, tuple-emitted, list-emitted, call-emitted, perform-emitted, and-emitted, or-emitted, while-more, until-more}
 use Rattle.tn_compile.proofs.exprs.+emit.Goals as goal
 
-pub emit_expr-returns-in_ok-emit_exprs-in-Call-clause-emitted :
-    goal.emit_expr-returns-in_ok-emit_exprs-in-Call-clause-emitted
-emit_expr-returns-in_ok-emit_exprs-in-Call-clause-emitted g t c =
+pub emit_expr-returns-in_ok-emit_build-in-Tuple-clause-emitted : goal.emit_expr-returns-in_ok-emit_build-in-Tuple-clause-emitted
+emit_expr-returns-in_ok-emit_build-in-Tuple-clause-emitted g t c =
     let s = c.args.scene.now in
-    let es = c.in-Call.exprs.items in
-    call-emitted s (func_of c.in-Call.func) (exprs_seen es) c.args.free (length c.args.code.now.items) c.in_ok-from-in-Call.from.items (fault_of c.on_fault-on_fault.result) (code_left c.args.code.now) (code_left c.emit-in-Call.new.code) (code_left c.emit_exprs-in-Call.new.code)
-    (sym (left-length c.args.code.now))
-    (c.in_ok-from-in-Call.ensures ∙ ap (λ x. registers_of (variables_seen s.variables.now) (exprs_seen x) c.args.free) c.as_slice-in-Call.ensures.value)
-    c.on_fault-on_fault.ensures c.in_ok-emit-in-Call.ensures.emitted c.in_ok-emit_exprs-in-Call.ensures.emitted
-    ∙ sym (ap (λ e. expr_emitted s e c.args.free (code_left c.args.code.now)) (ap expr_seen c.in-Call.is ∙ expr_seen_call c.in-Call.func c.in-Call.exprs))
+    let es = exprs_seen c.in-Tuple.exprs.items in
+    let k = code_left c.args.code.now in
+    on_ok_weaker c.emit_exprs.result (λ after. seen-emitted s _ _ c.args.free k _ (ap expr_seen c.in-Tuple.is ∙ expr_seen_tuple c.in-Tuple.exprs) (tuple-emitted s es c.args.free k _ _ c.in_ok-emit_build-in-Tuple.ensures.emitted after)) c.emit_exprs.ensures.emitted
 
-pub emit_expr-returns-in_ok-emit_truth-in-AndAlso-2-clause-emitted :
-    goal.emit_expr-returns-in_ok-emit_truth-in-AndAlso-2-clause-emitted
-emit_expr-returns-in_ok-emit_truth-in-AndAlso-2-clause-emitted g t c =
+pub emit_expr-returns-in_ok-emit_build-in-List-clause-emitted : goal.emit_expr-returns-in_ok-emit_build-in-List-clause-emitted
+emit_expr-returns-in_ok-emit_build-in-List-clause-emitted g t c =
     let s = c.args.scene.now in
-    and-emitted s (exprs_seen c.in-AndAlso.exprs.items) c.args.free c.len-end.result (code_left c.args.code.now) (code_left c.emit_truth.new.code) (code_left c.emit_while_true.new.code) (code_left c.emit_truth-in-AndAlso.new.code)
+    let es = exprs_seen c.in-List.exprs.items in
+    let k = code_left c.args.code.now in
+    on_ok_weaker c.emit_exprs-in-List.result (λ after. seen-emitted s _ _ c.args.free k _ (ap expr_seen c.in-List.is ∙ expr_seen_list c.in-List.exprs) (list-emitted s es c.args.free k _ _ c.in_ok-emit_build-in-List.ensures.emitted after)) c.emit_exprs-in-List.ensures.emitted
+
+pub emit_expr-returns-in_ok-emit_apply-in-Call-clause-emitted : goal.emit_expr-returns-in_ok-emit_apply-in-Call-clause-emitted
+emit_expr-returns-in_ok-emit_apply-in-Call-clause-emitted g t c =
+    let s = c.args.scene.now in
+    let es = exprs_seen c.in-Call.exprs.items in
+    let k = code_left c.args.code.now in
+    on_ok_weaker c.emit_exprs-in-Call.result (λ after. seen-emitted s _ _ c.args.free k _ (ap expr_seen c.in-Call.is ∙ expr_seen_call c.in-Call.func c.in-Call.exprs) (call-emitted s (func_of c.in-Call.func) es c.args.free (length c.args.code.now.items) k _ _ (sym (left-length c.args.code.now)) c.in_ok-emit_apply-in-Call.ensures.emitted after)) c.emit_exprs-in-Call.ensures.emitted
+
+pub emit_expr-returns-in_ok-emit_perform-in-Perform-clause-emitted : goal.emit_expr-returns-in_ok-emit_perform-in-Perform-clause-emitted
+emit_expr-returns-in_ok-emit_perform-in-Perform-clause-emitted g t c =
+    let s = c.args.scene.now in
+    let es = exprs_seen c.in-Perform.exprs.items in
+    let k = code_left c.args.code.now in
+    on_ok_weaker c.emit_exprs-in-Perform.result (λ after. seen-emitted s _ _ c.args.free k _ (ap expr_seen c.in-Perform.is ∙ expr_seen_perform c.in-Perform.action c.in-Perform.exprs) (perform-emitted s (action_of c.in-Perform.action) es c.args.free k _ _ c.in_ok-emit_perform-in-Perform.ensures.emitted after)) c.emit_exprs-in-Perform.ensures.emitted
+
+pub emit_expr-returns-in-AndAlso-clause-emitted : goal.emit_expr-returns-in-AndAlso-clause-emitted
+emit_expr-returns-in-AndAlso-clause-emitted g t c =
+    on_ok_weaker c.emit_and_also.result (seen-emitted c.args.scene.now _ _ c.args.free (code_left c.args.code.now) _ (ap expr_seen c.in-AndAlso.is ∙ expr_seen_and_also c.in-AndAlso.exprs)) c.emit_and_also.ensures.emitted
+
+pub emit_expr-returns-in-OrElse-clause-emitted : goal.emit_expr-returns-in-OrElse-clause-emitted
+emit_expr-returns-in-OrElse-clause-emitted g t c =
+    on_ok_weaker c.emit_or_else.result (seen-emitted c.args.scene.now _ _ c.args.free (code_left c.args.code.now) _ (ap expr_seen c.in-OrElse.is ∙ expr_seen_or_else c.in-OrElse.exprs)) c.emit_or_else.ensures.emitted
+
+pub emit_and_also-returns-clause-emitted : goal.emit_and_also-returns-clause-emitted
+emit_and_also-returns-clause-emitted g t c =
+    on_ok_weaker c.emit_truth-2.result (and-emitted c.args.scene.now (exprs_seen c.args.exprs.now.items) c.args.free c.len-end.result (code_left c.args.code.now) (code_left c.emit_truth.new.code) (code_left c.emit_while_true.new.code) _
     (c.len-end.ensures ∙ c.args.code.now.ok.0 ∙ sym (left-length c.args.code.now))
-    c.in_ok-emit_truth-in-AndAlso.ensures.emitted c.in_ok-emit_while_true-in-AndAlso.ensures.emitted c.in_ok-emit_truth-in-AndAlso-2.ensures.emitted
-    ∙ sym (ap (λ e. expr_emitted s e c.args.free (code_left c.args.code.now)) (ap expr_seen c.in-AndAlso.is ∙ expr_seen_and_also c.in-AndAlso.exprs))
+    c.in_ok-emit_truth.ensures.emitted c.in_ok-emit_while_true.ensures.emitted) c.emit_truth-2.ensures.emitted
 
-pub emit_expr-returns-in_ok-emit_truth-in-OrElse-2-clause-emitted :
-    goal.emit_expr-returns-in_ok-emit_truth-in-OrElse-2-clause-emitted
-emit_expr-returns-in_ok-emit_truth-in-OrElse-2-clause-emitted g t c =
-    let s = c.args.scene.now in
-    or-emitted s (exprs_seen c.in-OrElse.exprs.items) c.args.free c.len-end-in-OrElse.result (code_left c.args.code.now) (code_left c.emit_truth-in-OrElse.new.code) (code_left c.emit_until_true.new.code) (code_left c.emit_truth-in-OrElse-2.new.code)
-    (c.len-end-in-OrElse.ensures ∙ c.args.code.now.ok.0 ∙ sym (left-length c.args.code.now))
-    c.in_ok-emit_truth-in-OrElse.ensures.emitted c.in_ok-emit_until_true-in-OrElse.ensures.emitted c.in_ok-emit_truth-in-OrElse-2.ensures.emitted
-    ∙ sym (ap (λ e. expr_emitted s e c.args.free (code_left c.args.code.now)) (ap expr_seen c.in-OrElse.is ∙ expr_seen_or_else c.in-OrElse.exprs))
+pub emit_or_else-returns-clause-emitted : goal.emit_or_else-returns-clause-emitted
+emit_or_else-returns-clause-emitted g t c =
+    on_ok_weaker c.emit_truth-2.result (or-emitted c.args.scene.now (exprs_seen c.args.exprs.now.items) c.args.free c.len-end.result (code_left c.args.code.now) (code_left c.emit_truth.new.code) (code_left c.emit_until_true.new.code) _
+    (c.len-end.ensures ∙ c.args.code.now.ok.0 ∙ sym (left-length c.args.code.now))
+    c.in_ok-emit_truth.ensures.emitted c.in_ok-emit_until_true.ensures.emitted) c.emit_truth-2.ensures.emitted
 
 pub emit_exprs-overflow_add-free : goal.emit_exprs-overflow_add-free
 emit_exprs-overflow_add-free g t c = omega (arith, c.requires.room, c.loop-i.invariant.within, exprs-length c.args.exprs.now.items)
