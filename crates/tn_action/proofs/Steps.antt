@@ -1,7 +1,10 @@
 -- Values and effects of several expressions, one expression after another.
-use Rattle.std.proofs.Common.{◌≡◌, ◌∙◌, sym, ap, refl, ℕ, ◌+◌, ◌<◌, ◌≤◌, Bool, true, false, ◌&&◌, if◌then◌else◌, List, [], ◌∷◌, ◌++◌, length, get_or, drop, map, Option, Some, None, append_assoc, append-nil, pos}
+use Rattle.std.proofs.Common.{◌≡◌, ◌∙◌, sym, ap, refl, ℕ, ◌+◌, ◌<◌, ◌≤◌, Bool, true, false, ◌&&◌, if◌then◌else◌, List, [], ◌∷◌, ◌++◌, length, get_or, drop, map, Option, Some, None, append_assoc, append-nil, pos, Result}
 use Rattle.std.specs.Option.{option_map, option_and_then}
+use Rattle.std.specs.Result.{IfOk}
 use Rattle.std.proofs.lemmas.List.{drop_more, drop_all}
+use Rattle.std.proofs.lemmas.Result.{IfOk-weaker}
+use Rattle.tn_guard.specs.declared.value.Value.{Value}
 use Rattle.def_term.specs.Tree.{Tree, int, atom, tuple, none, more}
 use Rattle.def_term.specs.Names.{Mfa, mfa_term}
 use Rattle.def_spec.specs.Functions.{truth, is_true}
@@ -71,6 +74,20 @@ other_goes_on t r e = ap (λ b. if b then Some (truth true) else r) e
 
 pub other_stops : (t : Tree) (r : Option Tree) → is_true t ≡ true → unless_true (Some t) r ≡ Some (truth true)
 other_stops t r e = ap (λ b. if b then Some (truth true) else r) e
+
+-- ---- results
+
+-- a result's value is this one too
+pub valued_as : {A E : Type 0} (r : Result (Option (Value A)) E) (t u : Option Tree) → t ≡ u → IfOk r (λ v. option_map value_seen v ≡ t) → IfOk r (λ v. option_map value_seen v ≡ u)
+valued_as r t u e h = IfOk-weaker r (λ v. option_map value_seen v ≡ t) (λ v. option_map value_seen v ≡ u) (λ v k. k ∙ e) h
+
+-- what holds in any case holds of a result
+pub holds_as : {A E : Type 0} (r : Result (Option (Value A)) E) (t : Option Tree) (Q : Type 0) → Q → IfOk r (λ v. option_map value_seen v ≡ t) → IfOk r (λ _. Q)
+holds_as r t Q q h = IfOk-weaker r (λ v. option_map value_seen v ≡ t) (λ _. Q) (λ v k. q) h
+
+pub value_part_then : (f : List Tree → Option (Tree × List Effect)) (o : Option (List Tree)) → ex.value_part (option_and_then f o) ≡ option_and_then (λ ts. ex.value_part (f ts)) o
+value_part_then f None = refl
+value_part_then f (Some ts) = refl
 
 -- ---- variables
 

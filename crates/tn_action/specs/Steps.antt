@@ -19,7 +19,7 @@ use Rattle.tn_spec.specs.declared.func.Dialect.{Dialect}
 use Rattle.tn_spec.specs.declared.func.Func.{Func}
 use Rattle.tn_spec.specs.declared.spec.Clause.{Clause}
 use Rattle.tn_spec.specs.declared.spec.Spec.{Spec}
-use Rattle.tn_action.specs.Scenes.{act_in, effects_of_part, effects_in, effects_of_all_in, effects_while_true_in, effects_until_true_in}
+use Rattle.tn_action.specs.Scenes.{value_in, act_in, effects_of_part, effects_in, effects_of_all_in, effects_while_true_in, effects_until_true_in}
 use Rattle.tn_action.specs.Views.{acted, context_seen, effect_seen}
 use Rattle.tn_action.specs.declared.actions.Acted.{Acted}
 use Rattle.tn_action.specs.declared.context.Context.{Context}
@@ -67,6 +67,19 @@ abbrev pub AreBehind : {A : Type 0} → List ex.Effect → Vec (Effect A) A → 
 AreBehind es old new = map effect_seen new.items ≡ map effect_seen old.items ++ es
 
 module _ {A : Type 0} {G : Ghosts A} (s : Scene A G) where
+  -- the value of a tuple of expressions, of a list of them, and of a function or an action on them
+  abbrev pub value_of_tuple : Vec (Expr A) A → Option Tree
+  value_of_tuple es = value_in s (ex.tuple_of (exprs_seen es.items))
+
+  abbrev pub value_of_list : Vec (Expr A) A → Option Tree
+  value_of_list es = value_in s (ex.list_of (exprs_seen es.items))
+
+  abbrev pub value_of_call : Func → Vec (Expr A) A → Option Tree
+  value_of_call f es = value_in s (ex.call (func_of f) (exprs_seen es.items))
+
+  abbrev pub value_of_action : Action → Vec (Expr A) A → Option Tree
+  value_of_action a es = value_in s (ex.perform (action_of a) (exprs_seen es.items))
+
   -- the value of an action on these values, with its effects
   abbrev pub performed_on : Action → Option (SmallVec (Value A)) → Option (Tree × List ex.Effect)
   performed_on a vs = option_and_then (act_in s (action_of a)) (several_seen vs)
@@ -86,6 +99,10 @@ module _ {A : Type 0} {G : Ghosts A} (s : Scene A G) where
   -- the effects of an expression stand behind the old ones
   abbrev pub AddsOf : Expr A → Vec (Effect A) A → Vec (Effect A) A → Type 0
   AddsOf e = AreBehind (effects_in s (expr_seen e))
+
+  -- those of an action on several expressions
+  abbrev pub AddsOfAction : Action → Vec (Expr A) A → Vec (Effect A) A → Vec (Effect A) A → Type 0
+  AddsOfAction a es = AreBehind (effects_in s (ex.perform (action_of a) (exprs_seen es.items)))
 
   -- those of several expressions
   abbrev pub AddsOfAll : Vec (Expr A) A → Vec (Effect A) A → Vec (Effect A) A → Type 0

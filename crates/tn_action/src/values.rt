@@ -5,8 +5,9 @@ ghost use Rattle.def_spec.specs.Functions.{truth};
 ghost use Rattle.tn_guard.specs.Views.{value_seen};
 ghost use Rattle.tn_spec.specs.Views.{expr_seen, exprs_seen};
 ghost use Rattle.tn_action.specs.Scenes.{value_in, values_in, all_in, one_in, effects_of_part, unless_faulted};
-ghost use Rattle.tn_action.specs.Steps.{AddsOf, AddsOfAll, AddsWhileTrue, AddsUntilTrue, AreBehind};
+ghost use Rattle.tn_action.specs.Steps.{AddsOf, AddsOfAll, AddsOfAction, AddsWhileTrue, AddsUntilTrue, AreBehind};
 ghost use Rattle.tn_action.specs.Steps.{several_seen, tuple_seen, list_seen, called_on};
+ghost use Rattle.tn_action.specs.Steps.{value_of_tuple, value_of_list, value_of_call, value_of_action};
 ghost use Rattle.tn_action.specs.Steps.{value_performed, AddsPerformed};
 ghost use Rattle.tn_action.specs.Views.{effect_list};
 
@@ -39,19 +40,71 @@ pub fn value<'a, A: Allocator + Copy>(
         Expr::WholeList => Ok(Some(scene.context.list.list())),
         Expr::AllBound => Ok(Some(scene.all_bound()?)),
         Expr::Constant(term) => Ok(Some(Value::Lent(term))),
-        Expr::Tuple(exprs) => Ok(tuple_of(values(exprs, scene, effects)?, scene.arena)?),
-        Expr::List(exprs) => Ok(list_of(values(exprs, scene, effects)?, scene.arena)?),
-        Expr::Call(func, exprs) => {
-            let args = values(exprs, scene, effects)?;
-            Ok(scene.settled(called(*func, args, scene.context.me)))
-        }
-        Expr::AndAlso(exprs) => Ok(all_in_turn(exprs, scene, effects)?),
-        Expr::OrElse(exprs) => Ok(one_in_turn(exprs, scene, effects)?),
-        Expr::Perform(action, exprs) => {
-            let args = values(exprs, scene, effects)?;
-            Ok(scene.settled(performed(*action, args, scene, effects)?))
-        }
+        Expr::Tuple(exprs) => tuple_value(exprs, scene, effects),
+        Expr::List(exprs) => list_value(exprs, scene, effects),
+        Expr::Call(func, exprs) => call_value(*func, exprs, scene, effects),
+        Expr::AndAlso(exprs) => all_in_turn(exprs, scene, effects),
+        Expr::OrElse(exprs) => one_in_turn(exprs, scene, effects),
+        Expr::Perform(action, exprs) => action_value(*action, exprs, scene, effects),
     }
+}
+
+/// The tuple of the values of the expressions.
+#[cycle(value)]
+fn tuple_value<'a, A: Allocator + Copy>(
+    exprs: &'a Vec<Expr<A>, A>,
+    scene: &Scene<'a, '_, A>,
+    effects: &mut Vec<Effect<A>, A>,
+) -> Result<Option<Value<'a, A>>, AllocError>
+    ensures value { IfOk result (λ v. option_map value_seen v ≡ value_of_tuple scene.now exprs.now) }
+    ensures effects { IfOk result (λ _. AddsOfAll scene.now exprs.now effects.old effects.new) }
+{
+    let parts = values(exprs, scene, effects)?;
+    tuple_of(parts, scene.arena)
+}
+
+/// The list of the values of the expressions.
+#[cycle(value)]
+fn list_value<'a, A: Allocator + Copy>(
+    exprs: &'a Vec<Expr<A>, A>,
+    scene: &Scene<'a, '_, A>,
+    effects: &mut Vec<Effect<A>, A>,
+) -> Result<Option<Value<'a, A>>, AllocError>
+    ensures value { IfOk result (λ v. option_map value_seen v ≡ value_of_list scene.now exprs.now) }
+    ensures effects { IfOk result (λ _. AddsOfAll scene.now exprs.now effects.old effects.new) }
+{
+    let parts = values(exprs, scene, effects)?;
+    list_of(parts, scene.arena)
+}
+
+/// The value of a function on the values of the expressions.
+#[cycle(value)]
+fn call_value<'a, A: Allocator + Copy>(
+    func: Func,
+    exprs: &'a Vec<Expr<A>, A>,
+    scene: &Scene<'a, '_, A>,
+    effects: &mut Vec<Effect<A>, A>,
+) -> Result<Option<Value<'a, A>>, AllocError>
+    ensures value { IfOk result (λ v. option_map value_seen v ≡ value_of_call scene.now func exprs.now) }
+    ensures effects { IfOk result (λ _. AddsOfAll scene.now exprs.now effects.old effects.new) }
+{
+    let args = values(exprs, scene, effects)?;
+    Ok(scene.settled(called(func, args, scene.context.me)))
+}
+
+/// The value of an action on the values of the expressions; in a body its effect goes behind theirs.
+#[cycle(value)]
+fn action_value<'a, A: Allocator + Copy>(
+    action: Action,
+    exprs: &'a Vec<Expr<A>, A>,
+    scene: &Scene<'a, '_, A>,
+    effects: &mut Vec<Effect<A>, A>,
+) -> Result<Option<Value<'a, A>>, AllocError>
+    ensures value { IfOk result (λ v. option_map value_seen v ≡ value_of_action scene.now action exprs.now) }
+    ensures effects { IfOk result (λ _. AddsOfAction scene.now action exprs.now effects.old effects.new) }
+{
+    let args = values(exprs, scene, effects)?;
+    Ok(scene.settled(performed(action, args, scene, effects)?))
 }
 
 /// The values of several expressions, left to right; None where one is a fault.
