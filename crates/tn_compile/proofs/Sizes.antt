@@ -35,3 +35,17 @@ clause-room ks i k l is small =
     let few : suc (registers_taken (folded (head_seen k.head))) ≤ 2 * pattern_size (head_seen k.head) = registers-few (head_seen k.head) in
     let within : pattern_size (head_seen k.head) + (exprs_size (exprs_seen k.conditions.items) + exprs_size (exprs_seen k.body.items)) ≤ clauses_size (map clause_seen ks) = clause-within ks i k l is in
     record { conditions = omega (arith, few, within, small); body = omega (arith, few, within, small) }
+
+-- ---- registers and code of one clause
+
+pub room-of-head : (taken size : ℕ) → 2 + taken + size < 2 ^ 64 → 1 + taken < 2 ^ 64
+room-of-head taken size h = omega (arith, h)
+
+pub room-behind-head : (free taken size : ℕ) → free ≡ 1 + taken → 2 + taken + size < 2 ^ 64 → free + 1 + size < 2 ^ 64
+room-behind-head free taken size is h = omega (arith, is, h)
+
+pub one-longer : (n old new : ℕ) → n ≡ old → new ≡ old + 1 → n ≤ new
+one-longer n old new is h = omega (arith, is, h)
+
+pub as-long : (n old new : ℕ) → n ≤ old → old ≤ new → n ≤ new
+as-long n old new is h = omega (arith, is, h)

@@ -1,4 +1,4 @@
-use Rattle.std.proofs.Common.{rules, ◌≡◌, ◌+◌, ◌∙◌, [], ap, sym}
+use Rattle.std.proofs.Common.{rules, ◌≡◌, ◌+◌, ◌≤◌, ◌∙◌, [], length, refl, ap, sym}
 use Rattle.def_machine.specs.Compiling.{registers_taken, variables_after}
 use Rattle.def_machine.specs.Folding.{folded, folded_clause}
 use Rattle.tn_code.specs.Views.{instructions_of}
@@ -7,6 +7,7 @@ use Rattle.tn_compile.specs.Heads.{pattern_steps}
 use Rattle.tn_compile.specs.Views.{code_left, variables_seen}
 use Rattle.tn_compile.proofs.Steps.{left-length}
 use Rattle.tn_compile.proofs.ClauseCode.{clause-is}
+use Rattle.tn_compile.proofs.Sizes.{room-of-head, room-behind-head, one-longer, as-long}
 use Rattle.tn_compile.proofs.clauses.emit_clause.Goals as goal
 
 pub returns-clause-emitted : goal.returns-clause-emitted
@@ -19,3 +20,28 @@ returns-clause-emitted g c =
     clause-is d k c.len-left.result c.in_ok-steps.field-0.free (variables_seen c.as_slice.result.now) (instructions_of c.in_ok-steps.field-0.steps.items) (code_left c.args.code.now) (code_left c.emit.new.code) (code_left c.emit_exprs.new.code) (code_left c.emit_while_true.new.code) (code_left c.put_in_front.new.code) (code_left c.emit-2.new.code)
     (c.len-left.ensures ∙ c.args.code.now.ok.0 ∙ sym (left-length c.args.code.now)) free (ap variables_seen c.as_slice.ensures.value ∙ known) made
     c.in_ok-emit.ensures.emitted c.in_ok-emit_exprs.ensures.emitted c.in_ok-emit_while_true.ensures.emitted c.in_ok-put_in_front.ensures.emitted c.in_ok-emit-2.ensures.emitted
+
+pub steps_of_head-requires : goal.steps_of_head-requires
+steps_of_head-requires g c = record { room = room-of-head _ _ c.requires.body }
+
+pub emit_exprs-requires : goal.emit_exprs-requires
+emit_exprs-requires g c = record {
+  room = room-behind-head _ _ _ c.in_ok-steps.ensures.free c.requires.body;
+  behind = one-longer _ _ _ (c.len-left.ensures ∙ c.args.code.now.ok.0) c.in_ok-emit.ensures.longer;
+}
+
+pub emit_while_true-requires : goal.emit_while_true-requires
+emit_while_true-requires g c =
+    let behind : c.len-left.result ≤ length c.emit_exprs.new.code.items =
+    as-long _ _ _ (one-longer _ _ _ (c.len-left.ensures ∙ c.args.code.now.ok.0) c.in_ok-emit.ensures.longer) c.in_ok-emit_exprs.ensures.longer in
+    record { room = room-behind-head _ _ _ c.in_ok-steps.ensures.free c.requires.conditions; behind = behind; end = behind }
+
+pub put_in_front-requires : goal.put_in_front-requires
+put_in_front-requires g c =
+    as-long _ _ _ (as-long _ _ _ (one-longer _ _ _ (c.len-left.ensures ∙ c.args.code.now.ok.0) c.in_ok-emit.ensures.longer) c.in_ok-emit_exprs.ensures.longer) c.in_ok-emit_while_true.ensures.longer
+
+pub returns-clause-longer : goal.returns-clause-longer
+returns-clause-longer g c =
+    as-long _ _ _ (one-longer _ _ _ refl c.in_ok-emit.ensures.longer)
+    (as-long _ _ _ c.in_ok-emit_exprs.ensures.longer
+    (as-long _ _ _ c.in_ok-emit_while_true.ensures.longer (as-long _ _ _ c.in_ok-put_in_front.ensures.longer (one-longer _ _ _ refl c.in_ok-emit-2.ensures.longer))))
