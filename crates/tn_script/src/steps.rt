@@ -4,7 +4,7 @@ ghost use Rattle.std.specs.Option.{option_map};
 ghost use Rattle.def_term.specs.Names.{Name};
 ghost use Rattle.def_term.specs.Tree.{Tree};
 ghost use Rattle.def_script.specs.Program.{Step as StepOf, call_local, link, unlink, give_back, exit};
-ghost use Rattle.def_script.specs.Shapes.{all_three, target_in, name_in, args_in, callee_in};
+ghost use Rattle.def_script.specs.Shapes.{all_three, target_in, name_in, args_in};
 ghost use Rattle.def_script.specs.Shapes.{remote_call as remote_call_of};
 ghost use Rattle.def_script.specs.Shapes.{callee_in, send_in, receive_in, call_in, spawn_in, of_one_in, step_of_fields};
 ghost use Rattle.def_script.specs.Shapes.{step_in, steps_in};
