@@ -1,4 +1,9 @@
 // What the command line may say.
+ghost use Rattle.std.specs.Prelude.{◌≡◌, codes, true, IfOk, IsOkAnd};
+ghost use Rattle.clap.specs.Built.{AddsArg, AddsSubcommand, subcommand_names};
+ghost use Rattle.tn_cli.specs.Line.{IsOption, IsWord, IsElse, IsFromTo, IsCommand};
+ghost use Rattle.tn_cli.specs.Line.{BY_PICKS, EXPLAIN, ROUND, WORKERS, TRIAL, COMMANDS};
+
 use clap::{Arg, ArgAction, Command, value_parser};
 use std::alloc::{AllocError, Global};
 
@@ -19,7 +24,9 @@ Exit status:
   3  a fault: a failed read or write, or want of memory";
 
 /// The script of a command.
-fn script<'a>(alloc: Global) -> Arg<'a> {
+fn script<'a>(alloc: Global) -> Arg<'a>
+    ensures { IsWord (codes "script") result }
+{
     Arg::new(alloc, "script")
         .value_name("SCRIPT")
         .help("The file of the script; standard input where it is absent or -")
@@ -27,7 +34,9 @@ fn script<'a>(alloc: Global) -> Arg<'a> {
 }
 
 /// `--picks TEXT`. TEXT may begin with a hyphen: the run refuses it, not the command line.
-fn picks<'a>(alloc: Global) -> Result<Arg<'a>, AllocError> {
+fn picks<'a>(alloc: Global) -> Result<Arg<'a>, AllocError>
+    ensures { IfOk result (IsOption (codes "picks")) }
+{
     let picks = Arg::new(alloc, "picks")
         .long("picks")
         .value_name("TEXT")
@@ -40,7 +49,9 @@ fn picks<'a>(alloc: Global) -> Result<Arg<'a>, AllocError> {
 }
 
 /// `--picks-file FILE`.
-fn picks_file<'a>(alloc: Global) -> Arg<'a> {
+fn picks_file<'a>(alloc: Global) -> Arg<'a>
+    ensures { IsOption (codes "picks-file") result }
+{
     Arg::new(alloc, "picks-file")
         .long("picks-file")
         .value_name("FILE")
@@ -52,24 +63,32 @@ fn picks_file<'a>(alloc: Global) -> Arg<'a> {
 fn with_argument<'a>(
     command: Command<'a>,
     argument: Result<Arg<'a>, AllocError>,
-) -> Result<Command<'a>, AllocError> {
+) -> Result<Command<'a>, AllocError>
+    ensures { IfOk result (λ r. IsOkAnd argument.entry (λ a. AddsArg command.entry a r)) }
+{
     command.arg(argument?)
 }
 
 /// A command that runs the script by picks, with `--picks TEXT` or `--picks-file FILE`.
-fn by_picks<'a>(alloc: Global, name: &'a str, about: &'a str) -> Result<Command<'a>, AllocError> {
+fn by_picks<'a>(alloc: Global, name: &'a str, about: &'a str) -> Result<Command<'a>, AllocError>
+    ensures { IfOk result (IsCommand name.entry.now BY_PICKS) }
+{
     let command = Command::new(alloc, name).about(about).arg(script(alloc))?;
     with_argument(command, picks(alloc))?.arg(picks_file(alloc))
 }
 
 /// The subcommand `replay [SCRIPT]` with picks.
-fn replay<'a>(alloc: Global) -> Result<Command<'a>, AllocError> {
+fn replay<'a>(alloc: Global) -> Result<Command<'a>, AllocError>
+    ensures { IfOk result (IsCommand (codes "replay") BY_PICKS) }
+{
     let about = "Runs the script by the given picks, and prints what its sessions saw";
     by_picks(alloc, "replay", about)
 }
 
 /// `--session NAME`. NAME may begin with a hyphen.
-fn session<'a>(alloc: Global) -> Arg<'a> {
+fn session<'a>(alloc: Global) -> Arg<'a>
+    ensures { IsOption (codes "session") result }
+{
     Arg::new(alloc, "session")
         .long("session")
         .value_name("NAME")
@@ -79,7 +98,9 @@ fn session<'a>(alloc: Global) -> Arg<'a> {
 }
 
 /// `--move N`.
-fn move_number<'a>(alloc: Global) -> Arg<'a> {
+fn move_number<'a>(alloc: Global) -> Arg<'a>
+    ensures { IsOption (codes "move") result }
+{
     Arg::new(alloc, "move")
         .long("move")
         .value_name("N")
@@ -89,7 +110,9 @@ fn move_number<'a>(alloc: Global) -> Arg<'a> {
 }
 
 /// The subcommand `explain [SCRIPT] [--session NAME] [--move N]` with picks.
-fn explain<'a>(alloc: Global) -> Result<Command<'a>, AllocError> {
+fn explain<'a>(alloc: Global) -> Result<Command<'a>, AllocError>
+    ensures { IfOk result (IsCommand (codes "explain") EXPLAIN) }
+{
     let about = "Runs the script by the given picks, and prints why each session tells or doesn't";
     by_picks(alloc, "explain", about)?
         .arg(session(alloc))?
@@ -97,7 +120,11 @@ fn explain<'a>(alloc: Global) -> Result<Command<'a>, AllocError> {
 }
 
 /// `--limit N`.
-fn limit<'a>(alloc: Global) -> Arg<'a> {
+fn limit<'a>(alloc: Global) -> Arg<'a>
+    ensures named { IsOption (codes "limit") result }
+    ensures value { IsElse (codes "10000") result }
+    ensures range { IsFromTo 1 65536 result }
+{
     Arg::new(alloc, "limit")
         .long("limit")
         .value_name("N")
@@ -108,7 +135,9 @@ fn limit<'a>(alloc: Global) -> Arg<'a> {
 }
 
 /// The subcommand `round [SCRIPT] [--limit N]`.
-fn round<'a>(alloc: Global) -> Result<Command<'a>, AllocError> {
+fn round<'a>(alloc: Global) -> Result<Command<'a>, AllocError>
+    ensures { IfOk result (IsCommand (codes "round") ROUND) }
+{
     Command::new(alloc, "round")
         .about("Runs the script in rounds of all processes, until nothing moves")
         .arg(script(alloc))?
@@ -116,7 +145,11 @@ fn round<'a>(alloc: Global) -> Result<Command<'a>, AllocError> {
 }
 
 /// `--n N`.
-fn worker_count<'a>(alloc: Global) -> Arg<'a> {
+fn worker_count<'a>(alloc: Global) -> Arg<'a>
+    ensures named { IsOption (codes "n") result }
+    ensures needed { result.required ≡ true }
+    ensures range { IsFromTo 1 16 result }
+{
     Arg::new(alloc, "n")
         .long("n")
         .value_name("N")
@@ -127,7 +160,11 @@ fn worker_count<'a>(alloc: Global) -> Arg<'a> {
 }
 
 /// `--turns T`.
-fn turns<'a>(alloc: Global) -> Arg<'a> {
+fn turns<'a>(alloc: Global) -> Arg<'a>
+    ensures named { IsOption (codes "turns") result }
+    ensures value { IsElse (codes "1000") result }
+    ensures range { IsFromTo 1 65536 result }
+{
     Arg::new(alloc, "turns")
         .long("turns")
         .value_name("T")
@@ -138,7 +175,9 @@ fn turns<'a>(alloc: Global) -> Arg<'a> {
 }
 
 /// The subcommand `workers [SCRIPT] --n N [--turns T]`.
-fn workers<'a>(alloc: Global) -> Result<Command<'a>, AllocError> {
+fn workers<'a>(alloc: Global) -> Result<Command<'a>, AllocError>
+    ensures { IfOk result (IsCommand (codes "workers") WORKERS) }
+{
     Command::new(alloc, "workers")
         .about("Runs the script by workers in threads, and then until nothing moves")
         .arg(script(alloc))?
@@ -147,7 +186,10 @@ fn workers<'a>(alloc: Global) -> Result<Command<'a>, AllocError> {
 }
 
 /// `--list TERM`. TERM may begin with a hyphen, as in all words of `spec`.
-fn list<'a>(alloc: Global) -> Arg<'a> {
+fn list<'a>(alloc: Global) -> Arg<'a>
+    ensures named { IsOption (codes "list") result }
+    ensures needed { result.required ≡ true }
+{
     Arg::new(alloc, "list")
         .long("list")
         .value_name("TERM")
@@ -163,7 +205,10 @@ fn list<'a>(alloc: Global) -> Arg<'a> {
 const EVENTS: &[&str] = &["call", "send", "receive"];
 
 /// `--for EVENT`.
-fn event<'a>(alloc: Global) -> Arg<'a> {
+fn event<'a>(alloc: Global) -> Arg<'a>
+    ensures named { IsOption (codes "for") result }
+    ensures value { IsElse (codes "call") result }
+{
     Arg::new(alloc, "for")
         .long("for")
         .value_name("EVENT")
@@ -174,7 +219,10 @@ fn event<'a>(alloc: Global) -> Arg<'a> {
 }
 
 /// `--me N`.
-fn own_process<'a>(alloc: Global) -> Arg<'a> {
+fn own_process<'a>(alloc: Global) -> Arg<'a>
+    ensures named { IsOption (codes "me") result }
+    ensures value { IsElse (codes "100") result }
+{
     Arg::new(alloc, "me")
         .long("me")
         .value_name("N")
@@ -185,7 +233,9 @@ fn own_process<'a>(alloc: Global) -> Arg<'a> {
 }
 
 /// `--caller TERM`.
-fn caller<'a>(alloc: Global) -> Arg<'a> {
+fn caller<'a>(alloc: Global) -> Arg<'a>
+    ensures { IsOption (codes "caller") result }
+{
     Arg::new(alloc, "caller")
         .long("caller")
         .value_name("TERM")
@@ -195,7 +245,9 @@ fn caller<'a>(alloc: Global) -> Arg<'a> {
 }
 
 /// The specification of `spec`.
-fn specification<'a>(alloc: Global) -> Arg<'a> {
+fn specification<'a>(alloc: Global) -> Arg<'a>
+    ensures { IsWord (codes "specification") result }
+{
     Arg::new(alloc, "specification")
         .value_name("SPECIFICATION")
         .help("The specification; standard input where it is absent or -")
@@ -204,7 +256,9 @@ fn specification<'a>(alloc: Global) -> Arg<'a> {
 }
 
 /// The subcommand `spec --list TERM [--for EVENT] [--me N] [--caller TERM] [SPECIFICATION]`.
-fn spec<'a>(alloc: Global) -> Result<Command<'a>, AllocError> {
+fn spec<'a>(alloc: Global) -> Result<Command<'a>, AllocError>
+    ensures { IfOk result (IsCommand (codes "spec") TRIAL) }
+{
     Command::new(alloc, "spec")
         .about(
             "Holds one match specification against a list, and prints why each clause fires or doesn't",
@@ -220,12 +274,16 @@ fn spec<'a>(alloc: Global) -> Result<Command<'a>, AllocError> {
 fn with_subcommand<'a>(
     command: Command<'a>,
     subcommand: Result<Command<'a>, AllocError>,
-) -> Result<Command<'a>, AllocError> {
+) -> Result<Command<'a>, AllocError>
+    ensures { IfOk result (λ r. IsOkAnd subcommand.entry (λ c. AddsSubcommand command.entry c r)) }
+{
     command.subcommand(subcommand?)
 }
 
 /// The command with its subcommands.
-pub fn command<'a>(alloc: Global) -> Result<Command<'a>, AllocError> {
+pub fn command<'a>(alloc: Global) -> Result<Command<'a>, AllocError>
+    ensures { IfOk result (λ c. subcommand_names c ≡ COMMANDS) }
+{
     let command = Command::new(alloc, "tracenode")
         .bin_name("tracenode")?
         .version(VERSION)

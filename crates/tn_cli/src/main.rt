@@ -5,8 +5,10 @@
 //! fault, with one line on standard error.
 #![tactic(auto)]
 
+ghost use Rattle.std.specs.Prelude.{◌≡◌, Some, None, codes, option_map};
 ghost use Rattle.std.specs.Process.{exit_status};
 ghost use Rattle.tn_command.specs.Status.{IsStatus};
+ghost use Rattle.tn_cli.specs.Asks.{IsNumberOf, IsSourceOf, dialect_named, numeral_of, text_of};
 
 mod line;
 
@@ -31,7 +33,9 @@ use tn_text::Watched;
 use tn_trial::Question;
 
 /// Where the script of a subcommand is read from.
-fn script<'a>(matches: &'a ArgMatches<'_>) -> Source<'a> {
+fn script<'a>(matches: &'a ArgMatches<'_>) -> Source<'a>
+    ensures { IsSourceOf (text_of matches.now (codes "script")) result }
+{
     source_of(matches.get_str("script"))
 }
 
@@ -109,7 +113,11 @@ fn run_by_picks<R: Input + Files + Print + Eprint + AllocGlobal>(
 }
 
 /// The session and the move that `explain` is asked for.
-fn asked<'a>(matches: &'a ArgMatches<'_>) -> Asked<'a> {
+fn asked<'a>(matches: &'a ArgMatches<'_>) -> Asked<'a>
+    ensures session { option_map (λ s. s.now) result.session ≡ text_of matches.now (codes "session") }
+    ensures every_move { numeral_of matches.now (codes "move") ≡ None → result.move_number ≡ None }
+    ensures one_move { (t : _) → numeral_of matches.now (codes "move") ≡ Some t → IsNumberOf t result.move_number }
+{
     Asked {
         session: matches.get_str("session"),
         move_number: matches.get_one::<u32>("move").map(|number| number as u64),
@@ -117,7 +125,9 @@ fn asked<'a>(matches: &'a ArgMatches<'_>) -> Asked<'a> {
 }
 
 /// What the specification of this event is for.
-fn dialect_of(event: &str) -> Dialect {
+fn dialect_of(event: &str) -> Dialect
+    ensures { result ≡ dialect_named event.now }
+{
     match event {
         "send" => Dialect::Send,
         "receive" => Dialect::Recv,

@@ -5,8 +5,11 @@
 //! words it says which it takes, with status 2; the start script gives it no others.
 #![tactic(auto)]
 
+ghost use Rattle.std.specs.Prelude.{SomeIff, IfSome, IfNone, drop, map, string_bytes};
 ghost use Rattle.std.specs.Process.{exit_status};
 ghost use Rattle.tn_command.specs.Status.{IsStatus};
+ghost use Rattle.tn_run.specs.Out.{asked};
+ghost use Rattle.tn_plain.specs.Words.{IsLimit, number_of, AsksFor, AsksNothing};
 
 use std::process::ExitCode;
 use std::rt::{Env, Files};
@@ -21,7 +24,9 @@ const LIMIT: u32 = 10_000;
 const MOST: u32 = JOURNAL as u32;
 
 /// The limit that a word spells: a number from 1 to 65536.
-fn limit(word: &str) -> Option<u32> {
+fn limit(word: &str) -> Option<u32>
+    ensures { SomeIff result (IsLimit word.now) (number_of word.now) }
+{
     match word.parse::<u32>() {
         Ok(limit) if limit >= 1 && limit <= MOST => Some(limit),
         _ => None,
@@ -29,7 +34,10 @@ fn limit(word: &str) -> Option<u32> {
 }
 
 /// What the words after the program's name ask for; None where that isn't one of the two runs.
-fn schedule(words: &[String]) -> Option<Schedule<'_>> {
+fn schedule(words: &[String]) -> Option<Schedule<'_>>
+    ensures some { IfSome result (λ s. AsksFor (drop 1 (map string_bytes words.now)) (asked s)) }
+    ensures none { IfNone result (AsksNothing (drop 1 (map string_bytes words.now))) }
+{
     if words.len() == 2 && words[1].as_str() == "round" {
         return Some(Schedule::Round(LIMIT));
     }

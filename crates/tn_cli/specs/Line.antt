@@ -1,0 +1,58 @@
+-- What the command line takes (own): its commands, and the arguments of each.
+use Rattle.std.specs.Prelude.{◌≡◌, ℕ, pos, List, [], ◌∷◌, Some, None, map, codes}
+use Rattle.clap.specs.declared.builder.arg.Arg.{Arg}
+use Rattle.clap.specs.declared.builder.action.ArgAction.TheVariants.{Set}
+use Rattle.clap.specs.declared.builder.value_parser.ValueParser.TheVariants.{Signed}
+use Rattle.clap.specs.declared.builder.command.Command.{Command}
+use Rattle.clap.specs.declared.builder.command.Command.TheViews.{out-Command}
+use Rattle.clap.specs.Facts.{args_of}
+use Rattle.clap.specs.Walk.{rule_of}
+
+-- the option `--NAME VALUE`
+abbrev pub IsOption : List ℕ → Arg → Type 0
+IsOption name a = ((rule_of a).id ≡ name) × ((rule_of a).long ≡ Some name) × ((rule_of a).action ≡ Some Set)
+
+-- a word without a name, which may be absent
+abbrev pub IsWord : List ℕ → Arg → Type 0
+IsWord name a = ((rule_of a).id ≡ name) × ((rule_of a).long ≡ None) × ((rule_of a).action ≡ Some Set)
+
+-- the value of an option that isn't given
+abbrev pub IsElse : List ℕ → Arg → Type 0
+IsElse value a = (rule_of a).defaults ≡ value ∷ []
+
+-- the value is a number from the least to the most
+abbrev pub IsFromTo : ℕ → ℕ → Arg → Type 0
+IsFromTo least most a = a.value_parser ≡ Some (Signed (pos least) (pos most))
+
+-- the names of a command's arguments, in their order
+abbrev pub argument_names : Command → List (List ℕ)
+argument_names c = map (λ a. a.id.now) (args_of c)
+
+-- the command of this name, with these arguments
+pub record IsCommand (name : List ℕ) (arguments : List (List ℕ)) (c : Command) : Type 0 where
+  pub called : (out-Command c).name.now ≡ name
+  pub takes : argument_names c ≡ arguments
+
+-- the arguments of a command that runs a script by picks
+abbrev pub BY_PICKS : List (List ℕ)
+BY_PICKS = codes "script" ∷ codes "picks" ∷ codes "picks-file" ∷ []
+
+-- the arguments of `explain`
+abbrev pub EXPLAIN : List (List ℕ)
+EXPLAIN = codes "script" ∷ codes "picks" ∷ codes "picks-file" ∷ codes "session" ∷ codes "move" ∷ []
+
+-- the arguments of `round`
+abbrev pub ROUND : List (List ℕ)
+ROUND = codes "script" ∷ codes "limit" ∷ []
+
+-- the arguments of `workers`
+abbrev pub WORKERS : List (List ℕ)
+WORKERS = codes "script" ∷ codes "n" ∷ codes "turns" ∷ []
+
+-- the arguments of `spec`
+abbrev pub TRIAL : List (List ℕ)
+TRIAL = codes "list" ∷ codes "for" ∷ codes "me" ∷ codes "caller" ∷ codes "specification" ∷ []
+
+-- the commands of the program
+abbrev pub COMMANDS : List (List ℕ)
+COMMANDS = codes "replay" ∷ codes "round" ∷ codes "workers" ∷ codes "explain" ∷ codes "spec" ∷ []
