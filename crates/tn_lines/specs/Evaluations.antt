@@ -1,6 +1,7 @@
 -- What the code's evaluations stand for.
 use Rattle.std.specs.Prelude.{◌≡◌, ℕ, Bool, true, false, if◌then◌else◌, List, [], ◌∷◌, ◌++◌, map, Option, Some, None}
 use Rattle.std.specs.Option.{option_map}
+use Rattle.std.specs.declared.vec.Vec.{Vec}
 use Rattle.def_term.specs.Names.{Name}
 use Rattle.def_spec.specs.Expressions.{Context, Effect}
 use Rattle.def_node.specs.Event.{Event}
@@ -8,12 +9,19 @@ use Rattle.def_session.specs.Settings.{Setting}
 use Rattle.def_session.specs.State.{Session}
 use Rattle.def_session.specs.Session.{context, marks_frame, evaluated, evaluated_by}
 use Rattle.def_explain.specs.Accounts.{Line, said, setting_lines}
+use Rattle.tn_flags.specs.Views.{event_of}
+use Rattle.tn_flags.specs.declared.event.Event as flags
 use Rattle.tn_guard.specs.Views.{value_seen}
 use Rattle.tn_guard.specs.declared.value.Value.{Value}
-use Rattle.tn_lines.specs.Parts.{lines_before}
+use Rattle.tn_action.specs.Views.{context_seen}
+use Rattle.tn_action.specs.declared.context.Context as action
+use Rattle.tn_session.specs.Looks.{look_seen}
+use Rattle.tn_session.specs.declared.look.Look.{Look}
+use Rattle.tn_lines.specs.Parts.{lines_before, lines_behind}
 use Rattle.tn_lines.specs.Lines.{lines_text}
 use Rattle.tn_lines.specs.declared.clauses.Evaluation.{Evaluation}
 use Rattle.tn_lines.specs.declared.clauses.Evaluation.TheVariants.{Refused, Done}
+use Rattle.tn_lines.specs.declared.line.Lines.{Lines}
 
 -- whether the effects mark the frame of a call, where there are any
 abbrev pub evaluation_seen : Evaluation → Option Bool
@@ -61,3 +69,23 @@ on_values s me vs = context s me (map value_seen vs) None
 -- of this event
 abbrev pub IsOf : Session → Event → Evaluation → Type 0
 IsOf s e r = evaluation_seen r ≡ option_map marks_frame (evaluated s e)
+
+-- an event, as a look at the session has it: its lines up to its evaluation were appended, and this is what comes of it
+abbrev pub Evaluates : {A : Type 0} → Lines A → Look A → Event → (old new : Vec ℕ A) → Evaluation → Type 0
+Evaluates lines look e old new r = GivesOf lines.name.now (look_seen look) e old.items new.items r
+
+-- the same of a setting in a context
+abbrev pub EvaluatesBy : {A : Type 0} → Lines A → Setting → action.Context A → (old new : Vec ℕ A) → Evaluation → Type 0
+EvaluatesBy lines g c old new r = GivesBySetting lines.name.now g (context_seen c) old.items new.items r
+
+-- the same of a setting on these values of a process
+abbrev pub EvaluatesOn : {A : Type 0} → Lines A → Setting → Look A → (me : ℕ) → List (Value A) → (old new : Vec ℕ A) → Evaluation → Type 0
+EvaluatesOn lines g look me vs old new r = GivesBySetting lines.name.now g (on_values (look_seen look) me vs) old.items new.items r
+
+-- these lines were appended, and there are no effects, since the event isn't evaluated
+abbrev pub Refuses : {A : Type 0} → Lines A → List Line → (old new : Vec ℕ A) → Evaluation → Type 0
+Refuses lines ls old new r = Gives lines.name.now ls None old.items new.items r
+
+-- where this is what comes of an event, this holds of the lines that stand at its end
+abbrev pub AtTheEnd : {A : Type 0} → Look A → flags.Event A → Evaluation → (List Line → Type 0) → Type 0
+AtTheEnd look e r Holds = IsOf (look_seen look) (event_of e) r → Holds (lines_behind (look_seen look) (event_of e))

@@ -1,10 +1,12 @@
 -- The text of what a session of a name makes of something.
 use Rattle.std.specs.Prelude.{◌≡◌, ℕ, List, ◌++◌, map, flat_map, codes}
+use Rattle.std.specs.declared.vec.Vec.{Vec}
 use Rattle.def_term.specs.Names.{Name}
 use Rattle.def_term.specs.Text.{atom_text}
 use Rattle.def_explain.specs.Accounts.{Line}
 use Rattle.def_account.specs.Runs.{makes}
 use Rattle.def_account.specs.Texts.{entry_text}
+use Rattle.tn_lines.specs.declared.line.Lines.{Lines}
 
 -- a line each, indented, behind the name
 unfoldable pub lines_text : Name → List Line → List ℕ
@@ -17,3 +19,7 @@ beginning n = codes "  " ++ atom_text n ++ codes ": "
 -- these lines were appended
 abbrev pub Puts : Name → List Line → (old new : List ℕ) → Type 0
 Puts n ls old new = new ≡ old ++ lines_text n ls
+
+-- they were appended for the session whose lines are made
+abbrev pub Adds : {A : Type 0} → Lines A → List Line → (old new : Vec ℕ A) → Type 0
+Adds lines ls old new = Puts lines.name.now ls old.items new.items

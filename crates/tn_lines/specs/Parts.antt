@@ -2,6 +2,7 @@
 use Rattle.std.specs.Prelude.{ℕ, Bool, true, false, if◌then◌else◌, List, [], ◌∷◌, ◌++◌, Option, Some, None, codes}
 use Rattle.def_term.specs.Tree.{Tree}
 use Rattle.def_term.specs.Names.{Mfa}
+use Rattle.def_term.specs.Text.{w}
 use Rattle.def_spec.specs.Flags.{Flags, flags_by_name}
 use Rattle.def_spec.specs.Expressions.{Effect}
 use Rattle.def_node.specs.Event.{Event, spawned, getting_linked}
@@ -61,6 +62,10 @@ lost_lines p f = line_where p (said_of_each (codes " loses ") f flags_by_name)
 -- no command covers the function
 abbrev pub uncovered_lines : Mfa → List Line
 uncovered_lines f = said (codes "no setting for " ++ mfa_text f) ∷ []
+
+-- the reply to a command
+abbrev pub reply_lines : Tree → List Line
+reply_lines t = said (codes "replies " ++ w t) ∷ []
 
 -- the line of what is said, where it is
 abbrev pub said_where : Bool → List ℕ → List Line

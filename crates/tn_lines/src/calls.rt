@@ -1,12 +1,11 @@
 // What is known of a call before the session sees it.
-ghost use Rattle.std.specs.Prelude.{◌≡◌, ◌||◌, ◌++◌, IfOk, OnOk, None};
+ghost use Rattle.std.specs.Prelude.{◌≡◌, ◌||◌, ◌++◌, IfOk, OnOk};
 ghost use Rattle.def_node.specs.Event.{called};
 ghost use Rattle.def_explain.specs.Accounts.{mfa_text};
 ghost use Rattle.tn_term.specs.Views.{mfa_seen};
 ghost use Rattle.tn_flags.specs.Views.{call_of};
-ghost use Rattle.tn_session.specs.Looks.{look_seen};
 ghost use Rattle.tn_text.specs.Writes.{Grows};
-ghost use Rattle.tn_lines.specs.Evaluations.{Gives, GivesOf};
+ghost use Rattle.tn_lines.specs.Evaluations.{Evaluates, Refuses};
 ghost use Rattle.tn_lines.specs.Parts.{uncovered_lines};
 
 use crate::clauses::Evaluation;
@@ -47,8 +46,7 @@ impl<A: Allocator + Copy> Lines<'_, A> {
         call: &'a Call<A>,
         out: &mut Vec<u8, A>,
     ) -> Result<Evaluation, AllocError>
-        ensures ok { IfOk result (λ r. GivesOf self.now.name.now (look_seen look.now)
-            (called pid (call_of call.now)) out.old.items out.new.items r) }
+        ensures ok { IfOk result (Evaluates self.now look.now (called pid (call_of call.now)) out.old out.new) }
         ensures grows { Grows out.old.items out.new.items }
     {
         if !look.flags_at(pid).call {
@@ -72,8 +70,7 @@ impl<A: Allocator + Copy> Lines<'_, A> {
 
     /// Appends that no command covers a function.
     fn put_uncovered(&self, mfa: &Mfa<A>, out: &mut Vec<u8, A>) -> Result<Evaluation, AllocError>
-        ensures ok { IfOk result (λ r. Gives self.now.name.now (uncovered_lines (mfa_seen mfa.now)) None
-            out.old.items out.new.items r) }
+        ensures ok { IfOk result (Refuses self.now (uncovered_lines (mfa_seen mfa.now)) out.old out.new) }
         ensures grows { Grows out.old.items out.new.items }
     {
         begin(self.name, out)?;

@@ -1,12 +1,9 @@
 // What is known of an event before the session sees it.
 ghost use Rattle.std.specs.Prelude.{◌≡◌, IfOk};
-ghost use Rattle.def_term.specs.Tree.{Tree};
-ghost use Rattle.def_term.specs.Names as names;
-ghost use Rattle.def_node.specs.Event.{returned};
 ghost use Rattle.tn_flags.specs.Views.{event_of};
-ghost use Rattle.tn_session.specs.Looks.{look_seen};
 ghost use Rattle.tn_text.specs.Writes.{Grows};
-ghost use Rattle.tn_lines.specs.Evaluations.{GivesOf, GivesWhere};
+ghost use Rattle.tn_lines.specs.Evaluations.{Evaluates, GivesWhere};
+ghost use Rattle.tn_lines.specs.Events.{EachReturn};
 
 use crate::clauses::Evaluation;
 use crate::line::Lines;
@@ -22,8 +19,7 @@ impl<A: Allocator + Copy> Lines<'_, A> {
         event: &'a Event<A>,
         out: &mut Vec<u8, A>,
     ) -> Result<Evaluation, AllocError>
-        ensures ok { IfOk result (λ r. GivesOf self.now.name.now (look_seen look.now) (event_of event.now)
-            out.old.items out.new.items r) }
+        ensures ok { IfOk result (Evaluates self.now look.now (event_of event.now) out.old out.new) }
         ensures grows { Grows out.old.items out.new.items }
     {
         match event {
@@ -77,8 +73,7 @@ impl<A: Allocator + Copy> Lines<'_, A> {
         depth: usize,
         out: &mut Vec<u8, A>,
     ) -> Result<Evaluation, AllocError>
-        ensures ok { (f : names.Mfa) (t : Tree) → IfOk result (λ r. GivesOf self.now.name.now (look_seen look.now)
-            (returned pid f t depth) out.old.items out.new.items r) }
+        ensures ok { EachReturn pid depth (λ e. IfOk result (Evaluates self.now look.now e out.old out.new)) }
         ensures grows { Grows out.old.items out.new.items }
     {
         if !look.is_marked(pid, depth) {

@@ -3,13 +3,13 @@ ghost use Rattle.std.specs.Prelude.{◌≡◌, ◌++◌, OnOk, IfOk, map};
 ghost use Rattle.def_session.specs.Session as session;
 ghost use Rattle.def_session.specs.Settings.{by};
 ghost use Rattle.tn_spec.specs.Wholes.{spec_seen};
-ghost use Rattle.tn_action.specs.Views.{context_seen, effect_seen};
+ghost use Rattle.tn_action.specs.Views.{effect_seen};
 ghost use Rattle.tn_reason.specs.Views.{reason_seen};
 ghost use Rattle.tn_session.specs.Looks.{lent_seen};
 ghost use Rattle.tn_text.specs.Writes.{Grows};
-ghost use Rattle.tn_lines.specs.Evaluations.{GivesBySetting};
+ghost use Rattle.tn_lines.specs.Evaluations.{EvaluatesBy};
 ghost use Rattle.tn_lines.specs.Parts.{failing_lines, firing_lines};
-ghost use Rattle.tn_lines.specs.Lines.{Puts};
+ghost use Rattle.tn_lines.specs.Lines.{Adds};
 
 use crate::line::{Lines, begin};
 use bumpalo::Bump;
@@ -51,8 +51,7 @@ impl<A: Allocator + Copy> Lines<'_, A> {
         context: &Context<'_, A>,
         out: &mut Vec<u8, A>,
     ) -> Result<Evaluation, AllocError>
-        ensures ok { IfOk result (λ r. GivesBySetting self.now.name.now (lent_seen setting.entry)
-            (context_seen context.now) out.old.items out.new.items r) }
+        ensures ok { IfOk result (EvaluatesBy self.now (lent_seen setting.entry) context.now out.old out.new) }
         ensures grows { Grows out.old.items out.new.items }
     {
         match setting {
@@ -73,8 +72,7 @@ impl<A: Allocator + Copy> Lines<'_, A> {
         context: &Context<'_, A>,
         out: &mut Vec<u8, A>,
     ) -> Result<Evaluation, AllocError>
-        ensures ok { IfOk result (λ r. GivesBySetting self.now.name.now (by (spec_seen spec.now))
-            (context_seen context.now) out.old.items out.new.items r) }
+        ensures ok { IfOk result (EvaluatesBy self.now (by (spec_seen spec.now)) context.now out.old out.new) }
         ensures grows { Grows out.old.items out.new.items }
     {
         let arena = Bump::new(self.alloc);
@@ -89,8 +87,7 @@ impl<A: Allocator + Copy> Lines<'_, A> {
         context: &Context<'a, A>,
         out: &mut Vec<u8, A>,
     ) -> Result<Evaluation, AllocError>
-        ensures ok { IfOk result (λ r. GivesBySetting self.now.name.now (by (spec_seen spec.now))
-            (context_seen context.now) out.old.items out.new.items r) }
+        ensures ok { IfOk result (EvaluatesBy self.now (by (spec_seen spec.now)) context.now out.old out.new) }
         ensures grows { Grows out.old.items out.new.items }
     {
         let clauses = &spec.clauses;
@@ -115,8 +112,7 @@ impl<A: Allocator + Copy> Lines<'_, A> {
         reason: Reason<'_, A>,
         out: &mut Vec<u8, A>,
     ) -> Result<(), AllocError>
-        ensures ok { OnOk result (
-            Puts self.now.name.now (failing_lines before (reason_seen reason.entry)) out.old.items out.new.items) }
+        ensures ok { OnOk result (Adds self.now (failing_lines before (reason_seen reason.entry)) out.old out.new) }
         ensures grows { Grows out.old.items out.new.items }
     {
         begin(self.name, out)?;
@@ -134,8 +130,7 @@ impl<A: Allocator + Copy> Lines<'_, A> {
         effects: &[Effect<A>],
         out: &mut Vec<u8, A>,
     ) -> Result<(), AllocError>
-        ensures ok { OnOk result (
-            Puts self.now.name.now (firing_lines before (map effect_seen effects.now)) out.old.items out.new.items) }
+        ensures ok { OnOk result (Adds self.now (firing_lines before (map effect_seen effects.now)) out.old out.new) }
         ensures grows { Grows out.old.items out.new.items }
     {
         begin(self.name, out)?;

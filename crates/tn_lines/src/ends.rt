@@ -1,12 +1,11 @@
 // Marks, and the end of a process.
 ghost use Rattle.std.specs.Prelude.{◌≡◌, ◌++◌, OnOk};
 ghost use Rattle.def_explain.specs.Accounts.{line_where};
-ghost use Rattle.tn_flags.specs.Views.{event_of, flags_of};
-ghost use Rattle.tn_session.specs.Looks.{look_seen};
+ghost use Rattle.tn_flags.specs.Views.{flags_of};
 ghost use Rattle.tn_text.specs.Writes.{Grows};
-ghost use Rattle.tn_lines.specs.Evaluations.{marks_of, IsOf};
-ghost use Rattle.tn_lines.specs.Parts.{said_where, lines_behind, lost_lines};
-ghost use Rattle.tn_lines.specs.Lines.{Puts};
+ghost use Rattle.tn_lines.specs.Evaluations.{marks_of, AtTheEnd};
+ghost use Rattle.tn_lines.specs.Parts.{said_where, lost_lines};
+ghost use Rattle.tn_lines.specs.Lines.{Adds};
 
 use crate::clauses::Evaluation;
 use crate::line::{Lines, begin};
@@ -28,7 +27,7 @@ fn is_marking(evaluation: Evaluation) -> bool
 impl<A: Allocator + Copy> Lines<'_, A> {
     /// Appends the line of what is said, where it is.
     fn say_where(&self, holds: bool, text: &[u8], out: &mut Vec<u8, A>) -> Result<(), AllocError>
-        ensures ok { OnOk result (Puts self.now.name.now (said_where holds text.now) out.old.items out.new.items) }
+        ensures ok { OnOk result (Adds self.now (said_where holds text.now) out.old out.new) }
         ensures grows { Grows out.old.items out.new.items }
     {
         if holds { self.say(text, out) } else { Ok(()) }
@@ -41,7 +40,7 @@ impl<A: Allocator + Copy> Lines<'_, A> {
         text: &[u8],
         out: &mut Vec<u8, A>,
     ) -> Result<(), AllocError>
-        ensures ok { OnOk result (Puts self.now.name.now (line_where pid text.now) out.old.items out.new.items) }
+        ensures ok { OnOk result (Adds self.now (line_where pid text.now) out.old out.new) }
         ensures grows { Grows out.old.items out.new.items }
     {
         if text.is_empty() {
@@ -56,8 +55,7 @@ impl<A: Allocator + Copy> Lines<'_, A> {
 
     /// Appends the flags that a process loses at its end.
     fn put_lost(&self, pid: u32, flags: Flags, out: &mut Vec<u8, A>) -> Result<(), AllocError>
-        ensures ok { OnOk result (
-            Puts self.now.name.now (lost_lines pid (flags_of flags)) out.old.items out.new.items) }
+        ensures ok { OnOk result (Adds self.now (lost_lines pid (flags_of flags)) out.old out.new) }
         ensures grows { Grows out.old.items out.new.items }
     {
         let mut lost = Vec::new(self.alloc);
@@ -74,8 +72,7 @@ impl<A: Allocator + Copy> Lines<'_, A> {
         evaluation: Evaluation,
         out: &mut Vec<u8, A>,
     ) -> Result<(), AllocError>
-        ensures ok { IsOf (look_seen look.now) (event_of event.now) evaluation → OnOk result (Puts
-            self.now.name.now (lines_behind (look_seen look.now) (event_of event.now)) out.old.items out.new.items) }
+        ensures ok { AtTheEnd look.now event.now evaluation (λ ls. OnOk result (Adds self.now ls out.old out.new)) }
         ensures grows { Grows out.old.items out.new.items }
     {
         match event {

@@ -5,7 +5,6 @@ ghost use Rattle.def_session.specs.Session.{is_silenced};
 ghost use Rattle.tn_flags.specs.Views.{event_of};
 ghost use Rattle.tn_session.specs.Looks.{look_seen};
 ghost use Rattle.tn_text.specs.Writes.{Grows};
-ghost use Rattle.tn_lines.specs.Evaluations.{is_done};
 ghost use Rattle.tn_lines.specs.Makes.{MakesLines, MakesLiveLines, TellsLines};
 
 use crate::clauses::Evaluation;
@@ -26,8 +25,7 @@ pub fn put_event_lines<A: Allocator + Copy>(
     event: &Event<A>,
     out: &mut Vec<u8, A>,
 ) -> Result<(), AllocError>
-    ensures ok { OnOk result (
-        MakesLines session.old (event_of event.now) name.now session.new out.old.items out.new.items) }
+    ensures ok { OnOk result (MakesLines session.old event.now name.now session.new out.old out.new) }
     ensures grows { Grows out.old.items out.new.items }
 {
     let lines = Lines { alloc, name };
@@ -62,8 +60,7 @@ impl<A: Allocator + Copy> Lines<'_, A> {
         event: &Event<A>,
         out: &mut Vec<u8, A>,
     ) -> Result<(), AllocError>
-        ensures ok { OnOk result (MakesLiveLines None session.old (event_of event.now) self.now.name.now
-            session.new out.old.items out.new.items) }
+        ensures ok { OnOk result (MakesLiveLines None session.old event.now self.now session.new out.old out.new) }
         ensures grows { Grows out.old.items out.new.items }
     {
         let Some(look) = session.look() else {
@@ -87,8 +84,7 @@ impl<A: Allocator + Copy> Lines<'_, A> {
         message: &Option<Message<'_, A>>,
         out: &mut Vec<u8, A>,
     ) -> Result<(), AllocError>
-        ensures ok { OnOk result (TellsLines session.now
-            (is_done evaluation) (event_of event.now) message.now self.now.name.now out.old.items out.new.items) }
+        ensures ok { OnOk result (TellsLines session.now evaluation event.now message.now self.now out.old out.new) }
         ensures grows { Grows out.old.items out.new.items }
     {
         let Evaluation::Done { .. } = evaluation else {

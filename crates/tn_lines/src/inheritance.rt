@@ -4,9 +4,9 @@ ghost use Rattle.std.specs.Option.{option_map};
 ghost use Rattle.def_explain.specs.Accounts.{line_where, changed_text};
 ghost use Rattle.tn_flags.specs.Views.{event_of, flags_of};
 ghost use Rattle.tn_text.specs.Writes.{Grows};
-ghost use Rattle.tn_lines.specs.Makes.{MakesLiveLines};
+ghost use Rattle.tn_lines.specs.Makes.{MakesOfBoth};
 ghost use Rattle.tn_lines.specs.Parts.{both_of, changed_lines};
-ghost use Rattle.tn_lines.specs.Lines.{Puts};
+ghost use Rattle.tn_lines.specs.Lines.{Adds};
 
 use crate::line::Lines;
 use std::alloc::{AllocError, Allocator};
@@ -42,8 +42,7 @@ impl<A: Allocator + Copy> Lines<'_, A> {
         new: Flags,
         out: &mut Vec<u8, A>,
     ) -> Result<(), AllocError>
-        ensures ok { OnOk result (
-            Puts self.now.name.now (changed_lines pid (flags_of old) (flags_of new)) out.old.items out.new.items) }
+        ensures ok { OnOk result (Adds self.now (changed_lines pid (flags_of old) (flags_of new)) out.old out.new) }
         ensures grows { Grows out.old.items out.new.items }
     {
         let mut changed = Vec::new(self.alloc);
@@ -63,8 +62,7 @@ impl<A: Allocator + Copy> Lines<'_, A> {
         taker: u32,
         out: &mut Vec<u8, A>,
     ) -> Result<(), AllocError>
-        ensures ok { OnOk result (MakesLiveLines (Some (giver, taker))
-            session.old (event_of event.now) self.now.name.now session.new out.old.items out.new.items) }
+        ensures ok { OnOk result (MakesOfBoth giver taker session.old event.now self.now session.new out.old out.new) }
         ensures grows { Grows out.old.items out.new.items }
     {
         let Some(look) = session.look() else {

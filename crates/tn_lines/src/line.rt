@@ -1,11 +1,11 @@
 // One line of a session.
-ghost use Rattle.std.specs.Prelude.{◌≡◌, ◌++◌, ◌∷◌, [], OnOk, codes};
-ghost use Rattle.def_term.specs.Text.{w};
+ghost use Rattle.std.specs.Prelude.{◌≡◌, ◌++◌, ◌∷◌, [], OnOk};
 ghost use Rattle.def_explain.specs.Accounts.{said, tells};
 ghost use Rattle.tn_term.specs.Views.{tree_of};
 ghost use Rattle.tn_session.specs.Messages.{message_seen};
 ghost use Rattle.tn_text.specs.Writes.{Grows};
-ghost use Rattle.tn_lines.specs.Lines.{Puts, beginning};
+ghost use Rattle.tn_lines.specs.Parts.{reply_lines};
+ghost use Rattle.tn_lines.specs.Lines.{Puts, Adds, beginning};
 
 use std::alloc::{AllocError, Allocator};
 use tn_session::Message;
@@ -44,7 +44,7 @@ pub(crate) fn begin<A: Allocator, B: Allocator>(
 impl<A: Allocator> Lines<'_, A> {
     /// Appends the line of what is said.
     pub(crate) fn say(&self, text: &[u8], out: &mut Vec<u8, A>) -> Result<(), AllocError>
-        ensures ok { OnOk result (Puts self.now.name.now (said text.now ∷ []) out.old.items out.new.items) }
+        ensures ok { OnOk result (Adds self.now (said text.now ∷ []) out.old out.new) }
         ensures grows { Grows out.old.items out.new.items }
     {
         begin(self.name, out)?;
@@ -59,8 +59,7 @@ impl<A: Allocator> Lines<'_, A> {
         message: &Message<'_, A>,
         out: &mut Vec<u8, A>,
     ) -> Result<(), AllocError>
-        ensures ok { OnOk result (
-            Puts self.now.name.now (tells (message_seen message.now) ∷ []) out.old.items out.new.items) }
+        ensures ok { OnOk result (Adds self.now (tells (message_seen message.now) ∷ []) out.old out.new) }
         ensures grows { Grows out.old.items out.new.items }
     {
         begin(self.name, out)?;
@@ -78,8 +77,7 @@ pub fn put_command_line<A: Allocator, B: Allocator>(
     reply: &Term<A>,
     out: &mut Vec<u8, B>,
 ) -> Result<(), AllocError>
-    ensures ok { OnOk result (
-        Puts name.now (said (codes "replies " ++ w (tree_of reply.now)) ∷ []) out.old.items out.new.items) }
+    ensures ok { OnOk result (Puts name.now (reply_lines (tree_of reply.now)) out.old.items out.new.items) }
     ensures grows { Grows out.old.items out.new.items }
 {
     begin(name, out)?;

@@ -1,10 +1,9 @@
 // What is known of a send and of a receive before the session sees it.
-ghost use Rattle.std.specs.Prelude.{◌≡◌, IfOk, Bool};
-ghost use Rattle.def_node.specs.Event.{sent, received};
-ghost use Rattle.tn_term.specs.Views.{tree_of};
-ghost use Rattle.tn_session.specs.Looks.{look_seen, lent_seen};
+ghost use Rattle.std.specs.Prelude.{◌≡◌, IfOk};
+ghost use Rattle.tn_session.specs.Looks.{lent_seen};
 ghost use Rattle.tn_text.specs.Writes.{Grows};
-ghost use Rattle.tn_lines.specs.Evaluations.{GivesOf, GivesBySetting, on_values};
+ghost use Rattle.tn_lines.specs.Evaluations.{Evaluates, EvaluatesOn};
+ghost use Rattle.tn_lines.specs.Events.{EachSend, receive_of};
 
 use crate::clauses::Evaluation;
 use crate::line::Lines;
@@ -26,8 +25,7 @@ impl<A: Allocator + Copy> Lines<'_, A> {
         to: u32,
         out: &mut Vec<u8, A>,
     ) -> Result<Evaluation, AllocError>
-        ensures ok { (b : Bool) → IfOk result (λ r. GivesOf self.now.name.now (look_seen look.now)
-            (sent pid (tree_of message.now) to b) out.old.items out.new.items r) }
+        ensures ok { EachSend pid message.now to (λ e. IfOk result (Evaluates self.now look.now e out.old out.new)) }
         ensures grows { Grows out.old.items out.new.items }
     {
         if !look.flags_at(pid).send {
@@ -46,8 +44,7 @@ impl<A: Allocator + Copy> Lines<'_, A> {
         message: &'a Term<A>,
         out: &mut Vec<u8, A>,
     ) -> Result<Evaluation, AllocError>
-        ensures ok { IfOk result (λ r. GivesOf self.now.name.now (look_seen look.now)
-            (received pid sender (tree_of message.now)) out.old.items out.new.items r) }
+        ensures ok { IfOk result (Evaluates self.now look.now (receive_of pid sender message.now) out.old out.new) }
         ensures grows { Grows out.old.items out.new.items }
     {
         if !look.flags_at(pid).receive {
@@ -70,8 +67,7 @@ impl<A: Allocator + Copy> Lines<'_, A> {
         list: &'a [Value<'a, A>],
         out: &mut Vec<u8, A>,
     ) -> Result<Evaluation, AllocError>
-        ensures ok { IfOk result (λ r. GivesBySetting self.now.name.now (lent_seen setting.entry)
-            (on_values (look_seen look.now) me list.now) out.old.items out.new.items r) }
+        ensures ok { IfOk result (EvaluatesOn self.now (lent_seen setting.entry) look.now me list.now out.old out.new) }
         ensures grows { Grows out.old.items out.new.items }
     {
         let context = Context {
