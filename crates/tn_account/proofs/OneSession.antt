@@ -1,5 +1,5 @@
 -- One session: an event, and a command.
-use Rattle.std.proofs.Common.{◌≡◌, ◌∙◌, ℕ, Bool, true, false, if◌then◌else◌, ◌&&◌, List, [], ◌∷◌, ◌++◌, map, Option, Some, None, refl, sym, ap, subst, append-nil, codes}
+use Rattle.std.proofs.Common.{◌≡◌, ◌∙◌, ℕ, Bool, true, false, if◌then◌else◌, List, [], ◌∷◌, ◌++◌, map, Option, Some, None, refl, sym, ap, subst, append-nil, codes}
 use Rattle.std.specs.Str.{bytes_eq}
 use Rattle.def_term.specs.Alive.{Alive}
 use Rattle.def_term.specs.Tree.{Tree}
@@ -14,7 +14,6 @@ use Rattle.def_session.specs.Commands.{command_done}
 use Rattle.def_run.specs.Run.{happened, commanded}
 use Rattle.def_explain.specs.Accounts.{said, event_lines, command_lines}
 use Rattle.def_account.specs.Runs.{Standing, lines_of, after, makes}
-use Rattle.def_account.specs.Texts.{is_move, is_session}
 use Rattle.tn_session.specs.Sessions.{IsAt, Says}
 use Rattle.tn_session.specs.declared.message.Message.{Message}
 use Rattle.tn_session.specs.declared.session.Session.{Session}
@@ -22,15 +21,11 @@ use Rattle.tn_lines.specs.Lines.{lines_text}
 use Rattle.tn_trace.specs.Slots.{IsSession, IsTracked, ObeysOwn}
 use Rattle.tn_trace.specs.Tracks.{Track}
 use Rattle.tn_trace.specs.declared.slot.Slot.{Slot}
-use Rattle.tn_account.specs.Asks.{asked_seen, text_by}
+use Rattle.tn_account.specs.Asks.{asked_seen, is_asked, text_by}
 use Rattle.tn_account.specs.Standings.{Stands}
 use Rattle.tn_account.specs.declared.step.Step.{Step}
 use Rattle.tn_account.specs.declared.unkept.Unkept.{Unkept}
 use Rattle.tn_account.proofs.Texts.{lines_wanted, lines_not_wanted}
-
--- it is asked for what the session of this name makes
-abbrev pub is_asked : Step → List ℕ → Bool
-is_asked step n = is_move (asked_seen step.asked.now).move step.number && is_session (asked_seen step.asked.now).session n
 
 module _ {A : Type 0} (step : Step) (o : Opening) (living : Alive) (s : Standing) (old : Slot A Unkept) (h : Stands o living s old) where
   asked_of : (b : Bool) → is_asked step old.name ≡ b → is_asked step s.0 ≡ b

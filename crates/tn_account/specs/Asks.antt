@@ -1,9 +1,15 @@
 -- What the code's question for an account stands for, and the text that it gets.
-use Rattle.std.specs.Prelude.{ℕ, List, flat_map}
+use Rattle.std.specs.Prelude.{ℕ, Bool, ◌&&◌, List, [], ◌∷◌, flat_map}
 use Rattle.std.specs.Option.{option_map}
-use Rattle.def_account.specs.Runs.{Entry}
+use Rattle.def_run.specs.Run.{happened, commanded}
+use Rattle.def_account.specs.Runs.{Entry, shows, shows_nothing}
 use Rattle.def_account.specs.Texts as definition
-use Rattle.def_account.specs.Texts.{entry_text, wanted}
+use Rattle.def_account.specs.Texts.{is_move, is_session, entry_text, wanted, account_text}
+use Rattle.tn_flags.specs.Views.{event_of, command_of}
+use Rattle.tn_flags.specs.declared.event.Event.{Event}
+use Rattle.tn_flags.specs.declared.command.Command.{Command}
+use Rattle.tn_program.specs.Views.{program_of}
+use Rattle.tn_program.specs.declared.parts.Program.{Program}
 use Rattle.tn_account.specs.declared.asked.Asked.{Asked}
 use Rattle.tn_account.specs.declared.step.Step.{Step}
 
@@ -17,3 +23,23 @@ text_of a k es = flat_map entry_text (wanted a k es)
 -- the same, behind the move that is written of
 abbrev pub text_by : Step → List Entry → List ℕ
 text_by step es = text_of (asked_seen step.asked.now) step.number es
+
+-- the line of the move that shows this event, where the move is asked for
+abbrev pub text_of_event : {A : Type 0} → Step → Event A → List ℕ
+text_of_event step event = text_by step (shows step.number step.pick (happened (event_of event)) ∷ [])
+
+-- the line of the move that shows this command, where the move is asked for
+abbrev pub text_of_command : {A : Type 0} → Step → Command A → List ℕ
+text_of_command step command = text_by step (shows step.number step.pick (commanded (command_of command)) ∷ [])
+
+-- the line of the move that shows nothing, where the move is asked for
+abbrev pub text_of_nothing : Step → List ℕ
+text_of_nothing step = text_by step (shows_nothing step.number step.pick ∷ [])
+
+-- it is asked for what the session of this name makes of the move
+abbrev pub is_asked : Step → List ℕ → Bool
+is_asked step name = is_move (asked_seen step.asked.now).move step.number && is_session (asked_seen step.asked.now).session name
+
+-- the account of the program's run by these picks, as far as it is asked for
+abbrev pub account_of : {A : Type 0} → Asked → Program A → List ℕ → List ℕ
+account_of asked program picks = account_text (asked_seen asked) (program_of program) picks

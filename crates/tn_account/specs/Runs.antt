@@ -8,8 +8,11 @@ use Rattle.def_run.specs.Laws.{state_at}
 use Rattle.def_account.specs.Runs.{Standing, Entry, entries_of_move, all_behind}
 use Rattle.def_account.specs.Texts.{Asked}
 use Rattle.tn_node.specs.Nodes.{IsAt}
-use Rattle.tn_account.specs.Asks.{text_of}
+use Rattle.tn_program.specs.Views.{program_of}
+use Rattle.tn_program.specs.declared.parts.Program as program
+use Rattle.tn_account.specs.Asks.{asked_seen, text_of}
 use Rattle.tn_account.specs.Standings.{AreStanding}
+use Rattle.tn_account.specs.declared.asked.Asked as asked
 use Rattle.tn_account.specs.declared.run.Run.{Run}
 
 -- what one more pick does after these
@@ -32,6 +35,6 @@ pub record Takes {A : Type 0} (p : Program) (a : Asked) (picks : List ℕ) (ss :
   pub written : text' ≡ text ++ text_of a (suc (length (moves p picks))) (entries_of_turn p (length (moves p picks)) pick ss (turn_after p picks pick))
 
 -- whatever picks led to the run
-abbrev pub TakesPick : {A : Type 0} → Program → Asked → ℕ → Run A → Run A → List ℕ → List ℕ → Result (Unit {0}) AllocError → Type 0
+abbrev pub TakesPick : {A : Type 0} → program.Program A → asked.Asked → ℕ → Run A → Run A → List ℕ → List ℕ → Result (Unit {0}) AllocError → Type 0
 TakesPick p a pick old new text text' result =
-    (picks : List ℕ) (ss : List Standing) → IsAfter p picks ss old → OnOk result (Takes p a picks ss pick new text text')
+    (picks : List ℕ) (ss : List Standing) → IsAfter (program_of p) picks ss old → OnOk result (Takes (program_of p) (asked_seen a) picks ss pick new text text')

@@ -2,15 +2,18 @@
 use Rattle.std.specs.Prelude.{◌≡◌, ℕ, List, [], ◌∷◌, ◌++◌, map, Result, OnOk}
 use Rattle.std.specs.declared.alloc.AllocError.{AllocError}
 use Rattle.def_term.specs.Alive.{Alive}
-use Rattle.def_script.specs.Program.{Function, Command}
-use Rattle.def_script.specs.Opening.{Opening, visible}
-use Rattle.def_node.specs.Event.{Event}
+use Rattle.def_script.specs.Opening.{Opening, opening, visible}
 use Rattle.def_session.specs.State.{alive_after}
 use Rattle.def_run.specs.Run.{Shown, happened, commanded}
-use Rattle.def_account.specs.Runs.{Standing, lines_of, after, shows, makes, made_by_all, all_after, all_behind, entries_over, entries_of_move}
+use Rattle.def_account.specs.Runs.{Standing, lines_of, after, shows, makes, made_by_all, all_after, all_behind, entries_over, entries_of_move, standings}
 use Rattle.tn_term.specs.Views.{alive_of}
-use Rattle.tn_flags.specs.Views.{command_of}
+use Rattle.tn_flags.specs.Views.{event_of, command_of}
+use Rattle.tn_flags.specs.declared.event.Event.{Event}
+use Rattle.tn_flags.specs.declared.command.Command.{Command}
 use Rattle.tn_script.specs.Views.{functions_of}
+use Rattle.tn_script.specs.declared.form.Function.{Function}
+use Rattle.tn_program.specs.Views.{program_of}
+use Rattle.tn_program.specs.declared.parts.Program.{Program}
 use Rattle.tn_trace.specs.Slots.{IsSession, Each}
 use Rattle.tn_trace.specs.declared.slot.Slot.{Slot}
 use Rattle.tn_account.specs.Asks.{text_by}
@@ -28,6 +31,10 @@ pub record Stands {A : Type 0} (o : Opening) (living : Alive) (s : Standing) (sl
 abbrev pub AreStanding : {A : Type 0} → Opening → List Standing → Sessions A → Type 0
 AreStanding o ss c = Each (Stands o (alive_of c.living)) ss c.slots.items
 
+-- the sessions stand as those of the program do before they are created
+abbrev pub AreAtStart : {A : Type 0} → Program A → Sessions A → Type 0
+AreAtStart program c = AreStanding (opening (program_of program)) (standings (program_of program)) c
+
 -- where a session saw what is shown, and these live then, what it makes of it was appended as far as it is asked for
 abbrev pub OneMakes : {A : Type 0} → Step → Opening → (living living' : Alive) → Shown → Slot A Unkept → Slot A Unkept → List ℕ → List ℕ → Result (Unit {0}) AllocError → Type 0
 OneMakes step o living living' x old new text text' result =
@@ -41,14 +48,14 @@ EachMakes step o living living' x old new text text' result =
     → OnOk result (Each (Stands o living') (all_after o ss x) new × (text' ≡ text ++ text_by step (made_by_all o ss x)))
 
 -- where a session saw an event, whoever lived before it, what it makes of it was appended as far as it is asked for
-abbrev pub OneTells : {A : Type 0} → Step → Event → Slot A Unkept → Slot A Unkept → List ℕ → List ℕ → Result (Unit {0}) AllocError → Type 0
-OneTells step e old new text text' result =
-    (o : Opening) (living : Alive) → OneMakes step o living (alive_after living e) (happened e) old new text text' result
+abbrev pub OneTells : {A : Type 0} → Step → Event A → Slot A Unkept → Slot A Unkept → List ℕ → List ℕ → Result (Unit {0}) AllocError → Type 0
+OneTells step event old new text text' result =
+    (o : Opening) (living : Alive) → OneMakes step o living (alive_after living (event_of event)) (happened (event_of event)) old new text text' result
 
 -- the same of all sessions
-abbrev pub EachTells : {A : Type 0} → Step → Event → List (Slot A Unkept) → List (Slot A Unkept) → List ℕ → List ℕ → Result (Unit {0}) AllocError → Type 0
-EachTells step e old new text text' result =
-    (o : Opening) (living : Alive) → EachMakes step o living (alive_after living e) (happened e) old new text text' result
+abbrev pub EachTells : {A : Type 0} → Step → Event A → List (Slot A Unkept) → List (Slot A Unkept) → List ℕ → List ℕ → Result (Unit {0}) AllocError → Type 0
+EachTells step event old new text text' result =
+    (o : Opening) (living : Alive) → EachMakes step o living (alive_after living (event_of event)) (happened (event_of event)) old new text text' result
 
 -- where a session saw a command, what it makes of it was appended as far as it is asked for; nobody starts or ends by it
 abbrev pub OneObeys : {A : Type 0} → Step → Order A → Slot A Unkept → Slot A Unkept → List ℕ → List ℕ → Result (Unit {0}) AllocError → Type 0
@@ -80,7 +87,19 @@ ShowsMove step o xs old new text text' result =
     (ss : List Standing) → AreStanding o ss old
     → OnOk result (AreStanding o (all_behind o ss xs) new × (text' ≡ text ++ text_by step (entries_of_move o step.number step.pick ss xs)))
 
+-- the sessions saw this event of a move, and it was appended with what they make of it, as far as it is asked for
+abbrev pub AllSee : {A : Type 0} → Step → Event A → Sessions A → Sessions A → List ℕ → List ℕ → Result (Unit {0}) AllocError → Type 0
+AllSee step event old new text text' result = (o : Opening) → ShowsOne step o (happened (event_of event)) old new text text' result
+
+-- the same of these events of a move, in order
+abbrev pub AllSeeEach : {A : Type 0} → Step → List (Event A) → Sessions A → Sessions A → List ℕ → List ℕ → Result (Unit {0}) AllocError → Type 0
+AllSeeEach step events old new text text' result = (o : Opening) → ShowsAll step o (map happened (map event_of events)) old new text text' result
+
+-- the same of a move of a process, whose events these are, or which shows nothing
+abbrev pub AllSeeMove : {A : Type 0} → Step → List (Event A) → Sessions A → Sessions A → List ℕ → List ℕ → Result (Unit {0}) AllocError → Type 0
+AllSeeMove step events old new text text' result = (o : Opening) → ShowsMove step o (map happened (map event_of events)) old new text text' result
+
 -- the same of a command, which is all that its move shows, over the functions of the program
-abbrev pub ShowsCommand : {A : Type 0} → Step → List Function → Command → Sessions A → Sessions A → List ℕ → List ℕ → Result (Unit {0}) AllocError → Type 0
-ShowsCommand step ks k old new text text' result =
-    (o : Opening) → o.functions ≡ visible ks → ShowsMove step o (commanded k ∷ []) old new text text' result
+abbrev pub AllObey : {A : Type 0} → Step → List (Function A) → Command A → Sessions A → Sessions A → List ℕ → List ℕ → Result (Unit {0}) AllocError → Type 0
+AllObey step functions command old new text text' result =
+    (o : Opening) → o.functions ≡ visible (functions_of functions) → ShowsMove step o (commanded (command_of command) ∷ []) old new text text' result

@@ -1,9 +1,7 @@
 // The account of a run.
 ghost use Rattle.std.specs.Prelude.{◌≡◌, ◌++◌, OnOk, OnErr};
-ghost use Rattle.def_account.specs.Texts.{account_text};
-ghost use Rattle.tn_program.specs.Views.{program_of};
 ghost use Rattle.tn_text.specs.Writes.{Grows};
-ghost use Rattle.tn_account.specs.Asks.{asked_seen};
+ghost use Rattle.tn_account.specs.Asks.{account_of};
 
 use crate::asked::Asked;
 use crate::run::Run;
@@ -18,8 +16,7 @@ fn put_moves<A: Allocator + Copy>(
     asked: &Asked<'_>,
     out: &mut Vec<u8, A>,
 ) -> Result<(), AllocError>
-    ensures ok { OnOk result (out.new.items ≡
-        out.old.items ++ account_text (asked_seen asked.now) (program_of program.now) picks.now) }
+    ensures ok { OnOk result (out.new.items ≡ out.old.items ++ account_of asked.now program.now picks.now) }
     ensures grows { Grows out.old.items out.new.items }
 {
     let mut run = Run::new(alloc, program)?;
@@ -42,8 +39,7 @@ pub fn put_account<A: Allocator + Copy>(
     asked: &Asked<'_>,
     out: &mut Vec<u8, A>,
 ) -> Result<(), AllocError>
-    ensures ok { OnOk result (out.new.items ≡
-        out.old.items ++ account_text (asked_seen asked.now) (program_of program.now) picks.now) }
+    ensures ok { OnOk result (out.new.items ≡ out.old.items ++ account_of asked.now program.now picks.now) }
     ensures err { OnErr result (out.new.items ≡ out.old.items) }
 {
     let len = out.len();

@@ -23,7 +23,6 @@ impl<A: Allocator + Copy> Run<A> {
     ghost use Rattle.def_account.specs.Runs.{standings};
     ghost use Rattle.tn_program.specs.Views.{program_of};
     ghost use Rattle.tn_text.specs.Writes.{Grows};
-    ghost use Rattle.tn_account.specs.Asks.{asked_seen};
     ghost use Rattle.tn_account.specs.Runs.{IsAfter, TakesPick};
 
     /// The run of a program before any pick.
@@ -46,8 +45,7 @@ impl<A: Allocator + Copy> Run<A> {
         pick: u32,
         out: &mut Vec<u8, A>,
     ) -> Result<(), AllocError>
-        ensures ok { TakesPick (program_of program.now) (asked_seen asked.now) pick
-            self.old self.new out.old.items out.new.items result }
+        ensures ok { TakesPick program.now asked.now pick self.old self.new out.old.items out.new.items result }
         ensures grows { Grows out.old.items out.new.items }
     {
         if self.moves >= MOST_MOVES {

@@ -18,20 +18,13 @@ pub(crate) struct Sessions<A: Allocator> {
 }
 
 impl<A: Allocator + Copy> Sessions<A> {
-    ghost use Rattle.std.specs.Prelude.{IfOk, map};
-    ghost use Rattle.def_script.specs.Opening.{Opening, opening};
-    ghost use Rattle.def_run.specs.Run.{happened};
-    ghost use Rattle.def_account.specs.Runs.{standings};
-    ghost use Rattle.tn_flags.specs.Views.{event_of, command_of};
-    ghost use Rattle.tn_script.specs.Views.{functions_of};
-    ghost use Rattle.tn_program.specs.Views.{program_of};
+    ghost use Rattle.std.specs.Prelude.{IfOk};
     ghost use Rattle.tn_text.specs.Writes.{Grows};
-    ghost use Rattle.tn_account.specs.Standings.{AreStanding, ShowsOne, ShowsAll, ShowsMove, ShowsCommand};
+    ghost use Rattle.tn_account.specs.Standings.{AreAtStart, AllSee, AllSeeEach, AllSeeMove, AllObey};
 
     /// The sessions of a program, before they are created.
     pub fn new(alloc: A, program: &Program<A>) -> Result<Sessions<A>, AllocError>
-        ensures { IfOk result (λ s.
-            AreStanding (opening (program_of program.now)) (standings (program_of program.now)) s) }
+        ensures { IfOk result (λ s. AreAtStart program.now s) }
     {
         Ok(Sessions {
             alloc,
@@ -47,8 +40,7 @@ impl<A: Allocator + Copy> Sessions<A> {
         event: &Event<A>,
         out: &mut Vec<u8, A>,
     ) -> Result<(), AllocError>
-        ensures ok { (o : Opening) → ShowsOne step.now o (happened (event_of event.now))
-            self.old self.new out.old.items out.new.items result }
+        ensures ok { AllSee step.now event.now self.old self.new out.old.items out.new.items result }
         ensures grows { Grows out.old.items out.new.items }
     {
         step.put_event(self.alloc, event, out)?;
@@ -64,8 +56,7 @@ impl<A: Allocator + Copy> Sessions<A> {
         events: &Vec<Event<A>, A>,
         out: &mut Vec<u8, A>,
     ) -> Result<(), AllocError>
-        ensures ok { (o : Opening) → ShowsAll step.now o (map happened (map event_of events.now.items))
-            self.old self.new out.old.items out.new.items result }
+        ensures ok { AllSeeEach step.now events.now.items self.old self.new out.old.items out.new.items result }
         ensures grows { Grows out.old.items out.new.items }
     {
         for event in events {
@@ -81,8 +72,7 @@ impl<A: Allocator + Copy> Sessions<A> {
         events: &Vec<Event<A>, A>,
         out: &mut Vec<u8, A>,
     ) -> Result<(), AllocError>
-        ensures ok { (o : Opening) → ShowsMove step.now o (map happened (map event_of events.now.items))
-            self.old self.new out.old.items out.new.items result }
+        ensures ok { AllSeeMove step.now events.now.items self.old self.new out.old.items out.new.items result }
         ensures grows { Grows out.old.items out.new.items }
     {
         if events.is_empty() {
@@ -100,8 +90,7 @@ impl<A: Allocator + Copy> Sessions<A> {
         command: &Command<A>,
         out: &mut Vec<u8, A>,
     ) -> Result<(), AllocError>
-        ensures ok { ShowsCommand step.now (functions_of functions.now) (command_of command.now)
-            self.old self.new out.old.items out.new.items result }
+        ensures ok { AllObey step.now functions.now command.now self.old self.new out.old.items out.new.items result }
         ensures grows { Grows out.old.items out.new.items }
     {
         let order = Order {

@@ -1,12 +1,12 @@
 // The texts of what a move shows.
-ghost use Rattle.std.specs.Prelude.{◌≡◌, ◌++◌, ◌∷◌, [], OnOk, codes, map};
+ghost use Rattle.std.specs.Prelude.{◌≡◌, ◌++◌, ◌∷◌, OnOk, codes, map};
 ghost use Rattle.def_run.specs.Run.{happened, commanded};
 ghost use Rattle.def_account.specs.Texts.{shown_text, behind_first};
 ghost use Rattle.def_term.specs.Text.{w, atom_text};
 ghost use Rattle.tn_term.specs.Views.{tree_of};
 ghost use Rattle.tn_flags.specs.Views.{command_of, event_of};
 ghost use Rattle.tn_text.specs.Writes.{Grows};
-ghost use Rattle.tn_account.specs.Elements.{elements_in};
+ghost use Rattle.tn_account.specs.Elements.{elements_in, last_three};
 
 use std::alloc::{AllocError, Allocator};
 use tn_flags::{Command, Event};
@@ -59,8 +59,7 @@ fn put_three<A: Allocator, B: Allocator>(
     last: &Term<A>,
     out: &mut Vec<u8, B>,
 ) -> Result<(), AllocError>
-    ensures ok { OnOk result (out.new.items ≡ out.old.items ++
-        (44 ∷ w (tree_of first.now) ++ 44 ∷ w (tree_of second.now) ++ 44 ∷ w (tree_of last.now) ++ 125 ∷ [])) }
+    ensures ok { OnOk result (out.new.items ≡ out.old.items ++ last_three first.now second.now last.now) }
     ensures grows { Grows out.old.items out.new.items }
 {
     put_behind(b',', first, out)?;

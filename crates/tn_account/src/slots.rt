@@ -1,5 +1,4 @@
 // The sessions of the control list side by side, each seeing what a move shows.
-ghost use Rattle.tn_flags.specs.Views.{event_of};
 ghost use Rattle.tn_text.specs.Writes.{Grows};
 ghost use Rattle.tn_account.specs.Standings.{OneTells, EachTells, OneObeys, EachObeys};
 
@@ -28,7 +27,7 @@ fn tell_one<A: Allocator + Copy>(
     event: &Event<A>,
     out: &mut Vec<u8, A>,
 ) -> Result<(), AllocError>
-    ensures ok { OneTells step.now (event_of event.now) slot.old slot.new out.old.items out.new.items result }
+    ensures ok { OneTells step.now event.now slot.old slot.new out.old.items out.new.items result }
     ensures grows { Grows out.old.items out.new.items }
 {
     let is_asked = step.is_asked_of(&slot.name);
@@ -51,8 +50,7 @@ pub(crate) fn tell_each<A: Allocator + Copy>(
     event: &Event<A>,
     out: &mut Vec<u8, A>,
 ) -> Result<(), AllocError>
-    ensures ok { EachTells step.now (event_of event.now) slots.old.items slots.new.items
-        out.old.items out.new.items result }
+    ensures ok { EachTells step.now event.now slots.old.items slots.new.items out.old.items out.new.items result }
     ensures grows { Grows out.old.items out.new.items }
 {
     for place in 0..slots.len() {

@@ -1,5 +1,5 @@
 // The lines of one move.
-ghost use Rattle.std.specs.Prelude.{◌≡◌, ◌++◌, ◌∷◌, [], ◌&&◌, OnOk, decimal};
+ghost use Rattle.std.specs.Prelude.{◌≡◌, ◌++◌, ◌∷◌, OnOk, decimal};
 ghost use Rattle.tn_text.specs.Writes.{Grows};
 
 use crate::asked::Asked;
@@ -29,16 +29,11 @@ fn put_numbers<B: Allocator>(number: u64, pick: u32, out: &mut Vec<u8, B>) -> Re
 }
 
 impl Step<'_> {
-    ghost use Rattle.def_run.specs.Run.{happened, commanded};
-    ghost use Rattle.def_account.specs.Runs.{shows, shows_nothing};
-    ghost use Rattle.def_account.specs.Texts.{is_move, is_session};
-    ghost use Rattle.tn_flags.specs.Views.{command_of, event_of};
-    ghost use Rattle.tn_account.specs.Asks.{asked_seen, text_by};
+    ghost use Rattle.tn_account.specs.Asks.{is_asked, text_of_event, text_of_command, text_of_nothing};
 
     /// Whether it is asked for what the session of this name makes of it.
     pub fn is_asked_of<A: Allocator>(&self, name: &Atom<A>) -> bool
-        ensures { result ≡ (is_move (asked_seen self.now.asked.now).move self.now.number
-            && is_session (asked_seen self.now.asked.now).session name.now) }
+        ensures { result ≡ is_asked self.now name.now }
     {
         self.asked.is_move(self.number) && self.asked.is_session(name)
     }
@@ -49,8 +44,7 @@ impl Step<'_> {
         command: &Command<A>,
         out: &mut Vec<u8, B>,
     ) -> Result<(), AllocError>
-        ensures ok { OnOk result (out.new.items ≡ out.old.items ++
-            text_by self.now (shows self.now.number self.now.pick (commanded (command_of command.now)) ∷ [])) }
+        ensures ok { OnOk result (out.new.items ≡ out.old.items ++ text_of_command self.now command.now) }
         ensures grows { Grows out.old.items out.new.items }
     {
         if !self.asked.is_move(self.number) {
@@ -69,8 +63,7 @@ impl Step<'_> {
         event: &Event<A>,
         out: &mut Vec<u8, A>,
     ) -> Result<(), AllocError>
-        ensures ok { OnOk result (out.new.items ≡ out.old.items ++
-            text_by self.now (shows self.now.number self.now.pick (happened (event_of event.now)) ∷ [])) }
+        ensures ok { OnOk result (out.new.items ≡ out.old.items ++ text_of_event self.now event.now) }
         ensures grows { Grows out.old.items out.new.items }
     {
         if !self.asked.is_move(self.number) {
@@ -84,8 +77,7 @@ impl Step<'_> {
 
     /// Appends that the move shows nothing, where it is asked for.
     pub fn put_nothing<B: Allocator>(&self, out: &mut Vec<u8, B>) -> Result<(), AllocError>
-        ensures ok { OnOk result (out.new.items ≡
-            out.old.items ++ text_by self.now (shows_nothing self.now.number self.now.pick ∷ [])) }
+        ensures ok { OnOk result (out.new.items ≡ out.old.items ++ text_of_nothing self.now) }
         ensures grows { Grows out.old.items out.new.items }
     {
         if !self.asked.is_move(self.number) {
