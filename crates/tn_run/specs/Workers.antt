@@ -1,13 +1,17 @@
 -- Runs by workers: how many there are, and which faults are of no end.
 -- Stands on what a run writes.
 use Rattle.std.specs.Prelude.{◌≡◌, ℕ, ◌<◌, ◌≤◌, List, [], Option, IfSome, Result, IsErrOf}
+use Rattle.tn_text.specs.Watch.{watched_inner}
+use Rattle.tn_text.specs.declared.watched.Watched.{Watched}
 use Rattle.tn_run.specs.declared.outcome.Outcome.{Outcome}
 use Rattle.tn_run.specs.declared.outcome.Outcome.TheVariants.{Listed, Refused}
 use Rattle.tn_run.specs.declared.fault.LiveFault.{LiveFault}
 use Rattle.tn_run.specs.declared.fault.LiveFault.TheVariants.{Run, Pool}
 use Rattle.tn_run.specs.declared.fault.RunFault.TheVariants.{Read, Write, OutOfMemory}
+use Rattle.tn_run.specs.declared.live.Ran.{Ran}
 use Rattle.tn_run.specs.Ends.{WritesFront}
 use Rattle.tn_run.specs.Out.{by_workers, IsRunOf}
+use Rattle.tn_run.specs.Plans.{Writes}
 
 -- from 1 to 16
 abbrev pub IsWorkerCount : ℕ → Type 0
@@ -27,6 +31,10 @@ IsOfNoWrite (Run (Write n)) = ⊥
 IsOfNoWrite (Run OutOfMemory) = Unit {0}
 IsOfNoWrite (Pool fault) = Unit {0}
 
+-- memory was refused before the workers began, or after they ended
+abbrev pub IsOfMemory : LiveFault → Type 0
+IsOfMemory fault = fault ≡ Run OutOfMemory
+
 -- a write failed once the writer had taken n bytes
 abbrev pub FailsWrite : {A : Type 0} → Result A LiveFault → ℕ → Type 0
 FailsWrite result n = IsErrOf result (Run (Write n))
@@ -40,3 +48,15 @@ HasPicksWhereListed (Refused r) picks = picks ≡ []
 abbrev pub WritesSomeByWorkers : Option (List ℕ) → (old new : Option (List ℕ)) → ℕ → Type 0
 WritesSomeByWorkers told old new n =
     IfSome told (λ bytes. (made : List ℕ) × (outcome : Outcome) × (output : List ℕ) × IsRunOf bytes (by_workers made) outcome output × WritesFront old new output n)
+
+-- ---- of a watched reader and writer, each with the function that tells the known bytes of what is watched
+
+-- the writer has gained the output of the bytes that the reader had, by the picks that workers made, and nothing else
+abbrev pub WroteByWorkers : {R W : Type 0} → (R → Option (List ℕ)) → Watched R → (W → Option (List ℕ)) → (old new : Watched W) → Ran → Type 0
+WroteByWorkers known reader gained old new ran =
+    Writes (known (watched_inner reader)) (by_workers ran.picks.items) (gained (watched_inner old)) (gained (watched_inner new)) ran.outcome
+
+-- where a write failed once n bytes were taken, the writer has gained the first n bytes of an output by such picks
+abbrev pub WroteSomeByWorkers : {R W A : Type 0} → (R → Option (List ℕ)) → Watched R → (W → Option (List ℕ)) → (old new : Watched W) → Result A LiveFault → Type 0
+WroteSomeByWorkers known reader gained old new result =
+    (n : ℕ) → FailsWrite result n → WritesSomeByWorkers (known (watched_inner reader)) (gained (watched_inner old)) (gained (watched_inner new)) n

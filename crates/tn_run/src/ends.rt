@@ -1,8 +1,7 @@
 // Reading a whole text, and writing a whole output, each call once.
 ghost use Rattle.std.specs.Prelude.{◌≡◌, ◌≢◌, ℕ, true, IfOk, IfErr, OnOk, OnErr, IsErrOf};
-ghost use Rattle.std.specs.Io.KnownBytes.{Appends};
 ghost use Rattle.tn_text.specs.Watch.{watched_inner, has_failed, is_flushed};
-ghost use Rattle.tn_run.specs.Ends.{TakesText, TakesFront, WritesFront};
+ghost use Rattle.tn_run.specs.Ends.{TakesFront, TookText, WroteAll, WroteFront};
 
 use crate::fault::RunFault;
 use std::alloc::Allocator;
@@ -17,8 +16,7 @@ pub fn read_text<A: Allocator, R: Read>(
     alloc: A,
     reader: &mut Watched<R>,
 ) -> Result<Vec<u8, A>, RunFault>
-    ensures text { IfOk result (λ v. TakesText (R.remaining (watched_inner reader.old))
-        (R.remaining (watched_inner reader.new)) v.items) }
+    ensures text { IfOk result (λ v. TookText R.remaining reader.old reader.new v.items) }
     ensures front { TakesFront (R.remaining (watched_inner reader.old)) (R.remaining (watched_inner reader.new)) }
     ensures unfailed { OnOk result (has_failed reader.new ≡ has_failed reader.old) }
     ensures read { IsErrOf result RunFault.Read → has_failed reader.new ≡ true }
@@ -44,12 +42,10 @@ pub fn read_text<A: Allocator, R: Read>(
 
 /// Writes the whole output and flushes the writer. Nothing is tried again.
 pub fn write_output<W: Write>(writer: &mut Watched<W>, output: &[u8]) -> Result<(), RunFault>
-    ensures all { OnOk result (Appends (W.contents (watched_inner writer.old))
-        (W.contents (watched_inner writer.new)) output.now) }
+    ensures all { OnOk result (WroteAll W.contents writer.old writer.new output.now) }
     ensures unfailed { OnOk result (has_failed writer.new ≡ has_failed writer.old) }
     ensures flushed { OnOk result (is_flushed writer.new ≡ true) }
-    ensures front { IfErr result (λ e. (n : ℕ) × (e ≡ RunFault.Write n) × WritesFront
-        (W.contents (watched_inner writer.old)) (W.contents (watched_inner writer.new)) output.now n) }
+    ensures front { IfErr result (λ e. WroteFront W.contents writer.old writer.new output.now e) }
     ensures write { OnErr result (has_failed writer.new ≡ true) }
 {
     let mut written = 0;

@@ -7,8 +7,9 @@ ghost use Rattle.tn_run.specs.declared.fault.RunFault.{RunFault};
 ghost use Rattle.tn_run.specs.Ends.{TakesFront};
 ghost use Rattle.tn_run.specs.Settled.{RunsToRest, IsClosedOutput};
 ghost use Rattle.tn_run.specs.Out.{by_workers, IsRunOf, IsToldWithoutPicks};
-ghost use Rattle.tn_run.specs.Plans.{Gives, Writes, TakesSome};
-ghost use Rattle.tn_run.specs.Workers.{IsOfNoEnd, IsOfNoWrite, IsWorkerCount, HasPicksWhereListed, FailsWrite, WritesSomeByWorkers};
+ghost use Rattle.tn_run.specs.Plans.{Gave, TookSome};
+ghost use Rattle.tn_run.specs.Workers.{IsOfMemory, IsOfNoEnd, IsOfNoWrite, IsWorkerCount, HasPicksWhereListed};
+ghost use Rattle.tn_run.specs.Workers.{FailsWrite, WroteByWorkers, WroteSomeByWorkers};
 
 use crate::acceptance::{Denial, accept};
 use crate::ends::{read_text, write_output};
@@ -102,8 +103,7 @@ fn run_core<J: Naming + Send + Sync, T: Threads + Wait + Sync, G: Gate>(
 
 /// What a refusal writes, with no picks.
 fn refused_live(alloc: Global, refusal: Refusal) -> Result<(Ran, Vec<u8>), LiveFault>
-    ensures { MatchResult result (λ r. IsToldWithoutPicks refusal r.0.outcome r.0.picks.items r.1.items)
-        (λ e. e ≡ LiveFault.Run RunFault.OutOfMemory) }
+    ensures { MatchResult result (λ r. IsToldWithoutPicks refusal r.0.outcome r.0.picks.items r.1.items) IsOfMemory }
 {
     match refused(alloc, refusal) {
         Ok((outcome, line)) => {
@@ -153,11 +153,9 @@ fn prepare_live<R: Read, T: Threads + Wait + Sync, G: Gate>(
     workers: &Workers<'_, G>,
 ) -> Result<(Ran, Vec<u8>), LiveFault>
     requires count { IsWorkerCount workers.now.count }
-    ensures output { IfOk result
-        (λ r. Gives (R.remaining (watched_inner reader.old)) (by_workers r.0.picks.items) r.0.outcome r.1.items) }
+    ensures output { IfOk result (λ r. Gave R.remaining reader.old (by_workers r.0.picks.items) r.0.outcome r.1.items) }
     ensures picks { IfOk result (λ r. HasPicksWhereListed r.0.outcome r.0.picks.items) }
-    ensures taken { OnOk result
-        (TakesSome (R.remaining (watched_inner reader.old)) (R.remaining (watched_inner reader.new))) }
+    ensures taken { OnOk result (TookSome R.remaining reader.old reader.new) }
     ensures front { TakesFront (R.remaining (watched_inner reader.old)) (R.remaining (watched_inner reader.new)) }
     ensures unfailed { OnOk result (has_failed reader.new ≡ has_failed reader.old) }
     ensures read { IsErrOf result (LiveFault.Run RunFault.Read) → has_failed reader.new ≡ true }
@@ -192,11 +190,9 @@ pub fn run_live<R: Read, W: Write, T: Threads + Wait + Sync, G: Gate>(
 ) -> Result<Ran, LiveFault>
     requires count { IsWorkerCount workers.now.count }
     // Where the reader tells its bytes; where the writer does too, it gained the output alone.
-    ensures done { IfOk result (λ r. Writes (R.remaining (watched_inner reader.old)) (by_workers r.picks.items)
-        (W.contents (watched_inner writer.old)) (W.contents (watched_inner writer.new)) r.outcome) }
+    ensures done { IfOk result (λ r. WroteByWorkers R.remaining reader.old W.contents writer.old writer.new r) }
     ensures picks { IfOk result (λ r. HasPicksWhereListed r.outcome r.picks.items) }
-    ensures taken { OnOk result
-        (TakesSome (R.remaining (watched_inner reader.old)) (R.remaining (watched_inner reader.new))) }
+    ensures taken { OnOk result (TookSome R.remaining reader.old reader.new) }
     // Whatever the answer, nothing else was taken of the reader than some bytes at its front.
     ensures front { TakesFront (R.remaining (watched_inner reader.old)) (R.remaining (watched_inner reader.new)) }
     ensures reader_unfailed { OnOk result (has_failed reader.new ≡ has_failed reader.old) }
@@ -207,8 +203,7 @@ pub fn run_live<R: Read, W: Write, T: Threads + Wait + Sync, G: Gate>(
     ensures read { IsErrOf result (LiveFault.Run RunFault.Read) → has_failed reader.new ≡ true }
     ensures read_wrote_nothing { IsErrOf result (LiveFault.Run RunFault.Read) → writer.new ≡ writer.old }
     ensures write { (n : ℕ) → FailsWrite result n → has_failed writer.new ≡ true }
-    ensures written { (n : ℕ) → FailsWrite result n → WritesSomeByWorkers (R.remaining (watched_inner reader.old))
-        (W.contents (watched_inner writer.old)) (W.contents (watched_inner writer.new)) n }
+    ensures written { WroteSomeByWorkers R.remaining reader.old W.contents writer.old writer.new result }
     ensures inside { IfErr result (λ e. IsOfNoEnd e → has_failed reader.new ≡ has_failed reader.old) }
     ensures inside_wrote_nothing { IfErr result (λ e. IsOfNoEnd e → writer.new ≡ writer.old) }
 {

@@ -1,11 +1,11 @@
 // A run: a script and its picks in, an output out.
 ghost use Rattle.std.specs.Prelude.{◌≡◌, ◌≢◌, ℕ, true, IfOk, IfErr, MatchResult, OnOk, IsErrOf};
 ghost use Rattle.tn_text.specs.Watch.{watched_inner, has_failed, is_flushed};
-ghost use Rattle.def_run.specs.Listing.{program_output};
 ghost use Rattle.tn_program.specs.Views.{program_of};
-ghost use Rattle.tn_run.specs.Ends.{TakesFront};
-ghost use Rattle.tn_run.specs.Out.{Asked, asked, HasNoPicks, IsRunOf, IsToldRefusal};
-ghost use Rattle.tn_run.specs.Plans.{IsPlanOf, planned, Gives, GivesAsPlanned, Writes, WritesSome, TakesSome, TakesFor};
+ghost use Rattle.tn_run.specs.Ends.{TakesFront, LacksMemory, OnWriteFault};
+ghost use Rattle.tn_run.specs.Out.{asked, HasNoPicks, IsToldRefusal};
+ghost use Rattle.tn_run.specs.Plans.{planned_output, IsRunAsPlanned};
+ghost use Rattle.tn_run.specs.Plans.{Gave, GaveAsPlanned, Wrote, WroteSome, TookSome, TookFor};
 
 use crate::acceptance::{Denial, accept};
 use crate::ends::{read_text, write_output};
@@ -38,8 +38,7 @@ fn listed<A: Allocator + Copy>(
     program: &Program<A>,
     plan: Plan<'_>,
 ) -> Result<Vec<u8, A>, AllocError>
-    ensures { IfOk result (λ v. v.items ≡
-        program_output (program_of program.now) (planned (program_of program.now) plan.entry)) }
+    ensures { IfOk result (λ v. v.items ≡ planned_output (program_of program.now) plan.entry) }
 {
     match plan {
         Plan::Picks(picks) => Ok(replay(alloc, program, picks)?),
@@ -53,8 +52,7 @@ fn output_of<A: Allocator + Copy>(
     text: &[u8],
     plan: Plan<'_>,
 ) -> Result<(Outcome, Vec<u8, A>), RunFault>
-    ensures { MatchResult result (λ r. (a : Asked) → IsPlanOf a plan.entry → IsRunOf text.now a r.0 r.1.items)
-        (λ e. e ≡ RunFault.OutOfMemory) }
+    ensures { MatchResult result (λ r. IsRunAsPlanned text.now plan.entry r.0 r.1.items) LacksMemory }
 {
     let program = match accept(alloc, text) {
         Ok(program) => program,
@@ -73,10 +71,8 @@ fn prepare_plan<A: Allocator + Copy, R: Read>(
     reader: &mut Watched<R>,
     plan: Plan<'_>,
 ) -> Result<(Outcome, Vec<u8, A>), RunFault>
-    ensures output { IfOk result
-        (λ r. GivesAsPlanned (R.remaining (watched_inner reader.old)) plan.entry r.0 r.1.items) }
-    ensures taken { OnOk result
-        (TakesSome (R.remaining (watched_inner reader.old)) (R.remaining (watched_inner reader.new))) }
+    ensures output { IfOk result (λ r. GaveAsPlanned R.remaining reader.old plan.entry r.0 r.1.items) }
+    ensures taken { OnOk result (TookSome R.remaining reader.old reader.new) }
     ensures front { TakesFront (R.remaining (watched_inner reader.old)) (R.remaining (watched_inner reader.new)) }
     ensures unfailed { OnOk result (has_failed reader.new ≡ has_failed reader.old) }
     ensures read { IsErrOf result RunFault.Read → has_failed reader.new ≡ true }
@@ -96,10 +92,8 @@ fn prepare<A: Allocator + Copy, R: Read>(
     reader: &mut Watched<R>,
     schedule: Schedule<'_>,
 ) -> Result<(Outcome, Vec<u8, A>), RunFault>
-    ensures output { IfOk result
-        (λ r. Gives (R.remaining (watched_inner reader.old)) (asked schedule.entry) r.0 r.1.items) }
-    ensures taken { OnOk result (TakesFor (asked schedule.entry)
-        (R.remaining (watched_inner reader.old)) (R.remaining (watched_inner reader.new))) }
+    ensures output { IfOk result (λ r. Gave R.remaining reader.old (asked schedule.entry) r.0 r.1.items) }
+    ensures taken { OnOk result (TookFor (asked schedule.entry) R.remaining reader.old reader.new) }
     ensures front { TakesFront (R.remaining (watched_inner reader.old)) (R.remaining (watched_inner reader.new)) }
     ensures unread { HasNoPicks (asked schedule.entry) → reader.new ≡ reader.old }
     ensures unfailed { OnOk result (has_failed reader.new ≡ has_failed reader.old) }
@@ -130,12 +124,10 @@ pub fn run<A: Allocator + Copy, R: Read, W: Write>(
     schedule: Schedule<'_>,
 ) -> Result<Outcome, RunFault>
     // Where the reader tells its bytes; where the writer does too, it gained the output alone.
-    ensures done { IfOk result (Writes (R.remaining (watched_inner reader.old)) (asked schedule.entry)
-        (W.contents (watched_inner writer.old)) (W.contents (watched_inner writer.new))) }
+    ensures done { IfOk result (Wrote R.remaining reader.old (asked schedule.entry) W.contents writer.old writer.new) }
     // Where the picks are none, nothing was read; else all, up to one byte past the limit.
     ensures unread { HasNoPicks (asked schedule.entry) → reader.new ≡ reader.old }
-    ensures taken { OnOk result (TakesFor (asked schedule.entry)
-        (R.remaining (watched_inner reader.old)) (R.remaining (watched_inner reader.new))) }
+    ensures taken { OnOk result (TookFor (asked schedule.entry) R.remaining reader.old reader.new) }
     // Whatever the answer, nothing else was taken of the reader than some bytes at its front.
     ensures front { TakesFront (R.remaining (watched_inner reader.old)) (R.remaining (watched_inner reader.new)) }
     ensures reader_unfailed { OnOk result (has_failed reader.new ≡ has_failed reader.old) }
@@ -146,10 +138,8 @@ pub fn run<A: Allocator + Copy, R: Read, W: Write>(
     ensures read { IsErrOf result RunFault.Read → has_failed reader.new ≡ true }
     ensures read_wrote_nothing { IsErrOf result RunFault.Read → writer.new ≡ writer.old }
     ensures write { (n : ℕ) → IsErrOf result (RunFault.Write n) → has_failed writer.new ≡ true }
-    ensures written { (n : ℕ) → IsErrOf result (RunFault.Write n) → WritesSome (R.remaining (watched_inner reader.old))
-        (asked schedule.entry) (W.contents (watched_inner writer.old)) (W.contents (watched_inner writer.new)) n }
-    ensures write_took { (n : ℕ) → IsErrOf result (RunFault.Write n) → TakesFor (asked schedule.entry)
-        (R.remaining (watched_inner reader.old)) (R.remaining (watched_inner reader.new)) }
+    ensures written { WroteSome R.remaining reader.old (asked schedule.entry) W.contents writer.old writer.new result }
+    ensures write_took { OnWriteFault result (TookFor (asked schedule.entry) R.remaining reader.old reader.new) }
     ensures memory { IsErrOf result RunFault.OutOfMemory → has_failed reader.new ≡ has_failed reader.old }
     ensures memory_wrote_nothing { IsErrOf result RunFault.OutOfMemory → writer.new ≡ writer.old }
 {
