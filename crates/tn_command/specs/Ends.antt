@@ -1,5 +1,6 @@
 -- What a reader or a writer keeps of its calls (own).
 use Rattle.std.specs.Prelude.{◌≡◌, ℕ, List, ◌++◌, take, Option, Some, Result, Ok, Err, MatchResult}
+use Rattle.std.specs.Io.KnownBytes.{ReadConsumes, WriteAppends}
 use Rattle.tn_command.specs.declared.noted.Noted.{Noted}
 use Rattle.tn_command.specs.declared.recorded.Recorded.{Recorded}
 
@@ -23,3 +24,13 @@ recorded_text r = r.text.items
 -- the bytes that a call read are kept behind those before; a call that failed has read none
 abbrev pub Records : {E : Type 0} → List ℕ → List ℕ → Result ℕ E → List ℕ → Type 0
 Records old new r bytes = MatchResult r (λ n. new ≡ old ++ take n bytes) (λ _. new ≡ old)
+
+-- ---- by what gives the reader or writer inside, and the function that tells its known bytes
+
+-- what a read did to the known bytes of the reader inside
+abbrev pub ReadsInside : {T I E : Type 0} → (I → Option (List ℕ)) → (T → I) → (old new : T) → Result ℕ E → List ℕ → Type 0
+ReadsInside known inner old new result bytes = ReadConsumes (known (inner old)) (known (inner new)) result bytes
+
+-- what a write did to the known bytes of the writer inside
+abbrev pub WritesInside : {T I E : Type 0} → (I → Option (List ℕ)) → (T → I) → (old new : T) → Result ℕ E → List ℕ → Type 0
+WritesInside known inner old new result bytes = WriteAppends (known (inner old)) (known (inner new)) result bytes

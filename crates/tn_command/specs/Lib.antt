@@ -1,5 +1,6 @@
 pub mod Ends
 pub mod Explained
 pub mod Lines
+pub mod Sources
 pub mod Status
 pub mod Trials

@@ -1,9 +1,14 @@
 -- The exit status of a run (own).
-use Rattle.std.specs.Prelude.{◌≡◌, ℕ, ◌⊎◌, List, Option, Result, Ok, Err}
+use Rattle.std.specs.Prelude.{◌≡◌, ℕ, ◌⊎◌, true, List, Option, Result, Ok, Err}
+use Rattle.std.specs.Process.{exit_status}
+use Rattle.std.specs.declared.process.ExitCode.{ExitCode}
+use Rattle.tn_text.specs.Watch.{watched_inner, has_failed}
+use Rattle.tn_text.specs.declared.watched.Watched.{Watched}
 use Rattle.tn_run.specs.declared.outcome.Outcome.{Outcome}
 use Rattle.tn_run.specs.declared.outcome.Outcome.TheVariants.{Listed, Refused}
 use Rattle.tn_run.specs.declared.outcome.Refusal.{Refusal}
-use Rattle.tn_run.specs.Out.{Asked, by_workers}
+use Rattle.tn_run.specs.declared.outcome.Schedule.{Schedule}
+use Rattle.tn_run.specs.Out.{Asked, asked, by_workers}
 use Rattle.tn_run.specs.Plans.{Writes}
 
 abbrev pub LISTED_STATUS : ℕ
@@ -38,3 +43,19 @@ pub record IsWrittenAs (n : ℕ) (told : Option (List ℕ)) (a : Asked) (old new
 pub record IsWrittenByWorkers (n : ℕ) (told : Option (List ℕ)) (old new : Option (List ℕ)) : Type 0 where
   pub listed : n ≡ LISTED_STATUS → (made : List ℕ) × Writes told (by_workers made) old new Listed
   pub refused : n ≡ REFUSED_STATUS → (made : List ℕ) × (r : Refusal) × Writes told (by_workers made) old new (Refused r)
+
+-- ---- of a watched reader and writer, each with the function that tells the known bytes of what is watched
+
+-- the writer has gained what the exit status says, by the picks of the schedule
+abbrev pub WroteAs : {R W : Type 0} → ExitCode → (R → Option (List ℕ)) → Watched R → Schedule → (W → Option (List ℕ)) → (old new : Watched W) → Type 0
+WroteAs status known reader schedule gained old new =
+    IsWrittenAs (exit_status status) (known (watched_inner reader)) (asked schedule) (gained (watched_inner old)) (gained (watched_inner new))
+
+-- the same, by the picks that workers made
+abbrev pub WroteAsByWorkers : {R W : Type 0} → ExitCode → (R → Option (List ℕ)) → Watched R → (W → Option (List ℕ)) → (old new : Watched W) → Type 0
+WroteAsByWorkers status known reader gained old new =
+    IsWrittenByWorkers (exit_status status) (known (watched_inner reader)) (gained (watched_inner old)) (gained (watched_inner new))
+
+-- with the status of a fault the writer is as it was, or has failed
+abbrev pub OnFaultUntouchedOrFailed : {W : Type 0} → ExitCode → (old new : Watched W) → Type 0
+OnFaultUntouchedOrFailed status old new = exit_status status ≡ FAULT_STATUS → (new ≡ old) ⊎ (has_failed new ≡ true)

@@ -1,6 +1,10 @@
 -- The exit status of a trial, and what it writes (own).
 use Rattle.std.specs.Prelude.{◌≡◌, ℕ, List, Option, Result, Ok, Err}
 use Rattle.std.specs.Io.KnownBytes.{Appends}
+use Rattle.std.specs.Process.{exit_status}
+use Rattle.std.specs.declared.process.ExitCode.{ExitCode}
+use Rattle.tn_text.specs.Watch.{watched_inner}
+use Rattle.tn_text.specs.declared.watched.Watched.{Watched}
 use Rattle.tn_trial.specs.Questions.{IsAnswer, IsNoAnswer}
 use Rattle.tn_trial.specs.declared.question.Question.{Question}
 use Rattle.tn_trial.specs.declared.question.QuestionFault.{QuestionFault}
@@ -20,3 +24,7 @@ trial_status_of (Err (faults.Run f)) = FAULT_STATUS
 pub record IsTriedAs {A : Type 0} (n : ℕ) (q : Question) (old new : Option (List ℕ)) (r : Result Unit (TrialFault A)) : Type 0 where
   pub listed : n ≡ LISTED_STATUS → (text : List ℕ) × IsAnswer q text × Appends old new text
   pub refused : n ≡ REFUSED_STATUS → (new ≡ old) × (f : QuestionFault A) × (r ≡ Err (faults.Question f)) × IsNoAnswer q f
+
+-- the same of a watched writer, with the function that tells the known bytes of what is watched
+abbrev pub TriedAs : {A W : Type 0} → ExitCode → Question → (W → Option (List ℕ)) → (old new : Watched W) → Result Unit (TrialFault A) → Type 0
+TriedAs status q gained old new r = IsTriedAs (exit_status status) q (gained (watched_inner old)) (gained (watched_inner new)) r

@@ -1,9 +1,8 @@
 // A run that is explained.
-ghost use Rattle.std.specs.Prelude.{◌≡◌, ◌⊎◌, true};
+ghost use Rattle.std.specs.Prelude.{◌≡◌};
 ghost use Rattle.std.specs.Process.{exit_status};
-ghost use Rattle.tn_text.specs.Watch.{watched_inner, has_failed};
-ghost use Rattle.tn_command.specs.Explained.{explained_status_of, IsExplainedAs};
-ghost use Rattle.tn_command.specs.Status.{IsStatus, FAULT_STATUS};
+ghost use Rattle.tn_command.specs.Explained.{explained_status_of, ExplainedAs};
+ghost use Rattle.tn_command.specs.Status.{IsStatus, OnFaultUntouchedOrFailed};
 
 use crate::noted::Noted;
 use crate::runs::{Ended, INPUT, script_of, told};
@@ -45,10 +44,8 @@ pub fn perform_explain_over<A: Allocator + Copy, R: Read, W: Write>(
     writer: &mut Watched<W>,
     inquiry: &Inquiry<'_>,
 ) -> Explained
-    ensures written { IsExplainedAs (exit_status result.status) (R.remaining (watched_inner reader.old))
-        inquiry.now (W.contents (watched_inner writer.old)) (W.contents (watched_inner writer.new)) }
-    ensures failed { exit_status result.status ≡ FAULT_STATUS →
-        (writer.new ≡ writer.old) ⊎ (has_failed writer.new ≡ true) }
+    ensures written { ExplainedAs result.status R.remaining reader.old inquiry.now W.contents writer.old writer.new }
+    ensures failed { OnFaultUntouchedOrFailed result.status writer.old writer.new }
     ensures status { IsStatus (exit_status result.status) }
     ensures answer { exit_status result.status ≡ explained_status_of result.answer }
 {

@@ -1,8 +1,8 @@
 // A reader or a writer that keeps why a call of it failed.
 ghost use Rattle.std.specs.Prelude.{◌≡◌};
 ghost use Rattle.std.specs.Io.{ReadsAtMost, WritesAtMost};
-ghost use Rattle.std.specs.Io.KnownBytes.{Keeps, ReadConsumes, WriteAppends};
-ghost use Rattle.tn_command.specs.Ends.{noted_inner, latest};
+ghost use Rattle.std.specs.Io.KnownBytes.{Keeps};
+ghost use Rattle.tn_command.specs.Ends.{ReadsInside, WritesInside, noted_inner, latest};
 
 use std::io::{Error, Read, Result, Write};
 
@@ -46,8 +46,7 @@ impl<R: Read> Read for Noted<R> {
 
     fn read(&mut self, buf: &mut [u8]) -> Result<usize>
         ensures bound { ReadsAtMost result buf.new }
-        ensures bytes { ReadConsumes (R.remaining (noted_inner self.old))
-            (R.remaining (noted_inner self.new)) result buf.new }
+        ensures bytes { ReadsInside R.remaining noted_inner self.old self.new result buf.new }
         ensures kept { self.new.error ≡ latest result self.old.error }
     {
         let result = self.inner.read(buf);
@@ -61,8 +60,7 @@ impl<W: Write> Write for Noted<W> {
 
     fn write(&mut self, buf: &[u8]) -> Result<usize>
         ensures bound { WritesAtMost result buf.now }
-        ensures bytes { WriteAppends (W.contents (noted_inner self.old))
-            (W.contents (noted_inner self.new)) result buf.now }
+        ensures bytes { WritesInside W.contents noted_inner self.old self.new result buf.now }
         ensures kept { self.new.error ≡ latest result self.old.error }
     {
         let result = self.inner.write(buf);

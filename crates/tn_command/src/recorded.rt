@@ -1,8 +1,7 @@
 // A reader that keeps what was read.
 ghost use Rattle.std.specs.Prelude.{◌≡◌, []};
 ghost use Rattle.std.specs.Io.{ReadsAtMost};
-ghost use Rattle.std.specs.Io.KnownBytes.{ReadConsumes};
-ghost use Rattle.tn_command.specs.Ends.{recorded_inner, recorded_text, Records};
+ghost use Rattle.tn_command.specs.Ends.{ReadsInside, recorded_inner, recorded_text, Records};
 
 use std::alloc::Allocator;
 use std::io::{Error, Read, Result};
@@ -43,8 +42,7 @@ impl<R: Read, A: Allocator> Read for Recorded<R, A> {
     /// Where memory for the bytes is refused it reads nothing, and answers OutOfMemory.
     fn read(&mut self, buf: &mut [u8]) -> Result<usize>
         ensures bound { ReadsAtMost result buf.new }
-        ensures bytes { ReadConsumes (R.remaining (recorded_inner self.old))
-            (R.remaining (recorded_inner self.new)) result buf.new }
+        ensures bytes { ReadsInside R.remaining recorded_inner self.old self.new result buf.new }
         ensures text { Records (recorded_text self.old) (recorded_text self.new) result buf.new }
     {
         if let Err(refused) = self.text.reserve(buf.len()) {

@@ -1,11 +1,9 @@
 // The runs of the commands.
-ghost use Rattle.std.specs.Prelude.{◌≡◌, ◌⊎◌, true, IfErr};
+ghost use Rattle.std.specs.Prelude.{◌≡◌, IfErr};
 ghost use Rattle.std.specs.Process.{exit_status};
-ghost use Rattle.tn_text.specs.Watch.{watched_inner, has_failed};
-ghost use Rattle.tn_run.specs.Out.{asked};
 ghost use Rattle.tn_run.specs.Workers.{IsWorkerCount};
-ghost use Rattle.tn_command.specs.Status.{IsStatus, IsFailure, status_of, FAULT_STATUS};
-ghost use Rattle.tn_command.specs.Status.{IsWrittenAs, IsWrittenByWorkers};
+ghost use Rattle.tn_command.specs.Status.{IsStatus, IsFailure, status_of, OnFaultUntouchedOrFailed};
+ghost use Rattle.tn_command.specs.Status.{WroteAs, WroteAsByWorkers};
 
 use crate::noted::Noted;
 use crate::recorded::Recorded;
@@ -54,10 +52,8 @@ pub fn perform_over<A: Allocator + Copy, R: Read, W: Write>(
     writer: &mut Watched<W>,
     schedule: Schedule<'_>,
 ) -> Ended<RunFault>
-    ensures written { IsWrittenAs (exit_status result.status) (R.remaining (watched_inner reader.old))
-        (asked schedule.entry) (W.contents (watched_inner writer.old)) (W.contents (watched_inner writer.new)) }
-    ensures failed { exit_status result.status ≡ FAULT_STATUS →
-        (writer.new ≡ writer.old) ⊎ (has_failed writer.new ≡ true) }
+    ensures written { WroteAs result.status R.remaining reader.old schedule.entry W.contents writer.old writer.new }
+    ensures failed { OnFaultUntouchedOrFailed result.status writer.old writer.new }
     ensures status { IsStatus (exit_status result.status) }
     ensures answer { exit_status result.status ≡ status_of result.answer }
 {
@@ -73,10 +69,8 @@ pub fn perform_workers_over<T: Threads + Wait + Sync, R: Read, W: Write, G: Gate
     workers: &Workers<'_, G>,
 ) -> Ended<LiveFault>
     requires count { IsWorkerCount workers.now.count }
-    ensures written { IsWrittenByWorkers (exit_status result.status) (R.remaining (watched_inner reader.old))
-        (W.contents (watched_inner writer.old)) (W.contents (watched_inner writer.new)) }
-    ensures failed { exit_status result.status ≡ FAULT_STATUS →
-        (writer.new ≡ writer.old) ⊎ (has_failed writer.new ≡ true) }
+    ensures written { WroteAsByWorkers result.status R.remaining reader.old W.contents writer.old writer.new }
+    ensures failed { OnFaultUntouchedOrFailed result.status writer.old writer.new }
     ensures status { IsStatus (exit_status result.status) }
     ensures answer { exit_status result.status ≡ status_of result.answer }
 {

@@ -1,8 +1,8 @@
 // Where a script or a text of picks is read from.
-ghost use Rattle.std.specs.Prelude.{◌≡◌, ◌≢◌, codes, IfErr, MatchOption};
+ghost use Rattle.std.specs.Prelude.{IfErr};
 ghost use Rattle.std.specs.Process.{exit_status};
+ghost use Rattle.tn_command.specs.Sources.{IsSourceOf};
 ghost use Rattle.tn_command.specs.Status.{IsFailure};
-ghost use Rattle.tn_command.specs.declared.source.Source.{Source};
 
 use crate::status::{FAULT, REFUSED};
 use std::fs::OpenFile;
@@ -22,8 +22,7 @@ pub enum Source<'a> {
 
 /// What a word of the command line names: standard input where it is `-` or absent, else a file.
 pub fn source_of<'a>(word: Option<&'a str>) -> Source<'a>
-    ensures { MatchOption word.entry (result ≡ Source.Input)
-        (λ w. (w.now ≡ codes "-" → result ≡ Source.Input) × (w.now ≢ codes "-" → result ≡ Source.File w)) }
+    ensures { IsSourceOf word.entry result }
 {
     match word {
         None | Some("-") => Source::Input,

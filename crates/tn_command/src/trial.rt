@@ -1,9 +1,8 @@
 // The trial of one specification.
-ghost use Rattle.std.specs.Prelude.{◌≡◌, ◌⊎◌, true};
+ghost use Rattle.std.specs.Prelude.{◌≡◌};
 ghost use Rattle.std.specs.Process.{exit_status};
-ghost use Rattle.tn_text.specs.Watch.{watched_inner, has_failed};
-ghost use Rattle.tn_command.specs.Status.{IsStatus, FAULT_STATUS};
-ghost use Rattle.tn_command.specs.Trials.{trial_status_of, IsTriedAs};
+ghost use Rattle.tn_command.specs.Status.{IsStatus, OnFaultUntouchedOrFailed};
+ghost use Rattle.tn_command.specs.Trials.{trial_status_of, TriedAs};
 
 use crate::noted::Noted;
 use crate::status::{FAULT, REFUSED};
@@ -57,10 +56,8 @@ pub fn perform_trial_over<A: Allocator + Copy, W: Write>(
     writer: &mut Watched<W>,
     question: &Question<'_>,
 ) -> Tried<A>
-    ensures written { IsTriedAs (exit_status result.status) question.now
-        (W.contents (watched_inner writer.old)) (W.contents (watched_inner writer.new)) result.answer }
-    ensures failed { exit_status result.status ≡ FAULT_STATUS →
-        (writer.new ≡ writer.old) ⊎ (has_failed writer.new ≡ true) }
+    ensures written { TriedAs result.status question.now W.contents writer.old writer.new result.answer }
+    ensures failed { OnFaultUntouchedOrFailed result.status writer.old writer.new }
     ensures status { IsStatus (exit_status result.status) }
     ensures answer { exit_status result.status ≡ trial_status_of result.answer }
 {
