@@ -1,10 +1,14 @@
 -- The parts of an output, and what adds them to a text.
-use Rattle.std.specs.Prelude.{◌≡◌, ℕ, List, ◌++◌, option_to_list, slice_get}
+use Rattle.std.specs.Prelude.{◌≡◌, ℕ, List, ◌++◌, Result, IfOk, option_to_list, slice_get}
 use Rattle.std.specs.declared.vec.Vec.{Vec}
 use Rattle.def_script.specs.Program.{Program}
 use Rattle.def_script.specs.Script.{creations}
 use Rattle.def_run.specs.Listing.{messages, listings_text, program_output}
 use Rattle.def_run.specs.Round.{round}
+use Rattle.tn_program.specs.declared.parts.Program as code
+use Rattle.tn_program.specs.Views.{program_of}
+use Rattle.tn_trace.specs.declared.transcript.Transcript.{Transcript}
+use Rattle.tn_trace.specs.Transcripts.{IsTranscript}
 
 -- the new text is the old one with these bytes behind it
 abbrev pub Adds : {A : Type 0} → List ℕ → Vec ℕ A → Vec ℕ A → Type 0
@@ -21,3 +25,11 @@ all_listings p picks = listings_text (λ s. messages s p picks) (creations p.com
 -- the output for the picks of a round with this limit
 abbrev pub output_of_round : Program → ℕ → List ℕ
 output_of_round p limit = program_output p (round p limit)
+
+-- this is so of the program and of whichever picks of it the transcript is of
+abbrev pub OnItsPicks : {A : Type 0} → code.Program A → Transcript A → (Program → List ℕ → Type 0) → Type 0
+OnItsPicks p t IsSo = (picks : List ℕ) → IsTranscript (program_of p) picks t → IsSo (program_of p) picks
+
+-- a call that went well added this text of the program and of whichever picks of it the transcript is of
+abbrev pub Lists : {A X E : Type 0} → (Program → List ℕ → List ℕ) → code.Program A → Transcript A → Result X E → Vec ℕ A → Vec ℕ A → Type 0
+Lists bytes p t result old new = OnItsPicks p t (λ q picks. IfOk result (λ _. Adds (bytes q picks) old new))

@@ -1,9 +1,8 @@
 // The text of an output.
-ghost use Rattle.std.specs.Prelude.{◌≡◌, List, ℕ, IfOk};
+ghost use Rattle.std.specs.Prelude.{◌≡◌, IfOk};
 ghost use Rattle.def_run.specs.Listing.{program_output};
 ghost use Rattle.tn_program.specs.Views.{program_of};
-ghost use Rattle.tn_trace.specs.Transcripts.{IsTranscript};
-ghost use Rattle.tn_listing.specs.Outputs.{Adds, listing_numbered, all_listings, output_of_round};
+ghost use Rattle.tn_listing.specs.Outputs.{OnItsPicks, Lists, listing_numbered, all_listings, output_of_round};
 
 use crate::listing::put_header;
 use crate::picks::write_picks;
@@ -18,8 +17,7 @@ fn append_listing<A: Allocator + Copy>(
     program: &Program<A>,
     number: usize,
 ) -> Result<(), AllocError>
-    ensures { (picks : List ℕ) → IsTranscript (program_of program.now) picks transcript.now →
-        IfOk result (λ _. Adds (listing_numbered (program_of program.now) picks number) text.old text.new) }
+    ensures { Lists (λ p picks. listing_numbered p picks number) program.now transcript.now result text.old text.new }
 {
     let Some((name, tracer)) = program.session_at(number) else {
         return Ok(());
@@ -38,8 +36,7 @@ fn append_listings<A: Allocator + Copy>(
     transcript: &Transcript<A>,
     program: &Program<A>,
 ) -> Result<(), AllocError>
-    ensures { (picks : List ℕ) → IsTranscript (program_of program.now) picks transcript.now →
-        IfOk result (λ _. Adds (all_listings (program_of program.now) picks) text.old text.new) }
+    ensures { Lists all_listings program.now transcript.now result text.old text.new }
 {
     for number in 0..program.session_count() {
         append_listing(text, transcript, program, number)?;
@@ -53,8 +50,7 @@ fn output<A: Allocator + Copy>(
     transcript: &Transcript<A>,
     program: &Program<A>,
 ) -> Result<Vec<u8, A>, AllocError>
-    ensures { (picks : List ℕ) → IsTranscript (program_of program.now) picks transcript.now →
-        IfOk result (λ v. v.items ≡ program_output (program_of program.now) picks) }
+    ensures { OnItsPicks program.now transcript.now (λ p picks. IfOk result (λ v. v.items ≡ program_output p picks)) }
 {
     let mut text = Vec::new(alloc);
     append_listings(&mut text, transcript, program)?;

@@ -1,7 +1,7 @@
 // The text of a list of picks, read and written.
-ghost use Rattle.std.specs.Prelude.{◌≡◌, ◌≢◌, ℕ, ◌^◌, ◌<◌, ◌==◌, List, position, [], ◌∷◌, MatchOption, IfOk, IfSome};
+ghost use Rattle.std.specs.Prelude.{◌≡◌, ◌≢◌, ℕ, ◌^◌, ◌<◌, ◌==◌, List, position, MatchOption, IfOk, IfSome};
 ghost use Rattle.std.specs.Prelude.{IsErrOf, length, decimal, ◌++◌, OnOk, OnErr};
-ghost use Rattle.tn_listing.specs.Pieces.{pieces};
+ghost use Rattle.tn_listing.specs.Pieces.{IsCutInto};
 ghost use Rattle.def_run.specs.Picks.{SpellsPicks, picks_text};
 ghost use Rattle.tn_text.specs.Writes.{Grows};
 
@@ -48,8 +48,7 @@ fn space_at(text: &[u8]) -> Option<usize>
 
 /// The first piece of a text, and what stands after its space.
 fn first_piece(text: &[u8]) -> (&[u8], Option<&[u8]>)
-    ensures cut { MatchOption result.1 (pieces text.now ≡ result.0.now ∷ [])
-        (λ rest. pieces text.now ≡ result.0.now ∷ pieces rest.now) }
+    ensures cut { IsCutInto text.now result.0.now result.1 }
     ensures shorter { IfSome result.1 (λ rest. length rest.now < length text.now) }
 {
     match space_at(text) {
