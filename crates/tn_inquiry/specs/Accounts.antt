@@ -1,5 +1,5 @@
 -- What is written of a run that is explained (own).
-use Rattle.std.specs.Prelude.{◌≡◌, ◌≢◌, ℕ, true, false, List, [], Option, Some, None, IfSome}
+use Rattle.std.specs.Prelude.{◌≡◌, ◌≢◌, ℕ, true, false, List, [], Option, Some, None, IfSome, Result, IsErrOf}
 use Rattle.std.specs.Io.KnownBytes.{Appends}
 use Rattle.def_term.specs.Names.{Name}
 use Rattle.def_script.specs.Program.{Program}
@@ -9,10 +9,15 @@ use Rattle.def_script.specs.Script.{Refusal, IsScript, IsRefused}
 use Rattle.def_run.specs.Picks.{SpellsPicks}
 use Rattle.def_run.specs.Output.{HasBadPicks, refusal_text}
 use Rattle.def_account.specs.Texts.{Asked, account_text}
+use Rattle.tn_text.specs.Watch.{watched_inner}
+use Rattle.tn_text.specs.declared.watched.Watched.{Watched}
 use Rattle.tn_account.specs.Asks.{asked_seen}
 use Rattle.tn_run.specs.Ends.{WritesFront}
 use Rattle.tn_run.specs.Plans.{TakesSome}
 use Rattle.tn_run.specs.Scripts.{refusal_of}
+use Rattle.tn_run.specs.declared.fault.RunFault.{RunFault}
+use Rattle.tn_run.specs.declared.fault.RunFault.TheVariants.{Write}
+use Rattle.tn_run.specs.declared.outcome.Refusal as code
 use Rattle.tn_inquiry.specs.declared.inquiry.Inquiry.{Inquiry}
 use Rattle.tn_inquiry.specs.declared.inquiry.Told.{Told}
 use Rattle.tn_inquiry.specs.declared.inquiry.Told.TheVariants.{Account, Refused, NoSession, NoMove}
@@ -66,6 +71,14 @@ abbrev pub IsToldOf : List ℕ → List ℕ → Asked → Told → List ℕ → 
 IsToldOf bytes spelled a (Refused r) text = IsRefusedSo bytes spelled (refusal_of r) × (text ≡ refusal_text (refusal_of r))
 IsToldOf bytes spelled a told text = IsAccepted bytes spelled a told text
 
+-- the same, for each text that spells these picks
+abbrev pub IsToldBy : List ℕ → List ℕ → Asked → Told → List ℕ → Type 0
+IsToldBy bytes picks a told text = (spelled : List ℕ) → SpellsPicks spelled picks → IsToldOf bytes spelled a told text
+
+-- a refusal is told, and its line is written
+abbrev pub IsToldRefusal : code.Refusal → Told → List ℕ → Type 0
+IsToldRefusal refusal told text = (told ≡ Refused refusal) × (text ≡ refusal_text (refusal_of refusal))
+
 -- ---- of a reader
 
 -- where the reader told its bytes, they give this
@@ -88,3 +101,23 @@ WritesSome bytes q old new n =
 -- a text was taken from the reader, where there are picks
 abbrev pub TakesFor : Inquiry → (old new : Option (List ℕ)) → Type 0
 TakesFor q old new = HasPicks q.picks.now → TakesSome old new
+
+-- ---- of a watched reader and writer, each with the function that tells the known bytes of what is watched
+
+-- the bytes that the reader had give this, for each text that spells these picks
+abbrev pub ToldBy : {R : Type 0} → (R → Option (List ℕ)) → Watched R → List ℕ → Asked → Told → List ℕ → Type 0
+ToldBy known reader picks a told text = TellsBy (known (watched_inner reader)) picks a told text
+
+-- the writer has gained what the bytes that the reader had give, and nothing else
+abbrev pub Wrote : {R W : Type 0} → (R → Option (List ℕ)) → Watched R → Inquiry → (W → Option (List ℕ)) → (old new : Watched W) → Told → Type 0
+Wrote known reader q gained old new told =
+    Writes (known (watched_inner reader)) q (gained (watched_inner old)) (gained (watched_inner new)) told
+
+-- where a write failed once n bytes were taken, the writer has gained the first n bytes of that
+abbrev pub WroteSome : {R W A : Type 0} → (R → Option (List ℕ)) → Watched R → Inquiry → (W → Option (List ℕ)) → (old new : Watched W) → Result A RunFault → Type 0
+WroteSome known reader q gained old new result =
+    (n : ℕ) → IsErrOf result (Write n) → WritesSome (known (watched_inner reader)) q (gained (watched_inner old)) (gained (watched_inner new)) n
+
+-- a text was taken from the reader, where there are picks
+abbrev pub TookFor : {R : Type 0} → Inquiry → (R → Option (List ℕ)) → (old new : Watched R) → Type 0
+TookFor q known old new = TakesFor q (known (watched_inner old)) (known (watched_inner new))

@@ -1,15 +1,12 @@
 // What is written of a run, before any of it is written.
 ghost use Rattle.std.specs.Prelude.{◌≡◌, ◌≢◌, ℕ, true, IfOk, IfErr, MatchResult, OnOk, IsErrOf};
-ghost use Rattle.def_run.specs.Picks.{SpellsPicks};
-ghost use Rattle.def_run.specs.Output.{HasBadPicks, refusal_text};
+ghost use Rattle.def_run.specs.Output.{HasBadPicks};
 ghost use Rattle.tn_text.specs.Watch.{watched_inner, has_failed};
 ghost use Rattle.tn_account.specs.Asks.{asked_seen};
 ghost use Rattle.tn_program.specs.Views.{program_of};
-ghost use Rattle.tn_run.specs.Ends.{TakesFront};
-ghost use Rattle.tn_run.specs.Plans.{TakesSome};
-ghost use Rattle.tn_run.specs.Scripts.{refusal_of};
-ghost use Rattle.tn_inquiry.specs.Accounts.{IsAnswer, IsToldOf, TellsBy, Tells, TakesFor};
-ghost use Rattle.tn_inquiry.specs.declared.inquiry.Told.{Told};
+ghost use Rattle.tn_run.specs.Ends.{TakesFront, LacksMemory};
+ghost use Rattle.tn_run.specs.Plans.{TookSome};
+ghost use Rattle.tn_inquiry.specs.Accounts.{IsAnswer, IsToldRefusal, IsToldBy, Tells, ToldBy, TookFor};
 
 use crate::inquiry::{Inquiry, Told};
 use crate::sessions::has_session;
@@ -23,8 +20,7 @@ use tn_text::{MAX_TEXT, Watched};
 
 /// The line of a refusal.
 fn refused<A: Allocator>(alloc: A, refusal: Refusal) -> Result<(Told, Vec<u8, A>), RunFault>
-    ensures { MatchResult result (λ r. (r.0 ≡ Told.Refused refusal) × (r.1.items ≡ refusal_text (refusal_of refusal)))
-        (λ e. e ≡ RunFault.OutOfMemory) }
+    ensures { MatchResult result (λ r. IsToldRefusal refusal r.0 r.1.items) LacksMemory }
 {
     let Ok(line) = refusal_bytes(alloc, refusal) else {
         return Err(RunFault::OutOfMemory);
@@ -61,8 +57,7 @@ fn answer_of<A: Allocator + Copy>(
     picks: &[u32],
     asked: &Asked<'_>,
 ) -> Result<(Told, Vec<u8, A>), RunFault>
-    ensures { MatchResult result (λ r. (spelled : _) → SpellsPicks spelled picks.now →
-        IsToldOf text.now spelled (asked_seen asked.now) r.0 r.1.items) (λ e. e ≡ RunFault.OutOfMemory) }
+    ensures { MatchResult result (λ r. IsToldBy text.now picks.now (asked_seen asked.now) r.0 r.1.items) LacksMemory }
 {
     let program = match accept(alloc, text) {
         Ok(program) => program,
@@ -82,10 +77,8 @@ fn prepare_picks<A: Allocator + Copy, R: Read>(
     picks: &[u32],
     asked: &Asked<'_>,
 ) -> Result<(Told, Vec<u8, A>), RunFault>
-    ensures answer { IfOk result
-        (λ r. TellsBy (R.remaining (watched_inner reader.old)) picks.now (asked_seen asked.now) r.0 r.1.items) }
-    ensures taken { OnOk result
-        (TakesSome (R.remaining (watched_inner reader.old)) (R.remaining (watched_inner reader.new))) }
+    ensures answer { IfOk result (λ r. ToldBy R.remaining reader.old picks.now (asked_seen asked.now) r.0 r.1.items) }
+    ensures taken { OnOk result (TookSome R.remaining reader.old reader.new) }
     ensures front { TakesFront (R.remaining (watched_inner reader.old)) (R.remaining (watched_inner reader.new)) }
     ensures unfailed { OnOk result (has_failed reader.new ≡ has_failed reader.old) }
     ensures read { IsErrOf result RunFault.Read → has_failed reader.new ≡ true }
@@ -106,8 +99,7 @@ pub fn prepare<A: Allocator + Copy, R: Read>(
     inquiry: &Inquiry<'_>,
 ) -> Result<(Told, Vec<u8, A>), RunFault>
     ensures answer { IfOk result (λ r. Tells (R.remaining (watched_inner reader.old)) inquiry.now r.0 r.1.items) }
-    ensures taken { OnOk result (TakesFor inquiry.now
-        (R.remaining (watched_inner reader.old)) (R.remaining (watched_inner reader.new))) }
+    ensures taken { OnOk result (TookFor inquiry.now R.remaining reader.old reader.new) }
     ensures front { TakesFront (R.remaining (watched_inner reader.old)) (R.remaining (watched_inner reader.new)) }
     ensures unread { HasBadPicks inquiry.now.picks.now → reader.new ≡ reader.old }
     ensures unfailed { OnOk result (has_failed reader.new ≡ has_failed reader.old) }

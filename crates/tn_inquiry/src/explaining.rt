@@ -2,8 +2,8 @@
 ghost use Rattle.std.specs.Prelude.{◌≡◌, ℕ, true, IfOk, OnOk, IsErrOf};
 ghost use Rattle.def_run.specs.Output.{HasBadPicks};
 ghost use Rattle.tn_text.specs.Watch.{watched_inner, has_failed, is_flushed};
-ghost use Rattle.tn_run.specs.Ends.{TakesFront};
-ghost use Rattle.tn_inquiry.specs.Accounts.{Writes, WritesSome, TakesFor};
+ghost use Rattle.tn_run.specs.Ends.{TakesFront, OnWriteFault};
+ghost use Rattle.tn_inquiry.specs.Accounts.{Wrote, WroteSome, TookFor};
 
 use crate::answers::prepare;
 use crate::inquiry::{Inquiry, Told};
@@ -25,12 +25,10 @@ pub fn explain<A: Allocator + Copy, R: Read, W: Write>(
     inquiry: &Inquiry<'_>,
 ) -> Result<Told, RunFault>
     // Where the reader tells its bytes; where the writer does too, it gained what is written alone.
-    ensures done { IfOk result (Writes (R.remaining (watched_inner reader.old)) inquiry.now
-        (W.contents (watched_inner writer.old)) (W.contents (watched_inner writer.new))) }
+    ensures done { IfOk result (Wrote R.remaining reader.old inquiry.now W.contents writer.old writer.new) }
     // Where the picks are none, nothing was read; else all, up to one byte past the limit.
     ensures unread { HasBadPicks inquiry.now.picks.now → reader.new ≡ reader.old }
-    ensures taken { OnOk result (TakesFor inquiry.now
-        (R.remaining (watched_inner reader.old)) (R.remaining (watched_inner reader.new))) }
+    ensures taken { OnOk result (TookFor inquiry.now R.remaining reader.old reader.new) }
     // Whatever the answer, nothing else was taken of the reader than some bytes at its front.
     ensures front { TakesFront (R.remaining (watched_inner reader.old)) (R.remaining (watched_inner reader.new)) }
     ensures reader_unfailed { OnOk result (has_failed reader.new ≡ has_failed reader.old) }
@@ -41,10 +39,8 @@ pub fn explain<A: Allocator + Copy, R: Read, W: Write>(
     ensures read { IsErrOf result RunFault.Read → has_failed reader.new ≡ true }
     ensures read_wrote_nothing { IsErrOf result RunFault.Read → writer.new ≡ writer.old }
     ensures write { (n : ℕ) → IsErrOf result (RunFault.Write n) → has_failed writer.new ≡ true }
-    ensures written { (n : ℕ) → IsErrOf result (RunFault.Write n) → WritesSome (R.remaining (watched_inner reader.old))
-        inquiry.now (W.contents (watched_inner writer.old)) (W.contents (watched_inner writer.new)) n }
-    ensures write_took { (n : ℕ) → IsErrOf result (RunFault.Write n) → TakesFor inquiry.now
-        (R.remaining (watched_inner reader.old)) (R.remaining (watched_inner reader.new)) }
+    ensures written { WroteSome R.remaining reader.old inquiry.now W.contents writer.old writer.new result }
+    ensures write_took { OnWriteFault result (TookFor inquiry.now R.remaining reader.old reader.new) }
     ensures memory { IsErrOf result RunFault.OutOfMemory → has_failed reader.new ≡ has_failed reader.old }
     ensures memory_wrote_nothing { IsErrOf result RunFault.OutOfMemory → writer.new ≡ writer.old }
 {
