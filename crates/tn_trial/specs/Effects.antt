@@ -1,5 +1,5 @@
--- The parts of the texts of effects.
-use Rattle.std.specs.Prelude.{ℕ, Bool, if◌then◌else◌, List, [], ◌∷◌, ◌++◌, codes}
+-- The parts of the texts of effects, and what one effect does.
+use Rattle.std.specs.Prelude.{◌≡◌, ℕ, Bool, if◌then◌else◌, List, [], ◌∷◌, ◌++◌, codes}
 use Rattle.std.specs.Borrow.{Bor}
 use Rattle.def_spec.specs.Expressions.{Effect}
 use Rattle.def_explain.specs.Texts.{effect_text}
@@ -16,3 +16,7 @@ said_of verb (e ∷ es) = said_where e.1 verb e.0.now ++ said_of verb es
 -- an effect behind a comma
 abbrev pub next_effect_text : Effect → List ℕ
 next_effect_text e = codes ", " ++ effect_text e
+
+-- one effect makes the new state of the old one: whichever effects are behind it, they end the same
+abbrev pub StepsTo : {S : Type 0} → (S → List Effect → S) → S → Effect → S → Type 0
+StepsTo behind old e new = (es : List Effect) → behind old (e ∷ es) ≡ behind new es

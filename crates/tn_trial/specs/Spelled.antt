@@ -1,8 +1,9 @@
 -- What is spelled of the code's expressions.
-use Rattle.std.specs.Prelude.{ℕ, ◌∷◌, drop, decimal}
+use Rattle.std.specs.Prelude.{ℕ, List, ◌∷◌, drop, decimal}
 use Rattle.std.specs.declared.vec.Vec.{Vec}
 use Rattle.def_term.specs.Tree.{Trees}
 use Rattle.def_term.specs.Names.{Name}
+use Rattle.def_term.specs.Text.{joined, each_after_comma}
 use Rattle.def_explain.specs.Spellings.{spellings}
 use Rattle.tn_spec.specs.Views.{exprs_seen}
 use Rattle.tn_spec.specs.declared.expr.Expr.{Expr}
@@ -11,7 +12,15 @@ use Rattle.tn_spec.specs.declared.expr.Expr.{Expr}
 abbrev pub spelled_list : {A : Type 0} → Vec (Expr A) A → Trees
 spelled_list v = spellings (exprs_seen v.items)
 
--- of those behind the first so many
+-- their texts, with a comma between any two
+abbrev pub joined_texts : {A : Type 0} → Vec (Expr A) A → List ℕ
+joined_texts v = joined (spelled_list v)
+
+-- their texts, each behind a comma
+abbrev pub behind_commas : {A : Type 0} → Vec (Expr A) A → List ℕ
+behind_commas v = each_after_comma (spelled_list v)
+
+-- the terms that spell those behind the first so many
 abbrev pub spelled_behind : {A : Type 0} → ℕ → Vec (Expr A) A → Trees
 spelled_behind n v = spellings (exprs_seen (drop n v.items))
 

@@ -1,21 +1,28 @@
 -- The texts of trials, of the code's specifications and contexts.
-use Rattle.std.specs.Prelude.{ℕ, List, [], ◌∷◌, ◌++◌, Option, codes, map}
+use Rattle.std.specs.Prelude.{◌≡◌, ℕ, List, [], ◌∷◌, ◌++◌, Option, Result, OnOk, codes, map}
 use Rattle.std.specs.Option.{option_map}
 use Rattle.std.specs.Borrow.{Bor}
 use Rattle.std.specs.declared.alloc.Allocator.{Ghosts}
+use Rattle.std.specs.declared.vec.Vec.{Vec}
 use Rattle.def_term.specs.Tree.{Tree}
-use Rattle.def_spec.specs.Matching.{Bindings}
 use Rattle.def_spec.specs.Expressions.{Dialect, Effect}
 use Rattle.def_session.specs.Messages.{last_message, later}
 use Rattle.def_explain.specs.Reasons.{Reason}
 use Rattle.def_explain.specs.Texts.{clause_text, reason_text, effects_text, end_text, fires_text, trial_text}
 use Rattle.tn_term.specs.Views.{tree_of}
 use Rattle.tn_term.specs.declared.term.Term.{Term}
+use Rattle.tn_head.specs.Views.{bindings_seen}
+use Rattle.tn_head.specs.declared.bindings.Bindings.{Bindings}
 use Rattle.tn_spec.specs.Views.{dialect_of, clause_seen}
 use Rattle.tn_spec.specs.declared.spec.Spec.{Spec}
-use Rattle.tn_action.specs.Views.{context_seen}
+use Rattle.tn_action.specs.Views.{context_seen, effect_seen}
 use Rattle.tn_action.specs.declared.context.Context.{Context}
+use Rattle.tn_action.specs.declared.effect.Effect as code
 use Rattle.tn_trial.specs.declared.trial.Trial.{Trial}
+
+-- a call that went well left these bytes behind the old text
+abbrev pub Appends : {A X E : Type 0} → List ℕ → Result X E → Vec ℕ A → Vec ℕ A → Type 0
+Appends bytes result old new = OnOk result (new.items ≡ old.items ++ bytes)
 
 -- the term that is lent, where there is one
 abbrev pub lent_tree : {A : Type 0} → Option (Bor (Term A)) → Option Tree
@@ -43,8 +50,8 @@ message_line d me es = codes "=> " ++ end_text d me es ++ 10 ∷ []
 
 module _ {A : Type 0} {G : Ghosts A} (t : Trial A G) where
   -- the lines of a clause that fires
-  abbrev pub fired_text : ℕ → Bindings → List Effect → List ℕ
-  fired_text n b es = fires_text (dialect_of t.spec.now.dialect) t.context.now.me n b es
+  abbrev pub fired_text : {B : Type 0} → ℕ → Bindings A B → List (code.Effect A) → List ℕ
+  fired_text n b es = fires_text (dialect_of t.spec.now.dialect) t.context.now.me n (bindings_seen b) (map effect_seen es)
 
   -- all lines
   abbrev pub trial_in : List ℕ

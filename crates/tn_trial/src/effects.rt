@@ -1,13 +1,12 @@
 // The texts of effects.
-ghost use Rattle.std.specs.Prelude.{◌≡◌, ◌++◌, ◌∷◌, ℕ, List, OnOk, false, map};
+ghost use Rattle.std.specs.Prelude.{◌≡◌, ◌++◌, ℕ, List, OnOk, false, map};
 ghost use Rattle.def_term.specs.Text.{pid_text};
-ghost use Rattle.def_spec.specs.Expressions as ex;
 ghost use Rattle.def_spec.specs.Flags.{flags_by_name};
 ghost use Rattle.def_explain.specs.Texts.{silent_text, effect_text, effects_text, said_of_each, silent_behind};
 ghost use Rattle.tn_flags.specs.Views.{flags_of};
 ghost use Rattle.tn_action.specs.Views.{effect_seen};
 ghost use Rattle.tn_text.specs.Writes.{Grows};
-ghost use Rattle.tn_trial.specs.Effects.{said_where, said_of, next_effect_text};
+ghost use Rattle.tn_trial.specs.Effects.{said_where, said_of, next_effect_text, StepsTo};
 
 use std::alloc::{AllocError, Allocator};
 use tn_action::Effect;
@@ -151,8 +150,7 @@ pub fn is_silent<A: Allocator>(me: u32, effects: &[Effect<A>]) -> bool
 
 /// The same behind one effect.
 fn silent_after<A: Allocator>(me: u32, silent: bool, effect: &Effect<A>) -> bool
-    ensures { (es : List ex.Effect) →
-        silent_behind me silent (effect_seen effect.now ∷ es) ≡ silent_behind me result es }
+    ensures { StepsTo (silent_behind me) silent (effect_seen effect.now) result }
 {
     match effect {
         Effect::Silent(on) => *on,

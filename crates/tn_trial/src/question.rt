@@ -201,8 +201,7 @@ fn specification<A: Allocator + Copy>(
     text: &[u8],
     dialect: Dialect,
 ) -> Result<Spec<A>, QuestionFault<A>>
-    ensures { MatchResult result (λ s. IsSpecificationRead text.now dialect s)
-        (λ fault. IsSpecificationFault text.now dialect fault) }
+    ensures { MatchResult result (IsSpecificationRead text.now dialect) (IsSpecificationFault text.now dialect) }
 {
     let term = match read_term(alloc, text) {
         Ok(term) => term,

@@ -1,11 +1,11 @@
 // The text of the term that spells an expression.
 ghost use Rattle.std.specs.Prelude.{◌≡◌, ◌++◌, ◌∷◌, [], OnOk};
-ghost use Rattle.def_term.specs.Text.{w, joined, each_after_comma, atom_text};
+ghost use Rattle.def_term.specs.Text.{w, each_after_comma, atom_text};
 ghost use Rattle.def_explain.specs.Spellings.{spelling, is_itself, reads_as_itself, constant_spelling};
 ghost use Rattle.tn_term.specs.Views.{tree_of};
 ghost use Rattle.tn_spec.specs.Views.{expr_seen};
 ghost use Rattle.tn_text.specs.Writes.{Grows};
-ghost use Rattle.tn_trial.specs.Spelled.{spelled_list, spelled_behind, variable_name};
+ghost use Rattle.tn_trial.specs.Spelled.{joined_texts, behind_commas, spelled_behind, variable_name};
 
 use crate::names::{action_text, function_text};
 use itoa::Buffer;
@@ -43,8 +43,7 @@ fn put_tuple<A: Allocator, B: Allocator>(
     exprs: &Vec<Expr<A>, A>,
     out: &mut Vec<u8, B>,
 ) -> Result<(), AllocError>
-    ensures ok { OnOk result (out.new.items ≡
-        out.old.items ++ 123 ∷ 123 ∷ joined (spelled_list exprs.now) ++ 125 ∷ 125 ∷ []) }
+    ensures ok { OnOk result (out.new.items ≡ out.old.items ++ 123 ∷ 123 ∷ joined_texts exprs.now ++ 125 ∷ 125 ∷ []) }
     ensures grows { Grows out.old.items out.new.items }
 {
     out.extend_from_slice(b"{{")?;
@@ -58,7 +57,7 @@ fn put_list<A: Allocator, B: Allocator>(
     exprs: &Vec<Expr<A>, A>,
     out: &mut Vec<u8, B>,
 ) -> Result<(), AllocError>
-    ensures ok { OnOk result (out.new.items ≡ out.old.items ++ 91 ∷ joined (spelled_list exprs.now) ++ 93 ∷ []) }
+    ensures ok { OnOk result (out.new.items ≡ out.old.items ++ 91 ∷ joined_texts exprs.now ++ 93 ∷ []) }
     ensures grows { Grows out.old.items out.new.items }
 {
     out.push(b'[')?;
@@ -74,8 +73,7 @@ fn put_named<A: Allocator, B: Allocator>(
     exprs: &Vec<Expr<A>, A>,
     out: &mut Vec<u8, B>,
 ) -> Result<(), AllocError>
-    ensures ok { OnOk result (out.new.items ≡
-        out.old.items ++ 123 ∷ name.now ++ each_after_comma (spelled_list exprs.now) ++ 125 ∷ []) }
+    ensures ok { OnOk result (out.new.items ≡ out.old.items ++ 123 ∷ name.now ++ behind_commas exprs.now ++ 125 ∷ []) }
     ensures grows { Grows out.old.items out.new.items }
 {
     out.push(b'{')?;
@@ -91,7 +89,7 @@ fn put_all<A: Allocator, B: Allocator>(
     exprs: &Vec<Expr<A>, A>,
     out: &mut Vec<u8, B>,
 ) -> Result<(), AllocError>
-    ensures ok { OnOk result (out.new.items ≡ out.old.items ++ joined (spelled_list exprs.now)) }
+    ensures ok { OnOk result (out.new.items ≡ out.old.items ++ joined_texts exprs.now) }
     ensures grows { Grows out.old.items out.new.items }
 {
     if exprs.is_empty() {

@@ -1,7 +1,6 @@
 // What becomes of the clauses of a specification.
-ghost use Rattle.std.specs.Prelude.{◌≡◌, ◌++◌, ◌∷◌, List, [], OnOk, OnErr, flat_map, map};
+ghost use Rattle.std.specs.Prelude.{◌≡◌, ◌++◌, [], OnOk, OnErr, flat_map, map};
 ghost use Rattle.def_session.specs.Messages as messages;
-ghost use Rattle.def_spec.specs.Expressions as ex;
 ghost use Rattle.def_explain.specs.Texts.{binding_line, ending_text, end_text, clause_text};
 ghost use Rattle.tn_guard.specs.Views.{value_seen};
 ghost use Rattle.tn_head.specs.Views.{binding_seen, bindings_seen};
@@ -10,7 +9,8 @@ ghost use Rattle.tn_action.specs.Views.{effect_seen};
 ghost use Rattle.tn_reason.specs.Views.{reason_seen};
 ghost use Rattle.tn_text.specs.Writes.{Grows};
 ghost use Rattle.tn_trial.specs.Trials.{lent_tree, message_behind, trial_of, trial_in, failed_text, fired_text};
-ghost use Rattle.tn_trial.specs.Trials.{fires_line, message_line};
+ghost use Rattle.tn_trial.specs.Trials.{fires_line, message_line, Appends};
+ghost use Rattle.tn_trial.specs.Effects.{StepsTo};
 
 use crate::effects::{is_silent, put_effects};
 use crate::reasons::{put_number, put_reason, put_value};
@@ -78,8 +78,7 @@ fn message_or<'e, A: Allocator>(
     before: Option<&'e Term<A>>,
     effect: &'e Effect<A>,
 ) -> Option<&'e Term<A>>
-    ensures { (es : List ex.Effect) →
-        message_behind (lent_tree before.entry) (effect_seen effect.now ∷ es) ≡ message_behind (lent_tree result) es }
+    ensures { StepsTo message_behind (lent_tree before.entry) (effect_seen effect.now) (lent_tree result) }
 {
     match effect {
         Effect::Message(term) => Some(term),
@@ -127,8 +126,7 @@ fn put_end<A: Allocator, B: Allocator>(
     effects: &[Effect<A>],
     out: &mut Vec<u8, B>,
 ) -> Result<(), AllocError>
-    ensures ok { OnOk result (out.new.items ≡
-        out.old.items ++ end_text (dialect_of dialect) me (map effect_seen effects.now)) }
+    ensures ok { Appends (end_text (dialect_of dialect) me (map effect_seen effects.now)) result out.old out.new }
     ensures grows { Grows out.old.items out.new.items }
 {
     if let Dialect::Call = dialect {
@@ -171,8 +169,7 @@ fn put_message<A: Allocator, B: Allocator>(
     effects: &[Effect<A>],
     out: &mut Vec<u8, B>,
 ) -> Result<(), AllocError>
-    ensures ok { OnOk result (out.new.items ≡
-        out.old.items ++ message_line (dialect_of dialect) me (map effect_seen effects.now)) }
+    ensures ok { Appends (message_line (dialect_of dialect) me (map effect_seen effects.now)) result out.old out.new }
     ensures grows { Grows out.old.items out.new.items }
 {
     out.extend_from_slice(b"=> ")?;
@@ -218,8 +215,7 @@ impl<'a, 'c, A: Allocator + Copy> Trial<'a, 'c, A> {
         effects: &[Effect<A>],
         out: &mut Vec<u8, B>,
     ) -> Result<(), AllocError>
-        ensures ok { OnOk result (out.new.items ≡ out.old.items ++
-            fired_text self.now before (bindings_seen bindings.now) (map effect_seen effects.now)) }
+        ensures ok { Appends (fired_text self.now before bindings.now effects.now) result out.old out.new }
         ensures grows { Grows out.old.items out.new.items }
     {
         put_fires(before, effects, out)?;
