@@ -24,10 +24,10 @@ IsNumberOf text n =
     let digits = without_leading_plus text in
     SomeIff n (IsNumeral 10 digits × (digits_value 10 digits < 2 ^ 32)) (digits_value 10 digits)
 
--- standard input where the word is `-` or absent, else the file with that path
-abbrev pub IsSourceOf : Option (List ℕ) → Source → Type 0
-IsSourceOf None s = s ≡ Input
-IsSourceOf (Some path) s =
+-- the source that a text names: standard input where it is `-` or absent, else the file with that path
+abbrev pub IsSourceNamed : Option (List ℕ) → Source → Type 0
+IsSourceNamed None s = s ≡ Input
+IsSourceNamed (Some path) s =
     (path ≡ codes "-" → s ≡ Input) × (path ≢ codes "-" → (w : Bor (List ℕ)) × (s ≡ File w) × (w.now ≡ path))
 
 -- what a specification of this event is for

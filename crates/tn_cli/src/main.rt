@@ -8,7 +8,7 @@
 ghost use Rattle.std.specs.Prelude.{◌≡◌, Some, None, codes, option_map};
 ghost use Rattle.std.specs.Process.{exit_status};
 ghost use Rattle.tn_command.specs.Status.{IsStatus};
-ghost use Rattle.tn_cli.specs.Asks.{IsNumberOf, IsSourceOf, dialect_named, numeral_of, text_of};
+ghost use Rattle.tn_cli.specs.Asks.{IsNumberOf, IsSourceNamed, dialect_named, numeral_of, text_of};
 
 mod line;
 
@@ -34,7 +34,7 @@ use tn_trial::Question;
 
 /// Where the script of a subcommand is read from.
 fn script<'a>(matches: &'a ArgMatches<'_>) -> Source<'a>
-    ensures { IsSourceOf (text_of matches.now (codes "script")) result }
+    ensures { IsSourceNamed (text_of matches.now (codes "script")) result }
 {
     source_of(matches.get_str("script"))
 }
