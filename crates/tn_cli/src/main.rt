@@ -115,8 +115,8 @@ fn run_by_picks<R: Input + Files + Print + Eprint + AllocGlobal>(
 /// The session and the move that `explain` is asked for.
 fn asked<'a>(matches: &'a ArgMatches<'_>) -> Asked<'a>
     ensures session { option_map (λ s. s.now) result.session ≡ text_of matches.now (codes "session") }
-    ensures every_move { numeral_of matches.now (codes "move") ≡ None → result.move_number ≡ None }
-    ensures one_move { (t : _) → numeral_of matches.now (codes "move") ≡ Some t → IsNumberOf t result.move_number }
+    ensures all { numeral_of matches.now (codes "move") ≡ None → result.move_number ≡ None }
+    ensures one { (t : _) → numeral_of matches.now (codes "move") ≡ Some t → IsNumberOf t result.move_number }
 {
     Asked {
         session: matches.get_str("session"),
