@@ -79,11 +79,42 @@ SECOND_COMMAND = """2 0 {function,s1,{m,'_','_'},true,[local]}
 LAST_MOVE = """9 101 nothing
 """
 
-# A script, the words of an explanation behind its picks, and its text.
+# A call that fails, marked for exceptions in s1 and for returns in s2.
+FAILS = """{function,m,go,exported,[],[{'catch','X',{m,f},[1]}]}.
+{function,m,f,exported,['X'],[{error,{bad,'X'}}]}.
+{process,m,go,[]}.
+{control,[{session_create,s1,t1,[]},{process,s1,all,true,[call]},{function,s1,{m,f,1},[{'_',[],[{exception_trace}]}],[]},
+  {session_create,s2,t2,[]},{process,s2,all,true,[call]},{function,s2,{m,f,1},[{'_',[],[{return_trace}]}],[]},
+  {session_create,s3,t3,[]},{process,s3,all,true,[call]}]}.
+"""
+
+FAILS_PICKS = "0 0 0 0 0 0 0 0 100 100 100"
+
+MARKING_CALL = """10 100 <0.100.0> call {m,f,[1]}
+  s1: clause 1 fires: exception_trace
+  s1: => {trace,<0.100.0>,call,{m,f,[1]}}
+  s1: the call is marked for exceptions
+  s2: clause 1 fires: return_trace
+  s2: => {trace,<0.100.0>,call,{m,f,[1]}}
+  s2: the call is marked
+  s3: no setting for m:f/1
+"""
+
+EXCEPTION = """11 100 <0.100.0> exception_from {m,f,1} {error,{bad,1}}
+  s1: => {trace,<0.100.0>,exception_from,{m,f,1},{error,{bad,1}}}
+  s1: the mark is gone
+  s2: the call is marked for returns alone
+  s2: the mark is gone
+  s3: the call has no mark
+"""
+
+# A script, its picks, further words of an explanation, and its text.
 ACCOUNTS = (
-    (SENDS, (), WHOLE),
-    (SENDS, ("--session", "s2"), SECOND_SESSION),
-    (SENDS, ("--move", "5"), FIFTH_MOVE),
-    (COMMANDS, ("--move", "2"), SECOND_COMMAND),
-    (COMMANDS, ("--move", "9"), LAST_MOVE),
+    (SENDS, PICKS, (), WHOLE),
+    (SENDS, PICKS, ("--session", "s2"), SECOND_SESSION),
+    (SENDS, PICKS, ("--move", "5"), FIFTH_MOVE),
+    (COMMANDS, PICKS, ("--move", "2"), SECOND_COMMAND),
+    (COMMANDS, PICKS, ("--move", "9"), LAST_MOVE),
+    (FAILS, FAILS_PICKS, ("--move", "10"), MARKING_CALL),
+    (FAILS, FAILS_PICKS, ("--move", "11"), EXCEPTION),
 )

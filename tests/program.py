@@ -18,6 +18,7 @@ import sys
 import tempfile
 
 import accounts
+import contracts
 import readings
 import values
 from refusals import REFUSALS
@@ -230,9 +231,9 @@ def blocks(lines):
     return [[line[4:] for line in block.splitlines()] for block in re.findall(r"(?:^    .*\n)+", "\n".join(lines) + "\n", re.M)]
 
 
-EVERY_LINE = ["--picks", " ".join(["0"] * 6 + ["100"] * 16 + ["101"] * 2)]
+EVERY_LINE = ["--picks", " ".join(["0"] * 8 + ["100"] * 19 + ["101"] * 2)]
 NO_SESSION = b"error: the script creates no session s9\n"
-NO_MOVE = b"error: the run has no move 25\n"
+NO_MOVE = b"error: the run has no move 30\n"
 
 
 def is_line(said, told):
@@ -257,14 +258,14 @@ def explanations():
     for row in table:
         said = row.split("`")[1]
         check(f"the line {said}", is_line(said, told), told)
-    check("a move that shows nothing", told[-1] == "24 101 nothing", told)
+    check("a move that shows nothing", told[-1] == "29 101 nothing", told)
     listing = run(["replay", *EVERY_LINE], every).stdout.decode().partition("== replies\n")[0].splitlines()[1:]
     arrows = [line.partition("=> ")[2] for line in told if line.startswith("  s: => ")]
     check("the messages of an explanation are the listing's", arrows == listing, (arrows, listing))
-    moves = [run(["explain", *EVERY_LINE, "--move", str(number)], every).stdout for number in range(1, 25)]
+    moves = [run(["explain", *EVERY_LINE, "--move", str(number)], every).stdout for number in range(1, 30)]
     check("the moves of an explanation are its whole", b"".join(moves) == whole.stdout, moves)
-    for script, words, account in accounts.ACCOUNTS:
-        ran = run(["explain", "--picks", accounts.PICKS, *words], script.encode())
+    for script, picks, words, account in accounts.ACCOUNTS:
+        ran = run(["explain", "--picks", picks, *words], script.encode())
         wants(f"the account {' '.join(words)} of {script[:60]}", ran, 0, account.encode())
     two = (EXAMPLES / "two_sessions.term").read_bytes()
     picks = ["explain", "--picks", "0 0 0 0 100 0 100"]
@@ -274,7 +275,7 @@ def explanations():
         ran = run([*picks, "--session", name], two)
         check(f"the session {name} alone", ran.stdout.decode().splitlines() == wanted and ran.returncode == 0, ran)
     wants("an unknown session", run(["explain", *EVERY_LINE, "--session", "s9"], every), 2, b"", NO_SESSION)
-    wants("a move past the last", run(["explain", *EVERY_LINE, "--move", "25"], every), 2, b"", NO_MOVE)
+    wants("a move past the last", run(["explain", *EVERY_LINE, "--move", "30"], every), 2, b"", NO_MOVE)
     ran = run(["explain", *EVERY_LINE, "--move", "0"], every)
     wants("a move 0", ran, 2, b"", b"error: the run has no move 0\n")
     wants("no move", run(["explain", "--picks", ""], every), 0, b"")
@@ -289,8 +290,8 @@ def explanations():
         script, picks = pathlib.Path(folder) / "script.term", pathlib.Path(folder) / "picks"
         script.write_bytes(every)
         picks.write_text(EVERY_LINE[1])
-        ran = run(["explain", str(script), "--picks-file", str(picks), "--move", "24"])
-        wants("an explanation of files", ran, 0, b"24 101 nothing\n")
+        ran = run(["explain", str(script), "--picks-file", str(picks), "--move", "29"])
+        wants("an explanation of files", ran, 0, b"29 101 nothing\n")
         there = os.open(folder, os.O_RDONLY)
         command = [str(PROGRAM), "explain", *EVERY_LINE]
         ran = subprocess.run(command, stdin=there, stdout=subprocess.PIPE, stderr=subprocess.PIPE, check=False)
@@ -419,6 +420,12 @@ clause 2 fires: message {second,hi}
   '$1' is hi
 => a message that ends in {second,hi}
 """
+
+
+def promises():
+    """The contracts and the wrong bodies that docs/PROMISES.md lists, held against the crates."""
+    for name, holds, seen in contracts.findings():
+        check(name, holds, seen)
 
 
 def trials():
@@ -600,10 +607,10 @@ def refused_growth(library, number, words, script):
 
 
 def preloaded(name, folder):
-    """The library that tests/NAME.c is compiled to; None where there is no C compiler."""
+    """The library that tests/NAME.c is compiled to. Without a C compiler the case fails, and there is none."""
     compiler = shutil.which("cc") or shutil.which("gcc") or shutil.which("clang")
     if not compiler:
-        print(f"{name}: not run, since there is no C compiler")
+        check(f"{name}: a C compiler", False, "install Debian's package gcc")
         return None
     library = pathlib.Path(folder) / f"{name}.so"
     source = TOP / "tests" / f"{name}.c"
@@ -611,7 +618,7 @@ def preloaded(name, folder):
     return library
 
 
-# Worked runs whose sessions set specifications, inherit flags, enable one another and are destroyed.
+# Worked runs whose sessions set specifications, inherit flags, enable one another and are destroyed, and one that fails.
 GROWING = (
     "guard-fault-skips-clause",
     "caller-of-each-call",
@@ -619,6 +626,7 @@ GROWING = (
     "set-on-first-spawn",
     "enable-on-another-pid",
     "two-sessions",
+    "caught-error",
 )
 
 
@@ -710,8 +718,8 @@ def main():
         print("the program is not built")
         print("0 passed, 1 failed")
         sys.exit(1)
-    parts = (rows, plain, tries, files, documents, examples, workers, explanations, trials, functions, specifications, refusals)
-    parts += (long_texts, passes, command_lines, ends, memory, growths, fronts, failing_ends, starts)
+    parts = (rows, plain, tries, files, documents, promises, examples, workers, explanations, trials, functions)
+    parts += (specifications, refusals, long_texts, passes, command_lines, ends, memory, growths, fronts, failing_ends, starts)
     for part in parts:
         try:
             part()

@@ -87,6 +87,39 @@ REFUSALS = [
         "script.term:1: form 1: variable not bound: 'Y' in step 2 of function m:f/1",
     ),
     (
+        "{function,m,f,exported,[],[{'catch','X',{m,g},[1,2]}]}.",
+        "script.term:1: form 1: not declared: function m:g/2, in step 1",
+    ),
+    (
+        "{function,m,f,internal,[],[]}.\n{function,m,g,exported,[],[{return,1},{'catch','_',{m,f},[]}]}.",
+        "script.term:2: form 2: not exported: function m:f/0 is internal, in step 2",
+    ),
+    (
+        "{function,m,f,exported,['X'],[{'catch','Y',{m,f},['Y']},{return,'Y'}]}.",
+        "script.term:1: form 1: variable not bound: 'Y' in step 1 of function m:f/1",
+    ),
+    (
+        "{function,m,f,exported,[],[{error,[a,'Y']}]}.",
+        "script.term:1: form 1: variable not bound: 'Y' in step 1 of function m:f/0",
+    ),
+    (
+        "{function,m,f,exported,['X'],[{'catch','_',{m,f},[]}]}.",
+        "script.term:1: form 1: wrong number of arguments: function m:f/0 is declared with 1 arguments, in step 1",
+    ),
+    (
+        "{function,m,f,exported,[],[{catch,'X',{m,f},[]}]}.",
+        "script.term:1:29: syntax error: a term or '}' expected, found the reserved word catch: "
+        "reserved words are written in quotes, 'catch'",
+    ),
+    (
+        "{function,m,f,exported,[],[{'catch','X',f,[]}]}.",
+        "script.term:1: form 1: no form has this shape: step 1: {M,F} must be two names, found f",
+    ),
+    (
+        "{function,m,f,exported,[],[{throw,1,2}]}.",
+        "script.term:1: form 1: no form has this shape: step 1: {throw,T} has 2 elements, found 3",
+    ),
+    (
         "{control,[{session_create,a,t,[]},{session_create,b,t,[]}]}.",
         "script.term:1: form 1: tracer taken: t is the tracer of session a",
     ),

@@ -83,3 +83,48 @@ def integers_in(term):
 
 # A specification that every node refuses.
 REFUSED = [(Atom("refused"), [], [])]
+
+# The actions that change flags of a process, and all that have an effect.
+CHANGES = ("enable_trace", "disable_trace")
+EFFECTS = (*CHANGES, "message", "silent")
+
+
+def effects_in(expression):
+    """How many calls with an effect an expression has."""
+    found = []
+    changed_expression(expression, lambda call: found.append(call) or call)
+    return sum(call[0] in EFFECTS for call in found)
+
+
+def order_shows(expression):
+    """Two effects stand in the arguments of one call, or in one tuple, whose order a node turns round."""
+    found = []
+
+    def look(call):
+        if call[0] not in ("andalso", "orelse"):
+            found.append(sum(bool(effects_in(part)) for part in call[1:]) > 1)
+        return call
+
+    def tuples(term):
+        if isinstance(term, tuple) and len(term) == 1 and isinstance(term[0], tuple):
+            found.append(sum(bool(effects_in(part)) for part in term[0]) > 1)
+        if isinstance(term, (tuple, list)):
+            for part in term:
+                tuples(part)
+
+    changed_expression(expression, look)
+    tuples(expression)
+    return any(found)
+
+
+def is_plain(specification, dialect):
+    """Nothing shows in it that no change of the question hides: no order of effects, no change after one that may take
+    the last flag, and no such change by a send, which may end a node of OTP 25."""
+    for clause in specification:
+        calls = calls_in([(*clause[:1], [], *clause[2:3])])
+        changes = [call[0] == "disable_trace" for call in calls if call[0] in CHANGES]
+        if any(order_shows(expression) for expression in clause[2:3]):
+            return False
+        if (True in changes and len(changes) > 1) or (dialect == SENDS and True in changes):
+            return False
+    return True

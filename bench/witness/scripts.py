@@ -3,8 +3,8 @@ import collections
 
 from witness.chooser import Chooser
 from witness.differences import commands_of
-from witness.expressions import CALLS, FLAGS, RECEIVES, SENDS, calls_in, integers_in, is_specification
-from witness.functions import Function, module_text
+from witness.expressions import CALLS, CHANGES, FLAGS, RECEIVES, SENDS, calls_in, integers_in, is_specification
+from witness.functions import Function, LAST, module_text
 from witness.terms import ANYTHING, Atom, FALSE, Pid, Reader, TRUE, line_is, pid_of, quoted, text, to_node
 
 HAS_NAME = {"m": ["go", "f", "g"], "n": ["h", "k"]}
@@ -53,7 +53,8 @@ class ScriptChooser:
     def add_step(self, function, later, pids, values):
         """One more step; false after a last one."""
         kinds = {"send": 30, "receive": 14, "call": 25 if later else 0, "spawn": 12 if later else 0}
-        kinds |= {"link": 12, "unlink": 4, "return": 4, "exit": 4}
+        kinds |= {"link": 8, "unlink": 3, "return": 4, "exit": 9}
+        kinds |= {"catch": 30 if later else 0, "error": 12, "throw": 12}
         kind = self.chance.choices(list(kinds), list(kinds.values()))[0]
         if kind == "send":
             function.steps.append((Atom("send"), self.pid(pids), self.value(pids, values)))
@@ -61,6 +62,12 @@ class ScriptChooser:
             function.steps.append((Atom("receive"), self.target(values)))
         elif kind == "call":
             function.steps.append(self.call(function, self.one(later), pids, values))
+        elif kind == "catch":
+            function.steps.append(self.catch(self.one(later), pids, values))
+            target = function.steps[-1][1]
+            if target != ANYTHING and self.often(0.5):
+                # What it came to is told.
+                function.steps.append((Atom("send"), self.pid(pids), target))
         elif kind == "spawn":
             function.steps.append(self.spawn(self.one(later), pids, values))
         elif kind in ("link", "unlink"):
@@ -69,10 +76,12 @@ class ScriptChooser:
         else:
             reason = self.one([Atom("boom"), Atom("normal"), 7]) if kind == "exit" else self.value(pids, values)
             function.steps.append((Atom(kind), reason))
-        return kind not in ("return", "exit")
+        return kind not in LAST
 
     def pid(self, pids):
-        """A pid: a variable that is one, or one of the first processes, or one that never lives."""
+        """A pid: a variable that is one, or one of the first processes, or one that never lives; or what is none."""
+        if self.often(0.015):
+            return self.one([7, [], Atom("nobody"), (Atom("hi"),)])
         if self.often(0.6):
             return self.one(pids)
         return Pid(163) if self.often(0.06) else Pid(100 + self.chance.randrange(self.started))
@@ -106,6 +115,12 @@ class ScriptChooser:
         self.named.add(called.mfa())
         return (Atom("call"), target, (called.module, called.name), arguments)
 
+    def catch(self, called, pids, values):
+        """A call within a catch. It names the module."""
+        arguments = self.arguments(called, pids, values)
+        self.named.add(called.mfa())
+        return (Atom("catch"), self.target(values), (called.module, called.name), arguments)
+
     def spawn(self, called, pids, values):
         """A spawn."""
         arguments = self.arguments(called, pids, values)
@@ -133,6 +148,10 @@ class ScriptChooser:
     def commands(self):
         """Commands of the session s, without its creation."""
         chosen = [self.first_command(), self.function_command()]
+        if self.often(0.8):
+            body = [(Atom("exception_trace"),)] if self.often(0.75) else [(Atom("return_trace"),)]
+            how = self.one([[], [Atom("local")]])
+            chosen.insert(1, (Atom("function"), Atom("s"), (ANYTHING,) * 3, [(ANYTHING, [], body)], how))
         makers = [self.process_command, self.function_command, self.function_command, self.decides_messages]
         return chosen + [self.one(makers)() for _ in range(self.chance.randint(2, 7))]
 
@@ -145,8 +164,11 @@ class ScriptChooser:
     def process_command(self):
         """Sets flags, or sometimes clears some."""
         whom = self.one([Atom("all"), Atom("all"), Atom("existing"), Atom("new"), Pid(100), Pid(101), Pid(102)])
-        weights = [5, 5, 7, 5, 0.7, 1, 1.2, 1, 1.2, 1]
+        weights = [5, 5, 7, 5, 1.5, 1, 1.2, 1, 1.2, 1]
         flags = sorted(set(self.chance.choices(FLAGS, weights, k=self.chance.randint(1, 5))))
+        if whom in (Atom("all"), Atom("new")):
+            # At a first spawn a node takes this flag from the child, that of new processes too.
+            flags = [flag for flag in flags if flag != "set_on_first_spawn"]
         how = FALSE if self.often(0.12) else TRUE
         return (Atom("process"), Atom("s"), whom, how, [Atom(flag) for flag in flags])
 
@@ -233,7 +255,7 @@ class ScriptCase:
     def flags(self):
         """All flags that a command or a specification names."""
         return [flag for command in commands_of(self, "process") for flag in command[4]] + [
-            call[-1] for call in self.calls() if call[0] in ("enable_trace", "disable_trace")
+            call[-1] for call in self.calls() if call[0] in CHANGES
         ]
 
     def script(self, before=()):
@@ -303,7 +325,7 @@ class ScriptCase:
         """What the node is asked."""
         names = sorted({function.module for function in self.functions})
         modules = [
-            (name, quoted(module_text(name, [each for each in self.functions if each.module == name])))
+            (name, quoted(module_text(name, [each for each in self.functions if each.module == name], differences)))
             for name in names
         ]
         commands = iter([self.asked(command, differences) for command in self.session])

@@ -4,7 +4,7 @@ use Rattle.std.specs.Fmt.{digits}
 use Rattle.def_term.specs.Tree.{pid}
 use Rattle.def_term.specs.Names.{word}
 use Rattle.def_term.specs.Text.{is_written_bare}
-use Rattle.def_script.specs.Program.{Program, send, link}
+use Rattle.def_script.specs.Program.{error, Program, send, catch, link, give_back, raise}
 use Rattle.def_run.proofs.Samples.{number, braces, brackets, function, entry, call_named, spawns, program, creates, destroys, sets, mfa_of, sets_function, lines}
 use Rattle.def_account.specs.Texts.{Asked, account_text}
 
@@ -67,3 +67,21 @@ pub clauses_of_a_call : account_text everything (program (function "go" [] (call
     ∷ "6 100 <0.100.0> return_from {m,f,1} ok" ∷ "  s1: => {trace,<0.100.0>,return_from,{m,f,1},ok}" ∷ "  s1: the mark is gone" ∷ [])
 unfolding is_written_bare digits
 clauses_of_a_call = refl
+
+-- an error that a catch takes: one session marks for exceptions, the other for returns, and go's call isn't marked
+pub why_an_exception_is_missing : account_text everything (program (function "go" [] (catch (Some (codes "X")) (codes "m") (codes "f") [] ∷ give_back (word "X") ∷ []) ∷ function "f" [] (raise error (word "bad") ∷ []) ∷ []) (entry "go" [] ∷ [])
+    (creates "s1" "t1" ∷ creates "s2" "t2" ∷ sets "s1" (word "all") ("call" ∷ []) ∷ sets "s2" (word "all") ("call" ∷ [])
+    ∷ sets_function "s1" (mfa_of "f" 0) (brackets (braces (word "_" ∷ brackets [] ∷ brackets (braces (word "exception_trace" ∷ []) ∷ []) ∷ []) ∷ [])) []
+    ∷ sets_function "s2" (mfa_of "f" 0) (brackets (braces (word "_" ∷ brackets [] ∷ brackets (braces (word "return_trace" ∷ []) ∷ []) ∷ []) ∷ [])) [] ∷ [])) (0 ∷ 0 ∷ 0 ∷ 0 ∷ 0 ∷ 0 ∷ 100 ∷ 100 ∷ 100 ∷ 100 ∷ [])
+    ≡ lines ("1 0 {session_create,s1,t1,[]}" ∷ "  s1: replies {session,s1}" ∷ "2 0 {session_create,s2,t2,[]}" ∷ "  s2: replies {session,s2}"
+    ∷ "3 0 {process,s1,all,true,[call]}" ∷ "  s1: replies 1" ∷ "4 0 {process,s2,all,true,[call]}" ∷ "  s2: replies 1"
+    ∷ "5 0 {function,s1,{m,f,0},[{'_',[],[{exception_trace}]}],[]}" ∷ "  s1: replies 1" ∷ "6 0 {function,s2,{m,f,0},[{'_',[],[{return_trace}]}],[]}" ∷ "  s2: replies 1"
+    ∷ "7 100 <0.100.0> call {m,go,[]}" ∷ "  s1: no setting for m:go/0" ∷ "  s2: no setting for m:go/0"
+    ∷ "8 100 <0.100.0> call {m,f,[]}" ∷ "  s1: clause 1 fires: exception_trace" ∷ "  s1: => {trace,<0.100.0>,call,{m,f,[]}}" ∷ "  s1: the call is marked for exceptions"
+    ∷ "  s2: clause 1 fires: return_trace" ∷ "  s2: => {trace,<0.100.0>,call,{m,f,[]}}" ∷ "  s2: the call is marked"
+    ∷ "9 100 <0.100.0> exception_from {m,f,0} {error,bad}" ∷ "  s1: => {trace,<0.100.0>,exception_from,{m,f,0},{error,bad}}" ∷ "  s1: the mark is gone"
+    ∷ "  s2: the call is marked for returns alone" ∷ "  s2: the mark is gone"
+    ∷ "10 100 <0.100.0> return_from {m,go,0} {'EXIT',{bad,[]}}" ∷ "  s1: the call has no mark" ∷ "  s2: the call has no mark"
+    ∷ "10 100 <0.100.0> exit normal" ∷ "  s1: no flag procs" ∷ "  s1: <0.100.0> loses call" ∷ "  s2: no flag procs" ∷ "  s2: <0.100.0> loses call" ∷ [])
+unfolding is_written_bare digits
+why_an_exception_is_missing = refl

@@ -3,13 +3,13 @@ use Rattle.std.proofs.Common.{◌≡◌, ℕ, suc, Bool, true, false, List, [], 
 use Rattle.def_term.specs.Tree.{Tree}
 use Rattle.def_spec.specs.Expressions.{Dialect, Context}
 use Rattle.def_spec.specs.Outcome.{Clause}
-use Rattle.def_node.specs.Event.{Event, sent, received, called, returned, spawning, spawned, exited, linked, unlinked, getting_linked, getting_unlinked}
+use Rattle.def_node.specs.Event.{Event, sent, received, called, returned, raised, spawning, spawned, exited, linked, unlinked, getting_linked, getting_unlinked}
 use Rattle.def_session.specs.Settings.{Setting, off, plain, by, setting_for}
-use Rattle.def_session.specs.State.{Phase, absent, live, destroyed, Session, flags_at}
+use Rattle.def_session.specs.State.{Phase, absent, live, destroyed, Kind, for_returns, for_exceptions, Session, flags_at}
 use Rattle.def_session.specs.Session.{inherited, evaluated, context, told_for, told_in}
-use Rattle.def_explain.specs.Causes.{Cause, no_mark, no_flag, no_setting, of_named_calls, switched_off, no_clause, silenced, message_false, IsCause, cause_of}
+use Rattle.def_explain.specs.Causes.{Cause, no_mark, marked_for_returns, no_flag, no_setting, of_named_calls, switched_off, no_clause, silenced, message_false, cause_of}
 use Rattle.def_explain.specs.Verdicts.{Verdict, fails, fires, verdict_of}
-use Rattle.def_explain.specs.Accounts.{Line, said, tells, told_in_lines, line_where, changed_text, flag_lines, inheritance_lines, lines_by, clause_lines, setting_lines, evaluation_lines, cause_lines, mark_lines, end_lines, message_lines, live_lines, event_lines_in, event_lines}
+use Rattle.def_explain.specs.Accounts.{Line, said, tells, told_in_lines, line_where, changed_text, flag_lines, inheritance_lines, lines_by, clause_lines, setting_lines, evaluation_lines, cause_lines, marked_lines, mark_lines, end_lines, message_lines, live_lines, event_lines_in}
 use Rattle.def_explain.specs.Laws.{LinesTellTheMessage}
 use Rattle.def_explain.proofs.CauseOfEvents.{cause_where_nothing_told, cause_is_computed}
 
@@ -43,6 +43,7 @@ inheritance-says s (sent p t to alive) = refl
 inheritance-says s (received p sender t) = refl
 inheritance-says s (called p c) = refl
 inheritance-says s (returned p f t depth) = refl
+inheritance-says s (raised p f c t depth) = refl
 inheritance-says s (spawning p child f args) = refl
 inheritance-says s (exited p r) = refl
 inheritance-says s (linked p q) = refl
@@ -67,6 +68,7 @@ evaluation-says s (sent p t to alive) = setting-says s.sending _
 evaluation-says s (received p sender t) = setting-says s.receiving _
 evaluation-says s (called p c) = setting-says (setting_for s.functions c) (context s p c.args c.caller)
 evaluation-says s (returned p f t depth) = refl
+evaluation-says s (raised p f c t depth) = refl
 evaluation-says s (spawning p child f args) = refl
 evaluation-says s (spawned p parent f args) = refl
 evaluation-says s (exited p r) = refl
@@ -77,6 +79,7 @@ evaluation-says s (getting_unlinked p q) = refl
 
 cause-says : (s : Session) (e : Event) (c : Cause) → Says (cause_lines s e c)
 cause-says s e no_mark = refl
+cause-says s e marked_for_returns = refl
 cause-says s e (no_flag f) = refl
 cause-says s e no_setting = refl
 cause-says s e of_named_calls = refl
@@ -89,9 +92,15 @@ said-if : (b : Bool) (text : List ℕ) → Says (if b then said text ∷ [] else
 said-if true text = refl
 said-if false text = refl
 
+marked-says : (o : Option Kind) → Says (marked_lines o)
+marked-says None = refl
+marked-says (Some for_returns) = refl
+marked-says (Some for_exceptions) = refl
+
 marks-say : (s : Session) (e : Event) → Says (mark_lines s e)
-marks-say s (called p c) = said-if _ _
+marks-say s (called p c) = marked-says _
 marks-say s (returned p f t depth) = said-if _ _
+marks-say s (raised p f c t depth) = said-if _ _
 marks-say s (sent p t to alive) = refl
 marks-say s (received p sender t) = refl
 marks-say s (spawning p child f args) = refl
@@ -108,6 +117,7 @@ end-says s (sent p t to alive) = refl
 end-says s (received p sender t) = refl
 end-says s (called p c) = refl
 end-says s (returned p f t depth) = refl
+end-says s (raised p f c t depth) = refl
 end-says s (spawning p child f args) = refl
 end-says s (spawned p parent f args) = refl
 end-says s (linked p q) = refl

@@ -7,13 +7,13 @@ use Rattle.def_term.specs.Names.{word}
 use Rattle.def_term.proofs.Same.{same-is, same-self}
 use Rattle.def_spec.specs.Flags.{send_flag, receive_flag, call_flag, procs_flag, arity_flag}
 use Rattle.def_spec.specs.Expressions.{Context, Effect}
-use Rattle.def_node.specs.Event.{Event, Call, sent, received, called, returned, spawning, spawned, exited, linked, unlinked, getting_linked, getting_unlinked}
+use Rattle.def_node.specs.Event.{Event, Call, sent, received, called, returned, raised, spawning, spawned, exited, linked, unlinked, getting_linked, getting_unlinked}
 use Rattle.def_session.specs.Settings.{Covering, Setting, off, by}
-use Rattle.def_session.specs.State.{Session, flags_at}
+use Rattle.def_session.specs.State.{Kind, for_returns, for_exceptions, Session, flags_at, mark_of}
 use Rattle.def_session.specs.Messages.{elements_of, process_of, last_message, decided}
-use Rattle.def_session.specs.Session.{evaluated, evaluated_by, context, where_set, is_marked, all_affected, message_after, told_for}
+use Rattle.def_session.specs.Session.{evaluated, evaluated_by, context, where_set, is_marked, is_for_exceptions, where_marked, all_affected, message_after, told_for}
 use Rattle.def_session.specs.Laws.{needed_for}
-use Rattle.def_explain.specs.Causes.{Cause, no_mark, no_flag, no_setting, of_named_calls, switched_off, no_clause, silenced, message_false, HasFlag, IsOfMarked, IsOfSetting, newest_of, IsOfCall, IsOfEvent, IsOfUnmarked, is_silent_after, IsCause, cause_of_event, is_false_message, cause_by, cause_where, cause_of}
+use Rattle.def_explain.specs.Causes.{Cause, no_mark, marked_for_returns, no_flag, no_setting, of_named_calls, switched_off, no_clause, silenced, message_false, HasFlag, IsOfMarked, IsOfSetting, newest_of, IsOfCall, IsOfEvent, IsOfUnmarked, IsOfReturns, is_silent_after, IsCause, cause_of_event, is_false_message, cause_by, cause_where, cause_by_mark, cause_of}
 use Rattle.def_explain.specs.Laws.{CauseWhereNothingTold, CauseIsOne, CauseIsComputed}
 use Rattle.def_explain.proofs.CauseOfSettings.{setting_sound, setting_complete, setting_by, setting_is, call_sound, call_complete}
 
@@ -30,6 +30,7 @@ event_sound s (called p c) f m h =
     call_sound (newest_of s.functions c) c (context s p c.args c.caller)
     (sym (ap (λ g. evaluated_by g (context s p c.args c.caller)) (setting_is s.functions c)) ∙ sym (behind_flag _ _ f) ∙ h)
 event_sound s (returned p g t depth) f m h = absurd (cc (sym (behind_flag _ (Some []) f) ∙ sym (ap (λ q. if q then where_set s p call_flag (Some []) else None) m) ∙ h))
+event_sound s (raised p g c t depth) f m h = absurd (cc (sym (behind_flag _ (Some []) f) ∙ sym (ap (λ o. where_marked s p (is_for_exceptions o)) m) ∙ h))
 event_sound s (spawning p child g args) f m h = absurd (cc (sym (behind_flag _ (Some []) f) ∙ h))
 event_sound s (spawned p parent g args) f m h = absurd (cc (sym (behind_flag _ (Some []) f) ∙ h))
 event_sound s (exited p r) f m h = absurd (cc (sym (behind_flag _ (Some []) f) ∙ h))
@@ -53,6 +54,7 @@ event_complete s e x f h = absurd h
 -- no other event is unevaluated where its process has the flag
 unmarked_out : (s : Session) (e : Event) (x : Cause) → IsOfEvent s e x → IsOfMarked s e
 unmarked_out s (returned p g t depth) x h = absurd h
+unmarked_out s (raised p g c t depth) x h = absurd h
 unmarked_out s e x h = tt
 
 -- ---- which causes are of settings
@@ -72,6 +74,7 @@ one_of_setting g c x h = absurd h
 one_of_call : (o : Option Covering) (call : Call) (c : Context) (x : Cause) → IsOfCall o call c x → IsOfOne x
 one_of_call None call c no_setting h = tt
 one_of_call None call c no_mark h = absurd h
+one_of_call None call c marked_for_returns h = absurd h
 one_of_call None call c (no_flag f) h = absurd h
 one_of_call None call c of_named_calls h = tt
 one_of_call None call c switched_off h = tt
@@ -80,6 +83,7 @@ one_of_call None call c silenced h = absurd h
 one_of_call None call c message_false h = absurd h
 one_of_call (Some k) call c of_named_calls h = tt
 one_of_call (Some k) call c no_mark h = one_of_setting k.setting c no_mark h.1
+one_of_call (Some k) call c marked_for_returns h = one_of_setting k.setting c marked_for_returns h.1
 one_of_call (Some k) call c (no_flag f) h = one_of_setting k.setting c (no_flag f) h.1
 one_of_call (Some k) call c no_setting h = tt
 one_of_call (Some k) call c switched_off h = tt
@@ -99,6 +103,7 @@ of_event s e of_named_calls f h o = (f, h)
 of_event s e switched_off f h o = (f, h)
 of_event s e (no_clause rs) f h o = (f, h)
 of_event s e no_mark f h o = absurd o
+of_event s e marked_for_returns f h o = absurd o
 of_event s e (no_flag g) f h o = absurd o
 of_event s e silenced f h o = absurd o
 of_event s e message_false f h o = absurd o
@@ -136,6 +141,12 @@ cause_sound s (returned p g t depth) x k = go (is_marked s p depth) refl k
     go : (q : Bool) → is_marked s p depth ≡ q → (if q then cause_where s (returned p g t depth) else Some no_mark) ≡ Some x → IsCause s (returned p g t depth) x
     go true m l = where_sound s (returned p g t depth) x m l
     go false m l = subst (IsCause s (returned p g t depth)) (the_same no_mark x l) m
+cause_sound s (raised p g c t depth) x k = go (mark_of s p depth) refl k
+  where
+    go : (o : Option Kind) → mark_of s p depth ≡ o → cause_by_mark s (raised p g c t depth) o ≡ Some x → IsCause s (raised p g c t depth) x
+    go None m l = subst (IsCause s (raised p g c t depth)) (the_same no_mark x l) m
+    go (Some for_returns) m l = subst (IsCause s (raised p g c t depth)) (the_same marked_for_returns x l) m
+    go (Some for_exceptions) m l = where_sound s (raised p g c t depth) x m l
 cause_sound s (sent p t to alive) x k = where_sound s (sent p t to alive) x tt k
 cause_sound s (received p sender t) x k = where_sound s (received p sender t) x tt k
 cause_sound s (called p c) x k = where_sound s (called p c) x tt k
@@ -149,9 +160,10 @@ cause_sound s (getting_unlinked p q) x k = where_sound s (getting_unlinked p q) 
 
 -- ---- and the cause is what is computed
 
--- a return of a marked frame, and any other event, goes by the flag
+-- a return of a marked frame, an exception that leaves one that is marked for exceptions, and any other event, go by the flag
 by_flag : (s : Session) (e : Event) → IsOfMarked s e → cause_of s e ≡ cause_where s e
 by_flag s (returned p g t depth) m = ap (λ q. if q then cause_where s (returned p g t depth) else Some no_mark) m
+by_flag s (raised p g c t depth) m = ap (cause_by_mark s (raised p g c t depth)) m
 by_flag s (sent p t to alive) m = refl
 by_flag s (received p sender t) m = refl
 by_flag s (called p c) m = refl
@@ -171,13 +183,19 @@ set_there : (q : Bool) (r : Option (List Effect)) (es : List Effect) → (if q t
 set_there true r es h = refl
 set_there false r es h = absurd (cc h)
 
--- what is evaluated has the flag, and is no return of another frame
+-- what is evaluated has the flag, and is of no frame that isn't marked for it
 evaluated_has : (s : Session) (e : Event) (es : List Effect) → evaluated s e ≡ Some es → HasFlag s e × IsOfMarked s e
 evaluated_has s (returned p g t depth) es h = go (is_marked s p depth) refl h
   where
     go : (q : Bool) → is_marked s p depth ≡ q → (if q then where_set s p call_flag (Some []) else None) ≡ Some es → HasFlag s (returned p g t depth) × IsOfMarked s (returned p g t depth)
     go true m l = (set_there _ (Some []) es l, m)
     go false m l = absurd (cc l)
+evaluated_has s (raised p g c t depth) es h = go (mark_of s p depth) refl h
+  where
+    go : (o : Option Kind) → mark_of s p depth ≡ o → where_marked s p (is_for_exceptions o) ≡ Some es → HasFlag s (raised p g c t depth) × IsOfMarked s (raised p g c t depth)
+    go None m l = absurd (cc l)
+    go (Some for_returns) m l = absurd (cc l)
+    go (Some for_exceptions) m l = (set_there _ (Some []) es l, m)
 evaluated_has s (sent p t to alive) es h = (set_there _ _ es h, tt)
 evaluated_has s (received p sender t) es h = (set_there _ _ es h, tt)
 evaluated_has s (called p c) es h = (set_there _ _ es h, tt)
@@ -196,7 +214,12 @@ by_effects s e es h =
 
 unmarked_complete : (s : Session) (e : Event) → IsOfUnmarked s e → cause_of s e ≡ Some no_mark
 unmarked_complete s (returned p g t depth) h = ap (λ q. if q then cause_where s (returned p g t depth) else Some no_mark) h
+unmarked_complete s (raised p g c t depth) h = ap (cause_by_mark s (raised p g c t depth)) h
 unmarked_complete s e h = absurd h
+
+returns_complete : (s : Session) (e : Event) → IsOfReturns s e → cause_of s e ≡ Some marked_for_returns
+returns_complete s (raised p g c t depth) h = ap (cause_by_mark s (raised p g c t depth)) h
+returns_complete s e h = absurd h
 
 one_complete : (s : Session) (e : Event) (x : Cause) → HasFlag s e × IsOfEvent s e x → cause_of s e ≡ Some x
 one_complete s e x h =
@@ -205,6 +228,7 @@ one_complete s e x h =
 
 cause_complete : (s : Session) (e : Event) (x : Cause) → IsCause s e x → cause_of s e ≡ Some x
 cause_complete s e no_mark h = unmarked_complete s e h
+cause_complete s e marked_for_returns h = returns_complete s e h
 cause_complete s e (no_flag f) h =
     by_flag s e h.1
     ∙ ap (λ q. if q then cause_by s e (evaluated s e) else Some (no_flag (needed_for e))) (subst (λ g. flags_at s (process_of e) g ≡ false) h.0 h.2)
@@ -283,6 +307,12 @@ cause_there s e k = marked_or e k
         go : (q : Bool) → is_marked s p depth ≡ q → (x : Cause) × (cause_of s (returned p g t depth) ≡ Some x)
         go true m = flagged (returned p g t depth) k m (flags_at s p call_flag) refl
         go false m = (no_mark, ap (λ q. if q then cause_where s (returned p g t depth) else Some no_mark) m)
+    marked_or (raised p g c t depth) k = go (mark_of s p depth) refl
+      where
+        go : (o : Option Kind) → mark_of s p depth ≡ o → (x : Cause) × (cause_of s (raised p g c t depth) ≡ Some x)
+        go None m = (no_mark, ap (cause_by_mark s (raised p g c t depth)) m)
+        go (Some for_returns) m = (marked_for_returns, ap (cause_by_mark s (raised p g c t depth)) m)
+        go (Some for_exceptions) m = flagged (raised p g c t depth) k m (flags_at s p call_flag) refl
     marked_or (sent p t to alive) k = flagged (sent p t to alive) k tt (flags_at s p send_flag) refl
     marked_or (received p sender t) k = flagged (received p sender t) k tt (flags_at s p receive_flag) refl
     marked_or (called p c) k = flagged (called p c) k tt (flags_at s p call_flag) refl

@@ -7,7 +7,7 @@ use Rattle.def_node.specs.Event.{Call}
 use Rattle.def_session.specs.Settings.{Covering, Setting, off, plain, by, has_among, setting_for}
 use Rattle.def_session.specs.Session.{effects_in, evaluated_by}
 use Rattle.def_explain.specs.Reasons.{Reason, IsReason, reason_of}
-use Rattle.def_explain.specs.Causes.{Cause, no_mark, no_flag, no_setting, of_named_calls, switched_off, no_clause, silenced, message_false, EachReason, IsOfSetting, newest_of, IsOfCall, reasons_before, reasons_of, cause_of_setting, cause_of_call}
+use Rattle.def_explain.specs.Causes.{Cause, no_mark, marked_for_returns, no_flag, no_setting, of_named_calls, switched_off, no_clause, silenced, message_false, EachReason, IsOfSetting, newest_of, IsOfCall, reasons_before, reasons_of, cause_of_setting, cause_of_call}
 use Rattle.def_explain.proofs.ClauseReasons.{reason_where_not_fired, reason_is_computed}
 
 -- ---- clauses
@@ -76,6 +76,7 @@ call_sound (Some k) call c e = go (k.local || call.named) refl e
     kept switched_off f h = (f, h)
     kept (no_clause rs) f h = (f, h)
     kept no_mark f h = (f, h)
+    kept marked_for_returns f h = (f, h)
     kept (no_flag g) f h = (f, h)
     kept no_setting f h = (f, h)
     kept silenced f h = (f, h)
@@ -101,6 +102,7 @@ by_setting k call c x h =
 pub call_complete : (o : Option Covering) (call : Call) (c : Context) (x : Cause) → IsOfCall o call c x → (evaluated_by (setting_by o call) c ≡ None) × (x ≡ cause_of_call o call c)
 call_complete None call c no_setting h = (refl, refl)
 call_complete None call c no_mark h = absurd h
+call_complete None call c marked_for_returns h = absurd h
 call_complete None call c (no_flag f) h = absurd h
 call_complete None call c of_named_calls h = absurd h
 call_complete None call c switched_off h = absurd h
@@ -110,6 +112,7 @@ call_complete None call c message_false h = absurd h
 call_complete (Some k) call c of_named_calls h =
     (ap (λ q. evaluated_by (if q then k.setting else off) c) h, sym (ap (λ q. if q then cause_of_setting k.setting c else of_named_calls) h))
 call_complete (Some k) call c no_mark h = by_setting k call c no_mark h
+call_complete (Some k) call c marked_for_returns h = by_setting k call c marked_for_returns h
 call_complete (Some k) call c (no_flag f) h = by_setting k call c (no_flag f) h
 call_complete (Some k) call c no_setting h = by_setting k call c no_setting h
 call_complete (Some k) call c switched_off h = by_setting k call c switched_off h

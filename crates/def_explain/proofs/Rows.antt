@@ -7,12 +7,13 @@ use Rattle.def_spec.specs.Matching.{Pattern, variable, anything, only_term, in_l
 use Rattle.def_spec.specs.Functions as fn
 use Rattle.def_spec.specs.Expressions.{for_calls, Expr, bound_to, constant, call, and_also, perform, message, Exprs, no_exprs, and_expr, Context}
 use Rattle.def_spec.specs.Outcome.{Clause}
-use Rattle.def_node.specs.Event.{Event, Call, sent, called, returned}
+use Rattle.def_script.specs.Program.{error}
+use Rattle.def_node.specs.Event.{Event, Call, sent, called, returned, raised}
 use Rattle.def_session.specs.Settings.{Setting, off, plain, by, one}
-use Rattle.def_session.specs.State.{Session, live, unset, alive_at_start, with_flags}
+use Rattle.def_session.specs.State.{Kind, for_returns, for_exceptions, Session, live, unset, alive_at_start, with_flags, with_marks}
 use Rattle.def_explain.specs.Heads.{no_list, other_length, behind_matching}
 use Rattle.def_explain.specs.Reasons.{by_head, by_condition, has_value, faults_at, reason_of}
-use Rattle.def_explain.specs.Causes.{no_mark, no_flag, no_setting, of_named_calls, switched_off, no_clause, silenced, message_false, cause_of}
+use Rattle.def_explain.specs.Causes.{no_mark, marked_for_returns, no_flag, no_setting, of_named_calls, switched_off, no_clause, silenced, message_false, cause_of}
 
 -- ---- clauses
 
@@ -117,3 +118,29 @@ silent_call = refl
 -- the return of a frame without a mark
 pub unmarked_return : cause_of (flagged (only call_flag)) (returned 100 function (word "ok") 1) ≡ Some no_mark
 unmarked_return = refl
+
+-- a session whose process has a mark of this kind at depth 1
+abbrev marked : Kind → Session → Session
+marked k s = with_marks s 100 (record { depth = 1; kind = k } ∷ [])
+
+-- an exception that leaves a frame without a mark
+pub unmarked_exception : cause_of (flagged (only call_flag)) (raised 100 function error (word "bad") 1) ≡ Some no_mark
+unmarked_exception = refl
+
+-- one that leaves a frame with a mark for returns, whether the process has the flag or not
+pub exception_marked_for_returns : cause_of (marked for_returns plain_session) (raised 100 function error (word "bad") 1) ≡ Some marked_for_returns
+exception_marked_for_returns = refl
+
+-- and one with a mark for exceptions, without the flag and with it
+pub exception_without_flag : cause_of (marked for_exceptions plain_session) (raised 100 function error (word "bad") 1) ≡ Some (no_flag call_flag)
+exception_without_flag = refl
+
+pub told_exception : cause_of (marked for_exceptions (flagged (only call_flag))) (raised 100 function error (word "bad") 1) ≡ None
+told_exception = refl
+
+pub silent_exception : cause_of (marked for_exceptions (flagged (joined (only call_flag) (only silent_flag)))) (raised 100 function error (word "bad") 1) ≡ Some silenced
+silent_exception = refl
+
+-- a return is told by either mark
+pub return_marked_for_exceptions : cause_of (marked for_exceptions (flagged (only call_flag))) (returned 100 function (word "ok") 1) ≡ None
+return_marked_for_exceptions = refl

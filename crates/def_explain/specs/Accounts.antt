@@ -10,12 +10,12 @@ use Rattle.def_script.specs.Opening.{Opening}
 use Rattle.def_spec.specs.Flags.{Flags, only, without, flags_by_name}
 use Rattle.def_spec.specs.Expressions.{Dialect, Context}
 use Rattle.def_spec.specs.Outcome.{Clause}
-use Rattle.def_node.specs.Event.{Event, sent, received, called, returned, spawned, exited, getting_linked}
+use Rattle.def_node.specs.Event.{Event, sent, received, called, returned, raised, spawned, exited, getting_linked}
 use Rattle.def_session.specs.Settings.{Setting, off, plain, by, setting_for}
-use Rattle.def_session.specs.State.{Phase, absent, live, destroyed, Session, flags_at}
-use Rattle.def_session.specs.Session.{inherited, evaluated, marks_frame, is_marked, context, told_for}
+use Rattle.def_session.specs.State.{Phase, absent, live, destroyed, Kind, for_returns, for_exceptions, Session, flags_at}
+use Rattle.def_session.specs.Session.{inherited, evaluated, mark_asked, is_marked, context, told_for}
 use Rattle.def_session.specs.Commands.{command_done}
-use Rattle.def_explain.specs.Causes.{Cause, no_mark, no_flag, no_setting, of_named_calls, switched_off, no_clause, silenced, message_false, cause_of}
+use Rattle.def_explain.specs.Causes.{Cause, no_mark, marked_for_returns, no_flag, no_setting, of_named_calls, switched_off, no_clause, silenced, message_false, cause_of}
 use Rattle.def_explain.specs.Verdicts.{Verdict, fails, fires, verdict_of}
 use Rattle.def_explain.specs.Texts.{said_of_each, effects_text, reason_text, clause_text}
 
@@ -94,6 +94,7 @@ no_setting_text e = codes "no setting"
 -- why nothing is told
 abbrev pub cause_lines : Session → Event → Cause → List Line
 cause_lines s e no_mark = said (codes "the call has no mark") ∷ []
+cause_lines s e marked_for_returns = said (codes "the call is marked for returns alone") ∷ []
 cause_lines s e (no_flag f) = said (codes "no flag" ++ said_of_each (codes " ") (only f) flags_by_name) ∷ []
 cause_lines s e no_setting = said (no_setting_text e) ∷ []
 cause_lines s e of_named_calls = said (codes "the setting is global, and the call doesn't name the module") ∷ []
@@ -104,10 +105,21 @@ cause_lines s e message_false = followed_by_line (evaluation_lines s e) (codes "
 
 -- ---- one event
 
--- a call is marked by the effects; a return takes the mark away
+-- the mark that a call gets
+abbrev pub marked_lines : Option Kind → List Line
+marked_lines None = []
+marked_lines (Some for_returns) = said (codes "the call is marked") ∷ []
+marked_lines (Some for_exceptions) = said (codes "the call is marked for exceptions") ∷ []
+
+-- the mark that the frame of this depth loses, if it has one
+abbrev pub unmarked_lines : Session → ℕ → ℕ → List Line
+unmarked_lines s p depth = if is_marked s p depth then said (codes "the mark is gone") ∷ [] else []
+
+-- a call is marked by the effects; a return, or an exception that leaves its frame, takes the mark away
 abbrev pub mark_lines : Session → Event → List Line
-mark_lines s (called p c) = if marks_frame (unwrap_or (evaluated s (called p c)) []) then said (codes "the call is marked") ∷ [] else []
-mark_lines s (returned p f t depth) = if is_marked s p depth then said (codes "the mark is gone") ∷ [] else []
+mark_lines s (called p c) = marked_lines (mark_asked (unwrap_or (evaluated s (called p c)) []))
+mark_lines s (returned p f t depth) = unmarked_lines s p depth
+mark_lines s (raised p f c t depth) = unmarked_lines s p depth
 mark_lines s e = []
 
 -- an exit takes the flags away

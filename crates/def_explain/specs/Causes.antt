@@ -8,18 +8,20 @@ use Rattle.def_term.specs.Names.{word}
 use Rattle.def_spec.specs.Flags.{Flag}
 use Rattle.def_spec.specs.Expressions.{Dialect, Context, Effect}
 use Rattle.def_spec.specs.Outcome.{Clause}
-use Rattle.def_node.specs.Event.{Event, Call, sent, received, called, returned}
+use Rattle.def_node.specs.Event.{Event, Call, sent, received, called, returned, raised}
 use Rattle.def_session.specs.Settings.{Covering, Setting, off, by, has_among}
-use Rattle.def_session.specs.State.{Session, flags_at}
+use Rattle.def_session.specs.State.{Kind, for_returns, for_exceptions, Session, flags_at, mark_of}
 use Rattle.def_session.specs.Messages.{process_of, last_message}
 use Rattle.def_session.specs.Session.{evaluated, context, is_marked, all_affected, is_silenced}
 use Rattle.def_session.specs.Laws.{needed_for}
 use Rattle.def_explain.specs.Reasons.{Reason, IsReason, reason_of}
 
--- the frame of the return isn't marked; the process doesn't have the flag; no command covers the function, or the newest that
--- does is about calls that name the module; it is `false`, or no clause fires; or the message is silenced, or `false`
+-- the frame of a return or an exception isn't marked, or that of an exception for returns alone; the process doesn't have the flag;
+-- no command covers the function, or the newest that does is about calls that name the module; it is `false`, or no clause fires;
+-- or the message is silenced, or `false`
 pub data Cause : Type 0 where
   no_mark : Cause
+  marked_for_returns : Cause
   no_flag : Flag → Cause
   no_setting : Cause
   of_named_calls : Cause
@@ -32,9 +34,10 @@ pub data Cause : Type 0 where
 abbrev pub HasFlag : Session → Event → Type 0
 HasFlag s e = flags_at s (process_of e) (needed_for e) ≡ true
 
--- a return is that of a marked frame
+-- a return is that of a marked frame, and an exception leaves one that is marked for exceptions
 abbrev pub IsOfMarked : Session → Event → Type 0
 IsOfMarked s (returned p f t depth) = is_marked s p depth ≡ true
+IsOfMarked s (raised p f c t depth) = mark_of s p depth ≡ Some for_exceptions
 IsOfMarked s e = ⊤
 
 -- each clause has its reason
@@ -69,10 +72,16 @@ IsOfEvent s (received p sender t) cause = IsOfSetting s.receiving (context s p (
 IsOfEvent s (called p c) cause = IsOfCall (newest_of s.functions c) c (context s p c.args c.caller) cause
 IsOfEvent s e cause = ⊥
 
--- the return of a frame that isn't marked
+-- the return of a frame that isn't marked, or an exception that leaves one
 abbrev pub IsOfUnmarked : Session → Event → Type 0
 IsOfUnmarked s (returned p f t depth) = is_marked s p depth ≡ false
+IsOfUnmarked s (raised p f c t depth) = mark_of s p depth ≡ None
 IsOfUnmarked s e = ⊥
+
+-- an exception that leaves a frame that is marked for returns
+abbrev pub IsOfReturns : Session → Event → Type 0
+IsOfReturns s (raised p f c t depth) = mark_of s p depth ≡ Some for_returns
+IsOfReturns s e = ⊥
 
 -- the event is evaluated, with these effects
 abbrev pub IsEvaluated : Session → Event → List Effect → Type 0
@@ -85,6 +94,7 @@ is_silent_after s e es = is_silenced (all_affected (process_of e) s es) e
 -- why a session that is there tells nothing of an event, the session as it is once flags were inherited
 abbrev pub IsCause : Session → Event → Cause → Type 0
 IsCause s e no_mark = IsOfUnmarked s e
+IsCause s e marked_for_returns = IsOfReturns s e
 IsCause s e (no_flag f) = (f ≡ needed_for e) × IsOfMarked s e × (flags_at s (process_of e) f ≡ false)
 IsCause s e silenced = (es : List Effect) × IsEvaluated s e es × (is_silent_after s e es ≡ true)
 IsCause s e message_false = (es : List Effect) × IsEvaluated s e es × (is_silent_after s e es ≡ false) × (last_message es ≡ Some (word "false"))
@@ -129,11 +139,18 @@ abbrev pub cause_by : Session → Event → Option (List Effect) → Option Caus
 cause_by s e None = Some (cause_of_event s e)
 cause_by s e (Some es) = if is_silent_after s e es then Some silenced else if is_false_message (last_message es) then Some message_false else None
 
--- of an event whose frame, if it is a return, is marked
+-- of an event whose frame, if it is a return or an exception, is marked for it
 abbrev pub cause_where : Session → Event → Option Cause
 cause_where s e = if flags_at s (process_of e) (needed_for e) then cause_by s e (evaluated s e) else Some (no_flag (needed_for e))
+
+-- of an exception, by the mark of its frame
+abbrev pub cause_by_mark : Session → Event → Option Kind → Option Cause
+cause_by_mark s e None = Some no_mark
+cause_by_mark s e (Some for_returns) = Some marked_for_returns
+cause_by_mark s e (Some for_exceptions) = cause_where s e
 
 -- why the session tells nothing of the event; none where it tells of it
 abbrev pub cause_of : Session → Event → Option Cause
 cause_of s (returned p f t depth) = if is_marked s p depth then cause_where s (returned p f t depth) else Some no_mark
+cause_of s (raised p f c t depth) = cause_by_mark s (raised p f c t depth) (mark_of s p depth)
 cause_of s e = cause_where s e

@@ -1,5 +1,5 @@
 -- What keeps within the limits, and that no pid is used again.
-use Rattle.std.proofs.Common.{◌≡◌, ℕ, zero, suc, ◌-◌, ◌<◌, ◌≤◌, Bool, true, false, cond, List, [], ◌∷◌, ◌++◌, length, map, slice_get, Option, Some, None, refl, ap, sym, ◌∙◌, arith}
+use Rattle.std.proofs.Common.{◌≡◌, ℕ, zero, suc, ◌-◌, ◌<◌, ◌≤◌, Bool, true, false, cond, List, [], ◌∷◌, ◌++◌, length, map, slice_get, Option, Some, None, refl, ap, ◌∙◌, subst, arith}
 use Rattle.std.proofs.Math.ListN.{set}
 use Rattle.std.proofs.lemmas.List.{length-set, length-append, length-map}
 use Rattle.std.specs.Prelude.{nat_le, ◌==◌}
@@ -11,8 +11,9 @@ use Rattle.def_script.specs.Program.{Function, Entry}
 use Rattle.def_node.specs.Event.{Event, linked, unlinked}
 use Rattle.def_node.specs.Process.{Process, Act, waits, continues, sends, links_to, unlinks_from, spawns, exits, act}
 use Rattle.def_node.specs.Node.{World, Move, moved, idle, changed, put_at, with_message, with_link, with_signal, parted, partners_told, living, delivered_to, linked_at, linked_to, unlinked_from, ended, fresh, started, acted, stepped_at, next_of, next_pid, opening_world}
-use Rattle.def_node.specs.Limits.{IsOwnAct, IsSmall, AllSmall, IsWithin, IsAfter, world_after}
+use Rattle.def_node.specs.Limits.{IsOwnAct, IsEntered, IsSmall, AllSmall, IsWithin, IsAfter, world_after}
 use Rattle.def_node.proofs.Acts.{act_own}
+use Rattle.def_node.proofs.Entered.{StaysEntered, act_entered}
 use Rattle.def_node.proofs.Steps.{pid_left}
 
 -- what a step keeps: the limits, and the places that are given
@@ -23,7 +24,7 @@ pub small_at : (ss : List (Option Process)) (i : ℕ) (q : Process) → AllSmall
 small_at [] i q all e = absurd (let k : None ≡ Some (Some q) = e in cc)
 small_at (None ∷ ss) zero q all e = absurd (let k : Some None ≡ Some (Some q) = e in cc)
 small_at (Some r ∷ ss) zero q all e = let k : r ≡ q = (let m : Some (Some r) ≡ Some (Some q) = e in cc) in
-    (let a = all.0.0 in let b = ap (λ (x : Process). length x.frames) k in omega (arith, a, b), ap (λ (x : Process). length x.links) (sym k) ∙ all.0.1)
+    subst IsSmall k all.0
 small_at (None ∷ ss) (suc i) q all e = small_at ss i q all e
 small_at (Some r ∷ ss) (suc i) q all e = small_at ss i q all.1 e
 
@@ -57,14 +58,14 @@ change_keeps : (w : World) (vs : List (Option Process)) (i : ℕ) (f : Process �
     → Keeps w (moved (record { slots = vs }) es) → Keeps w (moved (record { slots = changed vs i f }) es)
 change_keeps w vs i f es h k = ((let a = k.0.0 in omega (arith, a, changed_length vs i f), changed_small vs i f h k.0.1), changed_after w.slots vs i f k.1)
 
-pub own_small : (q r : Process) → r.links ≡ q.links → length r.frames ≤ 64 → IsSmall q → IsSmall r
-own_small q r ls few small = (few, ap length ls ∙ small.1)
+pub own_small : (q r : Process) → r.links ≡ q.links → length r.frames ≤ 64 → IsEntered r.frames → IsSmall q → IsSmall r
+own_small q r ls few entered small = (few, ap length ls ∙ small.1, entered)
 
 message_small : (t : Tree) (q : Process) → IsSmall q → IsSmall (with_message t q)
 message_small t q s = s
 
 link_small : (m : ℕ) (b : Bool) (q : Process) → IsSmall q → IsSmall (with_link m b q)
-link_small m b q s = (s.0, length-set q.links (m - 100) b ∙ s.1)
+link_small m b q s = (s.0, length-set q.links (m - 100) b ∙ s.1, s.2)
 
 signal_small : (r : Tree) (q : Process) → IsSmall q → IsSmall (with_signal r q)
 signal_small r q s = s
@@ -143,7 +144,7 @@ told_after n r (b ∷ bs) (s ∷ ss) [] h = h
 told_after n r (b ∷ bs) (None ∷ ss) (v ∷ vs) h = (none_told n r b v h.0, told_after n r bs ss vs h.1)
 told_after n r (b ∷ bs) (Some q ∷ ss) (v ∷ vs) h = told_after n r bs ss vs h
 
-ended_keeps : (w : World) (i n : ℕ) (partners : List Bool) (r : Tree) (before : Option Event) → IsWithin w → Keeps w (ended w i n partners r before)
+ended_keeps : (w : World) (i n : ℕ) (partners : List Bool) (r : Tree) (before : List Event) → IsWithin w → Keeps w (ended w i n partners r before)
 ended_keeps w i n partners r before in_w =
     let vs = set w.slots i None in
     let few = in_w.0 in (
@@ -164,38 +165,38 @@ more_after (None ∷ ss) (v ∷ vs) q h = (h.0, more_after ss vs q h.1)
 more_after (Some p ∷ ss) (v ∷ vs) q h = more_after ss vs q h
 
 fresh_small : (e : Entry) → IsSmall (fresh e)
-fresh_small e = (omega arith, refl)
+fresh_small e = (omega arith, refl, tt)
 
 started_keeps : (w : World) (vs : List (Option Process)) (n child : ℕ) (e : Entry) → length vs < 64 → Keeps w (idle (record { slots = vs })) → Keeps w (started (record { slots = vs }) n child e)
 started_keeps w vs n child e room k =
     ((simp length-append (omega (arith, room)), more_small vs (fresh e) k.0.1 (fresh_small e)), more_after w.slots vs (fresh e) k.1)
 
-acted_keeps : (w : World) (i n : ℕ) (q : Process) (child : Option ℕ) (a : Act) → IsWithin w → IsSmall q → ((c : ℕ) → child ≡ Some c → length w.slots < 64) → IsOwnAct 64 q.links child a → Keeps w (acted w i n a)
-acted_keeps w i n q child (waits r) in_w s room own = put_keeps w i r [] in_w (own_small q r own.0 own.1 s)
-acted_keeps w i n q child (continues r e) in_w s room own = put_keeps w i r [] in_w (own_small q r own.0 own.1 s)
-acted_keeps w i n q child (sends r m t) in_w s room own =
+acted_keeps : (w : World) (i n : ℕ) (q : Process) (child : Option ℕ) (a : Act) → IsWithin w → IsSmall q → ((c : ℕ) → child ≡ Some c → length w.slots < 64) → IsOwnAct 64 q.links child a → StaysEntered a → Keeps w (acted w i n a)
+acted_keeps w i n q child (waits r) in_w s room own entered = put_keeps w i r [] in_w (own_small q r own.0 own.1 entered s)
+acted_keeps w i n q child (continues r e) in_w s room own entered = put_keeps w i r [] in_w (own_small q r own.0 own.1 entered s)
+acted_keeps w i n q child (sends r m t) in_w s room own entered =
     let v = put_at w i r in
-    delivered_keeps w v.slots n m t (living v m) (put_keeps w i r [] in_w (own_small q r own.0 own.1 s))
-acted_keeps w i n q child (links_to r m) in_w s room own =
+    delivered_keeps w v.slots n m t (living v m) (put_keeps w i r [] in_w (own_small q r own.0 own.1 entered s))
+acted_keeps w i n q child (links_to r m) in_w s room own entered =
     let v = put_at w i r in
-    let k = put_keeps w i r [] in_w (own_small q r own.0 own.1 s) in
+    let k = put_keeps w i r [] in_w (own_small q r own.0 own.1 entered s) in
     if_keeps w (n == m) (moved v []) _ k (if_keeps w (linked_at v i m) (moved v (linked n m ∷ [])) _ k (linked_keeps w v.slots i n m (living v m) k))
-acted_keeps w i n q child (unlinks_from r m) in_w s room own =
+acted_keeps w i n q child (unlinks_from r m) in_w s room own entered =
     let v = put_at w i r in
-    let k = put_keeps w i r [] in_w (own_small q r own.0 own.1 s) in
+    let k = put_keeps w i r [] in_w (own_small q r own.0 own.1 entered s) in
     if_keeps w (n == m) (moved v []) _ k (if_keeps w (linked_at v i m) _ (moved v (unlinked n m ∷ [])) (unlinked_keeps w v.slots i n m (living v m) k) k)
-acted_keeps w i n q child (spawns r c e) in_w s room own =
+acted_keeps w i n q child (spawns r c e) in_w s room own entered =
     let v = put_at w i r in
     let few = room c own.1 in
-    started_keeps w v.slots n c e (omega (arith, few, changed_length w.slots i (λ x. r))) (put_keeps w i r [] in_w (own_small q r own.0.0 own.0.1 s))
-acted_keeps w i n q child (exits partners r before) in_w s room own = ended_keeps w i n partners r before in_w
+    started_keeps w v.slots n c e (omega (arith, few, changed_length w.slots i (λ x. r))) (put_keeps w i r [] in_w (own_small q r own.0.0 own.0.1 entered s))
+acted_keeps w i n q child (exits partners r before) in_w s room own entered = ended_keeps w i n partners r before in_w
 
 stepped_keeps : (ks : List Function) (w : World) (i n : ℕ) (o : Option (Option Process)) → IsWithin w → slice_get w.slots i ≡ o → Keeps w (stepped_at ks w i n o)
 stepped_keeps ks w i n None in_w here = (in_w, after_self w.slots)
 stepped_keeps ks w i n (Some None) in_w here = (in_w, after_self w.slots)
 stepped_keeps ks w i n (Some (Some q)) in_w here =
     let s = small_at w.slots i q in_w.1 here in
-    acted_keeps w i n q (next_pid w) (act ks n (next_pid w) q) in_w s (pid_left w) (act_own 64 (omega arith) ks n (next_pid w) q s.0)
+    acted_keeps w i n q (next_pid w) (act ks n (next_pid w) q) in_w s (pid_left w) (act_own 64 (omega arith) ks n (next_pid w) q s.0) (act_entered ks n (next_pid w) q s.2)
 
 pub next_keeps : (ks : List Function) (w : World) (n : ℕ) → IsWithin w → IsWithin (world_after (next_of ks w n)) × IsAfter w.slots (world_after (next_of ks w n)).slots
 next_keeps ks w n in_w =

@@ -4,10 +4,10 @@ use Rattle.std.specs.Prelude.{nat_le, nat_lt, ◌==◌}
 use Rattle.std.specs.Option.{option_map}
 use Rattle.def_term.specs.Tree.{Tree}
 use Rattle.def_term.specs.Names.{Name, word}
-use Rattle.def_script.specs.Program.{Step, send, receive, call_remote, call_local, spawn, link, unlink, give_back, exit, Function, Program, Entry, entry_mfa, number_from}
+use Rattle.def_script.specs.Program.{Class, Step, send, receive, call_remote, call_local, catch, spawn, link, unlink, give_back, raise, Function, Program, Entry, entry_mfa, number_from}
 use Rattle.def_node.specs.Event.{Event, linked, unlinked}
 use Rattle.def_node.specs.Values.{built, fitting, fitting_all, pid_in}
-use Rattle.def_node.specs.Process.{Process, Frame, Act, waits, continues, sends, links_to, unlinks_from, spawns, exits, with_frames, stepped, advanced, enters, enters_at, leaves_to, to_pid, receives, within, calls, spawns_at, performs, runs_in, runs, begins, act_after, act}
+use Rattle.def_node.specs.Process.{Process, Frame, Exception, Manner, Act, waits, continues, sends, links_to, unlinks_from, spawns, exits, with_frames, stepped, advanced, remotely, locally, catching, exception_of, kept_by, catch_target, raises_to, raises, enters, enters_at, leaves_to, to_pid, receives, within, calls, spawns_at, performs, runs_in, runs, begins, act_after, act}
 use Rattle.def_node.specs.Node.{World, Move, moved, idle, State, Next, gives_command, gives_nothing, next, of_move, changed, put_at, living, delivered_to, linked_at, linked_to, unlinked_from, acted, stepped_at, next_of, next_pid}
 use Rattle.def_node.specs.Limits.{IsStill, NothingChanges, state_after}
 
@@ -25,19 +25,26 @@ if_waits : (o : Process) (b : Bool) (a c : Act) → WaitsAs o a → WaitsAs o c 
 if_waits o true a c p q = p
 if_waits o false a c p q = q
 
-enters_at_waits : (o : Process) (ks : List Function) (n : ℕ) (q : Process) (fs : List Frame) (x : Option Name) (named : Bool) (args : List Tree) (i : ℕ) (k : Option Function)
-    → WaitsAs o (enters_at ks n q fs x named args i k)
-enters_at_waits o ks n q fs x named args i None = tt
-enters_at_waits o ks n q fs x named args i (Some k) = if_waits o (nat_le 64 (length fs)) _ _ tt tt
+enters_at_waits : (o : Process) (ks : List Function) (n : ℕ) (q : Process) (fs : List Frame) (a : Manner) (args : List Tree) (i : ℕ) (k : Option Function)
+    → WaitsAs o (enters_at ks n q fs a args i k)
+enters_at_waits o ks n q fs a args i None = tt
+enters_at_waits o ks n q fs a args i (Some k) = if_waits o (nat_le 64 (length fs)) _ _ tt tt
 
-enters_waits : (o : Process) (ks : List Function) (n : ℕ) (q : Process) (fs : List Frame) (x : Option Name) (named : Bool) (args : List Tree) (i : Option ℕ)
-    → WaitsAs o (enters ks n q fs x named args i)
-enters_waits o ks n q fs x named args None = tt
-enters_waits o ks n q fs x named args (Some i) = enters_at_waits o ks n q fs x named args i (slice_get ks i)
+enters_waits : (o : Process) (ks : List Function) (n : ℕ) (q : Process) (fs : List Frame) (a : Manner) (args : List Tree) (i : Option ℕ)
+    → WaitsAs o (enters ks n q fs a args i)
+enters_waits o ks n q fs a args None = tt
+enters_waits o ks n q fs a args (Some i) = enters_at_waits o ks n q fs a args i (slice_get ks i)
 
 leaves_waits : (o q : Process) (x : Option Name) (fs : List Frame) (t : Tree) (e : Event) → WaitsAs o (leaves_to q x fs t e)
 leaves_waits o q x [] t e = tt
 leaves_waits o q x (g ∷ gs) t e = tt
+
+raises_to_waits : (o q : Process) (x : Option Name) (gs : List Frame) (e : Exception) (es : List Event) → WaitsAs o (raises_to q x gs e es)
+raises_to_waits o q x [] e es = tt
+raises_to_waits o q x (g ∷ gs) e es = tt
+
+raises_waits : (o : Process) (ks : List Function) (n : ℕ) (q : Process) (fs : List Frame) (c : Class) (t : Tree) → WaitsAs o (raises ks n q fs c t)
+raises_waits o ks n q fs c t = raises_to_waits o q (catch_target fs) (kept_by fs) (exception_of fs c t) _
 
 within_waits : {X : Type 0} (o : Process) (ls : List Bool) (v : Option X) (f : X → Act) → ((x : X) → WaitsAs o (f x)) → WaitsAs o (within ls v f)
 within_waits o ls None f h = tt
@@ -55,10 +62,10 @@ spawns_at_waits : (o q : Process) (f : Frame) (fs : List Frame) (x : Option Name
 spawns_at_waits o q f fs x m g args None = tt
 spawns_at_waits o q f fs x m g args (Some c) = tt
 
-calls_waits : (o : Process) (ks : List Function) (n : ℕ) (q : Process) (f : Frame) (fs : List Frame) (x : Option Name) (named : Bool) (m g : Name) (args : List Tree)
-    → WaitsAs o (calls ks n q f fs x named m g args)
-calls_waits o ks n q f fs x named m g args =
-    within_waits o q.links (fitting_all args) _ (λ ts. enters_waits o ks n (stepped q f fs) (advanced f ∷ fs) x named ts (number_from 0 ks (record { module_name = m; function_name = g; arity = length ts })))
+calls_waits : (o : Process) (ks : List Function) (n : ℕ) (q : Process) (f : Frame) (fs : List Frame) (a : Manner) (m g : Name) (args : List Tree)
+    → WaitsAs o (calls ks n q f fs a m g args)
+calls_waits o ks n q f fs a m g args =
+    within_waits o q.links (fitting_all args) _ (λ ts. enters_waits o ks n (stepped q f fs) (advanced f ∷ fs) a ts (number_from 0 ks (record { module_name = m; function_name = g; arity = length ts })))
 
 performs_waits : (o : Process) (ks : List Function) (n : ℕ) (child : Option ℕ) (q : Process) (k : Function) (f : Frame) (fs : List Frame) (s : Option Step)
     → with_frames q (f ∷ fs) ≡ o → WaitsAs o (performs ks n child q k f fs s)
@@ -66,13 +73,14 @@ performs_waits o ks n child q k f fs None is = leaves_waits o q f.target fs (wor
 performs_waits o ks n child q k f fs (Some (send to t)) is =
     within_waits o q.links (fitting (built f.env to)) _ (λ to. within_waits o q.links (fitting (built f.env t)) _ (λ t. to_pid_waits o _ q.links (pid_in to) (λ m. tt)))
 performs_waits o ks n child q k f fs (Some (receive x)) is = receives_waits o q f fs x q.mailbox is
-performs_waits o ks n child q k f fs (Some (call_remote x m g ts)) is = calls_waits o ks n q f fs x true m g (map (built f.env) ts)
-performs_waits o ks n child q k f fs (Some (call_local x g ts)) is = calls_waits o ks n q f fs x false k.module_name g (map (built f.env) ts)
+performs_waits o ks n child q k f fs (Some (call_remote x m g ts)) is = calls_waits o ks n q f fs (remotely x) m g (map (built f.env) ts)
+performs_waits o ks n child q k f fs (Some (call_local x g ts)) is = calls_waits o ks n q f fs (locally x) k.module_name g (map (built f.env) ts)
+performs_waits o ks n child q k f fs (Some (catch x m g ts)) is = calls_waits o ks n q f fs (catching x) m g (map (built f.env) ts)
 performs_waits o ks n child q k f fs (Some (spawn x m g ts)) is = within_waits o q.links (fitting_all (map (built f.env) ts)) _ (λ args. spawns_at_waits o q f fs x m g args child)
 performs_waits o ks n child q k f fs (Some (link t)) is = within_waits o q.links (fitting (built f.env t)) _ (λ t. to_pid_waits o _ q.links (pid_in t) (λ m. tt))
 performs_waits o ks n child q k f fs (Some (unlink t)) is = within_waits o q.links (fitting (built f.env t)) _ (λ t. to_pid_waits o _ q.links (pid_in t) (λ m. tt))
 performs_waits o ks n child q k f fs (Some (give_back t)) is = within_waits o q.links (fitting (built f.env t)) _ (λ t. leaves_waits o q f.target fs t _)
-performs_waits o ks n child q k f fs (Some (exit t)) is = within_waits o q.links (fitting (built f.env t)) _ (λ t. tt)
+performs_waits o ks n child q k f fs (Some (raise c t)) is = within_waits o q.links (fitting (built f.env t)) _ (λ t. raises_waits o ks n q (f ∷ fs) c t)
 
 runs_in_waits : (o : Process) (ks : List Function) (n : ℕ) (child : Option ℕ) (q : Process) (f : Frame) (fs : List Frame) (k : Option Function)
     → with_frames q (f ∷ fs) ≡ o → WaitsAs o (runs_in ks n child q f fs k)
@@ -85,7 +93,7 @@ runs_waits ks n child q (f ∷ fs) is = runs_in_waits q ks n child (with_frames 
 
 begins_waits : (ks : List Function) (n : ℕ) (child : Option ℕ) (q : Process) (e : Option Entry) → WaitsAs q (begins ks n child q e)
 begins_waits ks n child q None = runs_waits ks n child q q.frames refl
-begins_waits ks n child q (Some e) = enters_waits q ks n q q.frames None true e.args (number_from 0 ks (entry_mfa e))
+begins_waits ks n child q (Some e) = enters_waits q ks n q q.frames (remotely None) e.args (number_from 0 ks (entry_mfa e))
 
 act_after_waits : (ks : List Function) (n : ℕ) (child : Option ℕ) (q : Process) (s : Option Tree) → WaitsAs q (act_after ks n child q s)
 act_after_waits ks n child q None = begins_waits ks n child q q.entry

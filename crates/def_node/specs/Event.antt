@@ -1,8 +1,9 @@
 -- The events of the node, which sessions may tell of (trace:process/4 and trace:function/4).
--- Stands on terms and the names of functions.
+-- Stands on terms, the names of functions and the classes of exceptions.
 use Rattle.std.specs.Prelude.{ℕ, Bool, List, Option}
 use Rattle.def_term.specs.Tree.{Tree}
 use Rattle.def_term.specs.Names.{Mfa}
+use Rattle.def_script.specs.Program.{Class}
 
 -- a call: whether it names the module, whether the function is exported, the function of the frame beneath, and the depth of its frame
 pub record Call : Type 0 where
@@ -19,6 +20,8 @@ pub data Event : Type 0 where
   received : (p sender : ℕ) → (message : Tree) → Event
   called : (p : ℕ) → Call → Event
   returned : (p : ℕ) → Mfa → (value : Tree) → (depth : ℕ) → Event
+  -- a frame of this depth is left by an exception of this class and value
+  raised : (p : ℕ) → Mfa → Class → (value : Tree) → (depth : ℕ) → Event
   -- the parent's event, and then the child's
   spawning : (p child : ℕ) → Mfa → (args : List Tree) → Event
   spawned : (p parent : ℕ) → Mfa → (args : List Tree) → Event

@@ -1,10 +1,10 @@
 -- What keeps within the limits of the node (own).
 -- Stands on the node. Laws speak of it.
-use Rattle.std.specs.Prelude.{ℕ, ◌≡◌, ◌≤◌, Bool, List, [], ◌∷◌, length, Option, Some, None}
+use Rattle.std.specs.Prelude.{ℕ, ◌≡◌, ◌≤◌, Bool, false, List, [], ◌∷◌, length, Option, Some, None}
 use Rattle.def_term.specs.Alive.{FIRST_PID, PROCESSES, LAST_PID}
 use Rattle.def_node.specs.Node.{World, Move, moved, idle, State, Next, gives_events, gives_command, gives_nothing}
-use Rattle.def_node.specs.Event.{Event, sent, received, called, returned, spawning, spawned, exited, linked, unlinked, getting_linked, getting_unlinked}
-use Rattle.def_node.specs.Process.{FRAMES, Process, Act, waits, continues, sends, links_to, unlinks_from, spawns, exits}
+use Rattle.def_node.specs.Event.{Event, sent, received, called, returned, raised, spawning, spawned, exited, linked, unlinked, getting_linked, getting_unlinked}
+use Rattle.def_node.specs.Process.{FRAMES, Frame, Process, Act, waits, continues, sends, links_to, unlinks_from, spawns, exits}
 
 -- what a process is after its own act: it has the links that it had, and at most so many frames
 abbrev pub IsOwn : ℕ → List Bool → Process → Type 0
@@ -13,7 +13,7 @@ IsOwn most ls q = (q.links ≡ ls) × (length q.frames ≤ most)
 -- after its own act a process has the links that it had and at most so many frames, a spawn gives the given pid, and an exit tells the partners that the process has
 abbrev pub IsOwnAct : ℕ → List Bool → Option ℕ → Act → Type 0
 IsOwnAct most ls child (waits q) = IsOwn most ls q
-IsOwnAct most ls child (continues q e) = IsOwn most ls q
+IsOwnAct most ls child (continues q es) = IsOwn most ls q
 IsOwnAct most ls child (sends q m t) = IsOwn most ls q
 IsOwnAct most ls child (links_to q m) = IsOwn most ls q
 IsOwnAct most ls child (unlinks_from q m) = IsOwn most ls q
@@ -22,9 +22,15 @@ IsOwnAct most ls child (exits partners r before) = partners ≡ ls
 
 -- ---- the processes
 
--- a process with at most 64 frames, which knows of each of the 64 pids whether it is linked to it
+-- no catch step called the oldest of the frames, which is that of the entry call
+abbrev pub IsEntered : List Frame → Type 0
+IsEntered [] = Unit {0}
+IsEntered (f ∷ []) = f.by_catch ≡ false
+IsEntered (f ∷ g ∷ gs) = IsEntered (g ∷ gs)
+
+-- a process with at most 64 frames, of which no catch step called the oldest, and which knows of each of the 64 pids whether it is linked to it
 abbrev pub IsSmall : Process → Type 0
-IsSmall q = (length q.frames ≤ FRAMES) × (length q.links ≡ PROCESSES)
+IsSmall q = (length q.frames ≤ FRAMES) × (length q.links ≡ PROCESSES) × IsEntered q.frames
 
 -- each process that lives is small
 abbrev pub AllSmall : List (Option Process) → Type 0
@@ -77,6 +83,7 @@ IsKnownEvent (sent p t to alive) = IsKnown p
 IsKnownEvent (received p sender t) = IsKnown p
 IsKnownEvent (called p c) = IsKnown p
 IsKnownEvent (returned p f t depth) = IsKnown p
+IsKnownEvent (raised p f c t depth) = IsKnown p
 IsKnownEvent (spawning p child f args) = IsKnown p × IsKnown child
 IsKnownEvent (spawned p parent f args) = IsKnown p × IsKnown parent
 IsKnownEvent (exited p r) = IsKnown p

@@ -1,6 +1,6 @@
 -- The node: all processes, and what one step of one of them does to the others (own). It knows nothing of sessions.
 -- Stands on events, on the program and on what a process does by itself.
-use Rattle.std.specs.Prelude.{ℕ, zero, suc, ◌+◌, ◌-◌, ◌==◌, nat_le, nat_lt, Bool, true, false, ◌&&◌, if◌then◌else◌, List, [], ◌∷◌, ◌++◌, length, map, replicate, slice_get, slice_set, Option, Some, None, option_to_list}
+use Rattle.std.specs.Prelude.{ℕ, zero, suc, ◌+◌, ◌-◌, ◌==◌, nat_le, nat_lt, Bool, true, false, ◌&&◌, if◌then◌else◌, List, [], ◌∷◌, ◌++◌, length, map, replicate, slice_get, slice_set, Option, Some, None}
 use Rattle.std.specs.Option.{option_map, unwrap_or}
 use Rattle.def_term.specs.Tree.{Tree}
 use Rattle.def_term.specs.Order.{same}
@@ -130,10 +130,10 @@ partner_pids m (true ∷ bs) = m ∷ partner_pids (suc m) bs
 partner_pids m (false ∷ bs) = partner_pids (suc m) bs
 
 -- an exit gives exit, then for each linked partner by rising pid getting_unlinked
-abbrev pub ended : World → ℕ → ℕ → List Bool → Tree → Option Event → Move
+abbrev pub ended : World → ℕ → ℕ → List Bool → Tree → List Event → Move
 ended w i n partners r before =
     moved (record { slots = partners_told n r partners (slice_set w.slots i None) })
-    (option_to_list before ++ exited n r ∷ map (λ m. getting_unlinked m n) (partner_pids FIRST_PID partners))
+    (before ++ exited n r ∷ map (λ m. getting_unlinked m n) (partner_pids FIRST_PID partners))
 
 -- ---- spawning
 
@@ -156,7 +156,7 @@ started w n child e =
 -- the act of the process n, at the place i: first the process is what the act leaves of it, and then comes what else the act does
 abbrev pub acted : World → ℕ → ℕ → Act → Move
 acted w i n (waits q) = idle (put_at w i q)
-acted w i n (continues q e) = moved (put_at w i q) (option_to_list e)
+acted w i n (continues q es) = moved (put_at w i q) es
 acted w i n (sends q m t) = delivered (put_at w i q) n m t
 acted w i n (links_to q m) = link_made (put_at w i q) i n m
 acted w i n (unlinks_from q m) = link_removed (put_at w i q) i n m

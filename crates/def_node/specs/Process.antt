@@ -1,19 +1,23 @@
 -- A process, and what it does by itself at its next step (own).
 -- Stands on the events, on templates and on the program. What the step does to other processes is in `Node`.
-use Rattle.std.specs.Prelude.{ℕ, ◌+◌, nat_le, Bool, true, false, if◌then◌else◌, List, [], ◌∷◌, map, length, slice_get, Option, Some, None, codes}
+-- Exceptions are those of erlang:error/1, throw/1 and exit/1, caught as by `catch`; they have no stack trace.
+use Rattle.std.specs.Prelude.{ℕ, ◌+◌, nat_le, Bool, true, false, if◌then◌else◌, List, [], ◌∷◌, map, filter_map, length, slice_get, Option, Some, None, codes}
+use Rattle.std.specs.List.{list_any}
 use Rattle.std.specs.Option.{option_map}
-use Rattle.def_term.specs.Tree.{Tree, pid}
+use Rattle.def_term.specs.Tree.{Tree, pid, tuple, list, none, more}
 use Rattle.def_term.specs.Names.{Name, Mfa, word}
-use Rattle.def_script.specs.Program.{Step, send, receive, call_remote, call_local, spawn, link, unlink, give_back, exit, Function, mfa_of, Entry, entry_mfa, number_from}
-use Rattle.def_node.specs.Event.{Event, called, returned}
+use Rattle.def_script.specs.Program.{Class, error, throw, Step, send, receive, call_remote, call_local, catch, spawn, link, unlink, give_back, raise, Function, mfa_of, Entry, entry_mfa, number_from}
+use Rattle.def_node.specs.Event.{Event, called, returned, raised}
 use Rattle.def_node.specs.Values.{Env, built, fitting, fitting_all, pid_in, rebound_target, params_bound}
 
--- a call that goes on: its function's number, how many of its steps are done, the values of its variables, and the caller's target
+-- a call that goes on: its function's number, how many of its steps are done, the values of its variables, the caller's target,
+-- and whether a catch step called it
 pub record Frame : Type 0 where
   pub function : ℕ
   pub place : ℕ
   pub env : Env
   pub target : Option Name
+  pub by_catch : Bool
 
 -- the newest frame first; the mailbox in the order of arrival; whether it is linked to each of the pids from 100 on
 pub record Process : Type 0 where
@@ -26,13 +30,14 @@ pub record Process : Type 0 where
 -- what a process does at its next step, and what it is then
 pub data Act : Type 0 where
   waits : Process → Act
-  continues : Process → Option Event → Act
+  -- with the events of the step: one at most, but where a raise leaves frames
+  continues : Process → List Event → Act
   sends : Process → (to : ℕ) → (message : Tree) → Act
   links_to : Process → (other : ℕ) → Act
   unlinks_from : Process → (other : ℕ) → Act
   spawns : Process → (child : ℕ) → Entry → Act
-  -- with an event before the exit, where a return gives one
-  exits : (partners : List Bool) → (reason : Tree) → Option Event → Act
+  -- with the events before the exit: that of a return, or those of a raise
+  exits : (partners : List Bool) → (reason : Tree) → List Event → Act
 
 -- the process with these frames
 abbrev pub with_frames : Process → List Frame → Process
@@ -59,32 +64,112 @@ caller_of ks (f ∷ fs) = mfa_at ks f.function
 abbrev pub FRAMES : ℕ
 FRAMES = 64
 
+-- how a call is made: the target of its value, whether it names the module, and whether it is a catch
+pub record Manner : Type 0 where
+  pub target : Option Name
+  pub named : Bool
+  pub by_catch : Bool
+
+-- naming the module
+abbrev pub remotely : Option Name → Manner
+remotely x = record { target = x; named = true; by_catch = false }
+
+-- without naming it
+abbrev pub locally : Option Name → Manner
+locally x = record { target = x; named = false; by_catch = false }
+
+-- naming it in a catch
+abbrev pub catching : Option Name → Manner
+catching x = record { target = x; named = true; by_catch = true }
+
 -- a call of the function k with the number i, over the frames beneath. Over so many frames it ends the process
-abbrev pub enters_at : List Function → ℕ → Process → List Frame → Option Name → Bool → List Tree → ℕ → Option Function → Act
-enters_at ks n q fs x named args i None = exits q.links (word "undef") None
-enters_at ks n q fs x named args i (Some k) =
-    if nat_le FRAMES (length fs) then exits q.links (word "system_limit") None else
-    continues (record q { entry = None; frames = record { function = i; place = 0; env = params_bound ((codes "Self", pid n) ∷ []) k.params args; target = x } ∷ fs })
-    (Some (called n (record { mfa = mfa_of k; args = args; named = named; exported = k.exported; caller = caller_of ks fs; depth = length fs + 1 })))
+abbrev pub enters_at : List Function → ℕ → Process → List Frame → Manner → List Tree → ℕ → Option Function → Act
+enters_at ks n q fs a args i None = exits q.links (word "undef") []
+enters_at ks n q fs a args i (Some k) =
+    if nat_le FRAMES (length fs) then exits q.links (word "system_limit") [] else
+    continues (record q { entry = None; frames = record { function = i; place = 0; env = params_bound ((codes "Self", pid n) ∷ []) k.params args; target = a.target; by_catch = a.by_catch } ∷ fs })
+    (called n (record { mfa = mfa_of k; args = args; named = a.named; exported = k.exported; caller = caller_of ks fs; depth = length fs + 1 }) ∷ [])
 
 -- a call of a function by its number; a program that keeps the static rules names only functions that are there
-abbrev pub enters : List Function → ℕ → Process → List Frame → Option Name → Bool → List Tree → Option ℕ → Act
-enters ks n q fs x named args None = exits q.links (word "undef") None
-enters ks n q fs x named args (Some i) = enters_at ks n q fs x named args i (slice_get ks i)
+abbrev pub enters : List Function → ℕ → Process → List Frame → Manner → List Tree → Option ℕ → Act
+enters ks n q fs a args None = exits q.links (word "undef") []
+enters ks n q fs a args (Some i) = enters_at ks n q fs a args i (slice_get ks i)
+
+-- the process goes on in the frame g, with a value at a target
+abbrev pub resumed : Process → Option Name → Tree → Frame → List Frame → Process
+resumed q x t g gs = record q { frames = record g { env = rebound_target x t g.env } ∷ gs }
 
 -- a return from the entry frame is followed by the exit with reason `normal`
 abbrev pub leaves_to : Process → Option Name → List Frame → Tree → Event → Act
-leaves_to q x [] t e = exits q.links (word "normal") (Some e)
-leaves_to q x (g ∷ gs) t e = continues (record q { frames = record g { env = rebound_target x t g.env } ∷ gs }) (Some e)
+leaves_to q x [] t e = exits q.links (word "normal") (e ∷ [])
+leaves_to q x (g ∷ gs) t e = continues (resumed q x t g gs) (e ∷ [])
 
 -- a return of this value from a frame of the function k, over the frames beneath
 abbrev pub leaves : ℕ → Process → Function → Option Name → List Frame → Tree → Act
 leaves n q k x fs t = leaves_to q x fs t (returned n (mfa_of k) t (length fs + 1))
 
+-- ---- exceptions
+
+-- an exception, by its class and its value
+pub record Exception : Type 0 where
+  pub class : Class
+  pub value : Tree
+
+-- what a raise over these frames raises: a throw where a catch step called none of them is the error {nocatch,T}
+abbrev pub exception_of : List Frame → Class → Tree → Exception
+exception_of fs throw t =
+    if list_any (λ f. f.by_catch) fs then record { class = throw; value = t } else
+    record { class = error; value = tuple (more (word "nocatch") (more t none)) }
+exception_of fs c t = record { class = c; value = t }
+
+-- the reason with which it ends a process, if it isn't caught: that of an error has a stack trace too, which is empty (own)
+abbrev pub reason_of : Class → Tree → Tree
+reason_of error t = tuple (more t (more (list none) none))
+reason_of c t = t
+
+-- the value of the catch that it is caught by
+abbrev pub caught_as : Class → Tree → Tree
+caught_as throw t = t
+caught_as c t = tuple (more (word "EXIT") (more (reason_of c t) none))
+
+-- the frames that it leaves, each with its depth: from the newest on down to the first that a catch step called, or else all
+abbrev pub left_by : List Frame → List (Frame × ℕ)
+left_by [] = []
+left_by (f ∷ fs) = (f, length fs + 1) ∷ (if f.by_catch then [] else left_by fs)
+
+-- the frames beneath those: none where it isn't caught
+abbrev pub kept_by : List Frame → List Frame
+kept_by [] = []
+kept_by (f ∷ fs) = if f.by_catch then fs else kept_by fs
+
+-- the target of the catch step that called the last of those left
+abbrev pub catch_target : List Frame → Option Name
+catch_target [] = None
+catch_target (f ∷ fs) = if f.by_catch then f.target else catch_target fs
+
+-- the event of a frame that is left
+abbrev pub raised_in : List Function → ℕ → Exception → Frame × ℕ → Option Event
+raised_in ks n e left = option_map (λ m. raised n m e.class e.value left.1) (mfa_at ks left.0.function)
+
+-- where the entry frame is left too the process ends; else it goes on behind the catch step
+abbrev pub raises_to : Process → Option Name → List Frame → Exception → List Event → Act
+raises_to q x [] e es = exits q.links (reason_of e.class e.value) es
+raises_to q x (g ∷ gs) e es = continues (resumed q x (caught_as e.class e.value) g gs) es
+
+-- an exception leaves frames from the newest on down
+abbrev pub leaves_by : List Function → ℕ → Process → List Frame → Exception → Act
+leaves_by ks n q fs e = raises_to q (catch_target fs) (kept_by fs) e (filter_map (raised_in ks n e) (left_by fs))
+
+-- a raise of this class and value, in the newest of these frames
+abbrev pub raises : List Function → ℕ → Process → List Frame → Class → Tree → Act
+raises ks n q fs c t = leaves_by ks n q fs (exception_of fs c t)
+
+-- ---- steps
+
 -- a target of a send, link or unlink that is no pid ends the process
 abbrev pub to_pid : (ℕ → Act) → List Bool → Option ℕ → Act
 to_pid f ls (Some n) = f n
-to_pid f ls None = exits ls (word "badarg") None
+to_pid f ls None = exits ls (word "badarg") []
 
 -- the process with its newest frame one step on
 abbrev pub stepped : Process → Frame → List Frame → Process
@@ -97,12 +182,12 @@ binds q f fs x t = record q { frames = record f { place = f.place + 1; env = reb
 -- it can't move while the mailbox is empty
 abbrev pub receives : Process → Frame → List Frame → Option Name → List Tree → Act
 receives q f fs x [] = waits (with_frames q (f ∷ fs))
-receives q f fs x (t ∷ ts) = continues (record (binds q f fs x t) { mailbox = ts }) None
+receives q f fs x (t ∷ ts) = continues (record (binds q f fs x t) { mailbox = ts }) []
 
 -- what follows where the built terms are within the limits; else the process ends, and nothing else of the step happens
 abbrev pub within : {X : Type 0} → List Bool → Option X → (X → Act) → Act
 within ls (Some t) f = f t
-within ls None f = exits ls (word "system_limit") None
+within ls None f = exits ls (word "system_limit") []
 
 -- a send: both templates within the limits first, then the kind of the target
 abbrev pub sends_to : Process → Frame → List Frame → Tree → Tree → Act
@@ -110,13 +195,13 @@ sends_to q f fs to t =
     within q.links (fitting to) (λ to. within q.links (fitting t) (λ t. to_pid (λ n. sends (stepped q f fs) n t) q.links (pid_in to)))
 
 -- a call: its arguments within the limits first, then the frame
-abbrev pub calls : List Function → ℕ → Process → Frame → List Frame → Option Name → Bool → Name → Name → List Tree → Act
-calls ks n q f fs x named m g args =
-    within q.links (fitting_all args) (λ args. enters ks n (stepped q f fs) (advanced f ∷ fs) x named args (number_from 0 ks (record { module_name = m; function_name = g; arity = length args })))
+abbrev pub calls : List Function → ℕ → Process → Frame → List Frame → Manner → Name → Name → List Tree → Act
+calls ks n q f fs a m g args =
+    within q.links (fitting_all args) (λ args. enters ks n (stepped q f fs) (advanced f ∷ fs) a args (number_from 0 ks (record { module_name = m; function_name = g; arity = length args })))
 
 -- a spawn with no pid left ends the process
 abbrev pub spawns_at : Process → Frame → List Frame → Option Name → Name → Name → List Tree → Option ℕ → Act
-spawns_at q f fs x m g args None = exits q.links (word "system_limit") None
+spawns_at q f fs x m g args None = exits q.links (word "system_limit") []
 spawns_at q f fs x m g args (Some child) = spawns (binds q f fs x (pid child)) child (record { module_name = m; function_name = g; args = args })
 
 -- a spawn: its arguments within the limits first, then the pid
@@ -137,13 +222,14 @@ abbrev pub performs : List Function → ℕ → Option ℕ → Process → Funct
 performs ks n child q k f fs None = leaves n q k f.target fs (word "ok")
 performs ks n child q k f fs (Some (send to t)) = sends_to q f fs (built f.env to) (built f.env t)
 performs ks n child q k f fs (Some (receive x)) = receives q f fs x q.mailbox
-performs ks n child q k f fs (Some (call_remote x m g ts)) = calls ks n q f fs x true m g (map (built f.env) ts)
-performs ks n child q k f fs (Some (call_local x g ts)) = calls ks n q f fs x false k.module_name g (map (built f.env) ts)
+performs ks n child q k f fs (Some (call_remote x m g ts)) = calls ks n q f fs (remotely x) m g (map (built f.env) ts)
+performs ks n child q k f fs (Some (call_local x g ts)) = calls ks n q f fs (locally x) k.module_name g (map (built f.env) ts)
+performs ks n child q k f fs (Some (catch x m g ts)) = calls ks n q f fs (catching x) m g (map (built f.env) ts)
 performs ks n child q k f fs (Some (spawn x m g ts)) = spawns_with q f fs x m g (map (built f.env) ts) child
 performs ks n child q k f fs (Some (link t)) = links_with q f fs (built f.env t)
 performs ks n child q k f fs (Some (unlink t)) = unlinks_with q f fs (built f.env t)
 performs ks n child q k f fs (Some (give_back t)) = within q.links (fitting (built f.env t)) (leaves n q k f.target fs)
-performs ks n child q k f fs (Some (exit t)) = within q.links (fitting (built f.env t)) (λ t. exits q.links t None)
+performs ks n child q k f fs (Some (raise c t)) = within q.links (fitting (built f.env t)) (raises ks n q (f ∷ fs) c)
 
 -- a step of the newest frame, whose function is this one
 abbrev pub runs_in : List Function → ℕ → Option ℕ → Process → Frame → List Frame → Option Function → Act
@@ -157,12 +243,12 @@ runs ks n child q (f ∷ fs) = runs_in ks n child (with_frames q fs) f fs (slice
 
 -- the first step of a process makes its entry call, which names the module
 abbrev pub begins : List Function → ℕ → Option ℕ → Process → Option Entry → Act
-begins ks n child q (Some e) = enters ks n q q.frames None true e.args (number_from 0 ks (entry_mfa e))
+begins ks n child q (Some e) = enters ks n q q.frames (remotely None) e.args (number_from 0 ks (entry_mfa e))
 begins ks n child q None = runs ks n child q q.frames
 
 -- a pending exit signal is taken before anything else
 abbrev pub act_after : List Function → ℕ → Option ℕ → Process → Option Tree → Act
-act_after ks n child q (Some r) = exits q.links r None
+act_after ks n child q (Some r) = exits q.links r []
 act_after ks n child q None = begins ks n child q q.entry
 
 -- the next step of the process q with the pid n

@@ -11,6 +11,7 @@ pub mod SpecificationRows
 pub mod ValueRows
 pub mod ClauseRows
 pub mod MarkRows
+pub mod ExceptionRows
 pub mod FlagRows
 pub mod NodeRows
 pub mod CommandRows

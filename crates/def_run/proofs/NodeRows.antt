@@ -5,14 +5,14 @@ use Rattle.std.specs.Fmt.{digits}
 use Rattle.def_term.specs.Tree.{pid}
 use Rattle.def_term.specs.Names.{word}
 use Rattle.def_term.specs.Text.{is_written_bare}
-use Rattle.def_script.specs.Program.{Program, send, receive, call_remote, spawn, link, unlink, give_back, exit}
+use Rattle.def_script.specs.Program.{exit, Program, send, receive, call_remote, spawn, link, unlink, give_back, raise}
 use Rattle.def_run.specs.Round.{round}
 use Rattle.def_run.specs.Listing.{program_output}
 use Rattle.def_run.proofs.Samples.{number, braces, brackets, function, internal, entry, call_unnamed, program, creates, sets, sets_function, lines, script_a}
 
 -- partners are told of an exit by rising pid
 partners_by_rising_pid : program_output (program
-    (function "go" [] (link (pid 102) ∷ link (pid 101) ∷ exit (word "boom") ∷ []) ∷ function "peer" [] (receive None ∷ []) ∷ [])
+    (function "go" [] (link (pid 102) ∷ link (pid 101) ∷ raise exit (word "boom") ∷ []) ∷ function "peer" [] (receive None ∷ []) ∷ [])
     (entry "go" [] ∷ entry "peer" [] ∷ entry "peer" [] ∷ [])
     (creates "s1" "t1" ∷ sets "s1" (word "all") ("procs" ∷ []) ∷ []))
     (0 ∷ 0 ∷ 100 ∷ 100 ∷ 100 ∷ 100 ∷ [])
@@ -32,7 +32,7 @@ links_are_cut = refl
 
 -- the oldest signal is taken
 oldest_signal : program_output (program
-    (function "go" [] (link (pid 101) ∷ link (pid 199) ∷ []) ∷ function "peer" [] (exit (word "boom") ∷ []) ∷ [])
+    (function "go" [] (link (pid 101) ∷ link (pid 199) ∷ []) ∷ function "peer" [] (raise exit (word "boom") ∷ []) ∷ [])
     (entry "go" [] ∷ entry "peer" [] ∷ [])
     (creates "s1" "t1" ∷ sets "s1" (word "all") ("procs" ∷ []) ∷ []))
     (0 ∷ 0 ∷ 100 ∷ 100 ∷ 100 ∷ 101 ∷ 101 ∷ 100 ∷ [])
@@ -42,7 +42,7 @@ oldest_signal = refl
 
 -- a later exit with the reason `noproc` does not overtake an older signal
 older_signal_than_noproc : program_output (program
-    (function "go" [] (link (pid 101) ∷ link (pid 102) ∷ []) ∷ function "peer" [] (exit (word "boom") ∷ []) ∷ function "other" [] (link (pid 199) ∷ []) ∷ [])
+    (function "go" [] (link (pid 101) ∷ link (pid 102) ∷ []) ∷ function "peer" [] (raise exit (word "boom") ∷ []) ∷ function "other" [] (link (pid 199) ∷ []) ∷ [])
     (entry "go" [] ∷ entry "peer" [] ∷ entry "other" [] ∷ [])
     (creates "s1" "t1" ∷ sets "s1" (pid 100) ("procs" ∷ []) ∷ []))
     (0 ∷ 0 ∷ 100 ∷ 100 ∷ 100 ∷ 101 ∷ 101 ∷ 102 ∷ 102 ∷ 102 ∷ 100 ∷ [])
@@ -52,7 +52,7 @@ older_signal_than_noproc = refl
 
 -- a pending signal is taken before anything else
 signal_before_steps : program_output (program
-    (function "go" [] (link (pid 101) ∷ send (word "Self") (word "x") ∷ []) ∷ function "peer" [] (exit (word "boom") ∷ []) ∷ [])
+    (function "go" [] (link (pid 101) ∷ send (word "Self") (word "x") ∷ []) ∷ function "peer" [] (raise exit (word "boom") ∷ []) ∷ [])
     (entry "go" [] ∷ entry "peer" [] ∷ [])
     (creates "s1" "t1" ∷ sets "s1" (word "all") ("procs" ∷ "send" ∷ []) ∷ []))
     (0 ∷ 0 ∷ 100 ∷ 100 ∷ 101 ∷ 101 ∷ 100 ∷ [])
@@ -62,7 +62,7 @@ signal_before_steps = refl
 
 -- a link to itself, a second link, unlink where no link is
 links_and_unlinks : program_output (program
-    (function "go" [] (link (word "Self") ∷ link (pid 101) ∷ link (pid 101) ∷ unlink (pid 101) ∷ unlink (pid 101) ∷ unlink (word "Self") ∷ exit (word "bye") ∷ []) ∷ function "peer" [] (receive None ∷ []) ∷ [])
+    (function "go" [] (link (word "Self") ∷ link (pid 101) ∷ link (pid 101) ∷ unlink (pid 101) ∷ unlink (pid 101) ∷ unlink (word "Self") ∷ raise exit (word "bye") ∷ []) ∷ function "peer" [] (receive None ∷ []) ∷ [])
     (entry "go" [] ∷ entry "peer" [] ∷ [])
     (creates "s1" "t1" ∷ sets "s1" (word "all") ("procs" ∷ []) ∷ []))
     (0 ∷ 0 ∷ 100 ∷ 100 ∷ 100 ∷ 100 ∷ 100 ∷ 100 ∷ 100 ∷ 100 ∷ [])
@@ -72,7 +72,7 @@ links_and_unlinks = refl
 
 -- returned values, messages, `Self`, and a variable bound again
 values_of_variables : program_output (program
-    (function "go" [] (call_remote (Some (codes "X")) (codes "m") (codes "id") (number 1 ∷ []) ∷ send (word "Self") (word "X") ∷ receive (Some (codes "Y")) ∷ call_remote (Some (codes "X")) (codes "m") (codes "id") (braces (word "X" ∷ word "Y" ∷ word "Self" ∷ []) ∷ []) ∷ exit (word "X") ∷ []) ∷ function "id" ("X" ∷ []) (give_back (word "X") ∷ []) ∷ [])
+    (function "go" [] (call_remote (Some (codes "X")) (codes "m") (codes "id") (number 1 ∷ []) ∷ send (word "Self") (word "X") ∷ receive (Some (codes "Y")) ∷ call_remote (Some (codes "X")) (codes "m") (codes "id") (braces (word "X" ∷ word "Y" ∷ word "Self" ∷ []) ∷ []) ∷ raise exit (word "X") ∷ []) ∷ function "id" ("X" ∷ []) (give_back (word "X") ∷ []) ∷ [])
     (entry "go" [] ∷ [])
     (creates "s1" "t1" ∷ sets "s1" (word "all") ("procs" ∷ []) ∷ []))
     (0 ∷ 0 ∷ 100 ∷ 100 ∷ 100 ∷ 100 ∷ 100 ∷ 100 ∷ 100 ∷ 100 ∷ [])
@@ -82,7 +82,7 @@ values_of_variables = refl
 
 -- after the last step a return of `ok`
 steps_used_up : program_output (program
-    (function "go" [] (call_remote (Some (codes "X")) (codes "m") (codes "noop") [] ∷ spawn (Some (codes "Y")) (codes "m") (codes "noop") [] ∷ exit (brackets (word "X" ∷ word "Y" ∷ [])) ∷ []) ∷ function "noop" [] [] ∷ [])
+    (function "go" [] (call_remote (Some (codes "X")) (codes "m") (codes "noop") [] ∷ spawn (Some (codes "Y")) (codes "m") (codes "noop") [] ∷ raise exit (brackets (word "X" ∷ word "Y" ∷ [])) ∷ []) ∷ function "noop" [] [] ∷ [])
     (entry "go" [] ∷ [])
     (creates "s1" "t1" ∷ sets "s1" (word "all") ("procs" ∷ []) ∷ []))
     (0 ∷ 0 ∷ 100 ∷ 100 ∷ 100 ∷ 100 ∷ 100 ∷ [])
@@ -92,7 +92,7 @@ steps_used_up = refl
 
 -- the first message is taken first
 messages_in_order : program_output (program
-    (function "go" [] (send (word "Self") (word "a") ∷ send (word "Self") (word "b") ∷ receive (Some (codes "X")) ∷ receive (Some (codes "Y")) ∷ exit (braces (word "X" ∷ word "Y" ∷ [])) ∷ []) ∷ [])
+    (function "go" [] (send (word "Self") (word "a") ∷ send (word "Self") (word "b") ∷ receive (Some (codes "X")) ∷ receive (Some (codes "Y")) ∷ raise exit (braces (word "X" ∷ word "Y" ∷ [])) ∷ []) ∷ [])
     (entry "go" [] ∷ [])
     (creates "s1" "t1" ∷ sets "s1" (word "all") ("procs" ∷ []) ∷ []))
     (0 ∷ 0 ∷ 100 ∷ 100 ∷ 100 ∷ 100 ∷ 100 ∷ 100 ∷ [])

@@ -4,7 +4,7 @@ use Rattle.std.specs.Fmt.{digits}
 use Rattle.def_term.specs.Tree.{pid}
 use Rattle.def_term.specs.Names.{word}
 use Rattle.def_term.specs.Text.{is_written_bare}
-use Rattle.def_script.specs.Program.{Program, send, receive, link, exit}
+use Rattle.def_script.specs.Program.{exit, Program, send, receive, link, raise}
 use Rattle.def_run.specs.Round.{round}
 use Rattle.def_run.specs.Listing.{program_output}
 use Rattle.def_run.proofs.Samples.{number, brackets, function, entry, call_unnamed, program, creates, sets, lines, script_a}
@@ -62,7 +62,7 @@ idle_picks_leave_no_trace = refl
 
 -- an exit tells the linked partner, which exits with the same reason
 exit_signal : program_output (program
-    (function "go" [] (link (pid 101) ∷ exit (word "boom") ∷ []) ∷ function "peer" [] (receive None ∷ []) ∷ [])
+    (function "go" [] (link (pid 101) ∷ raise exit (word "boom") ∷ []) ∷ function "peer" [] (receive None ∷ []) ∷ [])
     (entry "go" [] ∷ entry "peer" [] ∷ [])
     (creates "s1" "t1" ∷ sets "s1" (word "all") ("procs" ∷ []) ∷ []))
     (0 ∷ 0 ∷ 100 ∷ 101 ∷ 100 ∷ 100 ∷ 101 ∷ [])

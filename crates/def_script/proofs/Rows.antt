@@ -3,7 +3,7 @@ use Prim.Native.String.{String}
 use Rattle.std.specs.Prelude.{◌≡◌, ℕ, pos, true, false, List, [], ◌∷◌, ◌++◌, map, replicate, Some, None, codes, refl}
 use Rattle.def_term.specs.Tree.{Tree, int, pid, tuple, list, of_elements}
 use Rattle.def_term.specs.Names.{word}
-use Rattle.def_script.specs.Program.{Step, send, receive, call_remote, call_local, give_back, Form, declares, starts, controls, create, destroy, set_processes}
+use Rattle.def_script.specs.Program.{error, throw, exit, Step, send, receive, call_remote, call_local, catch, give_back, raise, Form, declares, starts, controls, create, destroy, set_processes}
 use Rattle.def_script.specs.Shapes.{form_in, step_in, command_in, function_from, entry_from}
 use Rattle.def_script.specs.Rules.{duplicate, undeclared, not_exported, unbound, tracer_taken, wrong_arity, past_limit, breaks, first_broken}
 use Rattle.def_script.specs.Script.{form, too_many_forms, refusal_line, bad_picks}
@@ -61,6 +61,29 @@ no_target = refl
 no_options : command_in (tuple_of (word "session_create" ∷ word "s" ∷ word "t" ∷ list_of (word "x" ∷ []) ∷ [])) ≡ None
 no_options = refl
 
+-- {'catch','X',{m,f},[]}, {error,a}, {throw,a}, {exit,a}
+caught : step_in (tuple_of (word "catch" ∷ word "X" ∷ tuple_of (word "m" ∷ word "f" ∷ []) ∷ empty ∷ [])) ≡ Some (catch (Some (codes "X")) (codes "m") (codes "f") [])
+caught = refl
+
+erring : step_in (tuple_of (word "error" ∷ word "a" ∷ [])) ≡ Some (raise error (word "a"))
+erring = refl
+
+throwing : step_in (tuple_of (word "throw" ∷ word "a" ∷ [])) ≡ Some (raise throw (word "a"))
+throwing = refl
+
+exiting : step_in (tuple_of (word "exit" ∷ word "a" ∷ [])) ≡ Some (raise exit (word "a"))
+exiting = refl
+
+-- a catch names the module, and 'Self' is no target of it; an error has its value
+local_catch : step_in (tuple_of (word "catch" ∷ word "X" ∷ word "f" ∷ empty ∷ [])) ≡ None
+local_catch = refl
+
+catch_for_self : step_in (tuple_of (word "catch" ∷ word "Self" ∷ tuple_of (word "m" ∷ word "f" ∷ []) ∷ empty ∷ [])) ≡ None
+catch_for_self = refl
+
+bare_error : step_in (tuple_of (word "error" ∷ [])) ≡ None
+bare_error = refl
+
 -- ---- rules
 
 abbrev go : List Step → Form
@@ -90,11 +113,30 @@ uncreated = refl
 internal_call : first_broken (go (call_remote None (codes "m") (codes "f") [] ∷ []) ∷ hidden ∷ []) ≡ Some (1, not_exported)
 internal_call = refl
 
+internal_catch : first_broken (go (catch None (codes "m") (codes "f") [] ∷ []) ∷ hidden ∷ []) ≡ Some (1, not_exported)
+internal_catch = refl
+
+undeclared_catch : first_broken (go (catch None (codes "m") (codes "f") [] ∷ []) ∷ []) ≡ Some (1, undeclared)
+undeclared_catch = refl
+
+catch_with_one_too_many : first_broken (go (catch None (codes "m") (codes "go") (int (pos 1) ∷ []) ∷ []) ∷ []) ≡ Some (1, wrong_arity)
+catch_with_one_too_many = refl
+
 internal_local_call : first_broken (go (call_local None (codes "f") [] ∷ []) ∷ hidden ∷ []) ≡ None
 internal_local_call = refl
 
 unbound_return : first_broken (go (give_back (word "X") ∷ []) ∷ []) ≡ Some (1, unbound)
 unbound_return = refl
+
+unbound_argument_of_catch : first_broken (go (catch (Some (codes "X")) (codes "m") (codes "go") (word "X" ∷ []) ∷ []) ∷ []) ≡ Some (1, unbound)
+unbound_argument_of_catch = refl
+
+unbound_throw : first_broken (go (raise throw (word "X") ∷ []) ∷ []) ≡ Some (1, unbound)
+unbound_throw = refl
+
+-- the target of a catch is bound behind it
+bound_by_catch : first_broken (go (catch (Some (codes "X")) (codes "m") (codes "go") [] ∷ raise error (word "X") ∷ []) ∷ []) ≡ None
+bound_by_catch = refl
 
 bound_return : first_broken (go (receive (Some (codes "X")) ∷ give_back (word "X") ∷ give_back (word "Self") ∷ []) ∷ []) ≡ None
 bound_return = refl

@@ -1,5 +1,5 @@
 -- A program: the functions that it declares, the processes that it begins with, and its control list of session commands.
--- Stands on terms. The script language is this project's own; the commands are trace:session_create/3, session_destroy/1, process/4, function/4, send/3 and recv/3.
+-- Stands on terms. The script language is this project's own; the classes of exceptions are those of the module erlang, and the commands trace:session_create/3, session_destroy/1, process/4, function/4, send/3 and recv/3.
 use Rattle.std.specs.Prelude.{ℕ, suc, nat_le, Bool, false, ◌&&◌, List, [], ◌∷◌, length, Option, Some, None, if◌then◌else◌}
 use Rattle.def_term.specs.Tree.{Tree}
 use Rattle.def_term.specs.Names.{Name, Mfa, same_mfa}
@@ -9,6 +9,10 @@ abbrev pub is_variable : Name → Bool
 is_variable [] = false
 is_variable (c ∷ cs) = nat_le 65 c && nat_le c 90
 
+-- the class of an exception, by the function of the module erlang that raises it: error/1, throw/1 or exit/1
+pub data Class : Type 0 where
+  error throw exit : Class
+
 -- a step of a function; its terms are templates. A target that is none throws the value away (own)
 pub data Step : Type 0 where
   send : (to message : Tree) → Step
@@ -16,11 +20,14 @@ pub data Step : Type 0 where
   -- a call that names the module, and one that doesn't
   call_remote : (target : Option Name) → (module_name function_name : Name) → (args : List Tree) → Step
   call_local : (target : Option Name) → (function_name : Name) → (args : List Tree) → Step
+  -- a call that names the module, and catches what is raised in it
+  catch : (target : Option Name) → (module_name function_name : Name) → (args : List Tree) → Step
   spawn : (target : Option Name) → (module_name function_name : Name) → (args : List Tree) → Step
   link : (other : Tree) → Step
   unlink : (other : Tree) → Step
   give_back : (value : Tree) → Step
-  exit : (reason : Tree) → Step
+  -- an exception of that class
+  raise : Class → (value : Tree) → Step
 
 -- a function of a module, exported or internal, with its parameters and steps
 pub record Function : Type 0 where

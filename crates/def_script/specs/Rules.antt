@@ -7,7 +7,7 @@ use Rattle.def_term.specs.Tree.{Tree, int, atom, pid, tuple, list, Trees, none, 
 use Rattle.def_term.specs.Names.{Name, Mfa, same_mfa}
 use Rattle.def_term.specs.Text.{is_among}
 use Rattle.def_script.specs.Limits.{FUNCTIONS, STEPS, INITIAL_PROCESSES, COMMANDS, SESSIONS}
-use Rattle.def_script.specs.Program.{is_variable, Step, send, receive, call_remote, call_local, spawn, link, unlink, give_back, exit, Function, mfa_of, Entry, entry_mfa, Command, create, session_of, Form, declares, starts, controls}
+use Rattle.def_script.specs.Program.{is_variable, Step, send, receive, call_remote, call_local, catch, spawn, link, unlink, give_back, raise, Function, mfa_of, Entry, entry_mfa, Command, create, session_of, Form, declares, starts, controls}
 use Rattle.def_script.specs.Shapes.{self_name}
 
 -- the rules by their names; their numbers are those of the refusals
@@ -96,16 +96,18 @@ is_internal fs f = list_any (declares_one (λ k. same_mfa (mfa_of k) f && not k.
 abbrev pub function_named : Name → Name → List Tree → Mfa
 function_named m f args = record { module_name = m; function_name = f; arity = length args }
 
--- what a step calls or spawns; a call that doesn't name the module names that of its function
+-- what a step calls or spawns; a call that doesn't name the module names that of its function. A catch is a call
 abbrev pub named_by : Name → Step → Option Mfa
 named_by m (call_remote v n f args) = Some (function_named n f args)
 named_by m (call_local v f args) = Some (function_named m f args)
+named_by m (catch v n f args) = Some (function_named n f args)
 named_by m (spawn v n f args) = Some (function_named n f args)
 named_by m s = None
 
 -- what a step spawns, or calls with the module
 abbrev pub named_with_module : Step → Option Mfa
 named_with_module (call_remote v n f args) = Some (function_named n f args)
+named_with_module (catch v n f args) = Some (function_named n f args)
 named_with_module (spawn v n f args) = Some (function_named n f args)
 named_with_module s = None
 
@@ -131,17 +133,19 @@ terms_of (send to message) = to ∷ message ∷ []
 terms_of (receive v) = []
 terms_of (call_remote v m f args) = args
 terms_of (call_local v f args) = args
+terms_of (catch v m f args) = args
 terms_of (spawn v m f args) = args
 terms_of (link t) = t ∷ []
 terms_of (unlink t) = t ∷ []
 terms_of (give_back t) = t ∷ []
-terms_of (exit t) = t ∷ []
+terms_of (raise c t) = t ∷ []
 
 -- the variable that the step binds, if it binds one
 abbrev pub target_of_step : Step → Option Name
 target_of_step (receive v) = v
 target_of_step (call_remote v m f args) = v
 target_of_step (call_local v f args) = v
+target_of_step (catch v m f args) = v
 target_of_step (spawn v m f args) = v
 target_of_step s = None
 

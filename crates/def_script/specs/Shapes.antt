@@ -8,7 +8,7 @@ use Rattle.def_term.specs.Tree.{Tree, atom, tuple, list, none, elements}
 use Rattle.def_term.specs.Names.{Name}
 use Rattle.def_term.specs.Text.{is_among}
 use Rattle.def_script.specs.Limits.{PARAMETERS}
-use Rattle.def_script.specs.Program.{is_variable, Step, send, receive, call_remote, call_local, spawn, link, unlink, give_back, exit, Function, Entry, Command, create, destroy, set_processes, set_function, set_send, set_receive, Form, declares, starts, controls}
+use Rattle.def_script.specs.Program.{is_variable, Class, error, throw, exit, Step, send, receive, call_remote, call_local, catch, spawn, link, unlink, give_back, raise, Function, Entry, Command, create, destroy, set_processes, set_function, set_send, set_receive, Form, declares, starts, controls}
 
 -- what is made of two parts, where both are there
 abbrev pub both : {X Y Z : Type 0} → (X → Y → Z) → Option X → Option Y → Option Z
@@ -152,7 +152,7 @@ abbrev pub receive_in : List Tree → Option Step
 receive_in (tag ∷ v ∷ []) = option_map receive (target_in v)
 receive_in ts = None
 
--- {M,F} of a call or a spawn
+-- {M,F} of a call, a catch or a spawn
 abbrev pub callee_of : List Tree → Option (Name × Name)
 callee_of (m ∷ f ∷ []) = both (λ x y. (x, y)) (name_in m) (name_in f)
 callee_of ts = None
@@ -165,6 +165,10 @@ callee_in t = and_then (tuple_in t) callee_of
 abbrev pub remote_call : Option Name → Name × Name → List Tree → Step
 remote_call v callee args = call_remote v callee.0 callee.1 args
 
+-- a catch of a call of M and F
+abbrev pub catch_of : Option Name → Name × Name → List Tree → Step
+catch_of v callee args = catch v callee.0 callee.1 args
+
 -- a spawn of M and F
 abbrev pub spawn_of : Option Name → Name × Name → List Tree → Step
 spawn_of v callee args = spawn v callee.0 callee.1 args
@@ -174,12 +178,12 @@ abbrev pub call_in : List Tree → Option Step
 call_in (tag ∷ v ∷ f ∷ args ∷ []) = if is_tuple f then all_three remote_call (target_in v) (callee_in f) (args_in args) else all_three call_local (target_in v) (name_in f) (args_in args)
 call_in ts = None
 
--- {spawn,V,{M,F},Args}
-abbrev pub spawn_in : List Tree → Option Step
-spawn_in (tag ∷ v ∷ f ∷ args ∷ []) = all_three spawn_of (target_in v) (callee_in f) (args_in args)
-spawn_in ts = None
+-- {'catch',V,{M,F},Args} and {spawn,V,{M,F},Args}
+abbrev pub of_callee_in : (Option Name → Name × Name → List Tree → Step) → List Tree → Option Step
+of_callee_in g (tag ∷ v ∷ f ∷ args ∷ []) = all_three g (target_in v) (callee_in f) (args_in args)
+of_callee_in g ts = None
 
--- {link,T}, {unlink,T}, {return,T} and {exit,T}
+-- {link,T}, {unlink,T}, {return,T}, {error,T}, {throw,T} and {exit,T}
 abbrev pub of_one_in : (Tree → Step) → List Tree → Option Step
 of_one_in f (tag ∷ t ∷ []) = Some (f t)
 of_one_in f ts = None
@@ -190,11 +194,14 @@ step_of_fields ts =
     if is_tagged "send" ts then send_in ts else
     if is_tagged "receive" ts then receive_in ts else
     if is_tagged "call" ts then call_in ts else
-    if is_tagged "spawn" ts then spawn_in ts else
+    if is_tagged "catch" ts then of_callee_in catch_of ts else
+    if is_tagged "spawn" ts then of_callee_in spawn_of ts else
     if is_tagged "link" ts then of_one_in link ts else
     if is_tagged "unlink" ts then of_one_in unlink ts else
     if is_tagged "return" ts then of_one_in give_back ts else
-    if is_tagged "exit" ts then of_one_in exit ts else
+    if is_tagged "error" ts then of_one_in (raise error) ts else
+    if is_tagged "throw" ts then of_one_in (raise throw) ts else
+    if is_tagged "exit" ts then of_one_in (raise exit) ts else
     None
 
 -- the term as a step

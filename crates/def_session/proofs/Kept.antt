@@ -4,14 +4,14 @@ use Rattle.def_term.specs.Tree.{Tree, tuple, none, more}
 use Rattle.def_term.specs.Names.{word}
 use Rattle.def_term.specs.Order.{same}
 use Rattle.def_script.specs.Program.{Command, create, destroy, set_processes, set_function, set_send, set_receive}
-use Rattle.def_node.specs.Event.{Event, called, returned, spawned, exited, getting_linked}
+use Rattle.def_node.specs.Event.{Event, called, returned, raised, spawned, exited, getting_linked}
 use Rattle.def_spec.specs.Flags.{Flags}
 use Rattle.def_spec.specs.Expressions.{Effect, gives_message, traces_return, traces_exception, silences, changes, for_calls, for_sends, for_receives}
 use Rattle.def_spec.specs.Reading.{SpecFault, badarg, unsupported, Reads}
 use Rattle.def_session.specs.Settings.{Covered, Setting, setting_of, covered_of, options_of}
-use Rattle.def_session.specs.State.{Phase, absent, live, destroyed, Session}
+use Rattle.def_session.specs.State.{Phase, absent, live, destroyed, Kind, Session}
 use Rattle.def_script.specs.Opening.{Opening}
-use Rattle.def_session.specs.Session.{inherited, evaluated, affected, all_affected, marks_frame, marked, finished, told_for, told_in}
+use Rattle.def_session.specs.Session.{inherited, evaluated, affected, all_affected, mark_asked, marked, finished, told_for, told_in}
 use Rattle.def_session.specs.Messages.{process_of}
 use Rattle.def_session.specs.Commands.{number, refused, fault_term, Procs, one_process, existing, new_processes, all_processes, procs_of, how_of, flags_of, flags_set, flags_set_if, function_set, function_set_if, send_set, receive_set, done_live, done_absent, done_destroyed, done_in}
 use Rattle.def_term.specs.Alive.{is_alive}
@@ -156,13 +156,14 @@ all_functions : (p : ℕ) (s : Session) (es : List Effect) → (all_affected p s
 all_functions p s [] = refl
 all_functions p s (e ∷ es) = all_functions p (affected p s e) es ∙ affected_functions p s e
 
-marked_functions : (b : Bool) (s : Session) (p depth : ℕ) → (if b then marked s p depth else s).functions ≡ s.functions
-marked_functions true s p depth = refl
-marked_functions false s p depth = refl
+marked_functions : (s : Session) (p depth : ℕ) (k : Option Kind) → (marked s p depth k).functions ≡ s.functions
+marked_functions s p depth None = refl
+marked_functions s p depth (Some k) = refl
 
 finished_functions : (s : Session) (e : Event) (es : List Effect) → (finished s e es).functions ≡ s.functions
-finished_functions s (called p c) es = marked_functions (marks_frame es) s p c.depth
+finished_functions s (called p c) es = marked_functions s p c.depth (mark_asked es)
 finished_functions s (returned p f t depth) es = refl
+finished_functions s (raised p f c t depth) es = refl
 finished_functions s (exited p r) es = refl
 finished_functions s _ es = refl
 

@@ -4,3 +4,4 @@ pub mod Messages
 pub mod Ends
 pub mod Life
 pub mod Kept
+mod Marks

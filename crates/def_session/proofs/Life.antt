@@ -1,12 +1,12 @@
 -- Before a creation; who lives; and the phase.
-use Rattle.std.proofs.Common.{◌≡◌, ℕ, List, [], ◌∷◌, Bool, true, false, if◌then◌else◌, refl, ap, ◌∙◌, Option, Some, None}
+use Rattle.std.proofs.Common.{◌≡◌, ℕ, List, [], ◌∷◌, false, refl, ap, ◌∙◌, Option, Some, None}
 use Rattle.def_term.specs.Alive.{Alive, with_alive}
 use Rattle.def_script.specs.Program.{Command, create}
 use Rattle.def_script.specs.Rules.{is_creation}
-use Rattle.def_node.specs.Event.{Event, called, returned, spawned, exited, getting_linked}
+use Rattle.def_node.specs.Event.{Event, called, returned, raised, spawned, exited, getting_linked}
 use Rattle.def_spec.specs.Expressions.{Effect, gives_message, traces_return, traces_exception, silences, changes}
-use Rattle.def_session.specs.State.{Phase, absent, live, destroyed, Session, alive_after}
-use Rattle.def_session.specs.Session.{inherited, evaluated, affected, all_affected, marks_frame, marked, finished, told_for, told_in}
+use Rattle.def_session.specs.State.{Phase, absent, live, destroyed, Kind, Session, alive_after}
+use Rattle.def_session.specs.Session.{inherited, evaluated, affected, all_affected, mark_asked, marked, finished, told_for, told_in}
 use Rattle.def_session.specs.Commands.{refused, done_absent, done_in}
 use Rattle.def_session.specs.Messages.{process_of}
 use Rattle.def_session.specs.Laws.{CreationMakesLive, CommandBeforeCreation, EventBeforeCreation, LifeGoesByEvents, EventKeepsThePhase}
@@ -54,23 +54,25 @@ abbrev after_end : Alive → Event → Alive
 after_end alive (exited p r) = with_alive alive p false
 after_end alive _ = alive
 
-marked_alive : (b : Bool) (s : Session) (p depth : ℕ) → (if b then marked s p depth else s).alive ≡ s.alive
-marked_alive true s p depth = refl
-marked_alive false s p depth = refl
+marked_alive : (s : Session) (p depth : ℕ) (k : Option Kind) → (marked s p depth k).alive ≡ s.alive
+marked_alive s p depth None = refl
+marked_alive s p depth (Some k) = refl
 
-marked_phase : (b : Bool) (s : Session) (p depth : ℕ) → (if b then marked s p depth else s).phase ≡ s.phase
-marked_phase true s p depth = refl
-marked_phase false s p depth = refl
+marked_phase : (s : Session) (p depth : ℕ) (k : Option Kind) → (marked s p depth k).phase ≡ s.phase
+marked_phase s p depth None = refl
+marked_phase s p depth (Some k) = refl
 
 finished_alive : (s : Session) (e : Event) (es : List Effect) → (finished s e es).alive ≡ after_end s.alive e
-finished_alive s (called p c) es = marked_alive (marks_frame es) s p c.depth
+finished_alive s (called p c) es = marked_alive s p c.depth (mark_asked es)
 finished_alive s (returned p f t depth) es = refl
+finished_alive s (raised p f c t depth) es = refl
 finished_alive s (exited p r) es = refl
 finished_alive s _ es = refl
 
 finished_phase : (s : Session) (e : Event) (es : List Effect) → (finished s e es).phase ≡ s.phase
-finished_phase s (called p c) es = marked_phase (marks_frame es) s p c.depth
+finished_phase s (called p c) es = marked_phase s p c.depth (mark_asked es)
 finished_phase s (returned p f t depth) es = refl
+finished_phase s (raised p f c t depth) es = refl
 finished_phase s (exited p r) es = refl
 finished_phase s _ es = refl
 

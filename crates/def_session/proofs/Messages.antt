@@ -4,12 +4,12 @@ use Rattle.def_term.specs.Tree.{Tree, tuple, of_elements}
 use Rattle.def_term.specs.Order.{same}
 use Rattle.def_term.specs.Names.{word}
 use Rattle.def_term.proofs.Same.{same-is, same-self}
-use Rattle.def_node.specs.Event.{Event, sent, received, called, returned, spawning, spawned, exited, linked, unlinked, getting_linked, getting_unlinked}
+use Rattle.def_node.specs.Event.{Event, sent, received, called, returned, raised, spawning, spawned, exited, linked, unlinked, getting_linked, getting_unlinked}
 use Rattle.def_spec.specs.Flags.{Flag, arity_flag}
 use Rattle.def_spec.specs.Expressions.{Effect}
 use Rattle.def_session.specs.State.{Phase, absent, live, destroyed, Session, flags_at}
 use Rattle.def_session.specs.Messages.{elements_of, process_of, last_message, decided, followed_by}
-use Rattle.def_session.specs.Session.{inherited, where_set, evaluated, is_silenced, message_after, is_marked, all_affected, told_for, told_in}
+use Rattle.def_session.specs.Session.{inherited, where_set, evaluated, is_silenced, message_after, is_marked, is_marked_for_exceptions, all_affected, told_for, told_in}
 use Rattle.def_session.specs.Laws.{needed_for, IsMessageOf, plainly, with_one_more, IsToldOf, MessageIsOfItsEvent, ShortCallHasItsArity, PlainCallHasItsArguments}
 
 value_in : (t u : Tree) → Some t ≡ Some u → t ≡ u
@@ -54,6 +54,7 @@ evaluated_set s (sent p t to alive) es h = set_where s p (needed_for (sent p t t
 evaluated_set s (received p sender t) es h = set_where s p (needed_for (received p sender t)) _ es h
 evaluated_set s (called p c) es h = set_where s p (needed_for (called p c)) _ es h
 evaluated_set s (returned p f t depth) es h = set_at_return (is_marked s p depth) s p (needed_for (returned p f t depth)) _ es h
+evaluated_set s (raised p f c t depth) es h = set_at_return (is_marked_for_exceptions s p depth) s p (needed_for (raised p f c t depth)) _ es h
 evaluated_set s (spawning p child f args) es h = set_where s p (needed_for (spawning p child f args)) _ es h
 evaluated_set s (spawned p parent f args) es h = set_where s p (needed_for (spawned p parent f args)) _ es h
 evaluated_set s (exited p r) es h = set_where s p (needed_for (exited p r)) _ es h

@@ -1,20 +1,20 @@
 -- What is promised of the definitions of a session (trace:session_create/3, session_destroy/1, process/4, function/4, send/3, recv/3).
 -- Stands on all definitions of a session.
-use Rattle.std.specs.Prelude.{◌≡◌, ◌≢◌, ◌≤◌, ℕ, Bool, true, false, ◌||◌, ◌⊎◌, if◌then◌else◌, List, [], ◌∷◌, ◌++◌, All, Option, Some, None, Ok, pos}
+use Rattle.std.specs.Prelude.{◌≡◌, ◌≢◌, ◌≤◌, ◌<◌, ◌-◌, ℕ, Bool, true, false, not, ◌&&◌, ◌||◌, ◌⊎◌, if◌then◌else◌, List, [], ◌∷◌, ◌++◌, length, All, Option, Some, None, Ok, pos}
 use Rattle.def_term.specs.Tree.{Tree, int, atom, pid, tuple, list, of_elements}
 use Rattle.def_term.specs.Alive.{FIRST_PID, with_alive}
-use Rattle.def_term.specs.Names.{Name, Mfa, word}
-use Rattle.def_script.specs.Program.{Command, create, destroy, set_function}
+use Rattle.def_term.specs.Names.{Name, Mfa, word, mfa_term}
+use Rattle.def_script.specs.Program.{Class, Command, create, destroy, set_function}
 use Rattle.def_script.specs.Opening.{Opening}
 use Rattle.def_script.specs.Rules.{is_creation}
-use Rattle.def_node.specs.Event.{Event, Call, sent, received, called, returned, spawning, spawned, exited, linked, unlinked, getting_linked, getting_unlinked}
-use Rattle.def_spec.specs.Flags.{Flag, no_flags, send_flag, receive_flag, call_flag, procs_flag, arity_flag}
-use Rattle.def_spec.specs.Expressions.{for_calls, Effect}
+use Rattle.def_node.specs.Event.{Event, Call, sent, received, called, returned, raised, spawning, spawned, exited, linked, unlinked, getting_linked, getting_unlinked}
+use Rattle.def_spec.specs.Flags.{Flag, no_flags, send_flag, receive_flag, call_flag, procs_flag, silent_flag, arity_flag}
+use Rattle.def_spec.specs.Expressions.{for_calls, Effect, traces_return, traces_exception}
 use Rattle.def_spec.specs.Reading.{SpecFault}
 use Rattle.def_session.specs.Settings.{Covered, Setting, off, Covering, has_among, setting_for, setting_of, covered_of, options_of}
-use Rattle.def_session.specs.State.{absent, live, destroyed, Session, flags_at, alive_after, unset}
-use Rattle.def_session.specs.Messages.{elements_of, process_of, last_message}
-use Rattle.def_session.specs.Session.{inherited, is_marked, evaluated, all_affected, event_told}
+use Rattle.def_session.specs.State.{absent, live, destroyed, Kind, for_returns, for_exceptions, Session, flags_at, mark_of, alive_after, unset}
+use Rattle.def_session.specs.Messages.{class_term, elements_of, process_of, last_message}
+use Rattle.def_session.specs.Session.{inherited, evaluated, all_affected, mark_asked, event_told}
 use Rattle.def_session.specs.Commands.{matching_count, number, fault_term, command_done}
 
 -- ---- settings
@@ -76,6 +76,7 @@ needed_for (sent p t to alive) = send_flag
 needed_for (received p sender t) = receive_flag
 needed_for (called p c) = call_flag
 needed_for (returned p f t depth) = call_flag
+needed_for (raised p f c t depth) = call_flag
 needed_for (spawning p child f args) = procs_flag
 needed_for (spawned p parent f args) = procs_flag
 needed_for (exited p r) = procs_flag
@@ -117,6 +118,14 @@ PlainCallHasItsArguments =
     (p : ℕ) (c : Call) →
     elements_of false (called p c) ≡ call_ending_with p (tuple (of_elements (atom c.mfa.module_name ∷ atom c.mfa.function_name ∷ list (of_elements c.args) ∷ [])))
 
+-- {trace,P,return_from,{M,F,Arity},Value}
+abbrev pub return_message : ℕ → Mfa → Tree → Tree
+return_message p f t = tuple (of_elements (word "trace" ∷ pid p ∷ word "return_from" ∷ mfa_term f ∷ t ∷ []))
+
+-- {trace,P,exception_from,{M,F,Arity},{Class,Value}}
+abbrev pub exception_message : ℕ → Mfa → Class → Tree → Tree
+exception_message p f c t = tuple (of_elements (word "trace" ∷ pid p ∷ word "exception_from" ∷ mfa_term f ∷ tuple (of_elements (class_term c ∷ t ∷ [])) ∷ []))
+
 -- ---- after destruction
 
 -- an accepted destruction takes all settings, flags and marks away
@@ -135,17 +144,76 @@ CommandAfterDestruction = (o : Opening) (s : Session) (c : Command) → s.phase 
 abbrev pub DestroyedAgain : Type 0
 DestroyedAgain = (o : Opening) (s : Session) (name : Name) → s.phase ≡ destroyed → (command_done o s (destroy name)).1 ≡ word "false"
 
+-- ---- marks
+
+-- exception_trace asks for a mark for exceptions, whatever stands before and behind it
+abbrev pub ExceptionTraceMarks : Type 0
+ExceptionTraceMarks = (before behind : List Effect) → mark_asked (before ++ traces_exception ∷ behind) ≡ Some for_exceptions
+
+-- this effect isn't among them
+abbrev pub Lacks : Effect → List Effect → Type 0
+Lacks e es = All (λ x. x ≢ e) es
+
+-- return_trace without it for one for returns
+abbrev pub ReturnTraceMarks : Type 0
+ReturnTraceMarks =
+    (before behind : List Effect) → Lacks traces_exception before → Lacks traces_exception behind →
+    mark_asked (before ++ traces_return ∷ behind) ≡ Some for_returns
+
+-- and effects without either for none
+abbrev pub OtherEffectsMarkNothing : Type 0
+OtherEffectsMarkNothing = (es : List Effect) → Lacks traces_return es → Lacks traces_exception es → mark_asked es ≡ None
+
+-- a call gets the mark that its effects ask for, in a session that has a place for the process
+abbrev pub CallIsMarked : Type 0
+CallIsMarked =
+    (s : Session) (p : ℕ) (c : Call) (es : List Effect) (k : Kind) → s.phase ≡ live → p - FIRST_PID < length s.marks →
+    evaluated s (called p c) ≡ Some es → mark_asked es ≡ Some k → mark_of (event_told s (called p c)).0 p c.depth ≡ Some k
+
+-- an exception that leaves a frame which is marked for exceptions is told exactly where `call` is set and `silent` is clear
+abbrev pub ExceptionIsTold : Type 0
+ExceptionIsTold =
+    (s : Session) (p : ℕ) (f : Mfa) (c : Class) (t : Tree) (depth : ℕ) → s.phase ≡ live → mark_of s p depth ≡ Some for_exceptions →
+    (event_told s (raised p f c t depth)).1 ≡ (if flags_at s p call_flag && not (flags_at s p silent_flag) then Some (exception_message p f c t) else None)
+
+-- and no other is: neither one that leaves a frame which is marked for returns, nor one that leaves a frame without a mark
+abbrev pub NoOtherException : Type 0
+NoOtherException =
+    (s : Session) (p : ℕ) (f : Mfa) (c : Class) (t : Tree) (depth : ℕ) → mark_of s p depth ≢ Some for_exceptions →
+    (event_told s (raised p f c t depth)).1 ≡ None
+
+-- a return of a frame with a mark of either kind is told exactly so
+abbrev pub ReturnIsTold : Type 0
+ReturnIsTold =
+    (s : Session) (p : ℕ) (f : Mfa) (t : Tree) (depth : ℕ) (k : Kind) → s.phase ≡ live → mark_of s p depth ≡ Some k →
+    (event_told s (returned p f t depth)).1 ≡ (if flags_at s p call_flag && not (flags_at s p silent_flag) then Some (return_message p f t) else None)
+
+-- and no other is
+abbrev pub NoOtherReturn : Type 0
+NoOtherReturn = (s : Session) (p : ℕ) (f : Mfa) (t : Tree) (depth : ℕ) → mark_of s p depth ≡ None → (event_told s (returned p f t depth)).1 ≡ None
+
 -- ---- the end of frames and processes
 
 -- after a return its frame has no mark
 abbrev pub ReturnEndsTheMark : Type 0
-ReturnEndsTheMark = (s : Session) (p : ℕ) (f : Mfa) (t : Tree) (depth : ℕ) → s.phase ≡ live → is_marked (event_told s (returned p f t depth)).0 p depth ≡ false
+ReturnEndsTheMark = (s : Session) (p : ℕ) (f : Mfa) (t : Tree) (depth : ℕ) → s.phase ≡ live → mark_of (event_told s (returned p f t depth)).0 p depth ≡ None
 
 -- and no other frame of the process loses its own
 abbrev pub ReturnEndsNoOtherMark : Type 0
 ReturnEndsNoOtherMark =
     (s : Session) (p : ℕ) (f : Mfa) (t : Tree) (depth other : ℕ) → other ≢ depth →
-    is_marked (event_told s (returned p f t depth)).0 p other ≡ is_marked s p other
+    mark_of (event_told s (returned p f t depth)).0 p other ≡ mark_of s p other
+
+-- an exception that leaves a frame takes the mark of that frame too, whether it is told or not
+abbrev pub RaiseEndsTheMark : Type 0
+RaiseEndsTheMark =
+    (s : Session) (p : ℕ) (f : Mfa) (c : Class) (t : Tree) (depth : ℕ) → s.phase ≡ live → mark_of (event_told s (raised p f c t depth)).0 p depth ≡ None
+
+-- and no other
+abbrev pub RaiseEndsNoOtherMark : Type 0
+RaiseEndsNoOtherMark =
+    (s : Session) (p : ℕ) (f : Mfa) (c : Class) (t : Tree) (depth other : ℕ) → other ≢ depth →
+    mark_of (event_told s (raised p f c t depth)).0 p other ≡ mark_of s p other
 
 -- after a process's exit its flags are gone
 abbrev pub ExitEndsTheFlags : Type 0
@@ -153,13 +221,13 @@ ExitEndsTheFlags = (s : Session) (p : ℕ) (r : Tree) → s.phase ≡ live → f
 
 -- and its marks, at every depth
 abbrev pub ExitEndsTheMarks : Type 0
-ExitEndsTheMarks = (s : Session) (p : ℕ) (r : Tree) (depth : ℕ) → s.phase ≡ live → is_marked (event_told s (exited p r)).0 p depth ≡ false
+ExitEndsTheMarks = (s : Session) (p : ℕ) (r : Tree) (depth : ℕ) → s.phase ≡ live → mark_of (event_told s (exited p r)).0 p depth ≡ None
 
 -- no event, whichever it is, marks a frame of a process that it isn't about, or takes such a mark away
 abbrev pub MarksOfOthersStay : Type 0
 MarksOfOthersStay =
     (s : Session) (e : Event) (q depth : ℕ) → FIRST_PID ≤ process_of e → FIRST_PID ≤ q → process_of e ≢ q →
-    is_marked (event_told s e).0 q depth ≡ is_marked s q depth
+    mark_of (event_told s e).0 q depth ≡ mark_of s q depth
 
 -- after its exit a process no longer lives
 abbrev pub ExitEndsTheLife : Type 0

@@ -2,16 +2,16 @@
 -- Stands on the session's state and settings, on the outcome of specifications and on messages.
 -- It knows no other session, and nothing of how the events came about.
 use Rattle.std.specs.Prelude.{ℕ, ◌==◌, Bool, true, false, not, if◌then◌else◌, List, [], ◌∷◌, filter, Option, Some, None}
-use Rattle.std.specs.List.{list_any}
+use Rattle.std.specs.Option.{is_some}
 use Rattle.def_term.specs.Tree.{Tree, pid}
 use Rattle.def_term.specs.Names.{Mfa, word}
 use Rattle.def_term.specs.Alive.{with_alive}
 use Rattle.def_spec.specs.Flags.{Flag, Flags, no_flags, only, joined, without, send_flag, receive_flag, call_flag, procs_flag, silent_flag, arity_flag, after_spawn, after_link}
 use Rattle.def_spec.specs.Expressions.{Context, Effect, gives_message, traces_return, traces_exception, silences, changes}
 use Rattle.def_spec.specs.Outcome.{Outcome, no_match, matched, outcome_of}
-use Rattle.def_node.specs.Event.{Event, sent, received, called, returned, spawning, spawned, exited, linked, unlinked, getting_linked, getting_unlinked}
+use Rattle.def_node.specs.Event.{Event, sent, received, called, returned, raised, spawning, spawned, exited, linked, unlinked, getting_linked, getting_unlinked}
 use Rattle.def_session.specs.Settings.{Setting, off, plain, by, setting_for}
-use Rattle.def_session.specs.State.{Phase, absent, live, destroyed, Session, flags_at, with_flags, marks_at, with_marks, alive_after}
+use Rattle.def_session.specs.State.{Phase, absent, live, destroyed, Kind, for_returns, for_exceptions, Session, flags_at, with_flags, marks_at, with_marks, mark_of, alive_after}
 use Rattle.def_session.specs.Messages.{elements_of, process_of, last_message, decided}
 
 -- ---- inheritance
@@ -43,21 +43,35 @@ evaluated_by (by s) c = effects_in (outcome_of s c)
 abbrev pub context : Session → ℕ → List Tree → Option Mfa → Context
 context s me ts caller = record { matched_list = ts; me = me; caller_mfa = caller; alive = s.alive }
 
--- the frame of this depth is marked
+-- the frame of this depth is marked, for whatever
 abbrev pub is_marked : Session → ℕ → ℕ → Bool
-is_marked s p depth = list_any (λ d. d == depth) (marks_at s p)
+is_marked s p depth = is_some (mark_of s p depth)
+
+-- a mark for exceptions
+abbrev pub is_for_exceptions : Option Kind → Bool
+is_for_exceptions (Some for_exceptions) = true
+is_for_exceptions _ = false
+
+-- the frame of this depth is marked for exceptions
+abbrev pub is_marked_for_exceptions : Session → ℕ → ℕ → Bool
+is_marked_for_exceptions s p depth = is_for_exceptions (mark_of s p depth)
 
 -- evaluated where the process has the flag
 abbrev pub where_set : Session → ℕ → Flag → Option (List Effect) → Option (List Effect)
 where_set s p f r = if flags_at s p f then r else None
 
+-- a return or an exception, where the mark of its frame is for that, and the process has the flag `call` at that moment (own)
+abbrev pub where_marked : Session → ℕ → Bool → Option (List Effect)
+where_marked s p m = if m then where_set s p call_flag (Some []) else None
+
 -- the effects, or none where the event isn't evaluated. The list that is matched: a call's arguments, [Receiver,Msg] for a send,
--- [Node,Sender,Msg] for a receive. The return of a marked frame is told where `call` is set at that moment (own)
+-- [Node,Sender,Msg] for a receive
 abbrev pub evaluated : Session → Event → Option (List Effect)
 evaluated s (sent p t to alive) = where_set s p send_flag (evaluated_by s.sending (context s p (pid to ∷ t ∷ []) None))
 evaluated s (received p sender t) = where_set s p receive_flag (evaluated_by s.receiving (context s p (word "nonode@nohost" ∷ pid sender ∷ t ∷ []) None))
 evaluated s (called p c) = where_set s p call_flag (evaluated_by (setting_for s.functions c) (context s p c.args c.caller))
-evaluated s (returned p f t depth) = if is_marked s p depth then where_set s p call_flag (Some []) else None
+evaluated s (returned p f t depth) = where_marked s p (is_marked s p depth)
+evaluated s (raised p f c t depth) = where_marked s p (is_marked_for_exceptions s p depth)
 evaluated s (spawning p child f args) = where_set s p procs_flag (Some [])
 evaluated s (spawned p parent f args) = where_set s p procs_flag (Some [])
 evaluated s (exited p r) = where_set s p procs_flag (Some [])
@@ -81,19 +95,25 @@ abbrev pub all_affected : ℕ → Session → List Effect → Session
 all_affected p s [] = s
 all_affected p s (e ∷ es) = all_affected p (affected p s e) es
 
--- exception_trace acts as return_trace, since there are no exceptions here (own)
-abbrev pub marks_frame : List Effect → Bool
-marks_frame [] = false
-marks_frame (traces_return ∷ es) = true
-marks_frame (traces_exception ∷ es) = true
-marks_frame (_ ∷ es) = marks_frame es
+-- return_trace marks for returns, where no mark is asked for yet
+abbrev pub or_for_returns : Option Kind → Option Kind
+or_for_returns None = Some for_returns
+or_for_returns (Some k) = Some k
+
+-- the mark that effects ask for: exception_trace one for exceptions, whatever stands beside it, return_trace alone one for returns
+abbrev pub mark_asked : List Effect → Option Kind
+mark_asked [] = None
+mark_asked (traces_return ∷ es) = or_for_returns (mark_asked es)
+mark_asked (traces_exception ∷ es) = Some for_exceptions
+mark_asked (_ ∷ es) = mark_asked es
 
 -- ---- the message
 
--- `silent` inhibits call and return_from messages alone, the latter where it is set at the moment of the return (own)
+-- `silent` inhibits call, return_from and exception_from messages alone, the latter two where it is set as the frame is left (own)
 abbrev pub is_silenced : Session → Event → Bool
 is_silenced s (called p c) = flags_at s p silent_flag
 is_silenced s (returned p f t depth) = flags_at s p silent_flag
+is_silenced s (raised p f c t depth) = flags_at s p silent_flag
 is_silenced s _ = false
 
 -- decided after the effects; `silent` and `arity` are read after them too (own)
@@ -102,18 +122,20 @@ message_after s e es = if is_silenced s e then None else decided (last_message e
 
 -- ---- marks, and the end of a process
 
--- the frame of this depth gets a mark
-abbrev pub marked : Session → ℕ → ℕ → Session
-marked s p depth = with_marks s p (depth ∷ marks_at s p)
+-- the frame of this depth gets the mark that is asked for, if one is
+abbrev pub marked : Session → ℕ → ℕ → Option Kind → Session
+marked s p depth None = s
+marked s p depth (Some k) = with_marks s p (record { depth = depth; kind = k } ∷ marks_at s p)
 
 -- and loses it
 abbrev pub unmarked : Session → ℕ → ℕ → Session
-unmarked s p depth = with_marks s p (filter (λ d. not (d == depth)) (marks_at s p))
+unmarked s p depth = with_marks s p (filter (λ m. not (m.depth == depth)) (marks_at s p))
 
--- a call marks its frame, a return removes the mark; after an exit the process's flags and marks are gone
+-- a call marks its frame, a return or an exception that leaves it removes the mark; after an exit the process's flags and marks are gone
 abbrev pub finished : Session → Event → List Effect → Session
-finished s (called p c) es = if marks_frame es then marked s p c.depth else s
+finished s (called p c) es = marked s p c.depth (mark_asked es)
 finished s (returned p f t depth) es = unmarked s p depth
+finished s (raised p f c t depth) es = unmarked s p depth
 finished s (exited p r) es = with_marks (with_flags (record s { alive = with_alive s.alive p false }) p no_flags) p []
 finished s _ es = s
 

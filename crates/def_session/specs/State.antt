@@ -1,6 +1,6 @@
 -- The state of one session (trace:session_create/3, process/4).
 -- Stands on flags, on settings and on who lives.
-use Rattle.std.specs.Prelude.{ℕ, ◌-◌, true, false, List, [], ◌++◌, replicate, slice_get, slice_set}
+use Rattle.std.specs.Prelude.{ℕ, ◌-◌, ◌==◌, true, false, if◌then◌else◌, List, [], ◌∷◌, ◌++◌, replicate, slice_get, slice_set, Option, Some, None}
 use Rattle.std.specs.Option.{unwrap_or}
 use Rattle.def_term.specs.Alive.{FIRST_PID, PROCESSES, Alive, with_alive}
 use Rattle.def_script.specs.Opening.{Opening}
@@ -11,6 +11,15 @@ use Rattle.def_node.specs.Event.{Event, spawned, exited}
 -- before its creation, from then on, and after its destruction
 pub data Phase : Type 0 where
   absent live destroyed : Phase
+
+-- what a mark is for: that the call's return is told alone, or an exception that leaves its frame too
+pub data Kind : Type 0 where
+  for_returns for_exceptions : Kind
+
+-- the mark of a frame, by the frame's depth
+pub record Mark : Type 0 where
+  pub depth : ℕ
+  pub kind : Kind
 
 -- its own flags for each process and for new processes, its settings, and its marked frames
 pub record Session : Type 0 where
@@ -23,8 +32,8 @@ pub record Session : Type 0 where
   pub functions : List Covering
   pub sending : Setting
   pub receiving : Setting
-  -- of those processes too, the depths of the frames that are marked, the newest first
-  pub marks : List (List ℕ)
+  -- of those processes too, the marks of frames, the newest first
+  pub marks : List (List Mark)
 
 -- the first of the processes live
 abbrev pub alive_at_start : ℕ → Alive
@@ -56,12 +65,21 @@ abbrev pub with_flags : Session → ℕ → Flags → Session
 with_flags s n f = record s { flags = slice_set s.flags (n - FIRST_PID) f }
 
 -- the marks of a process
-abbrev pub marks_at : Session → ℕ → List ℕ
+abbrev pub marks_at : Session → ℕ → List Mark
 marks_at s n = unwrap_or (slice_get s.marks (n - FIRST_PID)) []
 
 -- the marks of a process changed
-abbrev pub with_marks : Session → ℕ → List ℕ → Session
+abbrev pub with_marks : Session → ℕ → List Mark → Session
 with_marks s n ms = record s { marks = slice_set s.marks (n - FIRST_PID) ms }
+
+-- the kind of the newest of these marks that is of this depth
+abbrev pub kind_among : List Mark → ℕ → Option Kind
+kind_among [] depth = None
+kind_among (m ∷ ms) depth = if m.depth == depth then Some m.kind else kind_among ms depth
+
+-- the kind of the mark that the frame of this depth has, if it has one
+abbrev pub mark_of : Session → ℕ → ℕ → Option Kind
+mark_of s n depth = kind_among (marks_at s n) depth
 
 -- who lives after an event
 abbrev pub alive_after : Alive → Event → Alive

@@ -3,15 +3,19 @@
 //!
 //! Stands on def_term, def_script, def_node and def_spec. Promises, as laws: of the function commands
 //! the newest that covers a function decides, and `false` removes; a message is its event's, told by a
-//! live session of a process that has the flag that the event needs; a return ends its mark, and an exit
-//! the process's flags and marks; a destroyed session tells nothing, and nothing brings it back.
+//! live session of a process that has the flag that the event needs; which mark a call gets, and that a
+//! return or an exception is told by it; a return or an exception ends its frame's mark, and an exit the
+//! process's flags and marks; a destroyed session tells nothing, and nothing brings it back.
 #![tactic(auto)]
 
 ghost use Rattle.def_session.specs.Laws.{NewestSettingWins, FalseRemoves, NoSetting, FunctionCommandIsNewest};
 ghost use Rattle.def_session.specs.Laws.{RefusedChangesNothing, OtherCommandsKeepSettings, EventsKeepSettings};
 ghost use Rattle.def_session.specs.Laws.{MessageIsOfItsEvent, ShortCallHasItsArity, PlainCallHasItsArguments};
 ghost use Rattle.def_session.specs.Laws.{DestructionTakesAll, EventAfterDestruction, CommandAfterDestruction};
+ghost use Rattle.def_session.specs.Laws.{ExceptionTraceMarks, ReturnTraceMarks, OtherEffectsMarkNothing, CallIsMarked};
+ghost use Rattle.def_session.specs.Laws.{ExceptionIsTold, NoOtherException, ReturnIsTold, NoOtherReturn};
 ghost use Rattle.def_session.specs.Laws.{DestroyedAgain, ReturnEndsTheMark, ReturnEndsNoOtherMark};
+ghost use Rattle.def_session.specs.Laws.{RaiseEndsTheMark, RaiseEndsNoOtherMark};
 ghost use Rattle.def_session.specs.Laws.{ExitEndsTheFlags, ExitEndsTheMarks, MarksOfOthersStay};
 ghost use Rattle.def_session.specs.Laws.{ExitEndsTheLife, CreationMakesLive, CommandBeforeCreation};
 ghost use Rattle.def_session.specs.Laws.{EventBeforeCreation, LifeGoesByEvents, EventKeepsThePhase};
@@ -49,12 +53,28 @@ pub fn nothing_follows_destruction()
     ensures again { DestroyedAgain }
 {}
 
-/// After a return its frame has no mark, and the process's other frames are marked as before. After a
-/// process's exit its flags and marks are gone, and it no longer lives. No event changes the marks of a
-/// process that it isn't about.
+/// A call whose effects have `exception_trace` is marked for exceptions, and one whose effects have
+/// `return_trace` alone for returns. An exception that leaves a frame is told where that is marked for
+/// exceptions, and a return where it is marked at all, with the flag `call` and without `silent`.
+pub fn marks_tell_returns_and_exceptions()
+    ensures exceptions { ExceptionTraceMarks }
+    ensures returns { ReturnTraceMarks }
+    ensures neither { OtherEffectsMarkNothing }
+    ensures call { CallIsMarked }
+    ensures raised { ExceptionIsTold }
+    ensures no_other_raised { NoOtherException }
+    ensures returned { ReturnIsTold }
+    ensures no_other_returned { NoOtherReturn }
+{}
+
+/// After a return, or an exception that leaves it, a frame has no mark, and the process's other frames are
+/// marked as before. After a process's exit its flags and marks are gone, and it no longer lives. No event
+/// changes the marks of a process that it isn't about.
 pub fn ends_take_marks_and_flags()
     ensures returned { ReturnEndsTheMark }
     ensures alone { ReturnEndsNoOtherMark }
+    ensures raised { RaiseEndsTheMark }
+    ensures raised_alone { RaiseEndsNoOtherMark }
     ensures flags { ExitEndsTheFlags }
     ensures marks { ExitEndsTheMarks }
     ensures others { MarksOfOthersStay }

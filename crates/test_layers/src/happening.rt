@@ -1,7 +1,7 @@
 // What happens in the node, and the event that it is.
 use std::alloc::Global;
 use std::test::Fail;
-use tn_flags::{Call, Event};
+use tn_flags::{Call, Class, Event};
 use tn_term::{Atom, Mfa, Term};
 use tn_text::read_term;
 
@@ -24,6 +24,10 @@ pub enum Happening {
     },
     /// The call returns `ok`.
     Returned,
+    /// An exception with the value `oops` leaves the call.
+    Raised {
+        class: Class,
+    },
     /// Process 100 starts 102 with a function of one argument.
     Spawned {
         name: &'static str,
@@ -90,6 +94,16 @@ fn returned(alloc: Global) -> Result<Event<Global>, Fail> {
     })
 }
 
+fn raised(alloc: Global, class: Class) -> Result<Event<Global>, Fail> {
+    Ok(Event::Raised {
+        pid: 100,
+        mfa: function(alloc, "f")?,
+        class,
+        value: term(alloc, "oops")?,
+        depth: 1,
+    })
+}
+
 fn spawned(alloc: Global, name: &str, argument: &str) -> Result<Event<Global>, Fail> {
     Ok(Event::Spawn {
         pid: 100,
@@ -134,6 +148,7 @@ fn event(alloc: Global, happening: &Happening) -> Result<Event<Global>, Fail> {
         Happening::Received { message } => received(alloc, message),
         Happening::Called { argument, is_named } => called(alloc, argument, *is_named),
         Happening::Returned => returned(alloc),
+        Happening::Raised { class } => raised(alloc, *class),
         Happening::Spawned { name, argument } => spawned(alloc, name, argument),
         Happening::Exited { reason } => exited(alloc, reason),
         Happening::Linked => Ok(Event::Linked { pid, other }),

@@ -14,6 +14,8 @@ mod happening;
 #[cfg(test)]
 mod long;
 #[cfg(test)]
+mod node;
+#[cfg(test)]
 mod process;
 #[cfg(test)]
 mod program;

@@ -95,8 +95,8 @@ fn links(rt: HostRuntime) -> Result<(), Fail> {
 }
 
 /// What goes on, in words.
-fn event_in_words(event: &Option<Event<Global>>) -> &'static str {
-    match event {
+fn events_in_words(events: &[Event<Global>]) -> &'static str {
+    match events.first() {
         None => "goes on",
         Some(Event::Called { pid: 100, .. }) => "100 is called",
         Some(_) => "another event",
@@ -107,12 +107,11 @@ fn event_in_words(event: &Option<Event<Global>>) -> &'static str {
 fn in_words(act: &Act<Global>) -> &'static str {
     match act {
         Act::Waits => "waits",
-        Act::Continues(event) => event_in_words(event),
+        Act::Continues(events) => events_in_words(events),
         Act::Sends { to: 101, message } if message.is_word("first") => "sends first to 101",
-        Act::Exits {
-            reason,
-            event: None,
-        } if reason.is_word("boom") => "exits by boom",
+        Act::Exits { reason, events } if events.is_empty() && reason.is_word("boom") => {
+            "exits by boom"
+        }
         _ => "another act",
     }
 }

@@ -5,7 +5,7 @@ use crate::happening::{Happening, event_of, function};
 use std::alloc::{AllocError, Global};
 use std::process::Abort;
 use std::test::Fail;
-use tn_flags::Event;
+use tn_flags::{Class, Event};
 use tn_script::{Form, forms};
 use tn_session::{Message, Session};
 use tn_term::Alive;
@@ -164,6 +164,76 @@ const MARKED: [Step; 9] = [
             is_named: true,
         },
         message: "{trace,<0.100.0>,call,{m,f,1}}",
+    },
+    Step::Tells {
+        happening: Happening::Returned,
+        message: "",
+    },
+];
+
+/// A call that is marked for exceptions tells how it ended, once; one that is marked for returns tells no exception.
+const FAILING: [Step; 12] = [
+    Step::Replies {
+        command: "{process,s1,all,true,[call]}",
+        reply: "2",
+    },
+    Step::Replies {
+        command: "{function,s1,{m,f,1},[{[both],[],[{exception_trace},{return_trace}]},{'_',[],[{return_trace}]}],[]}",
+        reply: "1",
+    },
+    Step::Tells {
+        happening: Happening::Called {
+            argument: "both",
+            is_named: true,
+        },
+        message: "{trace,<0.100.0>,call,{m,f,[both]}}",
+    },
+    Step::Tells {
+        happening: Happening::Raised {
+            class: Class::Error,
+        },
+        message: "{trace,<0.100.0>,exception_from,{m,f,1},{error,oops}}",
+    },
+    Step::Tells {
+        happening: Happening::Raised {
+            class: Class::Error,
+        },
+        message: "",
+    },
+    Step::Gives {
+        happening: Happening::Called {
+            argument: "both",
+            is_named: true,
+        },
+        message: "{trace,<0.100.0>,call,{m,f,[both]}}",
+    },
+    Step::Gives {
+        happening: Happening::Raised {
+            class: Class::Throw,
+        },
+        message: "{trace,<0.100.0>,exception_from,{m,f,1},{throw,oops}}",
+    },
+    Step::Tells {
+        happening: Happening::Called {
+            argument: "both",
+            is_named: true,
+        },
+        message: "{trace,<0.100.0>,call,{m,f,[both]}}",
+    },
+    Step::Tells {
+        happening: Happening::Returned,
+        message: "{trace,<0.100.0>,return_from,{m,f,1},ok}",
+    },
+    Step::Tells {
+        happening: Happening::Called {
+            argument: "1",
+            is_named: true,
+        },
+        message: "{trace,<0.100.0>,call,{m,f,[1]}}",
+    },
+    Step::Tells {
+        happening: Happening::Raised { class: Class::Exit },
+        message: "",
     },
     Step::Tells {
         happening: Happening::Returned,
@@ -366,6 +436,11 @@ fn the_newest_setting_wins(rt: HostRuntime) -> Result<(), Fail> {
 #[test]
 fn marks_and_flags_after_effects(rt: HostRuntime) -> Result<(), Fail> {
     check_steps(&rt, rt.alloc(), &MARKED)
+}
+
+#[test]
+fn exceptions_by_their_marks(rt: HostRuntime) -> Result<(), Fail> {
+    check_steps(&rt, rt.alloc(), &FAILING)
 }
 
 #[test]

@@ -67,9 +67,9 @@ impl<'a, 'b, A: Allocator + Copy> Scene<'a, 'b, A> {
     pub(crate) fn settled(&self, value: Option<Value<'a, A>>) -> Option<Value<'a, A>>
         ensures { option_map value_seen result ≡ settled_in self.now.part (option_map value_seen value.entry) }
     {
-        match (self.part, value) {
-            (Part::Body, None) => Some(Value::Word(Word::Exit)),
-            _ => value,
+        match self.part {
+            Part::Condition => value,
+            Part::Body => Some(value.unwrap_or(Value::Word(Word::Exit))),
         }
     }
 }

@@ -90,6 +90,12 @@ fn callee_of<'a, A: Allocator>(
             args,
             ..
         }
+        | Step::Catch {
+            module,
+            name,
+            args,
+            ..
+        }
         | Step::Spawn {
             module,
             name,

@@ -54,7 +54,8 @@ fn put_fields<A: Allocator>(out: &mut Detail<A>, item: Item, shape: Shape, field
 /// Appends that it is no item.
 fn put_none<A: Allocator>(out: &mut Detail<A>, item: Item, term: &Term<A>) {
     let words: &[u8] = match item {
-        Item::Step => b"send, 'receive', call, spawn, link, unlink, return or exit",
+        Item::Step =>
+            b"send, 'receive', call, 'catch', spawn, link, unlink, return, error, throw or exit",
         Item::Command => { b"session_create, session_destroy, process, function, send or recv" }
     };
     out.words(b"it must be a tuple of ");

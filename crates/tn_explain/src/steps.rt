@@ -6,7 +6,7 @@ use std::alloc::Allocator;
 use tn_term::Term;
 
 /// The steps there are.
-pub const STEPS: [Shape; 8] = [
+pub const STEPS: [Shape; 11] = [
     Shape {
         word: "send",
         len: 3,
@@ -21,6 +21,11 @@ pub const STEPS: [Shape; 8] = [
         word: "call",
         len: 4,
         words: b"{call,V,{M,F},Args} or {call,V,F,Args}",
+    },
+    Shape {
+        word: "catch",
+        len: 4,
+        words: b"{'catch',V,{M,F},Args}",
     },
     Shape {
         word: "spawn",
@@ -41,6 +46,16 @@ pub const STEPS: [Shape; 8] = [
         word: "return",
         len: 2,
         words: b"{return,T}",
+    },
+    Shape {
+        word: "error",
+        len: 2,
+        words: b"{error,T}",
+    },
+    Shape {
+        word: "throw",
+        len: 2,
+        words: b"{throw,T}",
     },
     Shape {
         word: "exit",
@@ -84,7 +99,7 @@ pub fn put_step<A: Allocator>(out: &mut Detail<A>, fields: &[Term<A>]) {
         return;
     }
     let is_call = fields[0].is_word("call");
-    let has_callee = is_call || fields[0].is_word("spawn");
+    let has_callee = is_call || fields[0].is_word("catch") || fields[0].is_word("spawn");
     if (has_callee || fields[0].is_word("receive")) && !is_target(&fields[1]) {
         let wanted = b" must be '_' or a variable other than 'Self', in quotes";
         put_part(out, b"V", wanted, &fields[1]);

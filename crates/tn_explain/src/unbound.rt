@@ -21,6 +21,7 @@ fn target_of<A: Allocator>(step: &Step<A>) -> Option<&Atom<A>> {
         Step::Receive { target }
         | Step::CallRemote { target, .. }
         | Step::CallLocal { target, .. }
+        | Step::Catch { target, .. }
         | Step::Spawn { target, .. } => target.as_ref(),
         _ => None,
     }
@@ -98,12 +99,14 @@ fn in_step<'a, A: Allocator>(
             None => in_term(message, Some(function), passed),
         },
         Step::Receive { .. } => None,
-        Step::CallRemote { args, .. } | Step::CallLocal { args, .. } | Step::Spawn { args, .. } => {
-            in_terms(&args.terms, Some(function), passed)
-        }
-        Step::Link(term) | Step::Unlink(term) | Step::Return(term) | Step::Exit(term) => {
-            in_term(term, Some(function), passed)
-        }
+        Step::CallRemote { args, .. }
+        | Step::CallLocal { args, .. }
+        | Step::Catch { args, .. }
+        | Step::Spawn { args, .. } => in_terms(&args.terms, Some(function), passed),
+        Step::Link(term)
+        | Step::Unlink(term)
+        | Step::Return(term)
+        | Step::Raise { value: term, .. } => in_term(term, Some(function), passed),
     }
 }
 

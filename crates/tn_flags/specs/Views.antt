@@ -4,8 +4,10 @@ use Rattle.std.specs.Option.{option_map}
 use Rattle.tn_term.specs.Views.{tree_of, mfa_seen}
 use Rattle.def_script.specs.Program as program
 use Rattle.def_node.specs.Event as event
+use Rattle.tn_flags.specs.declared.class.Class.{Class}
+use Rattle.tn_flags.specs.declared.class.Class.TheVariants.{Error, Throw, Exit}
 use Rattle.tn_flags.specs.declared.event.Event.{Event}
-use Rattle.tn_flags.specs.declared.event.Event.TheVariants.{Sent, Received, Called, Returned, Spawn, Spawned, Exited, Linked, Unlinked, GettingLinked, GettingUnlinked}
+use Rattle.tn_flags.specs.declared.event.Event.TheVariants.{Sent, Received, Called, Returned, Raised, Spawn, Spawned, Exited, Linked, Unlinked, GettingLinked, GettingUnlinked}
 use Rattle.tn_flags.specs.declared.event.Call.{Call}
 use Rattle.def_spec.specs.Flags as flag
 use Rattle.def_spec.specs.Flags.{send_flag, receive_flag, call_flag, procs_flag, silent_flag, arity_flag, set_on_spawn, set_on_first_spawn, set_on_link, set_on_first_link}
@@ -16,11 +18,17 @@ use Rattle.tn_flags.specs.declared.command.Command.TheVariants.{SessionCreate, S
 abbrev pub call_of : {A : Type 0} → Call A → event.Call
 call_of c = record { mfa = mfa_seen c.mfa; args = map tree_of c.args.items; named = c.named; exported = c.exported; caller = option_map mfa_seen c.caller; depth = c.depth }
 
+abbrev pub class_of : Class → program.Class
+class_of Error = program.error
+class_of Throw = program.throw
+class_of Exit = program.exit
+
 abbrev pub event_of : {A : Type 0} → Event A → event.Event
 event_of (Sent p t to alive) = event.sent p (tree_of t) to alive
 event_of (Received p sender t) = event.received p sender (tree_of t)
 event_of (Called p c) = event.called p (call_of c)
 event_of (Returned p f t depth) = event.returned p (mfa_seen f) (tree_of t) depth
+event_of (Raised p f class t depth) = event.raised p (mfa_seen f) (class_of class) (tree_of t) depth
 event_of (Spawn p child f args) = event.spawning p child (mfa_seen f) (map tree_of args.items)
 event_of (Spawned p parent f args) = event.spawned p parent (mfa_seen f) (map tree_of args.items)
 event_of (Exited p t) = event.exited p (tree_of t)

@@ -1,4 +1,5 @@
 // What a step of the node shows.
+use crate::class::Class;
 use std::alloc::Allocator;
 use tn_term::{Mfa, Term};
 
@@ -27,6 +28,14 @@ pub enum Event<A: Allocator> {
     Returned {
         pid: u32,
         mfa: Mfa<A>,
+        value: Term<A>,
+        depth: usize,
+    },
+    /// An exception of this class and value left the frame at this depth.
+    Raised {
+        pid: u32,
+        mfa: Mfa<A>,
+        class: Class,
         value: Term<A>,
         depth: usize,
     },

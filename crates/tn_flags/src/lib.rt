@@ -1,14 +1,16 @@
-//! What passes between the node, the control list and the sessions: events and commands; and the flags
-//! of processes.
+//! What passes between the node, the control list and the sessions: events with the classes of exceptions, and
+//! commands; and the flags of processes.
 //!
 //! Stands on tn_term and on the definitions. Promises that `Flags` is a set of ten, and that
 //! `inherit_spawn` and `inherit_link` are the rules of inheritance.
 #![tactic(auto)]
 
+mod class;
 mod command;
 mod event;
 mod flags;
 
+pub use class::Class;
 pub use command::Command;
 pub use event::{Call, Event};
 pub use flags::{Flags, flag_of, flag_of_name, inherit_link, inherit_spawn};

@@ -1,6 +1,7 @@
 -- The walk over a head, step by step.
 use Rattle.std.proofs.Common.{◌≡◌, ◌∙◌, sym, ap, ap₂, refl, rules, ℕ, suc, ◌+◌, ◌<◌, ◌≤◌, ◌==◌, nat_lt, Bool, true, false, not, cond, if◌then◌else◌, List, [], ◌∷◌, map, length, drop, get_or, Option, Some, None, arith}
 use Rattle.std.specs.List.{insert, position_or_len}
+use Rattle.std.specs.declared.vec.Vec.{Vec}
 use Rattle.std.specs.Option.{option_and_then}
 use Rattle.std.specs.Ordering.{nat_cmp, is_eq}
 use Rattle.std.specs.declared.cmp.Ordering.TheVariants.{Less, Equal, Greater}
@@ -15,10 +16,14 @@ use Rattle.def_spec.proofs.Binding.{bind-matches, matches-bind}
 use Rattle.tn_term.specs.Views.{tree_of}
 use Rattle.tn_term.specs.declared.term.Term.{Term}
 use Rattle.tn_spec.specs.Views.{pattern_seen, patterns_seen}
+use Rattle.tn_spec.specs.declared.pattern.Head.{Head}
+use Rattle.tn_spec.specs.declared.pattern.Head.TheVariants as heads
 use Rattle.tn_spec.specs.declared.pattern.Pattern as code
 use Rattle.tn_guard.specs.Views.{value_seen, tuple_in, list_in}
 use Rattle.tn_guard.proofs.Places.{rest_from, rest_here, rest_past}
-use Rattle.tn_head.specs.Matching.{IsAnswer}
+use Rattle.tn_guard.specs.declared.parts.Parts.{Parts}
+use Rattle.tn_head.specs.Answers.{bindings_in}
+use Rattle.tn_head.specs.Matching.{IsAnswer, bound_each, bound_if}
 use Rattle.tn_head.specs.Views.{binding_seen}
 use Rattle.tn_head.specs.declared.bindings.Binding.{Binding}
 
@@ -113,6 +118,14 @@ no_list q ps (list us) b e h = cc
 
 pub pattern_of_only : {P : Type 0} (t : Term P) → pattern_seen (code.Only t) ≡ only_term (tree_of t)
 pattern_of_only t = search (rules, code.the_lemmas)
+
+-- ---- heads
+
+-- a list of patterns that each matched, with nothing bound before
+pub walked : {P A : Type 0} (h : Head P) (ps : Vec (code.Pattern P) P) (parts : Parts A) (start bs : List (Binding A)) (m : Bool) → h ≡ heads.List ps → start ≡ [] → m ≡ true
+    → bound_each ps parts start ≡ bound_if m bs → Some (map binding_seen bs) ≡ bindings_in h parts
+walked h ps parts start bs m is empty all bound =
+    sym (ap (λ x. bindings_in x parts) is ∙ ap (bound_each ps parts) (sym empty) ∙ bound ∙ ap (λ b. bound_if b bs) all)
 
 -- ---- answers
 

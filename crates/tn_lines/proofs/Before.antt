@@ -11,13 +11,14 @@ use Rattle.def_term.specs.Alive.{Alive}
 use Rattle.def_term.specs.Text.{is_written_bare}
 use Rattle.def_spec.specs.Flags.{Flag, only, send_flag, receive_flag, call_flag, procs_flag, flags_by_name}
 use Rattle.def_spec.specs.Expressions.{Context, Effect}
-use Rattle.def_node.specs.Event.{Event, Call, sent, received, called, returned}
+use Rattle.def_script.specs.Program.{Class}
+use Rattle.def_node.specs.Event.{Event, Call, sent, received, called, returned, raised}
 use Rattle.def_session.specs.Settings.{Covering, Setting, off, plain, by, has_among, setting_for}
-use Rattle.def_session.specs.State.{Session, flags_at}
+use Rattle.def_session.specs.State.{for_returns, for_exceptions, Session, flags_at, mark_of}
 use Rattle.def_session.specs.Messages.{process_of}
-use Rattle.def_session.specs.Session.{context, marks_frame, is_marked, where_set, evaluated, evaluated_by}
+use Rattle.def_session.specs.Session.{context, mark_asked, is_marked, is_for_exceptions, where_set, where_marked, evaluated, evaluated_by}
 use Rattle.def_session.specs.Laws.{needed_for}
-use Rattle.def_explain.specs.Causes.{Cause, no_mark, no_flag, no_setting, of_named_calls, newest_of, cause_of_setting, cause_of_call, cause_of_event, cause_by, cause_where, cause_of}
+use Rattle.def_explain.specs.Causes.{Cause, no_mark, marked_for_returns, no_flag, no_setting, of_named_calls, newest_of, cause_of_setting, cause_of_call, cause_of_event, cause_by, cause_where, cause_by_mark, cause_of}
 use Rattle.def_explain.specs.Texts.{said_of_each}
 use Rattle.def_explain.specs.Accounts.{Line, said, setting_lines, evaluation_lines, cause_lines, message_lines}
 use Rattle.tn_session.specs.Looks.{parts_of}
@@ -32,12 +33,12 @@ use Rattle.tn_lines.proofs.Texts.{nothing}
 -- the same lines and effects, said otherwise
 pub given : (n : Name) (ks ls : List Line) (es fs : Option (List Effect)) (old new : List ℕ) (r : Evaluation) → ks ≡ ls → es ≡ fs → Gives n ks es old new r → Gives n ls fs old new r
 given n ks ls es fs old new r lines effects g =
-    record { text = g.text ∙ ap (λ l. old ++ lines_text n l) lines; effects = g.effects ∙ ap (option_map marks_frame) effects }
+    record { text = g.text ∙ ap (λ l. old ++ lines_text n l) lines; effects = g.effects ∙ ap (option_map mark_asked) effects }
 
 -- an event that no setting is of, by the code
-pub where_done : (n : Name) (b : Bool) (why old : List ℕ) → b ≡ true → GivesWhere n b why old old (Done false)
+pub where_done : (n : Name) (b : Bool) (why old : List ℕ) → b ≡ true → GivesWhere n b why old old (Done None)
 where_done n b why old e =
-    given n [] (lines_where b why) (Some []) (effects_where b) old old (Done false) (sym (ap (λ x. lines_where x why) e)) (sym (ap effects_where e))
+    given n [] (lines_where b why) (Some []) (effects_where b) old old (Done None) (sym (ap (λ x. lines_where x why) e)) (sym (ap effects_where e))
     (record { text = nothing n old; effects = refl })
 
 pub where_refused : (n : Name) (b : Bool) (why old new : List ℕ) → b ≡ false → new ≡ old ++ lines_text n (said why ∷ []) → GivesWhere n b why old new Refused
@@ -259,3 +260,21 @@ unmarked s p depth f t h =
 pub marked : (s : Session) (p depth : ℕ) (f : Mfa) (t : Tree) → is_marked s p depth ≡ true → IsWhere s (returned p f t depth) (Some [])
 marked s p depth f t h =
     (ap (λ b. if b then cause_where s (returned p f t depth) else Some no_mark) h, ap (λ b. if b then where_set s p call_flag (Some []) else None) h)
+
+-- ---- exceptions
+
+module _ (s : Session) (p depth : ℕ) (f : Mfa) (c : Class) (t : Tree) where
+  abbrev raise : Event
+  raise = raised p f c t depth
+
+  -- the call has no mark
+  pub unmarked_raise : mark_of s p depth ≡ None → Refuses s raise (cause_lines s raise no_mark)
+  unmarked_raise h = refused s raise no_mark (ap (λ k. where_marked s p (is_for_exceptions k)) h) (ap (cause_by_mark s raise) h)
+
+  -- it has one for returns
+  pub raise_of_returns : mark_of s p depth ≡ Some for_returns → Refuses s raise (cause_lines s raise marked_for_returns)
+  raise_of_returns h = refused s raise marked_for_returns (ap (λ k. where_marked s p (is_for_exceptions k)) h) (ap (cause_by_mark s raise) h)
+
+  -- it has one for exceptions
+  pub marked_raise : mark_of s p depth ≡ Some for_exceptions → IsWhere s raise (Some [])
+  marked_raise h = (ap (cause_by_mark s raise) h, ap (λ k. where_marked s p (is_for_exceptions k)) h)

@@ -8,18 +8,18 @@ use Rattle.def_term.specs.Names.{Mfa, word}
 use Rattle.def_term.proofs.Same.{same-is}
 use Rattle.def_spec.specs.Flags.{Flag, call_flag, procs_flag, silent_flag, arity_flag, send_flag, receive_flag}
 use Rattle.def_spec.specs.Expressions.{Effect}
-use Rattle.def_node.specs.Event.{Event, sent, received, called, returned, spawning, spawned, exited, linked, unlinked, getting_linked, getting_unlinked}
-use Rattle.def_session.specs.State.{Phase, absent, live, destroyed, Session, flags_at}
+use Rattle.def_node.specs.Event.{Event, sent, received, called, returned, raised, spawning, spawned, exited, linked, unlinked, getting_linked, getting_unlinked}
+use Rattle.def_session.specs.State.{Phase, absent, live, destroyed, Kind, for_returns, for_exceptions, Session, flags_at, mark_of}
 use Rattle.def_session.specs.Messages.{process_of, last_message, elements_of, decided}
-use Rattle.def_session.specs.Session.{inherited, evaluated, is_marked, where_set, all_affected, marks_frame, is_silenced, message_after, marked, finished, told_for, told_in, event_told}
+use Rattle.def_session.specs.Session.{inherited, evaluated, is_marked, is_for_exceptions, where_set, where_marked, all_affected, mark_asked, is_silenced, message_after, marked, finished, told_for, told_in, event_told}
 use Rattle.def_session.specs.Laws.{needed_for}
-use Rattle.def_explain.specs.Causes.{no_mark, no_flag, silenced, message_false, is_false_message, cause_by, cause_where, cause_of}
+use Rattle.def_explain.specs.Causes.{no_mark, no_flag, silenced, message_false, is_false_message, cause_by, cause_where, cause_by_mark, cause_of}
 use Rattle.def_term.specs.Text.{pid_text}
 use Rattle.def_explain.specs.Accounts.{Line, line_where, said, evaluation_lines, message_lines, mark_lines, end_lines, live_lines, inheritance_lines, flag_lines, event_lines_in, event_lines}
 use Rattle.tn_session.specs.Looks.{is_live}
 use Rattle.tn_lines.specs.declared.clauses.Evaluation.{Evaluation}
 use Rattle.tn_lines.specs.declared.clauses.Evaluation.TheVariants.{Refused, Done}
-use Rattle.tn_lines.specs.Evaluations.{evaluation_seen, is_done, marks_of}
+use Rattle.tn_lines.specs.Evaluations.{evaluation_seen, is_done, mark_by}
 use Rattle.tn_lines.proofs.Before.{no_procs}
 use Rattle.tn_lines.specs.Parts.{both_of, lines_by_effects, lines_before, told_lines, lines_behind, told_or_no_flag}
 
@@ -47,6 +47,14 @@ cause_is s (returned p f t depth) es h = go (is_marked s p depth) refl
         let set : where_set s p call_flag (Some []) ≡ Some es = sym (ap (λ b. if b then where_set s p call_flag (Some []) else None) m) ∙ h in
         ap (λ b. if b then cause_where s (returned p f t depth) else Some no_mark) m ∙ by_flag s (returned p f t depth) es h (has_flag s p call_flag (Some []) es set)
     go false m = absurd (cc (sym (ap (λ b. if b then where_set s p call_flag (Some []) else None) m) ∙ h))
+cause_is s (raised p f c t depth) es h = go (mark_of s p depth) refl
+  where
+    go : (k : Option Kind) → mark_of s p depth ≡ k → cause_of s (raised p f c t depth) ≡ cause_by s (raised p f c t depth) (Some es)
+    go None m = absurd (cc (sym (ap (λ k. where_marked s p (is_for_exceptions k)) m) ∙ h))
+    go (Some for_returns) m = absurd (cc (sym (ap (λ k. where_marked s p (is_for_exceptions k)) m) ∙ h))
+    go (Some for_exceptions) m =
+        let set : where_set s p call_flag (Some []) ≡ Some es = sym (ap (λ k. where_marked s p (is_for_exceptions k)) m) ∙ h in
+        ap (cause_by_mark s (raised p f c t depth)) m ∙ by_flag s (raised p f c t depth) es h (has_flag s p call_flag (Some []) es set)
 cause_is s (spawning p child f args) es h = by_flag s (spawning p child f args) es h (has_flag s p procs_flag _ es h)
 cause_is s (spawned p parent f args) es h = by_flag s (spawned p parent f args) es h (has_flag s p procs_flag _ es h)
 cause_is s (exited p r) es h = by_flag s (exited p r) es h (has_flag s p procs_flag _ es h)
@@ -55,14 +63,15 @@ cause_is s (unlinked p q) es h = by_flag s (unlinked p q) es h (has_flag s p pro
 cause_is s (getting_linked p q) es h = by_flag s (getting_linked p q) es h (has_flag s p procs_flag _ es h)
 cause_is s (getting_unlinked p q) es h = by_flag s (getting_unlinked p q) es h (has_flag s p procs_flag _ es h)
 
--- marks and the end of a process leave `silent` of a call's and a return's process as it is
+-- marks and the end of a process leave `silent` as it is
 still_silent : (t : Session) (e : Event) (es : List Effect) → is_silenced (finished t e es) e ≡ is_silenced t e
-still_silent t (called p c) es = go (marks_frame es)
+still_silent t (called p c) es = go (mark_asked es)
   where
-    go : (b : Bool) → flags_at (if b then marked t p c.depth else t) p silent_flag ≡ flags_at t p silent_flag
-    go true = refl
-    go false = refl
+    go : (k : Option Kind) → flags_at (marked t p c.depth k) p silent_flag ≡ flags_at t p silent_flag
+    go None = refl
+    go (Some k) = refl
 still_silent t (returned p f v depth) es = refl
+still_silent t (raised p f k v depth) es = refl
 still_silent t (sent p v to alive) es = refl
 still_silent t (received p sender v) es = refl
 still_silent t (spawning p child f args) es = refl
@@ -119,6 +128,7 @@ stays s (sent p t to alive) h = (refl, refl)
 stays s (received p sender t) h = (refl, refl)
 stays s (called p c) h = (refl, refl)
 stays s (returned p f t depth) h = (refl, refl)
+stays s (raised p f c t depth) h = (refl, refl)
 stays s (spawning p child f args) h = (refl, refl)
 stays s (exited p r) h = (refl, refl)
 stays s (linked p q) h = (refl, refl)
@@ -193,6 +203,7 @@ inherits s (sent p t to alive) giver taker phase both = absurd (cc both)
 inherits s (received p sender t) giver taker phase both = absurd (cc both)
 inherits s (called p c) giver taker phase both = absurd (cc both)
 inherits s (returned p f t depth) giver taker phase both = absurd (cc both)
+inherits s (raised p f c t depth) giver taker phase both = absurd (cc both)
 inherits s (spawning p child f args) giver taker phase both = absurd (cc both)
 inherits s (exited p r) giver taker phase both = absurd (cc both)
 inherits s (linked p q) giver taker phase both = absurd (cc both)
@@ -217,17 +228,17 @@ is_in_phase live f = refl
 
 -- ---- evaluations of the code
 
-pub done_is : (r : Evaluation) (o : Option (List Effect)) → evaluation_seen r ≡ option_map marks_frame o → is_done r ≡ is_some o
+pub done_is : (r : Evaluation) (o : Option (List Effect)) → evaluation_seen r ≡ option_map mark_asked o → is_done r ≡ is_some o
 done_is Refused None h = refl
 done_is Refused (Some es) h = absurd (cc h)
 done_is (Done m) None h = absurd (cc h)
 done_is (Done m) (Some es) h = refl
 
-pub marks_are : (r : Evaluation) (o : Option (List Effect)) → evaluation_seen r ≡ option_map marks_frame o → marks_of r ≡ marks_frame (unwrap_or o [])
-marks_are Refused None h = refl
-marks_are Refused (Some es) h = absurd (cc h)
-marks_are (Done m) None h = absurd (cc h)
-marks_are (Done m) (Some es) h = cc h
+pub mark_is : (r : Evaluation) (o : Option (List Effect)) → evaluation_seen r ≡ option_map mark_asked o → mark_by r ≡ mark_asked (unwrap_or o [])
+mark_is Refused None h = refl
+mark_is Refused (Some es) h = absurd (cc h)
+mark_is (Done m) None h = absurd (cc h)
+mark_is (Done m) (Some es) h = cc h
 
 -- ---- what is said of a process
 

@@ -1,5 +1,5 @@
 -- The lines of clauses, one behind another, and the outcome that they tell of.
-use Rattle.std.proofs.Common.{◌≡◌, ◌∙◌, ℕ, suc, ◌+◌, ◌<◌, ◌≤◌, Bool, false, List, [], ◌∷◌, ◌++◌, Some, codes, length, get_or, drop, map, refl, sym, ap, append_assoc, add-one}
+use Rattle.std.proofs.Common.{◌≡◌, ◌∙◌, ℕ, suc, ◌+◌, ◌<◌, ◌≤◌, List, [], ◌∷◌, ◌++◌, Option, Some, None, codes, length, get_or, drop, map, refl, sym, ap, append_assoc, add-one}
 use Rattle.std.proofs.lemmas.List.{drop_more, drop_all}
 use Rattle.std.specs.Option.{option_map}
 use Rattle.def_term.specs.Names.{Name}
@@ -7,13 +7,15 @@ use Rattle.def_spec.specs.Expressions.{Dialect, Context, Effect}
 use Rattle.def_spec.specs.Matching.{Bindings}
 use Rattle.def_spec.specs.Outcome as outcome
 use Rattle.def_session.specs.Settings.{off, plain, by}
-use Rattle.def_session.specs.Session.{effects_in, evaluated_by, marks_frame}
+use Rattle.def_session.specs.Session.{effects_in, evaluated_by, mark_asked}
 use Rattle.def_explain.specs.Reasons.{Reason}
 use Rattle.def_explain.specs.Verdicts.{fails, fires, verdict_of, outcome_after, outcome_by_verdicts}
 use Rattle.def_explain.specs.Accounts.{Line, said, lines_by, clause_lines}
 use Rattle.def_explain.proofs.ClauseVerdicts.{outcome_is_by_verdicts}
 use Rattle.tn_spec.specs.Views.{clause_seen}
 use Rattle.tn_spec.specs.declared.spec.Clause.{Clause}
+use Rattle.tn_session.specs.Views.{kind_seen}
+use Rattle.tn_session.specs.declared.state.Kind as code
 use Rattle.tn_lines.specs.Evaluations.{GivesBySetting}
 use Rattle.tn_lines.specs.Parts.{failing_lines, firing_lines}
 use Rattle.tn_lines.specs.Lines.{lines_text}
@@ -67,23 +69,23 @@ module _ {A : Type 0} (n : Name) (d : Dialect) (c : Context) (ks : List (Clause 
     whole r = GivesBySetting n (by (record { dialect = d; clauses = map clause_seen ks })) c old after r
 
     -- the one that fires
-    pub ends : (k : Clause A) (b : Bindings) (es : List Effect) (marks : Bool) → i < length ks → k ≡ get_or ks i k → fires b es ≡ verdict_of d (clause_seen k) c → after ≡ now ++ lines_text n (firing_lines i es) → marks ≡ marks_frame es
-        → whole (Done marks)
-    ends k b es marks below is of made marked = record {
+    pub ends : (k : Clause A) (b : Bindings) (es : List Effect) (mark : Option code.Kind) → i < length ks → k ≡ get_or ks i k → fires b es ≡ verdict_of d (clause_seen k) c → after ≡ now ++ lines_text n (firing_lines i es) → option_map kind_seen mark ≡ mark_asked es
+        → whole (Done mark)
+    ends k b es mark below is of made marked = record {
       text = made ∙ ap (λ l. now ++ lines_text n l) (ap (λ v. lines_by i v (lines_from (i + 1))) of ∙ sym (lines_here k below is)) ∙ so_far.text;
-      effects = ap Some marked ∙ sym (ap (option_map marks_frame) (by_outcome (outcome.matched es) (outcome_here k below is ∙ ap (λ v. outcome_after v (outcome_from (i + 1))) (sym of))));
+      effects = ap Some marked ∙ sym (ap (option_map mark_asked) (by_outcome (outcome.matched es) (outcome_here k below is ∙ ap (λ v. outcome_after v (outcome_from (i + 1))) (sym of))));
     }
 
     -- none of them
     pub none_fires : length ks ≤ i → after ≡ now ++ lines_text n (said (codes "no clause fires") ∷ []) → whole Refused
     none_fires past made = record {
       text = made ∙ ap (λ js. now ++ lines_text n (clause_lines i d (map clause_seen js) c)) (sym (drop_all i ks past)) ∙ so_far.text;
-      effects = sym (ap (option_map marks_frame) (by_outcome outcome.no_match (ap (λ js. outcome_by_verdicts d (map clause_seen js) c) (drop_all i ks past))));
+      effects = sym (ap (option_map mark_asked) (by_outcome outcome.no_match (ap (λ js. outcome_by_verdicts d (map clause_seen js) c) (drop_all i ks past))));
     }
 
 -- settings without clauses
 pub is_off : (n : Name) (c : Context) (old new : List ℕ) → new ≡ old ++ lines_text n (said (codes "the setting is false") ∷ []) → GivesBySetting n off c old new Refused
 is_off n c old new made = record { text = made; effects = refl }
 
-pub is_plain : (n : Name) (c : Context) (old : List ℕ) → GivesBySetting n plain c old old (Done false)
+pub is_plain : (n : Name) (c : Context) (old : List ℕ) → GivesBySetting n plain c old old (Done None)
 is_plain n c old = record { text = nothing n old; effects = refl }

@@ -6,8 +6,8 @@ use Rattle.def_term.specs.Names.{Name}
 use Rattle.def_spec.specs.Expressions.{Context, Effect}
 use Rattle.def_node.specs.Event.{Event}
 use Rattle.def_session.specs.Settings.{Setting}
-use Rattle.def_session.specs.State.{Session}
-use Rattle.def_session.specs.Session.{context, marks_frame, evaluated, evaluated_by}
+use Rattle.def_session.specs.State.{Kind, Session}
+use Rattle.def_session.specs.Session.{context, mark_asked, evaluated, evaluated_by}
 use Rattle.def_explain.specs.Accounts.{Line, said, setting_lines}
 use Rattle.tn_flags.specs.Views.{event_of}
 use Rattle.tn_flags.specs.declared.event.Event as flags
@@ -16,6 +16,7 @@ use Rattle.tn_guard.specs.declared.value.Value.{Value}
 use Rattle.tn_action.specs.Views.{context_seen}
 use Rattle.tn_action.specs.declared.context.Context as action
 use Rattle.tn_session.specs.Looks.{look_seen}
+use Rattle.tn_session.specs.Views.{kind_seen}
 use Rattle.tn_session.specs.declared.look.Look.{Look}
 use Rattle.tn_lines.specs.Parts.{lines_before, lines_behind}
 use Rattle.tn_lines.specs.Lines.{lines_text}
@@ -23,25 +24,25 @@ use Rattle.tn_lines.specs.declared.clauses.Evaluation.{Evaluation}
 use Rattle.tn_lines.specs.declared.clauses.Evaluation.TheVariants.{Refused, Done}
 use Rattle.tn_lines.specs.declared.line.Lines.{Lines}
 
--- whether the effects mark the frame of a call, where there are any
-abbrev pub evaluation_seen : Evaluation → Option Bool
+-- the mark of the frame of a call that the effects ask for, where there are any
+abbrev pub evaluation_seen : Evaluation → Option (Option Kind)
 evaluation_seen Refused = None
-evaluation_seen (Done marks) = Some marks
+evaluation_seen (Done mark) = Some (option_map kind_seen mark)
 
 -- whether there are any
 abbrev pub is_done : Evaluation → Bool
 is_done Refused = false
-is_done (Done marks) = true
+is_done (Done mark) = true
 
--- whether they mark it
-abbrev pub marks_of : Evaluation → Bool
-marks_of Refused = false
-marks_of (Done marks) = marks
+-- the mark that it gets by them, if it gets one
+abbrev pub mark_by : Evaluation → Option Kind
+mark_by Refused = None
+mark_by (Done mark) = option_map kind_seen mark
 
 -- these lines were appended, and these are the effects
 pub record Gives (n : Name) (ls : List Line) (es : Option (List Effect)) (old new : List ℕ) (r : Evaluation) : Type 0 where
   pub text : new ≡ old ++ lines_text n ls
-  pub effects : evaluation_seen r ≡ option_map marks_frame es
+  pub effects : evaluation_seen r ≡ option_map mark_asked es
 
 -- those of a setting
 abbrev pub GivesBySetting : Name → Setting → Context → List ℕ → List ℕ → Evaluation → Type 0
@@ -68,7 +69,7 @@ on_values s me vs = context s me (map value_seen vs) None
 
 -- of this event
 abbrev pub IsOf : Session → Event → Evaluation → Type 0
-IsOf s e r = evaluation_seen r ≡ option_map marks_frame (evaluated s e)
+IsOf s e r = evaluation_seen r ≡ option_map mark_asked (evaluated s e)
 
 -- an event, as a look at the session has it: its lines up to its evaluation were appended, and this is what comes of it
 abbrev pub Evaluates : {A : Type 0} → Lines A → Look A → Event → (old new : Vec ℕ A) → Evaluation → Type 0

@@ -3,13 +3,13 @@ ghost use Rattle.std.specs.Prelude.{◌≡◌, IfOk};
 ghost use Rattle.tn_flags.specs.Views.{event_of};
 ghost use Rattle.tn_text.specs.Writes.{Grows};
 ghost use Rattle.tn_lines.specs.Evaluations.{Evaluates, GivesWhere};
-ghost use Rattle.tn_lines.specs.Events.{EachReturn};
+ghost use Rattle.tn_lines.specs.Events.{EachReturn, EachRaise};
 
 use crate::clauses::Evaluation;
 use crate::line::Lines;
 use std::alloc::{AllocError, Allocator};
 use tn_flags::Event;
-use tn_session::Look;
+use tn_session::{Kind, Look};
 
 impl<A: Allocator + Copy> Lines<'_, A> {
     /// Appends why an event isn't evaluated, or what becomes of the clauses of the setting that concerns it.
@@ -36,6 +36,7 @@ impl<A: Allocator + Copy> Lines<'_, A> {
             } => self.put_receive(look, *pid, *sender, message, out),
             Event::Called { pid, call } => self.put_call(look, *pid, call, out),
             Event::Returned { pid, depth, .. } => self.put_return(look, *pid, *depth, out),
+            Event::Raised { pid, depth, .. } => self.put_raise(look, *pid, *depth, out),
             Event::Spawn { pid, .. }
             | Event::Spawned { pid, .. }
             | Event::Exited { pid, .. }
@@ -59,7 +60,7 @@ impl<A: Allocator + Copy> Lines<'_, A> {
         ensures grows { Grows out.old.items out.new.items }
     {
         if evaluated {
-            return Ok(Evaluation::Done { marks: false });
+            return Ok(Evaluation::Done { mark: None });
         }
         self.say(why, out)?;
         Ok(Evaluation::Refused)
@@ -80,5 +81,27 @@ impl<A: Allocator + Copy> Lines<'_, A> {
             return self.put_where(false, b"the call has no mark", out);
         }
         self.put_where(look.flags_at(pid).call, b"no flag call", out)
+    }
+
+    /// Appends why an exception isn't told, where it isn't.
+    fn put_raise(
+        &self,
+        look: &Look<'_, A>,
+        pid: u32,
+        depth: usize,
+        out: &mut Vec<u8, A>,
+    ) -> Result<Evaluation, AllocError>
+        ensures ok { EachRaise pid depth (λ e. IfOk result (Evaluates self.now look.now e out.old out.new)) }
+        ensures grows { Grows out.old.items out.new.items }
+    {
+        match look.mark_of(pid, depth) {
+            None => self.put_where(false, b"the call has no mark", out),
+            Some(Kind::Returns) => {
+                self.put_where(false, b"the call is marked for returns alone", out)
+            }
+            Some(Kind::Exceptions) => {
+                self.put_where(look.flags_at(pid).call, b"no flag call", out)
+            }
+        }
     }
 }

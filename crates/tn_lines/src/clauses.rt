@@ -1,6 +1,5 @@
 // The evaluation of an event, clause by clause.
 ghost use Rattle.std.specs.Prelude.{◌≡◌, ◌++◌, OnOk, IfOk, map};
-ghost use Rattle.def_session.specs.Session as session;
 ghost use Rattle.def_session.specs.Settings.{by};
 ghost use Rattle.tn_spec.specs.Wholes.{spec_seen};
 ghost use Rattle.tn_action.specs.Views.{effect_seen};
@@ -17,6 +16,7 @@ use std::alloc::{AllocError, Allocator};
 use tn_action::{Context, Effect};
 use tn_index::Setting;
 use tn_reason::{Reason, Verdict, verdict};
+use tn_session::{Kind, mark_for};
 use tn_spec::Spec;
 use tn_trial::{put_clause, put_effects, put_reason};
 
@@ -25,21 +25,8 @@ use tn_trial::{put_clause, put_effects, put_reason};
 pub(crate) enum Evaluation {
     /// The event isn't evaluated, or by a setting that is `false` or whose clauses don't fire.
     Refused,
-    /// There are effects, and they mark the frame of a call or don't.
-    Done { marks: bool },
-}
-
-/// Whether the effects mark the frame of the call.
-fn marks_frame<A: Allocator>(effects: &[Effect<A>]) -> bool
-    ensures { result ≡ session.marks_frame (map effect_seen effects.now) }
-{
-    for effect in effects {
-        match effect {
-            Effect::ReturnTrace | Effect::ExceptionTrace => return true,
-            Effect::Message(_) | Effect::Silent(_) | Effect::Change { .. } => {}
-        }
-    }
-    false
+    /// There are effects, and they ask for a mark of the frame of a call or don't.
+    Done { mark: Option<Kind> },
 }
 
 impl<A: Allocator + Copy> Lines<'_, A> {
@@ -59,7 +46,7 @@ impl<A: Allocator + Copy> Lines<'_, A> {
                 self.say(b"the setting is false", out)?;
                 Ok(Evaluation::Refused)
             }
-            Setting::Plain => Ok(Evaluation::Done { marks: false }),
+            Setting::Plain => Ok(Evaluation::Done { mark: None }),
             Setting::By(spec) => self.put_spec(spec, context, out),
         }
     }
@@ -96,8 +83,8 @@ impl<A: Allocator + Copy> Lines<'_, A> {
                 Verdict::Fails(reason) => self.put_failing(i, reason, out)?,
                 Verdict::Fires { effects, .. } => {
                     self.put_firing(i, &effects, out)?;
-                    let marks = marks_frame(&effects);
-                    return Ok(Evaluation::Done { marks });
+                    let mark = mark_for(&effects);
+                    return Ok(Evaluation::Done { mark });
                 }
             }
         }

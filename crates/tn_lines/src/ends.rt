@@ -1,9 +1,11 @@
 // Marks, and the end of a process.
 ghost use Rattle.std.specs.Prelude.{◌≡◌, ◌++◌, OnOk};
-ghost use Rattle.def_explain.specs.Accounts.{line_where};
+ghost use Rattle.std.specs.Option.{option_map};
+ghost use Rattle.def_explain.specs.Accounts.{line_where, marked_lines};
 ghost use Rattle.tn_flags.specs.Views.{flags_of};
 ghost use Rattle.tn_text.specs.Writes.{Grows};
-ghost use Rattle.tn_lines.specs.Evaluations.{marks_of, AtTheEnd};
+ghost use Rattle.tn_session.specs.Views.{kind_seen};
+ghost use Rattle.tn_lines.specs.Evaluations.{mark_by, AtTheEnd};
 ghost use Rattle.tn_lines.specs.Parts.{said_where, lost_lines};
 ghost use Rattle.tn_lines.specs.Lines.{Adds};
 
@@ -11,16 +13,16 @@ use crate::clauses::Evaluation;
 use crate::line::{Lines, begin};
 use std::alloc::{AllocError, Allocator};
 use tn_flags::{Event, Flags};
-use tn_session::Look;
+use tn_session::{Kind, Look};
 use tn_trial::{put_flags, put_pid};
 
-/// Whether the evaluation marks the frame of a call.
-fn is_marking(evaluation: Evaluation) -> bool
-    ensures { result ≡ marks_of evaluation }
+/// The mark that the frame of a call gets, if it gets one.
+fn mark_by(evaluation: Evaluation) -> Option<Kind>
+    ensures { option_map kind_seen result ≡ mark_by evaluation }
 {
     match evaluation {
-        Evaluation::Refused => false,
-        Evaluation::Done { marks } => marks,
+        Evaluation::Refused => None,
+        Evaluation::Done { mark } => mark,
     }
 }
 
@@ -31,6 +33,18 @@ impl<A: Allocator + Copy> Lines<'_, A> {
         ensures grows { Grows out.old.items out.new.items }
     {
         if holds { self.say(text, out) } else { Ok(()) }
+    }
+
+    /// Appends the mark that a call gets, if it gets one.
+    fn put_mark(&self, mark: Option<Kind>, out: &mut Vec<u8, A>) -> Result<(), AllocError>
+        ensures ok { OnOk result (Adds self.now (marked_lines (option_map kind_seen mark)) out.old out.new) }
+        ensures grows { Grows out.old.items out.new.items }
+    {
+        match mark {
+            None => Ok(()),
+            Some(Kind::Returns) => self.say(b"the call is marked", out),
+            Some(Kind::Exceptions) => self.say(b"the call is marked for exceptions", out),
+        }
     }
 
     /// Appends a line of a process, where there is something to say of it.
@@ -63,7 +77,7 @@ impl<A: Allocator + Copy> Lines<'_, A> {
         self.put_of_process(pid, &lost, out)
     }
 
-    /// Appends the lines that stand at the end: what becomes of the mark of a call, and of the flags of a process
+    /// Appends the lines that stand at the end: what becomes of the mark of a frame, and of the flags of a process
     /// that exits. They are known before the session sees the event.
     pub(crate) fn put_behind(
         &self,
@@ -76,10 +90,8 @@ impl<A: Allocator + Copy> Lines<'_, A> {
         ensures grows { Grows out.old.items out.new.items }
     {
         match event {
-            Event::Called { .. } => {
-                self.say_where(is_marking(evaluation), b"the call is marked", out)
-            }
-            Event::Returned { pid, depth, .. } => {
+            Event::Called { .. } => self.put_mark(mark_by(evaluation), out),
+            Event::Returned { pid, depth, .. } | Event::Raised { pid, depth, .. } => {
                 self.say_where(look.is_marked(*pid, *depth), b"the mark is gone", out)
             }
             Event::Exited { pid, .. } => self.put_lost(*pid, look.flags_at(*pid), out),

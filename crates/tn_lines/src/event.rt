@@ -42,12 +42,14 @@ pub fn put_event_lines<A: Allocator + Copy>(
     }
 }
 
-/// Whether `silent` of its process silences the message of an event: that of a call or a return.
+/// Whether `silent` of its process silences the message of an event: that of a call, a return or an exception.
 fn is_silenced<A: Allocator + Copy>(look: &Look<'_, A>, event: &Event<A>) -> bool
     ensures { result ≡ is_silenced (look_seen look.now) (event_of event.now) }
 {
     match event {
-        Event::Called { pid, .. } | Event::Returned { pid, .. } => look.flags_at(*pid).silent,
+        Event::Called { pid, .. } | Event::Returned { pid, .. } | Event::Raised { pid, .. } => look
+            .flags_at(*pid)
+            .silent,
         _ => false,
     }
 }

@@ -25,6 +25,7 @@ pub(crate) fn both_of<A: Allocator>(event: &Event<A>) -> Option<(u32, u32)>
         | Event::Received { .. }
         | Event::Called { .. }
         | Event::Returned { .. }
+        | Event::Raised { .. }
         | Event::Spawn { .. }
         | Event::Exited { .. }
         | Event::Linked { .. }

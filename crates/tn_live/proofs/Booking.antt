@@ -1,7 +1,8 @@
 -- What a turn does to a book and to a seat, as contracts see them.
-use Rattle.std.proofs.Common.{◌≡◌, ◌∙◌, ℕ, suc, List, [], ◌∷◌, ◌++◌, length, Some, Ok, Err, Result, refl, sym, ap, subst}
+use Rattle.std.proofs.Common.{◌≡◌, ◌∙◌, ℕ, suc, ◌<◌, List, [], ◌∷◌, ◌++◌, length, Some, Ok, Err, Result, refl, sym, ap, subst}
 use Rattle.def_script.specs.Program.{Program}
 use Rattle.def_run.specs.Laws.{IsIdleAfter}
+use Rattle.def_run.specs.Run.{JOURNAL}
 use Rattle.tn_trace.specs.declared.item.StepFault.{StepFault}
 use Rattle.tn_trace.specs.declared.item.StepFault.TheVariants.{LimitReached, Spent, OutOfMemory}
 use Rattle.tn_live.specs.declared.entry.Entry.{Entry}
@@ -37,12 +38,14 @@ module _ {A J : Type 0} (p : Program) (pick : ℕ) (r q : Record A J) (s t : See
     same_state t.number s.number t.entries.items (r.entries.items ++ entry s.number pick ∷ []) e.number (e.shown ∙ e.added),
     e.moves,
     e.receipt_is,
+    e.room,
   )
   seat_turns (Ok (Idle front)) b e = (
     follows t.entries.items b e.0.shown,
     same_state t.number s.number t.entries.items t.entries.items e.0.number refl,
     subst (λ (es : List Entry). IsIdleAfter p (picks_of es) pick) (sym e.0.shown) e.2,
     e.3 ∙ ap length (sym e.0.shown),
+    subst (λ (es : List Entry). length es < JOURNAL) (sym e.0.shown) e.1,
   )
   seat_turns (Err LimitReached) b e = (follows t.entries.items b e.0.shown, same_state t.number s.number t.entries.items t.entries.items e.0.number refl, ap length e.0.shown ∙ e.1)
   seat_turns (Err Spent) b e = absurd e

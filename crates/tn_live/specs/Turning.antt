@@ -27,14 +27,14 @@ pub record Follows (s : SeatState) (seen : List Entry) : Type 0 where
   pub after : seen ≡ s.seen ++ between
   pub others : made_by s.number between ≡ 0
 
--- what the seat has seen afterwards: what it had seen, then entries of other seats, and at Moved its own
+-- what the seat has seen afterwards: what it had seen, then entries of other seats, and at Moved its own; the journal had room where the answer is no fault
 abbrev pub SeatTurns : {A : Type 0} → Program → SeatState → ℕ → Result (Turn A) StepFault → SeatState → Type 0
 SeatTurns p s pick (Ok (Moved r)) t =
     (before : List Entry) × Follows s before × (t ≡ seat_of s.number (before ++ entry s.number pick ∷ []))
-    × MovesAfter p before pick × IsReceipt p s.number before pick r
+    × MovesAfter p before pick × IsReceipt p s.number before pick r × (length before < JOURNAL)
 SeatTurns p s pick (Ok (Idle front)) t =
     Follows s t.seen × (t ≡ seat_of s.number t.seen)
-    × IsIdleAfter p (picks_of t.seen) pick × (front ≡ length t.seen)
+    × IsIdleAfter p (picks_of t.seen) pick × (front ≡ length t.seen) × (length t.seen < JOURNAL)
 SeatTurns p s pick (Err LimitReached) t = Follows s t.seen × (t ≡ seat_of s.number t.seen) × (length t.seen ≡ JOURNAL)
 SeatTurns p s pick (Err Spent) t = t ≡ s
 SeatTurns p s pick (Err OutOfMemory) t = t ≡ s

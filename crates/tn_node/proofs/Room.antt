@@ -16,12 +16,12 @@ use Rattle.tn_node.specs.declared.world.World.{World}
 spawned_pid : {A : Type 0} (most : ℕ) (ls : List Bool) (child : Option ℕ) (size : ℕ) (r : Process) (a : code.Act A) → IsOwnAct most ls child (act_seen r a)
     → ((c : ℕ) → child ≡ Some c → size < 64) → IsRoomFor a size
 spawned_pid most ls child size r Waits own room = tt
-spawned_pid most ls child size r (Continues e) own room = tt
+spawned_pid most ls child size r (Continues es) own room = tt
 spawned_pid most ls child size r (Sends to t) own room = tt
 spawned_pid most ls child size r (LinksTo n) own room = tt
 spawned_pid most ls child size r (UnlinksFrom n) own room = tt
 spawned_pid most ls child size r (Spawns c e) own room = room c own.1
-spawned_pid most ls child size r (Exits t e) own room = tt
+spawned_pid most ls child size r (Exits t es) own room = tt
 
 pub room_left : {A : Type 0} (ks : List Function) (w : World A) (n : ℕ) (child : Option ℕ) (q r : Process) (a : code.Act A) (size : ℕ)
     → child ≡ next_pid (world_of w) → act_seen r a ≡ act ks n child q → size ≡ length w.slots.items → IsRoomFor a size

@@ -7,9 +7,9 @@ use Rattle.tn_process.specs.declared.act.Act.TheVariants.{Waits, Continues, Send
 
 pub seen_of : {A : Type 0} (p : Process A) (a : Act A) → act_seen (process_of p) a ≡ act_of p a
 seen_of p Waits = refl
-seen_of p (Continues e) = refl
+seen_of p (Continues es) = refl
 seen_of p (Sends to t) = refl
 seen_of p (LinksTo n) = refl
 seen_of p (UnlinksFrom n) = refl
 seen_of p (Spawns child e) = refl
-seen_of p (Exits r e) = refl
+seen_of p (Exits r es) = refl

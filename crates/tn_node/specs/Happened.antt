@@ -1,9 +1,8 @@
 -- The events of a spawn and of an exit, in their order.
-use Rattle.std.specs.Prelude.{ℕ, Bool, List, [], ◌∷◌, ◌++◌, map, Option, option_to_list}
+use Rattle.std.specs.Prelude.{ℕ, Bool, List, [], ◌∷◌, ◌++◌, map}
 use Rattle.def_script.specs.Program.{Entry, entry_mfa}
 use Rattle.def_node.specs.Event.{Event, spawning, spawned, exited, getting_unlinked}
 use Rattle.def_node.specs.Node.{partner_pids}
-use Rattle.std.specs.Option.{option_map}
 use Rattle.std.specs.declared.vec.Vec.{Vec}
 use Rattle.tn_term.specs.Views.{tree_of}
 use Rattle.tn_term.specs.declared.term.Term.{Term}
@@ -22,7 +21,6 @@ partings pid partners = map (λ m. getting_unlinked m pid) (partner_pids 100 par
 abbrev pub seen_events : {A : Type 0} → Vec (code.Event A) A → List Event
 seen_events es = map event_of es.items
 
--- the one before the exit, if any, the exit, and then those of the lost links
-abbrev pub events_of_exit : {A : Type 0} → ℕ → List Bool → Term A → Option (code.Event A) → List Event
-events_of_exit pid partners reason before =
-    option_to_list (option_map event_of before) ++ exited pid (tree_of reason) ∷ partings pid partners
+-- those before the exit, the exit, and then those of the lost links
+abbrev pub events_of_exit : {A : Type 0} → ℕ → List Bool → Term A → Vec (code.Event A) A → List Event
+events_of_exit pid partners reason before = seen_events before ++ exited pid (tree_of reason) ∷ partings pid partners

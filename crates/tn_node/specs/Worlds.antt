@@ -32,12 +32,12 @@ move_of w (Some es) = node.moved (world_of w) (map event_of es.items)
 -- a spawn needs that fewer than 64 processes were started
 abbrev pub IsRoomFor : {A : Type 0} → Act A → ℕ → Type 0
 IsRoomFor Waits n = Unit {0}
-IsRoomFor (Continues e) n = Unit {0}
+IsRoomFor (Continues es) n = Unit {0}
 IsRoomFor (Sends to t) n = Unit {0}
 IsRoomFor (LinksTo m) n = Unit {0}
 IsRoomFor (UnlinksFrom m) n = Unit {0}
 IsRoomFor (Spawns child e) n = n < 64
-IsRoomFor (Exits r e) n = Unit {0}
+IsRoomFor (Exits r es) n = Unit {0}
 
 -- the processes, by their places
 abbrev pub slots_of : {A : Type 0} → World A → List (Option process.Process)
@@ -51,9 +51,9 @@ tells_partners w pid partners reason = partners_told pid (tree_of reason) partne
 abbrev pub vacated_at : {A : Type 0} → World A → ℕ → ℕ → List Bool → Term A → List (Option process.Process)
 vacated_at w place pid partners reason = partners_told pid (tree_of reason) partners (slice_set (slots_of w) place None)
 
--- the end of the process with this pid, at this place
-abbrev pub ends_at : {A : Type 0} → World A → ℕ → ℕ → List Bool → Term A → Option (Event A) → node.Move
-ends_at w place pid partners reason event = ended (world_of w) place pid partners (tree_of reason) (option_map event_of event)
+-- the end of the process with this pid, at this place, after these events
+abbrev pub ends_at : {A : Type 0} → World A → ℕ → ℕ → List Bool → Term A → Vec (Event A) A → node.Move
+ends_at w place pid partners reason events = ended (world_of w) place pid partners (tree_of reason) (map event_of events.items)
 
 -- with the processes after it, the answer is this move
 abbrev pub Moves : {A E : Type 0} → World A → Result (Vec (Event A) A) E → node.Move → Type 0

@@ -1,8 +1,7 @@
 // The events of spawns and exits.
-ghost use Rattle.std.specs.Prelude.{◌≡◌, IfOk, ◌++◌, map, option_to_list};
+ghost use Rattle.std.specs.Prelude.{◌≡◌, IfOk, ◌++◌, map};
 ghost use Rattle.def_script.specs.Program.{entry_mfa};
-ghost use Rattle.std.specs.Option.{option_map};
-ghost use Rattle.tn_term.specs.Views.{mfa_seen, tree_of};
+ghost use Rattle.tn_term.specs.Views.{mfa_seen};
 ghost use Rattle.tn_flags.specs.Views.{event_of};
 ghost use Rattle.tn_script.specs.Views.{entry_of};
 ghost use Rattle.tn_node.specs.Happened.{seen_events, events_of_spawn, partings, events_of_exit};
@@ -21,23 +20,6 @@ fn entry_mfa<A: Allocator + Copy>(alloc: A, entry: &Entry<A>) -> Result<Mfa<A>, 
         name: entry.name.copy_into(alloc)?,
         arity: entry.args.terms.len() as u8,
     })
-}
-
-/// The event of a step that concerns its own process alone, if any.
-pub fn own_events<A: Allocator>(
-    alloc: A,
-    event: Option<Event<A>>,
-) -> Result<Vec<Event<A>, A>, AllocError>
-    ensures { IfOk result (λ es. map event_of es.items ≡ option_to_list (option_map event_of event)) }
-{
-    let mut events = Vec::new(alloc);
-    match event {
-        Some(event) => {
-            events.push(event)?;
-            Ok(events)
-        }
-        None => Ok(events),
-    }
 }
 
 /// The events of a spawn: the parent's, and then the child's.
@@ -85,17 +67,15 @@ fn push_partings<A: Allocator>(
     Ok(())
 }
 
-/// The events of an exit: the one before it, if any, the exit, and then those of the partners.
+/// The events of an exit: those before it, the exit, and then those of the partners.
 pub fn exit_events<A: Allocator>(
-    alloc: A,
     pid: u32,
     partners: &[bool; 64],
     reason: Term<A>,
-    before: Option<Event<A>>,
+    mut events: Vec<Event<A>, A>,
 ) -> Result<Vec<Event<A>, A>, AllocError>
-    ensures { IfOk result (λ es. seen_events es ≡ events_of_exit pid partners.now reason before) }
+    ensures { IfOk result (λ es. seen_events es ≡ events_of_exit pid partners.now reason events) }
 {
-    let mut events = own_events(alloc, before)?;
     events.push(Event::Exited { pid, reason })?;
     push_partings(&mut events, pid, partners)?;
     Ok(events)

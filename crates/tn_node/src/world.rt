@@ -1,7 +1,7 @@
 // The processes, and what a step of one does to the others.
 ghost use Rattle.std.specs.Prelude.{◌≤◌, length};
 
-use crate::events::{exit_events, own_events, start_events};
+use crate::events::{exit_events, start_events};
 use std::alloc::{AllocError, Allocator};
 use tn_flags::Event;
 use tn_process::{Act, Process};
@@ -331,7 +331,7 @@ impl<A: Allocator + Copy> World<A> {
         Ok(())
     }
 
-    /// The process with this pid, at this place, ends.
+    /// The process with this pid, at this place, ends after these events.
     fn finish(
         &mut self,
         alloc: A,
@@ -339,14 +339,14 @@ impl<A: Allocator + Copy> World<A> {
         pid: u32,
         partners: &[bool; 64],
         reason: Term<A>,
-        event: Option<Event<A>>,
+        events: Vec<Event<A>, A>,
     ) -> Result<Vec<Event<A>, A>, AllocError>
         requires place_within { place < length self.old.slots.items }
         requires at { pid ≡ 100 + place }
-        ensures { Moves self.new result (ends_at self.old place pid partners.now reason event) }
+        ensures { Moves self.new result (ends_at self.old place pid partners.now reason events) }
     {
         self.vacate(alloc, place, pid, partners, &reason)?;
-        Ok(exit_events(alloc, pid, partners, reason, event)?)
+        Ok(exit_events(pid, partners, reason, events)?)
     }
 
     /// The process with this pid starts the child.
@@ -411,14 +411,14 @@ impl<A: Allocator + Copy> World<A> {
     {
         match act {
             Act::Waits => Ok(None),
-            Act::Continues(event) => Ok(Some(own_events(alloc, event)?)),
+            Act::Continues(events) => Ok(Some(events)),
             Act::Sends { to, message } => Ok(Some(self.deliver(alloc, pid, to, message)?)),
             Act::LinksTo(other) => Ok(Some(self.link(alloc, place, pid, other)?)),
             Act::UnlinksFrom(other) => Ok(Some(self.unlink(alloc, place, pid, other)?)),
             Act::Spawns { child, entry } => Ok(Some(self.start(alloc, pid, child, entry)?)),
-            Act::Exits { reason, event } => {
+            Act::Exits { reason, events } => {
                 let partners = self.partners(place);
-                Ok(Some(self.finish(alloc, place, pid, &partners, reason, event)?))
+                Ok(Some(self.finish(alloc, place, pid, &partners, reason, events)?))
             }
         }
     }

@@ -64,6 +64,8 @@ use Rattle.std.specs.contracts.impls.GlobalAllocator.TheImpl.{ghosts}
 use Rattle.tn_term.proofs.alive.Alive.TheSendSync as alive_sent
 use Rattle.tn_flags.proofs.flags.Flags.TheSendSync as flags_sent
 use Rattle.tn_session.proofs.state.Phase.TheSendSync as phase_sent
+use Rattle.tn_session.proofs.state.Mark.TheSendSync as mark_sent
+use Rattle.tn_session.proofs.state.Kind.TheSendSync as mark_kind_sent
 use Rattle.tn_live.proofs.front.Head.TheSendSync as head_sent
 use Rattle.tn_live.proofs.front.Front.TheSendSync as front_sent
 use Rattle.tn_live.proofs.entry.ItemPlace.TheSendSync as place_sent
@@ -281,10 +283,10 @@ module _ (T : RattleType) (g : Ghosts T.Denot) (s : IsSend T) (f : Frees g g.dea
   settings_field_send S k = search (sendable, crosses, covering_send, covering_field_send, indexed_send, indexed_field_send, index_map_send, index_map_field_send, hashing_send, hashing_field_send, folding_sent.the_send, settings_send) depth 40 fits 3000 parts 0
 
   state_send : IsSend (state.the_row T g)
-  state_send = search (sendable, crosses, mfa_send, mfa_field_send, compiled_send, compiled_field_send, settings_send, settings_field_send, setting_send, setting_field_send, alive_sent.the_send, alive_sent.the_field_send, flags_sent.the_send, flags_sent.the_field_send, phase_sent.the_send, phase_sent.the_field_send) depth 40 fits 3000 parts 0
+  state_send = search (sendable, crosses, mfa_send, mfa_field_send, compiled_send, compiled_field_send, settings_send, settings_field_send, setting_send, setting_field_send, alive_sent.the_send, alive_sent.the_field_send, flags_sent.the_send, flags_sent.the_field_send, phase_sent.the_send, phase_sent.the_field_send, mark_sent.the_send, mark_sent.the_field_send, mark_kind_sent.the_send, mark_kind_sent.the_field_send) depth 40 fits 3000 parts 0
 
   state_field_send : IsSend (state.the_field T g).row
-  state_field_send = search (sendable, crosses, mfa_send, mfa_field_send, compiled_send, compiled_field_send, settings_send, settings_field_send, setting_send, setting_field_send, alive_sent.the_send, alive_sent.the_field_send, flags_sent.the_send, flags_sent.the_field_send, phase_sent.the_send, phase_sent.the_field_send, state_send) depth 40 fits 3000 parts 0
+  state_field_send = search (sendable, crosses, mfa_send, mfa_field_send, compiled_send, compiled_field_send, settings_send, settings_field_send, setting_send, setting_field_send, alive_sent.the_send, alive_sent.the_field_send, flags_sent.the_send, flags_sent.the_field_send, phase_sent.the_send, phase_sent.the_field_send, mark_sent.the_send, mark_sent.the_field_send, mark_kind_sent.the_send, mark_kind_sent.the_field_send, state_send) depth 40 fits 3000 parts 0
 
   session_send : IsSend (session.the_row T g)
   session_send = search (sendable, crosses, state_send, state_field_send) depth 40 fits 3000 parts 0

@@ -1,5 +1,5 @@
 -- What the acts of a process come to.
-use Rattle.std.proofs.Common.{◌≡◌, ℕ, zero, suc, ◌+◌, ◌-◌, ◌<◌, Bool, false, cond, List, [], ◌∷◌, length, map, reverse, slice_get, Option, Some, None, Result, Ok, Err, refl, ap, sym, ◌∙◌, arith}
+use Rattle.std.proofs.Common.{◌≡◌, ℕ, zero, suc, ◌+◌, ◌-◌, ◌<◌, ◌≤◌, Bool, true, false, cond, List, [], ◌∷◌, length, map, reverse, slice_get, Option, Some, None, Result, Ok, Err, refl, ap, sym, ◌∙◌, arith}
 use mathlib.Core.List.{reverse_aux}
 use Rattle.std.proofs.lemmas.List.{length-reverse, length-map}
 use Rattle.std.proofs.lemmas.Bool.Decides.{nat_tests}
@@ -10,7 +10,7 @@ use Rattle.def_term.specs.Names.{Name, Mfa, word}
 use Rattle.def_script.specs.Program.{Function, Entry}
 use Rattle.def_node.specs.Event.{Call}
 use Rattle.def_node.specs.Values.{Env, params_bound, pid_in}
-use Rattle.def_node.specs.Process.{Process, Frame, Act, waits, exits, enters, enters_at, mfa_at, caller_of, within, with_frames, performs, runs, runs_in}
+use Rattle.def_node.specs.Process.{Process, Frame, Manner, Act, waits, exits, enters, enters_at, mfa_at, caller_of, within, with_frames, performs, runs, runs_in}
 use Rattle.tn_process.specs.declared.act.Act.{Act as Answer}
 use Rattle.tn_process.specs.declared.process.Process.{Process as State}
 use Rattle.tn_process.specs.Acting.{Does, Ends}
@@ -35,22 +35,28 @@ none_bound env (p ∷ ps) = refl
 pub depth_below : {X : Type 0} (h : X → Frame) (xs : List X) → length xs < 64 → nat_le 64 (length (reverse (map h xs))) ≡ false
 depth_below h xs below = let e : length (reverse (map h xs)) ≡ length xs = length-reverse (map h xs) ∙ length-map xs h in grind (arith, nat_tests)
 
+pub depth_at_limit : {X : Type 0} (h : X → Frame) (xs : List X) → 64 ≤ length xs → nat_le 64 (length (reverse (map h xs))) ≡ true
+depth_at_limit h xs above = let e : length (reverse (map h xs)) ≡ length xs = length-reverse (map h xs) ∙ length-map xs h in grind (arith, nat_tests)
+
 pub depth_seen : {X : Type 0} (h : X → Frame) (xs : List X) → length (reverse (map h xs)) ≡ length xs
 depth_seen h xs = length-reverse (map h xs) ∙ length-map xs h
 
 pub otherwise : (b : Bool) (x r y : Act) → b ≡ false → x ≡ y → x ≡ cond b r y
 otherwise b x r y h e = e ∙ sym (ap (λ v. cond v r y) h)
 
--- a call is the same whether an entry call is due or not
-enters_at_after : (ks : List Function) (n : ℕ) (q : Process) (e : Option Entry) (fs : List Frame) (x : Option Name) (named : Bool) (args : List Tree) (i : ℕ) (k : Option Function)
-    → enters_at ks n (record q { entry = e }) fs x named args i k ≡ enters_at ks n q fs x named args i k
-enters_at_after ks n q e fs x named args i None = refl
-enters_at_after ks n q e fs x named args i (Some k) = refl
+pub here : (b : Bool) (x y : Act) → b ≡ true → x ≡ cond b x y
+here b x y h = sym (ap (λ v. cond v x y) h)
 
-pub enters_after : (ks : List Function) (n : ℕ) (q : Process) (e : Option Entry) (fs : List Frame) (x : Option Name) (named : Bool) (args : List Tree) (i : Option ℕ)
-    → enters ks n (record q { entry = e }) fs x named args i ≡ enters ks n q fs x named args i
-enters_after ks n q e fs x named args None = refl
-enters_after ks n q e fs x named args (Some i) = enters_at_after ks n q e fs x named args i (slice_get ks i)
+-- a call is the same whether an entry call is due or not
+enters_at_after : (ks : List Function) (n : ℕ) (q : Process) (e : Option Entry) (fs : List Frame) (a : Manner) (args : List Tree) (i : ℕ) (k : Option Function)
+    → enters_at ks n (record q { entry = e }) fs a args i k ≡ enters_at ks n q fs a args i k
+enters_at_after ks n q e fs a args i None = refl
+enters_at_after ks n q e fs a args i (Some k) = refl
+
+pub enters_after : (ks : List Function) (n : ℕ) (q : Process) (e : Option Entry) (fs : List Frame) (a : Manner) (args : List Tree) (i : Option ℕ)
+    → enters ks n (record q { entry = e }) fs a args i ≡ enters ks n q fs a args i
+enters_after ks n q e fs a args None = refl
+enters_after ks n q e fs a args (Some i) = enters_at_after ks n q e fs a args i (slice_get ks i)
 
 -- an answer that ends the process, by what it comes to
 pub ended : {A E : Type 0} (q : State A) (r : Result (Answer A) E) (f : List Bool → Act) (a : Act) → Ends r f → f q.links ≡ a → Does q r a
@@ -67,7 +73,7 @@ pub within_pid : (ls : List Bool) (o : Option Tree) (p : Option (Option ℕ)) (f
 within_pid ls None p f e = ap (λ v. within ls v f) e
 within_pid ls (Some t) p f e = ap (λ v. within ls v f) e
 
-pub within_none : {X : Type 0} (ls : List Bool) (o : Option X) (f : X → Act) → None ≡ o → exits ls (word "system_limit") None ≡ within ls o f
+pub within_none : {X : Type 0} (ls : List Bool) (o : Option X) (f : X → Act) → None ≡ o → exits ls (word "system_limit") [] ≡ within ls o f
 within_none ls o f is = ap (λ v. within ls v f) is
 
 pub within_some : {X : Type 0} (ls : List Bool) (o : Option X) (f : X → Act) (x : X) (a : Act) → Some x ≡ o → a ≡ f x → a ≡ within ls o f

@@ -1,3 +1,4 @@
 pub mod Lookup
 pub mod Building
 pub mod Acts
+pub mod Unwinding

@@ -58,9 +58,17 @@ returned_in c k t depth = returned c.pid (mfa_of (function_of k)) t depth
 abbrev pub leaves_in : {A : Type 0} → StepContext A → Process A → Function A → Option Name → Tree → process.Act
 leaves_in c q k x t = leaves c.pid (process_of q) (function_of k) x (process_of q).frames t
 
+-- how the call is made
+abbrev pub manner_of : {A : Type 0} → Calling A → process.Manner
+manner_of k = record { target = k.target; named = k.named; by_catch = k.by_catch }
+
+-- how the step makes its call
+abbrev pub manner_in : {A : Type 0} → Callee A → process.Manner
+manner_in k = record { target = k.target.now; named = k.named; by_catch = k.by_catch }
+
 -- a call by the number of its function
 abbrev pub enters_in : {A : Type 0} → StepContext A → Process A → Calling A → Option ℕ → process.Act
-enters_in c q k i = enters (functions_of c.functions.now) c.pid (process_of q) (process_of q).frames k.target k.named (args_of k.args) i
+enters_in c q k i = enters (functions_of c.functions.now) c.pid (process_of q) (process_of q).frames (manner_of k) (args_of k.args) i
 
 -- the function of the newest frame
 abbrev pub caller_in : {A : Type 0} → List (Function A) → Process A → Option Mfa
@@ -81,17 +89,17 @@ called_in c q k f = record {
 abbrev pub entered : {A : Type 0} → StepContext A → Process A → Calling A → ℕ → Function A → process.Process
 entered c q k i f =
     let env = env_for_call c.pid (function_of f).params (args_of k.args) in
-    record (process_of q) { entry = None; frames = record { function = i; place = 0; env = env; target = k.target } ∷ (process_of q).frames }
+    record (process_of q) { entry = None; frames = record { function = i; place = 0; env = env; target = k.target; by_catch = k.by_catch } ∷ (process_of q).frames }
 
 -- the same of a function that is there
 abbrev pub enters_function_in : {A : Type 0} → StepContext A → Process A → Calling A → ℕ → Function A → process.Act
 enters_function_in c q k i f =
-    process.enters_at (functions_of c.functions.now) c.pid (process_of q) (process_of q).frames k.target k.named (args_of k.args) i (Some (function_of f))
+    process.enters_at (functions_of c.functions.now) c.pid (process_of q) (process_of q).frames (manner_of k) (args_of k.args) i (Some (function_of f))
 
 -- the step of a call
 abbrev pub calls_in : {A : Type 0} → StepContext A → Process A → Frame A → Callee A → process.Act
 calls_in c q f k =
-    calls (functions_of c.functions.now) c.pid (process_of q) (frame_of f) (process_of q).frames k.target.now k.named k.home.now k.name.now (all_built_in f k.templates.now)
+    calls (functions_of c.functions.now) c.pid (process_of q) (frame_of f) (process_of q).frames (manner_in k) k.home.now k.name.now (all_built_in f k.templates.now)
 
 -- the step of a spawn
 abbrev pub spawns_in : {A : Type 0} → StepContext A → Process A → Frame A → Callee A → process.Act

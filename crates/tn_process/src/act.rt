@@ -9,8 +9,8 @@ use tn_term::Term;
 pub enum Act<A: Allocator> {
     /// It can't move.
     Waits,
-    /// It goes on, with an event where the step gives one.
-    Continues(Option<Event<A>>),
+    /// It goes on, with the events of the step: one at most, but where an exception leaves frames.
+    Continues(Vec<Event<A>, A>),
     /// It sends a message to a pid.
     Sends {
         to: u32,
@@ -25,9 +25,9 @@ pub enum Act<A: Allocator> {
         child: u32,
         entry: Entry<A>,
     },
-    /// It ends, with an event before the exit where the step gives one.
+    /// It ends, with the events before the exit: that of a return, or those of an exception.
     Exits {
         reason: Term<A>,
-        event: Option<Event<A>>,
+        events: Vec<Event<A>, A>,
     },
 }

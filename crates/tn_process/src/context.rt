@@ -1,4 +1,4 @@
-// What a step of a process is given, and what a call or a spawn names.
+// What a step of a process is given, and what a call, a catch or a spawn names.
 use std::alloc::Allocator;
 use tn_script::{Arguments, Function};
 use tn_term::Atom;
@@ -15,12 +15,14 @@ pub struct StepContext<'a, A: Allocator + Copy> {
     pub child: Option<u32>,
 }
 
-/// What the step of a call or of a spawn names.
+/// What the step of a call, of a catch or of a spawn names.
 #[derive(Drop)]
 pub struct Callee<'a, A: Allocator + Copy> {
     pub target: &'a Option<Atom<A>>,
     /// Whether the step names the module.
     pub named: bool,
+    /// Whether it is a catch step.
+    pub by_catch: bool,
     pub home: &'a Atom<A>,
     pub name: &'a Atom<A>,
     pub templates: &'a Arguments<A>,
@@ -32,5 +34,7 @@ pub struct Calling<A: Allocator> {
     pub target: Option<Atom<A>>,
     /// Whether the call names the module.
     pub named: bool,
+    /// Whether a catch step makes it.
+    pub by_catch: bool,
     pub args: Arguments<A>,
 }

@@ -1,14 +1,16 @@
 //! One process of the node: the values of its variables, its frames, its mailbox, its pending exit
 //! signal and its links.
 //!
-//! Stands on the functions of a script and on the definitions of def_node. Promises that what a process
+//! Depends on the functions of a script and on the definitions of def_node. Promises that what a process
 //! does at its next step, and what it is then, are those of the definition: templates are built in one
-//! go and measured first, a call or a return changes the newest frame, and whatever concerns another
-//! process comes out as an act, for the node to carry out.
+//! go and measured first, a call or a return changes the newest frame, an exception leaves frames down to
+//! the newest that a catch step called, and whatever concerns another process comes out as an act, for the
+//! node to carry out.
 #![tactic(auto)]
 
 mod act;
 mod context;
+mod exception;
 mod function;
 mod neighbours;
 mod process;

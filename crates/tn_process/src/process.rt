@@ -1,5 +1,5 @@
 // One process, and its next step.
-ghost use Rattle.std.specs.Prelude.{◌≡◌, ◌+◌, ◌<◌, IfOk, codes, None, Some};
+ghost use Rattle.std.specs.Prelude.{◌≡◌, ◌+◌, ◌<◌, [], ◌∷◌, IfOk, codes, None, Some};
 ghost use Rattle.std.specs.Option.{option_map};
 ghost use Rattle.def_term.specs.Tree.{atom};
 ghost use Rattle.def_term.specs.Atoms.{IsAtomText};
@@ -8,8 +8,8 @@ ghost use Rattle.tn_flags.specs.Views.{event_of, call_of};
 ghost use Rattle.tn_script.specs.Views.{step_of, functions_of};
 ghost use Rattle.def_node.specs.Values.{fitting, pid_in};
 ghost use Rattle.def_node.specs.Process as World;
-ghost use Rattle.def_node.specs.Process.{advanced, act, mfa_at, within};
-ghost use Rattle.tn_process.specs.Views.{frame_of, process_of, act_of};
+ghost use Rattle.def_node.specs.Process.{advanced, act, mfa_at};
+ghost use Rattle.tn_process.specs.Views.{frame_of, process_of, events_of, act_of};
 ghost use Rattle.tn_process.specs.declared.process.Process.{Process};
 ghost use Rattle.tn_process.specs.Templates.{built_in};
 ghost use Rattle.tn_process.specs.Acting.{Does, Ends, Pops, with_target, with_newest, caller_in};
@@ -38,6 +38,8 @@ pub struct Frame<A: Allocator> {
     pub(crate) place: usize,
     pub(crate) env: Env<A>,
     pub(crate) target: Option<Atom<A>>,
+    /// Whether a catch step called it.
+    pub(crate) by_catch: bool,
 }
 
 /// A process, the newest of its frames last.
@@ -53,40 +55,23 @@ pub struct Process<A: Allocator> {
 /// The process ends with the atom of this text as its reason.
 fn ends_with<A: Allocator + Copy>(alloc: A, reason: &str) -> Result<Act<A>, AllocError>
     requires { IsAtomText reason.now }
-    ensures { Ends result (λ ls. World.exits ls (atom reason.now) None) }
+    ensures { Ends result (λ ls. World.exits ls (atom reason.now) []) }
 {
     Ok(Act::Exits {
         reason: Term::word(alloc, reason)?,
-        event: None,
+        events: Vec::new(alloc),
     })
 }
 
 /// The process ends, since the step goes past a limit.
-fn over_limit<A: Allocator + Copy>(alloc: A) -> Result<Act<A>, AllocError>
-    ensures { Ends result (λ ls. World.exits ls (atom (codes "system_limit")) None) }
+pub fn over_limit<A: Allocator + Copy>(alloc: A) -> Result<Act<A>, AllocError>
+    ensures { Ends result (λ ls. World.exits ls (atom (codes "system_limit")) []) }
 {
     ends_with(alloc, "system_limit")
 }
 
-/// The step of an exit.
-fn exit<A: Allocator + Copy>(
-    alloc: A,
-    frame: &Frame<A>,
-    template: &Term<A>,
-) -> Result<Act<A>, AllocError>
-    ensures { Ends result (λ ls. within ls (fitting (built_in frame.now template.now)) (λ t. World.exits ls t None)) }
-{
-    match frame.env.fitting(alloc, template)? {
-        None => Ok(over_limit(alloc)?),
-        Some(reason) => Ok(Act::Exits {
-            reason,
-            event: None,
-        }),
-    }
-}
-
 /// The function with this number.
-fn mfa_at<A: Allocator + Copy>(
+pub fn mfa_at<A: Allocator + Copy>(
     alloc: A,
     functions: &[Function<A>],
     number: usize,
@@ -99,21 +84,31 @@ fn mfa_at<A: Allocator + Copy>(
     }
 }
 
+/// The event alone.
+fn only<A: Allocator>(alloc: A, event: Event<A>) -> Result<Vec<Event<A>, A>, AllocError>
+    ensures { IfOk result (λ es. events_of es ≡ event_of event ∷ []) }
+{
+    let mut events = Vec::new(alloc);
+    events.push(event)?;
+    Ok(events)
+}
+
 /// The event of a return from a frame of this function at this depth.
 fn returned<A: Allocator + Copy>(
     context: &StepContext<'_, A>,
     function: &Function<A>,
     value: Term<A>,
     depth: usize,
-) -> Result<Event<A>, AllocError>
-    ensures { IfOk result (λ e. event_of e ≡ returned_in context.now function.now (tree_of value) depth) }
+) -> Result<Vec<Event<A>, A>, AllocError>
+    ensures { IfOk result (λ es. events_of es ≡ returned_in context.now function.now (tree_of value) depth ∷ []) }
 {
-    Ok(Event::Returned {
+    let event = Event::Returned {
         pid: context.pid,
         mfa: function_mfa(context.alloc, function)?,
         value,
         depth,
-    })
+    };
+    only(context.alloc, event)
 }
 
 /// The act of a link, or of an unlink.
@@ -160,7 +155,7 @@ impl<A: Allocator + Copy> Frame<A> {
 
 impl<A: Allocator + Copy> Process<A> {
     /// The frame is the newest from now on.
-    fn push_frame(&mut self, frame: Frame<A>) -> Result<(), AllocError>
+    pub(crate) fn push_frame(&mut self, frame: Frame<A>) -> Result<(), AllocError>
         ensures { IfOk result (λ _. process_of self.new ≡ with_newest (process_of self.old) (frame_of frame)) }
     {
         self.frames.push(frame)?;
@@ -168,7 +163,7 @@ impl<A: Allocator + Copy> Process<A> {
     }
 
     /// Takes the newest frame off.
-    fn pop_frame(&mut self) -> Option<Frame<A>>
+    pub(crate) fn pop_frame(&mut self) -> Option<Frame<A>>
         ensures { Pops self.old self.new result }
     {
         self.frames.pop()
@@ -193,7 +188,7 @@ impl<A: Allocator + Copy> Process<A> {
                 frame.advance();
                 frame.bind(alloc, target, message)?;
                 self.push_frame(frame)?;
-                Ok(Act::Continues(None))
+                Ok(Act::Continues(Vec::new(alloc)))
             }
         }
     }
@@ -223,17 +218,17 @@ impl<A: Allocator + Copy> Process<A> {
         Ok(Act::Sends { to, message })
     }
 
-    /// The frame is the newest from now on, with a copy of the value at the target.
-    fn resume(
+    /// The frame is the newest from now on, with the value at the target.
+    pub(crate) fn resume(
         &mut self,
         alloc: A,
         mut frame: Frame<A>,
         target: &Option<Atom<A>>,
-        value: &Term<A>,
+        value: Term<A>,
     ) -> Result<(), AllocError>
-        ensures { IfOk result (λ _. process_of self.new ≡ resumed_in self.old frame target.now (tree_of value.now)) }
+        ensures { IfOk result (λ _. process_of self.new ≡ resumed_in self.old frame target.now (tree_of value)) }
     {
-        frame.bind(alloc, target, value.copy_into(alloc)?)?;
+        frame.bind(alloc, target, value)?;
         self.push_frame(frame)?;
         Ok(())
     }
@@ -251,14 +246,15 @@ impl<A: Allocator + Copy> Process<A> {
         let depth = self.frames.len() + 1;
         match self.pop_frame() {
             Some(caller) => {
-                self.resume(context.alloc, caller, target, &value)?;
-                let event = returned(context, function, value, depth)?;
-                Ok(Act::Continues(Some(event)))
+                let copy = value.copy_into(context.alloc)?;
+                self.resume(context.alloc, caller, target, copy)?;
+                let events = returned(context, function, value, depth)?;
+                Ok(Act::Continues(events))
             }
             None => {
                 let reason = Term::word(context.alloc, "normal")?;
-                let event = Some(returned(context, function, value, depth)?);
-                Ok(Act::Exits { reason, event })
+                let events = returned(context, function, value, depth)?;
+                Ok(Act::Exits { reason, events })
             }
         }
     }
@@ -323,11 +319,13 @@ impl<A: Allocator + Copy> Process<A> {
         let args = calling.args.terms;
         let env = Env::for_call(context.alloc, context.pid, &function.params, args)?;
         let target = calling.target;
+        let by_catch = calling.by_catch;
         self.push_frame(Frame {
             function: number,
             place: 0,
             env,
             target,
+            by_catch,
         })?;
         self.entry = None;
         Ok(())
@@ -349,7 +347,8 @@ impl<A: Allocator + Copy> Process<A> {
         let call = self.called(context, &calling, function)?;
         self.push_callee(context, calling, number, function)?;
         let pid = context.pid;
-        Ok(Act::Continues(Some(Event::Called { pid, call })))
+        let events = only(context.alloc, Event::Called { pid, call })?;
+        Ok(Act::Continues(events))
     }
 
     /// The step of a call.
@@ -374,10 +373,10 @@ impl<A: Allocator + Copy> Process<A> {
         let target = copy_target(context.alloc, callee.target)?;
         frame.advance();
         self.push_frame(frame)?;
-        let named = callee.named;
         let calling = Calling {
             target,
-            named,
+            named: callee.named,
+            by_catch: callee.by_catch,
             args,
         };
         self.enter(context, calling, number)
@@ -471,6 +470,7 @@ impl<A: Allocator + Copy> Process<A> {
                 let callee = Callee {
                     target,
                     named: true,
+                    by_catch: false,
                     home,
                     name,
                     templates,
@@ -485,7 +485,24 @@ impl<A: Allocator + Copy> Process<A> {
                 let callee = Callee {
                     target,
                     named: false,
+                    by_catch: false,
                     home: &function.module,
+                    name,
+                    templates,
+                };
+                self.call(context, frame, &callee)
+            }
+            Step::Catch {
+                target,
+                module: home,
+                name,
+                args: templates,
+            } => {
+                let callee = Callee {
+                    target,
+                    named: true,
+                    by_catch: true,
+                    home,
                     name,
                     templates,
                 };
@@ -500,6 +517,7 @@ impl<A: Allocator + Copy> Process<A> {
                 let callee = Callee {
                     target,
                     named: true,
+                    by_catch: false,
                     home,
                     name,
                     templates,
@@ -509,7 +527,7 @@ impl<A: Allocator + Copy> Process<A> {
             Step::Link(other) => self.relink(context.alloc, frame, other, true),
             Step::Unlink(other) => self.relink(context.alloc, frame, other, false),
             Step::Return(value) => self.give_back(context, function, frame, value),
-            Step::Exit(reason) => exit(context.alloc, &frame, reason),
+            Step::Raise { class, value } => self.raise(context, frame, *class, value),
         }
     }
 
@@ -561,6 +579,7 @@ impl<A: Allocator + Copy> Process<A> {
         let calling = Calling {
             target: None,
             named: true,
+            by_catch: false,
             args: entry.args,
         };
         self.enter(context, calling, number)
@@ -579,7 +598,7 @@ impl<A: Allocator + Copy> Process<A> {
         if let Some(reason) = self.signal.take() {
             return Ok(Act::Exits {
                 reason,
-                event: None,
+                events: Vec::new(alloc),
             });
         }
         let context = StepContext {

@@ -63,6 +63,12 @@ fn step_undeclared<A: Allocator>(forms: &[Form<A>], of_module: &str, step: &Step
             name.text(),
             args.terms.len(),
         ),
+        Step::Catch {
+            module,
+            name,
+            args,
+            ..
+        } => !is_declared_at_all(forms, module.text(), name.text(), args.terms.len()),
         Step::Spawn {
             module,
             name,
@@ -79,6 +85,12 @@ fn step_internal<A: Allocator>(forms: &[Form<A>], step: &Step<A>) -> bool
 {
     match step {
         Step::CallRemote {
+            module,
+            name,
+            args,
+            ..
+        } => is_internal(forms, module.text(), name.text(), args.terms.len()),
+        Step::Catch {
             module,
             name,
             args,
@@ -118,6 +130,12 @@ fn step_misnamed<A: Allocator>(forms: &[Form<A>], of_module: &str, step: &Step<A
             name.text(),
             args.terms.len(),
         ),
+        Step::Catch {
+            module,
+            name,
+            args,
+            ..
+        } => is_misnamed(forms, module.text(), name.text(), args.terms.len()),
         Step::Spawn {
             module,
             name,

@@ -70,11 +70,12 @@ fn step_unbound<A: Allocator>(bound: &BTreeMap<&str, (), A>, step: &Step<A>) -> 
         Step::Receive { .. } => false,
         Step::CallRemote { args, .. } => args_unbound(bound, &args.terms),
         Step::CallLocal { args, .. } => args_unbound(bound, &args.terms),
+        Step::Catch { args, .. } => args_unbound(bound, &args.terms),
         Step::Spawn { args, .. } => args_unbound(bound, &args.terms),
         Step::Link(other) => has_unbound(bound, other),
         Step::Unlink(other) => has_unbound(bound, other),
         Step::Return(value) => has_unbound(bound, value),
-        Step::Exit(reason) => has_unbound(bound, reason),
+        Step::Raise { value, .. } => has_unbound(bound, value),
     }
 }
 
@@ -86,6 +87,7 @@ fn target_of<A: Allocator>(step: &Step<A>) -> Option<&Atom<A>>
         Step::Receive { target } => target.as_ref(),
         Step::CallRemote { target, .. } => target.as_ref(),
         Step::CallLocal { target, .. } => target.as_ref(),
+        Step::Catch { target, .. } => target.as_ref(),
         Step::Spawn { target, .. } => target.as_ref(),
         _ => None,
     }

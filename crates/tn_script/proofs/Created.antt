@@ -1,9 +1,9 @@
 -- A tuple of a session, a term and the empty list, read as the creation of a session.
-use Rattle.std.proofs.Common.{◌≡◌, Bool, true, false, List, [], ◌∷◌, Option, Some, None, refl, sym, ap, ◌∙◌, if◌then◌else◌}
+use Rattle.std.proofs.Common.{◌≡◌, Bool, true, false, List, [], ◌∷◌, Option, Some, None, refl, ap, ◌∙◌, if◌then◌else◌}
 use Rattle.std.specs.Option.{option_map}
 use Rattle.def_term.specs.Tree.{Tree}
 use Rattle.def_term.specs.Names.{Name}
-use Rattle.def_script.specs.Program.{Command, create, set_send}
+use Rattle.def_script.specs.Program.{create, set_send}
 use Rattle.def_script.specs.Shapes.{both, name_in, is_empty_list, create_in, specified_in}
 
 both_some : (n : Name) (o : Option Name) → option_map (create n) o ≡ both create (Some n) o

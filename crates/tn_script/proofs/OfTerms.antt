@@ -5,8 +5,9 @@ use Rattle.std.specs.declared.vec.Vec.{Vec}
 use Rattle.def_term.specs.Tree.{Tree, int, atom, pid, tuple, list}
 use Rattle.def_term.specs.Order.{same}
 use Rattle.std.proofs.lemmas.Bool.Decides.{nat_tests}
+use Rattle.def_term.specs.Names.{Name}
 use Rattle.def_script.specs.Program.{Step}
-use Rattle.def_script.specs.Shapes.{is_atom_of, begins_with, tuple_in, list_in, call_in, spawn_in, function_in, is_empty_list}
+use Rattle.def_script.specs.Shapes.{is_atom_of, begins_with, tuple_in, list_in, call_in, of_callee_in, function_in, is_empty_list}
 use Rattle.def_script.specs.Shapes.{and_then, if_few, of_one_in, receive_in, send_in, process_in}
 use Rattle.tn_term.specs.Views.{tree_of, trees_of}
 use Rattle.tn_term.specs.declared.term.Term.{Term, Tuple, List as ListOf}
@@ -38,19 +39,19 @@ not_four_calls (a ∷ b ∷ c ∷ []) h = refl
 not_four_calls (a ∷ b ∷ c ∷ d ∷ []) h = absurd (h refl)
 not_four_calls (a ∷ b ∷ c ∷ d ∷ e ∷ ts) h = refl
 
-not_four_spawns : (ts : List Tree) → length ts ≢ 4 → None ≡ spawn_in ts
-not_four_spawns [] h = refl
-not_four_spawns (a ∷ []) h = refl
-not_four_spawns (a ∷ b ∷ []) h = refl
-not_four_spawns (a ∷ b ∷ c ∷ []) h = refl
-not_four_spawns (a ∷ b ∷ c ∷ d ∷ []) h = absurd (h refl)
-not_four_spawns (a ∷ b ∷ c ∷ d ∷ e ∷ ts) h = refl
+not_four_callees : (f : Option Name → Name × Name → List Tree → Step) (ts : List Tree) → length ts ≢ 4 → None ≡ of_callee_in f ts
+not_four_callees f [] h = refl
+not_four_callees f (a ∷ []) h = refl
+not_four_callees f (a ∷ b ∷ []) h = refl
+not_four_callees f (a ∷ b ∷ c ∷ []) h = refl
+not_four_callees f (a ∷ b ∷ c ∷ d ∷ []) h = absurd (h refl)
+not_four_callees f (a ∷ b ∷ c ∷ d ∷ e ∷ ts) h = refl
 
 pub no_call : {A : Type 0} (xs : List (Term A)) → length xs ≢ 4 → None ≡ call_in (map tree_of xs)
 no_call xs h = not_four_calls (map tree_of xs) (λ e. h (sym (length-map xs tree_of) ∙ e))
 
-pub no_spawn : {A : Type 0} (xs : List (Term A)) → length xs ≢ 4 → None ≡ spawn_in (map tree_of xs)
-no_spawn xs h = not_four_spawns (map tree_of xs) (λ e. h (sym (length-map xs tree_of) ∙ e))
+pub no_callee : {A : Type 0} (f : Option Name → Name × Name → List Tree → Step) (xs : List (Term A)) → length xs ≢ 4 → None ≡ of_callee_in f (map tree_of xs)
+no_callee f xs h = not_four_callees f (map tree_of xs) (λ e. h (sym (length-map xs tree_of) ∙ e))
 
 not_six : (ts : List Tree) → length ts ≢ 6 → None ≡ function_in ts
 not_six [] h = refl

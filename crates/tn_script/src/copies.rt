@@ -1,6 +1,6 @@
 // Copies of the parts of forms.
 ghost use Rattle.std.specs.Prelude.{◌≡◌, IfOk, map};
-ghost use Rattle.def_script.specs.Program.{call_remote, spawn};
+ghost use Rattle.def_script.specs.Program.{call_remote, catch, spawn};
 ghost use Rattle.def_script.specs.Program.{set_processes, set_function, set_send, set_receive};
 ghost use Rattle.tn_term.specs.Views.{tree_of};
 ghost use Rattle.tn_flags.specs.Views.{command_of};
@@ -46,7 +46,7 @@ pub fn copy_entry<A: Allocator + Copy>(alloc: A, entry: &Entry<A>) -> Result<Ent
     })
 }
 
-/// The same target, name and arguments of a call or of a spawn.
+/// The same target, name and arguments of a call, a catch or a spawn.
 fn copy_callee<A: Allocator + Copy>(
     alloc: A,
     target: &Option<Atom<A>>,
@@ -75,6 +75,26 @@ fn copy_remote_call<A: Allocator + Copy>(
     let module = home.copy_into(alloc)?;
     let (target, name, args) = copy_callee(alloc, target, name, args)?;
     Ok(Step::CallRemote {
+        target,
+        module,
+        name,
+        args,
+    })
+}
+
+/// The same catch.
+fn copy_catch<A: Allocator + Copy>(
+    alloc: A,
+    target: &Option<Atom<A>>,
+    home: &Atom<A>,
+    name: &Atom<A>,
+    args: &Arguments<A>,
+) -> Result<Step<A>, AllocError>
+    ensures { IfOk result (λ s. step_of s ≡ catch target.now home.now name.now (args_of args.now)) }
+{
+    let module = home.copy_into(alloc)?;
+    let (target, name, args) = copy_callee(alloc, target, name, args)?;
+    Ok(Step::Catch {
         target,
         module,
         name,
@@ -124,6 +144,12 @@ fn copy_step<A: Allocator + Copy>(alloc: A, step: &Step<A>) -> Result<Step<A>, A
             let (target, name, args) = copy_callee(alloc, target, name, args)?;
             Ok(Step::CallLocal { target, name, args })
         }
+        Step::Catch {
+            target,
+            module,
+            name,
+            args,
+        } => copy_catch(alloc, target, module, name, args),
         Step::Spawn {
             target,
             module,
@@ -133,7 +159,10 @@ fn copy_step<A: Allocator + Copy>(alloc: A, step: &Step<A>) -> Result<Step<A>, A
         Step::Link(other) => Ok(Step::Link(other.copy_into(alloc)?)),
         Step::Unlink(other) => Ok(Step::Unlink(other.copy_into(alloc)?)),
         Step::Return(value) => Ok(Step::Return(value.copy_into(alloc)?)),
-        Step::Exit(reason) => Ok(Step::Exit(reason.copy_into(alloc)?)),
+        Step::Raise { class, value } => Ok(Step::Raise {
+            class: *class,
+            value: value.copy_into(alloc)?,
+        }),
     }
 }
 

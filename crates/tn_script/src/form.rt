@@ -2,7 +2,7 @@
 ghost use Rattle.std.specs.Prelude.{◌≤◌, length};
 
 use std::alloc::Allocator;
-use tn_flags::Command;
+use tn_flags::{Class, Command};
 use tn_term::{Atom, Term};
 
 /// The arguments of a call or of a process: at most 255 terms.
@@ -37,6 +37,13 @@ pub enum Step<A: Allocator> {
         name: Atom<A>,
         args: Arguments<A>,
     },
+    /// Calls a function, naming the module, and catches what is raised in it.
+    Catch {
+        target: Option<Atom<A>>,
+        module: Atom<A>,
+        name: Atom<A>,
+        args: Arguments<A>,
+    },
     /// Starts a process.
     Spawn {
         target: Option<Atom<A>>,
@@ -50,8 +57,11 @@ pub enum Step<A: Allocator> {
     Unlink(Term<A>),
     /// Returns a value.
     Return(Term<A>),
-    /// Ends the process with this reason.
-    Exit(Term<A>),
+    /// Raises an exception of this class.
+    Raise {
+        class: Class,
+        value: Term<A>,
+    },
 }
 
 /// A function that a script declares.

@@ -1,11 +1,11 @@
 // Equality of the parts of forms; it takes no memory.
 ghost use Rattle.std.specs.Prelude.{◌≡◌, ◌↔◌, IsTrue, map};
-ghost use Rattle.tn_flags.specs.Views.{command_of};
+ghost use Rattle.tn_flags.specs.Views.{class_of, command_of};
 ghost use Rattle.tn_script.specs.Views.{args_of, step_of, function_of, entry_of};
 
 use crate::form::{Arguments, Entry, Function, Step};
 use std::alloc::Allocator;
-use tn_flags::Command;
+use tn_flags::{Class, Command};
 use tn_term::{Atom, same_terms};
 
 /// Whether the names are the same.
@@ -46,6 +46,13 @@ fn same_args<A: Allocator>(one: &Arguments<A>, other: &Arguments<A>) -> bool
     ensures { IsTrue result ↔ (args_of one.now ≡ args_of other.now) }
 {
     same_terms(&one.terms, &other.terms)
+}
+
+/// Whether the classes are the same.
+fn same_class(one: Class, other: Class) -> bool
+    ensures { IsTrue result ↔ (class_of one ≡ class_of other) }
+{
+    one == other
 }
 
 /// Whether the steps are the same.
@@ -89,6 +96,23 @@ fn same_step<A: Allocator>(one: &Step<A>, other: &Step<A>) -> bool
             },
         ) => { same_target(target, target2) && same_name(name, name2) && same_args(args, args2) }
         (
+            Step::Catch {
+                target,
+                module,
+                name,
+                args,
+            },
+            Step::Catch {
+                target: target2,
+                module: module2,
+                name: name2,
+                args: args2,
+            },
+        ) => same_target(target, target2)
+            && same_name(module, module2)
+            && same_name(name, name2)
+            && same_args(args, args2),
+        (
             Step::Spawn {
                 target,
                 module,
@@ -108,7 +132,13 @@ fn same_step<A: Allocator>(one: &Step<A>, other: &Step<A>) -> bool
         (Step::Link(term), Step::Link(term2)) => term.same(term2),
         (Step::Unlink(term), Step::Unlink(term2)) => term.same(term2),
         (Step::Return(term), Step::Return(term2)) => term.same(term2),
-        (Step::Exit(term), Step::Exit(term2)) => term.same(term2),
+        (
+            Step::Raise { class, value },
+            Step::Raise {
+                class: class2,
+                value: value2,
+            },
+        ) => same_class(*class, *class2) && value.same(value2),
         _ => false,
     }
 }

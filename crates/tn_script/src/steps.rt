@@ -3,12 +3,13 @@ ghost use Rattle.std.specs.Prelude.{◌≡◌, IfOk, List, Option, map};
 ghost use Rattle.std.specs.Option.{option_map};
 ghost use Rattle.def_term.specs.Names.{Name};
 ghost use Rattle.def_term.specs.Tree.{Tree};
-ghost use Rattle.def_script.specs.Program.{Step as StepOf, call_local, link, unlink, give_back, exit};
+ghost use Rattle.def_script.specs.Program.{Step as StepOf, call_local, link, unlink, give_back, raise};
 ghost use Rattle.def_script.specs.Shapes.{all_three, target_in, name_in, args_in};
-ghost use Rattle.def_script.specs.Shapes.{remote_call as remote_call_of};
-ghost use Rattle.def_script.specs.Shapes.{callee_in, send_in, receive_in, call_in, spawn_in, of_one_in, step_of_fields};
+ghost use Rattle.def_script.specs.Shapes.{remote_call as remote_call_of, catch_of, spawn_of};
+ghost use Rattle.def_script.specs.Shapes.{callee_in, send_in, receive_in, call_in, of_callee_in, of_one_in, step_of_fields};
 ghost use Rattle.def_script.specs.Shapes.{step_in, steps_in};
 ghost use Rattle.tn_term.specs.Views.{tree_of};
+ghost use Rattle.tn_flags.specs.Views.{class_of};
 ghost use Rattle.tn_script.specs.Views.{args_of, step_of};
 
 use crate::fields::{four, three, two};
@@ -16,6 +17,7 @@ use crate::form::{Arguments, Step};
 use crate::names::{name, target, two_names};
 use crate::parts::{arguments, is_tagged, is_tuple, list, tuple};
 use std::alloc::{AllocError, Allocator};
+use tn_flags::Class;
 use tn_term::{Atom, Term};
 
 /// The names of `{M,F}`.
@@ -94,9 +96,23 @@ fn call_step<A: Allocator>(fields: Vec<Term<A>, A>) -> Option<Step<A>>
     }
 }
 
+/// `{'catch',V,{M,F},Args}`
+fn catch_step<A: Allocator>(fields: Vec<Term<A>, A>) -> Option<Step<A>>
+    ensures { option_map step_of result ≡ of_callee_in catch_of (map tree_of fields.items) }
+{
+    let (_, v, function, args) = four(fields)?;
+    let (target, (module, name), args) = remote_parts(v, function, args)?;
+    Some(Step::Catch {
+        target,
+        module,
+        name,
+        args,
+    })
+}
+
 /// `{spawn,V,{M,F},Args}`
 fn spawn_step<A: Allocator>(fields: Vec<Term<A>, A>) -> Option<Step<A>>
-    ensures { option_map step_of result ≡ spawn_in (map tree_of fields.items) }
+    ensures { option_map step_of result ≡ of_callee_in spawn_of (map tree_of fields.items) }
 {
     let (_, v, function, args) = four(fields)?;
     let (target, (module, name), args) = remote_parts(v, function, args)?;
@@ -140,12 +156,12 @@ fn return_step<A: Allocator>(fields: Vec<Term<A>, A>) -> Option<Step<A>>
     Some(Step::Return(value))
 }
 
-/// `{exit,T}`
-fn exit_step<A: Allocator>(fields: Vec<Term<A>, A>) -> Option<Step<A>>
-    ensures { option_map step_of result ≡ of_one_in exit (map tree_of fields.items) }
+/// `{error,T}`, `{throw,T}` or `{exit,T}`, by the class.
+fn raise_step<A: Allocator>(fields: Vec<Term<A>, A>, class: Class) -> Option<Step<A>>
+    ensures { option_map step_of result ≡ of_one_in (raise (class_of class)) (map tree_of fields.items) }
 {
-    let reason = of_one(fields)?;
-    Some(Step::Exit(reason))
+    let value = of_one(fields)?;
+    Some(Step::Raise { class, value })
 }
 
 /// The step that a tuple of these fields stands for.
@@ -158,6 +174,8 @@ fn step_of_tuple<A: Allocator>(fields: Vec<Term<A>, A>) -> Option<Step<A>>
         receive_step(fields)
     } else if is_tagged(&fields, "call") {
         call_step(fields)
+    } else if is_tagged(&fields, "catch") {
+        catch_step(fields)
     } else if is_tagged(&fields, "spawn") {
         spawn_step(fields)
     } else if is_tagged(&fields, "link") {
@@ -166,8 +184,12 @@ fn step_of_tuple<A: Allocator>(fields: Vec<Term<A>, A>) -> Option<Step<A>>
         unlink_step(fields)
     } else if is_tagged(&fields, "return") {
         return_step(fields)
+    } else if is_tagged(&fields, "error") {
+        raise_step(fields, Class::Error)
+    } else if is_tagged(&fields, "throw") {
+        raise_step(fields, Class::Throw)
     } else if is_tagged(&fields, "exit") {
-        exit_step(fields)
+        raise_step(fields, Class::Exit)
     } else {
         None
     }

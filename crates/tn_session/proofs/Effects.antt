@@ -1,9 +1,11 @@
 -- Lists of effects, from their first and from their last.
-use Rattle.std.proofs.Common.{◌≡◌, ◌∙◌, List, [], ◌∷◌, ◌++◌, map, Option, Some, None, refl, sym, ap}
+use Rattle.std.proofs.Common.{◌≡◌, ◌∙◌, Bool, if◌then◌else◌, List, [], ◌∷◌, ◌++◌, map, Option, Some, None, refl, sym, ap}
 use Rattle.std.proofs.lemmas.List.{map-append}
 use Rattle.def_term.specs.Tree.{Tree}
 use Rattle.def_spec.specs.Expressions.{Effect, gives_message, traces_return, traces_exception, silences, changes}
+use Rattle.def_session.specs.State.{Kind}
 use Rattle.def_session.specs.Messages.{later, last_message, followed_by}
+use Rattle.def_session.specs.Session.{or_for_returns}
 use Rattle.tn_term.specs.declared.term.Term.{Term}
 use Rattle.tn_machine.specs.Lent.{effect_seen}
 use Rattle.tn_machine.specs.Lent as code
@@ -29,6 +31,10 @@ last_behind (changes n off on ∷ es) e = last_behind es e
 pub at_the_end : (ts : List Tree) (t : Tree) → followed_by ts t ≡ ts ++ t ∷ []
 at_the_end [] t = refl
 at_the_end (u ∷ us) t = ap (λ vs. u ∷ vs) (at_the_end us t)
+
+-- the mark that effects ask for, where those before them have return_trace or not
+abbrev pub mark_so_far : Bool → Option Kind → Option Kind
+mark_so_far returns o = if returns then or_for_returns o else o
 
 -- the same of the code's effects
 pub popped : {A : Type 0} (xs ys : List (code.Effect A)) (e : code.Effect A) → xs ≡ ys ++ e ∷ [] → last_message (map effect_seen xs) ≡ later (last_message (map effect_seen ys)) (last_message (effect_seen e ∷ []))

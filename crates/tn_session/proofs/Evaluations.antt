@@ -1,12 +1,11 @@
 -- What is evaluated, by flags and marks.
-use Rattle.std.proofs.Common.{◌≡◌, ◌∙◌, ◌&&◌, ℕ, Bool, true, false, if◌then◌else◌, List, [], ◌∷◌, map, Option, Some, None, Bor, refl, sym, ap, ap₂}
-use Rattle.def_term.specs.Tree.{Tree, pid}
-use Rattle.def_term.specs.Names.{Mfa, word}
+use Rattle.std.proofs.Common.{◌≡◌, ◌∙◌, ℕ, true, false, if◌then◌else◌, List, [], ◌∷◌, map, Option, None, Bor, sym, ap, ap₂}
+use Rattle.def_term.specs.Tree.{pid}
+use Rattle.def_term.specs.Names.{word}
 use Rattle.def_spec.specs.Expressions.{Effect}
-use Rattle.def_spec.specs.Flags.{Flag, call_flag}
-use Rattle.def_node.specs.Event.{returned}
-use Rattle.def_session.specs.State.{Session, flags_at}
-use Rattle.def_session.specs.Session.{where_set, is_marked, evaluated}
+use Rattle.def_spec.specs.Flags.{Flag}
+use Rattle.def_session.specs.State.{Kind, Session, flags_at, mark_of}
+use Rattle.def_session.specs.Session.{where_set, where_marked, is_for_exceptions, is_marked_for_exceptions}
 use Rattle.tn_term.specs.Views.{tree_of}
 use Rattle.tn_term.specs.declared.term.Term.{Term}
 use Rattle.tn_guard.specs.Views.{value_seen}
@@ -24,20 +23,9 @@ not_set s p x f r are e = ap (λ b. if b then r else None) (sym e ∙ ap (λ h. 
 pub is_set : (s : Session) (p : ℕ) (x : Flag) (f : Flags) (q r : Option (List Effect)) → flags_of f ≡ flags_at s p → flags_of f x ≡ true → q ≡ r → q ≡ where_set s p x r
 is_set s p x f q r are e same = same ∙ ap (λ b. if b then r else None) (sym e ∙ ap (λ h. h x) are)
 
-abbrev nothing_more : Option (List Effect)
-nothing_more = Some []
-
-both : (m b : Bool) → (if b && m then nothing_more else None) ≡ (if m then (if b then nothing_more else None) else None)
-both true true = refl
-both true false = refl
-both false true = refl
-both false false = refl
-
--- a return
-pub return_case : (s : Session) (p depth : ℕ) (f : Flags) (m : Bool) (mfa : Mfa) (t : Tree) → flags_of f ≡ flags_at s p → m ≡ is_marked s p depth
-    → (if flags_of f call_flag && m then nothing_more else None) ≡ evaluated s (returned p mfa t depth)
-return_case s p depth f m mfa t are marked =
-    both m (flags_of f call_flag) ∙ ap (λ h. if m then (if h call_flag then nothing_more else None) else None) are ∙ ap (λ b. if b then where_set s p call_flag nothing_more else None) marked
+-- an exception, by the mark of the frame that it leaves
+pub raise_case : (s : Session) (p depth : ℕ) (k : Option Kind) → k ≡ mark_of s p depth → where_marked s p (is_for_exceptions k) ≡ where_marked s p (is_marked_for_exceptions s p depth)
+raise_case s p depth k is = ap (λ x. where_marked s p (is_for_exceptions x)) is
 
 -- the lists that are matched
 pub list_of_send : {A : Type 0} (to : ℕ) (t : Bor (Term A)) → map value_seen (value.Pid to ∷ value.Lent t ∷ []) ≡ pid to ∷ tree_of t.now ∷ []

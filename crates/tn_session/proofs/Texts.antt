@@ -1,11 +1,16 @@
 -- The texts of the elements of a message.
-use Rattle.std.proofs.Common.{◌≡◌, ◌∙◌, ℕ, List, [], ◌∷◌, ◌++◌, Bool, true, false, append_assoc, refl, sym, ap, codes}
+use Rattle.std.proofs.Common.{◌≡◌, ◌∙◌, ℕ, ◌+◌, ◌<◌, List, [], ◌∷◌, ◌++◌, Bool, true, false, append_assoc, refl, sym, ap, codes, length, get_or, drop}
 use Rattle.std.proofs.lemmas.List.{append-nil}
 use Rattle.def_term.specs.Tree.{Tree, atom, pid, of_elements}
 use Rattle.def_term.specs.Names.{Mfa, word}
+use Rattle.tn_term.specs.declared.term.Term.{Term}
+use Rattle.tn_term.specs.Views.{tree_of, trees_of}
+use Rattle.tn_text.specs.Writes.{Grows}
+use Rattle.tn_text.proofs.Writing.{one_more}
 use Rattle.def_term.specs.Text.{w, is_written_bare, atom_text, joined, each_after_comma}
-use Rattle.def_node.specs.Event.{Event, sent, received, called, returned, spawning, spawned, exited, linked, unlinked, getting_linked, getting_unlinked}
-use Rattle.def_session.specs.Messages.{elements_of, process_of}
+use Rattle.def_node.specs.Event.{Event, sent, received, called, returned, raised, spawning, spawned, exited, linked, unlinked, getting_linked, getting_unlinked}
+use Rattle.def_script.specs.Program.{Class}
+use Rattle.def_session.specs.Messages.{class_term, exception_term, elements_of, process_of}
 use Rattle.tn_session.specs.Messages.{kind_of, details_of, front_text, names_text}
 
 -- the elements by their parts
@@ -15,6 +20,7 @@ parts_are short (sent p t to false) = refl
 parts_are short (received p sender t) = refl
 parts_are short (called p c) = refl
 parts_are short (returned p f t depth) = refl
+parts_are short (raised p f c t depth) = refl
 parts_are short (spawning p child f args) = refl
 parts_are short (spawned p parent f args) = refl
 parts_are short (exited p r) = refl
@@ -60,6 +66,10 @@ two_details t u = ap (λ s. 44 ∷ (w t ++ 44 ∷ s)) (append-nil (w u))
 pub names_closed : (f : Mfa) (s : List ℕ) → 44 ∷ 123 ∷ ((atom_text f.module_name ++ 44 ∷ (atom_text f.function_name ++ 44 ∷ (s ++ []))) ++ 125 ∷ []) ≡ (names_text f ++ s) ++ 125 ∷ []
 names_closed f s = simp (append_assoc, append-nil)
 
+-- `,{`, the class, a comma with the value, and `}`
+pub exception_closed : (c : Class) (t : Tree) → 44 ∷ w (exception_term c t) ≡ ((44 ∷ 123 ∷ w (class_term c)) ++ 44 ∷ w t) ++ 125 ∷ []
+exception_closed c t = simp (append_assoc, append-nil)
+
 -- ---- what is written piece by piece
 
 pub twice : (o x y z b c : List ℕ) → b ≡ o ++ x → c ≡ b ++ y → z ≡ x ++ y → c ≡ o ++ z
@@ -68,9 +78,26 @@ twice o x y z b c first second whole = second ∙ ap (λ s. s ++ y) first ∙ ap
 pub thrice : (o x y z u b c d : List ℕ) → b ≡ o ++ x → c ≡ b ++ y → d ≡ c ++ z → u ≡ (x ++ y) ++ z → d ≡ o ++ u
 thrice o x y z u b c d first second third whole = twice o (x ++ y) z u c d (twice o x y (x ++ y) b c first second refl) third whole
 
+pub four_times : (o x y z u v b c d e : List ℕ) → b ≡ o ++ x → c ≡ b ++ y → d ≡ c ++ z → e ≡ d ++ u → v ≡ ((x ++ y) ++ z) ++ u → e ≡ o ++ v
+four_times o x y z u v b c d e first second third fourth whole = twice o ((x ++ y) ++ z) u v d e (thrice o x y z ((x ++ y) ++ z) b c d first second third refl) fourth whole
+
 -- more elements at the end
 pub more_at_the_end : (short : Bool) (e : Event) (us : List Tree) → joined (of_elements (elements_of short e)) ++ each_after_comma (of_elements us) ≡ joined (of_elements (elements_of short e ++ us))
 more_at_the_end short e us =
     ap (λ ts. joined (of_elements ts) ++ each_after_comma (of_elements us)) (parts_are short e)
     ∙ sym (joined_more (word "trace") (pid (process_of e) ∷ atom (kind_of e) ∷ details_of short e) us)
     ∙ ap (λ ts. joined (of_elements (ts ++ us))) (sym (parts_are short e))
+
+-- what a refused call leaves as it was
+pub grows_same : {a b : List ℕ} → b ≡ a → Grows a b
+grows_same {a} e = record { added = []; whole = e ∙ sym (append-nil a) }
+
+-- a comma and the text are written at once
+pub one_more_behind : {A : Type 0} (items : List (Term A)) (i : ℕ) (x : Term A) (a d z : List ℕ) → i < length items → x ≡ get_or items i x
+    → a ++ each_after_comma (trees_of (drop i items)) ≡ z → d ≡ a ++ 44 ∷ w (tree_of x) → d ++ each_after_comma (trees_of (drop (i + 1) items)) ≡ z
+one_more_behind items i x a d z below is so_far text =
+    one_more items i x a (a ++ 44 ∷ []) d z below is so_far refl (text ∙ sym (append_assoc a (44 ∷ []) (w (tree_of x))))
+
+-- what was written grows by it
+pub grows_by : {a b : List ℕ} (x : List ℕ) → b ≡ a ++ x → Grows a b
+grows_by x e = record { added = x; whole = e }

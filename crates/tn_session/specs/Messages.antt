@@ -5,12 +5,13 @@ use Rattle.std.specs.declared.vec.Vec.{Vec}
 use Rattle.def_term.specs.Tree.{Tree, atom, pid, tuple, of_elements}
 use Rattle.def_term.specs.Names.{Name, Mfa, word}
 use Rattle.def_term.specs.Text.{w, joined, each_after_comma, atom_text}
-use Rattle.def_node.specs.Event.{Event, sent, received, called, returned, spawning, spawned, exited, linked, unlinked, getting_linked, getting_unlinked}
-use Rattle.def_session.specs.Messages.{call_term, elements_of, process_of}
+use Rattle.def_node.specs.Event.{Event, sent, received, called, returned, raised, spawning, spawned, exited, linked, unlinked, getting_linked, getting_unlinked}
+use Rattle.def_session.specs.Messages.{call_term, exception_term, elements_of, process_of}
 use Rattle.tn_term.specs.Views.{tree_of, mfa_seen}
 use Rattle.tn_term.specs.declared.mfa.Mfa as mfas
 use Rattle.tn_term.specs.declared.term.Term.{Term}
-use Rattle.tn_flags.specs.Views.{event_of}
+use Rattle.tn_flags.specs.Views.{class_of, event_of}
+use Rattle.tn_flags.specs.declared.class.Class.{Class}
 use Rattle.tn_session.specs.declared.message.Message.{Message}
 
 -- the terms of a list
@@ -21,6 +22,10 @@ trees v = map tree_of v.items
 abbrev pub call_seen : {A : Type 0} → mfas.Mfa A → Vec (Term A) A → Tree
 call_seen f args = call_term (mfa_seen f) (trees args)
 
+-- `{Class,Value}`
+abbrev pub exception_seen : {A : Type 0} → Class → Term A → Tree
+exception_seen c t = exception_term (class_of c) (tree_of t)
+
 -- the last term, where there is one
 abbrev pub last_seen : {A : Type 0} → Option (Term A) → List Tree
 last_seen t = option_to_list (option_map tree_of t)
@@ -29,6 +34,10 @@ last_seen t = option_to_list (option_map tree_of t)
 abbrev pub elements_of_return : {A B : Type 0} → ℕ → mfas.Mfa A → Term B → List Tree
 elements_of_return p f t = elements_of false (returned p (mfa_seen f) (tree_of t) 0)
 
+-- the elements of the message of an exception
+abbrev pub elements_of_raise : {A B : Type 0} → ℕ → mfas.Mfa A → Class → Term B → List Tree
+elements_of_raise p f c t = elements_of false (raised p (mfa_seen f) (class_of c) (tree_of t) 0)
+
 -- the first three elements of a message
 abbrev pub first_three : ℕ → Name → List Tree
 first_three p kind = word "trace" ∷ pid p ∷ atom kind ∷ []
@@ -36,6 +45,10 @@ first_three p kind = word "trace" ∷ pid p ∷ atom kind ∷ []
 -- the elements of a message that ends with a pid and `{M,F,Args}`
 abbrev pub elements_with_call : {A : Type 0} → ℕ → Name → ℕ → mfas.Mfa A → Vec (Term A) A → List Tree
 elements_with_call p kind to f args = first_three p kind ++ pid to ∷ call_seen f args ∷ []
+
+-- a tuple of two
+abbrev pub pair : Tree → Tree → Tree
+pair s t = tuple (of_elements (s ∷ t ∷ []))
 
 -- a tuple of three
 abbrev pub triple : Tree → Tree → Tree → Tree
@@ -52,6 +65,7 @@ kind_of (sent p t to false) = codes "send_to_non_existing_process"
 kind_of (received p sender t) = codes "receive"
 kind_of (called p c) = codes "call"
 kind_of (returned p f t depth) = codes "return_from"
+kind_of (raised p f c t depth) = codes "exception_from"
 kind_of (spawning p child f args) = codes "spawn"
 kind_of (spawned p parent f args) = codes "spawned"
 kind_of (exited p r) = codes "exit"

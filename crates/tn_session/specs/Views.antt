@@ -1,5 +1,5 @@
 -- What the code's state of a session stands for.
-use Rattle.std.specs.Prelude.{◌≡◌, ℕ, ◌-◌, Bool, List, [], ◌++◌, length, map, replicate, reverse, Option}
+use Rattle.std.specs.Prelude.{◌≡◌, ◌-◌, Bool, List, [], ◌++◌, length, map, replicate, reverse, Option}
 use Rattle.std.specs.Option.{option_map}
 use Rattle.std.specs.declared.vec.Vec.{Vec}
 use Rattle.def_term.specs.Names as names
@@ -18,6 +18,9 @@ use Rattle.tn_index.specs.declared.covering.Covered.{Covered}
 use Rattle.tn_index.specs.declared.covering.Covering.{Covering}
 use Rattle.tn_session.specs.declared.state.Phase.{Phase}
 use Rattle.tn_session.specs.declared.state.Phase.TheVariants.{Live, Destroyed}
+use Rattle.tn_session.specs.declared.state.Kind.{Kind}
+use Rattle.tn_session.specs.declared.state.Kind.TheVariants.{Returns, Exceptions}
+use Rattle.tn_session.specs.declared.state.Mark.{Mark}
 use Rattle.tn_session.specs.declared.state.State.{State}
 
 abbrev pub setting_seen : {A : Type 0} → Setting (Compiled A) → settings.Setting
@@ -36,13 +39,24 @@ abbrev pub phase_seen : Phase → definition.Phase
 phase_seen Live = definition.live
 phase_seen Destroyed = definition.destroyed
 
--- the depths of a process's marked frames, the newest first
-abbrev pub depths_seen : {A : Type 0} → Vec ℕ A → List ℕ
-depths_seen ms = reverse ms.items
+abbrev pub kind_seen : Kind → definition.Kind
+kind_seen Returns = definition.for_returns
+kind_seen Exceptions = definition.for_exceptions
+
+abbrev pub mark_seen : Mark → definition.Mark
+mark_seen m = record { depth = m.depth; kind = kind_seen m.kind }
+
+-- marks whose newest is the last, seen newest first
+abbrev pub newest_first : List Mark → List definition.Mark
+newest_first ms = map mark_seen (reverse ms)
+
+-- the marks of a process
+abbrev pub process_marks_seen : {A : Type 0} → Vec Mark A → List definition.Mark
+process_marks_seen ms = newest_first ms.items
 
 -- the marks of all processes; those past the end have none
-abbrev pub marks_seen : {A : Type 0} → List (Vec ℕ A) → List (List ℕ)
-marks_seen ms = map depths_seen ms ++ replicate (PROCESSES - length ms) []
+abbrev pub marks_seen : {A : Type 0} → List (Vec Mark A) → List (List definition.Mark)
+marks_seen ms = map process_marks_seen ms ++ replicate (PROCESSES - length ms) []
 
 -- a function of the program, with whether it is exported
 abbrev pub function_seen : {A : Type 0} → Mfa A × Bool → names.Mfa × Bool

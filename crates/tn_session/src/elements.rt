@@ -4,14 +4,14 @@ ghost use Rattle.def_term.specs.Tree.{tuple, list, of_elements};
 ghost use Rattle.def_term.specs.Atoms.{IsAtomText};
 ghost use Rattle.def_term.specs.Names.{mfa_term};
 ghost use Rattle.def_node.specs.Event.{sent as send, called as call_event};
-ghost use Rattle.def_session.specs.Messages.{elements_of};
+ghost use Rattle.def_session.specs.Messages.{class_term, elements_of};
 ghost use Rattle.tn_term.specs.Views.{tree_of, mfa_seen};
-ghost use Rattle.tn_flags.specs.Views.{event_of, call_of};
-ghost use Rattle.tn_session.specs.Messages.{first_three, trees, call_seen, last_seen, triple};
-ghost use Rattle.tn_session.specs.Messages.{elements_of_return, elements_with_call};
+ghost use Rattle.tn_flags.specs.Views.{event_of, call_of, class_of};
+ghost use Rattle.tn_session.specs.Messages.{first_three, trees, call_seen, exception_seen, last_seen, pair, triple};
+ghost use Rattle.tn_session.specs.Messages.{elements_of_return, elements_of_raise, elements_with_call};
 
 use std::alloc::{AllocError, Allocator};
-use tn_flags::{Call, Event};
+use tn_flags::{Call, Class, Event};
 use tn_term::{Mfa, Term, copy_terms};
 
 /// The elements of the message of an event; a call's names the arity alone where `short`. There is room
@@ -38,6 +38,13 @@ pub(crate) fn elements<A: Allocator, B: Allocator + Copy>(
             value,
             ..
         } => returned(alloc, *pid, mfa, value),
+        Event::Raised {
+            pid,
+            mfa,
+            class,
+            value,
+            ..
+        } => raised(alloc, *pid, mfa, *class, value),
         Event::Spawn {
             pid,
             child,
@@ -198,6 +205,59 @@ fn returned<A: Allocator, B: Allocator + Copy>(
     let name = name_with_arity(alloc, mfa)?;
     let value = value.copy_into(alloc)?;
     with_two(alloc, pid, "return_from", name, value)
+}
+
+/// The elements of the message of an exception that leaves a frame.
+fn raised<A: Allocator, B: Allocator + Copy>(
+    alloc: B,
+    pid: u32,
+    mfa: &Mfa<A>,
+    class: Class,
+    value: &Term<A>,
+) -> Result<Vec<Term<B>, B>, AllocError>
+    ensures { IfOk result (λ v. trees v ≡ elements_of_raise pid mfa.now class value.now) }
+{
+    let name = name_with_arity(alloc, mfa)?;
+    let exception = class_with_value(alloc, class, value)?;
+    with_two(alloc, pid, "exception_from", name, exception)
+}
+
+/// `{Class,Value}`
+fn class_with_value<A: Allocator, B: Allocator + Copy>(
+    alloc: B,
+    class: Class,
+    value: &Term<A>,
+) -> Result<Term<B>, AllocError>
+    ensures { IfOk result (λ t. tree_of t ≡ exception_seen class value.now) }
+{
+    let class = class_word(alloc, class)?;
+    let value = value.copy_into(alloc)?;
+    tuple_of_two(alloc, class, value)
+}
+
+/// The word of a class.
+fn class_word<B: Allocator + Copy>(alloc: B, class: Class) -> Result<Term<B>, AllocError>
+    ensures { IfOk result (λ t. tree_of t ≡ class_term (class_of class)) }
+{
+    match class {
+        Class::Error => Term::word(alloc, "error"),
+        Class::Throw => Term::word(alloc, "throw"),
+        Class::Exit => Term::word(alloc, "exit"),
+    }
+}
+
+/// A tuple of two terms.
+fn tuple_of_two<B: Allocator + Copy>(
+    alloc: B,
+    first: Term<B>,
+    second: Term<B>,
+) -> Result<Term<B>, AllocError>
+    ensures { IfOk result (λ t. tree_of t ≡ pair (tree_of first) (tree_of second)) }
+{
+    let mut items = Vec::with_capacity(alloc, 2)?;
+    items.push(first)?;
+    items.push(second)?;
+    Ok(Term::Tuple(items))
 }
 
 /// A tuple of three terms.

@@ -3,23 +3,25 @@ ghost use Rattle.std.specs.Prelude.{◌≡◌, Bool, if◌then◌else◌, List, 
 ghost use Rattle.std.specs.Option.{option_map};
 ghost use Rattle.def_term.specs.Names as names;
 ghost use Rattle.def_term.specs.Tree.{Tree};
+ghost use Rattle.def_script.specs.Program.{Class};
 ghost use Rattle.def_spec.specs.Expressions.{Effect as Asked, silences};
-ghost use Rattle.def_node.specs.Event.{received, called, returned, exited};
+ghost use Rattle.def_node.specs.Event.{received, called, returned, raised, exited};
 ghost use Rattle.def_session.specs.Messages as messages;
 ghost use Rattle.def_session.specs.Session as session;
 ghost use Rattle.def_session.specs.Session.{message_after};
 ghost use Rattle.tn_term.specs.Views.{tree_of};
 ghost use Rattle.tn_flags.specs.Views.{event_of, call_of};
 ghost use Rattle.tn_machine.specs.Lent.{context_seen, effect_seen};
-ghost use Rattle.tn_session.specs.Views.{state_seen};
+ghost use Rattle.tn_session.specs.Views.{kind_seen, state_seen};
 ghost use Rattle.tn_session.specs.Telling.{told, told_as_term, telling, telling_live, telling_by, following, finishing};
 ghost use Rattle.tn_session.specs.Telling.{asked, given, evaluating, evaluating_by, evaluating_send, on_values};
 ghost use Rattle.tn_session.specs.Telling.{message_in, deciding};
 
 use crate::compiled::Compiled;
+use crate::marks::mark_for;
 use crate::message::Message;
 use crate::setting::setting_for;
-use crate::state::{Phase, State};
+use crate::state::{Kind, Phase, State};
 use std::alloc::{AllocError, Allocator};
 use tn_flags::{Call, Event, Flags, inherit_link, inherit_spawn};
 use tn_guard::{Parts, Value, Word};
@@ -69,7 +71,7 @@ impl<A: Allocator + Copy> State<A> {
         match self.evaluated(event)? {
             Some(effects) => Ok(self.tell_by(event, effects)?),
             None => {
-                self.finish(event, false)?;
+                self.finish(event, None)?;
                 Ok(None)
             }
         }
@@ -85,9 +87,9 @@ impl<A: Allocator + Copy> State<A> {
         ensures functions { self.new.functions ≡ self.old.functions }
     {
         self.affect_all(process_of(event), &effects);
-        let marks = marks_frame(&effects);
+        let mark = mark_for(&effects);
         let message = self.message_after(event, effects);
-        self.finish(event, marks)?;
+        self.finish(event, mark)?;
         Ok(message)
     }
 
@@ -134,6 +136,7 @@ pub(crate) fn process_of<A: Allocator>(event: &Event<A>) -> u32
         | Event::Received { pid, .. }
         | Event::Called { pid, .. }
         | Event::Returned { pid, .. }
+        | Event::Raised { pid, .. }
         | Event::Spawn { pid, .. }
         | Event::Spawned { pid, .. }
         | Event::Exited { pid, .. }
@@ -165,6 +168,7 @@ impl<A: Allocator + Copy> State<A> {
             } => Ok(self.evaluated_receive(*pid, *sender, message)?),
             Event::Called { pid, call } => Ok(self.evaluated_call(*pid, call)?),
             Event::Returned { pid, depth, .. } => Ok(self.evaluated_return(*pid, *depth)),
+            Event::Raised { pid, depth, .. } => Ok(self.evaluated_raise(*pid, *depth)),
             Event::Spawn { pid, .. }
             | Event::Spawned { pid, .. }
             | Event::Exited { pid, .. }
@@ -272,6 +276,17 @@ impl<A: Allocator + Copy> State<A> {
         let told = self.flags_at(pid).call && self.is_marked(pid, depth);
         self.plainly(told)
     }
+
+    /// The effects of an exception, where the frame that it leaves is marked for exceptions: none.
+    fn evaluated_raise(&self, pid: u32, depth: usize) -> Option<Vec<Effect<A>, A>>
+        ensures { (f : names.Mfa) (c : Class) (t : Tree) → given result ≡ evaluating self.now (raised pid f c t depth) }
+    {
+        match self.mark_of(pid, depth) {
+            Some(Kind::Exceptions) => self.plainly(self.flags_at(pid).call),
+            Some(Kind::Returns) => None,
+            None => None,
+        }
+    }
 }
 
 /// The effects by a setting; None where it is off, or where no clause of its specification fires.
@@ -348,19 +363,6 @@ impl<A: Allocator> State<A> {
     }
 }
 
-/// Whether the effects mark the frame of the call.
-fn marks_frame<A: Allocator>(effects: &[Effect<A>]) -> bool
-    ensures { result ≡ session.marks_frame (asked effects.now) }
-{
-    for effect in effects {
-        match effect {
-            Effect::ReturnTrace | Effect::ExceptionTrace => return true,
-            Effect::Message(_) | Effect::Silent(_) | Effect::Change { .. } => {}
-        }
-    }
-    false
-}
-
 // ---- the message
 
 impl<A: Allocator> State<A> {
@@ -379,12 +381,13 @@ impl<A: Allocator> State<A> {
         decided(event, short, last_message(effects))
     }
 
-    /// Whether `silent` inhibits the event's message: that of a call or of a return.
+    /// Whether `silent` inhibits the event's message: that of a call, a return or an exception.
     fn is_silenced(&self, event: &Event<A>) -> bool
         ensures { result ≡ session.is_silenced (state_seen self.now) (event_of event.now) }
     {
         match event {
-            Event::Called { pid, .. } | Event::Returned { pid, .. } => self.flags_at(*pid).silent,
+            Event::Called { pid, .. } | Event::Returned { pid, .. } | Event::Raised { pid, .. } =>
+                self.flags_at(*pid).silent,
             _ => false,
         }
     }
@@ -440,19 +443,22 @@ fn decided<'a, A: Allocator>(
 // ---- marks, and the end of a process
 
 impl<A: Allocator + Copy> State<A> {
-    /// A call marks its frame, a return removes the mark; after an exit the process's flags and marks are gone.
-    fn finish(&mut self, event: &Event<A>, marks: bool) -> Result<(), AllocError>
-        ensures state { (es : List Asked) → session.marks_frame es ≡ marks →
+    /// A call gets its mark, a frame that a return or an exception leaves loses its own; after an exit the
+    /// process's flags and marks are gone.
+    fn finish(&mut self, event: &Event<A>, mark: Option<Kind>) -> Result<(), AllocError>
+        ensures state { (es : List Asked) → session.mark_asked es ≡ option_map kind_seen mark →
             IfOk result (λ _. state_seen self.new ≡ session.finished (state_seen self.old) (event_of event.now) es) }
         ensures functions { self.new.functions ≡ self.old.functions }
     {
         match event {
             Event::Called { pid, call } => {
-                if marks {
-                    self.mark(*pid, call.depth)?;
+                if let Some(kind) = mark {
+                    self.mark(*pid, call.depth, kind)?;
                 }
             }
-            Event::Returned { pid, depth, .. } => self.unmark(*pid, *depth),
+            Event::Returned { pid, depth, .. } | Event::Raised { pid, depth, .. } => {
+                self.unmark(*pid, *depth);
+            }
             Event::Exited { pid, .. } => self.forget(*pid),
             _ => {}
         }

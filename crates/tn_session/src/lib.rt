@@ -5,7 +5,7 @@
 //! one step of the definition of a session, reply and message included, and that a session that was
 //! refused memory is spent. A specification is kept with its code, by which it is evaluated. What a session
 //! tells of an event is a `Message` that lends the event; a term or a text is made of it. A `Look` shows the
-//! session between two steps.
+//! session between two steps, and `mark_for` is the mark that the effects of a call ask for.
 #![tactic(auto)]
 
 mod command;
@@ -23,5 +23,7 @@ mod state;
 mod text;
 
 pub use look::{Look, Newest};
+pub use marks::mark_for;
 pub use message::Message;
 pub use session::Session;
+pub use state::Kind;

@@ -4,7 +4,7 @@ ghost use Rattle.tn_session.specs.Looks.{lent_seen};
 ghost use Rattle.tn_session.specs.Views.{setting_seen};
 
 use crate::compiled::Compiled;
-use crate::state::{Phase, State};
+use crate::state::{Kind, Phase, State};
 use std::alloc::Allocator;
 use tn_flags::{Call, Flags};
 use tn_index::Setting;
@@ -44,6 +44,7 @@ impl<'a, A: Allocator + Copy> Look<'a, A> {
     ghost use Rattle.tn_term.specs.Views.{alive_of};
     ghost use Rattle.tn_flags.specs.Views.{call_of, flags_of};
     ghost use Rattle.tn_session.specs.Looks.{look_seen, lent_seen, is_live, newest_seen, newest_for};
+    ghost use Rattle.tn_session.specs.Views.{kind_seen};
 
     /// Whether it was not destroyed.
     pub fn is_live(&self) -> bool
@@ -74,6 +75,14 @@ impl<'a, A: Allocator + Copy> Look<'a, A> {
         ensures { result ≡ session.is_marked (look_seen self.now) pid depth }
     {
         self.state.is_marked(pid, depth)
+    }
+
+    /// The kind of the mark that the frame of this depth has, if it has one: whether its return is told alone,
+    /// or an exception that leaves it too.
+    pub fn mark_of(&self, pid: u32, depth: usize) -> Option<Kind>
+        ensures { option_map kind_seen result ≡ definition.mark_of (look_seen self.now) pid depth }
+    {
+        self.state.mark_of(pid, depth)
     }
 
     /// The setting of sends (`trace:send/3`).

@@ -1,40 +1,67 @@
-// The frames that a session has marked, by process.
-ghost use Rattle.std.specs.Prelude.{◌≡◌, ◌<◌, ◌==◌, not, [], filter, reverse, IfOk, OnOk};
-ghost use Rattle.std.specs.List.{list_any};
-ghost use Rattle.std.specs.Prelude.{vec_len};
+// The marks of frames: which one effects ask for, and those that a session has, by process.
+ghost use Rattle.std.specs.Prelude.{◌≡◌, ◌<◌, ◌==◌, not, [], Some, IfOk, OnOk, vec_len};
+ghost use Rattle.std.specs.List.{filter};
+ghost use Rattle.std.specs.Option.{option_map};
+ghost use Rattle.def_session.specs.State as definition;
 ghost use Rattle.def_session.specs.State.{with_marks};
 ghost use Rattle.def_session.specs.Session as session;
-ghost use Rattle.tn_session.specs.Views.{marks_seen, state_seen};
+ghost use Rattle.tn_session.specs.Telling.{asked};
+ghost use Rattle.tn_session.specs.Views.{kind_seen, newest_first, marks_seen, state_seen};
 
-use crate::state::{State, place_of};
+use crate::state::{Kind, Mark, State, place_of};
 use std::alloc::{AllocError, Allocator};
+use tn_machine::Effect;
 use tn_term::PROCESSES;
 
+/// The mark that the effects of a call ask for: `exception_trace` one for exceptions, whatever the other effects are,
+/// and `return_trace` without it one for returns.
+pub fn mark_for<A: Allocator>(effects: &[Effect<A>]) -> Option<Kind>
+    ensures { option_map kind_seen result ≡ session.mark_asked (asked effects.now) }
+{
+    let mut returns = false;
+    for effect in effects {
+        match effect {
+            Effect::ExceptionTrace => return Some(Kind::Exceptions),
+            Effect::ReturnTrace => returns = true,
+            Effect::Message(_) | Effect::Silent(_) | Effect::Change { .. } => {}
+        }
+    }
+    returns.then_some(Kind::Returns)
+}
+
 impl<A: Allocator + Copy> State<A> {
-    /// Whether the frame of this depth is marked.
-    pub(crate) fn is_marked(&self, pid: u32, depth: usize) -> bool
-        ensures { result ≡ session.is_marked (state_seen self.now) pid depth }
+    /// The kind of the mark that the frame of this depth has, if it has one.
+    pub(crate) fn mark_of(&self, pid: u32, depth: usize) -> Option<Kind>
+        ensures { option_map kind_seen result ≡ definition.mark_of (state_seen self.now) pid depth }
     {
         match self.marks.get(place_of(pid)) {
-            Some(marks) => has_mark(marks, depth),
-            None => false,
+            Some(marks) => kind_among(marks, depth),
+            None => None,
         }
     }
 
+    /// Whether the frame of this depth is marked, for whatever.
+    pub(crate) fn is_marked(&self, pid: u32, depth: usize) -> bool
+        ensures { result ≡ session.is_marked (state_seen self.now) pid depth }
+    {
+        self.mark_of(pid, depth).is_some()
+    }
+
     /// Marks the frame of this depth. An error is refused memory.
-    pub(crate) fn mark(&mut self, pid: u32, depth: usize) -> Result<(), AllocError>
-        ensures state { IfOk result (λ _. state_seen self.new ≡ session.marked (state_seen self.old) pid depth) }
+    pub(crate) fn mark(&mut self, pid: u32, depth: usize, kind: Kind) -> Result<(), AllocError>
+        ensures state { IfOk result
+            (λ _. state_seen self.new ≡ session.marked (state_seen self.old) pid depth (Some (kind_seen kind))) }
         ensures functions { self.new.functions ≡ self.old.functions }
     {
         let place = place_of(pid);
         reach(self.alloc, &mut self.marks, place)?;
         if place < self.marks.len() {
-            self.marks[place].push(depth)?;
+            self.marks[place].push(Mark { depth, kind })?;
         }
         Ok(())
     }
 
-    /// Removes the marks of the frame of this depth.
+    /// Removes the mark of the frame of this depth, whatever it is for.
     pub(crate) fn unmark(&mut self, pid: u32, depth: usize)
         ensures state { state_seen self.new ≡ session.unmarked (state_seen self.old) pid depth }
         ensures functions { self.new.functions ≡ self.old.functions }
@@ -61,7 +88,7 @@ impl<A: Allocator + Copy> State<A> {
 /// or not memory is refused.
 fn reach<A: Allocator + Copy>(
     alloc: A,
-    marks: &mut Vec<Vec<usize, A>, A>,
+    marks: &mut Vec<Vec<Mark, A>, A>,
     place: usize,
 ) -> Result<(), AllocError>
     ensures seen { marks_seen marks.new.items ≡ marks_seen marks.old.items }
@@ -73,16 +100,17 @@ fn reach<A: Allocator + Copy>(
     Ok(())
 }
 
-/// Whether one of the marks, of which the newest is looked at first, is of this depth.
-fn has_mark(marks: &[usize], depth: usize) -> bool
-    ensures { result ≡ list_any (λ d. d == depth) (reverse marks.now) }
+/// The kind of the newest of these marks that is of this depth; the newest is the last.
+fn kind_among(marks: &[Mark], depth: usize) -> Option<Kind>
+    ensures { option_map kind_seen result ≡ definition.kind_among (newest_first marks.now) depth }
 {
-    marks.iter().rev().any(|mark| *mark == depth)
+    let newest = marks.iter().rev().find(|mark| mark.depth == depth)?;
+    Some(newest.kind)
 }
 
 /// Removes the marks of this depth.
-fn drop_marks<A: Allocator>(marks: &mut Vec<usize, A>, depth: usize)
-    ensures { marks.new.items ≡ filter (λ d. not (d == depth)) marks.old.items }
+fn drop_marks<A: Allocator>(marks: &mut Vec<Mark, A>, depth: usize)
+    ensures { marks.new.items ≡ filter (λ m. not (m.depth == depth)) marks.old.items }
 {
-    marks.retain(|mark| *mark != depth);
+    marks.retain(|mark| mark.depth != depth);
 }

@@ -17,6 +17,20 @@ pub(crate) enum Phase {
     Destroyed,
 }
 
+/// What the mark of a frame is for: the return of its call alone, or an exception that leaves the frame too.
+#[derive(Clone, Copy, Debug, PartialEq, Eq)]
+pub enum Kind {
+    Returns,
+    Exceptions,
+}
+
+/// The mark of the frame of this depth.
+#[derive(Clone, Copy)]
+pub(crate) struct Mark {
+    pub depth: usize,
+    pub kind: Kind,
+}
+
 /// What a session knows and was told to show.
 #[derive(Drop)]
 pub(crate) struct State<A: Allocator> {
@@ -32,9 +46,8 @@ pub(crate) struct State<A: Allocator> {
     pub settings: Settings<Compiled<A>, A>,
     pub sending: Setting<Compiled<A>>,
     pub receiving: Setting<Compiled<A>>,
-    /// Of the processes from 100 on, the depths of the frames whose return is told, the newest last; of
-    /// those past the end there is none.
-    pub marks: Vec<Vec<usize, A>, A>,
+    /// Of the processes from 100 on, the marks of frames, the newest last; those past the end have none.
+    pub marks: Vec<Vec<Mark, A>, A>,
 }
 
 /// The place of a process among the flags and the marks: that of pid 100 is 0.

@@ -4,14 +4,15 @@ ghost use Rattle.def_term.specs.Tree.{of_elements, int, pid as pid_tree, list};
 ghost use Rattle.def_term.specs.Names.{mfa_term};
 ghost use Rattle.def_term.specs.Text.{w, joined, atom_text, each_after_comma};
 ghost use Rattle.tn_term.specs.Views.{tree_of, trees_of, mfa_seen};
-ghost use Rattle.tn_flags.specs.Views.{event_of};
+ghost use Rattle.def_session.specs.Messages.{class_term};
+ghost use Rattle.tn_flags.specs.Views.{class_of, event_of};
 ghost use Rattle.tn_text.specs.Writes.{Grows};
 ghost use Rattle.tn_session.specs.Messages.{kind_of, front_text, details_text, elements_text};
-ghost use Rattle.tn_session.specs.Messages.{names_text, call_seen, last_seen};
+ghost use Rattle.tn_session.specs.Messages.{names_text, call_seen, exception_seen, last_seen};
 
 use crate::event::process_of;
 use std::alloc::{AllocError, Allocator};
-use tn_flags::Event;
+use tn_flags::{Class, Event};
 use tn_term::{Mfa, Term};
 use tn_text::{write_atom, write_term};
 
@@ -61,6 +62,7 @@ fn kind_text<A: Allocator>(event: &Event<A>) -> &'static [u8]
         Event::Received { .. } => b"'receive'",
         Event::Called { .. } => b"call",
         Event::Returned { .. } => b"return_from",
+        Event::Raised { .. } => b"exception_from",
         Event::Spawn { .. } => b"spawn",
         Event::Spawned { .. } => b"spawned",
         Event::Exited { .. } => b"exit",
@@ -96,6 +98,15 @@ fn put_details<A: Allocator, B: Allocator>(
         Event::Returned { mfa, value, .. } => {
             put_arity(mfa, out)?;
             put_more(value, out)?;
+        }
+        Event::Raised {
+            mfa,
+            class,
+            value,
+            ..
+        } => {
+            put_arity(mfa, out)?;
+            put_exception(*class, value, out)?;
         }
         Event::Spawn {
             child,
@@ -236,6 +247,34 @@ fn put_args<A: Allocator, B: Allocator>(
     write_list(args, out)?;
     out.push(b'}')?;
     Ok(())
+}
+
+/// Appends `,{Class,Value}`.
+fn put_exception<A: Allocator, B: Allocator>(
+    class: Class,
+    value: &Term<A>,
+    out: &mut Vec<u8, B>,
+) -> Result<(), AllocError>
+    ensures ok { OnOk result (out.new.items ≡ out.old.items ++ 44 ∷ w (exception_seen class value.now)) }
+    ensures grows { Grows out.old.items out.new.items }
+{
+    out.extend_from_slice(b",{")?;
+    out.extend_from_slice(class_text(class))?;
+    put_more(value, out)?;
+    out.push(b'}')?;
+    Ok(())
+}
+
+/// The written text of a class.
+#[tactic(auto, unfolding(def_term::specs::Text::is_written_bare))]
+fn class_text(class: Class) -> &'static [u8]
+    ensures { result.now ≡ w (class_term (class_of class)) }
+{
+    match class {
+        Class::Error => b"error",
+        Class::Throw => b"throw",
+        Class::Exit => b"exit",
+    }
 }
 
 /// Appends the texts of terms, with a comma between any two.

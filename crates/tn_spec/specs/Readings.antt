@@ -1,7 +1,7 @@
 -- What the code's functions read, in the definitions' words.
 use Rattle.std.specs.Prelude.{◌≡◌, ◌≤◌, ◌^◌, ℕ, drop, MatchResult, Result, Ok, Err}
 use Rattle.std.specs.declared.vec.Vec.{Vec}
-use Rattle.def_term.specs.Tree.{Tree, tuple, atom, more, size}
+use Rattle.def_term.specs.Tree.{Tree, tuple, list, atom, more, size}
 use Rattle.def_term.specs.Names.{Name}
 use Rattle.def_spec.specs.Matching.{Pattern}
 use Rattle.def_spec.specs.Expressions.{Expr, Exprs}
@@ -55,6 +55,22 @@ IsFaultIn d t Badarg = spec_of (dialect_of d) t ≡ Err reading.badarg
 IsFaultIn d t (Unsupported s) = spec_of (dialect_of d) t ≡ Err (reading.unsupported s)
 IsFaultIn d t TooLarge = TOO_LARGE ≤ size t
 IsFaultIn d t OutOfMemory = Unit {0}
+
+-- a list of a clause or more that has so many parts
+abbrev pub IsTooLarge : Tree → Type 0
+IsTooLarge (list (more t ts)) = TOO_LARGE ≤ size (list (more t ts))
+IsTooLarge _ = ⊥
+
+-- the fault of such a list is that it is too large, and no other term has it; want of memory tells nothing of it
+abbrev pub FaultAgreesWithSize : {A : Type 0} → Tree → SpecFault A → Type 0
+FaultAgreesWithSize t Badarg = ¬ IsTooLarge t
+FaultAgreesWithSize t (Unsupported s) = ¬ IsTooLarge t
+FaultAgreesWithSize t TooLarge = IsTooLarge t
+FaultAgreesWithSize t OutOfMemory = Unit {0}
+
+-- no such list is read
+abbrev pub AgreesWithSize : {A : Type 0} → Tree → Result (Spec A) (SpecFault A) → Type 0
+AgreesWithSize t result = MatchResult result (λ spec. ¬ IsTooLarge t) (λ fault. FaultAgreesWithSize t fault)
 
 -- the specification that the term spells, or its fault
 abbrev pub IsSpecRead : {A : Type 0} → Dialect → Tree → Result (Spec A) (SpecFault A) → Type 0

@@ -5,7 +5,7 @@ ghost use Rattle.def_term.specs.Tree.{tuple};
 ghost use Rattle.def_spec.specs.Reading.{clause_of, clauses_of};
 ghost use Rattle.tn_term.specs.Views.{tree_of, trees_of};
 ghost use Rattle.tn_spec.specs.Answers.{IsRead, elements_in};
-ghost use Rattle.tn_spec.specs.Readings.{IsSpecRead, clause_in};
+ghost use Rattle.tn_spec.specs.Readings.{IsSpecRead, AgreesWithSize, clause_in};
 ghost use Rattle.tn_spec.specs.Views.{dialect_of, clause_seen, clause_list};
 
 use crate::called::Part;
@@ -109,7 +109,8 @@ pub fn spec_of<A: Allocator + Copy>(
     term: &Term<A>,
     dialect: Dialect,
 ) -> Result<Spec<A>, SpecFault<A>>
-    ensures { IsSpecRead dialect (tree_of term.now) result }
+    ensures read { IsSpecRead dialect (tree_of term.now) result }
+    ensures size { AgreesWithSize (tree_of term.now) result }
 {
     let Some(terms) = elements(term) else {
         return Err(SpecFault::Badarg);

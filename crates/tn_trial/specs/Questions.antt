@@ -19,7 +19,7 @@ use Rattle.tn_term.specs.Views.{tree_of, mfa_seen}
 use Rattle.tn_text.specs.Answers.{IsRefusal}
 use Rattle.tn_spec.specs.declared.func.Dialect.{Dialect}
 use Rattle.tn_spec.specs.declared.spec.Spec.{Spec}
-use Rattle.tn_spec.specs.Readings.{IsFaultIn}
+use Rattle.tn_spec.specs.Readings.{IsFaultIn, IsTooLarge, FaultAgreesWithSize}
 use Rattle.tn_spec.specs.Views.{dialect_of}
 use Rattle.tn_spec.specs.Wholes.{spec_seen}
 use Rattle.tn_trial.specs.declared.question.Question.{Question}
@@ -58,11 +58,11 @@ triple t u v = tuple (more t (more u (more v none)))
 
 -- a term names a function, or none with at most 255 parameters
 abbrev pub IsMfaOf : {A : Type 0} → Tree → Option (code.Mfa A) → Type 0
-IsMfaOf t (Some m) = t ≡ mfa_term (mfa_seen m)
+IsMfaOf t (Some m) = (t ≡ mfa_term (mfa_seen m)) × IsArity m.arity
 IsMfaOf t None = (f : Mfa) → IsArity f.arity → t ≢ mfa_term f
 
 abbrev pub IsNamed : {A : Type 0} → List ℕ → code.Mfa A → Type 0
-IsNamed bytes m = Spells bytes (mfa_term (mfa_seen m))
+IsNamed bytes m = Spells bytes (mfa_term (mfa_seen m)) × IsArity m.arity
 
 abbrev pub IsCallerFault : {A : Type 0} → List ℕ → QuestionFault A → Type 0
 IsCallerFault bytes (faults.Caller f) = IsRefusal bytes f
@@ -79,7 +79,7 @@ abbrev pub caller_is : Option (Bor (List ℕ)) → Option Mfa → Type 0
 caller_is None None = Unit {0}
 caller_is None (Some f) = ⊥
 caller_is (Some bytes) None = ⊥
-caller_is (Some bytes) (Some f) = Spells bytes.now (mfa_term f)
+caller_is (Some bytes) (Some f) = Spells bytes.now (mfa_term f) × IsArity f.arity
 
 -- there is a text, and it isn't right
 abbrev pub HasCallerFault : {A : Type 0} → Option (Bor (List ℕ)) → QuestionFault A → Type 0
@@ -89,7 +89,7 @@ HasCallerFault text f = (bytes : Bor (List ℕ)) × (text ≡ Some bytes) × IsC
 
 -- the text spells a term that is read as this specification
 abbrev pub IsSpecification : List ℕ → Dialect → outcome.Spec → Type 0
-IsSpecification bytes d s = (t : Tree) × Spells bytes t × (spec_of (dialect_of d) t ≡ Ok s)
+IsSpecification bytes d s = (t : Tree) × Spells bytes t × (spec_of (dialect_of d) t ≡ Ok s) × (¬ IsTooLarge t)
 
 abbrev pub IsSpecificationRead : {A : Type 0} → List ℕ → Dialect → Spec A → Type 0
 IsSpecificationRead bytes d s = IsSpecification bytes d (spec_seen s)
@@ -97,7 +97,7 @@ IsSpecificationRead bytes d s = IsSpecification bytes d (spec_seen s)
 -- the text is refused, or its term has this fault, at the first clause that can't be read
 abbrev pub IsSpecificationFault : {A : Type 0} → List ℕ → Dialect → QuestionFault A → Type 0
 IsSpecificationFault bytes d (faults.Text f) = IsRefusal bytes f
-IsSpecificationFault bytes d (faults.Spec n f) = (t : Tree) × Spells bytes t × IsFaultIn d t f × (n ≡ stop_of (dialect_of d) t)
+IsSpecificationFault bytes d (faults.Spec n f) = (t : Tree) × Spells bytes t × IsFaultIn d t f × FaultAgreesWithSize t f × (n ≡ stop_of (dialect_of d) t)
 IsSpecificationFault bytes d faults.OutOfMemory = Unit {0}
 IsSpecificationFault bytes d _ = ⊥
 

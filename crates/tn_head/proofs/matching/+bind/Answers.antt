@@ -1,5 +1,4 @@
 use Rattle.std.proofs.Common.{◌≡◌, ◌∙◌, sym, ap, arith, map, Some, None, if◌then◌else◌}
-use Rattle.std.specs.Option.{option_and_then}
 use Rattle.def_spec.specs.Matching.{bind_on, bind_each}
 use Rattle.tn_spec.specs.Views.{pattern_seen, patterns_seen}
 use Rattle.tn_guard.specs.Views.{value_seen, parts_seen}

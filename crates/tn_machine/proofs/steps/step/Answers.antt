@@ -1,5 +1,5 @@
 use Rattle.std.proofs.Common.{Some, refl, sym, ap, ◌∙◌, map, ◌==◌}
-use Rattle.def_machine.specs.Machine.{does, setting, going_to, terms_in}
+use Rattle.def_machine.specs.Machine.{does, ending, setting, going_to, terms_in}
 use Rattle.tn_action.specs.Views.{context_seen, effect_seen}
 use Rattle.tn_code.specs.Views.{instruction_of, kind_of, fault_of}
 use Rattle.tn_guard.specs.Views.{value_seen}
@@ -77,3 +77,6 @@ returns-in_ok-value-in-Perform g c =
     let made = c.in_ok-value-in-Perform.ensures in
     sets-so c.args.scene.now c.args.instr.now c.args.place c.args.registers.now c.set-in-Perform.new.registers c.args.effects.now c.set-in-Perform.result c.performed_on.new.effects c.in-Perform.to _ c.set-in-Perform.ensures _ (ap instruction_of c.in-Perform.is)
     (perform-does (context_seen c.args.scene.now.context.now) (registers_of c.args.registers.now) (map effect_seen c.args.effects.now.items) (dialect_of c.in-Perform.dialect) (action_of c.in-Perform.action) c.in-Perform.to c.in-Perform.from.items (map value_seen made.0) _ _ (ap (terms_in (registers_of c.args.registers.now)) (sym c.as_slice-in-Perform.ensures.value) ∙ made.1) made.2.value made.2.effects)
+
+pub returns-in-EndMatch : goal.returns-in-EndMatch
+returns-in-EndMatch g c = ap (λ i. ending (instruction_of i) (map effect_seen c.args.effects.now.items)) c.in-EndMatch.is

@@ -20,7 +20,7 @@ invariant_of-result g c =
       bounded = few _ _ _ c.size.ensures c.if-size-gt-LARGEST.false (spec_small d t _ is);
     }
 
-pub returns : goal.returns
-returns g c =
+pub returns-clause-read : goal.returns-clause-read
+returns-clause-read g c =
     let stored = c.in-Some.terms.now.ok.0 in
     spec_read (dialect_of c.args.dialect) (tree_of c.args.term.now) c.in-Some.terms.now.items (clause_list c.in_ok-clauses.clauses) (λ e. c.if-len-eq0.false (omega (arith, e))) c.in-Some.ensures c.in_ok-clauses.ensures

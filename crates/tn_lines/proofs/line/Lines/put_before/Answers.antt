@@ -3,7 +3,7 @@ use Rattle.std.specs.Prelude.{IfOk}
 use Rattle.std.proofs.lemmas.Result.{IfOk-weaker}
 use Rattle.def_spec.specs.Flags.{procs_flag}
 use Rattle.tn_term.specs.Views.{tree_of, mfa_seen}
-use Rattle.tn_flags.specs.Views.{event_of}
+use Rattle.tn_flags.specs.Views.{class_of, event_of}
 use Rattle.tn_flags.specs.declared.event.Event.TheVariants.{Spawn, Spawned, Exited, Linked, Unlinked, GettingLinked, GettingUnlinked}
 use Rattle.tn_session.specs.Looks.{look_seen}
 use Rattle.tn_lines.specs.Evaluations.{GivesWhere, GivesOf}
@@ -28,6 +28,13 @@ returns-in-Returned-clause-ok g c =
     let n = c.args.self.now.name.now in
     let s = look_seen c.args.look.now in
     subst (λ e. IfOk c.put_return.result (λ r. GivesOf n s (event_of e) c.args.out.now.items c.put_return.new.out.items r)) (sym c.in-Returned.is) (c.put_return.ensures.ok (mfa_seen c.in-Returned.mfa) (tree_of c.in-Returned.value))
+
+pub returns-in-Raised-clause-ok : goal.returns-in-Raised-clause-ok
+returns-in-Raised-clause-ok g c =
+    let n = c.args.self.now.name.now in
+    let s = look_seen c.args.look.now in
+    subst (λ e. IfOk c.put_raise.result (λ r. GivesOf n s (event_of e) c.args.out.now.items c.put_raise.new.out.items r)) (sym c.in-Raised.is)
+    (c.put_raise.ensures.ok (mfa_seen c.in-Raised.mfa) (class_of c.in-Raised.class) (tree_of c.in-Raised.value))
 
 pub returns-in-Spawn-clause-ok : goal.returns-in-Spawn-clause-ok
 returns-in-Spawn-clause-ok g c =

@@ -1,5 +1,5 @@
 use Rattle.std.proofs.Common.{◌∙◌, sym, arith, map, ap}
-use Rattle.def_session.specs.Session.{marks_frame}
+use Rattle.def_session.specs.Session.{mark_asked}
 use Rattle.def_explain.specs.Verdicts.{fires}
 use Rattle.tn_head.specs.Views.{bindings_seen}
 use Rattle.tn_spec.specs.Views.{dialect_of}
@@ -15,10 +15,10 @@ returns-in-Fires-clause-ok g c =
     let size = c.len-i-end.ensures ∙ c.args.spec.now.clauses.ok.0 in
     let bs = bindings_seen c.in-Fires.bindings.now in
     ends c.args.self.now.name.now (dialect_of c.args.spec.now.dialect) (context_seen c.args.context.now) ks c.loop-i.i _ _ _ c.loop-i.invariant.so_far
-    c.index.result.now bs (map effect_seen c.deref.result.now) c.marks_frame-marks.result (omega (arith, size)) c.index.ensures
+    c.index.result.now bs (map effect_seen c.deref.result.now) c.mark_for-mark.result (omega (arith, size)) c.index.ensures
     (ap (λ xs. fires bs (map effect_seen xs)) c.deref.ensures.value ∙ sym (ap (λ v. verdict_seen v) c.in-Fires.is) ∙ c.in_ok-reason.ensures)
     c.in_ok-put_firing-in-Fires.ensures.ok
-    (c.marks_frame-marks.ensures ∙ ap (λ xs. marks_frame (map effect_seen xs)) (c.deref-in-Fires.ensures.value ∙ sym c.deref.ensures.value))
+    (c.mark_for-mark.ensures ∙ ap (λ xs. mark_asked (map effect_seen xs)) (c.deref-in-Fires.ensures.value ∙ sym c.deref.ensures.value))
 
 pub loop-i-preserved : goal.loop-i-preserved
 loop-i-preserved g c =

@@ -1,9 +1,8 @@
-use Rattle.std.proofs.Common.{sym, ap, subst}
+use Rattle.std.proofs.Common.{None, sym, ap, subst}
 use Rattle.tn_action.specs.Views.{context_seen}
 use Rattle.tn_session.specs.Looks.{lent_seen}
 use Rattle.tn_lines.specs.Evaluations.{GivesBySetting}
 use Rattle.tn_lines.specs.declared.clauses.Evaluation.TheVariants.{Refused, Done}
-use Rattle.std.proofs.Common.{false}
 use Rattle.tn_lines.proofs.ClauseLines.{is_off, is_plain}
 use Rattle.tn_lines.proofs.line.Lines.put_setting.Goals as goal
 
@@ -17,4 +16,4 @@ pub returns-in-Plain-clause-ok : goal.returns-in-Plain-clause-ok
 returns-in-Plain-clause-ok g c =
     let n = c.args.self.now.name.now in
     let x = context_seen c.args.context.now in
-    subst (λ s. GivesBySetting n s x c.args.out.now.items c.args.out.now.items (Done false)) (sym (ap lent_seen c.in-Plain.is)) (is_plain n x c.args.out.now.items)
+    subst (λ s. GivesBySetting n s x c.args.out.now.items c.args.out.now.items (Done None)) (sym (ap lent_seen c.in-Plain.is)) (is_plain n x c.args.out.now.items)

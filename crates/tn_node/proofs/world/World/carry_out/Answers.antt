@@ -1,5 +1,4 @@
-use Rattle.std.proofs.Common.{ap, ap₂, sym, ◌∙◌, ◌∷◌, ◌++◌, map, slice_get, List, Option, option_to_list}
-use Rattle.std.specs.Option.{option_map}
+use Rattle.std.proofs.Common.{ap, ap₂, sym, ◌∙◌, ◌∷◌, ◌++◌, map, slice_get, List, Option}
 use Rattle.def_node.specs.Event.{exited, getting_unlinked}
 use Rattle.def_node.specs.Process.{Process}
 use Rattle.def_node.specs.Node.{World, Move, moved, idle, acted, delivered, link_made, link_removed, started, ended, partners_told, partner_pids}
@@ -14,9 +13,9 @@ pub returns-in-Waits : goal.returns-in-Waits
 returns-in-Waits g c before q r here put =
     ap idle put ∙ sym (ap (λ a. acted before c.args.place c.args.pid (act_seen r a)) c.in-Waits.is)
 
-pub returns-in_ok-own_events-in-Continues : goal.returns-in_ok-own_events-in-Continues
-returns-in_ok-own_events-in-Continues g c before q r here put =
-    ap₂ moved put c.in_ok-own_events-in-Continues.ensures ∙ sym (ap (λ a. acted before c.args.place c.args.pid (act_seen r a)) c.in-Continues.is)
+pub returns-in-Continues : goal.returns-in-Continues
+returns-in-Continues g c before q r here put =
+    ap (λ (w : World). moved w (map event_of c.in-Continues.events.items)) put ∙ sym (ap (λ a. acted before c.args.place c.args.pid (act_seen r a)) c.in-Continues.is)
 
 pub returns-in_ok-deliver-in-Sends : goal.returns-in_ok-deliver-in-Sends
 returns-in_ok-deliver-in-Sends g c before q r here put =
@@ -43,10 +42,10 @@ returns-in_ok-finish-in-Exits g c before q r here put =
     let n = c.args.pid in
     let i = c.args.place in
     let t = tree_of c.in-Exits.reason in
-    let o = option_map event_of c.in-Exits.event in
+    let es = map event_of c.in-Exits.events.items in
     let linked = c.partners-partners.ensures r (ap (λ (w : World). slice_get w.slots i) put ∙ changed_here before.slots i q r here) in
-    let E : List (Option Process) → Move = λ ss. moved (record { slots = partners_told n t r.links ss }) (option_to_list o ++ exited n t ∷ map (λ m. getting_unlinked m n) (partner_pids 100 r.links)) in
+    let E : List (Option Process) → Move = λ ss. moved (record { slots = partners_told n t r.links ss }) (es ++ exited n t ∷ map (λ m. getting_unlinked m n) (partner_pids 100 r.links)) in
     c.in_ok-finish-in-Exits.ensures
-    ∙ ap₂ (λ (w : World) ps. ended w i n ps t o) put linked
+    ∙ ap₂ (λ (w : World) ps. ended w i n ps t es) put linked
     ∙ ap E (set_changed before.slots i (λ x. r))
     ∙ sym (ap (λ a. acted before i n (act_seen r a)) c.in-Exits.is)

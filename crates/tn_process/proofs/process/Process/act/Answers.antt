@@ -1,8 +1,9 @@
-use Rattle.std.proofs.Common.{ap, ap₂, sym, ◌∙◌, Some, None, true}
+use Rattle.std.proofs.Common.{ap, ap₂, sym, ◌∙◌, map, Some, None}
 use Rattle.std.specs.Option.{option_map}
 use Rattle.def_script.specs.Program.{entry_mfa, number_from}
-use Rattle.def_node.specs.Process.{act_after, begins, runs}
+use Rattle.def_node.specs.Process.{act_after, begins, exits, remotely, runs}
 use Rattle.tn_term.specs.Views.{tree_of}
+use Rattle.tn_flags.specs.Views.{event_of}
 use Rattle.tn_script.specs.Views.{entry_of, functions_of}
 use Rattle.tn_process.specs.Views.{process_of}
 use Rattle.tn_process.proofs.Acts.{done, enters_after}
@@ -10,7 +11,8 @@ use Rattle.tn_process.proofs.process.Process.act.Goals as goal
 
 pub returns-in-Some : goal.returns-in-Some
 returns-in-Some g c =
-    ap (λ s. act_after (functions_of c.args.functions.now) c.args.pid c.args.child (process_of c.args.self.now) (option_map tree_of s)) (sym c.in-Some.is ∙ c.take.ensures.value)
+    ap (λ es. exits c.args.self.now.links (tree_of c.in-Some.reason) (map event_of es)) c.new.ensures.items
+    ∙ ap (λ s. act_after (functions_of c.args.functions.now) c.args.pid c.args.child (process_of c.args.self.now) (option_map tree_of s)) (sym c.in-Some.is ∙ c.take.ensures.value)
 
 pub returns-in-Some-take : goal.returns-in-Some-take
 returns-in-Some-take g c =
@@ -20,7 +22,7 @@ returns-in-Some-take g c =
     let signal = c.take.ensures.after ∙ sym c.in_default.is ∙ c.take.ensures.value in
     done c.begin.new.self _ _ _ c.begin.ensures
     (ap (λ s. begins ks c.args.pid None (record q { entry = option_map entry_of c.take-2.new.self; signal = option_map tree_of s }) (Some e)) signal
-    ∙ enters_after ks c.args.pid q (option_map entry_of c.take-2.new.self) q.frames None true e.args (number_from 0 ks (entry_mfa e))
+    ∙ enters_after ks c.args.pid q (option_map entry_of c.take-2.new.self) q.frames (remotely None) e.args (number_from 0 ks (entry_mfa e))
     ∙ ap (λ o. begins ks c.args.pid c.args.child q (option_map entry_of o)) (sym c.in-Some-take.is ∙ c.take-2.ensures.value)
     ∙ ap (λ s. act_after ks c.args.pid c.args.child q (option_map tree_of s)) (sym c.in_default.is ∙ c.take.ensures.value))
 

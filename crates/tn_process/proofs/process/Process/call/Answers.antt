@@ -5,7 +5,7 @@ use Rattle.def_script.specs.Program.{number_from}
 use Rattle.def_node.specs.Process.{enters, advanced, stepped, with_frames}
 use Rattle.tn_term.specs.Views.{tree_of}
 use Rattle.tn_script.specs.Views.{args_of, functions_of}
-use Rattle.tn_process.specs.Acting.{mfa_from}
+use Rattle.tn_process.specs.Acting.{manner_in, mfa_from}
 use Rattle.tn_process.specs.Views.{process_of, frame_of}
 use Rattle.tn_process.proofs.Acts.{ended, done, within_none, within_some}
 use Rattle.tn_process.proofs.process.Process.call.Goals as goal
@@ -27,6 +27,6 @@ returns g c =
     done c.enter.new.self _ _ _ c.enter.ensures
     (within_some q.links _ _ (map tree_of xs) _
     (sym (ap (option_map (λ v. map tree_of v.terms.items)) c.in-Some.is) ∙ c.in_ok-args.ensures)
-    (ap₂ (λ p x. enters ks c.args.context.now.pid p p.frames x k.named (map tree_of xs) c.find_function-number.result) (c.in_ok-push_frame.ensures ∙ ap (λ fr. with_frames q (fr ∷ q.frames)) c.advance.ensures) c.in_ok-target.ensures
-    ∙ ap (λ o. enters ks c.args.context.now.pid (stepped q f q.frames) (advanced f ∷ q.frames) k.target.now k.named (map tree_of xs) o)
+    (ap₂ (λ p x. enters ks c.args.context.now.pid p p.frames (record { target = x; named = k.named; by_catch = k.by_catch }) (map tree_of xs) c.find_function-number.result) (c.in_ok-push_frame.ensures ∙ ap (λ fr. with_frames q (fr ∷ q.frames)) c.advance.ensures) c.in_ok-target.ensures
+    ∙ ap (λ o. enters ks c.args.context.now.pid (stepped q f q.frames) (advanced f ∷ q.frames) (manner_in k) (map tree_of xs) o)
     (c.find_function-number.ensures.number ∙ ap₂ (λ m n. number_from 0 ks (mfa_from m n c.len.result)) c.text.ensures.text c.text-2.ensures.text ∙ ap (λ n. number_from 0 ks (mfa_from k.home.now k.name.now n)) count)))

@@ -1,11 +1,11 @@
-use Rattle.std.proofs.Common.{ap, sym, ◌∙◌, Some, true, false}
+use Rattle.std.proofs.Common.{ap, sym, ◌∙◌, Some}
 use Rattle.def_node.specs.Values.{built}
-use Rattle.def_node.specs.Process.{calls, spawns_with}
+use Rattle.def_node.specs.Process.{calls, catching, locally, remotely, spawns_with}
 use Rattle.tn_term.specs.Views.{tree_of}
 use Rattle.tn_script.specs.Views.{functions_of, step_of}
 use Rattle.tn_process.specs.Acting.{performs_in}
 use Rattle.tn_process.specs.Views.{frame_of, process_of}
-use Rattle.tn_process.proofs.Acts.{ended, done}
+use Rattle.tn_process.proofs.Acts.{done}
 use Rattle.tn_process.proofs.Building.{map_twice}
 use Rattle.tn_process.proofs.process.Process.perform.Goals as goal
 
@@ -25,7 +25,7 @@ returns-in-CallRemote g c =
     let f = frame_of c.args.frame in
     let a = c.in-CallRemote in
     done c.call.new.self _ _ _ c.call.ensures
-    (ap (λ ts. calls (functions_of c.args.context.now.functions.now) c.args.context.now.pid q f q.frames a.target true a.home a.name ts) (map_twice tree_of (built f.env) a.templates.terms.items)
+    (ap (λ ts. calls (functions_of c.args.context.now.functions.now) c.args.context.now.pid q f q.frames (remotely a.target) a.home a.name ts) (map_twice tree_of (built f.env) a.templates.terms.items)
     ∙ sym (ap (λ s. performs_in c.args.context.now c.args.self.now c.args.function.now c.args.frame (Some (step_of s))) a.is))
 
 pub returns-in-CallLocal : goal.returns-in-CallLocal
@@ -34,7 +34,16 @@ returns-in-CallLocal g c =
     let f = frame_of c.args.frame in
     let a = c.in-CallLocal in
     done c.call-in-CallLocal.new.self _ _ _ c.call-in-CallLocal.ensures
-    (ap (λ ts. calls (functions_of c.args.context.now.functions.now) c.args.context.now.pid q f q.frames a.target false c.args.function.now.module a.name ts) (map_twice tree_of (built f.env) a.templates.terms.items)
+    (ap (λ ts. calls (functions_of c.args.context.now.functions.now) c.args.context.now.pid q f q.frames (locally a.target) c.args.function.now.module a.name ts) (map_twice tree_of (built f.env) a.templates.terms.items)
+    ∙ sym (ap (λ s. performs_in c.args.context.now c.args.self.now c.args.function.now c.args.frame (Some (step_of s))) a.is))
+
+pub returns-in-Catch : goal.returns-in-Catch
+returns-in-Catch g c =
+    let q = process_of c.args.self.now in
+    let f = frame_of c.args.frame in
+    let a = c.in-Catch in
+    done c.call-in-Catch.new.self _ _ _ c.call-in-Catch.ensures
+    (ap (λ ts. calls (functions_of c.args.context.now.functions.now) c.args.context.now.pid q f q.frames (catching a.target) a.home a.name ts) (map_twice tree_of (built f.env) a.templates.terms.items)
     ∙ sym (ap (λ s. performs_in c.args.context.now c.args.self.now c.args.function.now c.args.frame (Some (step_of s))) a.is))
 
 pub returns-in-Spawn : goal.returns-in-Spawn
@@ -61,7 +70,7 @@ returns-in-Return g c =
     done c.give_back.new.self _ _ _ c.give_back.ensures
     (sym (ap (λ s. performs_in c.args.context.now c.args.self.now c.args.function.now c.args.frame (Some (step_of s))) c.in-Return.is))
 
-pub returns-in-Exit : goal.returns-in-Exit
-returns-in-Exit g c =
-    ended c.args.self.now _ _ _ c.exit.ensures
-    (sym (ap (λ s. performs_in c.args.context.now c.args.self.now c.args.function.now c.args.frame (Some (step_of s))) c.in-Exit.is))
+pub returns-in-Raise : goal.returns-in-Raise
+returns-in-Raise g c =
+    done c.raise.new.self _ _ _ c.raise.ensures
+    (sym (ap (λ s. performs_in c.args.context.now c.args.self.now c.args.function.now c.args.frame (Some (step_of s))) c.in-Raise.is))

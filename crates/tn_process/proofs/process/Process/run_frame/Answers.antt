@@ -1,4 +1,4 @@
-use Rattle.std.proofs.Common.{◌≡◌, ap, sym, ◌∙◌, Some, None, slice_get, map}
+use Rattle.std.proofs.Common.{◌≡◌, ap, sym, ◌∙◌, Some, None, slice_get, map, arith}
 use Rattle.def_term.specs.Tree.{Tree}
 use Rattle.def_node.specs.Process.{performs, leaves}
 use Rattle.tn_script.specs.Views.{functions_of, function_of, step_of}
@@ -28,3 +28,6 @@ returns-in-Some g c =
     ap (λ xs. slice_get (map step_of xs) f.place) (sym c.deref.ensures.value) ∙ seen_at step_of c.deref.result.now f.place step c.in-Some.ensures.lookup.3.0 c.in-Some.ensures.lookup.1 in
     done c.perform.new.self _ _ _ c.perform.ensures
     (sym (ap (performs (functions_of c.args.context.now.functions.now) c.args.context.now.pid c.args.context.now.child q k f q.frames) at))
+
+pub perform-requires : goal.perform-requires
+perform-requires g c = omega (arith, c.in-Some.ensures.lookup.3.0, c.deref.ensures.len, c.args.function.now.steps.small)

@@ -1,25 +1,8 @@
-use Rattle.std.proofs.Common.{◌∙◌, ◌-◌, ◌==◌, ◌<◌, ◌≤◌, ◌≡◌, length, get_or, reverse, sym, ap, arith}
-use Rattle.std.specs.List.{list_any}
-use Rattle.tn_session.proofs.Marking.{marks_there, none_there}
+use Rattle.std.proofs.Common.{◌∙◌, ap}
+use Rattle.std.specs.Option.{is_some}
+use Rattle.tn_session.specs.Views.{kind_seen}
+use Rattle.tn_session.proofs.Marking.{is_some_of_map}
 use Rattle.tn_session.proofs.state.State.is_marked.Goals as goal
 
-pub returns-in-Some : goal.returns-in-Some
-returns-in-Some g c =
-    let ms = c.args.self.now.marks.items in
-    let place = c.place_of.result in
-    let m = c.in-Some.marks.now in
-    let same = ap length c.deref.ensures.value in
-    let within = c.in-Some.ensures.lookup.3.0 in
-    let below : place < length ms = omega (arith, same, within) in
-    let is : m ≡ get_or ms place m = c.in-Some.ensures.lookup.1 ∙ ap (λ xs. get_or xs place m) c.deref.ensures.value in
-    c.has_mark.ensures ∙ ap (λ xs. list_any (λ d. d == c.args.depth) (reverse xs)) c.deref-in-Some.ensures.value
-    ∙ ap (list_any (λ d. d == c.args.depth)) (marks_there ms place (c.args.pid - 100) m below is c.place_of.ensures)
-
-pub returns-in-None : goal.returns-in-None
-returns-in-None g c =
-    let ms = c.args.self.now.marks.items in
-    let place = c.place_of.result in
-    let same = ap length c.deref.ensures.value in
-    let without = c.in-None.ensures.lookup.3 in
-    let past : length ms ≤ place = omega (arith, same, without) in
-    sym (ap (list_any (λ d. d == c.args.depth)) (none_there ms place (c.args.pid - 100) past c.place_of.ensures))
+pub returns : goal.returns
+returns g c = c.is_some.ensures ∙ is_some_of_map kind_seen c.mark_of.result ∙ ap is_some c.mark_of.ensures

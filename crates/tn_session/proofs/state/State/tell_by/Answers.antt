@@ -1,5 +1,5 @@
 use Rattle.std.proofs.Common.{◌∙◌, map, sym, ap}
-use Rattle.def_session.specs.Session.{all_affected, marks_frame}
+use Rattle.def_session.specs.Session.{all_affected, mark_asked}
 use Rattle.tn_machine.specs.Lent.{effect_seen}
 use Rattle.tn_flags.specs.Views.{event_of}
 use Rattle.tn_session.specs.Views.{state_seen}
@@ -12,4 +12,4 @@ returns-clause-told g c =
     effects_case (state_seen c.args.self.now) (state_seen c.affect_all.new.self) (state_seen c.finish.new.self) (event_of c.args.event.now) es _ _
     c.process_of.ensures (c.affect_all.ensures.state ∙ ap (λ xs. all_affected c.process_of.result (state_seen c.args.self.now) (map effect_seen xs)) c.deref.ensures.value)
     c.message_after-message.ensures
-    (c.in_ok-finish.ensures.state es (sym (c.marks_frame-marks.ensures ∙ ap (λ xs. marks_frame (map effect_seen xs)) c.deref-2.ensures.value)))
+    (c.in_ok-finish.ensures.state es (sym (c.mark_for-mark.ensures ∙ ap (λ xs. mark_asked (map effect_seen xs)) c.deref-2.ensures.value)))

@@ -1,5 +1,5 @@
-use Rattle.std.proofs.Common.{◌≤◌, ◌<◌, ◌-◌, [], length, reverse, refl, ap, arith}
-use Rattle.tn_session.specs.Views.{state_seen}
+use Rattle.std.proofs.Common.{◌≤◌, ◌<◌, ◌-◌, [], length, refl, ap, arith}
+use Rattle.tn_session.specs.Views.{newest_first, state_seen}
 use Rattle.tn_session.proofs.Marking.{changed_at, unchanged_past}
 use Rattle.tn_session.proofs.state.State.unmark_all.Goals as goal
 
@@ -11,7 +11,7 @@ returns-then-place-len-clause-state g c =
     let below : c.place_of-place.result < length marks.items = omega (arith, whole, c.len.ensures, c.if-place-len.true) in
     ap (λ ms. record (state_seen s) { marks = ms })
     (changed_at (λ _. []) marks.items c.place_of-place.result (c.args.pid - 100) c.index_mut.result.now c.clear.new.self below c.index_mut.ensures.value c.place_of-place.ensures
-    (ap reverse c.clear.ensures.items))
+    (ap newest_first c.clear.ensures.items))
 
 pub returns-else-place-len-clause-state : goal.returns-else-place-len-clause-state
 returns-else-place-len-clause-state g c =

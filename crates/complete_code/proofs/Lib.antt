@@ -1,0 +1,3 @@
+pub mod Alike
+pub mod Questions
+pub mod Runs

@@ -1,0 +1,23 @@
+// The texts of reasons.
+ghost use Rattle.std.specs.Prelude.{◌≡◌, OnOk};
+ghost use Rattle.tn_reason.specs.Views.{reason_seen};
+
+use std::alloc::{AllocError, Allocator};
+use tn_reason::Reason;
+
+/// `tn_trial::put_reason` has one answer but for what stands there after refused memory: that is a part of it.
+pub fn put_reason<A: Allocator, C: Allocator + Copy, B: Allocator>(
+    alloc: C,
+    reason: Reason<'_, A>,
+    again: Reason<'_, A>,
+    one: &mut Vec<u8, B>,
+    other: &mut Vec<u8, B>,
+) -> (Result<(), AllocError>, Result<(), AllocError>)
+    requires reasons { reason_seen reason ≡ reason_seen again }
+    requires texts { one.old.items ≡ other.old.items }
+    ensures { OnOk result.0 (OnOk result.1 (one.new.items ≡ other.new.items)) }
+{
+    let first = tn_trial::put_reason(alloc, reason, one);
+    let second = tn_trial::put_reason(alloc, again, other);
+    (first, second)
+}

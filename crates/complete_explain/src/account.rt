@@ -1,0 +1,31 @@
+// The account of a run.
+ghost use Rattle.std.specs.Prelude.{◌≡◌, OnOk, OnErr};
+
+use std::alloc::{AllocError, Allocator};
+use tn_account::{Asked, put_account};
+use tn_program::Program;
+
+/// What is explained: a program's run by these picks, and what is asked of it.
+#[derive(Clone, Copy)]
+pub struct Explained<'a, A: Allocator> {
+    pub program: &'a Program<A>,
+    pub picks: &'a [u32],
+    pub asked: Asked<'a>,
+}
+
+/// `tn_account::put_account` leaves one text, and after a refusal the text that was there.
+pub fn text<A: Allocator + Copy>(
+    alloc: A,
+    of: Explained<'_, A>,
+    first: &mut Vec<u8, A>,
+    second: &mut Vec<u8, A>,
+) -> (Result<(), AllocError>, Result<(), AllocError>)
+    requires { first.old.items ≡ second.old.items }
+    ensures ok { OnOk result.0 (OnOk result.1 (first.new.items ≡ second.new.items)) }
+    ensures err { OnErr result.0 (OnErr result.1 (first.new.items ≡ second.new.items)) }
+{
+    (
+        put_account(alloc, of.program, of.picks, &of.asked, first),
+        put_account(alloc, of.program, of.picks, &of.asked, second),
+    )
+}

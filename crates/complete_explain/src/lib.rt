@@ -1,0 +1,10 @@
+//! The contracts of tn_lines and tn_account, and those of tn_explain on places, are complete. Each function
+//! calls one of theirs twice on equal values. It knows no more than the contract, so its proof shows that
+//! the contract leaves one answer.
+//!
+//! Depends on the three crates. Promises nothing to other crates.
+#![tactic(auto)]
+
+mod account;
+mod lines;
+mod places;

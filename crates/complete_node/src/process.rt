@@ -1,0 +1,128 @@
+// A process, as the node sees it.
+ghost use Rattle.std.specs.Prelude.{◌≡◌, ◌≤◌, IfOk};
+ghost use Rattle.tn_term.specs.Views.{tree_of};
+ghost use Rattle.tn_script.specs.Views.{entry_of, functions_of};
+ghost use Rattle.tn_process.specs.Views.{process_of, act_of};
+
+use std::alloc::{AllocError, Allocator};
+use tn_process::{Act, Process};
+use tn_script::{Entry, Function};
+use tn_term::Term;
+
+/// `tn_process::Process::new` has one answer.
+pub fn new<A: Allocator + Copy>(
+    alloc: A,
+    one: Entry<A>,
+    other: Entry<A>,
+) -> (Process<A>, Process<A>)
+    requires { entry_of one ≡ entry_of other }
+    ensures { process_of result.0 ≡ process_of result.1 }
+{
+    (Process::new(alloc, one), Process::new(alloc, other))
+}
+
+/// `tn_process::Process::is_linked` has one answer.
+pub fn is_linked<A: Allocator + Copy>(
+    one: &Process<A>,
+    other: &Process<A>,
+    pid: u32,
+) -> (bool, bool)
+    requires { process_of one.now ≡ process_of other.now }
+    ensures { result.0 ≡ result.1 }
+{
+    (one.is_linked(pid), other.is_linked(pid))
+}
+
+/// `tn_process::Process::links` has one answer.
+pub fn links<'a, A: Allocator + Copy>(
+    one: &'a Process<A>,
+    other: &'a Process<A>,
+) -> (&'a [bool; 64], &'a [bool; 64])
+    requires { process_of one.now ≡ process_of other.now }
+    ensures { result.0.now ≡ result.1.now }
+{
+    (one.links(), other.links())
+}
+
+/// `tn_process::Process::set_link` has one answer.
+pub fn set_link<A: Allocator + Copy>(
+    one: &mut Process<A>,
+    other: &mut Process<A>,
+    pid: u32,
+    linked: bool,
+)
+    requires alike { process_of one.old ≡ process_of other.old }
+    requires low { 100 ≤ pid }
+    requires high { pid ≤ 163 }
+    ensures { process_of one.new ≡ process_of other.new }
+{
+    one.set_link(pid, linked);
+    other.set_link(pid, linked);
+}
+
+/// `tn_process::Process::put_message` has one answer.
+pub fn put_message<A: Allocator + Copy>(
+    one: &mut Process<A>,
+    other: &mut Process<A>,
+    message: Term<A>,
+    same_message: Term<A>,
+) -> (Result<(), AllocError>, Result<(), AllocError>)
+    requires alike { process_of one.old ≡ process_of other.old }
+    requires messages { tree_of message ≡ tree_of same_message }
+    ensures { IfOk result.0 (λ _. IfOk result.1 (λ _. process_of one.new ≡ process_of other.new)) }
+{
+    let first = one.put_message(message);
+    let second = other.put_message(same_message);
+    (first, second)
+}
+
+/// `tn_process::Process::put_signal` has one answer.
+pub fn put_signal<A: Allocator + Copy>(
+    one: &mut Process<A>,
+    other: &mut Process<A>,
+    reason: Term<A>,
+    same_reason: Term<A>,
+)
+    requires alike { process_of one.old ≡ process_of other.old }
+    requires reasons { tree_of reason ≡ tree_of same_reason }
+    ensures { process_of one.new ≡ process_of other.new }
+{
+    one.put_signal(reason);
+    other.put_signal(same_reason);
+}
+
+/// `tn_process::Process::part` has one answer.
+pub fn part<A: Allocator + Copy>(
+    one: &mut Process<A>,
+    other: &mut Process<A>,
+    alloc: A,
+    pid: u32,
+    reason: &Term<A>,
+) -> (Result<(), AllocError>, Result<(), AllocError>)
+    requires alike { process_of one.old ≡ process_of other.old }
+    requires low { 100 ≤ pid }
+    requires high { pid ≤ 163 }
+    ensures { IfOk result.0 (λ _. IfOk result.1 (λ _. process_of one.new ≡ process_of other.new)) }
+{
+    let first = one.part(alloc, pid, reason);
+    let second = other.part(alloc, pid, reason);
+    (first, second)
+}
+
+/// `tn_process::Process::act` has one answer. It includes the process afterwards, and of one that exits its
+/// links alone.
+pub fn act<A: Allocator + Copy>(
+    one: &mut Process<A>,
+    other: &mut Process<A>,
+    alloc: A,
+    functions: &[Function<A>],
+    pid: u32,
+    child: Option<u32>,
+) -> (Result<Act<A>, AllocError>, Result<Act<A>, AllocError>)
+    requires { process_of one.old ≡ process_of other.old }
+    ensures { IfOk result.0 (λ a. IfOk result.1 (λ b. act_of one.new a ≡ act_of other.new b)) }
+{
+    let first = one.act(alloc, functions, pid, child);
+    let second = other.act(alloc, functions, pid, child);
+    (first, second)
+}

@@ -1,0 +1,4 @@
+pub mod Both
+pub mod SameSteps
+pub mod SameSlots
+pub mod SameTranscripts

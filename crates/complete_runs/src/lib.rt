@@ -1,0 +1,16 @@
+//! The contracts of tn_trace and tn_listing are complete. Each function calls one of theirs twice on equal
+//! values. It knows no more than the contract, so its proof shows that the contract leaves one answer.
+//!
+//! Depends on tn_trace and tn_listing, on the laws of def_run, and on complete_scripts for when two answers agree.
+#![tactic(auto)]
+
+mod functions;
+mod kept;
+mod line;
+mod listing;
+mod output;
+mod picks;
+mod recording;
+mod sessions;
+mod slot;
+mod transcript;

@@ -1,0 +1,44 @@
+// The output of a program.
+ghost use Rattle.std.specs.Prelude.{◌≡◌, IfOk};
+ghost use Rattle.tn_program.specs.Views.{program_of};
+
+use std::alloc::{AllocError, Allocator};
+use tn_program::Program;
+
+/// `tn_listing::replay` has one answer.
+pub fn replay<A: Allocator + Copy>(
+    alloc: A,
+    one: &Program<A>,
+    other: &Program<A>,
+    picks: &[u32],
+    same_picks: &[u32],
+) -> (
+    Result<Vec<u8, A>, AllocError>,
+    Result<Vec<u8, A>, AllocError>,
+)
+    requires programs { program_of one.now ≡ program_of other.now }
+    requires picks { picks.now ≡ same_picks.now }
+    ensures { IfOk result.0 (λ v. IfOk result.1 (λ w. v.items ≡ w.items)) }
+{
+    let first = tn_listing::replay(alloc, one, picks);
+    let second = tn_listing::replay(alloc, other, same_picks);
+    (first, second)
+}
+
+/// `tn_listing::round` has one answer.
+pub fn round<A: Allocator + Copy>(
+    alloc: A,
+    one: &Program<A>,
+    other: &Program<A>,
+    limit: u32,
+) -> (
+    Result<Vec<u8, A>, AllocError>,
+    Result<Vec<u8, A>, AllocError>,
+)
+    requires { program_of one.now ≡ program_of other.now }
+    ensures { IfOk result.0 (λ v. IfOk result.1 (λ w. v.items ≡ w.items)) }
+{
+    let first = tn_listing::round(alloc, one, limit);
+    let second = tn_listing::round(alloc, other, limit);
+    (first, second)
+}

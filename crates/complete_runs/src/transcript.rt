@@ -1,0 +1,89 @@
+// The transcript of a run.
+ghost use Rattle.std.specs.Prelude.{◌≡◌, ℕ, List, IfOk};
+ghost use Rattle.std.specs.Option.{option_map};
+ghost use Rattle.def_script.specs.Program as program;
+ghost use Rattle.tn_program.specs.Views.{program_of};
+ghost use Rattle.tn_trace.specs.Transcripts.{IsTranscript};
+ghost use Rattle.complete_runs.specs.Alike.{AreOfRun};
+
+use std::alloc::{AllocError, Allocator};
+use tn_program::Program;
+use tn_trace::Transcript;
+
+/// `tn_trace::Transcript::of_picks` has one answer.
+pub fn of_picks<A: Allocator + Copy>(
+    alloc: A,
+    one: &Program<A>,
+    other: &Program<A>,
+    picks: &[u32],
+    same_picks: &[u32],
+) -> (
+    Result<Transcript<A>, AllocError>,
+    Result<Transcript<A>, AllocError>,
+)
+    requires programs { program_of one.now ≡ program_of other.now }
+    requires picks { picks.now ≡ same_picks.now }
+    ensures { IfOk result.0 (λ t. IfOk result.1 (λ u. AreOfRun (program_of one.now) t u)) }
+{
+    let first = Transcript::of_picks(alloc, one, picks);
+    let second = Transcript::of_picks(alloc, other, same_picks);
+    (first, second)
+}
+
+/// `tn_trace::Transcript::of_round` has one answer.
+pub fn of_round<A: Allocator + Copy>(
+    alloc: A,
+    one: &Program<A>,
+    other: &Program<A>,
+    limit: u32,
+) -> (
+    Result<Transcript<A>, AllocError>,
+    Result<Transcript<A>, AllocError>,
+)
+    requires { program_of one.now ≡ program_of other.now }
+    ensures { IfOk result.0 (λ t. IfOk result.1 (λ u. AreOfRun (program_of one.now) t u)) }
+{
+    let first = Transcript::of_round(alloc, one, limit);
+    let second = Transcript::of_round(alloc, other, limit);
+    (first, second)
+}
+
+/// `tn_trace::Transcript::lines` has one answer.
+pub fn lines<'a, A: Allocator + Copy>(
+    one: &'a Transcript<A>,
+    other: &'a Transcript<A>,
+    place: usize,
+) -> (Option<&'a [u8]>, Option<&'a [u8]>)
+    ghost at: { program.Program × List ℕ }
+    requires first { IsTranscript at.0 at.1 one.now }
+    requires second { IsTranscript at.0 at.1 other.now }
+    ensures { option_map (λ v. v.now) result.0 ≡ option_map (λ v. v.now) result.1 }
+{
+    (one.lines(place), other.lines(place))
+}
+
+/// `tn_trace::Transcript::replies` has one answer.
+pub fn replies<'a, A: Allocator + Copy>(
+    one: &'a Transcript<A>,
+    other: &'a Transcript<A>,
+) -> (&'a [u8], &'a [u8])
+    ghost at: { program.Program × List ℕ }
+    requires first { IsTranscript at.0 at.1 one.now }
+    requires second { IsTranscript at.0 at.1 other.now }
+    ensures { result.0.now ≡ result.1.now }
+{
+    (one.replies(), other.replies())
+}
+
+/// `tn_trace::Transcript::journal` has one answer.
+pub fn journal<'a, A: Allocator + Copy>(
+    one: &'a Transcript<A>,
+    other: &'a Transcript<A>,
+) -> (&'a [u32], &'a [u32])
+    ghost at: { program.Program × List ℕ }
+    requires first { IsTranscript at.0 at.1 one.now }
+    requires second { IsTranscript at.0 at.1 other.now }
+    ensures { result.0.now ≡ result.1.now }
+{
+    (one.journal(), other.journal())
+}

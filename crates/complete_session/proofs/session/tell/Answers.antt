@@ -1,0 +1,11 @@
+use Rattle.std.proofs.Common.{IfOk, subst, sym}
+use Rattle.tn_flags.specs.Views.{event_of}
+use Rattle.tn_session.specs.Sessions.{Says}
+use Rattle.complete_session.proofs.Same.{same_message}
+use Rattle.complete_session.proofs.session.tell.Goals as goal
+
+pub returns-clause-message : goal.returns-clause-message
+returns-clause-message g c =
+    let P = c.requires.1 in
+    same_message _ _ g.at.0 g.at.1 (event_of c.args.event.now) _ _ (c.tell-first.ensures.told g.at.0 g.at.1 P.0)
+    (subst (λ e. IfOk c.tell-second.result (λ m. Says g.at.0 g.at.1 e c.tell-second.new.self m)) (sym P.1.1) (c.tell-second.ensures.told g.at.0 g.at.1 P.1.0))

@@ -1,0 +1,107 @@
+// What is seen of a session between two steps.
+ghost use Rattle.std.specs.Prelude.{◌≡◌};
+ghost use Rattle.std.specs.Option.{option_map};
+ghost use Rattle.tn_term.specs.Views.{alive_of};
+ghost use Rattle.tn_flags.specs.Views.{call_of, flags_of};
+ghost use Rattle.tn_session.specs.Looks.{look_seen, lent_seen, newest_seen};
+ghost use Rattle.tn_session.specs.Views.{kind_seen};
+
+use std::alloc::Allocator;
+use tn_flags::{Call, Flags};
+use tn_index::Setting;
+use tn_session::{Kind, Look, Newest};
+use tn_spec::Spec;
+use tn_term::Alive;
+
+/// `tn_session::Look::is_live` has one answer.
+pub fn is_live<A: Allocator + Copy>(one: &Look<'_, A>, other: &Look<'_, A>) -> (bool, bool)
+    requires { look_seen one.now ≡ look_seen other.now }
+    ensures { result.0 ≡ result.1 }
+{
+    (one.is_live(), other.is_live())
+}
+
+/// `tn_session::Look::alive` has one answer.
+pub fn alive<'a, A: Allocator + Copy>(
+    one: &Look<'a, A>,
+    other: &Look<'a, A>,
+) -> (&'a Alive, &'a Alive)
+    requires { look_seen one.now ≡ look_seen other.now }
+    ensures { alive_of result.0.now ≡ alive_of result.1.now }
+{
+    (one.alive(), other.alive())
+}
+
+/// `tn_session::Look::flags_at` has one answer.
+pub fn flags_at<A: Allocator + Copy>(
+    one: &Look<'_, A>,
+    other: &Look<'_, A>,
+    pid: u32,
+) -> (Flags, Flags)
+    requires { look_seen one.now ≡ look_seen other.now }
+    ensures { flags_of result.0 ≡ flags_of result.1 }
+{
+    (one.flags_at(pid), other.flags_at(pid))
+}
+
+/// `tn_session::Look::is_marked` has one answer.
+pub fn is_marked<A: Allocator + Copy>(
+    one: &Look<'_, A>,
+    other: &Look<'_, A>,
+    pid: u32,
+    depth: usize,
+) -> (bool, bool)
+    requires { look_seen one.now ≡ look_seen other.now }
+    ensures { result.0 ≡ result.1 }
+{
+    (one.is_marked(pid, depth), other.is_marked(pid, depth))
+}
+
+/// `tn_session::Look::mark_of` has one answer.
+pub fn mark_of<A: Allocator + Copy>(
+    one: &Look<'_, A>,
+    other: &Look<'_, A>,
+    pid: u32,
+    depth: usize,
+) -> (Option<Kind>, Option<Kind>)
+    requires { look_seen one.now ≡ look_seen other.now }
+    ensures { option_map kind_seen result.0 ≡ option_map kind_seen result.1 }
+{
+    (one.mark_of(pid, depth), other.mark_of(pid, depth))
+}
+
+/// `tn_session::Look::sending` has one answer.
+pub fn sending<'a, A: Allocator + Copy>(
+    one: &Look<'a, A>,
+    other: &Look<'a, A>,
+) -> (Setting<&'a Spec<A>>, Setting<&'a Spec<A>>)
+    requires { look_seen one.now ≡ look_seen other.now }
+    ensures { lent_seen result.0 ≡ lent_seen result.1 }
+{
+    (one.sending(), other.sending())
+}
+
+/// `tn_session::Look::receiving` has one answer.
+pub fn receiving<'a, A: Allocator + Copy>(
+    one: &Look<'a, A>,
+    other: &Look<'a, A>,
+) -> (Setting<&'a Spec<A>>, Setting<&'a Spec<A>>)
+    requires { look_seen one.now ≡ look_seen other.now }
+    ensures { lent_seen result.0 ≡ lent_seen result.1 }
+{
+    (one.receiving(), other.receiving())
+}
+
+/// `tn_session::Look::newest` has one answer.
+pub fn newest<'a, A: Allocator + Copy>(
+    one: &Look<'a, A>,
+    other: &Look<'a, A>,
+    call: &Call<A>,
+    same_call: &Call<A>,
+) -> (Option<Newest<'a, A>>, Option<Newest<'a, A>>)
+    requires looks { look_seen one.now ≡ look_seen other.now }
+    requires calls { call_of call.now ≡ call_of same_call.now }
+    ensures { option_map newest_seen result.0 ≡ option_map newest_seen result.1 }
+{
+    (one.newest(call), other.newest(same_call))
+}

@@ -1,0 +1,50 @@
+// The settings of functions.
+ghost use Rattle.std.specs.Prelude.{◌≡◌, OnOk, OnErr};
+ghost use Rattle.std.specs.Option.{option_map};
+ghost use Rattle.tn_term.specs.Views.{mfa_seen};
+
+use std::alloc::{AllocError, Allocator};
+use tn_index::{Covering, Settings};
+use tn_term::Mfa;
+
+/// `tn_index::Settings::new` has one answer.
+pub fn new<S: Drop, A: Allocator + Copy>(alloc: A) -> (Settings<S, A>, Settings<S, A>)
+    ensures { result.0 ≡ result.1 }
+{
+    (Settings::new(alloc), Settings::new(alloc))
+}
+
+/// `tn_index::Settings::set` has one answer, whatever functions are given.
+pub fn set<S: Drop, A: Allocator + Copy>(
+    one: &mut Settings<S, A>,
+    other: &mut Settings<S, A>,
+    functions: &[(Mfa<A>, bool)],
+    others: &[(Mfa<A>, bool)],
+    covering: Covering<S, A>,
+    again: Covering<S, A>,
+) -> (Result<(), AllocError>, Result<(), AllocError>)
+    requires settings { one.old ≡ other.old }
+    requires commands { covering ≡ again }
+    ensures ok { OnOk result.0 (OnOk result.1 (one.new ≡ other.new)) }
+    ensures one_err { OnErr result.0 (one.new ≡ one.old) }
+    ensures other_err { OnErr result.1 (other.new ≡ other.old) }
+{
+    let first = one.set(functions, covering);
+    let second = other.set(others, again);
+    (first, second)
+}
+
+/// `tn_index::Settings::get` has one answer.
+pub fn get<'s, S: Drop, A: Allocator + Copy>(
+    one: &'s Settings<S, A>,
+    other: &'s Settings<S, A>,
+    function: &Mfa<A>,
+    again: &Mfa<A>,
+    exported: bool,
+) -> (Option<&'s Covering<S, A>>, Option<&'s Covering<S, A>>)
+    requires settings { one.now ≡ other.now }
+    requires functions { mfa_seen function.now ≡ mfa_seen again.now }
+    ensures { option_map (λ k. k.now) result.0 ≡ option_map (λ k. k.now) result.1 }
+{
+    (one.get(function, exported), other.get(again, exported))
+}

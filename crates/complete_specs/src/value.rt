@@ -1,0 +1,118 @@
+// Values, and the atoms that evaluation makes.
+ghost use Rattle.std.specs.Prelude.{◌≡◌, IfOk};
+ghost use Rattle.std.specs.Option.{option_map};
+ghost use Rattle.tn_term.specs.Views.{tree_of};
+ghost use Rattle.tn_guard.specs.Views.{parts_seen, value_seen, word_seen};
+
+use std::alloc::{AllocError, Allocator};
+use tn_guard::{Parts, Value, Word};
+use tn_term::Term;
+
+/// `tn_guard::Word::text` has one answer.
+pub fn text(one: Word, other: Word) -> (&'static str, &'static str)
+    requires { word_seen one ≡ word_seen other }
+    ensures { result.0.now ≡ result.1.now }
+{
+    (one.text(), other.text())
+}
+
+/// `tn_guard::Value::truth` has one answer.
+pub fn truth<'a, A: Allocator>(holds: bool) -> (Value<'a, A>, Value<'a, A>)
+    ensures { value_seen result.0 ≡ value_seen result.1 }
+{
+    (Value::truth(holds), Value::truth(holds))
+}
+
+/// `tn_guard::Value::integer` has one answer.
+pub fn integer<'a, A: Allocator>(
+    number: Option<i64>,
+) -> (Option<Value<'a, A>>, Option<Value<'a, A>>)
+    ensures { option_map value_seen result.0 ≡ option_map value_seen result.1 }
+{
+    (Value::integer(number), Value::integer(number))
+}
+
+/// `tn_guard::Value::is_true` has one answer.
+pub fn is_true<'a, A: Allocator>(one: Value<'a, A>, other: Value<'a, A>) -> (bool, bool)
+    requires { value_seen one ≡ value_seen other }
+    ensures { result.0 ≡ result.1 }
+{
+    (one.is_true(), other.is_true())
+}
+
+/// `tn_guard::Value::same` has one answer.
+pub fn same<'a, 'b, A: Allocator, B: Allocator>(
+    one: Value<'a, A>,
+    other: Value<'a, A>,
+    value: Value<'b, B>,
+) -> (bool, bool)
+    requires { value_seen one ≡ value_seen other }
+    ensures { result.0 ≡ result.1 }
+{
+    (one.same(value), other.same(value))
+}
+
+/// `tn_guard::Value::is_term` has one answer.
+pub fn is_term<'a, A: Allocator, B: Allocator>(
+    one: Value<'a, A>,
+    other: Value<'a, A>,
+    term: &Term<B>,
+) -> (bool, bool)
+    requires { value_seen one ≡ value_seen other }
+    ensures { result.0 ≡ result.1 }
+{
+    (one.is_term(term), other.is_term(term))
+}
+
+/// `tn_guard::Value::atom_text` has one answer.
+pub fn atom_text<'a, A: Allocator>(
+    one: Value<'a, A>,
+    other: Value<'a, A>,
+) -> (Option<&'a str>, Option<&'a str>)
+    requires { value_seen one ≡ value_seen other }
+    ensures { option_map (λ s. s.now) result.0 ≡ option_map (λ s. s.now) result.1 }
+{
+    (one.atom_text(), other.atom_text())
+}
+
+/// `tn_guard::Value::pid` has one answer.
+pub fn pid<'a, A: Allocator>(one: Value<'a, A>, other: Value<'a, A>) -> (Option<u32>, Option<u32>)
+    requires { value_seen one ≡ value_seen other }
+    ensures { result.0 ≡ result.1 }
+{
+    (one.pid(), other.pid())
+}
+
+/// `tn_guard::Value::tuple_parts` has one answer.
+pub fn tuple_parts<'a, A: Allocator>(
+    one: Value<'a, A>,
+    other: Value<'a, A>,
+) -> (Option<Parts<'a, A>>, Option<Parts<'a, A>>)
+    requires { value_seen one ≡ value_seen other }
+    ensures { option_map parts_seen result.0 ≡ option_map parts_seen result.1 }
+{
+    (one.tuple_parts(), other.tuple_parts())
+}
+
+/// `tn_guard::Value::list_parts` has one answer.
+pub fn list_parts<'a, A: Allocator>(
+    one: Value<'a, A>,
+    other: Value<'a, A>,
+) -> (Option<Parts<'a, A>>, Option<Parts<'a, A>>)
+    requires { value_seen one ≡ value_seen other }
+    ensures { option_map parts_seen result.0 ≡ option_map parts_seen result.1 }
+{
+    (one.list_parts(), other.list_parts())
+}
+
+/// `tn_guard::Value::copy_into` has one answer.
+pub fn copy_into<'a, A: Allocator, B: Allocator + Copy>(
+    one: Value<'a, A>,
+    other: Value<'a, A>,
+    alloc: B,
+) -> (Result<Term<B>, AllocError>, Result<Term<B>, AllocError>)
+    requires { value_seen one ≡ value_seen other }
+    ensures { IfOk result.0 (λ t. IfOk result.1 (λ u. tree_of t ≡ tree_of u)) }
+{
+    (one.copy_into(alloc), other.copy_into(alloc))
+}

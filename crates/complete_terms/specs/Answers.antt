@@ -1,0 +1,22 @@
+-- Two answers of a reader of texts that are seen alike. Where one of them is refused memory nothing is said.
+use Rattle.std.specs.Prelude.{◌≡◌, Result, Ok, Err}
+use Rattle.tn_text.specs.declared.fault.TextFault.{TextFault}
+use Rattle.tn_text.specs.declared.fault.TextFault.TheVariants.{OutOfMemory}
+
+-- the fault is refused memory
+abbrev pub IsRefusedMemory : TextFault → Type 0
+IsRefusedMemory OutOfMemory = Unit {0}
+IsRefusedMemory _ = ⊥
+
+-- the same fault with the same place
+abbrev pub FaultsAlike : TextFault → TextFault → Type 0
+FaultsAlike OutOfMemory g = Unit {0}
+FaultsAlike f OutOfMemory = Unit {0}
+FaultsAlike f g = f ≡ g
+
+-- the same value, by this view, or the same fault
+abbrev pub Alike : {X V : Type 0} → (X → V) → Result X TextFault → Result X TextFault → Type 0
+Alike view (Ok x) (Ok y) = view x ≡ view y
+Alike view (Ok x) (Err g) = IsRefusedMemory g
+Alike view (Err f) (Ok y) = IsRefusedMemory f
+Alike view (Err f) (Err g) = FaultsAlike f g

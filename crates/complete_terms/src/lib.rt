@@ -1,0 +1,17 @@
+//! The contracts of tn_term, tn_flags and tn_text are complete. Each function calls one of theirs twice
+//! on equal values. It knows no more than the contract, so its proof shows that the contract leaves one
+//! answer.
+//!
+//! Depends on the three crates, and on the laws of def_text, by which a text spells one term or has one
+//! refusal. Promises nothing to other crates.
+#![tactic(auto)]
+
+mod alive;
+mod atom;
+mod command;
+mod flags;
+mod mfa;
+mod reader;
+mod term;
+mod watched;
+mod write;
