@@ -168,7 +168,8 @@ determined bytes = record {
   refused = listed_isnt_refused bytes;
   once = one_place bytes;
   short = λ vs p. p.short;
-  short_too = place_is_short bytes }
+  short_too = place_is_short bytes;
+}
 
 answer_by : {A : Type 0} (bytes : List ℕ) (r : Result (Vec Token A) TextFault) → IsListed bytes r → IsAnswerBy bytes (λ v. v.items) (Listed bytes) (refused_at bytes) r
 answer_by bytes (Ok v) p = p

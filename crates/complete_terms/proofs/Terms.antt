@@ -19,7 +19,8 @@ term_determined bytes = record {
   refused = refused bytes;
   once = once bytes;
   short = λ x s. s.short;
-  short_too = λ kind at r. r.short }
+  short_too = λ kind at r. r.short;
+}
 
 refusal_by : (bytes : List ℕ) (f : TextFault) → IsRefusal bytes f → IsRefusalBy bytes (Refused bytes) f
 refusal_by bytes TooLong p = p
@@ -42,7 +43,8 @@ script_determined bytes = record {
   refused = script_refused bytes;
   once = script_once bytes;
   short = λ x s. s.short;
-  short_too = λ kind at r. r.short }
+  short_too = λ kind at r. r.short;
+}
 
 script_refusal_by : (bytes : List ℕ) (f : TextFault) → IsScriptRefusal bytes f → IsRefusalBy bytes (ScriptRefused bytes) f
 script_refusal_by bytes TooLong p = p

@@ -9,7 +9,10 @@ use tn_term::Atom;
 pub fn new<A: Allocator + Copy>(
     alloc: A,
     text: &str,
-) -> (Result<Option<Atom<A>>, AllocError>, Result<Option<Atom<A>>, AllocError>)
+) -> (
+    Result<Option<Atom<A>>, AllocError>,
+    Result<Option<Atom<A>>, AllocError>,
+)
     ensures { IfOk result.0 (λ one. IfOk result.1 (λ other. one ≡ other)) }
 {
     (Atom::new(alloc, text), Atom::new(alloc, text))

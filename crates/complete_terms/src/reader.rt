@@ -11,7 +11,10 @@ use tn_text::{TextFault, Token, read_term, read_terms, tokens};
 pub fn all_tokens<A: Allocator + Copy>(
     alloc: A,
     bytes: &[u8],
-) -> (Result<Vec<Token, A>, TextFault>, Result<Vec<Token, A>, TextFault>)
+) -> (
+    Result<Vec<Token, A>, TextFault>,
+    Result<Vec<Token, A>, TextFault>,
+)
     ensures { Alike (λ v. v.items) result.0 result.1 }
 {
     (tokens(alloc, bytes), tokens(alloc, bytes))
@@ -33,7 +36,10 @@ pub fn one_term<A: Allocator + Copy>(
 pub fn all_terms<A: Allocator + Copy>(
     alloc: A,
     bytes: &[u8],
-) -> (Result<Vec<Term<A>, A>, TextFault>, Result<Vec<Term<A>, A>, TextFault>)
+) -> (
+    Result<Vec<Term<A>, A>, TextFault>,
+    Result<Vec<Term<A>, A>, TextFault>,
+)
     ensures { Alike (λ v. map tree_of v.items) result.0 result.1 }
 {
     let first = read_terms(alloc, bytes);

@@ -25,7 +25,10 @@ pub fn copy_into<A: Allocator, B: Allocator + Copy>(
 pub fn copies<A: Allocator, B: Allocator + Copy>(
     items: &[Term<A>],
     alloc: B,
-) -> (Result<Vec<Term<B>, B>, AllocError>, Result<Vec<Term<B>, B>, AllocError>)
+) -> (
+    Result<Vec<Term<B>, B>, AllocError>,
+    Result<Vec<Term<B>, B>, AllocError>,
+)
     ensures { IfOk result.0 (λ x. IfOk result.1 (λ y. map tree_of x.items ≡ map tree_of y.items)) }
 {
     let first = copy_terms(items, alloc);

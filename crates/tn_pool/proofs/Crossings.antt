@@ -3,7 +3,8 @@ use denote.RattleType.{RattleType}
 use mir.Syntax.{Sym}
 use denote.Struct.Declared.{fields, shape}
 use denote.Struct.Tuple.{TupleAt, type_at}
-use denote.Param.Send.{IsSend, IsSync, AllSync, Frees, recorded_sync, struct_sync, sendable}
+use denote.Ref.{NamedLft}
+use denote.Param.Send.{IsSend, IsSync, AllSend, AllSync, Frees, recorded_send, recorded_sync, struct_send, struct_sync, sendable}
 use Rattle.std.proofs.Common.{List}
 use Rattle.std.specs.declared.alloc.Allocator.{Ghosts}
 use Rattle.std.specs.declared.cmp.PartialEq as equality
@@ -81,6 +82,15 @@ use Rattle.tn_code.proofs.instr.OnFault.TheSendSync as on_fault_sent
 use Rattle.tn_live.specs.contracts.record.Record as record_
 use Rattle.tn_live.specs.contracts.book.Book as book
 use Rattle.tn_live.specs.contracts.live.Live as live
+use Rattle.tn_live.specs.contracts.entry.Receipt as receipt
+use Rattle.tn_live.specs.contracts.record.Seen as seen
+use Rattle.tn_live.specs.contracts.seat.Seat as seat
+use Rattle.tn_pool.proofs.token.Token.TheSendSync as token_sent
+use Rattle.tn_pool.proofs.report.PoolFault.TheSendSync as pool_fault_sent
+use Rattle.tn_pool.specs.contracts.worker.Worker as worker
+use Rattle.tn_pool.specs.contracts.turns.TurnEnd as turn_end
+use Rattle.atomic_blocks.proofs.web.Web.TheSendSync as web_sent
+use Rattle.atomic_blocks.proofs.web.Seat.TheSendSync as view_sent
 
 module _ (T : RattleType) (g : Ghosts T.Denot) (s : IsSend T) (f : Frees g g.dealloc_token) where
   atom_send : IsSend (atom.the_row T g)
@@ -330,6 +340,12 @@ module _ (T : RattleType) (g : Ghosts T.Denot) (s : IsSend T) (f : Frees g g.dea
   line_field_send : IsSend (line.the_field T g).row
   line_field_send = search (sendable, crosses, item_send, item_field_send, line_send) depth 40 fits 3000 parts 0
 
+  receipt_send : IsSend (receipt.the_row T g)
+  receipt_send = search (sendable, crosses, item_send, item_field_send) depth 40 fits 3000 parts 0
+
+  receipt_field_send : IsSend (receipt.the_field T g).row
+  receipt_field_send = search (sendable, crosses, item_send, item_field_send, receipt_send) depth 40 fits 3000 parts 0
+
   module _ (J : RattleType) (n : naming.Ghosts J.Denot) (js : IsSend J) where
     record_send : IsSend (record_.the_row T J g n)
     record_send = search (sendable, crosses, core_send, core_field_send, head_sent.the_send, front_sent.the_send, place_sent.the_send, place_sent.the_field_send, entry_sent.the_send, entry_sent.the_field_send) depth 40 fits 3000 parts 0
@@ -342,6 +358,21 @@ module _ (T : RattleType) (g : Ghosts T.Denot) (s : IsSend T) (f : Frees g g.dea
 
     book_field_send : IsSend (book.the_field T J g n).row
     book_field_send = search (sendable, crosses, record_send, record_field_send, book_send) depth 40 fits 3000 parts 0
+
+    seen_send : IsSend (seen.the_row T J g n)
+    seen_send = search (sendable, crosses, front_sent.the_send, entry_sent.the_send, entry_sent.the_field_send) depth 40 fits 3000 parts 0
+
+    seen_field_send : IsSend (seen.the_field T J g n).row
+    seen_field_send = search (sendable, crosses, front_sent.the_send, entry_sent.the_send, entry_sent.the_field_send, seen_send) depth 40 fits 3000 parts 0
+
+    seat_send : IsSend (seat.the_row T J g n)
+    seat_send = search (sendable, crosses, seen_send, seen_field_send) depth 40 fits 3000 parts 0
+
+    seat_field_send : IsSend (seat.the_field T J g n).row
+    seat_field_send = search (sendable, crosses, seen_send, seen_field_send, seat_send) depth 40 fits 3000 parts 0
+
+    pub worker_send : IsSend (worker.the_row T J g n)
+    worker_send = search (sendable, crosses, seat_send, seat_field_send, receipt_send, receipt_field_send, token_sent.the_send, pool_fault_sent.the_send, pool_fault_sent.the_field_send) depth 40 fits 3000 parts 0
 
     pub live_sync : IsSync (live.the_row T J g n)
     live_sync = search (sendable, crosses, heap.crosses, book_send, book_field_send) depth 40 fits 3000 parts 0
@@ -383,6 +414,14 @@ module _ (T : RattleType) (g : Ghosts T.Denot) (s : IsSend T) (f : Frees g g.dea
 
 pub board_in_heap : IsSync (board.the_row Heap.the_row ghosts)
 board_in_heap = board_sync Heap.the_row ghosts heap.send heap.frees heap.sync
+
+-- a worker's end of the run queue
+pub turn_end_send : (k : NamedLft) → IsSend (turn_end.the_row k Heap.the_row ghosts)
+turn_end_send k = search (sendable, heap.crosses, heap.send, heap.sync, token_sent.the_send, web_sent.the_sync, view_sent.the_send) depth 40 fits 3000 parts 0
+
+-- what a tuple has, each of which may cross
+pub tuple_send : (name : Sym) (types : List RattleType) → AllSend (fields (type_at name types)) → IsSend (TupleAt name types)
+tuple_send name types each = recorded_send _ _ _ (type_at name types).to_one (struct_send (shape (type_at name types)) each)
 
 -- what a closure captures, each of which threads may share
 pub captured_sync : (name : Sym) (types : List RattleType) → AllSync (fields (type_at name types)) → IsSync (TupleAt name types)

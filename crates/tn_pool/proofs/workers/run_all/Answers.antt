@@ -1,4 +1,4 @@
-use denote.Param.Send.{sendable, IsSync, AllSync, param_sync, arg_sync}
+use denote.Param.Send.{sendable, IsSend, IsSync, AllSync, param_send, param_sync, arg_send, arg_sync}
 use denote.Param.{param}
 use denote.RattleType.{RattleType}
 use denote.Ref.{NamedLft}
@@ -9,11 +9,13 @@ use Rattle.std.specs.contracts.alloc.Global as Heap
 use Rattle.std.specs.contracts.impls.GlobalAllocator.TheImpl.{ghosts}
 use Rattle.tn_pool.specs.contracts.board.Board as board
 use Rattle.tn_live.specs.contracts.live.Live as live
+use Rattle.tn_pool.specs.contracts.worker.Worker as worker
+use Rattle.tn_pool.specs.contracts.turns.TurnEnd as turn_end
 use Rattle.std.proofs.Common.{rules, List, [], ◌∷◌}
 use Rattle.std.proofs.Crossing as heap
 use Rattle.tn_pool.specs.Earnings.{WorksFew}
 use Rattle.tn_pool.proofs.Reported.{at_place}
-use Rattle.tn_pool.proofs.Crossings.{live_sync, live_field_sync, board_in_heap, captured_sync}
+use Rattle.tn_pool.proofs.Crossings.{live_sync, live_field_sync, board_in_heap, captured_sync, worker_send, turn_end_send, tuple_send}
 use Rattle.tn_pool.proofs.workers.run_all.Goals as goal
 
 pub returns-clause-each : goal.returns-clause-each
@@ -21,6 +23,17 @@ returns-clause-each g c = λ i d lt.
     let k = (c.for_each_mut.ensures i d lt).1 in
     let w : WorksFew g.J.Naming.program c.args.turns k.argument.now.1 k.after_call.now.1 = search rules in
     at_place _ _ _ _ i d _ _ k.argument_is k.left w
+
+-- a worker and its end of the run queue may cross to a thread of their own
+pub for_each_mut-requires-send-T : goal.for_each_mut-requires-send-T
+for_each_mut-requires-send-T g c κs within =
+    let types : NamedLft → List RattleType =
+    λ k. turn_end.the_row k Heap.the_row ghosts ∷ worker.the_row Heap.the_row (param 0 g.row.J) ghosts g.J.Naming ∷ [] in
+    let worker_sent : IsSend (worker.the_row Heap.the_row (param 0 g.row.J) ghosts g.J.Naming) =
+    search (sendable, heap.crosses, heap.send, worker_send) depth 40 fits 3000 parts 0 in
+    let member : (name : Sym) (k : NamedLft) → IsSend (TupleAt name (types k)) =
+    λ name k. tuple_send name (types k) (turn_end_send k, (worker_sent, tt)) in
+    search (param_send, arg_send, member) depth 40 fits 3000 parts 0
 
 -- the lock, the board, the gate and the runtime are for all threads
 pub for_each_mut-requires-sync-F : goal.for_each_mut-requires-sync-F

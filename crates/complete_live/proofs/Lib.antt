@@ -1,0 +1,4 @@
+pub mod SameStarts
+pub mod SameTurns
+pub mod SameCloses
+pub mod SameListings

@@ -1,0 +1,6 @@
+pub mod SameBoards
+pub mod SameReceipts
+pub mod SameTurns
+pub mod SameEnds
+pub mod OneRun
+pub mod SameRuns

@@ -1,0 +1,4 @@
+pub mod Receipts
+pub mod Turns
+pub mod Ends
+pub mod Runs

@@ -1,0 +1,23 @@
+// The program of a text.
+ghost use Rattle.std.specs.Prelude.{◌≡◌};
+ghost use Rattle.tn_program.specs.Views.{program_of};
+ghost use Rattle.complete_scripts.specs.Agreement.{Agree, answer_of};
+ghost use Rattle.complete_workers.specs.Runs.{denial_seen};
+
+use std::alloc::Allocator;
+use tn_program::Program;
+use tn_run::Denial;
+
+/// `tn_run::accept` has one answer.
+pub fn accept<A: Allocator + Copy>(
+    alloc: A,
+    one: &[u8],
+    other: &[u8],
+) -> (Result<Program<A>, Denial>, Result<Program<A>, Denial>)
+    requires { one.now ≡ other.now }
+    ensures { let told = answer_of program_of denial_seen in Agree (told result.0) (told result.1) }
+{
+    let first = tn_run::accept(alloc, one);
+    let second = tn_run::accept(alloc, other);
+    (first, second)
+}

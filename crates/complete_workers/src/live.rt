@@ -1,0 +1,43 @@
+// A run by workers.
+ghost use Rattle.std.specs.Prelude.{◌≡◌, IfOk, OnOk};
+ghost use Rattle.tn_text.specs.Watch.{has_failed, is_flushed};
+ghost use Rattle.tn_run.specs.Workers.{IsWorkerCount};
+ghost use Rattle.complete_workers.specs.Ends.{EndAlike, SeenAlike, TellAlike, Tells};
+ghost use Rattle.complete_workers.specs.Runs.{AreOfOneText, MeetNoLiveWriteFault, RunAlike};
+
+use std::alloc::Global;
+use std::io::{Read, Write};
+use std::marker::Sync;
+use std::sync::Wait;
+use std::thread::Threads;
+use tn_pool::Gate;
+use tn_run::{LiveFault, Ran, Workers};
+use tn_text::Watched;
+
+/// `tn_run::run_live` has one answer where the readers tell their bytes, but for which picks move, which end
+/// fails, and when: there is one outcome, and what is written goes by the picks. The allocator comes with the
+/// workers.
+pub fn run_live<R: Read, W: Write, T: Threads + Wait + Sync, G: Gate>(
+    rt: &T,
+    by: (Global, &Workers<'_, G>),
+    one: &mut Watched<R>,
+    other: &mut Watched<R>,
+    out: &mut Watched<W>,
+    same_out: &mut Watched<W>,
+) -> (Result<Ran, LiveFault>, Result<Ran, LiveFault>)
+    requires count { IsWorkerCount by.1.now.count }
+    requires told { TellAlike R.remaining one.old other.old }
+    requires failed { has_failed one.old ≡ has_failed other.old }
+    requires outs { SeenAlike W.contents out.old same_out.old }
+    ensures outcome { Tells R.remaining one.old → IfOk result.0 (λ r. IfOk result.1 (AreOfOneText r)) }
+    ensures written { Tells R.remaining one.old → RunAlike W.contents out.old out.new same_out.new result.0 result.1 }
+    ensures left { Tells R.remaining one.old → OnOk result.0 (OnOk result.1 (TellAlike R.remaining one.new other.new)) }
+    ensures reader { MeetNoLiveWriteFault result.0 result.1 → has_failed one.new ≡ has_failed other.new }
+    ensures writer { EndAlike result.0 result.1 → has_failed out.new ≡ has_failed same_out.new }
+    ensures flushed { MeetNoLiveWriteFault result.0 result.1 → is_flushed out.new ≡ is_flushed same_out.new }
+{
+    let (alloc, workers) = by;
+    let first = tn_run::run_live(rt, alloc, one, out, workers);
+    let second = tn_run::run_live(rt, alloc, other, same_out, workers);
+    (first, second)
+}
