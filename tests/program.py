@@ -1,8 +1,8 @@
 #!/usr/bin/env python3
 """Runs the built program as its users start it, and says how many cases passed.
 
-The program is crates/tn_cli/out/tn_cli, and crates/tn_plain/out/tn_plain is the one without clap; the gate
-proves and builds both. tests/rows has one folder for each worked run: the script (stdin), the command line,
+The program is crates/tn_cli/out/tn_cli, crates/tn_plain/out/tn_plain is the one without clap, and
+crates/probe_memory/out/probe_memory calls the layers below them; the gate proves and builds all three. tests/rows has one folder for each worked run: the script (stdin), the command line,
 a word a line (args), the output (stdout) and the exit status, where it isn't 0 (status). The last line is
 'N passed, M failed'.
 """
@@ -19,7 +19,9 @@ import tempfile
 
 import accounts
 import contracts
+import layers
 import readings
+import scripts
 import values
 from refusals import REFUSALS
 from trials import TRIALS, of_depth, of_faults, of_heads, of_length
@@ -27,6 +29,7 @@ from trials import TRIALS, of_depth, of_faults, of_heads, of_length
 TOP = pathlib.Path(__file__).resolve().parent.parent
 PROGRAM = TOP / "crates" / "tn_cli" / "out" / "tn_cli"
 PLAIN = TOP / "crates" / "tn_plain" / "out" / "tn_plain"
+PROBE = TOP / "crates" / "probe_memory" / "out" / "probe_memory"
 START = TOP / "tracenode"
 ROWS = TOP / "tests" / "rows"
 EXAMPLES = TOP / "examples"
@@ -231,6 +234,7 @@ def blocks(lines):
     return [[line[4:] for line in block.splitlines()] for block in re.findall(r"(?:^    .*\n)+", "\n".join(lines) + "\n", re.M)]
 
 
+EXPLAIN_ALL = ["explain", "--picks", "0 0 100 100"]
 EVERY_LINE = ["--picks", " ".join(["0"] * 8 + ["100"] * 19 + ["101"] * 2)]
 NO_SESSION = b"error: the script creates no session s9\n"
 NO_MOVE = b"error: the run has no move 30\n"
@@ -595,11 +599,12 @@ def memory():
     wants("want of memory", ran, 3, b"", b"fault memory\n")
 
 
-def refused_growth(library, number, words, script):
+def refused_growth(library, number, words, script, program=PROGRAM):
     """A run in which the growth with this number is refused, and whether there was one."""
     reader, writer = os.pipe()
     places = dict(os.environ, LD_PRELOAD=str(library), REFUSED_GROWTH=str(number))
-    ran = run(words, script, env=places, preexec_fn=lambda: os.dup2(writer, 9), close_fds=False)
+    how = {"env": places, "preexec_fn": lambda: os.dup2(writer, 9), "close_fds": False}
+    ran = run(words, script, command=(str(program),), **how)
     os.close(writer)
     is_refused = os.read(reader, 100) != b""
     os.close(reader)
@@ -618,18 +623,6 @@ def preloaded(name, folder):
     return library
 
 
-# Worked runs whose sessions set specifications, inherit flags, enable one another and are destroyed, and one that fails.
-GROWING = (
-    "guard-fault-skips-clause",
-    "caller-of-each-call",
-    "nothing-after-destroy",
-    "set-on-first-spawn",
-    "enable-on-another-pid",
-    "two-sessions",
-    "caught-error",
-)
-
-
 def growing():
     """Command lines and scripts that take memory in every way."""
     numbers = (EXAMPLES / "numbers.term").read_bytes()
@@ -639,7 +632,7 @@ def growing():
         yield words, numbers
     for words in (["workers", "--n", "1"], ["replay", *EVERY_LINE]):
         yield words, every
-    for name in GROWING:
+    for name in layers.NAMES:
         yield (ROWS / name / "args").read_text().removesuffix("\n").split("\n"), (ROWS / name / "stdin").read_bytes()
 
 
@@ -660,15 +653,122 @@ def growths():
             check(f"each growth of {words}, {number} of them", good, ran)
 
 
+def refusals_of(library, words, script, allowed):
+    """What is refused in each run, with each growth of memory refused in turn; what isn't allowed fails the case."""
+    found = []
+    for number in range(100_000):
+        ran, is_refused = refused_growth(library, number, words, script, PROBE)
+        if (ran.returncode, ran.stdout, ran.stderr) == (3, b"", b"fault memory\n"):
+            found.append("before the call")
+            continue
+        name = allowed.get(ran.stdout.decode())
+        if name is None or ran.returncode or ran.stderr:
+            check(f"growth {number} of {words}", False, ran)
+        if not is_refused:
+            check(f"{words} where nothing is refused", name == layers.WHOLE, ran)
+            return found
+        found.append(name)
+    check(f"{words} ends", False, len(found))
+    return found
+
+
+def calls():
+    """Each growth of memory refused in turn, over the calls of the layers: each answers as it may."""
+    check("the program that calls the layers", PROBE.exists(), PROBE)
+    found = {call: set() for call in layers.REFUSED}
+    with tempfile.TemporaryDirectory() as folder:
+        library = preloaded("refusing_growth", folder) if PROBE.exists() else None
+        for words, script, allowed in layers.cases() if library else ():
+            refused = refusals_of(library, words, script, allowed)
+            check(f"each growth of {words}, {len(refused)} of them", len(refused) > 10, refused)
+            found[words[0]].update(refused)
+    for call, names in layers.REFUSED.items():
+        check(f"what is refused in {call}", names <= found[call], found[call])
+
+
 def fronts():
-    """Each front of a script: the line of a refusal, or an output where it ends behind a form's full stop."""
-    for end in range(len(SEND_HI)):
-        front = SEND_HI[:end]
-        is_whole = front.rstrip().endswith(b"}.") or not front
-        ran = run(SEND_HI_PICKS, front)
-        first, rest = (b"== ", 0) if is_whole else (b"refused ", 1)
-        good = ran.stdout.startswith(first) and ran.stderr.count(b"\n") == rest and ran.returncode == 2 * rest
-        check(f"the first {end} bytes of a script", good, ran)
+    """Each front of three scripts: the line of its refusal, or its output where it is whole forms."""
+    for text in (SEND_HI, *scripts.TEXTS):
+        for end in range(len(text) + 1):
+            output = scripts.output_of(text[:end])
+            status = 2 if output.startswith("refused") else 0
+            wants(f"the first {end} bytes of {text[:40]}", run(["replay", "--picks", ""], text[:end]), status, output.encode())
+
+
+def readings_of_scripts():
+    """The independent reading of scripts answers as the worked runs do."""
+    for row in sorted(ROWS.iterdir()):
+        output, answer = (row / "stdout").read_text(), scripts.output_of((row / "stdin").read_bytes())
+        if not output.startswith("refused 20"):
+            is_refused = output.startswith("refused")
+            check(f"the reading of row {row.name}", answer == output if is_refused else answer.startswith("== "), answer)
+
+
+# Options that take a number; numbers that other languages spell, and where each goes on as no number does.
+NUMBERS = (
+    ["round", "--limit"],
+    ["workers", "--n"],
+    ["workers", "--n", "1", "--turns"],
+    [*EXPLAIN_ALL, "--move"],
+    ["spec", "--list", "[]", "--me"],
+)
+SPELLINGS = {"1_000": 1, "1e3": 1, "+1": 0, "0x1": 1, "16#ff": 2, "1.0": 1}
+
+
+def spec_words(name, text):
+    """The words of a trial one of whose texts is this one."""
+    texts = {"list": "[]", "caller": "{m,f,1}", "specification": "[{'_',[],[]}]", name: text}
+    return ["spec", "--list", texts["list"], "--caller", texts["caller"], texts["specification"]]
+
+
+def numbers():
+    """Numbers as other languages spell them, in each place of a number: as an option's value, a sign is one."""
+    for text in (*SPELLINGS, " 1"):
+        for words in NUMBERS:
+            ran = run([*words, text], SEND_HI if words[0] != "spec" else b"[{'_',[],[]}]")
+            good = ran.returncode == 0 if text == "+1" else ran.returncode == 2 and not ran.stdout and ran.stderr
+            check(f"{words[-1]} {text}", good, ran)
+        for picks in (text, f"0 {text}", f"{text} 0"):
+            wants(f"picks {picks}", run(["replay", "--picks", picks], SEND_HI), 2, b"refused 20 bad picks\n")
+        for pid in (f"<0.{text}.0>", f"<{text}.1.0>", f"<0.1.{text}>"):
+            wants(f"the pid {pid}", run(SEND_HI_PICKS, f"{{{pid}".encode()), 2, b"refused 2 token at 1\n")
+
+
+def numbers_in_terms():
+    """Such numbers as parts of terms: in forms, in lists, in callers and in specifications."""
+    forms = ("{function,m,f,exported,[],[{return,", "{process,m,f,[", "{control,[{session_create,")
+    texts = (("list", "["), ("caller", "{m,f,"), ("specification", "[{'_',[{'>',"))
+    for text, at in SPELLINGS.items():
+        for opening in forms:
+            line = f"refused 2 token at {len(opening) + at}\n".encode()
+            wants(f"{opening}{text}", run(SEND_HI_PICKS, f"{opening}{text}".encode()), 2, line)
+        for name, opening in texts:
+            told = f"{name}:1:{len(opening) + at + 1}: no term goes on so\n".encode()
+            wants(f"{name} {opening}{text}", run(spec_words(name, f"{opening}{text}")), 2, b"", told)
+
+
+def limits():
+    """Limits that differ by one: of a round, of workers and of their turns; and a core whose journal is full."""
+    listing, replies = "== session s1 tracer t1\n", "== replies\n{session,s1}\n"
+    for limit, journal in (("3", "== journal\n0 100 101\n"), ("4", "2\n== journal\n0 100 101 0\n")):
+        ran = run(["round", "--limit", limit], SEND_HI)
+        wants(f"a limit of {limit}", ran, 0, (listing + replies + journal).encode())
+    idle = "{function,m,f,exported,[],[]}.\n" + "{process,m,f,[]}.\n" * 5
+    script = (idle + "{control,[{session_create,s1,t1,[]}]}.").encode()
+    for turns, journal in (("5", "0 100 101 102 103 100 101 102 103 104 104"), ("6", "0 100 101 102 103 104 100 101 102 103 104")):
+        ran = run(["workers", "--n", "1", "--turns", turns], script)
+        wants(f"{turns} turns", ran, 0, f"{listing}{replies}== journal\n{journal}\n".encode())
+    commands = ",".join("{session_create,s%d,t%d,[]}" % (number, number) for number in range(7))
+    script = (idle + "{control,[%s]}." % commands).encode()
+    pids = list(range(100, 105))
+    for count in range(1, 6):
+        ran = run(["workers", "--n", str(count), "--turns", "1"], script)
+        journal = [int(pick) for pick in ran.stdout.decode().splitlines()[-1].split()]
+        behind = [0, *pids, 0, *pids[count - 1 :], 0, 0, 0, 0]
+        good = sorted(journal[:count]) == [0, *pids][:count] and journal[count:] == behind
+        check(f"{count} workers of one turn, and passes behind them", ran.returncode == 0 and good, ran)
+    words, script, lines = layers.full_journal()
+    wants("a core whose journal is full", run(words, script, command=(str(PROBE),)), 0, lines)
 
 
 def failing_ends():
@@ -686,6 +786,14 @@ def failing_ends():
                 told = b"fault 19 write after %d bytes" % count
                 good = ran.returncode == 3 and ran.stderr.startswith(told) and ran.stderr.count(b"\n") == 1
                 check(f"a write that {way} after {count} bytes", good and ran.stdout == SEND_HI_OUTPUT[:count], ran)
+        if library:
+            ran = run(["replay", "--picks", ""], env=dict(os.environ, LD_PRELOAD=str(library), WRITE_BYTES="5"))
+            good = ran.returncode == 3 and ran.stdout == b"== re" and ran.stderr.startswith(b"fault 19 write after 5 bytes")
+            check("an empty script's output after 5 bytes", good, ran)
+    for count in range(len(EMPTY) + 2):
+        written = min(count, len(EMPTY))
+        told = b"write failed after %d\n" % written + EMPTY[:written]
+        wants(f"a writer that takes {count} bytes, and a flush that fails", run(["full", "", str(count)], command=(str(PROBE),)), 0, told)
 
 
 def starts():
@@ -719,7 +827,7 @@ def main():
         print("0 passed, 1 failed")
         sys.exit(1)
     parts = (rows, plain, tries, files, documents, promises, examples, workers, explanations, trials, functions)
-    parts += (specifications, refusals, long_texts, passes, command_lines, ends, memory, growths, fronts, failing_ends, starts)
+    parts += (specifications, refusals, long_texts, passes, command_lines, ends, memory, growths, calls, fronts, readings_of_scripts, numbers, numbers_in_terms, limits, failing_ends, starts)
     for part in parts:
         try:
             part()

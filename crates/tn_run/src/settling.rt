@@ -30,6 +30,21 @@ fn idle_front<A: Allocator + Copy, J: Naming, R: Wait>(
     }
 }
 
+/// Takes a step of each process from this pid on, in order, whatever each comes to.
+fn take_from<A: Allocator + Copy, J: Naming, R: Wait>(
+    rt: &R,
+    live: &Live<A, J>,
+    seat: &mut Seat<A, J>,
+    first: u32,
+) -> Result<(), StepFault>
+    ensures full { IsErrOf result StepFault.LimitReached → length seat.new.seen ≡ JOURNAL }
+{
+    for pid in first..164u32 {
+        idle_front(rt, live, seat, pid)?;
+    }
+    Ok(())
+}
+
 /// Takes a step of each process, in order: whether all were idle after a journal of this length, which
 /// the seat has seen.
 fn processes_idle<A: Allocator + Copy, J: Naming, R: Wait>(
@@ -45,7 +60,10 @@ fn processes_idle<A: Allocator + Copy, J: Naming, R: Wait>(
     for pid in 100..164u32 {
         match idle_front(rt, live, seat, pid)? {
             Some(now) if now == front => {}
-            _ => return Ok(false),
+            _ => {
+                take_from(rt, live, seat, pid + 1)?;
+                return Ok(false);
+            }
         }
     }
     Ok(true)
@@ -61,6 +79,7 @@ fn still_front<A: Allocator + Copy, J: Naming, R: Wait>(
     ensures full { IsErrOf result StepFault.LimitReached → length seat.new.seen ≡ JOURNAL }
 {
     let Some(front) = idle_front(rt, live, seat, 0)? else {
+        take_from(rt, live, seat, 100)?;
         return Ok(None);
     };
     if processes_idle(rt, live, seat, front)? {

@@ -1,0 +1,104 @@
+//! Calls of the layers, as a library's user makes them, and what each of them answers, a line each.
+//!
+//! The first word names a call, the second spells picks; standard input is a script. For `execute` it is a
+//! specification, the third word a list and the fourth a dialect. The test runs this program with each growth
+//! of memory refused in turn, and holds the lines against the answers that are allowed. Where a growth of the
+//! program's own is refused, which is before the first call, it writes nothing and ends with the status of a
+//! fault. Stands on the layers from tn_text to tn_run, and on tn_command for the words. It promises nothing
+//! but safety.
+#![tactic(auto)]
+
+mod codes;
+mod cores;
+mod locks;
+mod runs;
+mod says;
+mod scripts;
+mod turns;
+mod workers;
+
+use crate::codes::execute_twice;
+use crate::cores::{step_to_the_limit, steps_of_a_core};
+use crate::locks::steps_by_two_seats;
+use crate::runs::{run_by_picks, run_by_workers, run_to_a_full_end};
+use crate::says::Buffer;
+use crate::scripts::Inputs;
+use crate::turns::give_turns;
+use crate::workers::run_one_worker;
+use std::process::ExitCode;
+use std::rt::Env;
+use std::sync::Wait;
+use std::thread::Threads;
+use tn_command::{REFUSED, arguments, report};
+use tn_listing::{PicksFault, read_picks};
+use tn_run::{RunFault, read_text};
+use tn_text::Watched;
+
+/// The word at a place; the empty one past the last.
+fn word(words: &[String], place: usize) -> &str {
+    match words.get(place) {
+        Some(word) => word.as_str(),
+        None => "",
+    }
+}
+
+/// Calls the layer that the first word names. Whether there is one of that name.
+fn call<R: Print + Threads + Wait + Sync + AllocGlobal>(
+    rt: &R,
+    name: &str,
+    inputs: &Inputs<'_>,
+    buffer: &mut Buffer,
+) -> bool {
+    match name {
+        "run" => run_by_picks(rt, inputs, buffer),
+        "full" => run_to_a_full_end(rt, inputs, buffer),
+        "core" => steps_of_a_core(rt, inputs, buffer),
+        "limit" => step_to_the_limit(rt, inputs, buffer),
+        "live" => steps_by_two_seats(rt, inputs),
+        "execute" => execute_twice(rt, inputs, buffer),
+        "give_turn" => give_turns(rt, inputs),
+        "run_live" => run_by_workers(rt, inputs, buffer),
+        "run_workers" => run_one_worker(rt, inputs),
+        _ => return false,
+    }
+    true
+}
+
+/// Reads what the layers are inputs, and calls the one that the words name: the exit status.
+fn start<R: Env + Input + Print + Eprint + Threads + Wait + Sync + AllocGlobal>(
+    rt: &R,
+) -> ExitCode {
+    let words = match arguments(rt) {
+        Ok(words) => words,
+        Err(status) => return status,
+    };
+    let Ok(text) = read_text(rt.alloc(), &mut Watched::of(rt.reader())) else {
+        return report(rt, Err(RunFault::OutOfMemory));
+    };
+    let picks = match read_picks(rt.alloc(), word(&words, 2).as_bytes()) {
+        Ok(picks) => picks,
+        Err(PicksFault::BadPicks) => return ExitCode::from(REFUSED),
+        Err(PicksFault::OutOfMemory) => return report(rt, Err(RunFault::OutOfMemory)),
+    };
+    let Ok(mut buffer) = Buffer::with_room(rt.alloc()) else {
+        return report(rt, Err(RunFault::OutOfMemory));
+    };
+    let inputs = Inputs {
+        alloc: rt.alloc(),
+        text: &text,
+        picks_text: word(&words, 2),
+        picks: &picks,
+        list: word(&words, 3),
+        dialect: word(&words, 4),
+    };
+    if call(rt, word(&words, 1), &inputs, &mut buffer) {
+        ExitCode::SUCCESS
+    } else {
+        ExitCode::from(REFUSED)
+    }
+}
+
+/// The program with the runtime of its process.
+fn main(rt: HostRuntime) -> ExitCode {
+    start(&rt)
+}

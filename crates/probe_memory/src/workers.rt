@@ -1,0 +1,74 @@
+// One worker over a script: its report, and the close of its lock.
+ghost use Rattle.std.specs.Prelude.{◌≡◌, []};
+ghost use Rattle.tn_trace.specs.Cores.{IsCore};
+
+use crate::locks::{LINES, say_close};
+use crate::runs::TURNS;
+use crate::says::{fault_name, say};
+use crate::scripts::{Inputs, program_or_say};
+use std::alloc::Global;
+use std::marker::{Brand, Send, Sync};
+use std::sync::Wait;
+use std::thread::Threads;
+use tn_live::{Live, Naming, Opened};
+use tn_pool::{Board, Open, PoolFault, Report, run_workers};
+use tn_trace::Core;
+
+/// Says the fault of a report.
+fn say_fault<R: Print>(rt: &R, fault: Option<PoolFault>) {
+    match fault {
+        None => say(rt, "fault none"),
+        Some(PoolFault::Memory) => say(rt, "fault memory"),
+        Some(PoolFault::Step(fault)) => {
+            let name = fault_name(fault);
+            let _ = println!(rt; "fault step {name}");
+        }
+    }
+}
+
+/// Says what a report has beside its seats: the receipts, the tokens and the fault.
+fn say_report<J: Naming, R: Print>(rt: &R, report: &Report<Global, J>) {
+    for receipt in &report.receipts {
+        let number = receipt.number;
+        let pick = receipt.pick;
+        let _ = println!(rt; "receipt {number} {pick}");
+    }
+    for token in &report.tokens {
+        let pick = token.pick();
+        let _ = println!(rt; "token {pick}");
+    }
+    say_fault(rt, report.fault);
+}
+
+/// One worker over a core: what it reports, and the close of the lock.
+fn report_of_one<J: Naming + Send + Sync, R: Print + Threads + Wait + Sync>(
+    rt: &R,
+    alloc: Global,
+    core: Core<Global>,
+    opened: Opened,
+)
+    requires core { IsCore J.program [] core }
+    requires named { opened ≡ J.log }
+{
+    let sessions = core.program().session_count();
+    let Ok(board) = Board::new(alloc, alloc, sessions, LINES) else {
+        return say(rt, "board out of memory");
+    };
+    let Ok((live, seats)) = Live::<Global, J>::begin(alloc, core, opened, 1) else {
+        return say(rt, "lock out of memory");
+    };
+    let report = run_workers(rt, &live, &board, seats, &Open, TURNS);
+    say_report(rt, &report);
+    say_close(rt, &live.close(rt, report.seats));
+}
+
+/// The same over the script.
+pub fn run_one_worker<R: Print + Threads + Wait + Sync>(rt: &R, inputs: &Inputs<'_>) {
+    let Some(program) = program_or_say(rt, inputs) else {
+        return;
+    };
+    match Core::new(inputs.alloc, program) {
+        Ok(core) => report_of_one::<Brand, R>(rt, inputs.alloc, core, Opened::new()),
+        Err(_) => say(rt, "core out of memory"),
+    }
+}
