@@ -1,11 +1,11 @@
 -- Worked rows: the accounts of small runs.
-use Rattle.std.proofs.Common.{◌≡◌, ℕ, [], ◌∷◌, Some, None, codes, refl}
+use Rattle.std.proofs.Common.{◌≡◌, [], ◌∷◌, Some, None, codes, refl}
 use Rattle.std.specs.Fmt.{digits}
 use Rattle.def_term.specs.Tree.{pid}
 use Rattle.def_term.specs.Names.{word}
 use Rattle.def_term.specs.Text.{is_written_bare}
-use Rattle.def_script.specs.Program.{error, Program, send, catch, link, give_back, raise}
-use Rattle.def_run.proofs.Samples.{number, braces, brackets, function, entry, call_named, spawns, program, creates, destroys, sets, mfa_of, sets_function, lines}
+use Rattle.def_script.specs.Program.{error, Program, send, catch, give_back, raise}
+use Rattle.def_run.proofs.Samples.{number, braces, brackets, function, entry, call_named, spawns, program, creates, sets, mfa_of, sets_function, lines}
 use Rattle.def_account.specs.Texts.{Asked, account_text}
 
 abbrev everything : Asked
@@ -85,3 +85,16 @@ pub why_an_exception_is_missing : account_text everything (program (function "go
     ∷ "10 100 <0.100.0> exit normal" ∷ "  s1: no flag procs" ∷ "  s1: <0.100.0> loses call" ∷ "  s2: no flag procs" ∷ "  s2: <0.100.0> loses call" ∷ [])
 unfolding is_written_bare digits
 why_an_exception_is_missing = refl
+
+-- the call that marks for exceptions clears `call`: it is told, the exception isn't, and the mark is gone all the same
+pub an_exception_without_its_flag : account_text everything (program (function "go" [] (catch (Some (codes "X")) (codes "m") (codes "f") [] ∷ give_back (word "X") ∷ []) ∷ function "f" [] (raise error (word "bad") ∷ []) ∷ []) (entry "go" [] ∷ [])
+    (creates "s1" "t1" ∷ sets "s1" (word "all") ("call" ∷ [])
+    ∷ sets_function "s1" (mfa_of "f" 0) (brackets (braces (word "_" ∷ brackets [] ∷ brackets (braces (word "exception_trace" ∷ []) ∷ braces (word "trace" ∷ brackets (word "call" ∷ []) ∷ brackets [] ∷ []) ∷ []) ∷ []) ∷ [])) [] ∷ [])) (0 ∷ 0 ∷ 0 ∷ 100 ∷ 100 ∷ 100 ∷ 100 ∷ [])
+    ≡ lines ("1 0 {session_create,s1,t1,[]}" ∷ "  s1: replies {session,s1}" ∷ "2 0 {process,s1,all,true,[call]}" ∷ "  s1: replies 1"
+    ∷ "3 0 {function,s1,{m,f,0},[{'_',[],[{exception_trace},{trace,[call],[]}]}],[]}" ∷ "  s1: replies 1"
+    ∷ "4 100 <0.100.0> call {m,go,[]}" ∷ "  s1: no setting for m:go/0"
+    ∷ "5 100 <0.100.0> call {m,f,[]}" ∷ "  s1: clause 1 fires: exception_trace, <0.100.0> loses call" ∷ "  s1: => {trace,<0.100.0>,call,{m,f,[]}}" ∷ "  s1: the call is marked for exceptions"
+    ∷ "6 100 <0.100.0> exception_from {m,f,0} {error,bad}" ∷ "  s1: no flag call" ∷ "  s1: the mark is gone"
+    ∷ "7 100 <0.100.0> return_from {m,go,0} {'EXIT',{bad,[]}}" ∷ "  s1: the call has no mark" ∷ "7 100 <0.100.0> exit normal" ∷ "  s1: no flag procs" ∷ [])
+unfolding is_written_bare digits
+an_exception_without_its_flag = refl

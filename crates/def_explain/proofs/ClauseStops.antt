@@ -1,10 +1,10 @@
 -- What is computed is the first term that is no clause.
-use Rattle.std.proofs.Common.{◌≡◌, ℕ, zero, suc, ◌+◌, Option, Some, None, Result, Ok, Err, refl, sym, ap, ◌∙◌, subst, add-zero, zero-add, arith}
-use Rattle.def_term.specs.Tree.{Tree, list, Trees, none, more}
+use Rattle.std.proofs.Common.{◌≡◌, ℕ, zero, suc, ◌+◌, Some, Ok, Err, refl, sym, ap, ◌∙◌, subst, add-zero, zero-add, arith}
+use Rattle.def_term.specs.Tree.{Trees, none, more}
 use Rattle.def_spec.specs.Expressions.{Dialect}
 use Rattle.def_spec.specs.Outcome.{Clause}
-use Rattle.def_spec.specs.Reading.{SpecFault, Reads, clause_of}
-use Rattle.def_explain.specs.Places.{StopsAtClause, this_or, stop_behind, stop_of}
+use Rattle.def_spec.specs.Reading.{Reads, clause_of}
+use Rattle.def_explain.specs.Places.{StopsAtClause, this_or, stop_behind}
 use Rattle.def_explain.specs.Laws.{StopIsComputed}
 
 module _ (d : Dialect) where

@@ -1,7 +1,7 @@
 -- What is computed is what becomes of a clause, and the outcome is that of the first that is said to fire.
-use Rattle.std.proofs.Common.{◌≡◌, ℕ, zero, inl, inr, List, [], ◌∷◌, Option, Some, None, unwrap_or, refl, sym, ap, ◌∙◌, subst}
+use Rattle.std.proofs.Common.{◌≡◌, zero, inl, inr, List, [], ◌∷◌, Option, Some, None, unwrap_or, refl, sym, ap, ◌∙◌, subst}
 use Rattle.def_spec.specs.Matching.{Bindings, bindings_of}
-use Rattle.def_spec.specs.Expressions.{Dialect, Context, Effect, effects_of_all}
+use Rattle.def_spec.specs.Expressions.{Dialect, Context, effects_of_all}
 use Rattle.def_spec.specs.Outcome.{Clause, Fires, matched, matched_term, IsOutcomeOf}
 use Rattle.def_spec.proofs.Binding.{bind-matches, matches-bind}
 use Rattle.def_spec.proofs.Outcomes.{outcome_is_unique}

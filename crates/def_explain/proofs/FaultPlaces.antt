@@ -1,13 +1,15 @@
 -- What is computed of an expression is the part at which it faults.
-use Rattle.std.proofs.Common.{◌≡◌, Bool, true, false, inl, inr, ◌⊎◌, List, Option, Some, None, refl, sym, ap, ◌∙◌, if◌then◌else◌}
+use Rattle.std.proofs.Common.{◌≡◌, Bool, true, false, inl, inr, ◌⊎◌, List, Option, Some, None, refl, sym, ap, ◌∙◌, subst, if◌then◌else◌}
 use Rattle.std.specs.Bool.{⊤}
 use Rattle.std.specs.Option.{option_and_then, option_map}
 use Rattle.def_term.specs.Tree.{Tree, tuple, list, of_elements}
 use Rattle.def_spec.specs.Matching.{Bindings, value_bound}
 use Rattle.def_spec.specs.Functions.{is_true, truth, apply}
-use Rattle.def_spec.specs.Expressions.{Dialect, Expr, bound_to, whole_list, all_bound, constant, tuple_of, list_of, call, and_also, or_else, perform, Exprs, no_exprs, and_expr, Context, in_condition, value, values, all_in_turn, one_in_turn, if_true, unless_true, before, value_part, action_done}
+use Rattle.def_spec.specs.Expressions.{Dialect, Expr, bound_to, whole_list, all_bound, constant, tuple_of, list_of, call, and_also, or_else, perform, Exprs, no_exprs, and_expr, Context, in_condition, value, values}
+use Rattle.def_spec.proofs.Conditions.{if_true, unless_true, while_true, until_true, of-bound, of-tuple, of-list, of-call, of-action, of-several, of-while, of-until}
+use Rattle.def_spec.proofs.Values.{before}
 use Rattle.def_explain.specs.Laws.{FaultWhereNoValue}
-use Rattle.def_explain.specs.Values.{HasTruth, HasOther, applied, performed, FaultsItself, FaultsAt, FaultsInOne, FaultsWhileTrue, FaultsUntilTrue, or_itself, or_behind, behind_true, behind_other, fault_in, fault_in_one, fault_while_true, fault_until_true}
+use Rattle.def_explain.specs.Values.{HasTruth, HasOther, applied, HaveValues, FaultsItself, FaultsAt, FaultsInOne, FaultsWhileTrue, FaultsUntilTrue, or_itself, or_behind, behind_true, behind_other, fault_in, fault_in_one, fault_while_true, fault_until_true}
 
 -- one of the two is there, and not both
 abbrev pub Tied : {X Y : Type 0} → Option X → Option Y → Type 0
@@ -52,6 +54,10 @@ tied-call g e None (Some x) t = tt
 tied-call g e (Some ts) None t = tied-itself e (g ts)
 tied-call g e (Some ts) (Some x) t = absurd t
 
+tied-action : (e : Expr) (x : Option Expr) → Tied {X = Tree} None (or_itself x e None)
+tied-action e None = tt
+tied-action e (Some x) = tt
+
 tied-before : (v : Option Tree) (vs : Option (List Tree)) (x y : Option Expr) → Tied v x → Tied vs y → Tied (before v vs) (or_behind x y)
 tied-before None vs None y s t = absurd s
 tied-before None vs (Some x) y s t = tt
@@ -84,28 +90,28 @@ tied-until (Some v) r None y s t = tied-unless (is_true v) r (truth true) y t
 module _ (d : Dialect) (b : Bindings) (c : Context) where
   mutual
     pub tied : (e : Expr) → Tied (value d in_condition b c e) (fault_in d b c e)
-    tied (bound_to n) = tied-itself (bound_to n) (value_bound b n)
+    tied (bound_to n) = subst (λ v. Tied v (fault_in d b c (bound_to n))) (sym (of-bound d b c n)) (tied-itself (bound_to n) (value_bound b n))
     tied whole_list = tt
     tied all_bound = tt
     tied (constant t) = tt
-    tied (tuple_of es) = tied-map (λ ts. tuple (of_elements ts)) _ _ (tied-one es)
-    tied (list_of es) = tied-map (λ ts. list (of_elements ts)) _ _ (tied-one es)
-    tied (call f es) = tied-call (λ ts. apply f ts c.me) (call f es) _ _ (tied-one es)
+    tied (tuple_of es) = subst (λ v. Tied v (fault_in_one d b c es)) (sym (of-tuple d b c es)) (tied-map (λ ts. tuple (of_elements ts)) _ _ (tied-one es))
+    tied (list_of es) = subst (λ v. Tied v (fault_in_one d b c es)) (sym (of-list d b c es)) (tied-map (λ ts. list (of_elements ts)) _ _ (tied-one es))
+    tied (call f es) = subst (λ v. Tied v (fault_in d b c (call f es))) (sym (of-call d b c f es)) (tied-call (λ ts. apply f ts c.me) (call f es) _ _ (tied-one es))
     tied (and_also es) = tied-all es
     tied (or_else es) = tied-some_true es
-    tied (perform a es) = tied-call (λ ts. value_part (action_done d a ts c)) (perform a es) _ _ (tied-one es)
+    tied (perform a es) = subst (λ v. Tied v (fault_in d b c (perform a es))) (sym (of-action d b c a es)) (tied-action (perform a es) (fault_in_one d b c es))
 
     tied-one : (es : Exprs) → Tied (values d in_condition b c es) (fault_in_one d b c es)
     tied-one no_exprs = tt
-    tied-one (and_expr e es) = tied-before _ _ _ _ (tied e) (tied-one es)
+    tied-one (and_expr e es) = subst (λ v. Tied v (fault_in_one d b c (and_expr e es))) (sym (of-several d b c e es)) (tied-before _ _ _ _ (tied e) (tied-one es))
 
-    tied-all : (es : Exprs) → Tied (all_in_turn d in_condition b c es) (fault_while_true d b c es)
+    tied-all : (es : Exprs) → Tied (while_true d b c es) (fault_while_true d b c es)
     tied-all no_exprs = tt
-    tied-all (and_expr e es) = tied-while _ _ _ _ (tied e) (tied-all es)
+    tied-all (and_expr e es) = subst (λ v. Tied v (fault_while_true d b c (and_expr e es))) (sym (of-while d b c e es)) (tied-while _ _ _ _ (tied e) (tied-all es))
 
-    tied-some_true : (es : Exprs) → Tied (one_in_turn d in_condition b c es) (fault_until_true d b c es)
+    tied-some_true : (es : Exprs) → Tied (until_true d b c es) (fault_until_true d b c es)
     tied-some_true no_exprs = tt
-    tied-some_true (and_expr e es) = tied-until _ _ _ _ (tied e) (tied-some_true es)
+    tied-some_true (and_expr e es) = subst (λ v. Tied v (fault_until_true d b c (and_expr e es))) (sym (of-until d b c e es)) (tied-until _ _ _ _ (tied e) (tied-some_true es))
 
   -- ---- what is computed is where it faults
 
@@ -142,6 +148,14 @@ module _ (d : Dialect) (b : Bindings) (c : Context) where
   call_sound es e x r f (inl h) = inl (f h)
   call_sound es e x r f (inr h) = inr (h.2, (tied-some _ _ (tied-one es) h.0, h.1))
 
+  action_sound : (es : Exprs) (e x : Expr) → FaultsInOne d b c es x ⊎ ((x ≡ e) × FaultsItself d b c es None) → FaultsInOne d b c es x ⊎ ((x ≡ e) × HaveValues d b c es)
+  action_sound es e x (inl h) = inl h
+  action_sound es e x (inr h) = inr (h.0, h.1.0)
+
+  action_complete : (es : Exprs) (e x : Expr) → FaultsInOne d b c es x ⊎ ((x ≡ e) × HaveValues d b c es) → FaultsInOne d b c es x ⊎ ((x ≡ e) × FaultsItself d b c es None)
+  action_complete es e x (inl h) = inl h
+  action_complete es e x (inr h) = inr (h.0, (h.1, refl))
+
   pick : {P Q V : Type 0} {f r : Option Expr} {x : Expr} → (f ≡ Some x → P) → (r ≡ Some x → Q) → (f ≡ None → V) → ((f ≡ Some x) ⊎ ((f ≡ None) × (r ≡ Some x))) → P ⊎ (V × Q)
   pick p q v (inl h) = inl (p h)
   pick p q v (inr h) = inr (v h.0, q h.1)
@@ -165,7 +179,7 @@ module _ (d : Dialect) (b : Bindings) (c : Context) where
     fault_sound (call f es) x h = call_sound es (call f es) x (applied d b c f es) (one_sound es x) (where_itself x (call f es) (fault_in_one d b c es) (applied d b c f es) h)
     fault_sound (and_also es) x h = while_sound es x h
     fault_sound (or_else es) x h = until_sound es x h
-    fault_sound (perform a es) x h = call_sound es (perform a es) x (performed d b c a es) (one_sound es x) (where_itself x (perform a es) (fault_in_one d b c es) (performed d b c a es) h)
+    fault_sound (perform a es) x h = action_sound es (perform a es) x (call_sound es (perform a es) x None (one_sound es x) (where_itself x (perform a es) (fault_in_one d b c es) None h))
 
     one_sound : (es : Exprs) (x : Expr) → fault_in_one d b c es ≡ Some x → FaultsInOne d b c es x
     one_sound no_exprs x h = absurd (cc h)
@@ -211,7 +225,7 @@ module _ (d : Dialect) (b : Bindings) (c : Context) where
     fault_complete (call f es) x h = call_complete es (call f es) x (applied d b c f es) (one_complete es x) h
     fault_complete (and_also es) x h = while_complete es x h
     fault_complete (or_else es) x h = until_complete es x h
-    fault_complete (perform a es) x h = call_complete es (perform a es) x (performed d b c a es) (one_complete es x) h
+    fault_complete (perform a es) x h = call_complete es (perform a es) x None (one_complete es x) (action_complete es (perform a es) x h)
 
     one_complete : (es : Exprs) (x : Expr) → FaultsInOne d b c es x → fault_in_one d b c es ≡ Some x
     one_complete no_exprs x h = absurd h

@@ -1,7 +1,7 @@
 -- Each name of a function or an action is read as it.
 use Rattle.std.proofs.Common.{refl}
 use Rattle.def_spec.specs.Functions as fn
-use Rattle.def_spec.specs.Expressions.{message, return_trace, exception_trace, silent, enable_trace, disable_trace, caller}
+use Rattle.def_spec.specs.Expressions.{message, return_trace, exception_trace, silent, enable_trace, disable_trace, trace, caller}
 use Rattle.def_explain.specs.Laws.{FunctionNameIsRead, ActionNameIsRead}
 
 pub function_name_is_read : FunctionNameIsRead
@@ -57,4 +57,5 @@ action_name_is_read exception_trace = refl
 action_name_is_read silent = refl
 action_name_is_read enable_trace = refl
 action_name_is_read disable_trace = refl
+action_name_is_read trace = refl
 action_name_is_read caller = refl

@@ -1,8 +1,9 @@
 -- Rows: why small clauses don't fire, and why small sessions tell nothing.
 use Rattle.std.proofs.Common.{◌≡◌, ℕ, true, false, List, [], ◌∷◌, Some, None, pos, codes, refl}
+use Rattle.std.specs.Prelude.{replicate}
 use Rattle.def_term.specs.Tree.{Tree, int, list, none}
 use Rattle.def_term.specs.Names.{Mfa, word}
-use Rattle.def_spec.specs.Flags.{Flags, only, joined, send_flag, call_flag, silent_flag}
+use Rattle.def_spec.specs.Flags.{Flags, no_flags, only, joined, send_flag, call_flag, silent_flag}
 use Rattle.def_spec.specs.Matching.{Pattern, variable, anything, only_term, in_list, no_patterns, and_pattern}
 use Rattle.def_spec.specs.Functions as fn
 use Rattle.def_spec.specs.Expressions.{for_calls, Expr, bound_to, constant, call, and_also, perform, message, Exprs, no_exprs, and_expr, Context}
@@ -21,7 +22,7 @@ abbrev number : ℕ → Tree
 number n = int (pos n)
 
 abbrev on : List Tree → Context
-on ts = record { matched_list = ts; me = 100; caller_mfa = None; alive = alive_at_start 1 }
+on ts = record { matched_list = ts; me = 100; caller_mfa = None; alive = alive_at_start 1; flags = replicate 64 no_flags }
 
 abbrev pair : Pattern → Pattern → Pattern
 pair p q = in_list (and_pattern p (and_pattern q no_patterns))

@@ -1,20 +1,20 @@
 -- Rows: the texts of small trials.
-use Rattle.std.proofs.Common.{◌≡◌, ℕ, true, List, [], ◌∷◌, ◌++◌, Some, None, pos, codes, refl}
+use Rattle.std.proofs.Common.{◌≡◌, [], ◌∷◌, None, pos, codes, refl}
 use Rattle.std.specs.Fmt.{digits}
 use Rattle.def_term.specs.Text.{is_written_bare}
-use Rattle.def_term.specs.Tree.{Tree, int, list, tuple, none, more}
-use Rattle.def_term.specs.Names.{Mfa, word}
+use Rattle.def_term.specs.Tree.{int, tuple, none, more}
+use Rattle.def_term.specs.Names.{word}
 use Rattle.def_spec.specs.Matching.{Pattern, variable, anything, in_list, no_patterns, and_pattern}
 use Rattle.def_spec.specs.Functions as fn
-use Rattle.def_spec.specs.Expressions.{for_calls, for_sends, Expr, bound_to, whole_list, constant, tuple_of, call, perform, message, silent, enable_trace, Exprs, no_exprs, and_expr, Context}
+use Rattle.def_spec.specs.Expressions.{for_calls, for_sends, Expr, bound_to, constant, tuple_of, list_of, call, perform, message, silent, enable_trace, trace, Exprs, no_exprs, and_expr, Context}
 use Rattle.def_spec.specs.Outcome.{Clause}
 use Rattle.def_session.specs.State.{alive_at_start}
 use Rattle.def_explain.specs.Spellings.{spelling}
-use Rattle.def_explain.specs.Texts.{trial_text}
+use Rattle.def_explain.specs.Texts.{trial_flags, trial_text}
 
 -- hi and 1
 abbrev hi_one : Context
-hi_one = record { matched_list = word "hi" ∷ int (pos 1) ∷ []; me = 100; caller_mfa = None; alive = alive_at_start 1 }
+hi_one = record { matched_list = word "hi" ∷ int (pos 1) ∷ []; me = 100; caller_mfa = None; alive = alive_at_start 1; flags = trial_flags for_calls 100 }
 
 abbrev pair : Pattern → Pattern → Pattern
 pair p q = in_list (and_pattern p (and_pattern q no_patterns))
@@ -42,6 +42,20 @@ with_message = record { head = pair (variable 1) anything; conditions = no_exprs
 abbrev whole_and_silent : Clause
 whole_and_silent = record { head = variable 7; conditions = no_exprs; body = one (perform silent (one (constant (word "true")))) }
 
+abbrev flag_list : Expr → Expr
+flag_list f = list_of (one f)
+
+-- {'_',[],[{message,{trace,[],[send]}},{message,{trace,[call],[call]}},{trace,[],[]}]}
+abbrev tracing : Clause
+tracing = record {
+  head = anything;
+  conditions = no_exprs;
+  body =
+      and_expr (perform message (one (perform trace (and_expr (list_of no_exprs) (one (flag_list (constant (word "send"))))))))
+      (and_expr (perform message (one (perform trace (and_expr (flag_list (constant (word "call"))) (one (flag_list (constant (word "call"))))))))
+      (one (perform trace (and_expr (list_of no_exprs) (one (list_of no_exprs))))));
+}
+
 -- two clauses that don't fire, one that does, and one that isn't reached
 pub third_fires : trial_text for_calls (of_integer ∷ of_twice ∷ with_message ∷ of_head ∷ []) hi_one
     ≡ codes "clause 1: condition 1 is false\nclause 2: the head doesn't match at element 2\nclause 3 fires: message {second,hi}, <0.100.0> gets send\n  '$1' is hi\n=> a message that ends in {second,hi}\n"
@@ -61,6 +75,12 @@ silent_call = refl
 pub silent_send : trial_text for_sends (whole_and_silent ∷ []) hi_one ≡ codes "clause 1 fires: silent true\n  '$7' is [hi,1]\n=> a message\n"
 unfolding is_written_bare digits
 silent_send = refl
+
+-- a change is told as it is asked for, whatever it changes; the process has `call` before it
+pub changed_flags : trial_text for_calls (tracing ∷ []) hi_one
+    ≡ codes "clause 1 fires: <0.100.0> gets send, message true, <0.100.0> loses call gets call, message false, <0.100.0> keeps its flags\n=> no message: it is false\n"
+unfolding is_written_bare digits
+changed_flags = refl
 
 -- an atom that would be read as a variable, and one that wouldn't
 pub spelled_variable : spelling (constant (word "$1")) ≡ tuple (more (word "const") (more (word "$1") none))

@@ -1,6 +1,6 @@
 -- Where the reading of a specification stops (own; "Match Specifications in Erlang", "Grammar").
 -- Stands on how clauses are read.
-use Rattle.std.specs.Prelude.{◌≡◌, ℕ, zero, suc, Option, Some, None, Result, Ok, Err}
+use Rattle.std.specs.Prelude.{◌≡◌, ℕ, zero, suc, Option, Some, None, Ok, Err}
 use Rattle.def_term.specs.Tree.{Tree, list, Trees, none, more}
 use Rattle.def_spec.specs.Expressions.{Dialect}
 use Rattle.def_spec.specs.Outcome.{Clause}

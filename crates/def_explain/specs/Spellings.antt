@@ -1,12 +1,12 @@
 -- The term that spells an expression ("Match Specifications in Erlang", "Grammar").
 -- Stands on expressions and on how a term is read as one.
-use Rattle.std.specs.Prelude.{ℕ, Bool, true, false, not, ◌&&◌, if◌then◌else◌, ◌∷◌, codes, decimal}
+use Rattle.std.specs.Prelude.{Bool, true, false, not, ◌&&◌, if◌then◌else◌, ◌∷◌, codes, decimal}
 use Rattle.std.specs.Str.{bytes_eq}
 use Rattle.def_term.specs.Tree.{Tree, int, atom, pid, tuple, list, Trees, none, more}
 use Rattle.def_term.specs.Names.{Name, word}
 use Rattle.def_spec.specs.Functions as fn
 use Rattle.def_spec.specs.Functions.{Func}
-use Rattle.def_spec.specs.Expressions.{Action, message, return_trace, exception_trace, silent, enable_trace, disable_trace, caller, Expr, bound_to, whole_list, all_bound, constant, tuple_of, list_of, call, and_also, or_else, perform, Exprs, no_exprs, and_expr}
+use Rattle.def_spec.specs.Expressions.{Action, message, return_trace, exception_trace, silent, enable_trace, disable_trace, trace, caller, Expr, bound_to, whole_list, all_bound, constant, tuple_of, list_of, call, and_also, or_else, perform, Exprs, no_exprs, and_expr}
 use Rattle.def_spec.specs.Reading.{AtomKind, a_variable, a_wrong_variable, a_plain_atom, atom_kind}
 
 -- what a function is called by
@@ -64,6 +64,7 @@ action_name exception_trace = codes "exception_trace"
 action_name silent = codes "silent"
 action_name enable_trace = codes "enable_trace"
 action_name disable_trace = codes "disable_trace"
+action_name trace = codes "trace"
 action_name caller = codes "caller"
 
 -- `$` and digits aren't

@@ -1,11 +1,12 @@
 -- The text of a trial: what becomes of the clauses of one specification on one list (own).
 -- Stands on verdicts, on the texts of terms and on what a message's last element is.
-use Rattle.std.specs.Prelude.{ℕ, suc, Bool, true, false, not, ◌==◌, ◌&&◌, ◌||◌, if◌then◌else◌, List, [], ◌∷◌, ◌++◌, flat_map, Option, Some, None, codes, decimal}
+use Rattle.std.specs.Prelude.{ℕ, suc, Bool, true, false, not, ◌==◌, ◌&&◌, ◌||◌, if◌then◌else◌, List, [], ◌∷◌, ◌++◌, flat_map, replicate, Option, Some, None, codes, decimal}
 use Rattle.def_term.specs.Tree.{Tree}
 use Rattle.def_term.specs.Order.{same}
 use Rattle.def_term.specs.Names.{Name, word}
+use Rattle.def_term.specs.Alive.{PROCESSES}
 use Rattle.def_term.specs.Text.{w, atom_text, pid_text}
-use Rattle.def_spec.specs.Flags.{Flag, Flags, silent_flag, flags_by_name}
+use Rattle.def_spec.specs.Flags.{Flag, Flags, send_flag, receive_flag, call_flag, silent_flag, no_flags, only, FlagTable, with_flags_in, flags_by_name}
 use Rattle.def_spec.specs.Matching.{Bindings}
 use Rattle.def_spec.specs.Expressions.{Dialect, for_calls, for_sends, for_receives, Context, Effect, gives_message, traces_return, traces_exception, silences, changes}
 use Rattle.def_spec.specs.Outcome.{Clause}
@@ -14,6 +15,18 @@ use Rattle.def_explain.specs.Heads.{HeadReason, no_list, other_length, behind_ma
 use Rattle.def_explain.specs.Reasons.{ConditionReason, has_value, faults_at, Reason, by_head, by_condition}
 use Rattle.def_explain.specs.Spellings.{spelling}
 use Rattle.def_explain.specs.Verdicts.{Verdict, fails, fires, verdict_of}
+
+-- ---- flags
+
+-- the flag without which the specification isn't looked at
+abbrev pub flag_of_dialect : Dialect → Flag
+flag_of_dialect for_calls = call_flag
+flag_of_dialect for_sends = send_flag
+flag_of_dialect for_receives = receive_flag
+
+-- in a trial the process has this one, and no process has another
+abbrev pub trial_flags : Dialect → ℕ → FlagTable
+trial_flags d me = with_flags_in (replicate PROCESSES no_flags) me (only (flag_of_dialect d))
 
 -- ---- reasons
 
@@ -45,13 +58,18 @@ abbrev pub silent_text : Bool → List ℕ
 silent_text true = codes "silent true"
 silent_text false = codes "silent false"
 
+-- a change may name no flag
+abbrev pub said_of_flags : List ℕ → List ℕ
+said_of_flags [] = codes " keeps its flags"
+said_of_flags (b ∷ bs) = b ∷ bs
+
 -- what an effect asks for
 abbrev pub effect_text : Effect → List ℕ
 effect_text (gives_message t) = codes "message " ++ w t
 effect_text traces_return = codes "return_trace"
 effect_text traces_exception = codes "exception_trace"
 effect_text (silences b) = silent_text b
-effect_text (changes n off on) = pid_text n ++ said_of_each (codes " loses ") off flags_by_name ++ said_of_each (codes " gets ") on flags_by_name
+effect_text (changes n off on) = pid_text n ++ said_of_flags (said_of_each (codes " loses ") off flags_by_name ++ said_of_each (codes " gets ") on flags_by_name)
 
 -- with a comma between any two, behind a colon
 abbrev pub effects_text : List Effect → List ℕ

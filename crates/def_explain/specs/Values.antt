@@ -1,11 +1,11 @@
 -- Where an expression of a condition faults (own; "Match Specifications in Erlang", "Function Descriptions").
--- Stands on values.
+-- Stands on values. An action stands in bodies alone, and has no value in a condition.
 use Rattle.std.specs.Prelude.{◌≡◌, true, false, ◌⊎◌, List, Option, Some, None, if◌then◌else◌}
 use Rattle.std.specs.Option.{option_and_then}
 use Rattle.def_term.specs.Tree.{Tree}
 use Rattle.def_spec.specs.Matching.{Bindings, value_bound}
 use Rattle.def_spec.specs.Functions.{Func, is_true, apply}
-use Rattle.def_spec.specs.Expressions.{Dialect, Action, Expr, bound_to, whole_list, all_bound, constant, tuple_of, list_of, call, and_also, or_else, perform, Exprs, no_exprs, and_expr, Context, in_condition, value, values, value_part, action_done}
+use Rattle.def_spec.specs.Expressions.{Dialect, Expr, bound_to, whole_list, all_bound, constant, tuple_of, list_of, call, and_also, or_else, perform, Exprs, no_exprs, and_expr, Context, in_condition, value, values}
 
 -- ---- parts of what is computed below
 
@@ -48,13 +48,13 @@ module _ (d : Dialect) (b : Bindings) (c : Context) where
   abbrev pub applied : Func → Exprs → Option Tree
   applied f es = option_and_then (λ ts. apply f ts c.me) (values d in_condition b c es)
 
-  -- an action on the values of its arguments
-  abbrev pub performed : Action → Exprs → Option Tree
-  performed a es = option_and_then (λ ts. value_part (action_done d a ts c)) (values d in_condition b c es)
+  -- several expressions have values
+  abbrev pub HaveValues : Exprs → Type 0
+  HaveValues es = (ts : List Tree) × (values d in_condition b c es ≡ Some ts)
 
   -- the arguments have values, and the call has none
   abbrev pub FaultsItself : Exprs → Option Tree → Type 0
-  FaultsItself es r = ((ts : List Tree) × (values d in_condition b c es ≡ Some ts)) × (r ≡ None)
+  FaultsItself es r = HaveValues es × (r ≡ None)
 
   abbrev mutual
     -- the part x of the expression is where it faults: x faults itself, and what is evaluated before it doesn't
@@ -68,7 +68,7 @@ module _ (d : Dialect) (b : Bindings) (c : Context) where
     FaultsAt (call f es) x = FaultsInOne es x ⊎ ((x ≡ call f es) × FaultsItself es (applied f es))
     FaultsAt (and_also es) x = FaultsWhileTrue es x
     FaultsAt (or_else es) x = FaultsUntilTrue es x
-    FaultsAt (perform a es) x = FaultsInOne es x ⊎ ((x ≡ perform a es) × FaultsItself es (performed a es))
+    FaultsAt (perform a es) x = FaultsInOne es x ⊎ ((x ≡ perform a es) × HaveValues es)
 
     -- in the first of several expressions that faults
     pub FaultsInOne : Exprs → Expr → Type 0
@@ -97,7 +97,7 @@ module _ (d : Dialect) (b : Bindings) (c : Context) where
     fault_in (call f es) = or_itself (fault_in_one es) (call f es) (applied f es)
     fault_in (and_also es) = fault_while_true es
     fault_in (or_else es) = fault_until_true es
-    fault_in (perform a es) = or_itself (fault_in_one es) (perform a es) (performed a es)
+    fault_in (perform a es) = or_itself (fault_in_one es) (perform a es) None
 
     -- in the first that faults
     pub fault_in_one : Exprs → Option Expr

@@ -1,11 +1,11 @@
 -- What follows stays behind the code.
-use Rattle.std.proofs.Common.{ℕ, suc, ◌+◌, List, Option, Some, None}
+use Rattle.std.proofs.Common.{ℕ, suc, ◌+◌, Bool, true, false, if◌then◌else◌, List, ◌∷◌, Option, Some, None}
 use Rattle.std.specs.FinMap.{find}
 use Rattle.std.proofs.Common.{nat_cmp}
 use Rattle.def_spec.specs.Matching.{Pattern, Patterns, variable, anything, only_term, in_tuple, in_list, no_patterns, and_pattern}
 use Rattle.def_spec.specs.Expressions.{Dialect, Expr, Exprs, no_exprs, and_expr, bound_to, whole_list, all_bound, constant, tuple_of, list_of, call, and_also, or_else, perform, Part, in_condition, in_body}
-use Rattle.def_machine.specs.Instructions.{OnFault, Instruction, apply_function}
-use Rattle.def_machine.specs.Compiling.{VariableRegisters, variables_after, registers_taken, variable_code, pattern_code, each_pattern_code, registers_of, call_code, expr_code, exprs_code, while_true_code, until_true_code}
+use Rattle.def_machine.specs.Instructions.{OnFault, Instruction, load_own_pid, apply_function}
+use Rattle.def_machine.specs.Compiling.{VariableRegisters, variables_after, registers_taken, variable_code, pattern_code, each_pattern_code, registers_of, is_on_self, call_code, expr_code, exprs_code, while_true_code, until_true_code}
 use Rattle.def_machine.proofs.Runs.{Before, before-self, before-cons, before-trans}
 
 var_front : (o : Option ℕ) (r f : ℕ) (k : List Instruction) → Before (variable_code o r f k) k
@@ -28,6 +28,10 @@ apply_front : (place : Part) (f : ℕ) (i : OnFault → Instruction) (k : List I
 apply_front in_condition f i k = before-cons _ k k (before-self k)
 apply_front in_body f i k = before-cons _ k k (before-self k)
 
+action_front : (s : Bool) (i : Instruction) (own other k : List Instruction) → Before own k → Before other k → Before (if s then i ∷ own else other) k
+action_front true i own other k x y = before-cons i own k x
+action_front false i own other k x y = y
+
 module _ (dialect : Dialect) (place : Part) (f : ℕ) (env : VariableRegisters) where
   mutual
     pub expr_front : (e : Expr) (d : ℕ) (k : List Instruction) → Before (expr_code dialect place f env e d k) k
@@ -40,7 +44,7 @@ module _ (dialect : Dialect) (place : Part) (f : ℕ) (env : VariableRegisters) 
     expr_front (call g es) d k = before-trans _ _ k (exprs_front es d _) (apply_front place f (apply_function g d (registers_of env es d)) k)
     expr_front (and_also es) d k = before-cons _ _ k (before-trans _ _ k (while_front es (suc d) _ _) (before-cons _ k k (before-self k)))
     expr_front (or_else es) d k = before-cons _ _ k (before-trans _ _ k (until_front es (suc d) _ _) (before-cons _ k k (before-self k)))
-    expr_front (perform a es) d k = before-trans _ _ k (exprs_front es d _) (before-cons _ k k (before-self k))
+    expr_front (perform a es) d k = action_front (is_on_self a es) (load_own_pid d) _ _ k (before-trans _ _ k (exprs_front es (suc d) _) (before-cons _ k k (before-self k))) (before-trans _ _ k (exprs_front es d _) (before-cons _ k k (before-self k)))
 
     pub exprs_front : (es : Exprs) (d : ℕ) (k : List Instruction) → Before (exprs_code dialect place f env es d k) k
     exprs_front no_exprs d k = before-self k

@@ -5,10 +5,10 @@ use Rattle.def_term.specs.Names.{word}
 use Rattle.def_spec.specs.Matching.{variable, anything, only_term, in_tuple, in_list, no_patterns, and_pattern}
 use Rattle.def_spec.specs.Functions as fn
 use Rattle.def_spec.specs.Functions.{truth}
-use Rattle.def_spec.specs.Expressions.{for_calls, for_sends, message, bound_to, all_bound, constant, list_of, call, or_else, perform, no_exprs, and_expr}
+use Rattle.def_spec.specs.Expressions.{for_calls, for_sends, message, trace, bound_to, whole_list, all_bound, constant, list_of, call, or_else, perform, no_exprs, and_expr}
 use Rattle.def_spec.specs.Outcome.{Spec}
 use Rattle.def_spec.specs.Reading.{spec_of}
-use Rattle.def_machine.specs.Instructions.{kind_tuple, kind_list, goes_on_at, gives_exit, load_constant, load_list, take_element, test_kind, test_length, test_equal, jump, build, apply_function, perform_action, end_with_match, end_without_match}
+use Rattle.def_machine.specs.Instructions.{kind_tuple, kind_list, goes_on_at, gives_exit, load_constant, load_list, load_own_pid, take_element, test_kind, test_length, test_equal, jump, build, apply_function, perform_action, change_flags, end_with_match, end_without_match}
 use Rattle.def_machine.specs.Compiling.{code_of}
 use Rattle.def_machine.specs.Checking.{is_checked}
 
@@ -79,6 +79,36 @@ first_that_is_true : code_of (record { dialect = for_sends; clauses = record { h
     ∷ end_without_match ∷ []
 first_that_is_true = refl
 
+-- [{'_',[],[{message,{trace,[],['$_']}},{trace,{self},[],[]}]}]: the own pid stands before the two lists, loaded or computed
+abbrev tracing : Spec
+tracing = record {
+  dialect = for_calls;
+  clauses =
+      record {
+        head = anything;
+        conditions = no_exprs;
+        body =
+            and_expr (perform message (and_expr (perform trace (and_expr (list_of no_exprs) (and_expr (list_of (and_expr whole_list no_exprs)) no_exprs))) no_exprs))
+            (and_expr (perform trace (and_expr (call fn.own_pid no_exprs) (and_expr (list_of no_exprs) (and_expr (list_of no_exprs) no_exprs)))) no_exprs);
+      }
+      ∷ [];
+}
+
+flags_by_three_registers : code_of tracing ≡
+    load_list 0
+    ∷ load_own_pid 1 ∷ build kind_list 2 [] ∷ load_list 3 ∷ build kind_list 3 (3 ∷ []) ∷ change_flags 1 1 2 3 gives_exit ∷ perform_action for_calls message 1 (1 ∷ [])
+    ∷ apply_function fn.own_pid 2 [] gives_exit ∷ build kind_list 3 [] ∷ build kind_list 4 [] ∷ change_flags 2 2 3 4 gives_exit
+    ∷ end_with_match
+    ∷ end_without_match ∷ []
+flags_by_three_registers = refl
+
+tracing_is_checked : is_checked (code_of tracing) ≡ true
+tracing_is_checked = refl
+
+-- code may go on elsewhere at a fault
+fault_elsewhere : is_checked (load_list 0 ∷ change_flags 1 0 0 0 (goes_on_at 3) ∷ end_with_match ∷ end_without_match ∷ []) ≡ true
+fault_elsewhere = refl
+
 -- ---- what the test refuses
 
 no_instruction : is_checked [] ≡ false
@@ -102,3 +132,13 @@ read_where_a_path_sets_nothing = refl
 
 wrong_number_of_registers : is_checked (load_list 0 ∷ apply_function fn.head 1 (0 ∷ 0 ∷ []) gives_exit ∷ end_without_match ∷ []) ≡ false
 wrong_number_of_registers = refl
+
+backward_fault : is_checked (load_list 0 ∷ change_flags 1 0 0 0 (goes_on_at 1) ∷ end_without_match ∷ []) ≡ false
+backward_fault = refl
+
+change_reads_three : is_checked (load_list 0 ∷ change_flags 1 0 0 2 gives_exit ∷ end_without_match ∷ []) ≡ false
+change_reads_three = refl
+
+-- `trace` has an instruction of its own
+trace_as_an_action : is_checked (load_list 0 ∷ perform_action for_calls trace 1 (0 ∷ 0 ∷ 0 ∷ []) ∷ end_without_match ∷ []) ≡ false
+trace_as_an_action = refl

@@ -43,9 +43,9 @@ specifications_that_are_refused = refl
 more_specifications_that_are_refused : program_output (program
     (function "go" [] [] ∷ [])
     (entry "go" [] ∷ [])
-    (creates "s1" "t1" ∷ sets_function "s1" (mfa_of "go" 0) (brackets (braces (word "_" ∷ brackets [] ∷ brackets (word "$1" ∷ []) ∷ []) ∷ [])) [] ∷ sets_function "s1" (mfa_of "go" 0) (brackets (braces (brackets (word "$1" ∷ []) ∷ brackets [] ∷ brackets (word "$01" ∷ []) ∷ []) ∷ [])) [] ∷ sets_function "s1" (mfa_of "go" 0) (brackets (braces (brackets (word "$1" ∷ []) ∷ brackets [] ∷ brackets (braces (word "const" ∷ word "$01" ∷ []) ∷ []) ∷ []) ∷ [])) [] ∷ sets_function "s1" (mfa_of "go" 0) (brackets (braces (brackets (word "$1" ∷ []) ∷ brackets [] ∷ brackets (braces (word "const" ∷ number 1 ∷ number 2 ∷ []) ∷ []) ∷ []) ∷ [])) [] ∷ sets_function "s1" (mfa_of "go" 0) (brackets (braces (word "_" ∷ brackets [] ∷ []) ∷ [])) [] ∷ sets_function "s1" (mfa_of "go" 0) (brackets (braces (word "_" ∷ brackets [] ∷ word "x" ∷ []) ∷ [])) [] ∷ sets_function "s1" (mfa_of "go" 0) (brackets (braces (word "_" ∷ word "x" ∷ brackets [] ∷ []) ∷ [])) [] ∷ sets_function "s1" (mfa_of "go" 0) (brackets (word "x" ∷ [])) [] ∷ sets_function "s1" (mfa_of "go" 0) (braces (word "x" ∷ [])) [] ∷ sets_function "s1" (mfa_of "go" 0) (brackets (braces (word "_" ∷ brackets [] ∷ brackets (braces (word "self" ∷ number 1 ∷ []) ∷ []) ∷ []) ∷ [])) [] ∷ sets_function "s1" (mfa_of "go" 0) (brackets (braces (word "_" ∷ brackets [] ∷ brackets (braces (word "node" ∷ word "a" ∷ word "b" ∷ []) ∷ []) ∷ []) ∷ [])) [] ∷ sets_function "s1" (mfa_of "go" 0) (brackets (braces (word "_" ∷ brackets (braces (word "and" ∷ []) ∷ []) ∷ brackets [] ∷ []) ∷ [])) [] ∷ sets_function "s1" (mfa_of "go" 0) (brackets (braces (word "_" ∷ brackets (braces (word "andalso" ∷ []) ∷ []) ∷ brackets [] ∷ []) ∷ [])) [] ∷ sets_function "s1" (mfa_of "go" 0) (brackets (braces (word "_" ∷ brackets (braces (word "or" ∷ word "true" ∷ []) ∷ []) ∷ brackets [] ∷ []) ∷ [])) [] ∷ sets_function "s1" (mfa_of "go" 0) (brackets (braces (word "_" ∷ brackets (braces (word "not" ∷ []) ∷ []) ∷ brackets [] ∷ []) ∷ [])) [] ∷ sets_function "s1" (mfa_of "go" 0) (brackets (braces (word "_" ∷ brackets [] ∷ brackets (braces (word "enable_trace" ∷ []) ∷ []) ∷ []) ∷ [])) [] ∷ sets_function "s1" (mfa_of "go" 0) (brackets (braces (word "_" ∷ brackets [] ∷ brackets (braces (word "enable_trace" ∷ word "a" ∷ word "b" ∷ []) ∷ []) ∷ []) ∷ [])) [] ∷ sets_function "s1" (mfa_of "go" 0) (brackets (braces (word "_" ∷ brackets [] ∷ brackets (braces (word "trace" ∷ brackets [] ∷ brackets [] ∷ []) ∷ []) ∷ []) ∷ [])) [] ∷ []))
+    (creates "s1" "t1" ∷ sets_function "s1" (mfa_of "go" 0) (brackets (braces (word "_" ∷ brackets [] ∷ brackets (word "$1" ∷ []) ∷ []) ∷ [])) [] ∷ sets_function "s1" (mfa_of "go" 0) (brackets (braces (brackets (word "$1" ∷ []) ∷ brackets [] ∷ brackets (word "$01" ∷ []) ∷ []) ∷ [])) [] ∷ sets_function "s1" (mfa_of "go" 0) (brackets (braces (brackets (word "$1" ∷ []) ∷ brackets [] ∷ brackets (braces (word "const" ∷ word "$01" ∷ []) ∷ []) ∷ []) ∷ [])) [] ∷ sets_function "s1" (mfa_of "go" 0) (brackets (braces (brackets (word "$1" ∷ []) ∷ brackets [] ∷ brackets (braces (word "const" ∷ number 1 ∷ number 2 ∷ []) ∷ []) ∷ []) ∷ [])) [] ∷ sets_function "s1" (mfa_of "go" 0) (brackets (braces (word "_" ∷ brackets [] ∷ []) ∷ [])) [] ∷ sets_function "s1" (mfa_of "go" 0) (brackets (braces (word "_" ∷ brackets [] ∷ word "x" ∷ []) ∷ [])) [] ∷ sets_function "s1" (mfa_of "go" 0) (brackets (braces (word "_" ∷ word "x" ∷ brackets [] ∷ []) ∷ [])) [] ∷ sets_function "s1" (mfa_of "go" 0) (brackets (word "x" ∷ [])) [] ∷ sets_function "s1" (mfa_of "go" 0) (braces (word "x" ∷ [])) [] ∷ sets_function "s1" (mfa_of "go" 0) (brackets (braces (word "_" ∷ brackets [] ∷ brackets (braces (word "self" ∷ number 1 ∷ []) ∷ []) ∷ []) ∷ [])) [] ∷ sets_function "s1" (mfa_of "go" 0) (brackets (braces (word "_" ∷ brackets [] ∷ brackets (braces (word "node" ∷ word "a" ∷ word "b" ∷ []) ∷ []) ∷ []) ∷ [])) [] ∷ sets_function "s1" (mfa_of "go" 0) (brackets (braces (word "_" ∷ brackets (braces (word "and" ∷ []) ∷ []) ∷ brackets [] ∷ []) ∷ [])) [] ∷ sets_function "s1" (mfa_of "go" 0) (brackets (braces (word "_" ∷ brackets (braces (word "andalso" ∷ []) ∷ []) ∷ brackets [] ∷ []) ∷ [])) [] ∷ sets_function "s1" (mfa_of "go" 0) (brackets (braces (word "_" ∷ brackets (braces (word "or" ∷ word "true" ∷ []) ∷ []) ∷ brackets [] ∷ []) ∷ [])) [] ∷ sets_function "s1" (mfa_of "go" 0) (brackets (braces (word "_" ∷ brackets (braces (word "not" ∷ []) ∷ []) ∷ brackets [] ∷ []) ∷ [])) [] ∷ sets_function "s1" (mfa_of "go" 0) (brackets (braces (word "_" ∷ brackets [] ∷ brackets (braces (word "enable_trace" ∷ []) ∷ []) ∷ []) ∷ [])) [] ∷ sets_function "s1" (mfa_of "go" 0) (brackets (braces (word "_" ∷ brackets [] ∷ brackets (braces (word "enable_trace" ∷ word "a" ∷ word "b" ∷ []) ∷ []) ∷ []) ∷ [])) [] ∷ sets_function "s1" (mfa_of "go" 0) (brackets (braces (word "_" ∷ brackets [] ∷ brackets (braces (word "trace" ∷ brackets [] ∷ []) ∷ []) ∷ []) ∷ [])) [] ∷ []))
     (0 ∷ 0 ∷ 0 ∷ 0 ∷ 0 ∷ 0 ∷ 0 ∷ 0 ∷ 0 ∷ 0 ∷ 0 ∷ 0 ∷ 0 ∷ 0 ∷ 0 ∷ 0 ∷ 0 ∷ 0 ∷ 0 ∷ [])
-    ≡ lines ("== session s1 tracer t1" ∷ "== replies" ∷ "{session,s1}" ∷ "badarg" ∷ "badarg" ∷ "1" ∷ "badarg" ∷ "badarg" ∷ "badarg" ∷ "badarg" ∷ "badarg" ∷ "badarg" ∷ "badarg" ∷ "badarg" ∷ "badarg" ∷ "badarg" ∷ "1" ∷ "badarg" ∷ "badarg" ∷ "1" ∷ "{unsupported,trace}" ∷ "== journal" ∷ "0 0 0 0 0 0 0 0 0 0 0 0 0 0 0 0 0 0 0" ∷ [])
+    ≡ lines ("== session s1 tracer t1" ∷ "== replies" ∷ "{session,s1}" ∷ "badarg" ∷ "badarg" ∷ "1" ∷ "badarg" ∷ "badarg" ∷ "badarg" ∷ "badarg" ∷ "badarg" ∷ "badarg" ∷ "badarg" ∷ "badarg" ∷ "badarg" ∷ "badarg" ∷ "1" ∷ "badarg" ∷ "badarg" ∷ "1" ∷ "badarg" ∷ "== journal" ∷ "0 0 0 0 0 0 0 0 0 0 0 0 0 0 0 0 0 0 0" ∷ [])
 unfolding is_written_bare digits
 more_specifications_that_are_refused = refl
 

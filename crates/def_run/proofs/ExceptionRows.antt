@@ -188,3 +188,53 @@ catch_that_returns : program_output (program
     ≡ lines ("== session s1 tracer t1" ∷ "{trace,<0.100.0>,call,{m,f,[1]}}" ∷ "{trace,<0.100.0>,return_from,{m,f,1},{v,1}}" ∷ "== replies" ∷ "{session,s1}" ∷ "1" ∷ "1" ∷ "== journal" ∷ "0 0 0 100 100 100 100" ∷ [])
 unfolding is_written_bare digits
 catch_that_returns = refl
+
+-- ---- with changes of flags in the same body
+
+-- {trace,Off,On} of the process itself
+abbrev traces : List Tree → List Tree → Tree
+traces off on = braces (word "trace" ∷ brackets off ∷ brackets on ∷ [])
+
+-- `trace` tells what it changes in each call that marks, and the marks tell exceptions as ever
+exceptions_of_changed_flags : program_output (chain (catches "f" (number 1 ∷ [])) (raise throw (braces (word "bad" ∷ word "X" ∷ []))) (braces (word "message" ∷ brackets (traces [] (word "send" ∷ []) ∷ []) ∷ []) ∷ braces (word "exception_trace" ∷ []) ∷ []))
+    (0 ∷ 0 ∷ 0 ∷ 100 ∷ 100 ∷ 100 ∷ 100 ∷ 100 ∷ [])
+    ≡ lines ("== session s1 tracer t1" ∷ "{trace,<0.100.0>,call,{m,go,[]},[true]}" ∷ "{trace,<0.100.0>,call,{m,f,[1]},[false]}" ∷ "{trace,<0.100.0>,call,{m,g,[1]},[false]}" ∷ "{trace,<0.100.0>,exception_from,{m,g,1},{throw,{bad,1}}}" ∷ "{trace,<0.100.0>,exception_from,{m,f,1},{throw,{bad,1}}}" ∷ "{trace,<0.100.0>,return_from,{m,go,0},{bad,1}}" ∷ "{trace,<0.100.0>,exit,normal}" ∷ "== replies" ∷ "{session,s1}" ∷ "1" ∷ "3" ∷ "== journal" ∷ "0 0 0 100 100 100 100 100" ∷ [])
+unfolding is_written_bare digits
+exceptions_of_changed_flags = refl
+
+-- a call that marks and clears `call` is told, and the exception that leaves its frame isn't
+cleared_call_tells_no_exception : program_output (chain (call_remote (Some (codes "X")) (codes "m") (codes "f") (number 1 ∷ [])) (raise throw (braces (word "bad" ∷ word "X" ∷ []))) (braces (word "exception_trace" ∷ []) ∷ traces (word "call" ∷ []) [] ∷ []))
+    (0 ∷ 0 ∷ 0 ∷ 100 ∷ 100 ∷ 100 ∷ 100 ∷ [])
+    ≡ lines ("== session s1 tracer t1" ∷ "{trace,<0.100.0>,call,{m,go,[]}}" ∷ "{trace,<0.100.0>,exit,{{nocatch,{bad,1}},[]}}" ∷ "== replies" ∷ "{session,s1}" ∷ "1" ∷ "3" ∷ "== journal" ∷ "0 0 0 100 100 100 100" ∷ [])
+unfolding is_written_bare digits
+cleared_call_tells_no_exception = refl
+
+-- `silent` is set by f, whose call isn't told, and cleared by g: the exception that leaves both is told of both
+cleared_silent_tells_exceptions : program_output (program
+    (function "go" [] (catches "f" (number 1 ∷ []) ∷ give_back (word "X") ∷ []) ∷ function "f" ("X" ∷ []) (call_named "g" (word "X" ∷ []) ∷ []) ∷ function "g" ("X" ∷ []) (raise throw (braces (word "bad" ∷ word "X" ∷ [])) ∷ []) ∷ [])
+    (entry "go" [] ∷ [])
+    (creates "s1" "t1" ∷ sets "s1" (word "all") ("call" ∷ []) ∷ sets_function "s1" (mfa_of "f" 1) (brackets (braces (word "_" ∷ brackets [] ∷ brackets (braces (word "exception_trace" ∷ []) ∷ braces (word "message" ∷ brackets (traces [] (word "silent" ∷ []) ∷ []) ∷ []) ∷ []) ∷ []) ∷ [])) [] ∷ sets_function "s1" (mfa_of "g" 1) (brackets (braces (word "_" ∷ brackets [] ∷ brackets (braces (word "exception_trace" ∷ []) ∷ braces (word "message" ∷ brackets (traces (word "silent" ∷ []) [] ∷ traces (word "silent" ∷ []) [] ∷ []) ∷ []) ∷ []) ∷ []) ∷ [])) [] ∷ []))
+    (0 ∷ 0 ∷ 0 ∷ 0 ∷ 100 ∷ 100 ∷ 100 ∷ 100 ∷ 100 ∷ [])
+    ≡ lines ("== session s1 tracer t1" ∷ "{trace,<0.100.0>,call,{m,g,[1]},[true,false]}" ∷ "{trace,<0.100.0>,exception_from,{m,g,1},{throw,{bad,1}}}" ∷ "{trace,<0.100.0>,exception_from,{m,f,1},{throw,{bad,1}}}" ∷ "== replies" ∷ "{session,s1}" ∷ "1" ∷ "1" ∷ "1" ∷ "== journal" ∷ "0 0 0 0 100 100 100 100 100" ∷ [])
+unfolding is_written_bare digits
+cleared_silent_tells_exceptions = refl
+
+-- another process clears `call` of one in a marked frame, and the exception that leaves it isn't told
+cleared_by_another_process : program_output (program
+    (function "go" [] (catches "f" (number 1 ∷ []) ∷ give_back (word "X") ∷ []) ∷ function "f" ("X" ∷ []) (raise throw (word "X") ∷ []) ∷ function "peer" [] (call_named "h" [] ∷ []) ∷ function "h" [] [] ∷ [])
+    (entry "go" [] ∷ entry "peer" [] ∷ [])
+    (creates "s1" "t1" ∷ sets "s1" (word "all") ("call" ∷ []) ∷ sets_function "s1" (mfa_of "f" 1) (brackets (braces (word "_" ∷ brackets [] ∷ brackets (braces (word "exception_trace" ∷ []) ∷ []) ∷ []) ∷ [])) [] ∷ sets_function "s1" (mfa_of "h" 0) (brackets (braces (word "_" ∷ brackets [] ∷ brackets (braces (word "message" ∷ brackets (braces (word "trace" ∷ pid 100 ∷ brackets (word "call" ∷ []) ∷ brackets [] ∷ []) ∷ braces (word "trace" ∷ pid 100 ∷ brackets (word "call" ∷ []) ∷ brackets [] ∷ []) ∷ []) ∷ []) ∷ []) ∷ []) ∷ [])) [] ∷ []))
+    (0 ∷ 0 ∷ 0 ∷ 0 ∷ 100 ∷ 100 ∷ 101 ∷ 101 ∷ 100 ∷ 100 ∷ [])
+    ≡ lines ("== session s1 tracer t1" ∷ "{trace,<0.100.0>,call,{m,f,[1]}}" ∷ "{trace,<0.101.0>,call,{m,h,[]},[true,false]}" ∷ "== replies" ∷ "{session,s1}" ∷ "2" ∷ "1" ∷ "1" ∷ "== journal" ∷ "0 0 0 0 100 100 101 101 100 100" ∷ [])
+unfolding is_written_bare digits
+cleared_by_another_process = refl
+
+-- and what `trace` clears in one session leaves the exceptions of another
+cleared_in_one_session : program_output (program
+    (function "go" [] (catches "f" [] ∷ give_back (word "X") ∷ []) ∷ function "f" [] (raise throw (word "bad") ∷ []) ∷ [])
+    (entry "go" [] ∷ [])
+    (creates "s1" "t1" ∷ creates "s2" "t2" ∷ sets "s1" (word "all") ("call" ∷ []) ∷ sets "s2" (word "all") ("call" ∷ []) ∷ sets_function "s1" (mfa_of "f" 0) (brackets (braces (word "_" ∷ brackets [] ∷ brackets (braces (word "exception_trace" ∷ []) ∷ braces (word "message" ∷ brackets (traces (word "call" ∷ []) [] ∷ []) ∷ []) ∷ []) ∷ []) ∷ [])) [] ∷ sets_function "s2" (mfa_of "f" 0) (brackets (braces (word "_" ∷ brackets [] ∷ brackets (braces (word "exception_trace" ∷ []) ∷ []) ∷ []) ∷ [])) [] ∷ []))
+    (0 ∷ 0 ∷ 0 ∷ 0 ∷ 0 ∷ 0 ∷ 100 ∷ 100 ∷ 100 ∷ 100 ∷ [])
+    ≡ lines ("== session s1 tracer t1" ∷ "{trace,<0.100.0>,call,{m,f,[]},[true]}" ∷ "== session s2 tracer t2" ∷ "{trace,<0.100.0>,call,{m,f,[]}}" ∷ "{trace,<0.100.0>,exception_from,{m,f,0},{throw,bad}}" ∷ "== replies" ∷ "{session,s1}" ∷ "{session,s2}" ∷ "1" ∷ "1" ∷ "1" ∷ "1" ∷ "== journal" ∷ "0 0 0 0 0 0 100 100 100 100" ∷ [])
+unfolding is_written_bare digits
+cleared_in_one_session = refl

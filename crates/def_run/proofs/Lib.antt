@@ -13,6 +13,7 @@ pub mod ClauseRows
 pub mod MarkRows
 pub mod ExceptionRows
 pub mod FlagRows
+pub mod TraceRows
 pub mod NodeRows
 pub mod CommandRows
 pub mod LimitRows

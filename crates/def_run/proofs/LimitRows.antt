@@ -1,11 +1,12 @@
 -- Limits at their last value and one past it, computed.
 use Rattle.std.proofs.Common.{◌≡◌, [], ◌∷◌, true, false, Some, None, refl}
-use Rattle.std.specs.Prelude.{map, replicate}
+use Prim.Native.String.{String}
+use Rattle.std.specs.Prelude.{List, ◌++◌, map, flat_map, replicate, codes}
 use Rattle.std.specs.Fmt.{digits}
 use Rattle.def_term.specs.Tree.{pid, list, of_elements}
 use Rattle.def_term.specs.Names.{word}
 use Rattle.def_term.specs.Text.{is_written_bare}
-use Rattle.def_script.specs.Program.{controls, give_back}
+use Rattle.def_script.specs.Program.{controls, create, give_back}
 use Rattle.def_script.specs.Script.{program_from}
 use Rattle.def_node.specs.Values.{fits}
 use Rattle.def_node.specs.Node.{next_pid}
@@ -72,3 +73,12 @@ steps_64 = refl
 commands_256 : program_output (program [] [] (creates "s1" "t1" ∷ replicate 255 (sets "s1" (word "all") []))) [] ≡ lines ("== session s1 tracer t1" ∷ "== replies" ∷ "== journal" ∷ "" ∷ [])
 unfolding is_written_bare digits
 commands_256 = refl
+
+-- 128 sessions, none of whose creations was reached
+abbrev hundred_twenty_eight : List String
+hundred_twenty_eight = "0" ∷ "1" ∷ "2" ∷ "3" ∷ "4" ∷ "5" ∷ "6" ∷ "7" ∷ "8" ∷ "9" ∷ "10" ∷ "11" ∷ "12" ∷ "13" ∷ "14" ∷ "15" ∷ "16" ∷ "17" ∷ "18" ∷ "19" ∷ "20" ∷ "21" ∷ "22" ∷ "23" ∷ "24" ∷ "25" ∷ "26" ∷ "27" ∷ "28" ∷ "29" ∷ "30" ∷ "31" ∷ "32" ∷ "33" ∷ "34" ∷ "35" ∷ "36" ∷ "37" ∷ "38" ∷ "39" ∷ "40" ∷ "41" ∷ "42" ∷ "43" ∷ "44" ∷ "45" ∷ "46" ∷ "47" ∷ "48" ∷ "49" ∷ "50" ∷ "51" ∷ "52" ∷ "53" ∷ "54" ∷ "55" ∷ "56" ∷ "57" ∷ "58" ∷ "59" ∷ "60" ∷ "61" ∷ "62" ∷ "63" ∷ "64" ∷ "65" ∷ "66" ∷ "67" ∷ "68" ∷ "69" ∷ "70" ∷ "71" ∷ "72" ∷ "73" ∷ "74" ∷ "75" ∷ "76" ∷ "77" ∷ "78" ∷ "79" ∷ "80" ∷ "81" ∷ "82" ∷ "83" ∷ "84" ∷ "85" ∷ "86" ∷ "87" ∷ "88" ∷ "89" ∷ "90" ∷ "91" ∷ "92" ∷ "93" ∷ "94" ∷ "95" ∷ "96" ∷ "97" ∷ "98" ∷ "99" ∷ "100" ∷ "101" ∷ "102" ∷ "103" ∷ "104" ∷ "105" ∷ "106" ∷ "107" ∷ "108" ∷ "109" ∷ "110" ∷ "111" ∷ "112" ∷ "113" ∷ "114" ∷ "115" ∷ "116" ∷ "117" ∷ "118" ∷ "119" ∷ "120" ∷ "121" ∷ "122" ∷ "123" ∷ "124" ∷ "125" ∷ "126" ∷ "127" ∷ []
+
+sessions_128 : program_output (program [] [] (map (λ n. create (codes "s" ++ codes n) (codes "t" ++ codes n)) hundred_twenty_eight)) []
+    ≡ flat_map (λ n. codes "== session s" ++ codes n ++ codes " tracer t" ++ codes n ++ 10 ∷ []) hundred_twenty_eight ++ lines ("== replies" ∷ "== journal" ∷ "" ∷ [])
+unfolding is_written_bare digits
+sessions_128 = refl

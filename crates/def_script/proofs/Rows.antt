@@ -199,14 +199,14 @@ commands_of_two_forms = refl
 abbrev creates : List String → List Form
 creates ss = controls (map (λ s. create (codes s) (codes s)) ss) ∷ []
 
-abbrev thirty_two_names : List String
-thirty_two_names = "s0" ∷ "s1" ∷ "s2" ∷ "s3" ∷ "s4" ∷ "s5" ∷ "s6" ∷ "s7" ∷ "s8" ∷ "s9" ∷ "s10" ∷ "s11" ∷ "s12" ∷ "s13" ∷ "s14" ∷ "s15" ∷ "s16" ∷ "s17" ∷ "s18" ∷ "s19" ∷ "s20" ∷ "s21" ∷ "s22" ∷ "s23" ∷ "s24" ∷ "s25" ∷ "s26" ∷ "s27" ∷ "s28" ∷ "s29" ∷ "s30" ∷ "s31" ∷ []
+abbrev hundred_twenty_eight_names : List String
+hundred_twenty_eight_names = "s0" ∷ "s1" ∷ "s2" ∷ "s3" ∷ "s4" ∷ "s5" ∷ "s6" ∷ "s7" ∷ "s8" ∷ "s9" ∷ "s10" ∷ "s11" ∷ "s12" ∷ "s13" ∷ "s14" ∷ "s15" ∷ "s16" ∷ "s17" ∷ "s18" ∷ "s19" ∷ "s20" ∷ "s21" ∷ "s22" ∷ "s23" ∷ "s24" ∷ "s25" ∷ "s26" ∷ "s27" ∷ "s28" ∷ "s29" ∷ "s30" ∷ "s31" ∷ "s32" ∷ "s33" ∷ "s34" ∷ "s35" ∷ "s36" ∷ "s37" ∷ "s38" ∷ "s39" ∷ "s40" ∷ "s41" ∷ "s42" ∷ "s43" ∷ "s44" ∷ "s45" ∷ "s46" ∷ "s47" ∷ "s48" ∷ "s49" ∷ "s50" ∷ "s51" ∷ "s52" ∷ "s53" ∷ "s54" ∷ "s55" ∷ "s56" ∷ "s57" ∷ "s58" ∷ "s59" ∷ "s60" ∷ "s61" ∷ "s62" ∷ "s63" ∷ "s64" ∷ "s65" ∷ "s66" ∷ "s67" ∷ "s68" ∷ "s69" ∷ "s70" ∷ "s71" ∷ "s72" ∷ "s73" ∷ "s74" ∷ "s75" ∷ "s76" ∷ "s77" ∷ "s78" ∷ "s79" ∷ "s80" ∷ "s81" ∷ "s82" ∷ "s83" ∷ "s84" ∷ "s85" ∷ "s86" ∷ "s87" ∷ "s88" ∷ "s89" ∷ "s90" ∷ "s91" ∷ "s92" ∷ "s93" ∷ "s94" ∷ "s95" ∷ "s96" ∷ "s97" ∷ "s98" ∷ "s99" ∷ "s100" ∷ "s101" ∷ "s102" ∷ "s103" ∷ "s104" ∷ "s105" ∷ "s106" ∷ "s107" ∷ "s108" ∷ "s109" ∷ "s110" ∷ "s111" ∷ "s112" ∷ "s113" ∷ "s114" ∷ "s115" ∷ "s116" ∷ "s117" ∷ "s118" ∷ "s119" ∷ "s120" ∷ "s121" ∷ "s122" ∷ "s123" ∷ "s124" ∷ "s125" ∷ "s126" ∷ "s127" ∷ []
 
-sessions_32 : first_broken (creates thirty_two_names) ≡ None
-sessions_32 = refl
+sessions_128 : first_broken (creates hundred_twenty_eight_names) ≡ None
+sessions_128 = refl
 
-sessions_33 : first_broken (creates (thirty_two_names ++ "s32" ∷ [])) ≡ Some (1, past_limit)
-sessions_33 = refl
+sessions_129 : first_broken (creates (hundred_twenty_eight_names ++ "s128" ∷ [])) ≡ Some (1, past_limit)
+sessions_129 = refl
 
 processes_16 : first_broken (go [] ∷ replicate 16 (started [])) ≡ None
 processes_16 = refl

@@ -28,4 +28,4 @@ COMMANDS = 256
 
 -- sessions that the control list creates
 abbrev pub SESSIONS : ℕ
-SESSIONS = 32
+SESSIONS = 128

@@ -8,7 +8,7 @@ use Rattle.def_term.specs.Tree.{Tree, atom, tuple, list, none, elements}
 use Rattle.def_term.specs.Names.{Name}
 use Rattle.def_term.specs.Text.{is_among}
 use Rattle.def_script.specs.Limits.{PARAMETERS}
-use Rattle.def_script.specs.Program.{is_variable, Class, error, throw, exit, Step, send, receive, call_remote, call_local, catch, spawn, link, unlink, give_back, raise, Function, Entry, Command, create, destroy, set_processes, set_function, set_send, set_receive, Form, declares, starts, controls}
+use Rattle.def_script.specs.Program.{is_variable, error, throw, exit, Step, send, receive, call_remote, call_local, catch, spawn, link, unlink, give_back, raise, Function, Entry, Command, create, destroy, set_processes, set_function, set_send, set_receive, Form, declares, starts, controls}
 
 -- what is made of two parts, where both are there
 abbrev pub both : {X Y Z : Type 0} → (X → Y → Z) → Option X → Option Y → Option Z

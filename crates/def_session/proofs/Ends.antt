@@ -9,10 +9,10 @@ use Rattle.def_term.specs.Alive.{FIRST_PID, with_alive}
 use Rattle.def_script.specs.Program.{Class}
 use Rattle.def_node.specs.Event.{Event, called, returned, raised, spawned, exited, getting_linked}
 use Rattle.def_spec.specs.Flags.{no_flags, procs_flag, call_flag}
-use Rattle.def_spec.specs.Expressions.{Effect, gives_message, traces_return, traces_exception, silences, changes}
+use Rattle.def_spec.specs.Expressions.{Effect}
 use Rattle.def_session.specs.State.{Phase, absent, live, destroyed, Kind, Mark, Session, flags_at, with_flags, marks_at, with_marks, kind_among, mark_of}
 use Rattle.def_session.specs.Messages.{process_of}
-use Rattle.def_session.specs.Session.{is_marked, is_marked_for_exceptions, inherited, evaluated, affected, all_affected, mark_asked, marked, unmarked, finished, told_for, told_in, event_told}
+use Rattle.def_session.specs.Session.{is_marked, is_marked_for_exceptions, inherited, evaluated, all_affected, mark_asked, marked, unmarked, finished, told_for, told_in, event_told}
 use Rattle.def_session.specs.Laws.{ReturnEndsTheMark, ReturnEndsNoOtherMark, RaiseEndsTheMark, RaiseEndsNoOtherMark, ExitEndsTheFlags, ExitEndsTheMarks, MarksOfOthersStay, ExitEndsTheLife}
 
 without_effects : (s : Session) (e : Event) (a b : Bool) → (told_for s e (if a then (if b then Some [] else None) else None)).0 ≡ finished s e []
@@ -144,23 +144,12 @@ finished_stays s (raised p f c t depth) es q h = with_marks_stay s p q (filter (
 finished_stays s (exited p r) es q h = with_marks_stay (with_flags (record s { alive = with_alive s.alive p false }) p no_flags) p q [] h
 finished_stays s _ es q h = refl
 
-affected_stays : (p : ℕ) (s : Session) (e : Effect) → (affected p s e).marks ≡ s.marks
-affected_stays p s (gives_message t) = refl
-affected_stays p s traces_return = refl
-affected_stays p s traces_exception = refl
-affected_stays p s (silences b) = refl
-affected_stays p s (changes n cleared set) = refl
-
-pub all_stay : (p : ℕ) (s : Session) (es : List Effect) → (all_affected p s es).marks ≡ s.marks
-all_stay p s [] = refl
-all_stay p s (e ∷ es) = all_stay p (affected p s e) es ∙ affected_stays p s e
-
 abbrev those_of : List (List Mark) → ℕ → List Mark
 those_of ms q = unwrap_or (slice_get ms (q - FIRST_PID)) []
 
 told_stays : (s : Session) (e : Event) (r : Option (List Effect)) (q : ℕ) → process_of e - FIRST_PID ≢ q - FIRST_PID → marks_at (told_for s e r).0 q ≡ marks_at s q
 told_stays s e None q h = finished_stays s e [] q h
-told_stays s e (Some es) q h = finished_stays (all_affected (process_of e) s es) e es q h ∙ ap (λ ms. those_of ms q) (all_stay (process_of e) s es)
+told_stays s e (Some es) q h = finished_stays (all_affected (process_of e) s es) e es q h
 
 inherited_stays : (s : Session) (e : Event) → (inherited s e).marks ≡ s.marks
 inherited_stays s (spawned p parent f args) = refl

@@ -1,19 +1,19 @@
 -- What refused commands, other commands and events leave as it is.
-use Rattle.std.proofs.Common.{◌≡◌, ℕ, List, [], ◌∷◌, Bool, true, false, if◌then◌else◌, refl, ap, ◌∙◌, Option, Some, None, Ok, Err}
+use Rattle.std.proofs.Common.{◌≡◌, ℕ, List, [], Bool, true, false, if◌then◌else◌, refl, ap, ◌∙◌, Option, Some, None, Ok, Err}
 use Rattle.def_term.specs.Tree.{Tree, tuple, none, more}
 use Rattle.def_term.specs.Names.{word}
 use Rattle.def_term.specs.Order.{same}
 use Rattle.def_script.specs.Program.{Command, create, destroy, set_processes, set_function, set_send, set_receive}
 use Rattle.def_node.specs.Event.{Event, called, returned, raised, spawned, exited, getting_linked}
-use Rattle.def_spec.specs.Flags.{Flags}
-use Rattle.def_spec.specs.Expressions.{Effect, gives_message, traces_return, traces_exception, silences, changes, for_calls, for_sends, for_receives}
+use Rattle.def_spec.specs.Flags.{Flags, flags_listed}
+use Rattle.def_spec.specs.Expressions.{Effect, for_calls, for_sends, for_receives}
 use Rattle.def_spec.specs.Reading.{SpecFault, badarg, unsupported, Reads}
 use Rattle.def_session.specs.Settings.{Covered, Setting, setting_of, covered_of, options_of}
 use Rattle.def_session.specs.State.{Phase, absent, live, destroyed, Kind, Session}
 use Rattle.def_script.specs.Opening.{Opening}
-use Rattle.def_session.specs.Session.{inherited, evaluated, affected, all_affected, mark_asked, marked, finished, told_for, told_in}
+use Rattle.def_session.specs.Session.{inherited, evaluated, all_affected, mark_asked, marked, finished, told_for, told_in}
 use Rattle.def_session.specs.Messages.{process_of}
-use Rattle.def_session.specs.Commands.{number, refused, fault_term, Procs, one_process, existing, new_processes, all_processes, procs_of, how_of, flags_of, flags_set, flags_set_if, function_set, function_set_if, send_set, receive_set, done_live, done_absent, done_destroyed, done_in}
+use Rattle.def_session.specs.Commands.{number, refused, fault_term, Procs, one_process, existing, new_processes, all_processes, procs_of, how_of, flags_set, flags_set_if, function_set, function_set_if, send_set, receive_set, done_live, done_absent, done_destroyed, done_in}
 use Rattle.def_term.specs.Alive.{is_alive}
 use Rattle.def_session.specs.Laws.{is_about_functions, RefusedChangesNothing, OtherCommandsKeepSettings, EventsKeepSettings}
 
@@ -76,7 +76,7 @@ receive_kept s (Ok x) e h = no_fault _ _ e h
 live_kept : (o : Opening) (s : Session) (c : Command) (e : SpecFault) → (done_live o s c).1 ≡ fault_term e → (done_live o s c).0 ≡ s
 live_kept o s (create name tracer) e h = refl
 live_kept o s (destroy name) e h = true_no_fault _ e h
-live_kept o s (set_processes name procs how flags) e h = flags_if_kept s (procs_of procs) (how_of how) (flags_of flags) e h
+live_kept o s (set_processes name procs how flags) e h = flags_if_kept s (procs_of procs) (how_of how) (flags_listed flags) e h
 live_kept o s (set_function name mfa spec options) e h = set_if_kept o s (covered_of mfa) (options_of options) spec e h
 live_kept o s (set_send name spec) e h = send_kept s (setting_of for_sends spec) e h
 live_kept o s (set_receive name spec) e h = receive_kept s (setting_of for_receives spec) e h
@@ -126,7 +126,7 @@ receive_functions s (Ok x) = refl
 live_functions : (o : Opening) (s : Session) (c : Command) → is_about_functions c ≡ false → (done_live o s c).0.functions ≡ s.functions
 live_functions o s (create name tracer) h = refl
 live_functions o s (destroy name) h = both_ways _ h
-live_functions o s (set_processes name procs how flags) h = flags_if_functions s (procs_of procs) (how_of how) (flags_of flags)
+live_functions o s (set_processes name procs how flags) h = flags_if_functions s (procs_of procs) (how_of how) (flags_listed flags)
 live_functions o s (set_function name mfa spec options) h = both_ways _ h
 live_functions o s (set_send name spec) h = send_functions s (setting_of for_sends spec)
 live_functions o s (set_receive name spec) h = receive_functions s (setting_of for_receives spec)
@@ -145,17 +145,6 @@ other_commands_keep_settings o s c h = functions_in s.phase o s c h
 
 -- ---- and after events
 
-affected_functions : (p : ℕ) (s : Session) (e : Effect) → (affected p s e).functions ≡ s.functions
-affected_functions p s (gives_message t) = refl
-affected_functions p s traces_return = refl
-affected_functions p s traces_exception = refl
-affected_functions p s (silences b) = refl
-affected_functions p s (changes n cleared set) = refl
-
-all_functions : (p : ℕ) (s : Session) (es : List Effect) → (all_affected p s es).functions ≡ s.functions
-all_functions p s [] = refl
-all_functions p s (e ∷ es) = all_functions p (affected p s e) es ∙ affected_functions p s e
-
 marked_functions : (s : Session) (p depth : ℕ) (k : Option Kind) → (marked s p depth k).functions ≡ s.functions
 marked_functions s p depth None = refl
 marked_functions s p depth (Some k) = refl
@@ -169,7 +158,7 @@ finished_functions s _ es = refl
 
 told_functions : (s : Session) (e : Event) (r : Option (List Effect)) → (told_for s e r).0.functions ≡ s.functions
 told_functions s e None = finished_functions s e []
-told_functions s e (Some es) = finished_functions (all_affected (process_of e) s es) e es ∙ all_functions (process_of e) s es
+told_functions s e (Some es) = finished_functions (all_affected (process_of e) s es) e es
 
 inherited_functions : (s : Session) (e : Event) → (inherited s e).functions ≡ s.functions
 inherited_functions s (spawned p parent f args) = refl

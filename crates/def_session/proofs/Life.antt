@@ -1,12 +1,12 @@
 -- Before a creation; who lives; and the phase.
-use Rattle.std.proofs.Common.{◌≡◌, ℕ, List, [], ◌∷◌, false, refl, ap, ◌∙◌, Option, Some, None}
+use Rattle.std.proofs.Common.{◌≡◌, ℕ, List, [], false, refl, ap, ◌∙◌, Option, Some, None}
 use Rattle.def_term.specs.Alive.{Alive, with_alive}
 use Rattle.def_script.specs.Program.{Command, create}
 use Rattle.def_script.specs.Rules.{is_creation}
 use Rattle.def_node.specs.Event.{Event, called, returned, raised, spawned, exited, getting_linked}
-use Rattle.def_spec.specs.Expressions.{Effect, gives_message, traces_return, traces_exception, silences, changes}
+use Rattle.def_spec.specs.Expressions.{Effect}
 use Rattle.def_session.specs.State.{Phase, absent, live, destroyed, Kind, Session, alive_after}
-use Rattle.def_session.specs.Session.{inherited, evaluated, affected, all_affected, mark_asked, marked, finished, told_for, told_in}
+use Rattle.def_session.specs.Session.{inherited, evaluated, all_affected, mark_asked, marked, finished, told_for, told_in}
 use Rattle.def_session.specs.Commands.{refused, done_absent, done_in}
 use Rattle.def_session.specs.Messages.{process_of}
 use Rattle.def_session.specs.Laws.{CreationMakesLive, CommandBeforeCreation, EventBeforeCreation, LifeGoesByEvents, EventKeepsThePhase}
@@ -23,30 +23,6 @@ command_before_creation o s c h e = ap (λ p. done_in p o s c) h ∙ refused_abs
 
 pub event_before_creation : EventBeforeCreation
 event_before_creation s e h = ap (λ p. told_in p s e) h
-
--- ---- what effects leave
-
-affected_alive : (p : ℕ) (s : Session) (e : Effect) → (affected p s e).alive ≡ s.alive
-affected_alive p s (gives_message t) = refl
-affected_alive p s traces_return = refl
-affected_alive p s traces_exception = refl
-affected_alive p s (silences b) = refl
-affected_alive p s (changes n cleared set) = refl
-
-affected_phase : (p : ℕ) (s : Session) (e : Effect) → (affected p s e).phase ≡ s.phase
-affected_phase p s (gives_message t) = refl
-affected_phase p s traces_return = refl
-affected_phase p s traces_exception = refl
-affected_phase p s (silences b) = refl
-affected_phase p s (changes n cleared set) = refl
-
-all_alive : (p : ℕ) (s : Session) (es : List Effect) → (all_affected p s es).alive ≡ s.alive
-all_alive p s [] = refl
-all_alive p s (e ∷ es) = all_alive p (affected p s e) es ∙ affected_alive p s e
-
-all_phase : (p : ℕ) (s : Session) (es : List Effect) → (all_affected p s es).phase ≡ s.phase
-all_phase p s [] = refl
-all_phase p s (e ∷ es) = all_phase p (affected p s e) es ∙ affected_phase p s e
 
 -- ---- who lives at the end of an event
 
@@ -78,11 +54,11 @@ finished_phase s _ es = refl
 
 told_alive : (s : Session) (e : Event) (r : Option (List Effect)) → (told_for s e r).0.alive ≡ after_end s.alive e
 told_alive s e None = finished_alive s e []
-told_alive s e (Some es) = finished_alive (all_affected (process_of e) s es) e es ∙ ap (λ a. after_end a e) (all_alive (process_of e) s es)
+told_alive s e (Some es) = finished_alive (all_affected (process_of e) s es) e es
 
 told_phase : (s : Session) (e : Event) (r : Option (List Effect)) → (told_for s e r).0.phase ≡ s.phase
 told_phase s e None = finished_phase s e []
-told_phase s e (Some es) = finished_phase (all_affected (process_of e) s es) e es ∙ all_phase (process_of e) s es
+told_phase s e (Some es) = finished_phase (all_affected (process_of e) s es) e es
 
 -- a process lives from the spawned event on
 life_at : (s : Session) (e : Event) → after_end (inherited s e).alive e ≡ alive_after s.alive e

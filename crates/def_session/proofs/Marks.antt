@@ -1,5 +1,5 @@
 -- Which mark a call gets, and when a return or an exception is told.
-use Rattle.std.proofs.Common.{◌≡◌, ◌≢◌, ◌<◌, ℕ, zero, suc, ◌-◌, List, [], ◌∷◌, length, Bool, true, false, not, ◌&&◌, if◌then◌else◌, refl, ap, sym, ◌∙◌, subst, Option, Some, None, eq-eqb, arith}
+use Rattle.std.proofs.Common.{◌≡◌, ◌≢◌, ◌<◌, ℕ, zero, suc, ◌-◌, List, [], ◌∷◌, length, Bool, true, false, not, ◌&&◌, if◌then◌else◌, refl, ap, ◌∙◌, Option, Some, None, eq-eqb, arith}
 use Rattle.std.specs.Prelude.{slice_get, slice_set}
 use Rattle.std.specs.Option.{unwrap_or, is_some}
 use Rattle.std.proofs.lemmas.List.Elements.{All-head, All-tail}
@@ -14,7 +14,6 @@ use Rattle.def_session.specs.State.{Phase, absent, live, destroyed, Kind, for_re
 use Rattle.def_session.specs.Messages.{elements_of, process_of, decided}
 use Rattle.def_session.specs.Session.{is_for_exceptions, where_marked, all_affected, or_for_returns, mark_asked, is_silenced, marked, told_for, told_in}
 use Rattle.def_session.specs.Laws.{Lacks, ExceptionTraceMarks, ReturnTraceMarks, OtherEffectsMarkNothing, CallIsMarked, return_message, exception_message, ExceptionIsTold, NoOtherException, ReturnIsTold, NoOtherReturn}
-use Rattle.def_session.proofs.Ends.{all_stay}
 
 -- ---- what effects ask for
 
@@ -80,7 +79,7 @@ call_is_marked s p c es k h here is asks =
     ap (λ x. mark_of (told_in x s (called p c)).0 p c.depth) h
     ∙ ap (λ r. mark_of (told_for s (called p c) r).0 p c.depth) is
     ∙ ap (λ o. mark_of (marked t p c.depth o) p c.depth) asks
-    ∙ marked_so t p c.depth k (subst (λ ms. p - FIRST_PID < length ms) (sym (all_stay p s es)) here)
+    ∙ marked_so t p c.depth k here
 
 -- ---- what is told of a frame
 

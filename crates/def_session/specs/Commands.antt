@@ -1,13 +1,13 @@
 -- What one command does to its session, and its reply (trace:session_create/3, session_destroy/1, process/4, function/4, send/3, recv/3).
 -- Stands on the session's state and settings, on flags and on the reading of specifications.
 use Rattle.std.specs.Prelude.{ℕ, Bool, true, false, if◌then◌else◌, List, [], ◌∷◌, length, filter, Option, Some, None, Ok, Err, pos}
-use Rattle.def_term.specs.Tree.{Tree, int, atom, pid, tuple, list, none, more}
+use Rattle.def_term.specs.Tree.{Tree, int, atom, pid, tuple, none, more}
 use Rattle.def_term.specs.Order.{same}
 use Rattle.def_term.specs.Names.{word}
 use Rattle.def_term.specs.Alive.{Alive, is_alive, living_count}
 use Rattle.def_script.specs.Program.{Command, create, destroy, set_processes, set_function, set_send, set_receive}
 use Rattle.def_script.specs.Opening.{Opening}
-use Rattle.def_spec.specs.Flags.{Flags, joined, without, flags_named}
+use Rattle.def_spec.specs.Flags.{Flags, joined, without, flags_listed}
 use Rattle.def_spec.specs.Expressions.{for_calls, for_sends, for_receives}
 use Rattle.def_spec.specs.Reading.{SpecFault, badarg, unsupported, Reads}
 use Rattle.def_session.specs.Settings.{Covered, Setting, Covering, setting_of, covered_of, options_of, has_among}
@@ -50,11 +50,6 @@ procs_of t =
 -- whether it sets: How is `true` or `false`
 abbrev pub how_of : Tree → Option Bool
 how_of t = if same t (word "true") then Some true else if same t (word "false") then Some false else None
-
--- a list of flags, each one of the ten
-abbrev pub flags_of : Tree → Option Flags
-flags_of (list ts) = flags_named ts
-flags_of _ = None
 
 -- sets (How `true`) or clears (`false`)
 abbrev pub changed_flags : Bool → Flags → Flags → Flags
@@ -120,7 +115,7 @@ receive_set s (Ok setting) = (record s { receiving = setting }, number 1)
 abbrev pub done_live : Opening → Session → Command → Done
 done_live o s (create name tracer) = refused s
 done_live o s (destroy name) = (unset destroyed s.alive, word "true")
-done_live o s (set_processes name procs how flags) = flags_set_if s (procs_of procs) (how_of how) (flags_of flags)
+done_live o s (set_processes name procs how flags) = flags_set_if s (procs_of procs) (how_of how) (flags_listed flags)
 done_live o s (set_function name mfa spec options) = function_set_if o s (covered_of mfa) (options_of options) spec
 done_live o s (set_send name spec) = send_set s (setting_of for_sends spec)
 done_live o s (set_receive name spec) = receive_set s (setting_of for_receives spec)

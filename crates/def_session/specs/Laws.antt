@@ -8,13 +8,13 @@ use Rattle.def_script.specs.Program.{Class, Command, create, destroy, set_functi
 use Rattle.def_script.specs.Opening.{Opening}
 use Rattle.def_script.specs.Rules.{is_creation}
 use Rattle.def_node.specs.Event.{Event, Call, sent, received, called, returned, raised, spawning, spawned, exited, linked, unlinked, getting_linked, getting_unlinked}
-use Rattle.def_spec.specs.Flags.{Flag, no_flags, send_flag, receive_flag, call_flag, procs_flag, silent_flag, arity_flag}
-use Rattle.def_spec.specs.Expressions.{for_calls, Effect, traces_return, traces_exception}
+use Rattle.def_spec.specs.Flags.{Flag, no_flags, flags_in, send_flag, receive_flag, call_flag, procs_flag, silent_flag, arity_flag}
+use Rattle.def_spec.specs.Expressions.{for_calls, Effect, traces_return, traces_exception, context_after}
 use Rattle.def_spec.specs.Reading.{SpecFault}
 use Rattle.def_session.specs.Settings.{Covered, Setting, off, Covering, has_among, setting_for, setting_of, covered_of, options_of}
 use Rattle.def_session.specs.State.{absent, live, destroyed, Kind, for_returns, for_exceptions, Session, flags_at, mark_of, alive_after, unset}
 use Rattle.def_session.specs.Messages.{class_term, elements_of, process_of, last_message}
-use Rattle.def_session.specs.Session.{inherited, evaluated, all_affected, mark_asked, event_told}
+use Rattle.def_session.specs.Session.{inherited, context, evaluated, all_affected, mark_asked, event_told}
 use Rattle.def_session.specs.Commands.{matching_count, number, fault_term, command_done}
 
 -- ---- settings
@@ -101,6 +101,12 @@ pub record IsToldOf (s : Session) (e : Event) (m : Tree) : Type 0 where
 -- a message is told so, and is that of its event
 abbrev pub MessageIsOfItsEvent : Type 0
 MessageIsOfItsEvent = (s : Session) (e : Event) (m : Tree) → (event_told s e).1 ≡ Some m → IsToldOf s e m
+
+-- the flags that `trace` reads behind some effects are those that the session has once they are done
+abbrev pub TraceReadsTheSession : Type 0
+TraceReadsTheSession =
+    (s : Session) (me : ℕ) (ts : List Tree) (caller : Option Mfa) (es : List Effect) (p : ℕ) →
+    flags_in (context_after (context s me ts caller) es).flags p ≡ flags_at (all_affected me s es) p
 
 -- the message of a call ends with its function
 abbrev pub call_ending_with : ℕ → Tree → List Tree

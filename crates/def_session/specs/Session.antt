@@ -6,8 +6,8 @@ use Rattle.std.specs.Option.{is_some}
 use Rattle.def_term.specs.Tree.{Tree, pid}
 use Rattle.def_term.specs.Names.{Mfa, word}
 use Rattle.def_term.specs.Alive.{with_alive}
-use Rattle.def_spec.specs.Flags.{Flag, Flags, no_flags, only, joined, without, send_flag, receive_flag, call_flag, procs_flag, silent_flag, arity_flag, after_spawn, after_link}
-use Rattle.def_spec.specs.Expressions.{Context, Effect, gives_message, traces_return, traces_exception, silences, changes}
+use Rattle.def_spec.specs.Flags.{Flag, Flags, no_flags, send_flag, receive_flag, call_flag, procs_flag, silent_flag, arity_flag, after_spawn, after_link}
+use Rattle.def_spec.specs.Expressions.{Context, Effect, traces_return, traces_exception, flags_after}
 use Rattle.def_spec.specs.Outcome.{Outcome, no_match, matched, outcome_of}
 use Rattle.def_node.specs.Event.{Event, sent, received, called, returned, raised, spawning, spawned, exited, linked, unlinked, getting_linked, getting_unlinked}
 use Rattle.def_session.specs.Settings.{Setting, off, plain, by, setting_for}
@@ -39,9 +39,9 @@ evaluated_by off c = None
 evaluated_by plain c = Some []
 evaluated_by (by s) c = effects_in (outcome_of s c)
 
--- what a specification is evaluated in
+-- what a specification is evaluated in: the flags are those after inheritance
 abbrev pub context : Session → ℕ → List Tree → Option Mfa → Context
-context s me ts caller = record { matched_list = ts; me = me; caller_mfa = caller; alive = s.alive }
+context s me ts caller = record { matched_list = ts; me = me; caller_mfa = caller; alive = s.alive; flags = s.flags }
 
 -- the frame of this depth is marked, for whatever
 abbrev pub is_marked : Session → ℕ → ℕ → Bool
@@ -82,18 +82,9 @@ evaluated s (getting_unlinked p q) = where_set s p procs_flag (Some [])
 
 -- ---- effects
 
--- one effect: `silent` of the process itself, or flags of a process, cleared first and then set
-abbrev pub affected : ℕ → Session → Effect → Session
-affected p s (gives_message t) = s
-affected p s traces_return = s
-affected p s traces_exception = s
-affected p s (silences b) = with_flags s p (if b then joined (flags_at s p) (only silent_flag) else without (flags_at s p) (only silent_flag))
-affected p s (changes n cleared set) = with_flags s n (joined (without (flags_at s n) cleared) set)
-
--- in order
+-- with the flags that are there behind these effects in the process
 abbrev pub all_affected : ℕ → Session → List Effect → Session
-all_affected p s [] = s
-all_affected p s (e ∷ es) = all_affected p (affected p s e) es
+all_affected p s es = record s { flags = flags_after p s.flags es }
 
 -- return_trace marks for returns, where no mark is asked for yet
 abbrev pub or_for_returns : Option Kind → Option Kind

@@ -4,7 +4,7 @@ use Rattle.std.specs.Prelude.{ℕ, ◌-◌, ◌==◌, true, false, if◌then◌e
 use Rattle.std.specs.Option.{unwrap_or}
 use Rattle.def_term.specs.Alive.{FIRST_PID, PROCESSES, Alive, with_alive}
 use Rattle.def_script.specs.Opening.{Opening}
-use Rattle.def_spec.specs.Flags.{Flags, no_flags}
+use Rattle.def_spec.specs.Flags.{Flags, no_flags, FlagTable, flags_in, with_flags_in}
 use Rattle.def_session.specs.Settings.{Covering, Setting, plain}
 use Rattle.def_node.specs.Event.{Event, spawned, exited}
 
@@ -25,14 +25,13 @@ pub record Mark : Type 0 where
 pub record Session : Type 0 where
   pub phase : Phase
   pub alive : Alive
-  -- of the processes from the first pid on
-  pub flags : List Flags
+  pub flags : FlagTable
   pub for_new : Flags
   -- accepted function commands, the newest first
   pub functions : List Covering
   pub sending : Setting
   pub receiving : Setting
-  -- of those processes too, the marks of frames, the newest first
+  -- of the processes from the first pid on, the marks of frames, the newest first
   pub marks : List (List Mark)
 
 -- the first of the processes live
@@ -58,11 +57,11 @@ absent_session o = unset absent (alive_at_start o.processes)
 
 -- the flags of a process
 abbrev pub flags_at : Session → ℕ → Flags
-flags_at s n = unwrap_or (slice_get s.flags (n - FIRST_PID)) no_flags
+flags_at s n = flags_in s.flags n
 
 -- the flags of a process changed
 abbrev pub with_flags : Session → ℕ → Flags → Session
-with_flags s n f = record s { flags = slice_set s.flags (n - FIRST_PID) f }
+with_flags s n f = record s { flags = with_flags_in s.flags n f }
 
 -- the marks of a process
 abbrev pub marks_at : Session → ℕ → List Mark

@@ -3,14 +3,16 @@
 //!
 //! Stands on def_term, def_script, def_node and def_spec. Promises, as laws: of the function commands
 //! the newest that covers a function decides, and `false` removes; a message is its event's, told by a
-//! live session of a process that has the flag that the event needs; which mark a call gets, and that a
-//! return or an exception is told by it; a return or an exception ends its frame's mark, and an exit the
-//! process's flags and marks; a destroyed session tells nothing, and nothing brings it back.
+//! live session of a process that has the flag that the event needs; `trace` reads the flags that the
+//! session has at that point; which mark a call gets, and that a return or an exception is told by it; a
+//! return or an exception ends its frame's mark, and an exit the process's flags and marks; a destroyed
+//! session tells nothing, and nothing brings it back.
 #![tactic(auto)]
 
 ghost use Rattle.def_session.specs.Laws.{NewestSettingWins, FalseRemoves, NoSetting, FunctionCommandIsNewest};
 ghost use Rattle.def_session.specs.Laws.{RefusedChangesNothing, OtherCommandsKeepSettings, EventsKeepSettings};
-ghost use Rattle.def_session.specs.Laws.{MessageIsOfItsEvent, ShortCallHasItsArity, PlainCallHasItsArguments};
+ghost use Rattle.def_session.specs.Laws.{MessageIsOfItsEvent, TraceReadsTheSession, ShortCallHasItsArity};
+ghost use Rattle.def_session.specs.Laws.{PlainCallHasItsArguments};
 ghost use Rattle.def_session.specs.Laws.{DestructionTakesAll, EventAfterDestruction, CommandAfterDestruction};
 ghost use Rattle.def_session.specs.Laws.{ExceptionTraceMarks, ReturnTraceMarks, OtherEffectsMarkNothing, CallIsMarked};
 ghost use Rattle.def_session.specs.Laws.{ExceptionIsTold, NoOtherException, ReturnIsTold, NoOtherReturn};
@@ -42,6 +44,12 @@ pub fn message_is_of_its_event()
     ensures message { MessageIsOfItsEvent }
     ensures short { ShortCallHasItsArity }
     ensures plain { PlainCallHasItsArguments }
+{}
+
+/// The flags that the action `trace` reads behind some effects are those that the session has once they are
+/// done.
+pub fn trace_reads_the_session()
+    ensures { TraceReadsTheSession }
 {}
 
 /// A destruction takes all settings away. Afterwards an event gives no message, a command changes

@@ -1,12 +1,12 @@
 -- Expressions of conditions and bodies, their values and their effects ("Match Specifications in Erlang", "Variables and Literals" and "Function Descriptions").
--- Stands on bindings, on functions of values and on flags. Values don't use effects.
-use Rattle.std.specs.Prelude.{ℕ, Bool, true, false, if◌then◌else◌, List, [], ◌∷◌, ◌++◌, Option, Some, None}
-use Rattle.std.specs.Option.{option_and_then, option_map}
+-- Stands on bindings, on functions of values and on flags. Only the action `trace` reads flags, and with them the effects before it.
+use Rattle.std.specs.Prelude.{ℕ, Bool, true, false, not, if◌then◌else◌, List, [], ◌∷◌, ◌++◌, Option, Some, None}
+use Rattle.std.specs.Option.{option_map}
 use Rattle.def_term.specs.Tree.{Tree, pid, tuple, list, of_elements}
 use Rattle.def_term.specs.Order.{same}
 use Rattle.def_term.specs.Names.{Mfa, word, mfa_term}
 use Rattle.def_term.specs.Alive.{Alive, is_alive}
-use Rattle.def_spec.specs.Flags.{Flag, Flags, no_flags, only, flag_named}
+use Rattle.def_spec.specs.Flags.{Flag, Flags, no_flags, only, joined, without, same_flags, silent_flag, flag_named, flags_listed, FlagTable, flags_in, with_flags_in}
 use Rattle.def_spec.specs.Matching.{Bindings, value_bound}
 use Rattle.def_spec.specs.Functions.{Func, truth, is_true, apply}
 
@@ -16,7 +16,7 @@ pub data Dialect : Type 0 where
 
 -- the actions of bodies ("Functions Allowed Only for Tracing")
 pub data Action : Type 0 where
-  message return_trace exception_trace silent enable_trace disable_trace caller : Action
+  message return_trace exception_trace silent enable_trace disable_trace trace caller : Action
 
 mutual
   -- a variable, `'$_'`, `'$$'`, a term as it stands, a tuple or list of expressions, or a call of a function or an action
@@ -41,14 +41,15 @@ mutual
     no_exprs : Exprs
     and_expr : Expr → Exprs → Exprs
 
--- what an expression is evaluated in: the list that is matched, the own pid, the function of the frame beneath, and who lives
+-- what an expression is evaluated in: the list that is matched, the own pid, the function of the frame beneath, who lives, and the flags of all processes
 pub record Context : Type 0 where
   pub matched_list : List Tree
   pub me : ℕ
   pub caller_mfa : Option Mfa
   pub alive : Alive
+  pub flags : FlagTable
 
--- ---- actions
+-- ---- effects
 
 -- what an action asks of the session: a message, a mark of the call's frame, the flag `silent`, or a change of flags of a process
 pub data Effect : Type 0 where
@@ -57,6 +58,29 @@ pub data Effect : Type 0 where
   traces_exception : Effect
   silences : Bool → Effect
   changes : (of_pid : ℕ) → (off on : Flags) → Effect
+
+-- flags cleared first and then set
+abbrev pub changed : Flags → (off on : Flags) → Flags
+changed f off on = joined (without f off) on
+
+-- the flags of all processes behind an effect in the process me
+abbrev pub flags_behind : ℕ → FlagTable → Effect → FlagTable
+flags_behind me t (gives_message u) = t
+flags_behind me t traces_return = t
+flags_behind me t traces_exception = t
+flags_behind me t (silences b) = with_flags_in t me (if b then joined (flags_in t me) (only silent_flag) else without (flags_in t me) (only silent_flag))
+flags_behind me t (changes n off on) = with_flags_in t n (changed (flags_in t n) off on)
+
+-- behind several, in order
+abbrev pub flags_after : ℕ → FlagTable → List Effect → FlagTable
+flags_after me t [] = t
+flags_after me t (e ∷ es) = flags_after me (flags_behind me t e) es
+
+-- what is evaluated behind some effects has the flags that are there then
+abbrev pub context_after : Context → List Effect → Context
+context_after c es = record c { flags = flags_after c.me c.flags es }
+
+-- ---- actions
 
 -- the pid of a living process; of no other is a flag changed (own)
 abbrev pub living_pid : Alive → Tree → Option ℕ
@@ -74,6 +98,25 @@ change_by on c [] = None
 change_by on c (f ∷ []) = change on (living_pid c.alive (pid c.me)) (flag_named f)
 change_by on c (p ∷ f ∷ []) = change on (living_pid c.alive p) (flag_named f)
 change_by on c (p ∷ f ∷ t ∷ ts) = None
+
+-- `true` where the flags of the process differ afterwards from those just before, else `false` (own)
+abbrev pub is_changing : Flags → (off on : Flags) → Bool
+is_changing f off on = not (same_flags f (changed f off on))
+
+-- two lists of flags on a living process; any other value is a fault without an effect (own)
+abbrev pub trace_change : Context → Option ℕ → Option Flags → Option Flags → Option (Tree × List Effect)
+trace_change c (Some n) (Some off) (Some on) = Some (truth (is_changing (flags_in c.flags n) off on), changes n off on ∷ [])
+trace_change c _ _ _ = None
+
+-- on a pid
+abbrev pub trace_on : Context → (process off on : Tree) → Option (Tree × List Effect)
+trace_on c p off on = trace_change c (living_pid c.alive p) (flags_listed off) (flags_listed on)
+
+-- {trace,Disable,Enable} on self, {trace,Pid,Disable,Enable} on that pid
+abbrev pub trace_by : Context → List Tree → Option (Tree × List Effect)
+trace_by c (off ∷ on ∷ []) = trace_on c (pid c.me) off on
+trace_by c (p ∷ off ∷ on ∷ []) = trace_on c p off on
+trace_by c _ = None
 
 -- for `true` or `false` that effect, for another value none
 abbrev pub silence : Tree → List Effect
@@ -100,6 +143,7 @@ action_done d silent (t ∷ []) c = Some (word "true", silence t)
 action_done d silent _ c = None
 action_done d enable_trace ts c = option_map (λ es. (word "true", es)) (change_by true c ts)
 action_done d disable_trace ts c = option_map (λ es. (word "true", es)) (change_by false c ts)
+action_done d trace ts c = trace_by c ts
 action_done d caller ts c = Some (caller_term c.caller_mfa, [])
 
 -- ---- values
@@ -109,105 +153,93 @@ pub data Part : Type 0 where
   in_condition : Part
   in_body : Part
 
+-- an expression comes to a value or faults; with the effects so far
+pub data Evaluation (X : Type 0) : Type 0 where
+  comes_to : X → List Effect → Evaluation X
+  faults : List Effect → Evaluation X
+
+-- goes on with the value and the effects; a fault is the fault of the whole
+abbrev pub then_on : {X Y : Type 0} → Evaluation X → (X → List Effect → Evaluation Y) → Evaluation Y
+then_on (comes_to t es) f = f t es
+then_on (faults es) f = faults es
+
+-- the value, or a fault where there is none
+abbrev pub or_fault : {X : Type 0} → Option X → List Effect → Evaluation X
+or_fault (Some t) es = comes_to t es
+or_fault None es = faults es
+
 -- in a condition a fault is the fault of the whole, in a body a call that faults has the value 'EXIT' (own)
 abbrev pub settled : Part → Option Tree → Option Tree
 settled in_condition r = r
 settled in_body None = Some (word "EXIT")
 settled in_body (Some t) = Some t
 
+-- the effects of an action stand behind those so far; one that faults has none. Actions stand in bodies alone
+abbrev pub performed : Part → Option (Tree × List Effect) → List Effect → Evaluation Tree
+performed in_condition r es = faults es
+performed in_body None es = comes_to (word "EXIT") es
+performed in_body (Some p) es = comes_to p.0 (es ++ p.1)
+
 -- by rising number
 abbrev pub values_bound : Bindings → List Tree
 values_bound [] = []
 values_bound (e ∷ es) = e.1 ∷ values_bound es
 
--- the value without the effects
-abbrev pub value_part : Option (Tree × List Effect) → Option Tree
-value_part r = option_map (λ p. p.0) r
-
--- goes on where the value is true: false where it is another (own), and a fault where it is one
-abbrev pub if_true : Option Tree → Option Tree → Option Tree
-if_true None rest = None
-if_true (Some t) rest = if is_true t then rest else Some (truth false)
-
--- goes on where the value is not true (own): true where it is, and a fault where it is one
-abbrev pub unless_true : Option Tree → Option Tree → Option Tree
-unless_true None rest = None
-unless_true (Some t) rest = if is_true t then Some (truth true) else rest
-
--- one value before the others; a fault where one is
-abbrev pub before : Option Tree → Option (List Tree) → Option (List Tree)
-before None ts = None
-before (Some t) None = None
-before (Some t) (Some ts) = Some (t ∷ ts)
-
 module _ (d : Dialect) (part : Part) (b : Bindings) (c : Context) where
   abbrev mutual
-    -- the value of an expression; None is a fault
-    pub value : Expr → Option Tree
-    value (bound_to n) = value_bound b n
-    value whole_list = Some (list (of_elements c.matched_list))
-    value all_bound = Some (list (of_elements (values_bound b)))
-    value (constant t) = Some t
-    value (tuple_of es) = option_map (λ ts. tuple (of_elements ts)) (values es)
-    value (list_of es) = option_map (λ ts. list (of_elements ts)) (values es)
-    value (call f es) = settled part (option_and_then (λ ts. apply f ts c.me) (values es))
-    value (and_also es) = all_in_turn es
-    value (or_else es) = one_in_turn es
-    value (perform a es) = settled part (option_and_then (λ ts. value_part (action_done d a ts c)) (values es))
+    -- what an expression comes to behind these effects; its own stand behind them, an argument's before its call's
+    pub evaluation : Expr → List Effect → Evaluation Tree
+    evaluation (bound_to n) x = or_fault (value_bound b n) x
+    evaluation whole_list x = comes_to (list (of_elements c.matched_list)) x
+    evaluation all_bound x = comes_to (list (of_elements (values_bound b))) x
+    evaluation (constant t) x = comes_to t x
+    evaluation (tuple_of es) x = then_on (evaluation_of_all es x) (λ ts y. comes_to (tuple (of_elements ts)) y)
+    evaluation (list_of es) x = then_on (evaluation_of_all es x) (λ ts y. comes_to (list (of_elements ts)) y)
+    evaluation (call f es) x = then_on (evaluation_of_all es x) (λ ts y. or_fault (settled part (apply f ts c.me)) y)
+    evaluation (and_also es) x = evaluation_while_true es x
+    evaluation (or_else es) x = evaluation_until_true es x
+    evaluation (perform a es) x = then_on (evaluation_of_all es x) (λ ts y. performed part (action_done d a ts (context_after c y)) y)
 
     -- left to right (own)
-    pub values : Exprs → Option (List Tree)
-    values no_exprs = Some []
-    values (and_expr e es) = before (value e) (values es)
+    pub evaluation_of_all : Exprs → List Effect → Evaluation (List Tree)
+    evaluation_of_all no_exprs x = comes_to [] x
+    evaluation_of_all (and_expr e es) x = then_on (evaluation e x) (λ t y. then_on (evaluation_of_all es y) (λ ts z. comes_to (t ∷ ts) z))
 
-    -- stops at the first that isn't true
-    pub all_in_turn : Exprs → Option Tree
-    all_in_turn no_exprs = Some (truth true)
-    all_in_turn (and_expr e es) = if_true (value e) (all_in_turn es)
+    -- stops at the first that isn't true: false where it has another value (own)
+    pub evaluation_while_true : Exprs → List Effect → Evaluation Tree
+    evaluation_while_true no_exprs x = comes_to (truth true) x
+    evaluation_while_true (and_expr e es) x = then_on (evaluation e x) (λ t y. if is_true t then evaluation_while_true es y else comes_to (truth false) y)
 
     -- stops at the first that is true
-    pub one_in_turn : Exprs → Option Tree
-    one_in_turn no_exprs = Some (truth false)
-    one_in_turn (and_expr e es) = unless_true (value e) (one_in_turn es)
+    pub evaluation_until_true : Exprs → List Effect → Evaluation Tree
+    evaluation_until_true no_exprs x = comes_to (truth false) x
+    evaluation_until_true (and_expr e es) x = then_on (evaluation e x) (λ t y. if is_true t then comes_to (truth true) y else evaluation_until_true es y)
 
--- ---- effects of what is evaluated in a body
+-- ---- values alone, and effects alone
 
--- a call that faults adds none of its own
-abbrev pub own_effects : Option (Tree × List Effect) → List Effect
-own_effects None = []
-own_effects (Some p) = p.1
+-- the value, where there is one
+abbrev pub its_value : {X : Type 0} → Evaluation X → Option X
+its_value (comes_to t es) = Some t
+its_value (faults es) = None
+
+-- the effects
+abbrev pub its_effects : {X : Type 0} → Evaluation X → List Effect
+its_effects (comes_to t es) = es
+its_effects (faults es) = es
 
 -- there is a value, and it is `true`
 abbrev pub is_true_value : Option Tree → Bool
 is_true_value None = false
 is_true_value (Some t) = is_true t
 
-module _ (d : Dialect) (b : Bindings) (c : Context) where
-  abbrev mutual
-    -- an argument's before its call's, left to right
-    pub effects : Expr → List Effect
-    effects (bound_to n) = []
-    effects whole_list = []
-    effects all_bound = []
-    effects (constant t) = []
-    effects (tuple_of es) = effects_of_all es
-    effects (list_of es) = effects_of_all es
-    effects (call f es) = effects_of_all es
-    effects (and_also es) = effects_while_true es
-    effects (or_else es) = effects_until_true es
-    effects (perform a es) = effects_of_all es ++ own_effects (option_and_then (λ ts. action_done d a ts c) (values d in_body b c es))
+-- the value of an expression, with no effect before it
+abbrev pub value : Dialect → Part → Bindings → Context → Expr → Option Tree
+value d part b c e = its_value (evaluation d part b c e [])
 
-    -- those of several expressions, left to right
-    pub effects_of_all : Exprs → List Effect
-    effects_of_all no_exprs = []
-    effects_of_all (and_expr e es) = effects e ++ effects_of_all es
+-- those of several
+abbrev pub values : Dialect → Part → Bindings → Context → Exprs → Option (List Tree)
+values d part b c es = its_value (evaluation_of_all d part b c es [])
 
-    -- up to the first that isn't true
-    pub effects_while_true : Exprs → List Effect
-    effects_while_true no_exprs = []
-    effects_while_true (and_expr e es) = effects e ++ (if is_true_value (value d in_body b c e) then effects_while_true es else [])
-
-    -- up to the first that is true
-    pub effects_until_true : Exprs → List Effect
-    effects_until_true no_exprs = []
-    effects_until_true (and_expr e es) = effects e ++ (if is_true_value (value d in_body b c e) then [] else effects_until_true es)
+-- the effects of a body
+abbrev pub effects_of_all : Dialect → Bindings → Context → Exprs → List Effect
+effects_of_all d b c es = its_effects (evaluation_of_all d in_body b c es [])

@@ -1,10 +1,11 @@
--- The ten flags of processes in a session (trace:process/4), and sets of them.
--- Stands on terms.
-use Rattle.std.specs.Prelude.{ℕ, ◌==◌, Bool, false, not, ◌&&◌, ◌||◌, if◌then◌else◌, List, [], ◌∷◌, Option, Some, None, codes}
-use Rattle.std.specs.Option.{option_map}
+-- The ten flags of processes in a session (trace:process/4), sets of them, and the flags of all processes.
+-- Stands on terms and on the pids of processes.
+use Rattle.std.specs.Prelude.{ℕ, ◌-◌, ◌==◌, Bool, false, not, ◌&&◌, ◌||◌, if◌then◌else◌, List, [], ◌∷◌, Option, Some, None, codes, slice_get, slice_set}
+use Rattle.std.specs.Option.{option_map, unwrap_or}
 use Rattle.std.specs.Str.{bytes_eq}
-use Rattle.def_term.specs.Tree.{Tree, atom, Trees, none, more}
+use Rattle.def_term.specs.Tree.{Tree, atom, list, Trees, none, more}
 use Rattle.def_term.specs.Names.{Name}
+use Rattle.def_term.specs.Alive.{FIRST_PID}
 
 -- `send`, `'receive'`, `call`, `procs`, `silent`, `arity`, `set_on_spawn`, `set_on_first_spawn`, `set_on_link` and `set_on_first_link`
 pub data Flag : Type 0 where
@@ -49,6 +50,10 @@ has_all f g =
     let has : Flag → Bool = λ x. f x || not (g x) in
     has send_flag && (has receive_flag && (has call_flag && (has procs_flag && (has silent_flag && (has arity_flag && (has set_on_spawn && (has set_on_first_spawn && (has set_on_link && has set_on_first_link))))))))
 
+-- the same flags are in both
+abbrev pub same_flags : Flags → Flags → Bool
+same_flags f g = has_all f g && has_all g f
+
 -- the flags by their names
 abbrev pub flags_by_name : List (Name × Flag)
 flags_by_name =
@@ -74,6 +79,25 @@ and_flag (Some f) fs = option_map (joined (only f)) fs
 abbrev pub flags_named : Trees → Option Flags
 flags_named none = Some no_flags
 flags_named (more t ts) = and_flag (flag_named t) (flags_named ts)
+
+-- those that a term lists; none where it is no list, or one of its elements is no flag
+abbrev pub flags_listed : Tree → Option Flags
+flags_listed (list ts) = flags_named ts
+flags_listed _ = None
+
+-- ---- the flags of processes
+
+-- the flags of the processes of a run, from the first pid on
+abbrev pub FlagTable : Type 0
+FlagTable = List Flags
+
+-- those of one process
+abbrev pub flags_in : FlagTable → ℕ → Flags
+flags_in t n = unwrap_or (slice_get t (n - FIRST_PID)) no_flags
+
+-- one process with these flags
+abbrev pub with_flags_in : FlagTable → ℕ → Flags → FlagTable
+with_flags_in t n f = slice_set t (n - FIRST_PID) f
 
 -- ---- inheritance
 

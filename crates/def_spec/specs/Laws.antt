@@ -1,15 +1,16 @@
 -- What is promised of specifications ("Match Specifications in Erlang") and of flags (trace:process/4).
 -- Stands on all definitions of specifications.
-use Rattle.std.specs.Prelude.{◌≡◌, ◌↔◌, ◌≤◌, ℕ, suc, nat_le, true, false, not, ◌&&◌, ◌||◌, List, [], ◌∷◌, length, Option, Some, None, is_some, Ok, Err}
+use Rattle.std.specs.Prelude.{◌≡◌, ◌↔◌, ◌≤◌, ◌⊎◌, ℕ, suc, nat_le, Bool, true, false, not, ◌&&◌, ◌||◌, List, [], ◌∷◌, ◌++◌, length, Option, Some, None, is_some, Ok, Err}
 use Rattle.std.specs.Bool.{⊤}
-use Rattle.def_term.specs.Tree.{Tree, atom, tuple, list, Trees, none, more}
+use Rattle.def_term.specs.Tree.{Tree, atom, pid, tuple, list, Trees, none, more}
 use Rattle.def_term.specs.Text.{is_among}
 use Rattle.def_term.specs.Names.{Name}
-use Rattle.def_spec.specs.Flags.{Flag, Flags, only, set_on_spawn, set_on_first_spawn, set_on_link, set_on_first_link, after_spawn, after_link}
+use Rattle.def_term.specs.Alive.{is_alive}
+use Rattle.def_spec.specs.Flags.{Flag, Flags, FlagTable, flags_in, flags_listed, only, set_on_spawn, set_on_first_spawn, set_on_link, set_on_first_link, after_spawn, after_link}
 use Rattle.def_spec.specs.Matching.{Pattern, Bindings, Matches, bindings_of, occurs}
 use Rattle.def_spec.specs.Functions as fn
-use Rattle.def_spec.specs.Functions.{Func}
-use Rattle.def_spec.specs.Expressions.{Dialect, Action, message, return_trace, exception_trace, silent, enable_trace, disable_trace, caller, Expr, bound_to, whole_list, all_bound, constant, tuple_of, list_of, call, and_also, or_else, perform, Exprs, no_exprs, and_expr, Context, Part, in_condition, in_body, value, values}
+use Rattle.def_spec.specs.Functions.{Func, truth}
+use Rattle.def_spec.specs.Expressions.{Dialect, Action, message, return_trace, exception_trace, silent, enable_trace, disable_trace, trace, caller, Expr, bound_to, whole_list, all_bound, constant, tuple_of, list_of, call, and_also, or_else, perform, Exprs, no_exprs, and_expr, Context, Effect, changes, changed, living_pid, trace_on, Part, in_condition, in_body, Evaluation, comes_to, faults, or_fault, evaluation, its_value, its_effects, value, values}
 use Rattle.def_spec.specs.Outcome.{Clause, Spec, Outcome, IsOutcome, outcome_of}
 use Rattle.def_spec.specs.Reading.{SpecFault, unsupported, Called, a_function, an_and_also, an_or_else, an_action, has_action, is_at_most, unsupported_names, expr_of, exprs_of, head_of, clause_of, spec_of}
 
@@ -58,11 +59,58 @@ abbrev mutual
   AreCovered p no_exprs = ⊤
   AreCovered p (and_expr e es) = IsCovered p e × AreCovered p es
 
--- in a body each expression has a term as its value
+-- in a body each expression has a term as its value, whatever was done before
 abbrev pub BodiesHaveValues : Type 0
 BodiesHaveValues =
-    (d : Dialect) (head : Pattern) (t : Tree) (b : Bindings) (c : Context) (e : Expr) → Matches head t b → IsCovered head e →
-    is_some (value d in_body b c e) ≡ true
+    (d : Dialect) (head : Pattern) (t : Tree) (b : Bindings) (c : Context) (e : Expr) (x : List Effect) → Matches head t b → IsCovered head e →
+    is_some (its_value (evaluation d in_body b c e x)) ≡ true
+
+-- a condition adds no effect, and has the same value with any flags and behind any effects
+abbrev pub ConditionsHaveNoEffects : Type 0
+ConditionsHaveNoEffects =
+    (d : Dialect) (b : Bindings) (c : Context) (flags : FlagTable) (e : Expr) (x : List Effect) →
+    evaluation d in_condition b (record c { flags = flags }) e x ≡ or_fault (value d in_condition b c e) x
+
+-- ---- effects
+
+-- the effects of what is evaluated stand behind those so far
+abbrev pub EffectsStandBehind : Type 0
+EffectsStandBehind = (d : Dialect) (part : Part) (b : Bindings) (c : Context) (e : Expr) (x : List Effect) → (own : List Effect) × (its_effects (evaluation d part b c e x) ≡ x ++ own)
+
+-- an action that isn't `trace`
+abbrev pub IsOther : Action → Type 0
+IsOther trace = ⊥
+IsOther a = ⊤
+
+-- `trace` doesn't stand in the expression
+abbrev mutual
+  pub IsTraceless : Expr → Type 0
+  IsTraceless (bound_to n) = ⊤
+  IsTraceless whole_list = ⊤
+  IsTraceless all_bound = ⊤
+  IsTraceless (constant t) = ⊤
+  IsTraceless (tuple_of es) = AreTraceless es
+  IsTraceless (list_of es) = AreTraceless es
+  IsTraceless (call f es) = AreTraceless es
+  IsTraceless (and_also es) = AreTraceless es
+  IsTraceless (or_else es) = AreTraceless es
+  IsTraceless (perform a es) = IsOther a × AreTraceless es
+
+  -- nor in any of several
+  pub AreTraceless : Exprs → Type 0
+  AreTraceless no_exprs = ⊤
+  AreTraceless (and_expr e es) = IsTraceless e × AreTraceless es
+
+-- the same with these effects in front
+abbrev pub behind : {X : Type 0} → List Effect → Evaluation X → Evaluation X
+behind x (comes_to t y) = comes_to t (x ++ y)
+behind x (faults y) = faults (x ++ y)
+
+-- without `trace` an expression has the value and the effects that it has alone, with any flags and behind any effects
+abbrev pub OnlyTraceReadsFlags : Type 0
+OnlyTraceReadsFlags =
+    (d : Dialect) (part : Part) (b : Bindings) (c : Context) (flags : FlagTable) (e : Expr) (x : List Effect) → IsTraceless e →
+    evaluation d part b (record c { flags = flags }) e x ≡ behind x (evaluation d part b c e [])
 
 -- each expression has the value that it has alone
 abbrev pub EachValue : Dialect → Part → Bindings → Context → Exprs → List Tree → Type 0
@@ -71,9 +119,30 @@ EachValue d part b c no_exprs (t ∷ ts) = ⊥
 EachValue d part b c (and_expr e es) [] = ⊥
 EachValue d part b c (and_expr e es) (t ∷ ts) = (value d part b c e ≡ Some t) × EachValue d part b c es ts
 
--- the values of several expressions are the values of each by itself: what was evaluated before, and the effects that it had, change none
+-- without `trace` the values of several expressions are the values of each by itself: what was evaluated before, and the effects that it had, change none
 abbrev pub EffectsChangeNoValue : Type 0
-EffectsChangeNoValue = (d : Dialect) (part : Part) (b : Bindings) (c : Context) (es : Exprs) (ts : List Tree) → (values d part b c es ≡ Some ts) ↔ EachValue d part b c es ts
+EffectsChangeNoValue =
+    (d : Dialect) (part : Part) (b : Bindings) (c : Context) (es : Exprs) (ts : List Tree) → AreTraceless es →
+    (values d part b c es ≡ Some ts) ↔ EachValue d part b c es ts
+
+-- ---- the action `trace`
+
+-- two lists of flags on a living process are a change of its flags, whose value is `false` exactly where each flag stays as it was just before
+abbrev pub TraceTellsAChange : Type 0
+TraceTellsAChange =
+    (c : Context) (n : ℕ) (disable enable : Tree) (off on : Flags) → is_alive c.alive n ≡ true → flags_listed disable ≡ Some off → flags_listed enable ≡ Some on →
+    (b : Bool) × (trace_on c (pid n) disable enable ≡ Some (truth b, changes n off on ∷ []))
+    × ((b ≡ false) ↔ ((f : Flag) → changed (flags_in c.flags n) off on f ≡ flags_in c.flags n f))
+
+-- anything else is a fault
+abbrev pub TraceFaults : Type 0
+TraceFaults =
+    (c : Context) (p disable enable : Tree) →
+    (trace_on c p disable enable ≡ None) ↔ ((living_pid c.alive p ≡ None) ⊎ ((flags_listed disable ≡ None) ⊎ (flags_listed enable ≡ None)))
+
+-- a flag that is set is there whether it is cleared too or not; any other is there if it was and isn't cleared
+abbrev pub ClearsBeforeItSets : Type 0
+ClearsBeforeItSets = (f off on : Flags) (x : Flag) → (on x ≡ true → changed f off on x ≡ true) × (on x ≡ false → changed f off on x ≡ (f x && not (off x)))
 
 -- ---- reading
 
@@ -116,6 +185,7 @@ numbers_of_action exception_trace = (0, Some 0)
 numbers_of_action silent = (1, Some 1)
 numbers_of_action enable_trace = (1, Some 2)
 numbers_of_action disable_trace = (1, Some 2)
+numbers_of_action trace = (2, Some 3)
 numbers_of_action caller = (0, Some 0)
 
 -- those of what is called

@@ -1,7 +1,7 @@
 -- How a term is read as a specification: the clauses that it spells, or the first fault ("Match Specifications in Erlang", "Grammar").
 -- Stands on terms, patterns, functions and expressions.
 -- Which fault is the first is this project's own: clauses in order; of a clause its shape, then head, conditions and body, left to right; of an expression first itself, then its arguments.
-use Rattle.std.specs.Prelude.{ℕ, ◌+◌, ◌*◌, ◌-◌, ◌==◌, nat_le, Bool, true, false, not, ◌&&◌, if◌then◌else◌, List, [], ◌∷◌, length, Option, Some, None, Result, Ok, Err, codes}
+use Rattle.std.specs.Prelude.{ℕ, ◌==◌, nat_le, Bool, true, false, not, ◌&&◌, if◌then◌else◌, List, [], ◌∷◌, length, Option, Some, None, Result, Ok, Err, codes}
 use Rattle.std.specs.Str.{bytes_eq}
 use Rattle.def_term.specs.Tree.{Tree, int, atom, pid, tuple, list, Trees, none, more, count}
 use Rattle.def_term.specs.Names.{Name}
@@ -9,7 +9,7 @@ use Rattle.def_term.specs.Text.{is_digit, number_after, is_among}
 use Rattle.def_spec.specs.Matching.{Pattern, variable, anything, only_term, in_tuple, in_list, Patterns, no_patterns, and_pattern, occurs}
 use Rattle.def_spec.specs.Functions as fn
 use Rattle.def_spec.specs.Functions.{Func}
-use Rattle.def_spec.specs.Expressions.{Dialect, for_calls, for_sends, for_receives, Action, message, return_trace, exception_trace, silent, enable_trace, disable_trace, caller, Expr, bound_to, whole_list, all_bound, constant, tuple_of, list_of, call, and_also, or_else, perform, Exprs, no_exprs, and_expr, Part, in_condition, in_body}
+use Rattle.def_spec.specs.Expressions.{Dialect, for_calls, for_sends, for_receives, Action, message, return_trace, exception_trace, silent, enable_trace, disable_trace, trace, caller, Expr, bound_to, whole_list, all_bound, constant, tuple_of, list_of, call, and_also, or_else, perform, Exprs, no_exprs, and_expr, Part, in_condition, in_body}
 use Rattle.def_spec.specs.Outcome.{Clause, Spec}
 
 -- `badarg`, or `{unsupported,Name}`
@@ -146,14 +146,14 @@ table =
     ∷ with_some (codes "and") (a_function fn.all_of) ∷ with_some (codes "or") (a_function fn.one_of) ∷ with_some (codes "andalso") an_and_also ∷ with_some (codes "orelse") an_or_else
     ∷ with_args 2 (codes "xor") fn.just_one_of ∷ with_args 1 (codes "not") fn.is_false
     ∷ row (codes "message") (an_action message) 1 (Some 1) ∷ row (codes "return_trace") (an_action return_trace) 0 (Some 0) ∷ row (codes "exception_trace") (an_action exception_trace) 0 (Some 0) ∷ row (codes "silent") (an_action silent) 1 (Some 1)
-    ∷ row (codes "enable_trace") (an_action enable_trace) 1 (Some 2) ∷ row (codes "disable_trace") (an_action disable_trace) 1 (Some 2) ∷ row (codes "caller") (an_action caller) 0 (Some 0)
+    ∷ row (codes "enable_trace") (an_action enable_trace) 1 (Some 2) ∷ row (codes "disable_trace") (an_action disable_trace) 1 (Some 2) ∷ row (codes "trace") (an_action trace) 2 (Some 3) ∷ row (codes "caller") (an_action caller) 0 (Some 0)
     ∷ []
 
 -- functions of the OTP documentation that this profile leaves out
 abbrev pub unsupported_names : List Name
 unsupported_names =
     codes "is_record" ∷ codes "is_seq_trace" ∷ codes "set_seq_token" ∷ codes "get_seq_token" ∷ codes "set_tcw" ∷ codes "get_tcw" ∷ codes "display" ∷ codes "process_dump" ∷ codes "caller_line" ∷ codes "current_stacktrace"
-    ∷ codes "bsl" ∷ codes "bsr" ∷ codes "max" ∷ codes "min" ∷ codes "float" ∷ codes "round" ∷ codes "trunc" ∷ codes "ceil" ∷ codes "floor" ∷ codes "map_get" ∷ codes "map_size" ∷ codes "is_map_key" ∷ codes "bit_size" ∷ codes "byte_size" ∷ codes "binary_part" ∷ codes "trace" ∷ []
+    ∷ codes "bsl" ∷ codes "bsr" ∷ codes "max" ∷ codes "min" ∷ codes "float" ∷ codes "round" ∷ codes "trunc" ∷ codes "ceil" ∷ codes "floor" ∷ codes "map_get" ∷ codes "map_size" ∷ codes "is_map_key" ∷ codes "bit_size" ∷ codes "byte_size" ∷ codes "binary_part" ∷ []
 
 -- the row of a name, where the table has one
 abbrev pub found_in : List Row → Name → Option Row

@@ -3,12 +3,15 @@
 //!
 //! Stands on def_term. Promises, as laws: the walk over a head finds the one binding, where there is one
 //! and only there; the computed outcome is that of the least-numbered clause that fires; a body's value
-//! is a term, and effects change no value; a specification that is read is sound, and a fault is the first
+//! is a term, a condition has no effects, and without `trace` neither flags nor effects change a value;
+//! `trace` tells whether it changes flags; a specification that is read is sound, and a fault is the first
 //! one; and inheritance gives what the manual says in each case of the two flags.
 #![tactic(auto)]
 
 ghost use Rattle.def_spec.specs.Laws.{WalkIsMatching, BindingIsUnique, WalkMissesNone, OutcomeIsComputed};
-ghost use Rattle.def_spec.specs.Laws.{OutcomeIsUnique, BodiesHaveValues, EffectsChangeNoValue, ReadSpecsAreSound};
+ghost use Rattle.def_spec.specs.Laws.{OutcomeIsUnique, BodiesHaveValues, ConditionsHaveNoEffects};
+ghost use Rattle.def_spec.specs.Laws.{EffectsStandBehind, OnlyTraceReadsFlags, EffectsChangeNoValue};
+ghost use Rattle.def_spec.specs.Laws.{TraceTellsAChange, TraceFaults, ClearsBeforeItSets, ReadSpecsAreSound};
 ghost use Rattle.def_spec.specs.Laws.{FirstFaultyClause, HeadFaultFirst, ConditionFaultNext, BodyFaultLast};
 ghost use Rattle.def_spec.specs.Laws.{FirstFaultyExpression, UnsupportedFirst, SpawnInherits, LinkInherits};
 ghost use Rattle.def_spec.specs.Laws.{VariablesAreNumbered};
@@ -28,11 +31,24 @@ pub fn outcome_is_of_the_first_clause()
     ensures unique { OutcomeIsUnique }
 {}
 
-/// In a body each expression whose variables the head binds has a term as its value, and no effect
-/// changes a value.
+/// In a body each expression whose variables the head binds has a term as its value. The effects of what is
+/// evaluated stand behind those before it, and a condition has none. Without `trace` an expression has the
+/// value and the effects that it has alone, with any flags and behind any effects.
 pub fn bodies_have_values()
     ensures values { BodiesHaveValues }
+    ensures conditions { ConditionsHaveNoEffects }
+    ensures behind { EffectsStandBehind }
+    ensures flags { OnlyTraceReadsFlags }
     ensures alone { EffectsChangeNoValue }
+{}
+
+/// `trace` with two lists of flags on a living process changes its flags, first clearing and then setting
+/// them, and its value is `false` exactly where each flag of the process stays as it was just before; with
+/// anything else it faults.
+pub fn trace_tells_a_change()
+    ensures change { TraceTellsAChange }
+    ensures faults { TraceFaults }
+    ensures order { ClearsBeforeItSets }
 {}
 
 /// A specification that is read has the dialect that it is read for, at least one clause, no variable that
