@@ -108,6 +108,51 @@ EXCEPTION = """11 100 <0.100.0> exception_from {m,f,1} {error,{bad,1}}
   s3: the call has no mark
 """
 
+# Calls whose specification in s1 changes flags of the process itself and of the other, and in s2 names none.
+CHANGES = """{function,m,go,exported,[],[{call,'_',{m,f},[1]},{call,'_',{m,f},[2]}]}.
+{function,m,f,exported,['X'],[{return,'X'}]}.
+{process,m,go,[]}.
+{process,m,go,[]}.
+{control,[{session_create,s1,t1,[]},{process,s1,<0.100.0>,true,[call]},
+  {function,s1,{m,f,1},[{'_',[],[{message,[{trace,[],[arity]},{trace,<0.101.0>,[send],[call,procs]}]}]}],[]},
+  {session_create,s2,t2,[]},{process,s2,<0.100.0>,true,[call]},
+  {function,s2,{m,f,1},[{'_',[],[{message,{trace,[],[]}}]}],[]}]}.
+"""
+
+CHANGES_PICKS = "0 0 0 0 0 0 100 100 100 100 101 101 101 101 101 101"
+
+FIRST_CHANGE = """8 100 <0.100.0> call {m,f,[1]}
+  s1: clause 1 fires: <0.100.0> gets arity, <0.101.0> loses send gets call gets procs, message [true,true]
+  s1: => {trace,<0.100.0>,call,{m,f,1},[true,true]}
+  s2: clause 1 fires: <0.100.0> keeps its flags, message false
+  s2: message false
+"""
+
+SECOND_CHANGE = """10 100 <0.100.0> call {m,f,[2]}
+  s1: clause 1 fires: <0.100.0> gets arity, <0.101.0> loses send gets call gets procs, message [false,false]
+  s1: => {trace,<0.100.0>,call,{m,f,1},[false,false]}
+  s2: clause 1 fires: <0.100.0> keeps its flags, message false
+  s2: message false
+"""
+
+ENTRY_OF_THE_OTHER = """11 101 <0.101.0> call {m,go,[]}
+  s1: no setting for m:go/0
+  s2: no flag call
+"""
+
+CHANGE_OF_THE_OTHER = """12 101 <0.101.0> call {m,f,[1]}
+  s1: clause 1 fires: <0.101.0> gets arity, <0.101.0> loses send gets call gets procs, message [true,false]
+  s1: => {trace,<0.101.0>,call,{m,f,1},[true,false]}
+  s2: no flag call
+"""
+
+END_OF_THE_OTHER = """16 101 <0.101.0> return_from {m,go,0} ok
+  s1: the call has no mark
+16 101 <0.101.0> exit normal
+  s1: => {trace,<0.101.0>,exit,normal}
+  s1: <0.101.0> loses call loses procs loses arity
+"""
+
 # A script, its picks, further words of an explanation, and its text.
 ACCOUNTS = (
     (SENDS, PICKS, (), WHOLE),
@@ -117,4 +162,9 @@ ACCOUNTS = (
     (COMMANDS, PICKS, ("--move", "9"), LAST_MOVE),
     (FAILS, FAILS_PICKS, ("--move", "10"), MARKING_CALL),
     (FAILS, FAILS_PICKS, ("--move", "11"), EXCEPTION),
+    (CHANGES, CHANGES_PICKS, ("--move", "8"), FIRST_CHANGE),
+    (CHANGES, CHANGES_PICKS, ("--move", "10"), SECOND_CHANGE),
+    (CHANGES, CHANGES_PICKS, ("--move", "11"), ENTRY_OF_THE_OTHER),
+    (CHANGES, CHANGES_PICKS, ("--move", "12"), CHANGE_OF_THE_OTHER),
+    (CHANGES, CHANGES_PICKS, ("--move", "16", "--session", "s1"), END_OF_THE_OTHER),
 )

@@ -8,7 +8,8 @@ import pathlib
 
 ROWS = pathlib.Path(__file__).resolve().parent / "rows"
 
-# Worked runs whose sessions set specifications, inherit flags, enable one another and are destroyed, and one that fails.
+# Worked runs whose sessions set specifications, inherit flags, enable one another and are destroyed, one that fails,
+# and one whose specification changes flags and tells whether they change.
 NAMES = (
     "send-hi",
     "guard-fault-skips-clause",
@@ -18,6 +19,7 @@ NAMES = (
     "enable-on-another-pid",
     "two-sessions",
     "caught-error",
+    "trace-in-a-message",
 )
 
 # The run queue's order, and how many turns are taken by give_turn.
@@ -191,6 +193,18 @@ CODES = (
         "[{'_',[],[{enable_trace,<0.101.0>,'receive'}]}]",
         "send",
         (("[<0.101.0>,{hi,1}]", ("match", "change 101 off", "on", "  receive")),),
+    ),
+    (
+        "[{['$1'],[],[{message,[{trace,'$1',[],[send,arity]},{trace,'$1',[call],[send]},{trace,[call],[]}]}]}]",
+        "call",
+        (
+            (
+                "[<0.101.0>]",
+                ("match", "change 101 off", "on", "  send", "  arity", "change 101 off", "  call", "on", "  send")
+                + ("change 100 off", "  call", "on", "message", "[true,false,false]"),
+            ),
+            ("[<0.102.0>]", ("match", "change 100 off", "  call", "on", "message", "['EXIT','EXIT',false]")),
+        ),
     ),
 )
 

@@ -460,6 +460,19 @@ def trials():
     of_caller = ["spec", "--list", "[]", "--me", "163", "--caller", "{m,f,2}"]
     told = b"clause 1 fires: message [<0.163.0>,{m,f,2}]\n=> a message that ends in [<0.163.0>,{m,f,2}]\n"
     wants("a caller", run([*of_caller, "[{'_',[],[{message,[{self},{caller}]}]}]"]), 0, told)
+    changes = "{message,[{trace,[],[call]},{trace,[],[send]},{trace,[],['receive']}]}"
+    texts = "<0.100.0> gets call, <0.100.0> gets send, <0.100.0> gets 'receive'"
+    for event, terms, told in (("call", "[]", "[false,true,true]"), ("send", "[<0.101.0>,hi]", "[true,false,true]")):
+        wanted = f"clause 1 fires: {texts}, message {told}\n=> a message that ends in {told}\n".encode()
+        ran = run(["spec", "--for", event, "--list", terms, f"[{{'_',[],[{changes}]}}]"])
+        wants(f"the flags of a {event}", ran, 0, wanted)
+    words = run(["spec", "--help"]).stdout.decode()
+    is_said = "the one flag that the process has" in words and "no other process has a flag" in words
+    check("the help of spec says which flags the process has", is_said, words)
+    for me in ("99", "164"):
+        told = b"clause 1 fires: message 'EXIT'\n=> a message that ends in 'EXIT'\n"
+        ran = run(["spec", "--list", "[]", "--me", me, "[{'_',[],[{message,{trace,[],[call]}}]}]"])
+        wants(f"a change of the flags of <0.{me}.0>", ran, 0, told)
     for words, line in (
         (["--list", "[hi,"], b"list:1:5: no term goes on so\n"),
         (["--list", "[a.b]"], b"list:1:3: no term goes on so\n"),
@@ -483,8 +496,12 @@ def trials():
         ("[a]", b"specification: clause 1: badarg\n"),
         ("[{'_',[],[]},{'_',['$1'],[]}]", b"specification: clause 2: badarg\n"),
         ("[{'_',[],[{display,a}]}]", b"specification: clause 1: unsupported function display\n"),
+        ("[{'_',[{trace,[],[call]}],[]}]", b"specification: clause 1: badarg\n"),
+        ("[{'_',[],[]},{'_',[],[{trace,[call]}]}]", b"specification: clause 2: badarg\n"),
     ):
         wants(f"spec {spec}", run(["spec", "--list", "[]", spec]), 2, b"", line)
+    ran = run(["spec", "--for", "receive", "--list", "[]", "[{'_',[],[{trace,[],[call]}]}]"])
+    wants("a change of flags for receives", ran, 2, b"", b"specification: clause 1: badarg\n")
     for words in (["--list"], [TWO_CLAUSES], ["--list", "[]", "--for", "calls"], ["--list", "[]", "--me", "-1"]):
         ran = run(["spec", *words])
         check(f"spec {' '.join(words)}", ran.returncode == 2 and not ran.stdout and ran.stderr, ran)

@@ -26,7 +26,7 @@ NO_FUNCTIONS = ("IS_ATOM", "")
 UNSUPPORTED = """
 is_record is_seq_trace set_seq_token get_seq_token set_tcw get_tcw display process_dump caller_line
 current_stacktrace bsl bsr max min float round trunc ceil floor map_get map_size is_map_key bit_size
-byte_size binary_part trace
+byte_size binary_part
 """
 
 # Calls of actions, and the dialects in which a body has them: of calls, of sends, of receives.
@@ -49,6 +49,11 @@ ACTIONS = (
     ("{disable_trace,call}", (True, True, False)),
     ("{disable_trace,1,2}", (True, True, False)),
     ("{disable_trace,1,2,3}", (False, False, False)),
+    ("{trace,[],[]}", (True, True, False)),
+    ("{trace,<0.100.0>,[],[]}", (True, True, False)),
+    ("{trace}", (False, False, False)),
+    ("{trace,[]}", (False, False, False)),
+    ("{trace,1,2,3,4}", (False, False, False)),
     ("{caller}", (True, False, False)),
     ("{caller,1}", (False, False, False)),
 )
@@ -97,7 +102,7 @@ TEXTS = (
     ("[{'_',[{message,{max}}],[]}]", "badarg"),
     ("[{'_',[{is_pid,{max}}],[]}]", "max"),
     ("[{'_',[{max,{no_such}}],[]}]", "max"),
-    ("[{'_',[{trace,'$2'}],[]}]", "trace"),
+    ("[{'_',[{min,'$2'}],[]}]", "min"),
     ("[{'_',[{element,{max},{min}}],[]}]", "max"),
     ("[{'_',[{element,'$1',{min}}],[]}]", "badarg"),
     ("[{'_',[],[[{max},{min}]]}]", "max"),

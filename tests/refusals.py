@@ -133,8 +133,13 @@ REFUSALS = [
     ),
     (
         "{function,m,f,exported,[],[]}.\n" + "{process,m,f,[]}.\n" * 17,
-        "script.term:18: form 18: at most 64 functions, 64 steps in each, 16 processes, 256 commands, 32 sessions: "
+        "script.term:18: form 18: at most 64 functions, 64 steps in each, 16 processes, 256 commands, 128 sessions: "
         "17 processes up to here",
+    ),
+    (
+        "{control,[" + ",".join("{session_create,s%d,t%d,[]}" % (number, number) for number in range(129)) + "]}.",
+        "script.term:1: form 1: at most 64 functions, 64 steps in each, 16 processes, 256 commands, 128 sessions: "
+        "129 sessions up to here",
     ),
     ("a.\n" * 257, "script.term: a script has at most 256 forms: there are 257"),
     ("%" * 1_048_577, "script.term: a script has at most 1048576 bytes: there are 1048577"),

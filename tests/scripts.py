@@ -7,7 +7,7 @@ import re
 
 LONGEST, MOST_FORMS, DEEPEST = 1_048_576, 256, 32
 MOST_ELEMENTS, MOST_FIELDS, MOST_CHARACTERS, MOST_ARGUMENTS = 4096, 255, 255, 255
-FUNCTIONS, STEPS, PROCESSES, COMMANDS, SESSIONS = 64, 64, 16, 256, 32
+FUNCTIONS, STEPS, PROCESSES, COMMANDS, SESSIONS = 64, 64, 16, 256, 128
 
 RESERVED = frozenset(
     b"after and andalso band begin bnot bor bsl bsr bxor case catch cond div end fun if let not of or orelse "

@@ -178,6 +178,106 @@ TRIALS = (
             "=> a message",
         ),
     ),
+    # Flags that are cleared and then set; the process has the flag call alone, and no process another.
+    (
+        "[]",
+        "[{'_',[],[{trace,[call],[send,arity]}]}]",
+        (
+            "clause 1 fires: <0.100.0> loses call gets send gets arity",
+            "=> a message",
+        ),
+    ),
+    (
+        "[<0.101.0>]",
+        "[{['$1'],[],[{message,{trace,'$1',[],[set_on_link,call,call,'receive']}}]}]",
+        (
+            "clause 1 fires: <0.101.0> gets 'receive' gets call gets set_on_link, message true",
+            "  '$1' is <0.101.0>",
+            "=> a message",
+        ),
+    ),
+    (
+        "[]",
+        "[{'_',[],[{message,{trace,{self},[procs,send],[]}}]}]",
+        (
+            "clause 1 fires: <0.100.0> loses send loses procs, message false",
+            "=> no message: it is false",
+        ),
+    ),
+    # It keeps its flags where both lists name none.
+    (
+        "[]",
+        "[{'_',[],[{trace,[],[]},{message,{trace,<0.163.0>,[],[]}}]}]",
+        (
+            "clause 1 fires: <0.100.0> keeps its flags, <0.163.0> keeps its flags, message false",
+            "=> no message: it is false",
+        ),
+    ),
+    # Whether flags change depends on what the actions before changed, and a flag of both lists is set.
+    (
+        "[]",
+        "[{'_',[],[{message,[{trace,[],[call]},{trace,[],[send]},{trace,[],[send]},{trace,[send],[]},"
+        "{trace,[call],[call]},{trace,[arity],[arity]}]}]}]",
+        (
+            "clause 1 fires: <0.100.0> gets call, <0.100.0> gets send, <0.100.0> gets send, <0.100.0> loses send, "
+            "<0.100.0> loses call gets call, <0.100.0> loses arity gets arity, message [false,true,false,true,false,true]",
+            "=> a message that ends in [false,true,false,true,false,true]",
+        ),
+    ),
+    (
+        "[]",
+        "[{'_',[],[{enable_trace,send},{disable_trace,<0.101.0>,call},{message,[{trace,[],[send]},"
+        "{trace,<0.101.0>,[call],[]},{trace,<0.101.0>,[],[call]},{trace,<0.102.0>,[],[call]}]}]}]",
+        (
+            "clause 1 fires: <0.100.0> gets send, <0.101.0> loses call, <0.100.0> gets send, <0.101.0> loses call, "
+            "<0.101.0> gets call, <0.102.0> gets call, message [false,false,true,true]",
+            "=> a message that ends in [false,false,true,true]",
+        ),
+    ),
+    (
+        "[]",
+        "[{'_',[],[{silent,true},{message,[{trace,[],[silent]},{trace,[silent],[]},{silent,true},{trace,[silent],[]}]}]}]",
+        (
+            "clause 1 fires: silent true, <0.100.0> gets silent, <0.100.0> loses silent, silent true, "
+            "<0.100.0> loses silent, message [false,true,true,true]",
+            "=> a message that ends in [false,true,true,true]",
+        ),
+    ),
+    (
+        "[]",
+        "[{'_',[],[{message,b},{trace,[],[silent]}]}]",
+        (
+            "clause 1 fires: message b, <0.100.0> gets silent",
+            "=> no message: silent",
+        ),
+    ),
+    # An argument comes before the call, and what isn't evaluated changes nothing.
+    (
+        "[]",
+        "[{'_',[],[{message,[{element,{hd,[2,{trace,[],[send]}]},{{a,{trace,[],[send]}}}},"
+        "{'orelse',{trace,[],[procs]},{trace,[],[arity]}},{'andalso',{trace,[],[procs]},{trace,[],[arity]}},"
+        "{trace,[],[arity]}]}]}]",
+        (
+            "clause 1 fires: <0.100.0> gets send, <0.100.0> gets send, <0.100.0> gets procs, <0.100.0> gets procs, "
+            "<0.100.0> gets arity, message [false,true,false,true]",
+            "=> a message that ends in [false,true,false,true]",
+        ),
+    ),
+    # What is no living process's pid, or no list of flags, is a fault, and changes nothing.
+    (
+        "[[send,call],send]",
+        "[{['$1','$2'],[],[{message,[{trace,<0.99.0>,[],[send]},{trace,<0.164.0>,[call],[]},{trace,100,[],[send]},"
+        "{trace,'$2',[],[]},{trace,[],'$2'},{trace,[nope],[]},{trace,[],[send,nope]},{trace,[[send]],[]},"
+        "{trace,[],\"send\"},{trace,[],[{hd,[]}]},{trace,[],['$2']},{trace,'$1',[call]}]}]}]",
+        (
+            "clause 1 fires: <0.100.0> gets send, <0.100.0> loses send loses call gets call, message "
+            "['EXIT','EXIT','EXIT','EXIT','EXIT','EXIT','EXIT','EXIT','EXIT','EXIT',true,true]",
+            "  '$1' is [send,call]",
+            "  '$2' is send",
+            "=> a message that ends in "
+            "['EXIT','EXIT','EXIT','EXIT','EXIT','EXIT','EXIT','EXIT','EXIT','EXIT',true,true]",
+        ),
+    ),
     # A call that faults in a body has no effect of its own, and the value 'EXIT'.
     (
         "[a]",
@@ -352,7 +452,7 @@ def of_length():
 
 def of_faults():
     """Faults at the greatest depth and in the last clause of 4,096: an event, a specification, and its refusal."""
-    for call, fault in (("{trace}", "unsupported function trace"), ("{'$1'}", "badarg")):
+    for call, fault in (("{max}", "unsupported function max"), ("{'$1'}", "badarg")):
         condition = nested("{'not',", call, "}", DEEPEST - 1)
         yield "call", f"[{{['$1'],[{condition}],[]}}]", f"clause 1: {fault}"
     clauses = many("{'_',[],[]}", ELEMENTS - 1)

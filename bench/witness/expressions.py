@@ -17,8 +17,7 @@ OTHER_TESTS = [Atom("is_boolean"), Atom("is_bitstring")]
 UNSUPPORTED = [
     Atom(name)
     for name in "is_record is_seq_trace set_seq_token get_seq_token set_tcw get_tcw caller_line current_stacktrace"
-    " bsl bsr max min float round trunc ceil floor map_get map_size is_map_key bit_size byte_size binary_part"
-    " trace".split()
+    " bsl bsr max min float round trunc ceil floor map_get map_size is_map_key bit_size byte_size binary_part".split()
 ]
 
 FLAGS = [
@@ -85,8 +84,23 @@ def integers_in(term):
 REFUSED = [(Atom("refused"), [], [])]
 
 # The actions that change flags of a process, and all that have an effect.
-CHANGES = ("enable_trace", "disable_trace")
+CHANGES = ("enable_trace", "disable_trace", "trace")
 EFFECTS = (*CHANGES, "message", "silent")
+
+
+def flags_in(part):
+    """The flags of a list that a call of `trace` has as an argument; None where it is no list of atoms."""
+    if isinstance(part, tuple) and len(part) == 2 and part[0] == "const":
+        part = part[1]
+    return part if isinstance(part, list) and all(isinstance(flag, Atom) for flag in part) else None
+
+
+def flags_named(call):
+    """The flags that a change of flags names: those that it takes, and those that it sets."""
+    if call[0] == "trace":
+        lists = [flags_in(part) or [] for part in call[-2:]] if len(call) > 2 else [[], []]
+        return tuple(lists)
+    return ([], [call[-1]]) if call[0] == "enable_trace" else ([call[-1]], [])
 
 
 def effects_in(expression):
@@ -117,14 +131,24 @@ def order_shows(expression):
     return any(found)
 
 
-def is_plain(specification, dialect):
-    """Nothing shows in it that no change of the question hides: no order of effects, no change after one that may take
-    the last flag, and no such change by a send, which may end a node of OTP 25."""
+def shows_order(specification):
+    """The order of effects shows in a body, which no change of the question hides."""
+    return any(order_shows(expression) for clause in specification for expression in clause[2:3])
+
+
+def takes_last_flag(specification, dialect):
+    """A body may change flags after the last flag of the process is gone, or takes flags of a process that sends.
+
+    No change of the question hides the first, and the second may end a node of OTP 25.
+    """
     for clause in specification:
         calls = calls_in([(*clause[:1], [], *clause[2:3])])
-        changes = [call[0] == "disable_trace" for call in calls if call[0] in CHANGES]
-        if any(order_shows(expression) for expression in clause[2:3]):
-            return False
+        # A list that isn't written out may have any flag.
+        changes = [
+            bool(flags_named(call)[0]) or (call[0] == "trace" and len(call) > 2 and flags_in(call[-2]) is None)
+            for call in calls
+            if call[0] in CHANGES
+        ]
         if (True in changes and len(changes) > 1) or (dialect == SENDS and True in changes):
-            return False
-    return True
+            return True
+    return False

@@ -3,7 +3,17 @@ import collections
 
 from witness.chooser import Chooser
 from witness.differences import commands_of
-from witness.expressions import CALLS, CHANGES, FLAGS, RECEIVES, SENDS, calls_in, integers_in, is_specification
+from witness.expressions import (
+    CALLS,
+    CHANGES,
+    FLAGS,
+    RECEIVES,
+    SENDS,
+    calls_in,
+    flags_named,
+    integers_in,
+    is_specification,
+)
 from witness.functions import Function, LAST, module_text
 from witness.terms import ANYTHING, Atom, FALSE, Pid, Reader, TRUE, line_is, pid_of, quoted, text, to_node
 
@@ -254,9 +264,9 @@ class ScriptCase:
 
     def flags(self):
         """All flags that a command or a specification names."""
-        return [flag for command in commands_of(self, "process") for flag in command[4]] + [
-            call[-1] for call in self.calls() if call[0] in CHANGES
-        ]
+        changes = [flags_named(call) for call in self.calls() if call[0] in CHANGES]
+        named = [flag for taken, given in changes for flag in (*taken, *given)]
+        return [flag for command in commands_of(self, "process") for flag in command[4]] + named
 
     def script(self, before=()):
         """The text of the script, with these commands before the others."""

@@ -2,12 +2,12 @@
 ghost use Rattle.std.specs.Prelude.{◌≡◌};
 ghost use Rattle.std.specs.Option.{option_map};
 ghost use Rattle.tn_term.specs.Views.{alive_of};
-ghost use Rattle.tn_flags.specs.Views.{call_of, flags_of};
+ghost use Rattle.tn_flags.specs.Views.{call_of, flags_of, table_of};
 ghost use Rattle.tn_session.specs.Looks.{look_seen, lent_seen, newest_seen};
 ghost use Rattle.tn_session.specs.Views.{kind_seen};
 
 use std::alloc::Allocator;
-use tn_flags::{Call, Flags};
+use tn_flags::{Call, FlagTable, Flags};
 use tn_index::Setting;
 use tn_session::{Kind, Look, Newest};
 use tn_spec::Spec;
@@ -30,6 +30,17 @@ pub fn alive<'a, A: Allocator + Copy>(
     ensures { alive_of result.0.now ≡ alive_of result.1.now }
 {
     (one.alive(), other.alive())
+}
+
+/// `tn_session::Look::flags` has one answer.
+pub fn flags<'a, A: Allocator + Copy>(
+    one: &Look<'a, A>,
+    other: &Look<'a, A>,
+) -> (&'a FlagTable, &'a FlagTable)
+    requires { look_seen one.now ≡ look_seen other.now }
+    ensures { table_of result.0.now ≡ table_of result.1.now }
+{
+    (one.flags(), other.flags())
 }
 
 /// `tn_session::Look::flags_at` has one answer.

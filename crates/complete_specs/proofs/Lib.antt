@@ -1,1 +1,2 @@
+pub mod Evaluations
 pub mod Readings

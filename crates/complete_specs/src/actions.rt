@@ -2,10 +2,12 @@
 ghost use Rattle.std.specs.Prelude.{◌≡◌, IfOk, map};
 ghost use Rattle.std.specs.Option.{option_map};
 ghost use Rattle.tn_guard.specs.Views.{value_seen};
-ghost use Rattle.tn_action.specs.Views.{acted};
+ghost use Rattle.tn_flags.specs.Views.{table_of};
+ghost use Rattle.tn_action.specs.Views.{acted, effect_seen};
 
 use std::alloc::{AllocError, Allocator};
-use tn_action::{Acted, Scene};
+use tn_action::{Acted, Context, Effect, Scene};
+use tn_flags::FlagTable;
 use tn_guard::Value;
 use tn_spec::Action;
 
@@ -15,15 +17,52 @@ pub fn perform<'a, A: Allocator + Copy>(
     one: &[Value<'a, A>],
     other: &[Value<'a, A>],
     scene: &Scene<'a, '_, A>,
+    before: &[Effect<A>],
+    again: &[Effect<A>],
 ) -> (
     Result<Option<Acted<'a, A>>, AllocError>,
     Result<Option<Acted<'a, A>>, AllocError>,
 )
-    requires { map value_seen one.now ≡ map value_seen other.now }
+    requires values { map value_seen one.now ≡ map value_seen other.now }
+    requires effects { map effect_seen before.now ≡ map effect_seen again.now }
     ensures { IfOk result.0 (λ r. IfOk result.1 (λ q. option_map acted r ≡ option_map acted q)) }
 {
     (
-        tn_action::perform(action, one, scene),
-        tn_action::perform(action, other, scene),
+        tn_action::perform(action, one, scene, before),
+        tn_action::perform(action, other, scene, again),
     )
+}
+
+/// `tn_action::trace_on` has one answer.
+pub fn trace_on<'a, A: Allocator>(
+    context: &Context<'_, A>,
+    before: &[Effect<A>],
+    again: &[Effect<A>],
+    process: Value<'_, A>,
+    off: Value<'_, A>,
+    on: Value<'_, A>,
+) -> (Option<Acted<'a, A>>, Option<Acted<'a, A>>)
+    requires { map effect_seen before.now ≡ map effect_seen again.now }
+    ensures { option_map acted result.0 ≡ option_map acted result.1 }
+{
+    (
+        tn_action::trace_on(context, before, process, off, on),
+        tn_action::trace_on(context, again, process, off, on),
+    )
+}
+
+/// `tn_action::Effect::apply_to` leaves one table.
+pub fn apply_to<A: Allocator, B: Allocator>(
+    effect: &Effect<A>,
+    again: &Effect<B>,
+    one: &mut FlagTable,
+    other: &mut FlagTable,
+    me: u32,
+)
+    requires effects { effect_seen effect.now ≡ effect_seen again.now }
+    requires tables { table_of one.old ≡ table_of other.old }
+    ensures { table_of one.new ≡ table_of other.new }
+{
+    effect.apply_to(one, me);
+    again.apply_to(other, me);
 }

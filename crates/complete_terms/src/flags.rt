@@ -39,6 +39,14 @@ pub fn has(one: Flags, other: Flags, flags: Flags) -> (bool, bool)
     (one.has(flags), other.has(flags))
 }
 
+/// `tn_flags::Flags::same` has one answer.
+pub fn same(one: Flags, other: Flags, flags: Flags) -> (bool, bool)
+    requires { flags_of one ≡ flags_of other }
+    ensures { result.0 ≡ result.1 }
+{
+    (one.same(flags), other.same(flags))
+}
+
 /// `tn_flags::flag_of_name` has one answer.
 pub fn of_name(text: &str) -> (Option<Flags>, Option<Flags>)
     ensures { option_map flags_of result.0 ≡ option_map flags_of result.1 }

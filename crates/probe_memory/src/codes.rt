@@ -6,7 +6,7 @@ use std::alloc::{AllocError, Global};
 use tn_action::{Context, Effect, Outcome};
 use tn_code::Code;
 use tn_compile::compile;
-use tn_flags::Flags;
+use tn_flags::{FlagTable, Flags};
 use tn_guard::Parts;
 use tn_machine::execute;
 use tn_spec::{Dialect, SpecFault, spec_of};
@@ -134,11 +134,13 @@ fn say_outcomes<R: Print>(
     buffer: &mut Buffer,
 ) {
     let alive = Alive::first(2);
+    let flags = FlagTable::none();
     let context = Context {
         list: Parts::Terms(list),
         me: OWN,
         caller: None,
         alive: &alive,
+        flags: &flags,
     };
     for _ in 0..2 {
         let arena = Bump::new(alloc);

@@ -1,7 +1,7 @@
 // Sets of flags, and the four cases of each pair of inheritance flags.
 use crate::checks::check;
 use std::test::Fail;
-use tn_flags::{Flags, flag_of, inherit_link, inherit_spawn};
+use tn_flags::{FlagTable, Flags, flag_of, inherit_link, inherit_spawn};
 use tn_text::read_term;
 
 const NONE: Flags = Flags {
@@ -240,7 +240,32 @@ fn sets(rt: HostRuntime) {
         assert!(rt; pair.one.join(pair.other) == pair.joined);
         assert!(rt; pair.one.without(pair.other) == pair.rest);
         assert!(rt; pair.one.has(pair.other) == pair.has_other);
+        assert!(rt; pair.one.same(pair.other) == (pair.one == pair.other));
     }
+}
+
+#[test]
+fn flags_of_processes(rt: HostRuntime) {
+    let mut table = FlagTable::none();
+    assert_eq!(rt; table.len(), 64);
+    table.set(100, CALL);
+    table.set(163, LINK);
+    table.set(164, SPAWN);
+    table.change(100, CALL, CALL_LINK);
+    table.silence(101, true);
+    table.silence(163, false);
+    assert!(rt; table.of(100) == CALL_LINK);
+    assert!(rt;
+        table.of(101)
+            == Flags {
+                silent: true,
+                ..NONE
+            }
+    );
+    assert!(rt; table.of(163) == LINK);
+    assert!(rt; table.of(164) == NONE);
+    table.silence(101, false);
+    assert!(rt; table.of(101) == NONE);
 }
 
 #[test]

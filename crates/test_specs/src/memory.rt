@@ -4,6 +4,7 @@ use linked_list_allocator::LocalHeap;
 use std::alloc::Allocator;
 use std::test::Fail;
 use tn_action::Context;
+use tn_flags::FlagTable;
 use tn_guard::Parts;
 use tn_spec::{Dialect, spec_of};
 use tn_term::{Alive, Term};
@@ -29,6 +30,7 @@ fn is_enough<A: Allocator + Copy>(heap: A, way: Way, list: &str) -> bool {
         me: 100,
         caller: None,
         alive: &Alive::first(2),
+        flags: &FlagTable::none(),
     };
     outcome_by(way, heap, &spec, &context).is_ok()
 }

@@ -9,7 +9,7 @@ use std::test::Fail;
 use tn_action::{Context, Effect, Outcome, outcome};
 use tn_code::Code;
 use tn_compile::compile;
-use tn_flags::Flags;
+use tn_flags::{FlagTable, Flags, flag_of_name};
 use tn_guard::{Parts, Value};
 use tn_machine::execute;
 use tn_spec::{Dialect, Spec, spec_of};
@@ -96,17 +96,26 @@ struct Case<'a> {
     list: &'a str,
 }
 
+/// The flags before an event: the own process has call, and no process another.
+pub fn own_call() -> Result<FlagTable, Fail> {
+    let mut flags = FlagTable::none();
+    flags.set(OWN, flag_of_name("call").ok_or("no flag")?);
+    Ok(flags)
+}
+
 /// What a specification is evaluated in, for the own process.
 fn context<'a>(
     list: &'a [Term<Global>],
     caller: Option<&'a Mfa<Global>>,
     alive: &'a Alive,
+    flags: &'a FlagTable,
 ) -> Context<'a, Global> {
     Context {
         list: Parts::Terms(list),
         me: OWN,
         caller,
         alive,
+        flags,
     }
 }
 
@@ -181,7 +190,8 @@ fn check_in(
     let spec = spec_in(alloc, case.spec, case.dialect)?;
     let list = elements(alloc, case.list)?;
     check_code(alloc, &spec)?;
-    let context = context(list.as_slice(), caller, alive);
+    let flags = own_call()?;
+    let context = context(list.as_slice(), caller, alive, &flags);
     let is_wanted = is_outcome(alloc, &spec, &context, wanted)?;
     assert!(rt; is_wanted, "{} on {} isn't {wanted}", case.spec, case.list);
     Ok(())
@@ -380,7 +390,7 @@ const CALL_OR_SEND: &[Dialect] = &[Dialect::Call, Dialect::Send];
 /// The dialects that a body is tried in, the body, and its effects on the list `[1]`.
 type Body = (&'static [Dialect], &'static str, &'static str);
 
-const BODIES: [Body; 58] = [
+const BODIES: [Body; 72] = [
     // Each call that faults has the value 'EXIT', and evaluation goes on.
     (CALL, "", "[]"),
     (CALL, "true,7,{hd,[]}", "[]"),
@@ -546,6 +556,80 @@ const BODIES: [Body; 58] = [
         "{message,{disable_trace,call,<0.101.0>}}",
         "[{message,'EXIT'}]",
     ),
+    // Flags cleared and set, which tells whether those of the process change. Before the body the own process has
+    // the flag call, and the other none.
+    (
+        CALL_OR_SEND,
+        "{message,[{trace,[],[send]},{trace,[],[send]},{trace,[send],[]},{trace,[call],[call]}]}",
+        "[{change,<0.100.0>,[],[send]},{change,<0.100.0>,[],[send]},{change,<0.100.0>,[send],[]},
+          {change,<0.100.0>,[call],[call]},{message,[true,false,true,false]}]",
+    ),
+    (
+        CALL_OR_SEND,
+        "{message,[{enable_trace,send},{trace,[],[send]}]}",
+        "[{change,<0.100.0>,[],[send]},{change,<0.100.0>,[],[send]},{message,[true,false]}]",
+    ),
+    (
+        CALL_OR_SEND,
+        "{message,[{silent,true},{trace,[],[silent]}]}",
+        "[{silent,true},{change,<0.100.0>,[],[silent]},{message,[true,false]}]",
+    ),
+    (
+        CALL_OR_SEND,
+        "{message,[{trace,<0.101.0>,[],[call]},{trace,{self},[],[call]}]}",
+        "[{change,<0.101.0>,[],[call]},{change,<0.100.0>,[],[call]},{message,[true,false]}]",
+    ),
+    (
+        CALL_OR_SEND,
+        "{message,{trace,[],[]}}",
+        "[{change,<0.100.0>,[],[]},{message,false}]",
+    ),
+    (
+        CALL_OR_SEND,
+        "{message,{'andalso',{trace,[call],[]},{trace,[call],[]}}}",
+        "[{change,<0.100.0>,[call],[]},{change,<0.100.0>,[call],[]},{message,false}]",
+    ),
+    (
+        CALL_OR_SEND,
+        "{message,{'orelse',{trace,[],[arity]},{trace,[call],[]}}}",
+        "[{change,<0.100.0>,[],[arity]},{message,true}]",
+    ),
+    (
+        CALL,
+        "{message,{trace,[],[send,send,procs,'receive']}}",
+        "[{change,<0.100.0>,[],[send,'receive',procs]},{message,true}]",
+    ),
+    // What is no list of flags, or no living process.
+    (
+        CALL_OR_SEND,
+        "{message,{trace,[],[nope]}}",
+        "[{message,'EXIT'}]",
+    ),
+    (
+        CALL_OR_SEND,
+        "{message,{trace,[send,1],[]}}",
+        "[{message,'EXIT'}]",
+    ),
+    (
+        CALL_OR_SEND,
+        "{message,{trace,[],send}}",
+        "[{message,'EXIT'}]",
+    ),
+    (
+        CALL_OR_SEND,
+        "{message,{trace,<0.102.0>,[],[send]}}",
+        "[{message,'EXIT'}]",
+    ),
+    (
+        CALL_OR_SEND,
+        "{message,{trace,100,[],[send]}}",
+        "[{message,'EXIT'}]",
+    ),
+    (
+        CALL,
+        "{message,{trace,[],[{message,1}]}}",
+        "[{message,1},{message,'EXIT'}]",
+    ),
     // The actions of sends.
     (
         SEND,
@@ -647,6 +731,7 @@ fn changes_of_the_dead(rt: HostRuntime) -> Result<(), Fail> {
             "{message,{disable_trace,<0.100.0>,call}}",
             "[{message,'EXIT'}]",
         ),
+        ("{message,{trace,[],[call]}}", "[{message,'EXIT'}]"),
         ("{message,{self}}", "[{message,<0.100.0>}]"),
     ] {
         let spec = format!(in rt.alloc(); "[{{'_',[],[{body}]}}]")?;
@@ -727,6 +812,7 @@ fn the_last_of_many_clauses(rt: HostRuntime) -> Result<(), Fail> {
     let alloc = rt.alloc();
     let spec = spec_in(alloc, &many_clauses(alloc)?, Dialect::Call)?;
     let alive = two_alive();
+    let flags = own_call()?;
     for (list, wanted) in &[
         ("[64]", "[{message,last}]"),
         ("[63]", "[{message,63}]"),
@@ -734,7 +820,7 @@ fn the_last_of_many_clauses(rt: HostRuntime) -> Result<(), Fail> {
         ("[]", "no_match"),
     ] {
         let list = elements(alloc, list)?;
-        let context = context(list.as_slice(), None, &alive);
+        let context = context(list.as_slice(), None, &alive, &flags);
         assert!(rt; is_outcome(alloc, &spec, &context, wanted)?, "not {wanted}");
     }
     Ok(())
@@ -753,6 +839,7 @@ fn a_list_of_values(rt: HostRuntime) -> Result<(), Fail> {
         me: OWN,
         caller: None,
         alive: &two_alive(),
+        flags: &own_call()?,
     };
     let wanted = "[{message,[[{hi,[1]}],[1],[<0.101.0>,{hi,[1]},[{hi,[1]}]]]}]";
     assert!(rt; is_outcome(alloc, &spec, &context, wanted)?);

@@ -25,6 +25,7 @@ fn action_name(action: Action) -> &'static str {
         Action::Message => "message",
         Action::ReturnTrace => "return_trace",
         Action::EnableTrace => "enable_trace",
+        Action::Trace => "trace",
         Action::Caller => "caller",
         _ => "another action",
     }

@@ -1,7 +1,8 @@
--- Values and effects of several expressions, one expression after another.
+-- What several expressions come to, one expression after another, and the clauses that fire.
 use Rattle.std.proofs.Common.{◌≡◌, ◌∙◌, sym, ap, refl, ℕ, ◌+◌, ◌<◌, ◌≤◌, Bool, true, false, ◌&&◌, if◌then◌else◌, List, [], ◌∷◌, ◌++◌, length, get_or, drop, map, Option, Some, None, append_assoc, append-nil, pos, Result}
 use Rattle.std.specs.Option.{option_map, option_and_then}
 use Rattle.std.specs.Result.{IfOk}
+use Rattle.std.specs.declared.alloc.Allocator.{Ghosts}
 use Rattle.std.proofs.lemmas.List.{drop_more, drop_all}
 use Rattle.std.proofs.lemmas.Result.{IfOk-weaker}
 use Rattle.tn_guard.specs.declared.value.Value.{Value}
@@ -12,16 +13,15 @@ use Rattle.def_spec.specs.Flags.{Flag, Flags, no_flags, only}
 use Rattle.def_spec.specs.Matching.{Bindings, bindings_of}
 use Rattle.def_spec.specs.Outcome.{Clause, Outcome, matched, matched_term, each_true, firing, or_next}
 use Rattle.def_spec.specs.Expressions as ex
-use Rattle.def_spec.specs.Expressions.{Expr, Exprs, no_exprs, and_expr, Effect, before, if_true, unless_true, is_true_value, values_bound}
+use Rattle.def_spec.specs.Expressions.{Expr, Exprs, no_exprs, and_expr, Effect, is_true_value, values_bound, Evaluation, comes_to, faults, then_on, or_fault, its_value, its_effects, evaluation, evaluation_of_all}
+use Rattle.def_spec.proofs.Conditions.{of-any}
 use Rattle.tn_spec.specs.Views.{expr_seen, exprs_seen}
 use Rattle.tn_spec.specs.declared.expr.Expr as code
 use Rattle.tn_guard.specs.Views.{value_seen}
 use Rattle.tn_head.specs.Views.{binding_seen}
 use Rattle.tn_head.specs.declared.bindings.Binding.{Binding}
-use Rattle.tn_action.specs.declared.scene.Part.{Part}
-use Rattle.tn_action.specs.declared.scene.Part.TheVariants.{Condition, Body}
-use Rattle.tn_action.specs.Parts.{part_seen}
-use Rattle.tn_action.specs.Scenes.{effects_of_part, unless_faulted}
+use Rattle.tn_action.specs.Scenes.{evaluation_in, all_in, while_true_in, until_true_in}
+use Rattle.tn_action.specs.declared.scene.Scene.{Scene}
 
 -- ---- the expressions of a vector
 
@@ -31,63 +31,39 @@ exprs_here es i e below is = ap exprs_seen (drop_more es i e below) ∙ ap (λ f
 pub exprs_past : {A : Type 0} (es : List (code.Expr A)) (i : ℕ) → length es ≤ i → exprs_seen (drop i es) ≡ no_exprs
 exprs_past es i past = ap exprs_seen (drop_all i es past)
 
--- ---- lists of values
-
--- those that are there before the others; a fault where one was met
-abbrev pub behind : Bool → List Tree → Option (List Tree) → Option (List Tree)
-behind true ts r = None
-behind false ts r = option_map (λ us. ts ++ us) r
-
-pub behind_some : (f : Bool) (ts : List Tree) (t : Tree) (r : Option (List Tree)) → behind f ts (before (Some t) r) ≡ behind f (ts ++ t ∷ []) r
-behind_some true ts t r = refl
-behind_some false ts t None = refl
-behind_some false ts t (Some us) = ap Some (sym (append_assoc ts (t ∷ []) us))
-
-pub behind_fault : (f : Bool) (ts : List Tree) (r : Option (List Tree)) → behind f ts (before None r) ≡ None
-behind_fault true ts r = refl
-behind_fault false ts r = refl
-
-pub behind_none : (ts : List Tree) → behind false ts (Some []) ≡ Some ts
-behind_none ts = ap Some (append-nil ts)
-
--- a value, but a fault where one was met
-abbrev pub unless_met : Bool → Option Tree → Option Tree
-unless_met true r = None
-unless_met false r = r
-
-pub unless_met_fault : (f : Bool) (r : Option Tree) → unless_met f (unless_true None r) ≡ None
-unless_met_fault true r = refl
-unless_met_fault false r = refl
-
-pub met_value : (f : Bool) (t : Tree) → unless_met f (Some t) ≡ unless_faulted f t
-met_value true t = refl
-met_value false t = refl
-
-pub goes_on : (t : Tree) (r : Option Tree) → is_true t ≡ true → if_true (Some t) r ≡ r
-goes_on t r e = ap (λ b. if b then r else Some (truth false)) e
-
-pub stops : (t : Tree) (r : Option Tree) → is_true t ≡ false → if_true (Some t) r ≡ Some (truth false)
-stops t r e = ap (λ b. if b then r else Some (truth false)) e
-
-pub other_goes_on : (t : Tree) (r : Option Tree) → is_true t ≡ false → unless_true (Some t) r ≡ r
-other_goes_on t r e = ap (λ b. if b then Some (truth true) else r) e
-
-pub other_stops : (t : Tree) (r : Option Tree) → is_true t ≡ true → unless_true (Some t) r ≡ Some (truth true)
-other_stops t r e = ap (λ b. if b then Some (truth true) else r) e
-
 -- ---- results
 
--- a result's value is this one too
-pub valued_as : {A E : Type 0} (r : Result (Option (Value A)) E) (t u : Option Tree) → t ≡ u → IfOk r (λ v. option_map value_seen v ≡ t) → IfOk r (λ v. option_map value_seen v ≡ u)
-valued_as r t u e h = IfOk-weaker r (λ v. option_map value_seen v ≡ t) (λ v. option_map value_seen v ≡ u) (λ v k. k ∙ e) h
+-- a result's value comes to this too
+pub comes_as : {A E : Type 0} (r : Result (Option (Value A)) E) (x : List Effect) (one other : Evaluation Tree) → one ≡ other
+    → IfOk r (λ v. or_fault (option_map value_seen v) x ≡ one) → IfOk r (λ v. or_fault (option_map value_seen v) x ≡ other)
+comes_as r x one other e h = IfOk-weaker r (λ v. or_fault (option_map value_seen v) x ≡ one) (λ v. or_fault (option_map value_seen v) x ≡ other) (λ v k. k ∙ e) h
 
--- what holds in any case holds of a result
-pub holds_as : {A E : Type 0} (r : Result (Option (Value A)) E) (t : Option Tree) (Q : Type 0) → Q → IfOk r (λ v. option_map value_seen v ≡ t) → IfOk r (λ _. Q)
-holds_as r t Q q h = IfOk-weaker r (λ v. option_map value_seen v ≡ t) (λ _. Q) (λ v k. q) h
+-- what a result's value comes to
+pub valued_as : {A E : Type 0} (r : Result (Option (Value A)) E) (x : List Effect) (o : Option Tree) (whole : Evaluation Tree) → or_fault o x ≡ whole
+    → IfOk r (λ v. option_map value_seen v ≡ o) → IfOk r (λ v. or_fault (option_map value_seen v) x ≡ whole)
+valued_as r x o whole e h = IfOk-weaker r (λ v. option_map value_seen v ≡ o) (λ v. or_fault (option_map value_seen v) x ≡ whole) (λ v k. ap (λ p. or_fault p x) k ∙ e) h
 
-pub value_part_then : (f : List Tree → Option (Tree × List Effect)) (o : Option (List Tree)) → ex.value_part (option_and_then f o) ≡ option_and_then (λ ts. ex.value_part (f ts)) o
-value_part_then f None = refl
-value_part_then f (Some ts) = refl
+-- ---- evaluations
+
+pub mapped : {X : Type 0} (o : Option X) (f : X → Tree) (x : List Effect) → or_fault (option_map f o) x ≡ then_on (or_fault o x) (λ t y. comes_to (f t) y)
+mapped None f x = refl
+mapped (Some t) f x = refl
+
+pub answered_value : {X : Type 0} (o : Option X) (x : List Effect) → its_value (or_fault o x) ≡ o
+answered_value None x = refl
+answered_value (Some t) x = refl
+
+-- values in front of those of the others
+abbrev pub behind : List Tree → Evaluation (List Tree) → Evaluation (List Tree)
+behind ts r = then_on r (λ us z. comes_to (ts ++ us) z)
+
+pub behind_none : (r : Evaluation (List Tree)) → behind [] r ≡ r
+behind_none (comes_to ts x) = refl
+behind_none (faults x) = refl
+
+behind_one : (ts : List Tree) (t : Tree) (r : Evaluation (List Tree)) → behind ts (then_on r (λ us z. comes_to (t ∷ us) z)) ≡ behind (ts ++ t ∷ []) r
+behind_one ts t (comes_to us x) = ap (λ l. comes_to l x) (sym (append_assoc ts (t ∷ []) us))
+behind_one ts t (faults x) = refl
 
 -- ---- variables
 
@@ -95,93 +71,106 @@ pub each_bound : {A : Type 0} (bs : List (Binding A)) → values_bound (map bind
 each_bound [] = refl
 each_bound (b ∷ bs) = ap (λ ts. value_seen b.value ∷ ts) (each_bound bs)
 
--- ---- effects
+-- ---- several expressions
 
-pub of_part_append : (p : Part) (xs ys : List Effect) → effects_of_part p (xs ++ ys) ≡ effects_of_part p xs ++ effects_of_part p ys
-of_part_append Condition xs ys = refl
-of_part_append Body xs ys = refl
+module _ {A : Type 0} {G : Ghosts A} (s : Scene A G) (all : Exprs) (e : Expr) (es : Exprs) (old new : List Effect) (here : all ≡ and_expr e es) where
+  -- all of them, where the first has a value, and where it faults
+  pub all_go_on : (ts us : List Tree) (t : Tree) (whole : Evaluation (List Tree)) → comes_to t new ≡ evaluation_in s e old → us ≡ ts ++ t ∷ []
+      → behind ts (all_in s all old) ≡ whole → behind us (all_in s es new) ≡ whole
+  all_go_on ts us t whole is more_of h =
+      ap (λ l. behind l (all_in s es new)) more_of
+      ∙ sym (behind_one ts t (all_in s es new))
+      ∙ ap (λ r. behind ts (then_on r (λ u y. then_on (all_in s es y) (λ us z. comes_to (u ∷ us) z)))) is
+      ∙ ap (λ xs. behind ts (all_in s xs old)) (sym here)
+      ∙ h
 
-pub of_part_none : (p : Part) → effects_of_part p [] ≡ []
-of_part_none Condition = refl
-of_part_none Body = refl
+  pub all_fault : (ts : List Tree) (whole : Evaluation (List Tree)) → faults new ≡ evaluation_in s e old → behind ts (all_in s all old) ≡ whole → faults new ≡ whole
+  all_fault ts whole is h =
+      ap (λ r. behind ts (then_on r (λ u y. then_on (all_in s es y) (λ us z. comes_to (u ∷ us) z)))) is
+      ∙ ap (λ xs. behind ts (all_in s xs old)) (sym here)
+      ∙ h
 
-pub nothing : (p : Part) (xs es : List Effect) → es ≡ [] → xs ≡ xs ++ effects_of_part p es
-nothing p xs es e = sym (ap (λ ys. xs ++ effects_of_part p ys) e ∙ ap (λ ys. xs ++ ys) (of_part_none p) ∙ append-nil xs)
+  -- up to the first that isn't true
+  pub while_goes_on : (t : Tree) (whole : Evaluation Tree) → comes_to t new ≡ evaluation_in s e old → is_true t ≡ true → while_true_in s all old ≡ whole → while_true_in s es new ≡ whole
+  while_goes_on t whole is holds h =
+      ap (λ q. if q then while_true_in s es new else comes_to (truth false) new) (sym holds)
+      ∙ ap (λ r. then_on r (λ u y. if is_true u then while_true_in s es y else comes_to (truth false) y)) is
+      ∙ ap (λ xs. while_true_in s xs old) (sym here)
+      ∙ h
 
--- one expression's effects, and then the others'
-pub further : (old new here rest all : List Effect) → new ≡ old ++ here → all ≡ here ++ rest → new ++ rest ≡ old ++ all
-further old new here rest all e a = ap (λ xs. xs ++ rest) e ∙ append_assoc old here rest ∙ ap (λ xs. old ++ xs) (sym a)
+  pub while_stops : (t : Tree) (whole : Evaluation Tree) → comes_to t new ≡ evaluation_in s e old → is_true t ≡ false → while_true_in s all old ≡ whole → comes_to (truth false) new ≡ whole
+  while_stops t whole is holds h =
+      ap (λ q. if q then while_true_in s es new else comes_to (truth false) new) (sym holds)
+      ∙ ap (λ r. then_on r (λ u y. if is_true u then while_true_in s es y else comes_to (truth false) y)) is
+      ∙ ap (λ xs. while_true_in s xs old) (sym here)
+      ∙ h
 
--- and none after it
-pub at_last : (old new here all : List Effect) → new ≡ old ++ here → all ≡ here ++ [] → new ≡ old ++ all
-at_last old new here all e a = e ∙ ap (λ xs. old ++ xs) (sym (a ∙ append-nil here))
+  pub while_faults : (whole : Evaluation Tree) → faults new ≡ evaluation_in s e old → while_true_in s all old ≡ whole → faults new ≡ whole
+  while_faults whole is h =
+      ap (λ r. then_on r (λ u y. if is_true u then while_true_in s es y else comes_to (truth false) y)) is
+      ∙ ap (λ xs. while_true_in s xs old) (sym here)
+      ∙ h
+
+  -- up to the first that is true
+  pub until_goes_on : (t : Tree) (whole : Evaluation Tree) → comes_to t new ≡ evaluation_in s e old → is_true t ≡ false → until_true_in s all old ≡ whole → until_true_in s es new ≡ whole
+  until_goes_on t whole is holds h =
+      ap (λ q. if q then comes_to (truth true) new else until_true_in s es new) (sym holds)
+      ∙ ap (λ r. then_on r (λ u y. if is_true u then comes_to (truth true) y else until_true_in s es y)) is
+      ∙ ap (λ xs. until_true_in s xs old) (sym here)
+      ∙ h
+
+  pub until_stops : (t : Tree) (whole : Evaluation Tree) → comes_to t new ≡ evaluation_in s e old → is_true t ≡ true → until_true_in s all old ≡ whole → comes_to (truth true) new ≡ whole
+  until_stops t whole is holds h =
+      ap (λ q. if q then comes_to (truth true) new else until_true_in s es new) (sym holds)
+      ∙ ap (λ r. then_on r (λ u y. if is_true u then comes_to (truth true) y else until_true_in s es y)) is
+      ∙ ap (λ xs. until_true_in s xs old) (sym here)
+      ∙ h
+
+  pub until_faults : (whole : Evaluation Tree) → faults new ≡ evaluation_in s e old → until_true_in s all old ≡ whole → faults new ≡ whole
+  until_faults whole is h =
+      ap (λ r. then_on r (λ u y. if is_true u then comes_to (truth true) y else until_true_in s es y)) is
+      ∙ ap (λ xs. until_true_in s xs old) (sym here)
+      ∙ h
+
+module _ {A : Type 0} {G : Ghosts A} (s : Scene A G) (all : Exprs) (x : List Effect) (past : all ≡ no_exprs) where
+  -- at the end of the expressions
+  pub all_done : (ts : List Tree) (whole : Evaluation (List Tree)) → behind ts (all_in s all x) ≡ whole → comes_to ts x ≡ whole
+  all_done ts whole h = ap (λ l. comes_to l x) (sym (append-nil ts)) ∙ ap (λ xs. behind ts (all_in s xs x)) (sym past) ∙ h
+
+  pub while_done : (whole : Evaluation Tree) → while_true_in s all x ≡ whole → comes_to (truth true) x ≡ whole
+  while_done whole h = ap (λ xs. while_true_in s xs x) (sym past) ∙ h
+
+  pub until_done : (whole : Evaluation Tree) → until_true_in s all x ≡ whole → comes_to (truth false) x ≡ whole
+  until_done whole h = ap (λ xs. until_true_in s xs x) (sym past) ∙ h
+
+-- ---- bodies and conditions
+
+last_effects : (r : Evaluation (List Tree)) (t : Tree) → its_effects (then_on r (λ us z. comes_to (t ∷ us) z)) ≡ its_effects r
+last_effects (comes_to us z) t = refl
+last_effects (faults z) t = refl
+
+module _ (d : ex.Dialect) (b : Bindings) (c : ex.Context) (all : Exprs) (e : Expr) (es : Exprs) (old new : List Effect) (here : all ≡ and_expr e es) where
+  pub body_goes_on : (t : Tree) (whole : List Effect) → comes_to t new ≡ evaluation d ex.in_body b c e old
+      → its_effects (evaluation_of_all d ex.in_body b c all old) ≡ whole → its_effects (evaluation_of_all d ex.in_body b c es new) ≡ whole
+  body_goes_on t whole is h =
+      sym (last_effects (evaluation_of_all d ex.in_body b c es new) t)
+      ∙ ap (λ r. its_effects (then_on r (λ u y. then_on (evaluation_of_all d ex.in_body b c es y) (λ us z. comes_to (u ∷ us) z)))) is
+      ∙ ap (λ xs. its_effects (evaluation_of_all d ex.in_body b c xs old)) (sym here)
+      ∙ h
+
+  pub body_faults : (whole : List Effect) → faults new ≡ evaluation d ex.in_body b c e old → its_effects (evaluation_of_all d ex.in_body b c all old) ≡ whole → new ≡ whole
+  body_faults whole is h =
+      ap (λ r. its_effects (then_on r (λ u y. then_on (evaluation_of_all d ex.in_body b c es y) (λ us z. comes_to (u ∷ us) z)))) is
+      ∙ ap (λ xs. its_effects (evaluation_of_all d ex.in_body b c xs old)) (sym here)
+      ∙ h
 
 module _ (d : ex.Dialect) (b : Bindings) (c : ex.Context) where
-  pub while_here : (p : Part) (e : Expr) (es : Exprs) (v : Option Tree) → ex.value d (part_seen p) b c e ≡ v
-      → effects_of_part p (ex.effects_while_true d b c (and_expr e es)) ≡ effects_of_part p (ex.effects d b c e) ++ (if is_true_value v then effects_of_part p (ex.effects_while_true d b c es) else [])
-  while_here Condition e es v h = none_either (is_true_value v)
-    where
-      none_either : (t : Bool) → ◌≡◌ {A = List Effect} [] (if t then [] else [])
-      none_either true = refl
-      none_either false = refl
-  while_here Body e es v h = ap (λ w. ex.effects d b c e ++ (if is_true_value w then ex.effects_while_true d b c es else [])) h
+  pub body_done : (all : Exprs) (x whole : List Effect) → all ≡ no_exprs → its_effects (evaluation_of_all d ex.in_body b c all x) ≡ whole → x ≡ whole
+  body_done all x whole past h = ap (λ xs. its_effects (evaluation_of_all d ex.in_body b c xs x)) (sym past) ∙ h
 
-  pub until_here : (p : Part) (e : Expr) (es : Exprs) (v : Option Tree) → ex.value d (part_seen p) b c e ≡ v
-      → effects_of_part p (ex.effects_until_true d b c (and_expr e es)) ≡ effects_of_part p (ex.effects d b c e) ++ (if is_true_value v then [] else effects_of_part p (ex.effects_until_true d b c es))
-  until_here Condition e es v h = none_either (is_true_value v)
-    where
-      none_either : (t : Bool) → ◌≡◌ {A = List Effect} [] (if t then [] else [])
-      none_either true = refl
-      none_either false = refl
-  until_here Body e es v h = ap (λ w. ex.effects d b c e ++ (if is_true_value w then [] else ex.effects_until_true d b c es)) h
-
-  -- with all expressions, the first of them, and those behind it
-  pub until_stops : (p : Part) (all : Exprs) (e : Expr) (es : Exprs) (t : Tree) (old new : List Effect) → all ≡ and_expr e es → ex.value d (part_seen p) b c e ≡ Some t → is_true t ≡ true
-      → new ≡ old ++ effects_of_part p (ex.effects d b c e) → new ≡ old ++ effects_of_part p (ex.effects_until_true d b c all)
-  until_stops p all e es t old new a v h n =
-      at_last old new _ _ n (ap (λ x. effects_of_part p (ex.effects_until_true d b c x)) a ∙ until_here p e es (Some t) v
-      ∙ ap (λ q. effects_of_part p (ex.effects d b c e) ++ (if q then [] else effects_of_part p (ex.effects_until_true d b c es))) h)
-
-  pub until_goes_on : (p : Part) (all : Exprs) (e : Expr) (es : Exprs) (v : Option Tree) (old new : List Effect) → all ≡ and_expr e es → ex.value d (part_seen p) b c e ≡ v → is_true_value v ≡ false
-      → new ≡ old ++ effects_of_part p (ex.effects d b c e) → new ++ effects_of_part p (ex.effects_until_true d b c es) ≡ old ++ effects_of_part p (ex.effects_until_true d b c all)
-  until_goes_on p all e es v old new a is h n =
-      further old new _ _ _ n (ap (λ x. effects_of_part p (ex.effects_until_true d b c x)) a ∙ until_here p e es v is
-      ∙ ap (λ q. effects_of_part p (ex.effects d b c e) ++ (if q then [] else effects_of_part p (ex.effects_until_true d b c es))) h)
-
-  pub while_stops : (p : Part) (all : Exprs) (e : Expr) (es : Exprs) (v : Option Tree) (old new : List Effect) → all ≡ and_expr e es → ex.value d (part_seen p) b c e ≡ v → is_true_value v ≡ false
-      → new ≡ old ++ effects_of_part p (ex.effects d b c e) → new ≡ old ++ effects_of_part p (ex.effects_while_true d b c all)
-  while_stops p all e es v old new a is h n =
-      at_last old new _ _ n (ap (λ x. effects_of_part p (ex.effects_while_true d b c x)) a ∙ while_here p e es v is
-      ∙ ap (λ q. effects_of_part p (ex.effects d b c e) ++ (if q then effects_of_part p (ex.effects_while_true d b c es) else [])) h)
-
-  pub while_goes_on : (p : Part) (all : Exprs) (e : Expr) (es : Exprs) (t : Tree) (old new : List Effect) → all ≡ and_expr e es → ex.value d (part_seen p) b c e ≡ Some t → is_true t ≡ true
-      → new ≡ old ++ effects_of_part p (ex.effects d b c e) → new ++ effects_of_part p (ex.effects_while_true d b c es) ≡ old ++ effects_of_part p (ex.effects_while_true d b c all)
-  while_goes_on p all e es t old new a v h n =
-      further old new _ _ _ n (ap (λ x. effects_of_part p (ex.effects_while_true d b c x)) a ∙ while_here p e es (Some t) v
-      ∙ ap (λ q. effects_of_part p (ex.effects d b c e) ++ (if q then effects_of_part p (ex.effects_while_true d b c es) else [])) h)
-
-  pub all_go_on : (p : Part) (all : Exprs) (e : Expr) (es : Exprs) (old new : List Effect) → all ≡ and_expr e es
-      → new ≡ old ++ effects_of_part p (ex.effects d b c e) → new ++ effects_of_part p (ex.effects_of_all d b c es) ≡ old ++ effects_of_part p (ex.effects_of_all d b c all)
-  all_go_on p all e es old new a n =
-      further old new _ _ _ n (ap (λ x. effects_of_part p (ex.effects_of_all d b c x)) a ∙ of_part_append p (ex.effects d b c e) (ex.effects_of_all d b c es))
-
-  -- at the end of the expressions
-  pub all_done : (p : Part) (all : Exprs) (xs : List Effect) → all ≡ no_exprs → xs ≡ xs ++ effects_of_part p (ex.effects_of_all d b c all)
-  all_done p all xs a = nothing p xs (ex.effects_of_all d b c all) (ap (ex.effects_of_all d b c) a)
-
-  pub while_done : (p : Part) (all : Exprs) (xs : List Effect) → all ≡ no_exprs → xs ≡ xs ++ effects_of_part p (ex.effects_while_true d b c all)
-  while_done p all xs a = nothing p xs (ex.effects_while_true d b c all) (ap (ex.effects_while_true d b c) a)
-
-  pub until_done : (p : Part) (all : Exprs) (xs : List Effect) → all ≡ no_exprs → xs ≡ xs ++ effects_of_part p (ex.effects_until_true d b c all)
-  until_done p all xs a = nothing p xs (ex.effects_until_true d b c all) (ap (ex.effects_until_true d b c) a)
-
-  -- an action's own effects after its arguments'
-  pub performed_here : (p : Part) (a : ex.Action) (es : Exprs) (vs : Option (List Tree)) → ex.values d (part_seen p) b c es ≡ vs
-      → effects_of_part p (ex.effects d b c (ex.perform a es)) ≡ effects_of_part p (ex.effects_of_all d b c es) ++ effects_of_part p (ex.own_effects (option_and_then (λ ts. ex.action_done d a ts c) vs))
-  performed_here Condition a es vs h = refl
-  performed_here Body a es vs h = ap (λ ws. ex.effects_of_all d b c es ++ ex.own_effects (option_and_then (λ ts. ex.action_done d a ts c) ws)) h
-
-  -- ---- conditions
+  -- the value of a condition, whatever effects there are
+  pub condition_value : (e : Expr) (o : Option Tree) (old new : List Effect) → or_fault o new ≡ evaluation d ex.in_condition b c e old → ex.value d ex.in_condition b c e ≡ o
+  condition_value e o old new is = sym (of-any d b c e old) ∙ sym (ap its_value is) ∙ answered_value o new
 
   pub each_stops : (all : Exprs) (e : Expr) (es : Exprs) (v : Option Tree) → all ≡ and_expr e es → ex.value d ex.in_condition b c e ≡ v → is_true_value v ≡ false → false ≡ each_true d b c all
   each_stops all e es v a is h = sym (ap (each_true d b c) a ∙ ap (λ w. is_true_value w && each_true d b c es) is ∙ ap (λ q. q && each_true d b c es) h)

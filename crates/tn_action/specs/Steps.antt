@@ -1,13 +1,13 @@
 -- What the code's functions come to, in the definitions' words.
 use Rattle.std.specs.Prelude.{◌≡◌, ℕ, Bool, if◌then◌else◌, List, [], ◌∷◌, ◌++◌, map, Option}
-use Rattle.std.specs.Option.{option_map, option_and_then}
+use Rattle.std.specs.Option.{option_map}
 use Rattle.std.specs.declared.alloc.Allocator.{Ghosts}
 use Rattle.std.specs.declared.vec.Vec.{Vec}
 use Rattle.smallvec.specs.SmallVec.{SmallVec}
 use Rattle.def_term.specs.Tree.{Tree, tuple, list, of_elements}
 use Rattle.def_spec.specs.Expressions as ex
-use Rattle.def_spec.specs.Flags.{Flags, no_flags}
-use Rattle.def_spec.specs.Functions as table
+use Rattle.def_spec.specs.Flags.{Flags, no_flags, flags_in}
+use Rattle.def_spec.specs.Functions.{truth}
 use Rattle.def_spec.specs.Outcome as definition
 use Rattle.tn_guard.specs.Views.{value_seen}
 use Rattle.tn_guard.specs.declared.value.Value.{Value}
@@ -19,7 +19,8 @@ use Rattle.tn_spec.specs.declared.func.Dialect.{Dialect}
 use Rattle.tn_spec.specs.declared.func.Func.{Func}
 use Rattle.tn_spec.specs.declared.spec.Clause.{Clause}
 use Rattle.tn_spec.specs.declared.spec.Spec.{Spec}
-use Rattle.tn_action.specs.Scenes.{value_in, act_in, effects_of_part, effects_in, effects_of_all_in, effects_while_true_in, effects_until_true_in}
+use Rattle.tn_action.specs.Parts.{part_seen}
+use Rattle.tn_action.specs.Scenes.{evaluation_in, all_in, while_true_in, until_true_in}
 use Rattle.tn_action.specs.Views.{acted, context_seen, effect_seen}
 use Rattle.tn_action.specs.declared.actions.Acted.{Acted}
 use Rattle.tn_action.specs.declared.context.Context.{Context}
@@ -32,6 +33,10 @@ use Rattle.tn_action.specs.declared.scene.Scene.{Scene}
 abbrev pub IsDone : {A : Type 0} → ex.Action → List (Value A) → Option (Acted A) → Type 0
 IsDone a args r = (d : ex.Dialect) → (c : ex.Context) → option_map acted r ≡ ex.action_done d a (map value_seen args) c
 
+-- the context whose flags are those behind these effects
+abbrev pub context_behind : {A : Type 0} → Context A → List (Effect A) → ex.Context
+context_behind c es = ex.context_after (context_seen c) (map effect_seen es)
+
 -- one effect, where there is one
 abbrev pub change_seen : {A : Type 0} → Option (Effect A) → Option (List ex.Effect)
 change_seen r = option_map (λ e. effect_seen e ∷ []) r
@@ -43,6 +48,14 @@ two_seen one other = value_seen one ∷ value_seen other ∷ []
 -- these flags of a process set or cleared
 abbrev pub flags_changed : Bool → ℕ → Flags → ex.Effect
 flags_changed on n f = ex.changes n (if on then no_flags else f) (if on then f else no_flags)
+
+-- `trace` on the process of a value, with two lists of flags
+abbrev pub trace_on : {A : Type 0} → ex.Context → (process off on : Value A) → Option (Tree × List ex.Effect)
+trace_on c process off on = ex.trace_on c (value_seen process) (value_seen off) (value_seen on)
+
+-- it changes these flags, and tells whether they change
+abbrev pub flags_traced : ex.Context → ℕ → (off on : Flags) → Tree × List ex.Effect
+flags_traced c n off on = (truth (ex.is_changing (flags_in c.flags n) off on), ex.changes n off on ∷ [])
 
 -- ---- values
 
@@ -58,63 +71,56 @@ tuple_seen vs = option_map (λ ts. tuple (of_elements ts)) (several_seen vs)
 abbrev pub list_seen : {A : Type 0} → Option (SmallVec (Value A)) → Option Tree
 list_seen vs = option_map (λ ts. list (of_elements ts)) (several_seen vs)
 
--- the value of a function on them
-abbrev pub called_on : {A : Type 0} → Func → Option (SmallVec (Value A)) → ℕ → Option Tree
-called_on f vs me = option_and_then (λ ts. table.apply (func_of f) ts me) (several_seen vs)
+-- what the effects so far ask of the session
+abbrev pub asked : {A : Type 0} → Vec (Effect A) A → List ex.Effect
+asked es = map effect_seen es.items
 
 -- the effects are these behind the old ones
 abbrev pub AreBehind : {A : Type 0} → List ex.Effect → Vec (Effect A) A → Vec (Effect A) A → Type 0
-AreBehind es old new = map effect_seen new.items ≡ map effect_seen old.items ++ es
+AreBehind es old new = asked new ≡ asked old ++ es
+
+-- a value or a fault, with the effects so far
+abbrev pub answer : {A : Type 0} → Option (Value A) → Vec (Effect A) A → ex.Evaluation Tree
+answer v es = ex.or_fault (option_map value_seen v) (asked es)
+
+-- several values or a fault
+abbrev pub answers : {A : Type 0} → Option (SmallVec (Value A)) → Vec (Effect A) A → ex.Evaluation (List Tree)
+answers vs es = ex.or_fault (several_seen vs) (asked es)
 
 module _ {A : Type 0} {G : Ghosts A} (s : Scene A G) where
-  -- the value of a tuple of expressions, of a list of them, and of a function or an action on them
-  abbrev pub value_of_tuple : Vec (Expr A) A → Option Tree
-  value_of_tuple es = value_in s (ex.tuple_of (exprs_seen es.items))
+  -- what an expression comes to behind the effects so far; a tuple of expressions, a list of them, and a function or an action on them
+  abbrev pub evaluation_of : Expr A → Vec (Effect A) A → ex.Evaluation Tree
+  evaluation_of e x = evaluation_in s (expr_seen e) (asked x)
 
-  abbrev pub value_of_list : Vec (Expr A) A → Option Tree
-  value_of_list es = value_in s (ex.list_of (exprs_seen es.items))
+  abbrev pub evaluation_of_tuple : Vec (Expr A) A → Vec (Effect A) A → ex.Evaluation Tree
+  evaluation_of_tuple es x = evaluation_in s (ex.tuple_of (exprs_seen es.items)) (asked x)
 
-  abbrev pub value_of_call : Func → Vec (Expr A) A → Option Tree
-  value_of_call f es = value_in s (ex.call (func_of f) (exprs_seen es.items))
+  abbrev pub evaluation_of_list : Vec (Expr A) A → Vec (Effect A) A → ex.Evaluation Tree
+  evaluation_of_list es x = evaluation_in s (ex.list_of (exprs_seen es.items)) (asked x)
 
-  abbrev pub value_of_action : Action → Vec (Expr A) A → Option Tree
-  value_of_action a es = value_in s (ex.perform (action_of a) (exprs_seen es.items))
+  abbrev pub evaluation_of_call : Func → Vec (Expr A) A → Vec (Effect A) A → ex.Evaluation Tree
+  evaluation_of_call f es x = evaluation_in s (ex.call (func_of f) (exprs_seen es.items)) (asked x)
 
-  -- the value of an action on these values, with its effects
-  abbrev pub performed_on : Action → Option (SmallVec (Value A)) → Option (Tree × List ex.Effect)
-  performed_on a vs = option_and_then (act_in s (action_of a)) (several_seen vs)
+  abbrev pub evaluation_of_action : Action → Vec (Expr A) A → Vec (Effect A) A → ex.Evaluation Tree
+  evaluation_of_action a es x = evaluation_in s (ex.perform (action_of a) (exprs_seen es.items)) (asked x)
 
-  -- its effects, where they count
-  abbrev pub effects_performed : Action → Option (SmallVec (Value A)) → List ex.Effect
-  effects_performed a vs = effects_of_part s.part (ex.own_effects (performed_on a vs))
+  -- several expressions, all of them, and up to the first that isn't true, or that is
+  abbrev pub evaluation_of_all : Vec (Expr A) A → Vec (Effect A) A → ex.Evaluation (List Tree)
+  evaluation_of_all es x = all_in s (exprs_seen es.items) (asked x)
 
-  -- its value
-  abbrev pub value_performed : Action → Option (SmallVec (Value A)) → Option Tree
-  value_performed a vs = ex.value_part (performed_on a vs)
+  abbrev pub evaluation_while_true : Vec (Expr A) A → Vec (Effect A) A → ex.Evaluation Tree
+  evaluation_while_true es x = while_true_in s (exprs_seen es.items) (asked x)
 
-  -- its effects stand behind the old ones, where they count
-  abbrev pub AddsPerformed : Action → Option (SmallVec (Value A)) → Vec (Effect A) A → Vec (Effect A) A → Type 0
-  AddsPerformed a vs = AreBehind (effects_performed a vs)
+  abbrev pub evaluation_until_true : Vec (Expr A) A → Vec (Effect A) A → ex.Evaluation Tree
+  evaluation_until_true es x = until_true_in s (exprs_seen es.items) (asked x)
 
-  -- the effects of an expression stand behind the old ones
-  abbrev pub AddsOf : Expr A → Vec (Effect A) A → Vec (Effect A) A → Type 0
-  AddsOf e = AreBehind (effects_in s (expr_seen e))
+  -- an action on these values behind some effects
+  abbrev pub action_done : Action → List (Value A) → List (Effect A) → Option (Tree × List ex.Effect)
+  action_done a vs es = ex.action_done (dialect_of s.dialect) (action_of a) (map value_seen vs) (context_behind s.context.now es)
 
-  -- those of an action on several expressions
-  abbrev pub AddsOfAction : Action → Vec (Expr A) A → Vec (Effect A) A → Vec (Effect A) A → Type 0
-  AddsOfAction a es = AreBehind (effects_in s (ex.perform (action_of a) (exprs_seen es.items)))
-
-  -- those of several expressions
-  abbrev pub AddsOfAll : Vec (Expr A) A → Vec (Effect A) A → Vec (Effect A) A → Type 0
-  AddsOfAll es = AreBehind (effects_of_all_in s (exprs_seen es.items))
-
-  -- those up to the first that isn't true
-  abbrev pub AddsWhileTrue : Vec (Expr A) A → Vec (Effect A) A → Vec (Effect A) A → Type 0
-  AddsWhileTrue es = AreBehind (effects_while_true_in s (exprs_seen es.items))
-
-  -- those up to the first that is true
-  abbrev pub AddsUntilTrue : Vec (Expr A) A → Vec (Effect A) A → Vec (Effect A) A → Type 0
-  AddsUntilTrue es = AreBehind (effects_until_true_in s (exprs_seen es.items))
+  -- what a call of it comes to
+  abbrev pub performed : Action → List (Value A) → Vec (Effect A) A → ex.Evaluation Tree
+  performed a vs es = ex.performed (part_seen s.part) (action_done a vs es.items) (asked es)
 
 -- ---- outcomes
 

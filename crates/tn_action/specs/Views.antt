@@ -5,7 +5,7 @@ use Rattle.def_term.specs.Tree.{Tree}
 use Rattle.def_spec.specs.Expressions as ex
 use Rattle.def_spec.specs.Outcome as definition
 use Rattle.tn_term.specs.Views.{tree_of, mfa_seen, alive_of}
-use Rattle.tn_flags.specs.Views.{flags_of}
+use Rattle.tn_flags.specs.Views.{flags_of, table_of}
 use Rattle.tn_guard.specs.Views.{value_seen, parts_list}
 use Rattle.tn_action.specs.declared.context.Context.{Context}
 use Rattle.tn_action.specs.declared.effect.Effect.{Effect}
@@ -15,7 +15,7 @@ use Rattle.tn_action.specs.declared.effect.Outcome.TheVariants.{NoMatch, Matched
 use Rattle.tn_action.specs.declared.actions.Acted.{Acted}
 
 abbrev pub context_seen : {A : Type 0} → Context A → ex.Context
-context_seen c = record { matched_list = parts_list c.list; me = c.me; caller_mfa = option_map (λ m. mfa_seen m.now) c.caller; alive = alive_of c.alive.now }
+context_seen c = record { matched_list = parts_list c.list; me = c.me; caller_mfa = option_map (λ m. mfa_seen m.now) c.caller; alive = alive_of c.alive.now; flags = table_of c.flags.now }
 
 abbrev pub effect_seen : {A : Type 0} → Effect A → ex.Effect
 effect_seen (Message t) = ex.gives_message (tree_of t)

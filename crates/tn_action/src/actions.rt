@@ -4,20 +4,21 @@ ghost use Rattle.std.specs.Option.{option_map};
 ghost use Rattle.def_term.specs.Tree.{Tree};
 ghost use Rattle.def_term.specs.Names.{word};
 ghost use Rattle.def_spec.specs.Expressions as ex;
-ghost use Rattle.def_spec.specs.Flags.{flag_named, only};
+ghost use Rattle.def_spec.specs.Flags.{flag_named};
 ghost use Rattle.tn_flags.specs.Views.{flags_of};
 ghost use Rattle.tn_guard.specs.Views.{value_seen, pid_in};
-ghost use Rattle.tn_spec.specs.Views.{action_of, dialect_of};
+ghost use Rattle.tn_spec.specs.Views.{dialect_of};
 ghost use Rattle.tn_term.specs.Views.{alive_of};
-ghost use Rattle.tn_action.specs.Scenes.{act_in};
-ghost use Rattle.tn_action.specs.Steps.{IsDone, change_seen, two_seen, flags_changed};
+ghost use Rattle.tn_action.specs.Steps.{IsDone, action_done, change_seen, two_seen, flags_changed};
 ghost use Rattle.tn_action.specs.Views.{acted, context_seen, effect_seen, effect_list};
 
 use crate::context::Context;
 use crate::effect::Effect;
+use crate::names::flag_in;
 use crate::scene::Scene;
+use crate::trace::trace_by;
 use std::alloc::{AllocError, Allocator};
-use tn_flags::{Flags, flag_of_name};
+use tn_flags::Flags;
 use tn_guard::Value;
 use tn_spec::{Action, Dialect};
 use tn_term::Alive;
@@ -30,14 +31,15 @@ pub struct Acted<'a, A: Allocator> {
     pub effect: Option<Effect<A>>,
 }
 
-/// The value of an action on its arguments' values, with its effect; None is a fault. An error is refused
-/// memory.
+/// The value of an action on its arguments' values behind these effects, with its own effect; None is a
+/// fault. An error is refused memory.
 pub fn perform<'a, A: Allocator + Copy>(
     action: Action,
     args: &[Value<'a, A>],
     scene: &Scene<'a, '_, A>,
+    effects: &[Effect<A>],
 ) -> Result<Option<Acted<'a, A>>, AllocError>
-    ensures { IfOk result (λ r. option_map acted r ≡ act_in scene.now (action_of action) (map value_seen args.now)) }
+    ensures { IfOk result (λ r. option_map acted r ≡ action_done scene.now action args.now effects.now) }
 {
     match action {
         Action::Message => Ok(message(args, scene.alloc)?),
@@ -46,6 +48,7 @@ pub fn perform<'a, A: Allocator + Copy>(
         Action::Silent => Ok(silent(args)),
         Action::EnableTrace => Ok(changing(change(true, args, scene.context))),
         Action::DisableTrace => Ok(changing(change(false, args, scene.context))),
+        Action::Trace => Ok(trace_by(scene.context, effects, args)),
         Action::Caller => Ok(Some(Acted {
             value: scene.caller()?,
             effect: None,
@@ -162,21 +165,11 @@ fn change_other<A: Allocator>(
 }
 
 /// The pid, where it is a living process's.
-fn living(pid: Option<u32>, alive: &Alive) -> Option<u32>
+pub(crate) fn living(pid: Option<u32>, alive: &Alive) -> Option<u32>
     ensures { (t : Tree) → pid ≡ pid_in t → result ≡ ex.living_pid (alive_of alive.now) t }
 {
     match pid {
         Some(pid) => { if alive.has(pid) { Some(pid) } else { None } }
-        None => None,
-    }
-}
-
-/// The flag that the value names; None where it names none of the ten.
-fn flag_in<A: Allocator>(value: Value<'_, A>) -> Option<Flags>
-    ensures { option_map flags_of result ≡ option_map only (flag_named (value_seen value.entry)) }
-{
-    match value.atom_text() {
-        Some(text) => flag_of_name(text),
         None => None,
     }
 }

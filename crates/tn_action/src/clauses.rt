@@ -101,7 +101,7 @@ fn each_true<'a, A: Allocator + Copy>(
     Ok(true)
 }
 
-/// The effects of a body. An error is refused memory.
+/// The effects of a body, up to a fault. An error is refused memory.
 pub fn body_effects<'a, A: Allocator + Copy>(
     body: &'a Vec<Expr<A>, A>,
     scene: &Scene<'a, '_, A>,
@@ -114,7 +114,10 @@ pub fn body_effects<'a, A: Allocator + Copy>(
     };
     let mut effects = Vec::new(scene.alloc);
     for i in 0..body.len() {
-        value(&body[i], &in_body, &mut effects)?;
+        match value(&body[i], &in_body, &mut effects)? {
+            Some(_) => {}
+            None => return Ok(effects),
+        }
     }
     Ok(effects)
 }

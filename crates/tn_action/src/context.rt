@@ -1,6 +1,11 @@
 // What a specification is evaluated in.
+ghost use Rattle.std.specs.Prelude.{◌≡◌};
+ghost use Rattle.tn_flags.specs.Views.{table_of};
+ghost use Rattle.tn_action.specs.Steps.{context_behind};
 
+use crate::effect::Effect;
 use std::alloc::Allocator;
+use tn_flags::FlagTable;
 use tn_guard::Parts;
 use tn_term::{Alive, Mfa};
 
@@ -15,4 +20,19 @@ pub struct Context<'a, A: Allocator> {
     pub caller: Option<&'a Mfa<A>>,
     /// Which processes live.
     pub alive: &'a Alive,
+    /// The flags of all processes in the session.
+    pub flags: &'a FlagTable,
+}
+
+impl<'a, A: Allocator> Context<'a, A> {
+    /// The flags of all processes behind these effects.
+    pub(crate) fn flags_behind(&self, effects: &[Effect<A>]) -> FlagTable
+        ensures { table_of result ≡ (context_behind self.now effects.now).flags }
+    {
+        let mut flags = *self.flags;
+        for effect in effects {
+            effect.apply_to(&mut flags, self.me);
+        }
+        flags
+    }
 }

@@ -1,7 +1,11 @@
 // What a specification gives.
+ghost use Rattle.std.specs.Prelude.{◌≡◌};
+ghost use Rattle.def_spec.specs.Expressions.{flags_behind};
+ghost use Rattle.tn_flags.specs.Views.{table_of};
+ghost use Rattle.tn_action.specs.Views.{effect_seen};
 
 use std::alloc::Allocator;
-use tn_flags::Flags;
+use tn_flags::{FlagTable, Flags};
 use tn_term::Term;
 
 /// What an action of a body asks of the session ("Match Specifications in Erlang", "Functions Allowed
@@ -18,6 +22,19 @@ pub enum Effect<A: Allocator> {
     Silent(bool),
     /// The flags that a process loses, then those that it gets.
     Change { pid: u32, off: Flags, on: Flags },
+}
+
+impl<A: Allocator> Effect<A> {
+    /// Changes the flags as the effect asks, in an event of the process `me`.
+    pub fn apply_to(&self, flags: &mut FlagTable, me: u32)
+        ensures { table_of flags.new ≡ flags_behind me (table_of flags.old) (effect_seen self.now) }
+    {
+        match self {
+            Effect::Message(_) | Effect::ReturnTrace | Effect::ExceptionTrace => {}
+            Effect::Silent(on) => flags.silence(me, *on),
+            Effect::Change { pid, off, on } => flags.change(*pid, *off, *on),
+        }
+    }
 }
 
 /// What a specification gives for one event.

@@ -1,14 +1,11 @@
 // Values and effects of expressions.
 ghost use Rattle.std.specs.Prelude.{◌≡◌, IfOk};
 ghost use Rattle.std.specs.Option.{option_map};
-ghost use Rattle.def_spec.specs.Functions.{truth};
 ghost use Rattle.tn_guard.specs.Views.{value_seen};
-ghost use Rattle.tn_spec.specs.Views.{expr_seen, exprs_seen};
-ghost use Rattle.tn_action.specs.Scenes.{value_in, values_in, all_in, one_in, effects_of_part, unless_faulted};
-ghost use Rattle.tn_action.specs.Steps.{AddsOf, AddsOfAll, AddsOfAction, AddsWhileTrue, AddsUntilTrue, AreBehind};
-ghost use Rattle.tn_action.specs.Steps.{several_seen, tuple_seen, list_seen, called_on};
-ghost use Rattle.tn_action.specs.Steps.{value_of_tuple, value_of_list, value_of_call, value_of_action};
-ghost use Rattle.tn_action.specs.Steps.{value_performed, AddsPerformed};
+ghost use Rattle.tn_action.specs.Steps.{answer, answers, tuple_seen, list_seen, performed, AreBehind};
+ghost use Rattle.tn_action.specs.Steps.{evaluation_of, evaluation_of_tuple, evaluation_of_list};
+ghost use Rattle.tn_action.specs.Steps.{evaluation_of_call, evaluation_of_action};
+ghost use Rattle.tn_action.specs.Steps.{evaluation_of_all, evaluation_while_true, evaluation_until_true};
 ghost use Rattle.tn_action.specs.Views.{effect_list};
 
 use crate::actions::perform;
@@ -17,23 +14,21 @@ use crate::scene::{Part, Scene};
 use bumpalo::Bump;
 use smallvec::SmallVec;
 use std::alloc::{AllocError, Allocator};
-use tn_guard::{Value, apply};
+use tn_guard::{Value, Word, apply};
 use tn_spec::{Action, Expr, Func};
 
 /// Values of the arguments of a call, or of elements: a few of them lie in the value itself, more in an
 /// arena.
 type SomeValues<'a, A> = SmallVec<Value<'a, A>, 4, &'a Bump<A>>;
 
-/// The value of an expression, with the effects that a body's expression has behind the others; None is
-/// a fault.
+/// The value of an expression behind the effects so far, with its own put behind them; None is a fault.
 #[cycle(value)]
 pub fn value<'a, A: Allocator + Copy>(
     expr: &'a Expr<A>,
     scene: &Scene<'a, '_, A>,
     effects: &mut Vec<Effect<A>, A>,
 ) -> Result<Option<Value<'a, A>>, AllocError>
-    ensures value { IfOk result (λ v. option_map value_seen v ≡ value_in scene.now (expr_seen expr.now)) }
-    ensures effects { IfOk result (λ _. AddsOf scene.now expr.now effects.old effects.new) }
+    ensures { IfOk result (λ v. answer v effects.new ≡ evaluation_of scene.now expr.now effects.old) }
 {
     match expr {
         Expr::Variable(number) => Ok(scene.bindings.get(*number)),
@@ -56,8 +51,7 @@ fn tuple_value<'a, A: Allocator + Copy>(
     scene: &Scene<'a, '_, A>,
     effects: &mut Vec<Effect<A>, A>,
 ) -> Result<Option<Value<'a, A>>, AllocError>
-    ensures value { IfOk result (λ v. option_map value_seen v ≡ value_of_tuple scene.now exprs.now) }
-    ensures effects { IfOk result (λ _. AddsOfAll scene.now exprs.now effects.old effects.new) }
+    ensures { IfOk result (λ v. answer v effects.new ≡ evaluation_of_tuple scene.now exprs.now effects.old) }
 {
     let parts = values(exprs, scene, effects)?;
     tuple_of(parts, scene.arena)
@@ -70,8 +64,7 @@ fn list_value<'a, A: Allocator + Copy>(
     scene: &Scene<'a, '_, A>,
     effects: &mut Vec<Effect<A>, A>,
 ) -> Result<Option<Value<'a, A>>, AllocError>
-    ensures value { IfOk result (λ v. option_map value_seen v ≡ value_of_list scene.now exprs.now) }
-    ensures effects { IfOk result (λ _. AddsOfAll scene.now exprs.now effects.old effects.new) }
+    ensures { IfOk result (λ v. answer v effects.new ≡ evaluation_of_list scene.now exprs.now effects.old) }
 {
     let parts = values(exprs, scene, effects)?;
     list_of(parts, scene.arena)
@@ -85,14 +78,15 @@ fn call_value<'a, A: Allocator + Copy>(
     scene: &Scene<'a, '_, A>,
     effects: &mut Vec<Effect<A>, A>,
 ) -> Result<Option<Value<'a, A>>, AllocError>
-    ensures value { IfOk result (λ v. option_map value_seen v ≡ value_of_call scene.now func exprs.now) }
-    ensures effects { IfOk result (λ _. AddsOfAll scene.now exprs.now effects.old effects.new) }
+    ensures { IfOk result (λ v. answer v effects.new ≡ evaluation_of_call scene.now func exprs.now effects.old) }
 {
-    let args = values(exprs, scene, effects)?;
-    Ok(scene.settled(called(func, args, scene.context.me)))
+    let Some(args) = values(exprs, scene, effects)? else {
+        return Ok(None);
+    };
+    Ok(scene.settled(apply(func, args.as_slice(), scene.context.me)))
 }
 
-/// The value of an action on the values of the expressions; in a body its effect goes behind theirs.
+/// The value of an action on the values of the expressions; its effect goes behind theirs.
 #[cycle(value)]
 fn action_value<'a, A: Allocator + Copy>(
     action: Action,
@@ -100,32 +94,31 @@ fn action_value<'a, A: Allocator + Copy>(
     scene: &Scene<'a, '_, A>,
     effects: &mut Vec<Effect<A>, A>,
 ) -> Result<Option<Value<'a, A>>, AllocError>
-    ensures value { IfOk result (λ v. option_map value_seen v ≡ value_of_action scene.now action exprs.now) }
-    ensures effects { IfOk result (λ _. AddsOfAction scene.now action exprs.now effects.old effects.new) }
+    ensures { IfOk result (λ v. answer v effects.new ≡ evaluation_of_action scene.now action exprs.now effects.old) }
 {
-    let args = values(exprs, scene, effects)?;
-    Ok(scene.settled(performed(action, args, scene, effects)?))
+    let Some(args) = values(exprs, scene, effects)? else {
+        return Ok(None);
+    };
+    Ok(performed(action, args.as_slice(), scene, effects)?)
 }
 
-/// The values of several expressions, left to right; None where one is a fault.
+/// The values of several expressions, left to right; None at the first fault.
 #[cycle(value)]
 fn values<'a, A: Allocator + Copy>(
     exprs: &'a Vec<Expr<A>, A>,
     scene: &Scene<'a, '_, A>,
     effects: &mut Vec<Effect<A>, A>,
 ) -> Result<Option<SomeValues<'a, A>>, AllocError>
-    ensures value { IfOk result (λ vs. several_seen vs ≡ values_in scene.now (exprs_seen exprs.now.items)) }
-    ensures effects { IfOk result (λ _. AddsOfAll scene.now exprs.now effects.old effects.new) }
+    ensures { IfOk result (λ vs. answers vs effects.new ≡ evaluation_of_all scene.now exprs.now effects.old) }
 {
     let mut parts = SmallVec::with_capacity(scene.arena, exprs.len())?;
-    let mut faulted = false;
     for i in 0..exprs.len() {
         match value(&exprs[i], scene, effects)? {
             Some(part) => parts.push(part)?,
-            None => faulted = true,
+            None => return Ok(None),
         }
     }
-    if faulted { Ok(None) } else { Ok(Some(parts)) }
+    Ok(Some(parts))
 }
 
 /// `andalso`: stops at the first that isn't `true`.
@@ -135,8 +128,7 @@ fn all_in_turn<'a, A: Allocator + Copy>(
     scene: &Scene<'a, '_, A>,
     effects: &mut Vec<Effect<A>, A>,
 ) -> Result<Option<Value<'a, A>>, AllocError>
-    ensures value { IfOk result (λ v. option_map value_seen v ≡ all_in scene.now (exprs_seen exprs.now.items)) }
-    ensures effects { IfOk result (λ _. AddsWhileTrue scene.now exprs.now effects.old effects.new) }
+    ensures { IfOk result (λ v. answer v effects.new ≡ evaluation_while_true scene.now exprs.now effects.old) }
 {
     for i in 0..exprs.len() {
         match value(&exprs[i], scene, effects)? {
@@ -158,32 +150,19 @@ fn one_in_turn<'a, A: Allocator + Copy>(
     scene: &Scene<'a, '_, A>,
     effects: &mut Vec<Effect<A>, A>,
 ) -> Result<Option<Value<'a, A>>, AllocError>
-    ensures value { IfOk result (λ v. option_map value_seen v ≡ one_in scene.now (exprs_seen exprs.now.items)) }
-    ensures effects { IfOk result (λ _. AddsUntilTrue scene.now exprs.now effects.old effects.new) }
+    ensures { IfOk result (λ v. answer v effects.new ≡ evaluation_until_true scene.now exprs.now effects.old) }
 {
-    let mut faulted = false;
     for i in 0..exprs.len() {
         match value(&exprs[i], scene, effects)? {
             Some(part) => {
                 if part.is_true() {
-                    return Ok(truth_unless(faulted, true));
+                    return Ok(Some(Value::truth(true)));
                 }
             }
-            None => faulted = true,
+            None => return Ok(None),
         }
     }
-    Ok(truth_unless(faulted, false))
-}
-
-/// `true` or `false`, but a fault where one was met before.
-fn truth_unless<'a, A: Allocator>(faulted: bool, holds: bool) -> Option<Value<'a, A>>
-    ensures { option_map value_seen result ≡ unless_faulted faulted (truth holds) }
-{
-    if faulted {
-        None
-    } else {
-        Some(Value::truth(holds))
-    }
+    Ok(Some(Value::truth(false)))
 }
 
 /// The tuple of these values.
@@ -212,51 +191,36 @@ fn list_of<'a, A: Allocator + Copy>(
     }
 }
 
-/// The value of a function on these values.
-fn called<'a, A: Allocator + Copy>(
-    func: Func,
-    args: Option<SomeValues<'a, A>>,
-    me: u32,
-) -> Option<Value<'a, A>>
-    ensures { option_map value_seen result ≡ called_on func args.entry me }
-{
-    match args {
-        Some(args) => apply(func, args.as_slice(), me),
-        None => None,
-    }
-}
-
-/// The value of an action on these values; in a body its effect goes behind the others.
+/// The value of an action on these values, with its effect put behind the others; in a body a fault is
+/// `'EXIT'`. No action stands in a condition, and there it is a fault.
 fn performed<'a, A: Allocator + Copy>(
     action: Action,
-    args: Option<SomeValues<'a, A>>,
+    args: &[Value<'a, A>],
     scene: &Scene<'a, '_, A>,
     effects: &mut Vec<Effect<A>, A>,
 ) -> Result<Option<Value<'a, A>>, AllocError>
-    ensures value { IfOk result (λ v. option_map value_seen v ≡ value_performed scene.now action args.entry) }
-    ensures effects { IfOk result (λ _. AddsPerformed scene.now action args.entry effects.old effects.new) }
+    ensures { IfOk result (λ v. answer v effects.new ≡ performed scene.now action args.now effects.old) }
 {
-    let Some(args) = args else {
+    let Part::Body = scene.part else {
         return Ok(None);
     };
-    let Some(acted) = perform(action, args.as_slice(), scene)? else {
-        return Ok(None);
+    let Some(acted) = perform(action, args, scene, effects.as_slice())? else {
+        return Ok(Some(Value::Word(Word::Exit)));
     };
-    add(scene.part, acted.effect, effects)?;
+    add(acted.effect, effects)?;
     Ok(Some(acted.value))
 }
 
-/// Puts an effect behind the others, in a body.
+/// Puts an effect behind the others, where there is one.
 fn add<A: Allocator>(
-    part: Part,
     effect: Option<Effect<A>>,
     effects: &mut Vec<Effect<A>, A>,
 ) -> Result<(), AllocError>
-    ensures { IfOk result (λ _. AreBehind (effects_of_part part (effect_list effect)) effects.old effects.new) }
+    ensures { IfOk result (λ _. AreBehind (effect_list effect) effects.old effects.new) }
 {
-    match (part, effect) {
-        (Part::Body, Some(effect)) => effects.push(effect)?,
-        _ => {}
+    match effect {
+        Some(effect) => effects.push(effect)?,
+        None => {}
     }
     Ok(())
 }

@@ -212,7 +212,9 @@ fn event<'a>(alloc: Global) -> Arg<'a>
     Arg::new(alloc, "for")
         .long("for")
         .value_name("EVENT")
-        .help("What the specification is for: call, send or receive")
+        .help(
+            "What the specification is for, and the one flag that the process has: call, send or receive",
+        )
         .value_parser(EVENTS)
         .default_value("call")
         .action(ArgAction::Set)
@@ -226,7 +228,7 @@ fn own_process<'a>(alloc: Global) -> Arg<'a>
     Arg::new(alloc, "me")
         .long("me")
         .value_name("N")
-        .help("The process whose event it is, <0.N.0>")
+        .help("The process whose event it is, <0.N.0>; no other process has a flag")
         .value_parser(value_parser!(u32))
         .default_value("100")
         .action(ArgAction::Set)

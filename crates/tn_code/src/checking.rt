@@ -1,8 +1,8 @@
 // A test of instructions that takes no memory.
 ghost use Rattle.std.specs.Prelude.{◌≡◌, ◌<◌, length, is_some, IfSome};
 ghost use Rattle.def_machine.specs.Checking.{is_checked, is_fine, is_set_before, sets_before, all_of_them};
-ghost use Rattle.def_machine.specs.Validity.{reads, has_its_number, is_between};
-ghost use Rattle.def_spec.specs.Laws.{numbers_of_function, numbers_of_action};
+ghost use Rattle.def_machine.specs.Validity.{reads, has_its_number, is_between, is_performed_by};
+ghost use Rattle.def_spec.specs.Laws.{numbers_of_function};
 ghost use Rattle.tn_code.specs.Codes.{code_seen};
 ghost use Rattle.tn_code.specs.Views.{instruction_of, instructions_of};
 ghost use Rattle.tn_spec.specs.Views.{func_of, action_of};
@@ -43,14 +43,15 @@ fn takes(func: Func, count: usize) -> bool
     }
 }
 
-/// Whether the action has so many arguments.
+/// Whether the action acts on so many registers; `trace` has an instruction of its own.
 fn acts_on(action: Action, count: usize) -> bool
-    ensures { result ≡ is_between (numbers_of_action (action_of action)) count }
+    ensures { result ≡ is_performed_by (action_of action) count }
 {
     match action {
         Action::Message | Action::Silent => count == 1,
         Action::ReturnTrace | Action::ExceptionTrace | Action::Caller => count == 0,
         Action::EnableTrace | Action::DisableTrace => 1 <= count && count <= 2,
+        Action::Trace => false,
     }
 }
 
@@ -126,6 +127,12 @@ fn reads_are_set<A: Allocator>(items: &[Instr<A>], here: usize, instr: &Instr<A>
         Instr::Build { from, .. } => are_set_before(items, here, from.as_slice()),
         Instr::Apply { from, .. } => are_set_before(items, here, from.as_slice()),
         Instr::Perform { from, .. } => are_set_before(items, here, from.as_slice()),
+        Instr::ChangeFlags {
+            process,
+            off,
+            on,
+            ..
+        } => { are_set_before(items, here, &[*process, *off, *on]) }
         _ => true,
     }
 }

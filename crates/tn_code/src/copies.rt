@@ -95,6 +95,19 @@ impl<A: Allocator> Instr<A> {
                 to: *to,
                 from: copy_registers(from.as_slice(), alloc)?,
             }),
+            Instr::ChangeFlags {
+                to,
+                process,
+                off,
+                on,
+                on_fault,
+            } => Ok(Instr::ChangeFlags {
+                to: *to,
+                process: *process,
+                off: *off,
+                on: *on,
+                on_fault: *on_fault,
+            }),
             Instr::EndMatch => Ok(Instr::EndMatch),
             Instr::EndNoMatch => Ok(Instr::EndNoMatch),
         }

@@ -11,7 +11,7 @@ pub enum Kind {
     List,
 }
 
-/// Where to go on after the fault of a function.
+/// Where to go on after a fault.
 #[derive(Clone, Copy)]
 pub enum OnFault {
     /// At another place.
@@ -92,6 +92,15 @@ pub enum Instr<A: Allocator> {
         action: Action,
         to: usize,
         from: Vec<usize, A>,
+    },
+    /// Clears flags of a process and sets others, by the terms in three registers; the value is whether its
+    /// flags change. The effect goes behind the others.
+    ChangeFlags {
+        to: usize,
+        process: usize,
+        off: usize,
+        on: usize,
+        on_fault: OnFault,
     },
     EndMatch,
     EndNoMatch,

@@ -63,6 +63,7 @@ pub fn action_name(action: Action) -> &'static str {
         Action::Silent => "silent",
         Action::EnableTrace => "enable_trace",
         Action::DisableTrace => "disable_trace",
+        Action::Trace => "trace",
         Action::Caller => "caller",
     }
 }
@@ -92,6 +93,7 @@ pub fn instr_name<A: Allocator>(instr: &Instr<A>) -> &'static str {
         Instr::Build { .. } => "build",
         Instr::Apply { .. } => "apply",
         Instr::Perform { .. } => "perform",
+        Instr::ChangeFlags { .. } => "change_flags",
         Instr::EndMatch => "end_match",
         Instr::EndNoMatch => "end_no_match",
     }

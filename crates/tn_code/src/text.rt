@@ -248,6 +248,19 @@ fn put_perform<B: Allocator>(
     put_all(to, from, out)
 }
 
+/// Appends the registers of a change of flags.
+fn put_change<B: Allocator>(
+    to: usize,
+    from: &[usize],
+    on_fault: OnFault,
+    out: &mut Vec<u8, B>,
+) -> Result<(), AllocError>
+    ensures { Grows out.old.items out.new.items }
+{
+    put_all(to, from, out)?;
+    put_on_fault(on_fault, out)
+}
+
 /// Appends the operands of an instruction.
 fn put_operands<A: Allocator, B: Allocator>(
     instr: &Instr<A>,
@@ -288,6 +301,13 @@ fn put_operands<A: Allocator, B: Allocator>(
             to,
             from,
         } => Ok(put_perform(*dialect, *action, *to, from.as_slice(), out)?),
+        Instr::ChangeFlags {
+            to,
+            process,
+            off,
+            on,
+            on_fault,
+        } => Ok(put_change(*to, &[*process, *off, *on], *on_fault, out)?),
         Instr::EndMatch => Ok(()),
         Instr::EndNoMatch => Ok(()),
     }

@@ -1,8 +1,8 @@
 // The ways on from an instruction, and what it reads.
-ghost use Rattle.std.specs.Prelude.{◌≡◌, length};
-ghost use Rattle.def_machine.specs.Validity.{ways, has_its_number};
+ghost use Rattle.std.specs.Prelude.{◌≡◌, ◌∷◌, []};
+ghost use Rattle.def_machine.specs.Validity.{ways, onward, ways_of_fault};
 ghost use Rattle.def_machine.specs.Checking.{all_of_them, leads_forward, stops_at};
-ghost use Rattle.tn_code.specs.Views.{instruction_of};
+ghost use Rattle.tn_code.specs.Views.{instruction_of, fault_of};
 ghost use Rattle.tn_code.specs.Ways.{ways_seen, next_before, away_list};
 
 use crate::instr::{Instr, OnFault};
@@ -33,6 +33,19 @@ fn onward(to: usize) -> Ways
     Ways {
         next: Next::Sets(to),
         away: None,
+    }
+}
+
+/// On to the next place, or where a fault leads.
+fn onward_or_away(to: usize, on_fault: OnFault) -> Ways
+    ensures { ways_seen result ≡ onward (to ∷ []) ∷ ways_of_fault (fault_of on_fault) }
+{
+    match on_fault {
+        OnFault::Place(place) => Ways {
+            next: Next::Sets(to),
+            away: Some(place),
+        },
+        OnFault::Exit => onward(to),
     }
 }
 
@@ -70,14 +83,9 @@ pub fn ways_of<A: Allocator>(instr: &Instr<A>) -> Ways
             away: Some(*place),
         },
         Instr::Build { to, .. } => onward(*to),
-        Instr::Apply { to, on_fault, .. } => match on_fault {
-            OnFault::Place(place) => Ways {
-                next: Next::Sets(*to),
-                away: Some(*place),
-            },
-            OnFault::Exit => onward(*to),
-        },
+        Instr::Apply { to, on_fault, .. } => onward_or_away(*to, *on_fault),
         Instr::Perform { to, .. } => onward(*to),
+        Instr::ChangeFlags { to, on_fault, .. } => onward_or_away(*to, *on_fault),
         Instr::EndMatch | Instr::EndNoMatch => Ways {
             next: Next::Never,
             away: None,

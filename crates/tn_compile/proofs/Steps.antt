@@ -1,13 +1,14 @@
 -- The code of expressions, from the last one to the first.
-use Rattle.std.proofs.Common.{false, ◌≡◌, ℕ, zero, suc, ◌+◌, ◌-◌, ◌<◌, ◌≤◌, List, [], ◌∷◌, ◌++◌, length, drop, refl, sym, ap, ◌∙◌, arith, true, get_or, reverse, append_assoc}
+use Rattle.std.proofs.Common.{false, if◌then◌else◌, ◌&&◌, ◌==◌, ◌≡◌, ℕ, zero, suc, ◌+◌, ◌-◌, ◌<◌, ◌≤◌, List, [], ◌∷◌, ◌++◌, length, drop, refl, sym, ap, ◌∙◌, arith, true, get_or, reverse, append_assoc}
+use Rattle.std.proofs.lemmas.Bool.{ne_eqb}
 use Rattle.std.proofs.lemmas.List.{drop_more, length-map, length-reverse}
 use Rattle.std.specs.declared.vec.Vec.{Vec}
 use Rattle.def_spec.specs.Functions.{truth}
 use Rattle.def_spec.specs.Expressions as ex
 use Rattle.def_spec.specs.Expressions.{Exprs, no_exprs, and_expr}
 use Rattle.def_spec.specs.Functions.{Func}
-use Rattle.def_machine.specs.Instructions.{kind_tuple, kind_list, OnFault, Instruction, load_constant, test_equal, jump, build, apply_function, perform_action}
-use Rattle.def_machine.specs.Compiling.{VariableRegisters, register_of, registers_of, call_code}
+use Rattle.def_machine.specs.Instructions.{kind_tuple, kind_list, OnFault, Instruction, load_constant, load_own_pid, test_equal, jump, build, apply_function, perform_action, change_flags, gives_exit}
+use Rattle.def_machine.specs.Compiling.{VariableRegisters, register_of, registers_of, call_code, is_on_self, action_code}
 use Rattle.tn_spec.specs.Sizes.{expr_size, exprs_size}
 use Rattle.tn_spec.specs.Views.{dialect_of, expr_seen, exprs_seen}
 use Rattle.tn_spec.specs.declared.expr.Expr.{Expr}
@@ -16,7 +17,7 @@ use Rattle.tn_code.specs.declared.instr.Instr.{Instr}
 use Rattle.tn_compile.specs.Views.{code_left, variables_seen, part_of, fault_in, fault_emitted}
 use Rattle.tn_compile.specs.declared.scene.Part.{Part}
 use Rattle.tn_compile.specs.declared.scene.Part.TheVariants.{Condition, Body}
-use Rattle.tn_compile.specs.Emitted.{expr_emitted, exprs_emitted, while_emitted, until_emitted}
+use Rattle.tn_compile.specs.Emitted.{expr_emitted, exprs_emitted, while_emitted, until_emitted, is_trace}
 use Rattle.tn_compile.specs.declared.scene.Scene.{Scene}
 
 pub exprs_here : {A : Type 0} (es : List (Expr A)) (i : ℕ) (e : Expr A) → i < length es → e ≡ get_or es i e → exprs_seen (drop i es) ≡ and_expr (expr_seen e) (exprs_seen (drop (i + 1) es))
@@ -63,6 +64,66 @@ call-is : (p : Part) (f : ℕ) (i : OnFault → Instruction) (k : List Instructi
 call-is Condition f i k = refl
 call-is Body f i k = refl
 
+-- ---- actions
+
+not-trace : (a : ex.Action) (es : Exprs) → is_trace a ≡ false → false ≡ is_on_self a es
+not-trace ex.message es e = refl
+not-trace ex.return_trace es e = refl
+not-trace ex.exception_trace es e = refl
+not-trace ex.silent es e = refl
+not-trace ex.enable_trace es e = refl
+not-trace ex.disable_trace es e = refl
+not-trace ex.trace es e = absurd (cc)
+not-trace ex.caller es e = refl
+
+trace-on-two : {A : Type 0} (es : List (Expr A)) → (length es == 2) ≡ is_on_self ex.trace (exprs_seen es)
+trace-on-two [] = refl
+trace-on-two (e ∷ []) = refl
+trace-on-two (e ∷ f ∷ []) = refl
+trace-on-two (e ∷ f ∷ g ∷ es) = ne_eqb (length (e ∷ f ∷ g ∷ es)) 2 (λ h. omega (arith, h))
+
+-- `trace` without a pid
+pub two-of-trace : {A : Type 0} (a : ex.Action) (es : List (Expr A)) → is_trace a ≡ true → (length es == 2) ≡ is_on_self a (exprs_seen es)
+two-of-trace ex.message es e = absurd (cc)
+two-of-trace ex.return_trace es e = absurd (cc)
+two-of-trace ex.exception_trace es e = absurd (cc)
+two-of-trace ex.silent es e = absurd (cc)
+two-of-trace ex.enable_trace es e = absurd (cc)
+two-of-trace ex.disable_trace es e = absurd (cc)
+two-of-trace ex.trace es e = trace-on-two es
+two-of-trace ex.caller es e = absurd (cc)
+
+-- the instruction of another action, and of `trace` on another number of registers
+pub other-code : (d : ex.Dialect) (a : ex.Action) (to : ℕ) (rs : List ℕ) → (is_trace a && (length rs == 3)) ≡ false → perform_action d a to rs ≡ action_code d a to rs
+other-code d ex.message to rs e = refl
+other-code d ex.return_trace to rs e = refl
+other-code d ex.exception_trace to rs e = refl
+other-code d ex.silent to rs e = refl
+other-code d ex.enable_trace to rs e = refl
+other-code d ex.disable_trace to rs e = refl
+other-code d ex.trace to [] e = refl
+other-code d ex.trace to (p ∷ []) e = refl
+other-code d ex.trace to (p ∷ q ∷ []) e = refl
+other-code d ex.trace to (p ∷ q ∷ r ∷ []) e = absurd (cc)
+other-code d ex.trace to (p ∷ q ∷ r ∷ u ∷ rs) e = refl
+other-code d ex.caller to rs e = refl
+
+-- that of `trace` on three
+pub trace-code : (d : ex.Dialect) (a : ex.Action) (to : ℕ) (rs : List ℕ) (p off on : ℕ) → (is_trace a && (length rs == 3)) ≡ true → p ≡ get_or rs 0 p → off ≡ get_or rs 1 off → on ≡ get_or rs 2 on → change_flags to p off on gives_exit ≡ action_code d a to rs
+trace-code d ex.message to rs p off on e x y z = absurd (cc)
+trace-code d ex.return_trace to rs p off on e x y z = absurd (cc)
+trace-code d ex.exception_trace to rs p off on e x y z = absurd (cc)
+trace-code d ex.silent to rs p off on e x y z = absurd (cc)
+trace-code d ex.enable_trace to rs p off on e x y z = absurd (cc)
+trace-code d ex.disable_trace to rs p off on e x y z = absurd (cc)
+trace-code d ex.trace to [] p off on e x y z = absurd (cc)
+trace-code d ex.trace to (q ∷ []) p off on e x y z = absurd (cc)
+trace-code d ex.trace to (q ∷ r ∷ []) p off on e x y z = absurd (cc)
+trace-code d ex.trace to (q ∷ r ∷ u ∷ []) p off on e x y z =
+    ap (λ n. change_flags to n off on gives_exit) x ∙ ap (λ n. change_flags to q n on gives_exit) y ∙ ap (λ n. change_flags to q r n gives_exit) z
+trace-code d ex.trace to (q ∷ r ∷ u ∷ v ∷ rs) p off on e x y z = absurd (cc (sym (ne_eqb (length (q ∷ r ∷ u ∷ v ∷ rs)) 3 (λ h. omega (arith, h))) ∙ e))
+trace-code d ex.caller to rs p off on e x y z = absurd (cc)
+
 module _ (s : Scene) where
   -- the code of an expression that is seen as this one
   pub seen-emitted : (e f : ex.Expr) (free : ℕ) (k new : List Instruction) → e ≡ f → new ≡ expr_emitted s f free k → new ≡ expr_emitted s e free k
@@ -80,8 +141,22 @@ module _ (s : Scene) where
       (before ∙ ap (λ m. apply_function g free (registers_of (variables_seen s.variables.now) es free) (fault_emitted s m) ∷ k) is
       ∙ sym (call-is s.part s.left (apply_function g free (registers_of (variables_seen s.variables.now) es free)) k))
 
-  pub perform-emitted : (a : ex.Action) (es : Exprs) (free : ℕ) (k old new : List Instruction) → old ≡ perform_action (dialect_of s.dialect) a free (registers_of (variables_seen s.variables.now) es free) ∷ k → new ≡ exprs_emitted s es free old → new ≡ expr_emitted s (ex.perform a es) free k
-  perform-emitted a es free k old new before after = after ∙ ap (exprs_emitted s es free) before
+  module _ (a : ex.Action) (es : Exprs) (free : ℕ) (k old new : List Instruction) where
+    abbrev alone : List Instruction
+    alone = exprs_emitted s es free (action_code (dialect_of s.dialect) a free (registers_of (variables_seen s.variables.now) es free) ∷ k)
+
+    abbrev with_pid : List Instruction
+    with_pid = load_own_pid free ∷ exprs_emitted s es (suc free) (action_code (dialect_of s.dialect) a free (free ∷ registers_of (variables_seen s.variables.now) es (suc free)) ∷ k)
+
+    pub perform-emitted : is_on_self a es ≡ false → old ≡ action_code (dialect_of s.dialect) a free (registers_of (variables_seen s.variables.now) es free) ∷ k → new ≡ exprs_emitted s es free old → new ≡ expr_emitted s (ex.perform a es) free k
+    perform-emitted is before after = after ∙ ap (exprs_emitted s es free) before ∙ sym (ap (λ q. if q then with_pid else alone) is)
+
+    pub self-emitted : (loaded : List Instruction) → is_on_self a es ≡ true → old ≡ action_code (dialect_of s.dialect) a free (free ∷ registers_of (variables_seen s.variables.now) es (suc free)) ∷ k → new ≡ exprs_emitted s es (free + 1) old
+        → loaded ≡ load_own_pid free ∷ new → loaded ≡ expr_emitted s (ex.perform a es) free k
+    self-emitted loaded is before after load =
+        let n : free + 1 ≡ suc free = omega arith in
+        load ∙ ap (λ x. load_own_pid free ∷ x) (after ∙ ap (exprs_emitted s es (free + 1)) before ∙ ap (λ q. exprs_emitted s es q (action_code (dialect_of s.dialect) a free (free ∷ registers_of (variables_seen s.variables.now) es (suc free)) ∷ k)) n)
+        ∙ sym (ap (λ q. if q then with_pid else alone) is)
 
   pub and-emitted : (es : Exprs) (free end : ℕ) (k a b new : List Instruction) → end ≡ length k → a ≡ load_constant free (truth true) ∷ k → b ≡ while_emitted s es (free + 1) end a → new ≡ load_constant free (truth false) ∷ b → new ≡ expr_emitted s (ex.and_also es) free k
   and-emitted es free end k a b new is one two three =

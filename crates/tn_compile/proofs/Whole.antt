@@ -6,7 +6,7 @@ use Rattle.std.specs.Coded.{×_prop, Unit-prop, le_prop}
 use Rattle.def_spec.specs.Expressions as ex
 use Rattle.def_spec.specs.Outcome as outcome
 use Rattle.def_spec.specs.Laws.{IsSound}
-use Rattle.def_machine.specs.Instructions.{goes_on_at, gives_exit, Instruction, load_constant, load_list, load_own_pid, load_caller, take_element, take_rest, test_kind, test_length, test_equal, jump, build, apply_function, perform_action, end_with_match, end_without_match}
+use Rattle.def_machine.specs.Instructions.{goes_on_at, gives_exit, Instruction, load_constant, load_list, load_own_pid, load_caller, take_element, take_rest, test_kind, test_length, test_equal, jump, build, apply_function, perform_action, change_flags, end_with_match, end_without_match}
 use Rattle.def_machine.specs.Validity.{Each, ways, Valid}
 use Rattle.def_machine.specs.Compiling.{clause_code, clauses_code, code_of}
 use Rattle.def_machine.proofs.Compiled.{compiled_code_is_valid}
@@ -48,6 +48,8 @@ jump-inside (build k to rs) n h = omega arith
 jump-inside (apply_function f to rs (goes_on_at p)) n h = omega (arith, h.1.0)
 jump-inside (apply_function f to rs gives_exit) n h = omega arith
 jump-inside (perform_action d a to rs) n h = omega arith
+jump-inside (change_flags to p off on (goes_on_at q)) n h = omega (arith, h.1.0)
+jump-inside (change_flags to p off on gives_exit) n h = omega arith
 jump-inside end_with_match n h = omega arith
 jump-inside end_without_match n h = omega arith
 

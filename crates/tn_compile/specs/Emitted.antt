@@ -1,10 +1,11 @@
 -- The code of expressions, by what it is emitted for.
-use Rattle.std.specs.Prelude.{◌≡◌, ℕ, List, [], ◌∷◌, length}
+use Rattle.std.specs.Prelude.{◌≡◌, ℕ, suc, Bool, true, false, List, [], ◌∷◌, length}
 use Rattle.std.specs.declared.vec.Vec.{Vec}
+use Rattle.def_spec.specs.Expressions as ex
 use Rattle.def_spec.specs.Expressions.{Dialect, Expr, Exprs}
 use Rattle.def_spec.specs.Outcome.{Clause}
-use Rattle.def_machine.specs.Instructions.{Instruction, build, apply_function, perform_action}
-use Rattle.def_machine.specs.Compiling.{registers_of, expr_code, exprs_code, while_true_code, until_true_code, clause_code}
+use Rattle.def_machine.specs.Instructions.{Instruction, build, apply_function}
+use Rattle.def_machine.specs.Compiling.{registers_of, action_code, expr_code, exprs_code, while_true_code, until_true_code, clause_code}
 use Rattle.def_machine.specs.Folding.{folded_clause}
 use Rattle.tn_spec.specs.Views.{dialect_of, func_of, action_of}
 use Rattle.tn_spec.specs.declared.func.Func.{Func}
@@ -33,6 +34,11 @@ abbrev pub clauses_emitted : Dialect → List Clause → List Instruction → Li
 clauses_emitted d [] k = k
 clauses_emitted d (c ∷ cs) k = clause_code d (folded_clause c) (clauses_emitted d cs k)
 
+-- the action `trace`
+abbrev pub is_trace : ex.Action → Bool
+is_trace ex.trace = true
+is_trace _ = false
+
 -- ---- what is put in front of code, which stands from its end to its beginning
 
 abbrev pub EmitsExpr : {A : Type 0} → Scene → Expr → ℕ → Vec (Instr A) A → Vec (Instr A) A → Type 0
@@ -51,7 +57,16 @@ EmitsApply s f es d old new =
 
 abbrev pub EmitsPerform : {A : Type 0} → Scene → Action → Exprs → ℕ → Vec (Instr A) A → Vec (Instr A) A → Type 0
 EmitsPerform s a es d old new =
-    code_left new ≡ perform_action (dialect_of s.dialect) (action_of a) d (registers_of (variables_seen s.variables.now) es d) ∷ code_left old
+    code_left new ≡ action_code (dialect_of s.dialect) (action_of a) d (registers_of (variables_seen s.variables.now) es d) ∷ code_left old
+
+-- on the own pid, which stands in front of the values
+abbrev pub EmitsOnSelf : {A : Type 0} → Scene → Action → Exprs → ℕ → Vec (Instr A) A → Vec (Instr A) A → Type 0
+EmitsOnSelf s a es d old new =
+    code_left new ≡ action_code (dialect_of s.dialect) (action_of a) d (d ∷ registers_of (variables_seen s.variables.now) es (suc d)) ∷ code_left old
+
+-- the whole call of an action
+abbrev pub EmitsAction : {A : Type 0} → Scene → Action → Exprs → ℕ → Vec (Instr A) A → Vec (Instr A) A → Type 0
+EmitsAction s a es = EmitsExpr s (ex.perform (action_of a) es)
 
 abbrev pub EmitsWhileTrue : {A : Type 0} → Scene → Exprs → (d g : ℕ) → Vec (Instr A) A → Vec (Instr A) A → Type 0
 EmitsWhileTrue s es d g old new = code_left new ≡ while_emitted s es d g (code_left old)

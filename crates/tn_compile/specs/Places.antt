@@ -1,7 +1,7 @@
 -- How many instructions an instruction passes, before it has its place.
 use Rattle.std.specs.Prelude.{ℕ, ◌<◌, List, [], ◌∷◌, length}
 use Rattle.std.specs.Bool.{⊤}
-use Rattle.def_machine.specs.Instructions.{OnFault, goes_on_at, gives_exit, Instruction, take_element, take_rest, test_kind, test_length, test_equal, jump, apply_function}
+use Rattle.def_machine.specs.Instructions.{OnFault, goes_on_at, gives_exit, Instruction, take_element, take_rest, test_kind, test_length, test_equal, jump, apply_function, change_flags}
 
 -- after a fault
 abbrev pub fault_passed : OnFault → ℕ
@@ -17,6 +17,7 @@ passed (test_length from l n) = n
 passed (test_equal left right n) = n
 passed (jump n) = n
 passed (apply_function f to rs fault) = fault_passed fault
+passed (change_flags to p off on fault) = fault_passed fault
 passed _ = 0
 
 -- each passes fewer instructions than are left behind it, but for the one at the end

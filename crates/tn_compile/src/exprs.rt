@@ -2,20 +2,20 @@
 ghost use Rattle.std.specs.Prelude.{◌≡◌, ◌∷◌, ◌+◌, ◌<◌, ◌≤◌, ◌^◌, OnOk, IfOk, length};
 ghost use Rattle.def_spec.specs.Functions.{truth};
 ghost use Rattle.def_spec.specs.Expressions.{all_bound, and_also, or_else};
-ghost use Rattle.def_machine.specs.Compiling.{register_of, registers_of};
+ghost use Rattle.def_machine.specs.Compiling.{register_of, registers_of, is_on_self, action_code};
 ghost use Rattle.def_machine.specs.Instructions.{load_constant};
 ghost use Rattle.tn_spec.specs.Sizes.{expr_size, exprs_size};
-ghost use Rattle.tn_spec.specs.Views.{expr_seen, exprs_seen};
+ghost use Rattle.tn_spec.specs.Views.{dialect_of, action_of, expr_seen, exprs_seen};
 ghost use Rattle.tn_term.specs.Views.{tree_of};
-ghost use Rattle.tn_code.specs.Views.{fault_of};
+ghost use Rattle.tn_code.specs.Views.{instruction_of, fault_of};
 ghost use Rattle.tn_compile.specs.Views.{code_left, variables_seen, fault_emitted};
 ghost use Rattle.tn_compile.specs.Emitted.{EmitsExpr, EmitsExprs, EmitsWhileTrue, EmitsUntilTrue};
-ghost use Rattle.tn_compile.specs.Emitted.{EmitsBuild, EmitsApply, EmitsPerform};
+ghost use Rattle.tn_compile.specs.Emitted.{EmitsBuild, EmitsApply, EmitsPerform, EmitsOnSelf, EmitsAction, is_trace};
 
 use crate::scene::{Part, Scene, VariableRegister, all_registers, emit, register_of_variable};
 use std::alloc::{AllocError, Allocator};
 use tn_code::{Instr, Kind, OnFault};
-use tn_spec::{Action, Expr, Func};
+use tn_spec::{Action, Dialect, Expr, Func};
 use tn_term::Term;
 
 /// The register of an expression's value: a variable's own, or the free one.
@@ -129,6 +129,55 @@ fn emit_apply<P: Allocator, A: Allocator + Copy>(
     )
 }
 
+/// Whether the action is `trace`.
+fn is_trace(action: Action) -> bool
+    ensures { result ≡ is_trace (action_of action) }
+{
+    match action {
+        Action::Trace => true,
+        Action::Message
+        | Action::ReturnTrace
+        | Action::ExceptionTrace
+        | Action::Silent
+        | Action::EnableTrace
+        | Action::DisableTrace
+        | Action::Caller => false,
+    }
+}
+
+/// Whether the call is `trace` without a pid.
+fn is_on_self<P: Allocator>(action: Action, exprs: &[Expr<P>]) -> bool
+    ensures { result ≡ is_on_self (action_of action) (exprs_seen exprs.now) }
+{
+    is_trace(action) && exprs.len() == 2
+}
+
+/// The instruction of an action on some registers: `trace` on three has one of its own.
+fn action_instr<A: Allocator>(
+    dialect: Dialect,
+    action: Action,
+    to: usize,
+    from: Vec<usize, A>,
+) -> Instr<A>
+    ensures { instruction_of result ≡ action_code (dialect_of dialect) (action_of action) to from.items }
+{
+    if is_trace(action) && from.len() == 3 {
+        return Instr::ChangeFlags {
+            to,
+            process: from[0],
+            off: from[1],
+            on: from[2],
+            on_fault: OnFault::Exit,
+        };
+    }
+    Instr::Perform {
+        dialect,
+        action,
+        to,
+        from,
+    }
+}
+
 /// Puts an action on the values in front of the code.
 fn emit_perform<P: Allocator, A: Allocator + Copy>(
     alloc: A,
@@ -143,16 +192,25 @@ fn emit_perform<P: Allocator, A: Allocator + Copy>(
     ensures longer { OnOk result (length code.old.items ≤ length code.new.items) }
 {
     let from = registers_of(alloc, scene.variables, exprs.as_slice(), to)?;
-    let dialect = scene.dialect;
-    emit(
-        code,
-        Instr::Perform {
-            dialect,
-            action,
-            to,
-            from,
-        },
-    )
+    emit(code, action_instr(scene.dialect, action, to, from))
+}
+
+/// Puts an action on the own pid, which has the register `to`, and on the values in front of the code.
+fn emit_on_self<P: Allocator, A: Allocator + Copy>(
+    alloc: A,
+    code: &mut Vec<Instr<A>, A>,
+    action: Action,
+    exprs: &Vec<Expr<P>, P>,
+    scene: &Scene<'_>,
+    to: usize,
+) -> Result<(), AllocError>
+    requires room { to + 1 + exprs_size (exprs_seen exprs.now.items) < 2 ^ 64 }
+    ensures emitted { OnOk result (EmitsOnSelf scene.now action (exprs_seen exprs.now.items) to code.old code.new) }
+    ensures longer { OnOk result (length code.old.items ≤ length code.new.items) }
+{
+    let mut from = registers_of(alloc, scene.variables, exprs.as_slice(), to + 1)?;
+    from.insert(0, to)?;
+    emit(code, action_instr(scene.dialect, action, to, from))
 }
 
 /// Puts the instruction that makes the list of all bound values in front of the code.
@@ -223,10 +281,32 @@ pub fn emit_expr<P: Allocator, A: Allocator + Copy>(
         }
         Expr::AndAlso(exprs) => emit_and_also(alloc, code, exprs, scene, free),
         Expr::OrElse(exprs) => emit_or_else(alloc, code, exprs, scene, free),
-        Expr::Perform(action, exprs) => {
-            emit_perform(alloc, code, *action, exprs, scene, free)?;
-            emit_exprs(alloc, code, exprs, scene, free)
-        }
+        Expr::Perform(action, exprs) => emit_action(alloc, code, *action, exprs, scene, free),
+    }
+}
+
+/// Puts the code of an action's call in front of the code; it loads the own pid where `trace` is given none.
+#[cycle(emit)]
+fn emit_action<P: Allocator, A: Allocator + Copy>(
+    alloc: A,
+    code: &mut Vec<Instr<A>, A>,
+    action: Action,
+    exprs: &Vec<Expr<P>, P>,
+    scene: &Scene<'_>,
+    free: usize,
+) -> Result<(), AllocError>
+    requires room { free + 2 + exprs_size (exprs_seen exprs.now.items) < 2 ^ 64 }
+    requires behind { scene.now.left ≤ length code.old.items }
+    ensures emitted { OnOk result (EmitsAction scene.now action (exprs_seen exprs.now.items) free code.old code.new) }
+    ensures longer { OnOk result (length code.old.items ≤ length code.new.items) }
+{
+    if is_on_self(action, exprs.as_slice()) {
+        emit_on_self(alloc, code, action, exprs, scene, free)?;
+        emit_exprs(alloc, code, exprs, scene, free + 1)?;
+        emit(code, Instr::LoadOwnPid { to: free })
+    } else {
+        emit_perform(alloc, code, action, exprs, scene, free)?;
+        emit_exprs(alloc, code, exprs, scene, free)
     }
 }
 

@@ -74,6 +74,19 @@ fn at_place<A: Allocator>(instr: Instr<A>, next: usize) -> Instr<A>
             from,
             on_fault: fault_at(on_fault, next),
         },
+        Instr::ChangeFlags {
+            to,
+            process,
+            off,
+            on,
+            on_fault,
+        } => Instr::ChangeFlags {
+            to,
+            process,
+            off,
+            on,
+            on_fault: fault_at(on_fault, next),
+        },
         other => other,
     }
 }

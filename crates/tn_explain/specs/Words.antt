@@ -18,7 +18,7 @@ rule_words rules.not_exported = codes "not exported"
 rule_words rules.unbound = codes "variable not bound"
 rule_words rules.tracer_taken = codes "tracer taken"
 rule_words rules.wrong_arity = codes "wrong number of arguments"
-rule_words rules.past_limit = codes "at most 64 functions, 64 steps in each, 16 processes, 256 commands, 32 sessions"
+rule_words rules.past_limit = codes "at most 64 functions, 64 steps in each, 16 processes, 256 commands, 128 sessions"
 
 -- the words of a refusal's rule, with its limit
 abbrev pub words : Refusal → List ℕ

@@ -31,7 +31,7 @@ fn words_of_form(rule: FormRule) -> &'static [u8]
         FormRule::TracerTaken => b"tracer taken",
         FormRule::Arity => b"wrong number of arguments",
         FormRule::Limit => {
-            b"at most 64 functions, 64 steps in each, 16 processes, 256 commands, 32 sessions"
+            b"at most 64 functions, 64 steps in each, 16 processes, 256 commands, 128 sessions"
         }
     }
 }

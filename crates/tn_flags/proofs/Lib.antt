@@ -1,1 +1,3 @@
 pub mod FlagLemmas
+pub mod Silence
+pub mod Tables

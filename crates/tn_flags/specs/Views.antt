@@ -1,5 +1,5 @@
 -- What the code's events and commands stand for.
-use Rattle.std.specs.Prelude.{map}
+use Rattle.std.specs.Prelude.{map, replicate}
 use Rattle.std.specs.Option.{option_map}
 use Rattle.tn_term.specs.Views.{tree_of, mfa_seen}
 use Rattle.def_script.specs.Program as program
@@ -12,6 +12,8 @@ use Rattle.tn_flags.specs.declared.event.Call.{Call}
 use Rattle.def_spec.specs.Flags as flag
 use Rattle.def_spec.specs.Flags.{send_flag, receive_flag, call_flag, procs_flag, silent_flag, arity_flag, set_on_spawn, set_on_first_spawn, set_on_link, set_on_first_link}
 use Rattle.tn_flags.specs.declared.flags.Flags.{Flags}
+use Rattle.def_term.specs.Alive.{PROCESSES}
+use Rattle.tn_flags.specs.declared.table.FlagTable.{FlagTable}
 use Rattle.tn_flags.specs.declared.command.Command.{Command}
 use Rattle.tn_flags.specs.declared.command.Command.TheVariants.{SessionCreate, SessionDestroy, Process, Function, Send, Recv}
 
@@ -57,3 +59,11 @@ flags_of s set_on_spawn = s.set_on_spawn
 flags_of s set_on_first_spawn = s.set_on_first_spawn
 flags_of s set_on_link = s.set_on_link
 flags_of s set_on_first_link = s.set_on_first_link
+
+-- the flags of all processes
+abbrev pub table_of : FlagTable → flag.FlagTable
+table_of t = map flags_of t.flags
+
+-- none of them has one
+abbrev pub no_flags_of_any : flag.FlagTable
+no_flags_of_any = replicate PROCESSES flag.no_flags

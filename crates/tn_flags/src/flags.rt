@@ -2,7 +2,7 @@
 ghost use Rattle.std.specs.Prelude.{◌≡◌, ◌||◌, ◌&&◌, not};
 ghost use Rattle.std.specs.Option.{option_map};
 ghost use Rattle.def_term.specs.Tree.{atom};
-ghost use Rattle.def_spec.specs.Flags.{no_flags, only, joined, without, has_all, flag_named, after_spawn, after_link};
+ghost use Rattle.def_spec.specs.Flags.{no_flags, only, joined, without, has_all, same_flags, flag_named, after_spawn, after_link};
 ghost use Rattle.tn_term.specs.Views.{tree_of};
 ghost use Rattle.tn_flags.specs.Inheritance.{GivesAndKeeps};
 ghost use Rattle.tn_flags.specs.Views.{flags_of};
@@ -53,6 +53,20 @@ const NONE: Flags = Flags {
     call: false,
     procs: false,
     silent: false,
+    arity: false,
+    set_on_spawn: false,
+    set_on_first_spawn: false,
+    set_on_link: false,
+    set_on_first_link: false,
+};
+
+/// The flag `silent` alone.
+pub(crate) const SILENT: Flags = Flags {
+    send: false,
+    receive: false,
+    call: false,
+    procs: false,
+    silent: true,
     arity: false,
     set_on_spawn: false,
     set_on_first_spawn: false,
@@ -118,6 +132,13 @@ impl Flags {
             && holds_if(self.set_on_first_spawn, other.set_on_first_spawn)
             && holds_if(self.set_on_link, other.set_on_link)
             && holds_if(self.set_on_first_link, other.set_on_first_link)
+    }
+
+    /// Whether both have the same flags.
+    pub fn same(self, other: Flags) -> bool
+        ensures { result ≡ same_flags (flags_of self) (flags_of other) }
+    {
+        self.has(other) && other.has(self)
     }
 }
 

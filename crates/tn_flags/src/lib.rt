@@ -9,8 +9,10 @@ mod class;
 mod command;
 mod event;
 mod flags;
+mod table;
 
 pub use class::Class;
 pub use command::Command;
 pub use event::{Call, Event};
 pub use flags::{Flags, flag_of, flag_of_name, inherit_link, inherit_spawn};
+pub use table::FlagTable;

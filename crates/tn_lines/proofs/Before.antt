@@ -9,7 +9,7 @@ use Rattle.def_term.specs.Tree.{Tree, pid}
 use Rattle.def_term.specs.Names.{Mfa, Name, word}
 use Rattle.def_term.specs.Alive.{Alive}
 use Rattle.def_term.specs.Text.{is_written_bare}
-use Rattle.def_spec.specs.Flags.{Flag, only, send_flag, receive_flag, call_flag, procs_flag, flags_by_name}
+use Rattle.def_spec.specs.Flags.{Flag, FlagTable, only, send_flag, receive_flag, call_flag, procs_flag, flags_by_name}
 use Rattle.def_spec.specs.Expressions.{Context, Effect}
 use Rattle.def_script.specs.Program.{Class}
 use Rattle.def_node.specs.Event.{Event, Call, sent, received, called, returned, raised}
@@ -158,11 +158,11 @@ pub receive_by : (s : Session) (p sender : ℕ) (t : Tree) → flags_at s p rece
 receive_by s p sender t flag = settled s (received p sender t) s.receiving (context s p (word "nonode@nohost" ∷ pid sender ∷ t ∷ []) None) (refl, refl) flag refl refl
 
 -- contexts by their parts
-abbrev pub context_of : ℕ → List Tree → Option Mfa → Alive → Context
-context_of me ts f a = record { matched_list = ts; me = me; caller_mfa = f; alive = a }
+abbrev pub context_of : ℕ → List Tree → Option Mfa → Alive → FlagTable → Context
+context_of me ts f a t = record { matched_list = ts; me = me; caller_mfa = f; alive = a; flags = t }
 
-pub same_context : (me : ℕ) (ts us : List Tree) (f h : Option Mfa) (a b : Alive) → ts ≡ us → f ≡ h → a ≡ b → context_of me ts f a ≡ context_of me us h b
-same_context me ts us f h a b x y z = ap (λ l. context_of me l f a) x ∙ ap (λ o. context_of me us o a) y ∙ ap (context_of me us h) z
+pub same_context : (me : ℕ) (ts us : List Tree) (f h : Option Mfa) (a b : Alive) (t u : FlagTable) → ts ≡ us → f ≡ h → a ≡ b → t ≡ u → context_of me ts f a t ≡ context_of me us h b u
+same_context me ts us f h a b t u x y z v = ap (λ l. context_of me l f a t) x ∙ ap (λ o. context_of me us o a t) y ∙ ap (λ i. context_of me us h i t) z ∙ ap (context_of me us h b) v
 
 -- ---- calls
 

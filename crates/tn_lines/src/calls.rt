@@ -64,6 +64,7 @@ impl<A: Allocator + Copy> Lines<'_, A> {
             me: pid,
             caller: call.caller.as_ref(),
             alive: look.alive(),
+            flags: look.flags(),
         };
         self.put_setting(newest.setting, &context, out)
     }

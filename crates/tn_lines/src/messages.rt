@@ -75,6 +75,7 @@ impl<A: Allocator + Copy> Lines<'_, A> {
             me,
             caller: None,
             alive: look.alive(),
+            flags: look.flags(),
         };
         self.put_setting(setting, &context, out)
     }

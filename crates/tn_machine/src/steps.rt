@@ -9,14 +9,14 @@ ghost use Rattle.tn_action.specs.Views.{effect_list};
 ghost use Rattle.tn_code.specs.Views.{instruction_of, kind_of};
 ghost use Rattle.tn_guard.specs.Views.{value_seen};
 ghost use Rattle.tn_machine.specs.Steps.{Acts, GoesOnIf, HasRoom, Sets, SetsOrFaults, SetsOrLeaves};
-ghost use Rattle.tn_machine.specs.Steps.{IsApplied, IsBuilt, IsPerformed, IsPerformedOn};
+ghost use Rattle.tn_machine.specs.Steps.{IsApplied, IsBuilt, IsPerformed, IsPerformedOn, IsTraced};
 ghost use Rattle.tn_spec.specs.Views.{func_of};
 ghost use Rattle.tn_machine.specs.Views.{IsSetIn};
 
 use crate::registers::{SomeValues, count, element, is_of_kind, put, value_in, values_in};
 use bumpalo::Bump;
 use std::alloc::{AllocError, Allocator};
-use tn_action::{Effect, Scene, perform};
+use tn_action::{Effect, Scene, perform, trace_on};
 use tn_code::{Instr, Kind, OnFault};
 use tn_guard::{Value, Word, apply};
 use tn_spec::{Action, Dialect, Func};
@@ -115,6 +115,19 @@ pub fn step<'a, A: Allocator + Copy>(
             };
             let value = performed_on(asked, registers, from.as_slice(), effects, scene)?;
             Ok(set(registers, *to, value, place))
+        }
+        Instr::ChangeFlags {
+            to,
+            process,
+            off,
+            on,
+            on_fault,
+        } => {
+            let process = value_in(registers, *process);
+            let off = value_in(registers, *off);
+            let on = value_in(registers, *on);
+            let value = flags_changed(process, off, on, effects, scene)?;
+            Ok(set_applied(registers, *to, value, *on_fault, place))
         }
         Instr::EndMatch => Ok(Next::Matched),
         Instr::EndNoMatch => Ok(Next::NoMatch),
@@ -261,11 +274,35 @@ fn performed<'a, A: Allocator + Copy>(
         dialect: asked.dialect,
         ..*scene
     };
-    let Some(acted) = perform(asked.action, values.as_slice(), &of_dialect)? else {
+    let acted = perform(
+        asked.action,
+        values.as_slice(),
+        &of_dialect,
+        effects.as_slice(),
+    )?;
+    let Some(acted) = acted else {
         return Ok(Value::Word(Word::Exit));
     };
     add(acted.effect, effects)?;
     Ok(acted.value)
+}
+
+/// Whether the flags of a process change by two lists of flags, with the change put behind the other effects;
+/// None is a fault.
+fn flags_changed<'a, A: Allocator + Copy>(
+    process: Value<'a, A>,
+    off: Value<'a, A>,
+    on: Value<'a, A>,
+    effects: &mut Vec<Effect<A>, A>,
+    scene: &Scene<'a, '_, A>,
+) -> Result<Option<Value<'a, A>>, AllocError>
+    ensures { IfOk result (λ v. IsTraced scene.now process.entry off.entry on.entry v effects.old effects.new) }
+{
+    let Some(acted) = trace_on(scene.context, effects.as_slice(), process, off, on) else {
+        return Ok(None);
+    };
+    add(acted.effect, effects)?;
+    Ok(Some(acted.value))
 }
 
 /// Puts an effect behind the others, where there is one.

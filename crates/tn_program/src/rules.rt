@@ -33,7 +33,7 @@ const FUNCTIONS: u64 = 64;
 const INITIAL_PROCESSES: u64 = 16;
 
 /// The greatest number of sessions.
-const SESSIONS: u64 = 32;
+const SESSIONS: u64 = 128;
 
 /// The rules on a step.
 #[derive(Clone, Copy)]

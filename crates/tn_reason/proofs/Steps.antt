@@ -3,15 +3,16 @@ use Rattle.std.proofs.Common.{◌≡◌, ℕ, zero, suc, ◌+◌, ◌<◌, List,
 use Rattle.std.specs.Bool.{beq}
 use Rattle.std.specs.Cmp.{booleans_Decides}
 use Rattle.def_term.specs.Tree.{Tree, of_elements}
-use Rattle.def_spec.specs.Functions.{is_true, nth}
+use Rattle.def_spec.specs.Functions.{Func, is_true, nth}
 use Rattle.def_spec.specs.Matching.{Pattern, Patterns, and_pattern, Bindings, bind_on, bindings_of}
 use Rattle.def_spec.specs.Expressions as ex
 use Rattle.def_spec.specs.Expressions.{Exprs, no_exprs, and_expr}
 use Rattle.def_spec.specs.Outcome.{Clause, matched_term}
 use Rattle.def_explain.specs.Heads.{HeadReason, behind_matching, stop_or, stop_in, count, head_reason}
 use Rattle.def_explain.specs.Reasons.{Reason, by_head, by_condition, has_value, untrue_by, untrue_in, as_reason, reason_by}
-use Rattle.def_explain.specs.Values.{or_behind, behind_true, behind_other, fault_in, fault_in_one, fault_while_true, fault_until_true}
+use Rattle.def_explain.specs.Values.{applied, or_itself, or_behind, behind_true, behind_other, fault_in, fault_in_one, fault_while_true, fault_until_true}
 use Rattle.def_explain.specs.Verdicts.{fails, fires_with, verdict_of}
+use Rattle.def_spec.proofs.Conditions.{of-bound, of-call, of-action}
 use Rattle.def_explain.proofs.HeadStops.{head_there}
 use Rattle.def_explain.proofs.ClauseVerdicts.{verdict_with, verdict_without}
 use Rattle.std.proofs.Common.{eq-eqb, get_or}
@@ -26,10 +27,12 @@ use Rattle.tn_spec.specs.declared.pattern.Pattern as code
 use Rattle.tn_head.specs.Views.{bindings_seen}
 use Rattle.tn_spec.specs.Views.{dialect_of}
 use Rattle.tn_action.specs.Parts.{part_seen}
-use Rattle.tn_action.specs.Scenes.{value_in}
+use Rattle.tn_action.specs.Scenes.{evaluation_in}
+use Rattle.tn_action.proofs.Steps.{condition_value}
 use Rattle.tn_action.specs.Views.{context_seen}
 use Rattle.tn_action.specs.declared.scene.Part.TheVariants.{Condition}
 use Rattle.tn_action.specs.declared.scene.Scene.{Scene}
+use Rattle.tn_reason.specs.Reasoned as scenes
 
 -- ---- heads
 
@@ -54,7 +57,7 @@ goes-on-here n m es rest p us ts t b c total next is at some h =
 -- ---- faults
 
 module _ (d : ex.Dialect) (b : Bindings) (c : ex.Context) where
-  abbrev turn : Bool → Exprs → Option ex.Expr
+  abbrev pub turn : Bool → Exprs → Option ex.Expr
   turn true es = fault_until_true d b c es
   turn false es = fault_while_true d b c es
 
@@ -63,6 +66,30 @@ module _ (d : ex.Dialect) (b : Bindings) (c : ex.Context) where
 
   pub one-goes-on : (es rest : Exprs) (e : ex.Expr) (total : Option ex.Expr) → es ≡ and_expr e rest → fault_in d b c e ≡ None → fault_in_one d b c es ≡ total → fault_in_one d b c rest ≡ total
   one-goes-on es rest e total is fault h = sym (ap (fault_in_one d b c) is ∙ ap (λ o. or_behind o (fault_in_one d b c rest)) fault) ∙ h
+
+  pub same-first : (es rest : Exprs) (e f : ex.Expr) → es ≡ and_expr e rest → es ≡ and_expr f rest → e ≡ f
+  same-first es rest e f one other = cc
+
+  -- a call's own fault, where none of its arguments faults
+  pub variable-fault : (e : ex.Expr) (n : ℕ) → e ≡ ex.bound_to n → fault_in d b c e ≡ or_itself None e (ex.value d ex.in_condition b c e)
+  variable-fault e n is =
+      ap (fault_in d b c) is ∙ ap (or_itself None (ex.bound_to n)) (sym (of-bound d b c n)) ∙ sym (ap (λ x. or_itself None x (ex.value d ex.in_condition b c x)) is)
+
+  pub call-fault : (e : ex.Expr) (f : Func) (es : Exprs) (i : Option ex.Expr) → e ≡ ex.call f es → i ≡ fault_in_one d b c es → fault_in d b c e ≡ or_itself i e (ex.value d ex.in_condition b c e)
+  call-fault e f es i is inner =
+      ap (fault_in d b c) is ∙ ap (λ j. or_itself j (ex.call f es) (applied d b c f es)) (sym inner)
+      ∙ ap (or_itself i (ex.call f es)) (sym (of-call d b c f es)) ∙ sym (ap (λ x. or_itself i x (ex.value d ex.in_condition b c x)) is)
+
+  pub action-fault : (e : ex.Expr) (a : ex.Action) (es : Exprs) (i : Option ex.Expr) → e ≡ ex.perform a es → i ≡ fault_in_one d b c es → fault_in d b c e ≡ or_itself i e (ex.value d ex.in_condition b c e)
+  action-fault e a es i is inner =
+      ap (fault_in d b c) is ∙ ap (λ j. or_itself j (ex.perform a es) None) (sym inner)
+      ∙ ap (or_itself i (ex.perform a es)) (sym (of-action d b c a es)) ∙ sym (ap (λ x. or_itself i x (ex.value d ex.in_condition b c x)) is)
+
+  pub no-fault : (e : ex.Expr) (t : Tree) (i : Option ex.Expr) → fault_in d b c e ≡ or_itself i e (ex.value d ex.in_condition b c e) → i ≡ None → ex.value d ex.in_condition b c e ≡ Some t → None ≡ fault_in d b c e
+  no-fault e t i own inner is = sym (own ∙ ap (λ j. or_itself j e (ex.value d ex.in_condition b c e)) inner ∙ ap (or_itself None e) is)
+
+  pub own-fault : (e : ex.Expr) (i : Option ex.Expr) → fault_in d b c e ≡ or_itself i e (ex.value d ex.in_condition b c e) → i ≡ None → ex.value d ex.in_condition b c e ≡ None → Some e ≡ fault_in d b c e
+  own-fault e i own inner is = sym (own ∙ ap (λ j. or_itself j e (ex.value d ex.in_condition b c e)) inner ∙ ap (or_itself None e) is)
 
   -- what follows in turn, by the value
   abbrev follows : Bool → Option Tree → Exprs → Option ex.Expr
@@ -137,9 +164,19 @@ module _ (d : ex.Dialect) (k : Clause) (c : ex.Context) where
 
 -- ---- scenes
 
--- a value in a scene of conditions
-pub in-conditions : {A : Type 0} {G : Ghosts A} (s : Scene A G) (e : ex.Expr) (v : Option Tree) → s.part ≡ Condition → value_in s e ≡ v → ex.value (dialect_of s.dialect) ex.in_condition (bindings_seen s.bindings.now) (context_seen s.context.now) e ≡ v
-in-conditions s e v at is = sym (ap (λ p. ex.value (dialect_of s.dialect) (part_seen p) (bindings_seen s.bindings.now) (context_seen s.context.now) e) at) ∙ is
+-- a value in a scene of conditions, behind whatever effects
+pub in-conditions : {A : Type 0} {G : Ghosts A} (s : Scene A G) (e : ex.Expr) (v : Option Tree) (old new : List ex.Effect) → s.part ≡ Condition → ex.or_fault v new ≡ evaluation_in s e old
+    → ex.value (dialect_of s.dialect) ex.in_condition (bindings_seen s.bindings.now) (context_seen s.context.now) e ≡ v
+in-conditions s e v old new at is =
+    let d = dialect_of s.dialect in
+    let b = bindings_seen s.bindings.now in
+    let c = context_seen s.context.now in
+    condition_value d b c e v old new (is ∙ ap (λ p. ex.evaluation d (part_seen p) b c e old) at)
+
+-- what follows in turn in a scene
+pub in-turn : {A : Type 0} {G : Ghosts A} (s : Scene A G) (stop : Bool) (es : Exprs) → scenes.fault_in_turn s stop es ≡ turn (dialect_of s.dialect) (bindings_seen s.bindings.now) (context_seen s.context.now) stop es
+in-turn s true es = refl
+in-turn s false es = refl
 
 -- ---- lengths
 

@@ -1,11 +1,8 @@
 -- The flags of each living process changed, place by place.
-use Rattle.std.proofs.Common.{◌≡◌, ◌∙◌, ◌+◌, ◌<◌, ℕ, zero, suc, Bool, true, false, cond, if◌then◌else◌, List, [], ◌∷◌, length, get_or, set, take, map, unwrap_or, refl, sym, ap, arith, add-one}
-use Rattle.std.proofs.lemmas.List.{map-set, length-map}
-use Rattle.std.proofs.Math.ListN.{get_or-map}
-use Rattle.std.proofs.Math.Seq.{map-set_same}
+use Rattle.std.proofs.Common.{◌≡◌, ◌∙◌, ◌+◌, ◌-◌, ◌<◌, ℕ, zero, suc, Bool, true, false, cond, if◌then◌else◌, List, [], ◌∷◌, length, get_or, set, take, unwrap_or, refl, sym, ap, arith, add-one}
 use Rattle.std.specs.Prelude.{slice_get}
 use Rattle.def_term.specs.Alive.{Alive}
-use Rattle.def_spec.specs.Flags.{Flags}
+use Rattle.def_spec.specs.Flags.{Flags, no_flags, FlagTable, flags_in, with_flags_in}
 use Rattle.def_session.specs.Commands.{changed_flags, all_changed}
 
 pub nothing_changed : (on : Bool) (f : Flags) (gs : List Flags) → all_changed on f [] gs ≡ gs
@@ -45,25 +42,29 @@ all_places on f (b ∷ bs) [] (suc n) e = absurd (omega arith)
 all_places on f (b ∷ bs) (g ∷ gs) zero e = absurd (omega arith)
 all_places on f (b ∷ bs) (g ∷ gs) (suc n) e = ap (λ ys. (if b then changed_flags on f g else g) ∷ ys) (all_places on f bs gs n (omega arith))
 
--- the same of the code's sets, where the place's process lives and where it doesn't
-module _ {C : Type 0} (v : C → Flags) (on : Bool) (f : Flags) (bs : Alive) (start all : List C) (i : ℕ) (d : C) where
-  abbrev changed_so_far : ℕ → List Flags
-  changed_so_far n = all_changed on f (take n bs) (map v start)
+-- ---- a table, whose process at a place lives, and one whose doesn't
 
-  next : i < length all → length all ≡ length start → map v all ≡ changed_so_far i
-      → changed_so_far (i + 1) ≡ cond (unwrap_or (slice_get bs i) false) (set (changed_so_far i) i (changed_flags on f (v (get_or all i d)))) (changed_so_far i)
-  next below same so_far =
-      let there : i < length (map v start) = omega (arith, length-map start v) in
-      ap changed_so_far (add-one i) ∙ one_more_changed on f (v (get_or all i d)) (v d) bs (map v start) i there (sym (get_or-map v all i d) ∙ ap (λ ys. get_or ys i (v d)) so_far)
+or_none : (xs : List Flags) (i : ℕ) → unwrap_or (slice_get xs i) no_flags ≡ get_or xs i no_flags
+or_none [] zero = refl
+or_none [] (suc i) = refl
+or_none (x ∷ xs) zero = refl
+or_none (x ∷ xs) (suc i) = or_none xs i
 
-  pub living_case : (new : List C) (y : C) → i < length all → length all ≡ length start → map v all ≡ changed_so_far i → new ≡ set all i y → v y ≡ changed_flags on f (v (get_or all i d))
-      → true ≡ unwrap_or (slice_get bs i) false → map v new ≡ changed_so_far (i + 1)
-  living_case new y below same so_far made changes lives =
-      ap (map v) made ∙ map-set v all i y ∙ ap (λ z. set (map v all) i z) changes ∙ ap (λ ys. set ys i (changed_flags on f (v (get_or all i d)))) so_far
-      ∙ sym (next below same so_far ∙ ap (λ q. cond q (set (changed_so_far i) i (changed_flags on f (v (get_or all i d)))) (changed_so_far i)) (sym lives))
+module _ (on : Bool) (f : Flags) (bs : Alive) (start all : FlagTable) (i : ℕ) (below : i < length start) (so_far : all ≡ all_changed on f (take i bs) start) where
+  next : all_changed on f (take (i + 1) bs) start ≡ cond (unwrap_or (slice_get bs i) false) (set all i (changed_flags on f (get_or all i no_flags))) all
+  next =
+      ap (λ n. all_changed on f (take n bs) start) (add-one i)
+      ∙ one_more_changed on f (get_or all i no_flags) no_flags bs start i below (ap (λ ys. get_or ys i no_flags) so_far)
+      ∙ ap (λ ys. cond (unwrap_or (slice_get bs i) false) (set ys i (changed_flags on f (get_or all i no_flags))) ys) (sym so_far)
 
-  pub other_case : (new : List C) → i < length all → length all ≡ length start → map v all ≡ changed_so_far i → new ≡ set all i (get_or all i d)
-      → false ≡ unwrap_or (slice_get bs i) false → map v new ≡ changed_so_far (i + 1)
-  other_case new below same so_far made lives =
-      ap (map v) made ∙ map-set_same v all i (get_or all i d) d refl ∙ so_far
-      ∙ sym (next below same so_far ∙ ap (λ q. cond q (set (changed_so_far i) i (changed_flags on f (v (get_or all i d)))) (changed_so_far i)) (sym lives))
+  pub living_case : (new : FlagTable) (pid : ℕ) (old after : Flags) → pid ≡ 100 + i → old ≡ flags_in all pid → after ≡ changed_flags on f old → new ≡ with_flags_in all pid after
+      → true ≡ unwrap_or (slice_get bs i) false → new ≡ all_changed on f (take (i + 1) bs) start
+  living_case new pid old after at read changes made lives =
+      let place : pid - 100 ≡ i = omega (arith, at) in
+      made
+      ∙ ap (λ n. set all n after) place
+      ∙ ap (set all i) (changes ∙ ap (changed_flags on f) (read ∙ ap (λ n. unwrap_or (slice_get all n) no_flags) place ∙ or_none all i))
+      ∙ sym (next ∙ ap (λ q. cond q (set all i (changed_flags on f (get_or all i no_flags))) all) (sym lives))
+
+  pub other_case : (new : FlagTable) → new ≡ all → false ≡ unwrap_or (slice_get bs i) false → new ≡ all_changed on f (take (i + 1) bs) start
+  other_case new same lives = same ∙ sym (next ∙ ap (λ q. cond q (set all i (changed_flags on f (get_or all i no_flags))) all) (sym lives))

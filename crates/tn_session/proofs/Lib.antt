@@ -10,6 +10,5 @@ pub mod Telling
 pub mod Texts
 pub mod Longer
 pub mod Holding
-pub mod Silence
 pub mod AtomTexts
 pub mod Outcomes

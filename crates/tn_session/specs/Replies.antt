@@ -6,11 +6,11 @@ use Rattle.def_spec.specs.Reading as reading
 use Rattle.def_session.specs.State as definition
 use Rattle.def_script.specs.Opening.{Opening}
 use Rattle.def_session.specs.Commands as commands
-use Rattle.def_session.specs.Commands.{fault_term, number, matching_count, procs_of, how_of, flags_of, flags_set, flags_set_if, function_set_if, send_set, receive_set, done_live, command_done}
+use Rattle.def_session.specs.Commands.{fault_term, number, matching_count, procs_of, how_of, flags_set, flags_set_if, function_set_if, send_set, receive_set, done_live, command_done}
 use Rattle.def_session.specs.Settings as settings
 use Rattle.def_session.specs.Settings.{covered_of, options_of, setting_of}
 use Rattle.def_script.specs.Program.{Command}
-use Rattle.def_spec.specs.Flags.{Flags}
+use Rattle.def_spec.specs.Flags.{Flags, flags_listed}
 use Rattle.def_spec.specs.Expressions.{for_sends, for_receives}
 use Rattle.tn_spec.specs.declared.fault.SpecFault.{SpecFault}
 use Rattle.tn_spec.specs.declared.fault.SpecFault.TheVariants as faults
@@ -51,7 +51,7 @@ AreFlagsSet old procs on f new reply = IsDone new reply (flags_set (state_seen o
 
 -- the same, of arguments that may be no good
 abbrev pub IsProcessDone : {A : Type 0} → State A → (procs how flags : Tree) → State A → Tree → Type 0
-IsProcessDone old procs how flags new reply = IsDone new reply (flags_set_if (state_seen old) (procs_of procs) (how_of how) (flags_of flags))
+IsProcessDone old procs how flags new reply = IsDone new reply (flags_set_if (state_seen old) (procs_of procs) (how_of how) (flags_listed flags))
 
 -- a function command was accepted
 abbrev pub IsCovered : {A : Type 0} → State A → settings.Covering → State A → Tree → Type 0

@@ -7,7 +7,7 @@ use Rattle.def_term.specs.Alive.{PROCESSES}
 use Rattle.def_session.specs.State as definition
 use Rattle.def_session.specs.Settings as settings
 use Rattle.tn_term.specs.Views.{mfa_seen, alive_of}
-use Rattle.tn_flags.specs.Views.{flags_of}
+use Rattle.tn_flags.specs.Views.{flags_of, table_of}
 use Rattle.tn_session.specs.Compilations.{compiled_seen}
 use Rattle.tn_term.specs.declared.mfa.Mfa.{Mfa}
 use Rattle.tn_session.specs.declared.compiled.Compiled.{Compiled}
@@ -66,7 +66,7 @@ abbrev pub state_seen : {A : Type 0} → State A → definition.Session
 state_seen s = record {
   phase = phase_seen s.phase;
   alive = alive_of s.alive;
-  flags = map flags_of s.flags;
+  flags = table_of s.flags;
   for_new = flags_of s.for_new;
   functions = settings_seen s.settings;
   sending = setting_seen s.sending;

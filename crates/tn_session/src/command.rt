@@ -1,14 +1,14 @@
 // What a command does to its session, and its reply.
-ghost use Rattle.std.specs.Prelude.{◌≡◌, ◌<◌, ◌^◌, ℕ, IfOk, OnOk, map};
+ghost use Rattle.std.specs.Prelude.{◌≡◌, ◌<◌, ◌^◌, ℕ, IfOk, OnOk};
 ghost use Rattle.def_term.specs.Alive.{living_count};
 ghost use Rattle.std.specs.Option.{option_map};
-ghost use Rattle.def_spec.specs.Flags.{flags_named};
+ghost use Rattle.def_spec.specs.Flags.{flags_named, flags_listed};
 ghost use Rattle.def_session.specs.State as definition;
 ghost use Rattle.def_session.specs.State.{destroyed, unset};
-ghost use Rattle.def_session.specs.Commands.{procs_of, how_of, flags_of, all_changed, existing_changed};
+ghost use Rattle.def_session.specs.Commands.{procs_of, how_of, all_changed, existing_changed};
 ghost use Rattle.def_session.specs.Commands.{one_process, changed_flags, matching_count, number, done_destroyed};
 ghost use Rattle.tn_term.specs.Views.{tree_of, trees_of, alive_of};
-ghost use Rattle.tn_flags.specs.Views.{flags_of as flags_view, command_of};
+ghost use Rattle.tn_flags.specs.Views.{flags_of as flags_view, table_of, command_of};
 ghost use Rattle.tn_session.specs.Views.{covering_seen, state_seen};
 ghost use Rattle.tn_session.specs.Procs.{procs_seen, only_pid};
 ghost use Rattle.tn_session.specs.Replies.{reply_seen, opening_in, AreFlagsSet, IsProcessDone, IsCovered};
@@ -19,10 +19,10 @@ use crate::covered::{covered_of, options_of, setting_of};
 use crate::reply::{Reply, counted, reply_to};
 use crate::state::{Phase, State};
 use std::alloc::{AllocError, Allocator};
-use tn_flags::{Command, Flags, flag_of};
+use tn_flags::{Command, FlagTable, Flags, flag_of};
 use tn_index::{Covering, Setting, Settings};
 use tn_spec::Dialect;
-use tn_term::{Alive, Term};
+use tn_term::{Alive, FIRST_PID, Term};
 
 /// Which processes a command is about.
 #[derive(Clone, Copy, Debug, PartialEq, Eq)]
@@ -89,7 +89,7 @@ fn flags_in<A: Allocator>(items: &Vec<Term<A>, A>) -> Option<Flags>
 
 /// The flags of a list of them; None of any other term.
 fn flags_of<A: Allocator>(term: &Term<A>) -> Option<Flags>
-    ensures { option_map flags_view result ≡ flags_of (tree_of term.now) }
+    ensures { option_map flags_view result ≡ flags_listed (tree_of term.now) }
 {
     match term {
         Term::List(items) => flags_in(items),
@@ -109,12 +109,13 @@ fn changed(on: bool, flags: Flags, old: Flags) -> Flags
 }
 
 /// Changes the flags of each process that lives.
-fn change_living(all: &mut [Flags], alive: Alive, on: bool, flags: Flags)
-    ensures { map flags_view all.new ≡ all_changed on (flags_view flags) (alive_of alive) (map flags_view all.old) }
+fn change_living(table: &mut FlagTable, alive: Alive, on: bool, flags: Flags)
+    ensures { table_of table.new ≡ all_changed on (flags_view flags) (alive_of alive) (table_of table.old) }
 {
-    for (place, old) in all.iter_mut().enumerate() {
+    for place in 0..table.len() {
         if alive.has_place(place) {
-            *old = changed(on, flags, *old);
+            let pid = FIRST_PID + place as u32;
+            table.set(pid, changed(on, flags, table.of(pid)));
         }
     }
 }
@@ -271,7 +272,7 @@ impl<A: Allocator + Copy> State<A> {
     {
         let none = Flags::none();
         self.phase = Phase::Destroyed;
-        self.flags = [none; 64];
+        self.flags = FlagTable::none();
         self.for_new = none;
         self.settings = Settings::new(self.alloc);
         self.sending = Setting::Plain;

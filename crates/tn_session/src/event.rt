@@ -4,14 +4,14 @@ ghost use Rattle.std.specs.Option.{option_map};
 ghost use Rattle.def_term.specs.Names as names;
 ghost use Rattle.def_term.specs.Tree.{Tree};
 ghost use Rattle.def_script.specs.Program.{Class};
-ghost use Rattle.def_spec.specs.Expressions.{Effect as Asked, silences};
+ghost use Rattle.def_spec.specs.Expressions.{Effect as Asked};
 ghost use Rattle.def_node.specs.Event.{received, called, returned, raised, exited};
 ghost use Rattle.def_session.specs.Messages as messages;
 ghost use Rattle.def_session.specs.Session as session;
 ghost use Rattle.def_session.specs.Session.{message_after};
 ghost use Rattle.tn_term.specs.Views.{tree_of};
 ghost use Rattle.tn_flags.specs.Views.{event_of, call_of};
-ghost use Rattle.tn_machine.specs.Lent.{context_seen, effect_seen};
+ghost use Rattle.tn_machine.specs.Lent.{context_seen};
 ghost use Rattle.tn_session.specs.Views.{kind_seen, state_seen};
 ghost use Rattle.tn_session.specs.Telling.{told, told_as_term, telling, telling_live, telling_by, following, finishing};
 ghost use Rattle.tn_session.specs.Telling.{asked, given, evaluating, evaluating_by, evaluating_send, on_values};
@@ -240,6 +240,7 @@ impl<A: Allocator + Copy> State<A> {
             me,
             caller: None,
             alive: &self.alive,
+            flags: &self.flags,
         };
         Ok(evaluated_by(self.alloc, setting, &context)?)
     }
@@ -262,6 +263,7 @@ impl<A: Allocator + Copy> State<A> {
                     me: pid,
                     caller: call.caller.as_ref(),
                     alive: &self.alive,
+                    flags: &self.flags,
                 };
                 Ok(evaluated_by(self.alloc, setting, &context)?)
             }
@@ -309,20 +311,6 @@ fn evaluated_by<A: Allocator + Copy>(
 
 // ---- effects
 
-/// The flag `silent` alone.
-const SILENT: Flags = Flags {
-    send: false,
-    receive: false,
-    call: false,
-    procs: false,
-    silent: true,
-    arity: false,
-    set_on_spawn: false,
-    set_on_first_spawn: false,
-    set_on_link: false,
-    set_on_first_link: false,
-};
-
 impl<A: Allocator> State<A> {
     /// The effects, in order, of an event of this process.
     fn affect_all(&mut self, me: u32, effects: &[Effect<A>])
@@ -330,35 +318,7 @@ impl<A: Allocator> State<A> {
         ensures functions { self.new.functions ≡ self.old.functions }
     {
         for effect in effects {
-            self.affect(me, effect);
-        }
-    }
-
-    /// One effect: `silent` of the process itself, or flags of a process.
-    fn affect(&mut self, me: u32, effect: &Effect<A>)
-        ensures state { state_seen self.new ≡ session.affected me (state_seen self.old) (effect_seen effect.now) }
-        ensures functions { self.new.functions ≡ self.old.functions }
-    {
-        match effect {
-            Effect::Message(_) | Effect::ReturnTrace | Effect::ExceptionTrace => {}
-            Effect::Silent(on) => self.silence(me, *on),
-            Effect::Change { pid, off, on } => {
-                let flags = self.flags_at(*pid).without(*off).join(*on);
-                self.set_flags(*pid, flags);
-            }
-        }
-    }
-
-    /// Sets or clears `silent` of a process.
-    fn silence(&mut self, me: u32, on: bool)
-        ensures state { state_seen self.new ≡ session.affected me (state_seen self.old) (silences on) }
-        ensures functions { self.new.functions ≡ self.old.functions }
-    {
-        let flags = self.flags_at(me);
-        if on {
-            self.set_flags(me, flags.join(SILENT));
-        } else {
-            self.set_flags(me, flags.without(SILENT));
+            effect.apply_to(&mut self.flags, me);
         }
     }
 }

@@ -6,7 +6,7 @@ ghost use Rattle.tn_session.specs.Views.{setting_seen};
 use crate::compiled::Compiled;
 use crate::state::{Kind, Phase, State};
 use std::alloc::Allocator;
-use tn_flags::{Call, Flags};
+use tn_flags::{Call, FlagTable, Flags};
 use tn_index::Setting;
 use tn_spec::Spec;
 use tn_term::Alive;
@@ -42,7 +42,7 @@ impl<'a, A: Allocator + Copy> Look<'a, A> {
     ghost use Rattle.def_session.specs.Session as session;
     ghost use Rattle.def_session.specs.State as definition;
     ghost use Rattle.tn_term.specs.Views.{alive_of};
-    ghost use Rattle.tn_flags.specs.Views.{call_of, flags_of};
+    ghost use Rattle.tn_flags.specs.Views.{call_of, flags_of, table_of};
     ghost use Rattle.tn_session.specs.Looks.{look_seen, lent_seen, is_live, newest_seen, newest_for};
     ghost use Rattle.tn_session.specs.Views.{kind_seen};
 
@@ -61,6 +61,13 @@ impl<'a, A: Allocator + Copy> Look<'a, A> {
         ensures { alive_of result.now ≡ (look_seen self.now).alive }
     {
         &self.state.alive
+    }
+
+    /// The flags of all processes.
+    pub fn flags(&self) -> &'a FlagTable
+        ensures { table_of result.now ≡ (look_seen self.now).flags }
+    {
+        &self.state.flags
     }
 
     /// The flags of a process (`trace:process/4`).

@@ -4,7 +4,7 @@ use crate::look::Look;
 use crate::message::Message;
 use crate::state::{Phase, State};
 use std::alloc::{AllocError, Allocator};
-use tn_flags::{Command, Event, Flags};
+use tn_flags::{Command, Event, FlagTable, Flags};
 use tn_index::{Setting, Settings};
 use tn_term::{Alive, Mfa, Term};
 
@@ -37,7 +37,7 @@ impl<A: Allocator + Copy> Session<A> {
                 phase: Phase::Live,
                 functions,
                 alive,
-                flags: [none; 64],
+                flags: FlagTable::none(),
                 for_new: none,
                 settings: Settings::new(alloc),
                 sending: Setting::Plain,

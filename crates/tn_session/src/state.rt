@@ -6,7 +6,7 @@ ghost use Rattle.tn_session.specs.Views.{state_seen};
 
 use crate::compiled::Compiled;
 use std::alloc::Allocator;
-use tn_flags::Flags;
+use tn_flags::{FlagTable, Flags};
 use tn_index::{Setting, Settings};
 use tn_term::{Alive, FIRST_PID, Mfa};
 
@@ -39,8 +39,7 @@ pub(crate) struct State<A: Allocator> {
     /// The functions of the program, each with whether it is exported.
     pub functions: Vec<(Mfa<A>, bool), A>,
     pub alive: Alive,
-    /// Of the processes 100 to 163.
-    pub flags: [Flags; 64],
+    pub flags: FlagTable,
     /// Of new processes.
     pub for_new: Flags,
     pub settings: Settings<Compiled<A>, A>,
@@ -50,7 +49,7 @@ pub(crate) struct State<A: Allocator> {
     pub marks: Vec<Vec<Mark, A>, A>,
 }
 
-/// The place of a process among the flags and the marks: that of pid 100 is 0.
+/// The place of a process among the marks: that of pid 100 is 0.
 pub(crate) fn place_of(pid: u32) -> usize
     ensures { result ≡ pid - 100 }
 {
@@ -62,10 +61,7 @@ impl<A: Allocator> State<A> {
     pub(crate) fn flags_at(&self, pid: u32) -> Flags
         ensures { flags_of result ≡ definition.flags_at (state_seen self.now) pid }
     {
-        match self.flags.get(place_of(pid)) {
-            Some(flags) => *flags,
-            None => Flags::none(),
-        }
+        self.flags.of(pid)
     }
 
     /// Changes the flags of the process with this pid.
@@ -73,9 +69,6 @@ impl<A: Allocator> State<A> {
         ensures state { state_seen self.new ≡ definition.with_flags (state_seen self.old) pid (flags_of flags) }
         ensures functions { self.new.functions ≡ self.old.functions }
     {
-        let place = place_of(pid);
-        if place < self.flags.len() {
-            self.flags[place] = flags;
-        }
+        self.flags.set(pid, flags);
     }
 }

@@ -80,6 +80,7 @@ action_of actions.ExceptionTrace = ex.exception_trace
 action_of actions.Silent = ex.silent
 action_of actions.EnableTrace = ex.enable_trace
 action_of actions.DisableTrace = ex.disable_trace
+action_of actions.Trace = ex.trace
 action_of actions.Caller = ex.caller
 
 -- ---- heads

@@ -24,10 +24,11 @@ fn has(dialect: Dialect, action: Action) -> bool
 {
     match action {
         Action::Message | Action::ReturnTrace | Action::ExceptionTrace => true,
-        Action::Silent | Action::EnableTrace | Action::DisableTrace => match dialect {
-            Dialect::Call | Dialect::Send => true,
-            Dialect::Recv => false,
-        },
+        Action::Silent | Action::EnableTrace | Action::DisableTrace | Action::Trace =>
+            match dialect {
+                Dialect::Call | Dialect::Send => true,
+                Dialect::Recv => false,
+            },
         Action::Caller => match dialect {
             Dialect::Call => true,
             Dialect::Send | Dialect::Recv => false,

@@ -81,5 +81,7 @@ pub enum Action {
     Silent,
     EnableTrace,
     DisableTrace,
+    /// `trace`: flags of a process cleared and set.
+    Trace,
     Caller,
 }

@@ -145,6 +145,7 @@ fn action(text: &str) -> Option<Row>
         "silent" => taking(Called::Action(Action::Silent), 1, Some(1)),
         "enable_trace" => taking(Called::Action(Action::EnableTrace), 1, Some(2)),
         "disable_trace" => taking(Called::Action(Action::DisableTrace), 1, Some(2)),
+        "trace" => taking(Called::Action(Action::Trace), 2, Some(3)),
         "caller" => taking(Called::Action(Action::Caller), 0, Some(0)),
         _ => None,
     }
@@ -203,6 +204,5 @@ pub fn is_unsupported(text: &str) -> bool
             | "bit_size"
             | "byte_size"
             | "binary_part"
-            | "trace"
     )
 }

@@ -19,7 +19,7 @@ use tn_program::Program;
 use tn_script::Function;
 use tn_term::{Alive, Term};
 
-/// The number of one more session. The control list has at most 32.
+/// The number of one more session. The control list has at most 128.
 fn next_number(count: usize) -> Result<u32, AllocError>
     ensures { IfOk result (λ n. n ≡ count + 1) }
 {

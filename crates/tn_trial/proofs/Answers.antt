@@ -5,8 +5,9 @@ use Rattle.std.specs.Borrow.{Bor}
 use Rattle.std.specs.declared.vec.Vec.{Vec}
 use Rattle.def_term.specs.Alive.{Alive, PROCESSES}
 use Rattle.def_spec.specs.Expressions as ex
+use Rattle.def_spec.specs.Flags.{FlagTable}
 use Rattle.def_session.specs.State.{alive_at_start}
-use Rattle.def_explain.specs.Texts.{trial_text}
+use Rattle.def_explain.specs.Texts.{trial_flags, trial_text}
 use Rattle.tn_term.specs.declared.term.Term.{Term}
 use Rattle.tn_term.specs.declared.mfa.Mfa as code
 use Rattle.tn_term.specs.Views.{tree_of, mfa_seen}
@@ -46,18 +47,18 @@ module _ {A : Type 0} (q : Question) where
   no_specification (faults.Spec n f) l c h = (l, c, h)
   no_specification faults.OutOfMemory l c h = tt
 
-  -- the context of a list, a caller and the living processes
-  abbrev pub in_context : List (Term A) → Option (Bor (code.Mfa A)) → Alive → ex.Context
-  in_context ts m alive = record { matched_list = map tree_of ts; me = q.me; caller_mfa = option_map (λ b. mfa_seen b.now) m; alive = alive }
+  -- the context of a list, a caller, the living processes and their flags
+  abbrev pub in_context : List (Term A) → Option (Bor (code.Mfa A)) → Alive → FlagTable → ex.Context
+  in_context ts m alive flags = record { matched_list = map tree_of ts; me = q.me; caller_mfa = option_map (λ b. mfa_seen b.now) m; alive = alive; flags = flags }
 
   lent_seen : (m : Option (Bor (code.Mfa A))) (caller : Option (code.Mfa A)) → option_copied m ≡ caller → option_map (λ b. mfa_seen b.now) m ≡ mfas_seen caller
   lent_seen None caller e = ap (λ x. option_map mfa_seen x) e
   lent_seen (Some b) caller e = ap (λ x. option_map mfa_seen x) e
 
-  pub answered : (list : Vec (Term A) A) (caller : Option (code.Mfa A)) (spec : Spec A) (ts : List (Term A)) (lent : Option (Bor (code.Mfa A))) (alive : Alive) (start text : List ℕ)
-      → IsListRead q.list.now list → caller_is q.caller (mfas_seen caller) → IsSpecificationRead q.spec.now q.dialect spec → ts ≡ list.items → option_copied lent ≡ caller → alive ≡ alive_at_start PROCESSES
-      → start ≡ [] → text ≡ start ++ trial_text (dialect_of spec.dialect) (map clause_seen spec.clauses.items) (in_context ts lent alive) → IsAnswer q text
-  answered list caller spec ts lent alive start text l m s of_list of_caller of_alive empty made =
+  pub answered : (list : Vec (Term A) A) (caller : Option (code.Mfa A)) (spec : Spec A) (ts : List (Term A)) (lent : Option (Bor (code.Mfa A))) (alive : Alive) (flags : FlagTable) (start text : List ℕ)
+      → IsListRead q.list.now list → caller_is q.caller (mfas_seen caller) → IsSpecificationRead q.spec.now q.dialect spec → ts ≡ list.items → option_copied lent ≡ caller → alive ≡ alive_at_start PROCESSES → flags ≡ trial_flags (dialect_of q.dialect) q.me
+      → start ≡ [] → text ≡ start ++ trial_text (dialect_of spec.dialect) (map clause_seen spec.clauses.items) (in_context ts lent alive flags) → IsAnswer q text
+  answered list caller spec ts lent alive flags start text l m s of_list of_caller of_alive of_flags empty made =
       let told : ex.Context → List ℕ = trial_text (dialect_of spec.dialect) (map clause_seen spec.clauses.items) in
       record {
         elements = map tree_of list.items;
@@ -67,8 +68,9 @@ module _ {A : Type 0} (q : Question) where
         of_caller = m;
         of_spec = s;
         told = made
-            ∙ ap (λ b. b ++ told (in_context ts lent alive)) empty
-            ∙ ap (λ us. told (in_context us lent alive)) of_list
-            ∙ ap (λ f. told (record { matched_list = map tree_of list.items; me = q.me; caller_mfa = f; alive = alive })) (lent_seen lent caller of_caller)
-            ∙ ap (λ living. told (record { matched_list = map tree_of list.items; me = q.me; caller_mfa = mfas_seen caller; alive = living })) of_alive;
+            ∙ ap (λ b. b ++ told (in_context ts lent alive flags)) empty
+            ∙ ap (λ us. told (in_context us lent alive flags)) of_list
+            ∙ ap (λ f. told (record { matched_list = map tree_of list.items; me = q.me; caller_mfa = f; alive = alive; flags = flags })) (lent_seen lent caller of_caller)
+            ∙ ap (λ living. told (record { matched_list = map tree_of list.items; me = q.me; caller_mfa = mfas_seen caller; alive = living; flags = flags })) of_alive
+            ∙ ap (λ fs. told (record { matched_list = map tree_of list.items; me = q.me; caller_mfa = mfas_seen caller; alive = alive_at_start PROCESSES; flags = fs })) of_flags;
       }

@@ -1,7 +1,7 @@
 -- The texts of effects, one behind another.
-use Rattle.std.proofs.Common.{◌≡◌, ◌∙◌, ℕ, ◌+◌, ◌<◌, List, [], ◌∷◌, ◌++◌, codes, length, get_or, drop, flat_map, map, sym, ap, append_assoc, arith}
+use Rattle.std.proofs.Common.{◌≡◌, ◌∙◌, ℕ, ◌+◌, ◌<◌, List, [], ◌∷◌, ◌++◌, codes, length, get_or, drop, flat_map, map, refl, sym, ap, append_assoc, length-append, arith}
 use Rattle.std.proofs.lemmas.List.{drop_more}
-use Rattle.def_explain.specs.Texts.{effect_text, effects_text}
+use Rattle.def_explain.specs.Texts.{effect_text, effects_text, said_of_flags}
 use Rattle.tn_action.specs.Views.{effect_seen}
 use Rattle.tn_action.specs.declared.effect.Effect.{Effect}
 use Rattle.tn_trial.specs.Effects.{next_effect_text}
@@ -29,3 +29,32 @@ first_effect (y ∷ ys) x o b d some is first second =
     ap (λ l. l ++ rest) second ∙ append_assoc b (effect_text (effect_seen x)) rest
     ∙ ap (λ l. l ++ (effect_text (effect_seen x) ++ rest)) first ∙ append_assoc o (codes ": ") (effect_text (effect_seen x) ++ rest)
     ∙ ap (λ z. o ++ (codes ": " ++ (effect_text (effect_seen z) ++ rest))) is
+
+-- ---- changes of flags
+
+said_kept : (t : List ℕ) → length t ≡ 0 → t ++ codes " keeps its flags" ≡ said_of_flags t
+said_kept [] e = refl
+said_kept (b ∷ bs) e = absurd (omega arith)
+
+said_other : (t : List ℕ) → (length t ≡ 0 → ⊥) → t ≡ said_of_flags t
+said_other [] e = absurd (e refl)
+said_other (b ∷ bs) e = refl
+
+-- what is said of the flags behind a pid, where nothing is, and where something is
+module _ (o pid lost got p a b : List ℕ) (first : p ≡ o ++ pid) (second : a ≡ p ++ lost) (third : b ≡ a ++ got) where
+  both : b ≡ p ++ (lost ++ got)
+  both = third ∙ ap (λ l. l ++ got) second ∙ append_assoc p lost got
+
+  counted : length b ≡ length p + length (lost ++ got)
+  counted = ap length both ∙ length-append p (lost ++ got)
+
+  behind_pid : (t : List ℕ) → p ++ t ≡ o ++ (pid ++ t)
+  behind_pid t = ap (λ l. l ++ t) first ∙ append_assoc o pid t
+
+  pub keeps_flags : (d : List ℕ) → length b ≡ length p → d ≡ b ++ codes " keeps its flags" → d ≡ o ++ (pid ++ said_of_flags (lost ++ got))
+  keeps_flags d same fourth =
+      fourth ∙ ap (λ l. l ++ codes " keeps its flags") both ∙ append_assoc p (lost ++ got) (codes " keeps its flags")
+      ∙ ap (λ l. p ++ l) (said_kept (lost ++ got) (omega (arith, counted, same))) ∙ behind_pid (said_of_flags (lost ++ got))
+
+  pub changes_flags : (length b ≡ length p → ⊥) → b ≡ o ++ (pid ++ said_of_flags (lost ++ got))
+  changes_flags other = both ∙ ap (λ l. p ++ l) (said_other (lost ++ got) (λ e. other (omega (arith, counted, e)))) ∙ behind_pid (said_of_flags (lost ++ got))

@@ -6,3 +6,4 @@ pub mod Functions
 pub mod Pieces
 pub mod SpelledTexts
 pub mod Stops
+pub mod TrialFlags

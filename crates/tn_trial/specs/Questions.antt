@@ -12,7 +12,7 @@ use Rattle.def_spec.specs.Reading.{spec_of}
 use Rattle.def_session.specs.State.{alive_at_start}
 use Rattle.def_term.specs.Alive.{PROCESSES}
 use Rattle.def_explain.specs.Places.{stop_of}
-use Rattle.def_explain.specs.Texts.{trial_text}
+use Rattle.def_explain.specs.Texts.{trial_flags, trial_text}
 use Rattle.tn_term.specs.declared.term.Term.{Term}
 use Rattle.tn_term.specs.declared.mfa.Mfa as code
 use Rattle.tn_term.specs.Views.{tree_of, mfa_seen}
@@ -105,7 +105,7 @@ IsSpecificationFault bytes d _ = ⊥
 
 -- what the specification is evaluated in
 abbrev pub context_of : Question → List Tree → Option Mfa → ex.Context
-context_of q ts c = record { matched_list = ts; me = q.me; caller_mfa = c; alive = alive_at_start PROCESSES }
+context_of q ts c = record { matched_list = ts; me = q.me; caller_mfa = c; alive = alive_at_start PROCESSES; flags = trial_flags (dialect_of q.dialect) q.me }
 
 -- the text tells what becomes of the clauses
 pub record IsAnswer (q : Question) (text : List ℕ) : Type 0 where

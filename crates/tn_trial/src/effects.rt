@@ -1,6 +1,7 @@
 // The texts of effects.
 ghost use Rattle.std.specs.Prelude.{◌≡◌, ◌++◌, ℕ, List, OnOk, false, map};
 ghost use Rattle.def_term.specs.Text.{pid_text};
+ghost use Rattle.def_spec.specs.Expressions.{changes};
 ghost use Rattle.def_spec.specs.Flags.{flags_by_name};
 ghost use Rattle.def_explain.specs.Texts.{silent_text, effect_text, effects_text, said_of_each, silent_behind};
 ghost use Rattle.tn_flags.specs.Views.{flags_of};
@@ -81,6 +82,26 @@ fn silent(on: bool) -> &'static [u8]
     if on { b"silent true" } else { b"silent false" }
 }
 
+/// Appends the flags that a process loses and gets. After an `Err` a part of it may stand there.
+fn put_change<B: Allocator>(
+    pid: u32,
+    off: Flags,
+    on: Flags,
+    out: &mut Vec<u8, B>,
+) -> Result<(), AllocError>
+    ensures ok { OnOk result (out.new.items ≡ out.old.items ++ effect_text (changes pid (flags_of off) (flags_of on))) }
+    ensures grows { Grows out.old.items out.new.items }
+{
+    put_pid(pid, out)?;
+    let len = out.len();
+    put_flags(b" loses ", off, out)?;
+    put_flags(b" gets ", on, out)?;
+    if out.len() == len {
+        out.extend_from_slice(b" keeps its flags")?;
+    }
+    Ok(())
+}
+
 /// Appends what an effect is.
 fn put_effect<A: Allocator, B: Allocator>(
     effect: &Effect<A>,
@@ -97,11 +118,7 @@ fn put_effect<A: Allocator, B: Allocator>(
         Effect::ReturnTrace => out.extend_from_slice(b"return_trace"),
         Effect::ExceptionTrace => out.extend_from_slice(b"exception_trace"),
         Effect::Silent(on) => out.extend_from_slice(silent(*on)),
-        Effect::Change { pid, off, on } => {
-            put_pid(*pid, out)?;
-            put_flags(b" loses ", *off, out)?;
-            put_flags(b" gets ", *on, out)
-        }
+        Effect::Change { pid, off, on } => Ok(put_change(*pid, *off, *on, out)?),
     }
 }
 

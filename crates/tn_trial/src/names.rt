@@ -71,6 +71,7 @@ pub fn action_text(action: Action) -> &'static [u8]
         Action::Silent => b"silent",
         Action::EnableTrace => b"enable_trace",
         Action::DisableTrace => b"disable_trace",
+        Action::Trace => b"trace",
         Action::Caller => b"caller",
     }
 }

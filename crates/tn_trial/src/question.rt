@@ -1,8 +1,11 @@
 // A specification and what it is held against, as texts.
 ghost use Rattle.std.specs.Prelude.{◌≡◌, IfOk, MatchResult};
 ghost use Rattle.def_term.specs.Tree.{atom, tuple};
+ghost use Rattle.def_spec.specs.Flags.{only};
 ghost use Rattle.def_explain.specs.Places.{stop_of};
+ghost use Rattle.def_explain.specs.Texts.{flag_of_dialect, trial_flags};
 ghost use Rattle.tn_term.specs.Views.{tree_of, trees_of};
+ghost use Rattle.tn_flags.specs.Views.{flags_of, table_of};
 ghost use Rattle.tn_spec.specs.Views.{dialect_of};
 ghost use Rattle.tn_trial.specs.Questions.{IsListRead, IsListFault, IsArityOf, triple, IsMfaOf, IsNamed, IsCallerFault};
 ghost use Rattle.tn_trial.specs.Questions.{mfas_seen, caller_is, HasCallerFault};
@@ -13,6 +16,7 @@ use std::alloc::{AllocError, Allocator};
 use std::fmt;
 use thiserror::Error;
 use tn_action::Context;
+use tn_flags::{FlagTable, Flags};
 use tn_guard::Parts;
 use tn_spec::{Dialect, Spec, SpecFault, clause, spec_of};
 use tn_term::{Alive, Atom, Mfa, PROCESSES, Term};
@@ -218,7 +222,32 @@ fn specification<A: Allocator + Copy>(
     }
 }
 
-/// What becomes of the clauses of the specification, in lines; all pids from 100 to 163 live.
+/// The flag without which a specification isn't looked at.
+fn flag_of_dialect(dialect: Dialect) -> Flags
+    ensures { flags_of result ≡ only (flag_of_dialect (dialect_of dialect)) }
+{
+    let none = Flags::none();
+    match dialect {
+        Dialect::Call => Flags { call: true, ..none },
+        Dialect::Send => Flags { send: true, ..none },
+        Dialect::Recv => Flags {
+            receive: true,
+            ..none
+        },
+    }
+}
+
+/// The flags of a trial: the process has the one without which the specification isn't looked at.
+fn trial_flags(dialect: Dialect, me: u32) -> FlagTable
+    ensures { table_of result ≡ trial_flags (dialect_of dialect) me }
+{
+    let mut table = FlagTable::none();
+    table.set(me, flag_of_dialect(dialect));
+    table
+}
+
+/// What becomes of the clauses of the specification, in lines; all pids from 100 to 163 live, and the process has
+/// the one flag without which the specification isn't looked at.
 ///
 /// # Errors
 ///
@@ -233,11 +262,13 @@ pub fn answer<A: Allocator + Copy>(
     let caller = caller_of(alloc, question.caller)?;
     let spec = specification(alloc, question.spec, question.dialect)?;
     let alive = Alive::first(PROCESSES);
+    let flags = trial_flags(question.dialect, question.me);
     let context = Context {
         list: Parts::Terms(&list),
         me: question.me,
         caller: caller.as_ref(),
         alive: &alive,
+        flags: &flags,
     };
     let mut text = Vec::new(alloc);
     match put_trial(alloc, &spec, &context, &mut text) {

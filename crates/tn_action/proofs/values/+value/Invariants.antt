@@ -1,28 +1,16 @@
-use Rattle.std.proofs.Common.{◌≡◌, ◌++◌, map, drop}
+use Rattle.std.proofs.Common.{◌≡◌, map, drop}
 use Rattle.tn_guard.specs.Views.{value_seen}
 use Rattle.tn_spec.specs.Views.{exprs_seen}
-use Rattle.tn_action.specs.Scenes.{values_in, all_in, one_in, effects_of_all_in, effects_while_true_in, effects_until_true_in}
-use Rattle.tn_action.specs.Views.{effect_seen}
-use Rattle.tn_action.proofs.Steps.{behind, unless_met}
+use Rattle.tn_action.specs.Scenes.{all_in, while_true_in, until_true_in}
+use Rattle.tn_action.specs.Steps.{asked, evaluation_of_all, evaluation_while_true, evaluation_until_true}
+use Rattle.tn_action.proofs.Steps.{behind}
 use Rattle.tn_action.proofs.values.+value.Given as goal
 
 abbrev pub invariant-all_in_turn-loop-i : goal.invariant-all_in_turn-loop-i
-invariant-all_in_turn-loop-i g l = record {
-  value : all_in l.scene (exprs_seen (drop l.i l.exprs.items)) ≡ all_in l.scene (exprs_seen l.exprs.items);
-  effects : map effect_seen l.effects.items ++ effects_while_true_in l.scene (exprs_seen (drop l.i l.exprs.items))
-      ≡ map effect_seen l.initial.effects.items ++ effects_while_true_in l.scene (exprs_seen l.exprs.items);
-}
+invariant-all_in_turn-loop-i g l = while_true_in l.scene (exprs_seen (drop l.i l.exprs.items)) (asked l.effects) ≡ evaluation_while_true l.scene l.exprs l.initial.effects
 
 abbrev pub invariant-one_in_turn-loop-i : goal.invariant-one_in_turn-loop-i
-invariant-one_in_turn-loop-i g l = record {
-  value : unless_met l.faulted (one_in l.scene (exprs_seen (drop l.i l.exprs.items))) ≡ one_in l.scene (exprs_seen l.exprs.items);
-  effects : map effect_seen l.effects.items ++ effects_until_true_in l.scene (exprs_seen (drop l.i l.exprs.items))
-      ≡ map effect_seen l.initial.effects.items ++ effects_until_true_in l.scene (exprs_seen l.exprs.items);
-}
+invariant-one_in_turn-loop-i g l = until_true_in l.scene (exprs_seen (drop l.i l.exprs.items)) (asked l.effects) ≡ evaluation_until_true l.scene l.exprs l.initial.effects
 
 abbrev pub invariant-values-loop-i : goal.invariant-values-loop-i
-invariant-values-loop-i g l = record {
-  value : behind l.faulted (map value_seen l.parts.items) (values_in l.scene (exprs_seen (drop l.i l.exprs.items))) ≡ values_in l.scene (exprs_seen l.exprs.items);
-  effects : map effect_seen l.effects.items ++ effects_of_all_in l.scene (exprs_seen (drop l.i l.exprs.items))
-      ≡ map effect_seen l.initial.effects.items ++ effects_of_all_in l.scene (exprs_seen l.exprs.items);
-}
+invariant-values-loop-i g l = behind (map value_seen l.parts.items) (all_in l.scene (exprs_seen (drop l.i l.exprs.items)) (asked l.effects)) ≡ evaluation_of_all l.scene l.exprs l.initial.effects

@@ -1,12 +1,13 @@
 use Rattle.std.proofs.Common.{rules, ◌≡◌, ◌+◌, ◌-◌, ◌<◌, ◌≤◌, ◌^◌, ◌∙◌, sym, ap, arith, length, drop}
 use Rattle.def_spec.specs.Expressions.{and_expr}
+use Rattle.def_machine.specs.Compiling.{is_on_self}
 use Rattle.tn_spec.specs.Sizes.{expr_size}
 use Rattle.std.proofs.lemmas.Result.{on_ok_weaker}
 use Rattle.tn_spec.specs.Views.{func_of, action_of, expr_seen, exprs_seen}
 use Rattle.tn_spec.proofs.Views.{expr_seen_tuple, expr_seen_list, expr_seen_call, expr_seen_and_also, expr_seen_or_else, expr_seen_perform}
 use Rattle.tn_spec.specs.declared.expr.Expr as expr
 use Rattle.tn_compile.specs.Views.{code_left}
-use Rattle.tn_compile.proofs.Steps.{exprs_here, exprs-length, expr-within, left-length, seen-emitted, tuple-emitted, list-emitted, call-emitted, perform-emitted, and-emitted, or-emitted, while-more, until-more}
+use Rattle.tn_compile.proofs.Steps.{exprs_here, exprs-length, expr-within, left-length, seen-emitted, tuple-emitted, list-emitted, call-emitted, perform-emitted, self-emitted, and-emitted, or-emitted, while-more, until-more}
 use Rattle.tn_compile.proofs.exprs.+emit.Goals as goal
 
 pub emit_expr-returns-in_ok-emit_build-in-Tuple-clause-emitted : goal.emit_expr-returns-in_ok-emit_build-in-Tuple-clause-emitted
@@ -30,12 +31,23 @@ emit_expr-returns-in_ok-emit_apply-in-Call-clause-emitted g t c =
     let k = code_left c.args.code.now in
     on_ok_weaker c.emit_exprs-in-Call.result (λ after. seen-emitted s _ _ c.args.free k _ (ap expr_seen c.in-Call.is ∙ expr_seen_call c.in-Call.func c.in-Call.exprs) (call-emitted s (func_of c.in-Call.func) es c.args.free (length c.args.code.now.items) k _ _ (sym (left-length c.args.code.now)) c.in_ok-emit_apply-in-Call.ensures.emitted after)) c.emit_exprs-in-Call.ensures.emitted
 
-pub emit_expr-returns-in_ok-emit_perform-in-Perform-clause-emitted : goal.emit_expr-returns-in_ok-emit_perform-in-Perform-clause-emitted
-emit_expr-returns-in_ok-emit_perform-in-Perform-clause-emitted g t c =
+pub emit_expr-returns-in-Perform-clause-emitted : goal.emit_expr-returns-in-Perform-clause-emitted
+emit_expr-returns-in-Perform-clause-emitted g t c =
+    on_ok_weaker c.emit_action.result (seen-emitted c.args.scene.now _ _ c.args.free (code_left c.args.code.now) _ (ap expr_seen c.in-Perform.is ∙ expr_seen_perform c.in-Perform.action c.in-Perform.exprs)) c.emit_action.ensures.emitted
+
+pub emit_action-returns-in_ok-emit_exprs-clause-emitted : goal.emit_action-returns-in_ok-emit_exprs-clause-emitted
+emit_action-returns-in_ok-emit_exprs-clause-emitted g t c =
     let s = c.args.scene.now in
-    let es = exprs_seen c.in-Perform.exprs.items in
+    let es = exprs_seen c.args.exprs.now.items in
     let k = code_left c.args.code.now in
-    on_ok_weaker c.emit_exprs-in-Perform.result (λ after. seen-emitted s _ _ c.args.free k _ (ap expr_seen c.in-Perform.is ∙ expr_seen_perform c.in-Perform.action c.in-Perform.exprs) (perform-emitted s (action_of c.in-Perform.action) es c.args.free k _ _ c.in_ok-emit_perform-in-Perform.ensures.emitted after)) c.emit_exprs-in-Perform.ensures.emitted
+    on_ok_weaker c.emit.result (self-emitted s (action_of c.args.action) es c.args.free k _ _ _ (ap (λ xs. is_on_self (action_of c.args.action) (exprs_seen xs)) (sym c.as_slice.ensures.value) ∙ sym c.is_on_self.ensures ∙ c.if-is_on_self.true) c.in_ok-emit_on_self.ensures.emitted c.in_ok-emit_exprs.ensures.emitted) c.emit.ensures.emitted
+
+pub emit_action-returns-in_ok-emit_perform-clause-emitted : goal.emit_action-returns-in_ok-emit_perform-clause-emitted
+emit_action-returns-in_ok-emit_perform-clause-emitted g t c =
+    let s = c.args.scene.now in
+    let es = exprs_seen c.args.exprs.now.items in
+    let k = code_left c.args.code.now in
+    on_ok_weaker c.emit_exprs-else-is_on_self.result (perform-emitted s (action_of c.args.action) es c.args.free k _ _ (ap (λ xs. is_on_self (action_of c.args.action) (exprs_seen xs)) (sym c.as_slice.ensures.value) ∙ sym c.is_on_self.ensures ∙ c.if-is_on_self.false) c.in_ok-emit_perform.ensures.emitted) c.emit_exprs-else-is_on_self.ensures.emitted
 
 pub emit_expr-returns-in-AndAlso-clause-emitted : goal.emit_expr-returns-in-AndAlso-clause-emitted
 emit_expr-returns-in-AndAlso-clause-emitted g t c =

@@ -6,7 +6,7 @@ use Rattle.tn_guard.specs.Views.{value_seen}
 use Rattle.tn_guard.proofs.Views.{value_seen_lent, value_seen_pid}
 use Rattle.tn_spec.specs.Views.{dialect_of, action_of, func_of}
 use Rattle.tn_machine.specs.Views.{registers_of}
-use Rattle.tn_machine.proofs.Moves.{sets-so, leaves-so, faults-so, goes-so, element-does, rest-does, kind-does, length-does, equal-does, build-does, apply-does, perform-does}
+use Rattle.tn_machine.proofs.Moves.{sets-so, leaves-so, faults-so, goes-so, element-does, rest-does, kind-does, length-does, equal-does, build-does, apply-does, perform-does, change-does}
 use Rattle.tn_machine.proofs.steps.step.Goals as goal
 
 pub returns-in-LoadConstant : goal.returns-in-LoadConstant
@@ -69,14 +69,20 @@ returns-in_ok-built-in-Build g c =
 pub returns-in_ok-value-in-Apply : goal.returns-in_ok-value-in-Apply
 returns-in_ok-value-in-Apply g c =
     let made = c.in_ok-value-in-Apply.ensures in
-    faults-so c.args.scene.now c.args.instr.now c.args.place c.args.registers.now c.set_applied.new.registers c.args.effects.now c.set_applied.result c.in-Apply.to c.in-Apply.on_fault _ c.set_applied.ensures _ (ap instruction_of c.in-Apply.is)
+    faults-so c.args.scene.now c.args.instr.now c.args.place c.args.registers.now c.set_applied.new.registers c.args.effects.now c.set_applied.result c.args.effects.now c.in-Apply.to c.in-Apply.on_fault _ c.set_applied.ensures _ (ap instruction_of c.in-Apply.is)
     (apply-does (context_seen c.args.scene.now.context.now) (registers_of c.args.registers.now) (map effect_seen c.args.effects.now.items) (func_of c.in-Apply.func) c.in-Apply.to c.in-Apply.from.items (fault_of c.in-Apply.on_fault) (map value_seen made.0) _ (ap (terms_in (registers_of c.args.registers.now)) (sym c.as_slice-in-Apply.ensures.value) ∙ made.1) made.2)
 
 pub returns-in_ok-value-in-Perform : goal.returns-in_ok-value-in-Perform
 returns-in_ok-value-in-Perform g c =
     let made = c.in_ok-value-in-Perform.ensures in
     sets-so c.args.scene.now c.args.instr.now c.args.place c.args.registers.now c.set-in-Perform.new.registers c.args.effects.now c.set-in-Perform.result c.performed_on.new.effects c.in-Perform.to _ c.set-in-Perform.ensures _ (ap instruction_of c.in-Perform.is)
-    (perform-does (context_seen c.args.scene.now.context.now) (registers_of c.args.registers.now) (map effect_seen c.args.effects.now.items) (dialect_of c.in-Perform.dialect) (action_of c.in-Perform.action) c.in-Perform.to c.in-Perform.from.items (map value_seen made.0) _ _ (ap (terms_in (registers_of c.args.registers.now)) (sym c.as_slice-in-Perform.ensures.value) ∙ made.1) made.2.value made.2.effects)
+    (perform-does (context_seen c.args.scene.now.context.now) (registers_of c.args.registers.now) (map effect_seen c.args.effects.now.items) (dialect_of c.in-Perform.dialect) (action_of c.in-Perform.action) c.in-Perform.to c.in-Perform.from.items (map value_seen made.0) _ (ap (terms_in (registers_of c.args.registers.now)) (sym c.as_slice-in-Perform.ensures.value) ∙ made.1) (made.2 c.in-Perform.to (registers_of c.args.registers.now)))
+
+pub returns-in_ok-value-in-ChangeFlags : goal.returns-in_ok-value-in-ChangeFlags
+returns-in_ok-value-in-ChangeFlags g c =
+    faults-so c.args.scene.now c.args.instr.now c.args.place c.args.registers.now c.set_applied-in-ChangeFlags.new.registers c.args.effects.now c.set_applied-in-ChangeFlags.result c.flags_changed.new.effects c.in-ChangeFlags.to c.in-ChangeFlags.on_fault _ c.set_applied-in-ChangeFlags.ensures _ (ap instruction_of c.in-ChangeFlags.is)
+    (change-does (context_seen c.args.scene.now.context.now) (registers_of c.args.registers.now) (map effect_seen c.args.effects.now.items) c.in-ChangeFlags.to c.in-ChangeFlags.process c.in-ChangeFlags.off c.in-ChangeFlags.on (fault_of c.in-ChangeFlags.on_fault) _ _ _ _ c.value_in-process.ensures c.value_in-off.ensures c.value_in-on.ensures
+    (c.in_ok-value-in-ChangeFlags.ensures c.in-ChangeFlags.to c.in-ChangeFlags.on_fault (registers_of c.args.registers.now)))
 
 pub returns-in-EndMatch : goal.returns-in-EndMatch
 returns-in-EndMatch g c = ap (λ i. ending (instruction_of i) (map effect_seen c.args.effects.now.items)) c.in-EndMatch.is

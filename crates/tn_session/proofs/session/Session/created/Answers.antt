@@ -1,4 +1,4 @@
-use Rattle.std.proofs.Common.{replicate, map, refl}
+use Rattle.std.proofs.Common.{map, refl}
 use Rattle.def_session.specs.State.{live}
 use Rattle.def_session.specs.Settings.{plain}
 use Rattle.tn_term.specs.Views.{alive_of}
@@ -11,7 +11,7 @@ returns g c = record {
   state = λ i. record {
     phase = live;
     alive = alive_of c.args.alive;
-    flags = replicate 64 (c.none-none.ensures i);
+    flags = c.none.ensures i;
     for_new = c.none-none.ensures i;
     functions = map covering_seen (c.new.ensures i);
     sending = plain;

@@ -13,9 +13,9 @@ loop-effect-preserved g c =
     let rest = map effect_seen (drop (i + 1) es) in
     let here = drop_more es i c.effect-item.result (omega arith) ∙ ap (λ e. e ∷ drop (i + 1) es) (sym c.effect-item.is) in
     record {
-      state = ap (λ s. all_affected me s rest) c.affect.ensures.state
+      state = ap (λ t. all_affected me (record (state_seen c.loop-effect.self) { flags = t }) rest) c.apply_to.ensures
           ∙ sym (ap (λ xs. all_affected me (state_seen c.loop-effect.self) (map effect_seen xs)) here) ∙ c.loop-effect.invariant.state;
-      functions = c.affect.ensures.functions ∙ c.loop-effect.invariant.functions;
+      functions = c.loop-effect.invariant.functions;
     }
 
 pub returns-clause-state : goal.returns-clause-state

@@ -1,4 +1,4 @@
-use Rattle.std.proofs.Common.{replicate, map}
+use Rattle.std.proofs.Common.{map}
 use Rattle.def_session.specs.State.{destroyed}
 use Rattle.def_session.specs.Settings.{plain}
 use Rattle.tn_term.specs.Views.{alive_of}
@@ -9,7 +9,7 @@ pub returns-clause-done : goal.returns-clause-done
 returns-clause-done g c = λ i. record {
   phase = destroyed;
   alive = alive_of c.args.self.now.alive;
-  flags = replicate 64 (c.none-none.ensures i);
+  flags = c.none-self.ensures i;
   for_new = c.none-none.ensures i;
   functions = map covering_seen (c.new.ensures i);
   sending = plain;
