@@ -328,24 +328,74 @@ def refusals():
 
 
 def long_texts():
-    """A script of 1 MiB, one of a byte more, and a journal that is full."""
+    """A script of 1 MiB, and one of a byte more."""
     replay = ["replay", "--picks", ""]
     wants("1,048,576 blanks", run(replay, b" " * TEXT_BYTES), 0, EMPTY)
     wants("1,048,577 blanks", run(replay, b" " * (TEXT_BYTES + 1)), 2, b"refused 1 too long\n")
-    names = "abcd"
-    functions = "".join(
-        "{function,m,%s,exported,[],[%s]}.\n" % (here, ",".join(["{call,'_',%s,[]}" % below] * 64))
-        for here, below in zip(names, names[1:])
-    )
-    script = functions + "{function,m,d,exported,[],[]}.\n{process,m,a,[]}.\n"
+
+
+# Functions of which each calls the next 64 times, and a process that calls the first: more moves than a journal has places.
+CALLING = "".join(
+    "{function,m,%s,exported,[],[%s]}.\n" % (here, ",".join(["{call,'_',%s,[]}" % below] * 64)) for here, below in zip("abc", "bcd")
+)
+CALLS = CALLING + "{function,m,d,exported,[],[]}.\n{process,m,a,[]}.\n"
+
+
+def called(name):
+    """The function that each move of a call to this function calls; None where one returns."""
+    yield name
+    for _ in range(64 if name < "d" else 0):
+        yield from called(chr(ord(name) + 1))
+    yield None
+
+
+def full_journals():
+    """A full journal: by a round, by picks and more picks, and by passes after a worker's one turn; and with a message at each call."""
     journal = b" ".join([b"100"] * 65536)
     output = b"== replies\n== journal\n" + journal + b"\n"
-    wants("a full journal", run(["round", "--limit", "65536"], script.encode()), 0, output)
-    with tempfile.NamedTemporaryFile() as picks:
-        picks.write(journal + b" 100 999 0")
-        picks.flush()
-        ran = run(["replay", "--picks-file", picks.name], script.encode())
+    wants("a full journal", run(["round", "--limit", "65536"], CALLS.encode()), 0, output)
+    wants("passes until the journal is full", run(["workers", "--n", "1", "--turns", "1"], CALLS.encode()), 0, output)
+    picks = [*["0"] * 3, *["100"] * 65533]
+    script = CALLS + "{control,[{session_create,s1,t1,[]},{process,s1,all,true,[call]},{function,s1,{m,'_','_'},true,[local]}]}.\n"
+    lines = ["{trace,<0.100.0>,call,{m,%s,[]}}\n" % name for _, name in zip(picks[3:], called("a")) if name]
+    told = "== session s1 tracer t1\n%s== replies\n{session,s1}\n1\n4\n== journal\n%s\n" % ("".join(lines), " ".join(picks))
+    with tempfile.NamedTemporaryFile() as file:
+        file.write(journal + b" 100 999 0")
+        file.flush()
+        ran = run(["replay", "--picks-file", file.name], CALLS.encode())
         wants("picks behind a full journal", ran, 0, output)
+        file.seek(0)
+        file.truncate()
+        file.write(" ".join(picks).encode())
+        file.flush()
+        ran = run(["replay", "--picks-file", file.name], script.encode())
+        wants(f"a listing of {len(lines)} messages", ran, 0, told.encode())
+        ran = run(["workers", "--n", "2"], script.encode())
+        file.seek(0)
+        file.truncate()
+        file.write(ran.stdout.removesuffix(b"\n").rpartition(b"\n")[2])
+        file.flush()
+        again = run(["replay", "--picks-file", file.name], script.encode())
+        good = ran.returncode == 0 and ran.stdout.count(b"call,") > 30000 and ran.stdout == again.stdout
+        check("such a listing by two workers", good, (ran.returncode, ran.stderr, len(ran.stdout), len(again.stdout)))
+
+
+def many_lines():
+    """Ten events that each of nine sessions tells: all of their lines come from the board, and one worker puts all there."""
+    sessions = range(1, 10)
+    waits, sends, receives = (",".join([step] * n) for step, n in (("{call,'_',wait,[]}", 12), ("{send,<0.101.0>,x}", 10), ("{'receive','_'}", 10)))
+    functions = f"{{function,m,go,exported,[],[{waits},{sends}]}}. {{function,m,wait,exported,[],[]}}. {{function,m,sink,exported,[],[{receives}]}}. "
+    commands = ",".join(f"{{session_create,s{n},t{n},[]}},{{process,s{n},<0.101.0>,true,['receive']}}" for n in sessions)
+    script = f"{functions}{{process,m,go,[]}}. {{process,m,sink,[]}}. {{control,[{commands}]}}.".encode()
+    picks = " ".join([*["0"] * 18, *["100"] * 35, *["101"] * 11])
+    line = "{trace,<0.101.0>,'receive',x}\n"
+    told = "".join(f"== session s{n} tracer t{n}\n" + line * 10 for n in sessions)
+    replies = "".join(f"{{session,s{n}}}\n1\n" for n in sessions)
+    output = f"{told}== replies\n{replies}== journal\n{picks}\n"
+    wants("ten events of nine sessions", run(["replay", "--picks", picks], script), 0, output.encode())
+    whole = next(text for text, name in layers.of_live(output) if name == layers.WHOLE)
+    wants("their lines from a board", run(["live", picks], script, command=(str(PROBE),)), 0, whole.encode())
+    wants("their lines by one worker", run(["lines", ""], script, command=(str(PROBE),)), 0, b"lines 90\n")
 
 
 def passes():
@@ -739,12 +789,16 @@ def spec_words(name, text):
 
 
 def numbers():
-    """Numbers as other languages spell them, in each place of a number: as an option's value, a sign is one."""
-    for text in (*SPELLINGS, " 1"):
+    """Numbers as other languages spell them, in each place of a number: no option's value has a sign."""
+    for text in (*SPELLINGS, " 1", "-0"):
         for words in NUMBERS:
-            ran = run([*words, text], SEND_HI if words[0] != "spec" else b"[{'_',[],[]}]")
-            good = ran.returncode == 0 if text == "+1" else ran.returncode == 2 and not ran.stdout and ran.stderr
-            check(f"{words[-1]} {text}", good, ran)
+            ran = run([*words[:-1], f"{words[-1]}={text}"], SEND_HI if words[0] != "spec" else b"[{'_',[],[]}]")
+            check(f"{words[-1]} {text}", ran.returncode == 2 and not ran.stdout and ran.stderr, ran)
+    for text in SPELLINGS:
+        for words in NUMBERS[:1]:
+            ran = run([*words, text], SEND_HI, command=(str(PLAIN),))
+            check(f"{words[-1]} {text} without clap", ran.returncode == 2 and not ran.stdout and ran.stderr, ran)
+    for text in (*SPELLINGS, " 1"):
         for picks in (text, f"0 {text}", f"{text} 0"):
             wants(f"picks {picks}", run(["replay", "--picks", picks], SEND_HI), 2, b"refused 20 bad picks\n")
         for pid in (f"<0.{text}.0>", f"<{text}.1.0>", f"<0.1.{text}>"):
@@ -844,7 +898,7 @@ def main():
         print("0 passed, 1 failed")
         sys.exit(1)
     parts = (rows, plain, tries, files, documents, promises, examples, workers, explanations, trials, functions)
-    parts += (specifications, refusals, long_texts, passes, command_lines, ends, memory, growths, calls, fronts, readings_of_scripts, numbers, numbers_in_terms, limits, failing_ends, starts)
+    parts += (specifications, refusals, long_texts, full_journals, many_lines, passes, command_lines, ends, memory, growths, calls, fronts, readings_of_scripts, numbers, numbers_in_terms, limits, failing_ends, starts)
     for part in parts:
         try:
             part()

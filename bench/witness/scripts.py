@@ -222,10 +222,13 @@ class ScriptCase:
         self.journal = []
 
     @classmethod
-    def at_random(cls, chance):
-        """A random script, whose picks are chosen as it runs."""
-        chosen = ScriptChooser(chance)
-        return cls(chosen.functions, chosen.processes, chosen.commands(), chance=chance)
+    def at_random(cls, chance, name=None):
+        """A random script, whose picks are chosen as it runs. With a name, a specification calls the function of it."""
+        while True:
+            chosen = ScriptChooser(chance)
+            case = cls(chosen.functions, chosen.processes, chosen.commands(), chance=chance)
+            if not name or any(call[0] == name for call in case.calls()):
+                return case
 
     @classmethod
     def of_text(cls, written, picks):

@@ -13,7 +13,7 @@ use Rattle.tn_live.specs.declared.entry.Receipt.{Receipt}
 use Rattle.tn_live.specs.declared.entry.Turn.{Turn}
 use Rattle.tn_live.specs.declared.entry.Turn.TheVariants.{Moved, Idle}
 use Rattle.tn_live.specs.Journal.{entry, picks_of, made_by}
-use Rattle.tn_live.specs.States.{BookState, SeatState, book_of, seat_of, MovesAfter}
+use Rattle.tn_live.specs.States.{BookState, SeatState, book_of, spent_book, seat_of, MovesAfter}
 use Rattle.tn_live.specs.Turning.{IsReceipt, SeatTurns, SeatCounts, BookTurns}
 use Rattle.complete_scripts.specs.Agreement.{Agree}
 use Rattle.complete_scripts.proofs.Agreeing.{agree_by}
@@ -109,7 +109,7 @@ module _ {A : Type 0} (p : Program) (b c : BookState) (s t : SeatState) (pick : 
   seat_is (Err Spent) h k = absurd k
   seat_is (Err OutOfMemory) h k = tt
 
-  is_spent : (r : Result (Turn A) StepFault) → BookTurns p b s.number pick r c t.seen → IsErrOf r OutOfMemory → c.spent ≡ true
+  is_spent : (r : Result (Turn A) StepFault) → BookTurns p b s.number pick r c t.seen → IsErrOf r OutOfMemory → c ≡ spent_book
   is_spent r k e = subst (λ z. BookTurns p b s.number pick z c t.seen) e k
 
   is_unmoved : (r : Result (Turn A) StepFault) → SeatTurns p s pick r t → IsErrOf r OutOfMemory → t ≡ s

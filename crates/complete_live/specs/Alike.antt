@@ -1,6 +1,5 @@
 -- When two turns or two closes are the same, and so is what they leave.
-use Rattle.std.specs.Prelude.{◌≡◌, ℕ, ◌≤◌, true, nat_eq, List, map, Option, Some, None, Result, Ok, Err, IfOk, IsErrOf}
-use Rattle.std.specs.List.{count_by}
+use Rattle.std.specs.Prelude.{◌≡◌, ℕ, List, map, Option, Some, None, Result, Ok, Err, IfOk, IsErrOf}
 use Rattle.def_run.specs.Listing.{Item as DefinedItem}
 use Rattle.tn_trace.specs.Items.{item_seen}
 use Rattle.tn_trace.specs.declared.item.StepFault.{StepFault}
@@ -11,7 +10,7 @@ use Rattle.tn_live.specs.declared.entry.Turn.{Turn}
 use Rattle.tn_live.specs.declared.entry.Turn.TheVariants.{Moved, Idle}
 use Rattle.tn_live.specs.declared.live.CloseFault.{CloseFault}
 use Rattle.tn_live.specs.declared.live.CloseFault.TheVariants as close
-use Rattle.tn_live.specs.States.{BookState, LiveState, SeatState}
+use Rattle.tn_live.specs.States.{BookState, LiveState, SeatState, spent_book}
 use Rattle.complete_scripts.specs.Agreement.{Agree, WhereBoth, answer_of}
 use Rattle.complete_runs.specs.Alike.{fault_seen}
 
@@ -45,7 +44,7 @@ pub record TurnAlike {A : Type 0} (s : SeatState) (r : Result (Turn A) StepFault
   pub answers : Agree (step_seen r) (step_seen q)
   pub books : WhereBoth (step_seen r) (step_seen q) (one ≡ other)
   pub seats : WhereBoth (step_seen r) (step_seen q) (seat ≡ same_seat)
-  pub spent : IsErrOf r step.OutOfMemory → one.spent ≡ true
+  pub spent : IsErrOf r step.OutOfMemory → one ≡ spent_book
   pub unmoved : IsErrOf r step.OutOfMemory → seat ≡ s
 
 -- a full journal; none for a lock that is spent
@@ -66,17 +65,13 @@ pub record TakesAlike {A : Type 0} (s : SeatState) (r : Result (Turn A) StepFaul
 
 -- ---- closes
 
--- no two seats have one number
-abbrev pub AreSingle : List SeatState → Type 0
-AreSingle seats = (n : ℕ) → count_by (λ s. nat_eq n s.number) seats ≤ 1
-
 -- the missing seat, and what comes back; none where all were handed in
 abbrev pub missing_seen : {A J : Type 0} → Result (List Entry) (CloseFault A J) → Option (ℕ × LiveState × List SeatState)
 missing_seen (Ok entries) = None
 missing_seen (Err close.Spent) = None
 missing_seen (Err (close.MissingSeat missing live seats)) = Some (missing, live, seats.items)
 
--- the same seat is missing, if any, and the same comes back; of seats of different numbers the closed journals are the same
-pub record CloseAlike {A J K : Type 0} (seats : List SeatState) (r : Result (List Entry) (CloseFault A J)) (q : Result (List Entry) (CloseFault A K)) : Type 0 where
+-- the same seat is missing, if any, and the same comes back; the closed journals are the same
+pub record CloseAlike {A J K : Type 0} (r : Result (List Entry) (CloseFault A J)) (q : Result (List Entry) (CloseFault A K)) : Type 0 where
   pub missing : missing_seen r ≡ missing_seen q
-  pub journals : AreSingle seats → IfOk r (λ entries. IfOk q (λ others. entries ≡ others))
+  pub journals : IfOk r (λ entries. IfOk q (λ others. entries ≡ others))

@@ -7,7 +7,7 @@ ghost use Rattle.complete_live.specs.Alike.{receipt_seen};
 
 use std::alloc::Allocator;
 use tn_live::{Closed, Entry, Naming, Receipt};
-use tn_program::Program;
+use tn_program::{Program, Sessions};
 use tn_term::Term;
 
 /// `tn_live::Closed::journal` has one answer.
@@ -30,6 +30,17 @@ pub fn program<'a, A: Allocator + Copy, J: Naming, K: Naming>(
     ensures { program_of result.0.now ≡ program_of result.1.now }
 {
     (one.program(), other.program())
+}
+
+/// `tn_live::Closed::sessions` has one answer.
+pub fn sessions<'a, A: Allocator + Copy, J: Naming, K: Naming>(
+    one: &'a Closed<A, J>,
+    other: &'a Closed<A, K>,
+) -> (Sessions<'a, A>, Sessions<'a, A>)
+    requires { J.program ≡ K.program }
+    ensures { result.0 ≡ result.1 }
+{
+    (one.sessions(), other.sessions())
 }
 
 /// `tn_live::Closed::listing` has one answer.

@@ -24,6 +24,7 @@ pub fn begin<A: Allocator + Copy, J: Naming, K: Naming>(
     requires second { IsCore K.program [] other }
     requires named { opened ≡ J.log }
     requires same_named { same_opened ≡ K.log }
+    requires logs { J.log ≡ K.log }
     requires count { (0 < n) × (n ≤ 16) }
     ensures lives { IfOk result.0 (λ r. IfOk result.1 (λ q. r.0 ≡ q.0)) }
     ensures seats { IfOk result.0 (λ r. IfOk result.1 (λ q. r.1.items ≡ q.1.items)) }
@@ -50,7 +51,7 @@ pub fn step<A: Allocator + Copy, J: Naming, K: Naming, R: Wait>(
     (first, second)
 }
 
-/// `tn_live::Live::close` has one answer where no two seats have one number.
+/// `tn_live::Live::close` has one answer. It includes the lock and the seats that come back.
 pub fn close<A: Allocator + Copy, J: Naming, K: Naming, R: Wait>(
     one: Live<A, J>,
     other: Live<A, K>,
@@ -63,7 +64,7 @@ pub fn close<A: Allocator + Copy, J: Naming, K: Naming, R: Wait>(
 )
     requires locks { one ≡ other }
     requires seats { seats.items ≡ same_seats.items }
-    ensures { CloseAlike seats.items result.0 result.1 }
+    ensures { CloseAlike result.0 result.1 }
 {
     let first = one.close(rt, seats);
     let second = other.close(rt, same_seats);

@@ -55,6 +55,15 @@ Comes p picks pick (Err LimitReached) = length picks ≡ JOURNAL
 Comes p picks pick (Err Spent) = ⊥
 Comes p picks pick (Err OutOfMemory) = ⊥
 
+-- of a full journal
+pub full_stays : {A : Type 0} (p : Program) (picks : List ℕ) (pick : ℕ) (old new : Core A) (r : Result (Answer A) StepFault) → length picks ≡ JOURNAL
+    → Stepped p picks pick old new r → (r ≡ Err LimitReached) × (new ≡ old)
+full_stays p picks pick old new (Ok (Moved items)) full h = absurd (omega (arith, full, h.room))
+full_stays p picks pick old new (Ok Idle) full h = absurd (omega (arith, full, h.room))
+full_stays p picks pick old new (Err LimitReached) full h = (refl, h.1)
+full_stays p picks pick old new (Err Spent) full h = absurd h
+full_stays p picks pick old new (Err OutOfMemory) full h = absurd (omega (arith, full, h.0))
+
 -- a pick doesn't both move and rest
 not_both : (p : Program) (picks : List ℕ) (pick : ℕ) → moves p (picks ++ pick ∷ []) ≡ picks ++ pick ∷ [] → IsIdleAfter p picks pick → moves p picks ≡ picks → ⊥
 not_both p picks pick moved idle was =

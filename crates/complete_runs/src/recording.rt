@@ -1,14 +1,15 @@
 // The core of a run.
-ghost use Rattle.std.specs.Prelude.{◌≡◌, ℕ, List, map, Err, IfOk};
+ghost use Rattle.std.specs.Prelude.{◌≡◌, ℕ, List, length, map, Err, IfOk};
 ghost use Rattle.std.specs.Result.{IsOkAnd};
 ghost use Rattle.def_script.specs.Program as program;
+ghost use Rattle.def_run.specs.Run.{JOURNAL};
 ghost use Rattle.tn_term.specs.Views.{tree_of};
 ghost use Rattle.tn_program.specs.Views.{program_of};
-ghost use Rattle.tn_trace.specs.Cores.{IsCore, IsSpent};
+ghost use Rattle.tn_trace.specs.Cores.{IsCore, IsSpent, program_in};
 ghost use Rattle.complete_runs.specs.Alike.{AreOfOne, StepAlike, listing_seen};
 
 use std::alloc::{AllocError, Allocator};
-use tn_program::Program;
+use tn_program::{Program, Sessions};
 use tn_term::Term;
 use tn_trace::{Answer, Core, StepFault};
 
@@ -31,12 +32,21 @@ pub fn program<'a, A: Allocator + Copy>(
     one: &'a Core<A>,
     other: &'a Core<A>,
 ) -> (&'a Program<A>, &'a Program<A>)
-    ghost at: { program.Program × List ℕ }
-    requires first { IsCore at.0 at.1 one.now }
-    requires second { IsCore at.0 at.1 other.now }
+    requires { program_in one.now ≡ program_in other.now }
     ensures { program_of result.0.now ≡ program_of result.1.now }
 {
     (one.program(), other.program())
+}
+
+/// `tn_trace::Core::sessions` has one answer.
+pub fn sessions<'a, A: Allocator + Copy>(
+    one: &'a Core<A>,
+    other: &'a Core<A>,
+) -> (Sessions<'a, A>, Sessions<'a, A>)
+    requires { program_in one.now ≡ program_in other.now }
+    ensures { result.0 ≡ result.1 }
+{
+    (one.sessions(), other.sessions())
 }
 
 /// `tn_trace::Core::step` has one answer. It includes the core afterwards.
@@ -53,6 +63,21 @@ pub fn step<A: Allocator + Copy>(
     let first = one.step(pick);
     let second = other.step(pick);
     (first, second)
+}
+
+/// `tn_trace::Core::step` has one answer of a core whose journal is full: the core is the same afterwards, so
+/// its journal, its listings, its replies and what a later step answers are.
+pub fn step_of_full<A: Allocator + Copy>(
+    core: &mut Core<A>,
+    pick: u32,
+) -> Result<Answer<A>, StepFault>
+    ghost at: { program.Program × List ℕ }
+    requires core { IsCore at.0 at.1 core.old }
+    requires full { length at.1 ≡ JOURNAL }
+    ensures fault { result ≡ Err StepFault.LimitReached }
+    ensures same { core.new ≡ core.old }
+{
+    core.step(pick)
 }
 
 /// `tn_trace::Core::step` has one answer of a core that was refused memory.

@@ -1,3 +1,4 @@
 pub mod Agreeing
 pub mod SameForms
 pub mod SamePrograms
+pub mod SameSessions

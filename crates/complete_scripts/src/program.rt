@@ -8,7 +8,7 @@ ghost use Rattle.tn_program.specs.Views.{program_of};
 
 use std::alloc::{AllocError, Allocator};
 use tn_flags::Command;
-use tn_program::Program;
+use tn_program::{Program, Sessions};
 use tn_script::{Entry, Function};
 use tn_term::Atom;
 
@@ -66,6 +66,34 @@ pub fn session_at<'a, A: Allocator>(
     ensures { option_map lent result.0 ≡ option_map lent result.1 }
 {
     (one.session_at(number), other.session_at(number))
+}
+
+/// `tn_program::Program::sessions` has one answer.
+pub fn sessions<'a, A: Allocator>(
+    one: &'a Program<A>,
+    other: &'a Program<A>,
+) -> (Sessions<'a, A>, Sessions<'a, A>)
+    requires { program_of one.now ≡ program_of other.now }
+    ensures { result.0 ≡ result.1 }
+{
+    (one.sessions(), other.sessions())
+}
+
+/// `tn_program::Sessions::next` has one answer. It includes what is still to come.
+pub fn next<'a, A: Allocator>(
+    one: &mut Sessions<'a, A>,
+    other: &mut Sessions<'a, A>,
+) -> (
+    Option<(&'a Atom<A>, &'a Atom<A>)>,
+    Option<(&'a Atom<A>, &'a Atom<A>)>,
+)
+    requires { one.old ≡ other.old }
+    ensures session { option_map lent result.0 ≡ option_map lent result.1 }
+    ensures left { one.new ≡ other.new }
+{
+    let first = one.next();
+    let second = other.next();
+    (first, second)
 }
 
 /// `tn_program::Program::same` has one answer.

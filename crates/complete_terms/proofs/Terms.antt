@@ -1,17 +1,22 @@
 -- A text is read as one term, or as the terms of one script, or has one refusal.
-use Rattle.std.proofs.Common.{ℕ, List, map, Result, Ok, Err}
+use Rattle.std.proofs.Common.{◌≡◌, ◌≤◌, ℕ, List, length, map, true, Result, Ok, Err, sym, subst}
 use Rattle.std.specs.declared.vec.Vec.{Vec}
-use Rattle.def_text.specs.Spelling.{Spells, Refused}
+use Rattle.def_term.specs.Tree.{Tree}
+use Rattle.def_term.specs.Text.{w}
+use Rattle.def_text.specs.Limits.{DEPTH, Fits}
+use Rattle.def_text.specs.Spelling.{LENGTH, Spells, Refused}
 use Rattle.def_text.specs.Scripts.{SpellsTerms, ScriptRefused}
+use Rattle.def_text.specs.Writable.{is_writable}
 use Rattle.def_text.proofs.One.{one, refused}
+use Rattle.def_text.proofs.Whole.{spells}
 use Rattle.def_text.proofs.Either.{once, script_one, script_refused, script_once}
 use Rattle.tn_term.specs.declared.term.Term.{Term}
 use Rattle.tn_term.specs.Views.{tree_of}
 use Rattle.tn_text.specs.declared.fault.TextFault.{TextFault}
 use Rattle.tn_text.specs.declared.fault.TextFault.TheVariants.{TooLong, Token as NoToken, TooDeep, TooLarge, OutOfMemory}
 use Rattle.tn_text.specs.Answers.{IsRead, IsRefusal, IsReadScript, IsScriptRefusal}
-use Rattle.complete_terms.specs.Answers.{Alike}
-use Rattle.complete_terms.proofs.Readings.{IsDetermined, IsRefusalBy, IsAnswerBy, answers_alike}
+use Rattle.complete_terms.specs.Answers.{Alike, ReadsAs}
+use Rattle.complete_terms.proofs.Readings.{IsDetermined, IsRefusalBy, IsAnswerBy, answers_alike, read_or_refused}
 
 term_determined : (bytes : List ℕ) → IsDetermined bytes (Spells bytes) (Refused bytes)
 term_determined bytes = record {
@@ -36,6 +41,14 @@ answer_by bytes (Err f) p = refusal_by bytes f p
 pub read_alike : {A : Type 0} (bytes : List ℕ) (r s : Result (Term A) TextFault) → IsRead bytes r → IsRead bytes s → Alike tree_of r s
 read_alike bytes r s p q =
     answers_alike bytes tree_of (Spells bytes) (Refused bytes) (term_determined bytes) r s (answer_by bytes r p) (answer_by bytes s q)
+
+read_as : {A : Type 0} (bytes : List ℕ) (t : Tree) (r : Result (Term A) TextFault) → Spells bytes t → IsRead bytes r → ReadsAs t r
+read_as bytes t (Ok u) s p = one bytes (tree_of u) t p s
+read_as bytes t (Err f) s p = read_or_refused bytes (Spells bytes) (Refused bytes) (term_determined bytes) t f s (refusal_by bytes f p)
+
+-- what is written of a term within the limits is read as that term
+pub written_read : {A : Type 0} (bytes : List ℕ) (t : Tree) (r : Result (Term A) TextFault) → bytes ≡ w t → is_writable t ≡ true → Fits DEPTH true t → length (w t) ≤ LENGTH → IsRead bytes r → ReadsAs t r
+written_read bytes t r is writable fits short p = read_as bytes t r (subst (λ b. Spells b t) (sym is) (spells t writable fits short)) p
 
 script_determined : (bytes : List ℕ) → IsDetermined bytes (SpellsTerms bytes) (ScriptRefused bytes)
 script_determined bytes = record {

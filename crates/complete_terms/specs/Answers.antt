@@ -1,5 +1,8 @@
 -- Two answers of a reader of texts that are seen alike. Where one of them is refused memory nothing is said.
 use Rattle.std.specs.Prelude.{◌≡◌, Result, Ok, Err}
+use Rattle.def_term.specs.Tree.{Tree}
+use Rattle.tn_term.specs.Views.{tree_of}
+use Rattle.tn_term.specs.declared.term.Term.{Term}
 use Rattle.tn_text.specs.declared.fault.TextFault.{TextFault}
 use Rattle.tn_text.specs.declared.fault.TextFault.TheVariants.{OutOfMemory}
 
@@ -20,3 +23,8 @@ Alike view (Ok x) (Ok y) = view x ≡ view y
 Alike view (Ok x) (Err g) = IsRefusedMemory g
 Alike view (Err f) (Ok y) = IsRefusedMemory f
 Alike view (Err f) (Err g) = FaultsAlike f g
+
+-- this term is read, unless memory is refused
+abbrev pub ReadsAs : {A : Type 0} → Tree → Result (Term A) TextFault → Type 0
+ReadsAs t (Ok u) = tree_of u ≡ t
+ReadsAs t (Err fault) = IsRefusedMemory fault

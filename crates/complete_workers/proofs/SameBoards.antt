@@ -1,5 +1,5 @@
 -- Boards of one size are the same, and so is what they give back or lend.
-use Rattle.std.proofs.Common.{◌≡◌, ◌∙◌, ℕ, suc, List, [], ◌∷◌, length, All, Option, Some, None, IfSome, Result, Ok, Err, IfOk, OnOk, IfErr, refl, sym, ap, ap₂, arith}
+use Rattle.std.proofs.Common.{◌≡◌, ◌∙◌, ℕ, suc, List, [], ◌∷◌, length, All, Option, Some, None, IfSome, OnSome, Result, Ok, Err, IfOk, OnOk, IfErr, refl, sym, ap, ap₂, arith}
 use Rattle.std.specs.Borrow.{Bor}
 use Rattle.tn_listing.specs.declared.line.Line.{Line}
 use Rattle.tn_pool.specs.Boards.{IsAt}
@@ -32,6 +32,11 @@ same_returned view one other (Err b) (Err c) e h i = ap view h ∙ e ∙ sym (ap
 pub not_put : {L P : Type 0} (line : L) (r : Result (Unit {0}) L) → (P → ⊥) → OnOk r P → IfErr r (λ b. b ≡ line) → r ≡ Err line
 not_put line (Ok done) none h i = absurd (none h)
 not_put line (Err b) none h i = ap Err i
+
+-- where nothing is lent
+pub not_lent : {L P : Type 0} (r : Option L) → (P → ⊥) → OnSome r P → r ≡ None
+not_lent None none h = refl
+not_lent (Some line) none h = absurd (none h)
 
 -- two lines of one place
 pub same_places : {A : Type 0} (session index : ℕ) (o p : Option (Bor (Line A))) → IfSome o (λ l. IsAt session index l.now) → IfSome p (λ l. IsAt session index l.now)

@@ -14,9 +14,9 @@ use Rattle.tn_run.specs.declared.fault.LiveFault.TheVariants.{Run, Pool}
 use Rattle.tn_run.specs.declared.live.Ran.{Ran}
 use Rattle.complete_runs.proofs.Both.{both_if_ok}
 use Rattle.complete_workers.specs.Ends.{EndAlike, TellAlike, fault_of}
-use Rattle.complete_workers.specs.Runs.{AreOfOneText, HasRead, IsRefusal, MadeAlike, MeetNoLiveWriteFault, MeetNoWriteFault}
+use Rattle.complete_workers.specs.Runs.{AreOfOneText, HasRead, HasReadLive, IsRefusal, MadeAlike, MeetNoLiveWriteFault, MeetNoWriteFault}
 use Rattle.complete_workers.proofs.OneRun.{one_outcome, one_run, with_or_without}
-use Rattle.complete_workers.proofs.SameEnds.{appended, as_other, not_told, read_failed, read_failed_is, same_by, taken_is}
+use Rattle.complete_workers.proofs.SameEnds.{appended, as_other, not_told, read_failed, same_by, taken_is}
 
 -- the same reader or writer tells the same bytes
 pub seen_as : {T : Type 0} (known : T → Option (List ℕ)) (one other : Watched T) → one ≡ other → TellAlike known one other
@@ -104,13 +104,19 @@ same_run_left a (Some bytes) other new new' w w' r q e says h i some read read' 
 
 -- ---- what both remember
 
+run_read_failed_is : {X : Type 0} (was now : Bool) (r : Result X RunFault) → OnOk r (now ≡ was) → (IsErrOf r Read → now ≡ true) → ((n : ℕ) → IsErrOf r (Write n) → now ≡ was) → (IsErrOf r OutOfMemory → now ≡ was)
+    → now ≡ read_failed was (fault_of r)
+run_read_failed_is was now (Ok x) h i k l = h
+run_read_failed_is was now (Err Read) h i k l = i refl
+run_read_failed_is was now (Err (Write n)) h i k l = k n refl
+run_read_failed_is was now (Err OutOfMemory) h i k l = l refl
+
 pub same_run_read_failed : {X : Type 0} (was was' now now' : Bool) (r q : Result X RunFault) → was ≡ was'
-    → OnOk r (now ≡ was) → (IsErrOf r Read → now ≡ true) → (IsErrOf r OutOfMemory → now ≡ was)
-    → OnOk q (now' ≡ was') → (IsErrOf q Read → now' ≡ true) → (IsErrOf q OutOfMemory → now' ≡ was')
-    → MeetNoWriteFault r q → now ≡ now'
-same_run_read_failed was was' now now' r q e h i k h' i' k' same =
-    same_by read_failed was was' now now' (fault_of r) (fault_of q) e (read_failed_is was now r h i k same.1)
-    (read_failed_is was' now' q h' i' k' (as_other (λ e. IsOfNoWrite (Run e)) r q same.0 same.1)) same.0
+    → OnOk r (now ≡ was) → (IsErrOf r Read → now ≡ true) → ((n : ℕ) → IsErrOf r (Write n) → now ≡ was) → (IsErrOf r OutOfMemory → now ≡ was)
+    → OnOk q (now' ≡ was') → (IsErrOf q Read → now' ≡ true) → ((n : ℕ) → IsErrOf q (Write n) → now' ≡ was') → (IsErrOf q OutOfMemory → now' ≡ was')
+    → EndAlike r q → now ≡ now'
+same_run_read_failed was was' now now' r q e h i k l h' i' k' l' same =
+    same_by read_failed was was' now now' (fault_of r) (fault_of q) e (run_read_failed_is was now r h i k l) (run_read_failed_is was' now' q h' i' k' l') same
 
 -- whether a write has failed, then
 abbrev write_failed : Bool → Option RunFault → Bool
@@ -219,9 +225,17 @@ same_front (Some bytes) other new new' e some h i =
     let i' : TakesSome (Some bytes) new' = subst (λ o. TakesSome o new') (sym e) i in
     (taken_is bytes new h.0 h.1).1 ∙ sym (taken_is bytes new' i'.0 i'.1).1
 
-pub same_live_left : {X E : Type 0} (old other new new' : Option (List ℕ)) (r q : Result X E) → old ≡ other → OnOk r (TakesSome old new) → OnOk q (TakesSome other new') → IsSome old → OnOk r (OnOk q (new ≡ new'))
-same_live_left old other new new' r q e h i some =
-    both_if_ok (λ x. TakesSome old new) (λ y. TakesSome other new') (λ x y. new ≡ new') (λ x y k l. same_front old other new new' e some k l) r q h i
+live_took : {X : Type 0} (old new : Option (List ℕ)) (r : Result X LiveFault) → OnOk r (TakesSome old new) → ((n : ℕ) → IsErrOf r (Run (Write n)) → TakesSome old new) → HasReadLive r → TakesSome old new
+live_took old new (Ok x) h i read = h
+live_took old new (Err (Run Read)) h i read = absurd read
+live_took old new (Err (Run (Write n))) h i read = i n refl
+live_took old new (Err (Run OutOfMemory)) h i read = absurd read
+live_took old new (Err (Pool fault)) h i read = absurd read
+
+pub same_live_left : {X : Type 0} (old other new new' : Option (List ℕ)) (r q : Result X LiveFault) → old ≡ other
+    → OnOk r (TakesSome old new) → ((n : ℕ) → IsErrOf r (Run (Write n)) → TakesSome old new) → OnOk q (TakesSome other new') → ((n : ℕ) → IsErrOf q (Run (Write n)) → TakesSome other new')
+    → IsSome old → HasReadLive r → HasReadLive q → new ≡ new'
+same_live_left old other new new' r q e h i k l some read read' = same_front old other new new' e some (live_took old new r h i read) (live_took other new' q k l read')
 
 -- ---- what both remember
 
@@ -230,21 +244,20 @@ live_read_failed was None = was
 live_read_failed was (Some (Run fault)) = read_failed was (Some fault)
 live_read_failed was (Some (Pool fault)) = was
 
-live_read_failed_is : {X : Type 0} (was now : Bool) (r : Result X LiveFault) → OnOk r (now ≡ was) → (IsErrOf r (Run Read) → now ≡ true) → IfErr r (λ e. IsOfNoEnd e → now ≡ was) → IfErr r IsOfNoWrite
+live_read_failed_is : {X : Type 0} (was now : Bool) (r : Result X LiveFault) → OnOk r (now ≡ was) → (IsErrOf r (Run Read) → now ≡ true) → ((n : ℕ) → IsErrOf r (Run (Write n)) → now ≡ was) → IfErr r (λ e. IsOfNoEnd e → now ≡ was)
     → now ≡ live_read_failed was (fault_of r)
-live_read_failed_is was now (Ok x) h i k none = h
-live_read_failed_is was now (Err (Run Read)) h i k none = i refl
-live_read_failed_is was now (Err (Run (Write n))) h i k none = absurd none
-live_read_failed_is was now (Err (Run OutOfMemory)) h i k none = k tt
-live_read_failed_is was now (Err (Pool fault)) h i k none = k tt
+live_read_failed_is was now (Ok x) h i k l = h
+live_read_failed_is was now (Err (Run Read)) h i k l = i refl
+live_read_failed_is was now (Err (Run (Write n))) h i k l = k n refl
+live_read_failed_is was now (Err (Run OutOfMemory)) h i k l = l tt
+live_read_failed_is was now (Err (Pool fault)) h i k l = l tt
 
 pub same_live_read_failed : {X : Type 0} (was was' now now' : Bool) (r q : Result X LiveFault) → was ≡ was'
-    → OnOk r (now ≡ was) → (IsErrOf r (Run Read) → now ≡ true) → IfErr r (λ e. IsOfNoEnd e → now ≡ was)
-    → OnOk q (now' ≡ was') → (IsErrOf q (Run Read) → now' ≡ true) → IfErr q (λ e. IsOfNoEnd e → now' ≡ was')
-    → MeetNoLiveWriteFault r q → now ≡ now'
-same_live_read_failed was was' now now' r q e h i k h' i' k' same =
-    same_by live_read_failed was was' now now' (fault_of r) (fault_of q) e (live_read_failed_is was now r h i k same.1)
-    (live_read_failed_is was' now' q h' i' k' (as_other IsOfNoWrite r q same.0 same.1)) same.0
+    → OnOk r (now ≡ was) → (IsErrOf r (Run Read) → now ≡ true) → ((n : ℕ) → IsErrOf r (Run (Write n)) → now ≡ was) → IfErr r (λ e. IsOfNoEnd e → now ≡ was)
+    → OnOk q (now' ≡ was') → (IsErrOf q (Run Read) → now' ≡ true) → ((n : ℕ) → IsErrOf q (Run (Write n)) → now' ≡ was') → IfErr q (λ e. IsOfNoEnd e → now' ≡ was')
+    → EndAlike r q → now ≡ now'
+same_live_read_failed was was' now now' r q e h i k l h' i' k' l' same =
+    same_by live_read_failed was was' now now' (fault_of r) (fault_of q) e (live_read_failed_is was now r h i k l) (live_read_failed_is was' now' q h' i' k' l') same
 
 abbrev live_write_failed : Bool → Option LiveFault → Bool
 live_write_failed was None = was

@@ -10,7 +10,7 @@ use Rattle.tn_run.specs.declared.outcome.Outcome.TheVariants.{Listed, Refused}
 use Rattle.tn_run.specs.declared.fault.RunFault.{RunFault}
 use Rattle.tn_run.specs.declared.fault.RunFault.TheVariants.{Read, Write, OutOfMemory}
 use Rattle.tn_run.specs.declared.fault.LiveFault.{LiveFault}
-use Rattle.tn_run.specs.declared.fault.LiveFault.TheVariants.{Run}
+use Rattle.tn_run.specs.declared.fault.LiveFault.TheVariants.{Run, Pool}
 use Rattle.tn_run.specs.declared.live.Ran.{Ran}
 use Rattle.complete_workers.specs.Ends.{EndAlike, TellAlike, Tells}
 
@@ -48,6 +48,18 @@ MadeAlike (Err e) (Err d) = (e ≡ d) × IsOfNoWrite e
 -- where both made the same, two writers that told their bytes tell the same ones
 abbrev pub RunAlike : {T : Type 0} → (T → Option (List ℕ)) → (old one other : Watched T) → Result Ran LiveFault → Result Ran LiveFault → Type 0
 RunAlike known old one other r q = Tells known old → MadeAlike r q → TellAlike known one other
+
+-- the text was read whole: the answer is no fault, or that of a write
+abbrev pub HasReadLive : {X : Type 0} → Result X LiveFault → Type 0
+HasReadLive (Ok x) = Unit {0}
+HasReadLive (Err (Run Read)) = ⊥
+HasReadLive (Err (Run (Write n))) = Unit {0}
+HasReadLive (Err (Run OutOfMemory)) = ⊥
+HasReadLive (Err (Pool fault)) = ⊥
+
+-- where the readers told their bytes and both read all of them, they tell the same afterwards
+abbrev pub LiveLeaveAlike : {T X : Type 0} → (T → Option (List ℕ)) → (old one other : Watched T) → Result X LiveFault → Result X LiveFault → Type 0
+LiveLeaveAlike known old one other r q = Tells known old → HasReadLive r → HasReadLive q → TellAlike known one other
 
 -- the outcome is a refusal
 abbrev pub IsRefusal : Outcome → Type 0

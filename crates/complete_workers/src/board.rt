@@ -1,5 +1,5 @@
 // Boards, and what they lend.
-ghost use Rattle.std.specs.Prelude.{◌≡◌, Err, IfOk, IfErr, IfSome};
+ghost use Rattle.std.specs.Prelude.{◌≡◌, Err, None, IfOk, IfErr, IfSome};
 ghost use Rattle.tn_trace.specs.Items.{item_seen};
 ghost use Rattle.tn_pool.specs.Boards.{HasPlace};
 ghost use Rattle.complete_workers.specs.Receipts.{ArePlacedAlike};
@@ -55,4 +55,16 @@ pub fn line<'b, A: Allocator>(
     ensures { IfSome result.0 (λ l. IfSome result.1 (λ k. ArePlacedAlike l.now k.now)) }
 {
     (one.line(session, index), other.line(session, index))
+}
+
+/// `tn_pool::Board::line` has one answer where the board has no such place: it lends nothing.
+pub fn line_without_place<A: Allocator>(
+    board: &Board<A>,
+    session: u32,
+    index: u64,
+) -> Option<&Line<A>>
+    requires { HasPlace board.now session index → ⊥ }
+    ensures { result ≡ None }
+{
+    board.line(session, index)
 }

@@ -1,9 +1,9 @@
 // A run by workers.
-ghost use Rattle.std.specs.Prelude.{◌≡◌, IfOk, OnOk};
+ghost use Rattle.std.specs.Prelude.{◌≡◌, IfOk};
 ghost use Rattle.tn_text.specs.Watch.{has_failed, is_flushed};
 ghost use Rattle.tn_run.specs.Workers.{IsWorkerCount};
 ghost use Rattle.complete_workers.specs.Ends.{EndAlike, SeenAlike, TellAlike, Tells};
-ghost use Rattle.complete_workers.specs.Runs.{AreOfOneText, MeetNoLiveWriteFault, RunAlike};
+ghost use Rattle.complete_workers.specs.Runs.{AreOfOneText, LiveLeaveAlike, MeetNoLiveWriteFault, RunAlike};
 
 use std::alloc::Global;
 use std::io::{Read, Write};
@@ -31,8 +31,8 @@ pub fn run_live<R: Read, W: Write, T: Threads + Wait + Sync, G: Gate>(
     requires outs { SeenAlike W.contents out.old same_out.old }
     ensures outcome { Tells R.remaining one.old → IfOk result.0 (λ r. IfOk result.1 (AreOfOneText r)) }
     ensures written { Tells R.remaining one.old → RunAlike W.contents out.old out.new same_out.new result.0 result.1 }
-    ensures left { Tells R.remaining one.old → OnOk result.0 (OnOk result.1 (TellAlike R.remaining one.new other.new)) }
-    ensures reader { MeetNoLiveWriteFault result.0 result.1 → has_failed one.new ≡ has_failed other.new }
+    ensures left { LiveLeaveAlike R.remaining one.old one.new other.new result.0 result.1 }
+    ensures reader { EndAlike result.0 result.1 → has_failed one.new ≡ has_failed other.new }
     ensures writer { EndAlike result.0 result.1 → has_failed out.new ≡ has_failed same_out.new }
     ensures flushed { MeetNoLiveWriteFault result.0 result.1 → is_flushed out.new ≡ is_flushed same_out.new }
 {

@@ -27,7 +27,7 @@ pub fn run<A: Allocator + Copy, R: Read, W: Write>(
     ensures written { Tells R.remaining one.old → WriteAlike W.contents out.old out.new same_out.new result.0 result.1 }
     ensures unread { HasNoPicks (asked schedule.entry) → TellAlike R.remaining one.new other.new }
     ensures left { LeaveAlike R.remaining one.old one.new other.new result.0 result.1 }
-    ensures reader { MeetNoWriteFault result.0 result.1 → has_failed one.new ≡ has_failed other.new }
+    ensures reader { EndAlike result.0 result.1 → has_failed one.new ≡ has_failed other.new }
     ensures writer { EndAlike result.0 result.1 → has_failed out.new ≡ has_failed same_out.new }
     ensures flushed { MeetNoWriteFault result.0 result.1 → is_flushed out.new ≡ is_flushed same_out.new }
 {

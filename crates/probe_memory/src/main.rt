@@ -24,7 +24,7 @@ use crate::runs::{run_by_picks, run_by_workers, run_to_a_full_end};
 use crate::says::Buffer;
 use crate::scripts::Inputs;
 use crate::turns::give_turns;
-use crate::workers::run_one_worker;
+use crate::workers::{lines_of_one_worker, run_one_worker};
 use std::process::ExitCode;
 use std::rt::Env;
 use std::sync::Wait;
@@ -59,6 +59,7 @@ fn call<R: Print + Threads + Wait + Sync + AllocGlobal>(
         "give_turn" => give_turns(rt, inputs),
         "run_live" => run_by_workers(rt, inputs, buffer),
         "run_workers" => run_one_worker(rt, inputs),
+        "lines" => lines_of_one_worker(rt, inputs),
         _ => return false,
     }
     true

@@ -14,6 +14,12 @@ use tn_live::{Live, Naming, Opened};
 use tn_pool::{Board, Open, PoolFault, Report, run_workers};
 use tn_trace::Core;
 
+/// The most sessions of a script.
+const SESSIONS: u32 = 128;
+
+/// How many turns are enough for forty of each slot.
+const MANY_TURNS: u32 = 65 * 40;
+
 /// Says the fault of a report.
 fn say_fault<R: Print>(rt: &R, fault: Option<PoolFault>) {
     match fault {
@@ -62,7 +68,53 @@ fn report_of_one<J: Naming + Send + Sync, R: Print + Threads + Wait + Sync>(
     say_close(rt, &live.close(rt, report.seats));
 }
 
+/// How many lines a board has, of whatever sessions.
+fn lines_on(board: &Board<Global>) -> u64 {
+    let mut lines: u64 = 0;
+    for session in 1..=SESSIONS {
+        for index in 0..LINES as u64 {
+            if board.line(session, index).is_some() {
+                lines = lines.saturating_add(1);
+            }
+        }
+    }
+    lines
+}
+
+/// One worker over a core: how many lines it has put on the board.
+fn lines_of_one<J: Naming + Send + Sync, R: Print + Threads + Wait + Sync>(
+    rt: &R,
+    alloc: Global,
+    core: Core<Global>,
+    opened: Opened,
+)
+    requires core { IsCore J.program [] core }
+    requires named { opened ≡ J.log }
+{
+    let sessions = core.program().session_count();
+    let Ok(board) = Board::new(alloc, alloc, sessions, LINES) else {
+        return say(rt, "board out of memory");
+    };
+    let Ok((live, seats)) = Live::<Global, J>::begin(alloc, core, opened, 1) else {
+        return say(rt, "lock out of memory");
+    };
+    let _ = run_workers(rt, &live, &board, seats, &Open, MANY_TURNS);
+    let lines = lines_on(&board);
+    let _ = println!(rt; "lines {lines}");
+}
+
 /// The same over the script.
+pub fn lines_of_one_worker<R: Print + Threads + Wait + Sync>(rt: &R, inputs: &Inputs<'_>) {
+    let Some(program) = program_or_say(rt, inputs) else {
+        return;
+    };
+    match Core::new(inputs.alloc, program) {
+        Ok(core) => lines_of_one::<Brand, R>(rt, inputs.alloc, core, Opened::new()),
+        Err(_) => say(rt, "core out of memory"),
+    }
+}
+
+/// The report of one worker over the script.
 pub fn run_one_worker<R: Print + Threads + Wait + Sync>(rt: &R, inputs: &Inputs<'_>) {
     let Some(program) = program_or_say(rt, inputs) else {
         return;

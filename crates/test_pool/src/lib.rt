@@ -1,10 +1,13 @@
 //! Tests of the lock and of workers: a core stepped by two seats in turn, its close and its receipts, with each
 //! growth of memory refused too; tokens taken and given by one end and by three, lines on a board and the
-//! output with and without them, one worker's receipts, and runs by workers, replayed.
+//! output with and without them, one worker's receipts, what a gate is told and when, and runs by workers,
+//! replayed.
 //!
 //! Stands on tn_live, tn_pool and tn_run, and on test_allocator.
 #![tactic(auto)]
 
+#[cfg(test)]
+mod gates;
 #[cfg(test)]
 mod lines;
 #[cfg(test)]

@@ -198,7 +198,11 @@ fn closed_twice<J: Naming, R: Wait + Abort>(
     assert!(rt; matches!(&moved, Ok(Turn::Moved(_))));
     match live.close(rt, seats) {
         Ok(_) => Err(Fail::new("a seat is missing")),
-        Err(fault) => check_handed_back(rt, fault, second),
+        Err(fault) => {
+            let told = format!(in alloc; "{fault}")?;
+            assert_eq!(rt; told.as_str(), "fault 17 missing seat 1");
+            check_handed_back(rt, fault, second)
+        }
     }
 }
 

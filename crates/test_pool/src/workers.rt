@@ -24,7 +24,7 @@ pub const SENDERS: &str = "{function,m,go,exported,['N'],[{send,<0.102.0>,'N'}]}
 ";
 
 /// The program of the senders' script.
-fn senders(alloc: Global) -> Result<Program<Global>, Fail> {
+pub fn senders(alloc: Global) -> Result<Program<Global>, Fail> {
     let forms = forms(alloc, SENDERS.as_bytes())?;
     Ok(program(alloc, forms)?)
 }

@@ -1,28 +1,49 @@
 -- What the words of the command line ask for (own).
-use Rattle.std.specs.Prelude.{◌≡◌, ◌≢◌, ◌<◌, ◌^◌, ℕ, List, Option, Some, None, SomeIff, if◌then◌else◌, codes}
-use Rattle.std.specs.Str.Parse.{IsNumeral, digits_value, without_leading_plus}
+-- Stands on what `clap` found in the words: the text that each option and each word without a name has.
+use Rattle.std.specs.Prelude.{◌≡◌, ◌≢◌, ◌≤◌, ℕ, List, [], Option, Some, None, Result, Ok, MatchResult, IsSomeAnd, option_map, unwrap_or, if◌then◌else◌, codes}
+use Rattle.std.specs.Str.Parse.{digits_value}
 use Rattle.std.specs.Str.{bytes_eq}
 use Rattle.std.specs.Borrow.{Bor}
 use Rattle.clap.specs.declared.parser.matches.ArgMatches.{ArgMatches}
-use Rattle.clap.specs.Words.{found_of, first_value, one_text}
+use Rattle.clap.specs.Words.{found_of, first_value, rows_of, subcommand_name_of, subcommand_rows_of}
+use Rattle.tn_account.specs.declared.asked.Asked.{Asked}
 use Rattle.tn_command.specs.declared.source.Source.{Source}
 use Rattle.tn_command.specs.declared.source.Source.TheVariants.{Input, File}
+use Rattle.tn_command.specs.Numbers.{IsPlainNumber}
 use Rattle.tn_spec.specs.declared.func.Dialect.{Dialect}
 use Rattle.tn_spec.specs.declared.func.Dialect.TheVariants.{Call, Send, Recv}
+use Rattle.tn_cli.specs.declared.asks.GivenPicks.{GivenPicks}
+use Rattle.tn_cli.specs.declared.asks.GivenPicks.TheVariants.{Text, In}
+use Rattle.tn_cli.specs.declared.asks.Trial.{Trial}
+use Rattle.tn_cli.specs.declared.asks.Ask.{Ask}
+use Rattle.tn_cli.specs.declared.asks.Ask.TheVariants.{Replay, Explain, Round, Workers, Spec}
 
 -- the text that the command line gives for this name
 abbrev pub text_of : ArgMatches → List ℕ → Option (List ℕ)
 text_of m name = first_value (found_of m) name
 
--- the same, of a name whose value is a number
-abbrev pub numeral_of : ArgMatches → List ℕ → Option (List ℕ)
-numeral_of m name = one_text (found_of m) name
+-- ---- numbers
 
--- the number that a text's decimal digits write, after one `+` or none, where it is below 2^32
-abbrev pub IsNumberOf : List ℕ → Option ℕ → Type 0
-IsNumberOf text n =
-    let digits = without_leading_plus text in
-    SomeIff n (IsNumeral 10 digits × (digits_value 10 digits < 2 ^ 32)) (digits_value 10 digits)
+-- such a text is given, and its number is within these bounds
+abbrev pub IsWithin : (least most : ℕ) → Option (List ℕ) → Type 0
+IsWithin least most None = ⊥
+IsWithin least most (Some text) = IsPlainNumber text × (least ≤ digits_value 10 text) × (digits_value 10 text ≤ most)
+
+-- the number that is given
+abbrev pub number_given : Option (List ℕ) → ℕ
+number_given None = 0
+number_given (Some text) = digits_value 10 text
+
+-- this number is given, within these bounds
+abbrev pub IsGiven : (least most : ℕ) → Option (List ℕ) → ℕ → Type 0
+IsGiven least most text n = IsWithin least most text × (n ≡ number_given text)
+
+-- the number, where one is given
+abbrev pub IsNumberOrNone : {E : Type 0} → Option (List ℕ) → Result (Option ℕ) E → Type 0
+IsNumberOrNone None r = r ≡ Ok None
+IsNumberOrNone (Some text) r = MatchResult r (λ n. IsPlainNumber text × (n ≡ Some (digits_value 10 text))) (λ e. ¬ (IsPlainNumber text))
+
+-- ---- texts
 
 -- the source that a text names: standard input where it is `-` or absent, else the file with that path
 abbrev pub IsSourceNamed : Option (List ℕ) → Source → Type 0
@@ -30,9 +51,54 @@ IsSourceNamed None s = s ≡ Input
 IsSourceNamed (Some path) s =
     (path ≡ codes "-" → s ≡ Input) × (path ≢ codes "-" → (w : Bor (List ℕ)) × (s ≡ File w) × (w.now ≡ path))
 
+-- the texts behind two references, where there are any
+abbrev pub IsTextOf : Option (List ℕ) → Option (Bor (List ℕ)) → Type 0
+IsTextOf text word = option_map (λ w. w.now) word ≡ text
+
 -- what a specification of this event is for
 abbrev pub dialect_named : List ℕ → Dialect
 dialect_named event =
     if bytes_eq event (codes "send") then Send
     else if bytes_eq event (codes "receive") then Recv
     else Call
+
+-- the picks are in the file that `--picks-file` names, else they are the text of `--picks`
+abbrev pub ArePicksOf : ArgMatches → GivenPicks → Type 0
+ArePicksOf m (In source) = IsSomeAnd (text_of m (codes "picks-file")) (λ path. IsSourceNamed (Some path) source)
+ArePicksOf m (Text text) = (text_of m (codes "picks-file") ≡ None) × (text.now ≡ unwrap_or (text_of m (codes "picks")) [])
+
+-- ---- commands
+
+-- the session that `--session` names, and the move that `--move` gives
+abbrev pub IsAskedOf : ArgMatches → Asked → Type 0
+IsAskedOf m a =
+    IsTextOf (text_of m (codes "session")) a.session × IsNumberOrNone {E = Unit {0}} (text_of m (codes "move")) (Ok a.move_number)
+
+-- what `--for`, `--list`, `--me` and `--caller` give, and the specification
+abbrev pub IsTrialOf : ArgMatches → Trial → Type 0
+IsTrialOf m t =
+    (t.dialect ≡ dialect_named (unwrap_or (text_of m (codes "for")) (codes "call")))
+    × (t.list.now ≡ unwrap_or (text_of m (codes "list")) [])
+    × IsGiven 0 4294967295 (text_of m (codes "me")) t.me
+    × IsTextOf (text_of m (codes "caller")) t.caller
+    × IsTextOf (text_of m (codes "specification")) t.specification
+
+-- what the subcommand of this name asks for, by what was found behind it
+abbrev pub Asks : List ℕ → ArgMatches → Ask → Type 0
+Asks name m (Replay script picks) = (name ≡ codes "replay") × IsSourceNamed (text_of m (codes "script")) script × ArePicksOf m picks
+Asks name m (Explain script picks asked) =
+    (name ≡ codes "explain") × IsSourceNamed (text_of m (codes "script")) script × ArePicksOf m picks × IsAskedOf m asked
+Asks name m (Round script limit) =
+    (name ≡ codes "round") × IsSourceNamed (text_of m (codes "script")) script × IsGiven 1 65536 (text_of m (codes "limit")) limit
+Asks name m (Workers script count turns) =
+    (name ≡ codes "workers") × IsSourceNamed (text_of m (codes "script")) script
+    × IsGiven 1 16 (text_of m (codes "n")) count × IsGiven 1 65536 (text_of m (codes "turns")) turns
+Asks name m (Spec trial) = (name ≡ codes "spec") × IsTrialOf m trial
+
+-- the subcommand that was found asks for it
+pub record IsAskedBy (m : ArgMatches) (ask : Ask) : Type 0 where
+  pub name : List ℕ
+  pub given : ArgMatches
+  pub named : subcommand_name_of m ≡ Some name
+  pub found : option_map (λ p. p.1) (subcommand_rows_of m) ≡ Some (rows_of (found_of given))
+  pub asks : Asks name given ask

@@ -5,13 +5,13 @@
 //! fault, with one line on standard error.
 #![tactic(auto)]
 
-ghost use Rattle.std.specs.Prelude.{◌≡◌, Some, None, codes, option_map};
 ghost use Rattle.std.specs.Process.{exit_status};
 ghost use Rattle.tn_command.specs.Status.{IsStatus};
-ghost use Rattle.tn_cli.specs.Asks.{IsNumberOf, IsSourceNamed, dialect_named, numeral_of, text_of};
 
+mod asks;
 mod line;
 
+use asks::{Ask, BadNumber, GivenPicks, Trial, ask_of};
 use clap::ArgMatches;
 use clap::error::ErrorKind;
 use line::command;
@@ -23,36 +23,13 @@ use std::thread::Threads;
 use tn_account::Asked;
 use tn_command::{
     FAULT, Noted, REFUSED, Source, arguments, perform, perform_explain, perform_trial,
-    perform_workers, picks_of, report, source_of, tell_fault,
+    perform_workers, picks_of, report, tell_fault,
 };
 use tn_inquiry::Inquiry;
 use tn_pool::Open;
 use tn_run::{RunFault, Schedule, Workers, write_output};
-use tn_spec::Dialect;
 use tn_text::Watched;
 use tn_trial::Question;
-
-/// Where the script of a subcommand is read from.
-fn script<'a>(matches: &'a ArgMatches<'_>) -> Source<'a>
-    ensures { IsSourceNamed (text_of matches.now (codes "script")) result }
-{
-    source_of(matches.get_str("script"))
-}
-
-/// Runs the subcommand `workers`.
-fn run_workers<R: Input + Files + Print + Eprint + AllocGlobal + Threads + Wait + Sync>(
-    rt: &R,
-    matches: &ArgMatches<'_>,
-) -> ExitCode
-    ensures { IsStatus (exit_status result) }
-{
-    let workers = Workers {
-        count: matches.get_one::<u32>("n").unwrap_or(1).max(1).min(16),
-        turns: matches.get_one::<u32>("turns").unwrap_or(0),
-        gate: &Open,
-    };
-    perform_workers(rt, script(matches), &workers)
-}
 
 /// What is done with a script and a text of picks.
 #[derive(Clone, Copy)]
@@ -97,95 +74,111 @@ fn run_from<R: Input + Files + Print + Eprint + AllocGlobal>(
     }
 }
 
-/// Does the task with the script and the picks that the command line names.
+/// Does the task with a script and picks.
 fn run_by_picks<R: Input + Files + Print + Eprint + AllocGlobal>(
     rt: &R,
     task: Task<'_>,
-    matches: &ArgMatches<'_>,
+    script: Source<'_>,
+    picks: GivenPicks<'_>,
 ) -> ExitCode
     ensures { IsStatus (exit_status result) }
 {
-    if let Some(file) = matches.get_str("picks-file") {
-        return run_from(rt, task, script(matches), source_of(Some(file)));
-    }
-    let picks = matches.get_str("picks").unwrap_or("");
-    run_task(rt, task, script(matches), picks.as_bytes())
-}
-
-/// The session and the move that `explain` is asked for.
-fn asked<'a>(matches: &'a ArgMatches<'_>) -> Asked<'a>
-    ensures session { option_map (λ s. s.now) result.session ≡ text_of matches.now (codes "session") }
-    ensures all { numeral_of matches.now (codes "move") ≡ None → result.move_number ≡ None }
-    ensures one { (t : _) → numeral_of matches.now (codes "move") ≡ Some t → IsNumberOf t result.move_number }
-{
-    Asked {
-        session: matches.get_str("session"),
-        move_number: matches.get_one::<u32>("move").map(|number| number as u64),
+    match picks {
+        GivenPicks::In(source) => run_from(rt, task, script, source),
+        GivenPicks::Text(text) => run_task(rt, task, script, text.as_bytes()),
     }
 }
 
-/// What the specification of this event is for.
-fn dialect_of(event: &str) -> Dialect
-    ensures { result ≡ dialect_named event.now }
-{
-    match event {
-        "send" => Dialect::Send,
-        "receive" => Dialect::Recv,
-        _ => Dialect::Call,
-    }
-}
-
-/// Holds the specification against the list that the words of `spec` name.
-fn try_spec<R: Print + Eprint + AllocGlobal>(
+/// Runs a script by so many workers, from 1 to 16.
+fn run_workers<R: Input + Files + Print + Eprint + AllocGlobal + Threads + Wait + Sync>(
     rt: &R,
-    matches: &ArgMatches<'_>,
-    spec: &[u8],
+    script: Source<'_>,
+    count: u32,
+    turns: u32,
 ) -> ExitCode
+    ensures { IsStatus (exit_status result) }
+{
+    let workers = Workers {
+        count: count.max(1).min(16),
+        turns,
+        gate: &Open,
+    };
+    perform_workers(rt, script, &workers)
+}
+
+/// Makes a trial of a specification.
+fn try_spec<R: Print + Eprint + AllocGlobal>(rt: &R, trial: &Trial<'_>, spec: &[u8]) -> ExitCode
     ensures { IsStatus (exit_status result) }
 {
     let question = Question {
-        dialect: dialect_of(matches.get_str("for").unwrap_or("call")),
-        list: matches.get_str("list").unwrap_or("").as_bytes(),
-        me: matches.get_one::<u32>("me").unwrap_or(0),
-        caller: matches.get_str("caller").map(|text| text.as_bytes()),
+        dialect: trial.dialect,
+        list: trial.list.as_bytes(),
+        me: trial.me,
+        caller: trial.caller.map(|text| text.as_bytes()),
         spec,
     };
     perform_trial(rt, &question)
 }
 
-/// Runs the subcommand `spec`.
-fn run_spec<R: Input + Files + Print + Eprint + AllocGlobal>(
-    rt: &R,
-    matches: &ArgMatches<'_>,
-) -> ExitCode
+/// Makes a trial, of standard input where no specification is given or `-` is.
+fn run_spec<R: Input + Files + Print + Eprint + AllocGlobal>(rt: &R, trial: &Trial<'_>) -> ExitCode
     ensures { IsStatus (exit_status result) }
 {
-    match matches.get_str("specification") {
+    match trial.specification {
         None | Some("-") => match picks_of(rt, Source::Input) {
-            Ok(text) => try_spec(rt, matches, &text),
+            Ok(text) => try_spec(rt, trial, &text),
             Err(status) => status,
         },
-        Some(text) => try_spec(rt, matches, text.as_bytes()),
+        Some(text) => try_spec(rt, trial, text.as_bytes()),
     }
 }
 
-/// Runs the subcommand.
+/// Does what is asked for.
+fn run_ask<R: Input + Files + Print + Eprint + AllocGlobal + Threads + Wait + Sync>(
+    rt: &R,
+    ask: Ask<'_>,
+) -> ExitCode
+    ensures { IsStatus (exit_status result) }
+{
+    match ask {
+        Ask::Replay { script, picks } => run_by_picks(rt, Task::Replay, script, picks),
+        Ask::Explain {
+            script,
+            picks,
+            asked,
+        } => run_by_picks(rt, Task::Explain(asked), script, picks),
+        Ask::Round { script, limit } => perform(rt, script, Schedule::Round(limit)),
+        Ask::Workers {
+            script,
+            count,
+            turns,
+        } => run_workers(rt, script, count, turns),
+        Ask::Spec(trial) => run_spec(rt, &trial),
+    }
+}
+
+/// Says that a value is no number, as other wrong values are refused.
+fn refuse_number<R: Eprint>(rt: &R, bad: BadNumber<'_>) -> ExitCode
+    ensures { IsStatus (exit_status result) }
+{
+    let BadNumber { option, text } = bad;
+    let _ = rt.eprintln(format_args!(
+        "error: invalid value '{text}' for '{option}': invalid digit found in string\n\nFor more information, try '--help'."
+    ));
+    ExitCode::from(REFUSED)
+}
+
+/// Does what was read of the words.
 fn run_command<R: Input + Files + Print + Eprint + AllocGlobal + Threads + Wait + Sync>(
     rt: &R,
     matches: &ArgMatches<'_>,
 ) -> ExitCode
     ensures { IsStatus (exit_status result) }
 {
-    match matches.subcommand() {
-        Some(("workers", workers)) => run_workers(rt, workers),
-        Some(("spec", spec)) => run_spec(rt, spec),
-        Some(("round", round)) => {
-            let limit = round.get_one::<u32>("limit").unwrap_or(0);
-            perform(rt, script(round), Schedule::Round(limit))
-        }
-        Some(("explain", explain)) => run_by_picks(rt, Task::Explain(asked(explain)), explain),
-        Some((_, replay)) => run_by_picks(rt, Task::Replay, replay),
-        None => ExitCode::from(REFUSED),
+    match ask_of(matches) {
+        Ok(Some(ask)) => run_ask(rt, ask),
+        Ok(None) => ExitCode::from(REFUSED),
+        Err(bad) => refuse_number(rt, bad),
     }
 }
 

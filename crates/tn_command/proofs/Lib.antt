@@ -1,2 +1,3 @@
 mod ExplainedLemmas
+mod NumberLemmas
 mod WrittenLemmas

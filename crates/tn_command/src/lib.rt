@@ -10,6 +10,7 @@
 
 mod explained;
 mod noted;
+mod number;
 mod recorded;
 mod runs;
 mod source;
@@ -20,6 +21,7 @@ mod words;
 
 pub use explained::{Explained, perform_explain, perform_explain_over};
 pub use noted::Noted;
+pub use number::plain_number;
 pub use runs::{Ended, perform, perform_over, perform_workers, perform_workers_over, picks_of};
 pub use source::{Source, source_of};
 pub use status::{FAULT, REFUSED, report};

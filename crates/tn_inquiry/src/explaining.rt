@@ -41,6 +41,7 @@ pub fn explain<A: Allocator + Copy, R: Read, W: Write>(
     ensures write { (n : ℕ) → IsErrOf result (RunFault.Write n) → has_failed writer.new ≡ true }
     ensures written { WroteSome R.remaining reader.old inquiry.now W.contents writer.old writer.new result }
     ensures write_took { OnWriteFault result (TookFor inquiry.now R.remaining reader.old reader.new) }
+    ensures write_unfailed { OnWriteFault result (has_failed reader.new ≡ has_failed reader.old) }
     ensures memory { IsErrOf result RunFault.OutOfMemory → has_failed reader.new ≡ has_failed reader.old }
     ensures memory_wrote_nothing { IsErrOf result RunFault.OutOfMemory → writer.new ≡ writer.old }
 {

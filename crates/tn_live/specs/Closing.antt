@@ -27,18 +27,23 @@ Lacks seats n = All (λ s. s.number ≢ n) seats
 abbrev pub AreHanded : List SeatState → ℕ → Type 0
 AreHanded seats count = (n : ℕ) → n < count → Lacks seats n → ⊥
 
+-- each entry is one of a seat
+abbrev pub AreEntered : List SeatState → List Entry → Type 0
+AreEntered seats entries = All (λ e. Lacks seats e.seat → ⊥) entries
+
 -- the number is the least below the count that no seat has
 pub record IsMissing (seats : List SeatState) (count missing : ℕ) : Type 0 where
   pub below : missing < count
   pub lacks : Lacks seats missing
   pub least : AreHanded seats missing
 
--- each seat's seen begins the journal, which has no later entry of that seat, and all entries are the seats'
+-- each seat's seen begins the journal, which has no later entry of that seat, and the entries are those that the seats made
 pub record Ends (seats : List SeatState) (entries : List Entry) : Type 0 where
   pub begins : All (λ s. Begins entries s.number s.seen) seats
+  pub entered : AreEntered seats entries
   pub all_made : length entries ≡ made_in_all seats
 
--- what a close answers. A missing seat is looked for first, and then all comes back unchanged
+-- what a close answers. A missing seat is looked for first, and then the seats come back, and the lock of the same log
 abbrev pub Closes : {A J : Type 0} → LiveState → List SeatState → Result (List Entry) (CloseFault A J) → Type 0
 Closes live seats (Ok closed) = AreHanded seats live.seats × Ends seats closed
 Closes live seats (Err Spent) = AreHanded seats live.seats

@@ -1,7 +1,8 @@
 -- What contracts see of a book, a seat and a lock, and which seats fit a book.
-use Rattle.std.specs.Prelude.{◌≡◌, ℕ, ◌<◌, Bool, false, List, [], ◌∷◌, ◌++◌, length, slice_get, Some}
+use Rattle.std.specs.Prelude.{◌≡◌, ℕ, ◌<◌, Bool, true, false, List, [], ◌∷◌, ◌++◌, length, slice_get, Some}
 use Rattle.def_script.specs.Program.{Program}
 use Rattle.def_run.specs.Run.{moves}
+use Rattle.logbook.specs.Pages.{Book}
 use Rattle.tn_live.specs.declared.entry.Entry.{Entry}
 use Rattle.tn_live.specs.Journal.{picks_of, made_by}
 
@@ -13,18 +14,24 @@ pub record SeatState : Type 0 where
   pub number : ℕ
   pub seen : List Entry
 
+-- how many seats a lock has, and the log that names it. Its program is that of its type
 pub record LiveState : Type 0 where
   pub seats : ℕ
+  pub log : Book
 
 -- a book that isn't spent
 abbrev pub book_of : List Entry → BookState
 book_of entries = record { spent = false; entries = entries }
 
+-- a book that is spent
+abbrev pub spent_book : BookState
+spent_book = record { spent = true; entries = [] }
+
 abbrev pub seat_of : ℕ → List Entry → SeatState
 seat_of number seen = record { number = number; seen = seen }
 
-abbrev pub live_of : ℕ → LiveState
-live_of seats = record { seats = seats }
+abbrev pub live_of : ℕ → Book → LiveState
+live_of seats log = record { seats = seats; log = log }
 
 -- these entries are a journal of the program: each of their picks moves after those before it
 abbrev pub IsJournal : Program → List Entry → Type 0

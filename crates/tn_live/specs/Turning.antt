@@ -1,5 +1,5 @@
 -- What a turn does to a seat and to the book.
-use Rattle.std.specs.Prelude.{◌≡◌, ℕ, suc, ◌<◌, true, List, [], ◌∷◌, ◌++◌, length, map, Some, Ok, Err, Result}
+use Rattle.std.specs.Prelude.{◌≡◌, ℕ, suc, ◌<◌, List, [], ◌∷◌, ◌++◌, length, map, Some, Ok, Err, Result}
 use Rattle.def_script.specs.Program.{Program}
 use Rattle.def_run.specs.Run.{JOURNAL}
 use Rattle.def_run.specs.Laws.{IsIdleAfter}
@@ -12,7 +12,7 @@ use Rattle.tn_live.specs.declared.entry.Turn.{Turn}
 use Rattle.tn_live.specs.declared.entry.Turn.TheVariants.{Moved, Idle}
 use Rattle.tn_live.specs.declared.entry.Receipt.{Receipt}
 use Rattle.tn_live.specs.Journal.{entry, picks_of, made_by, last_by}
-use Rattle.tn_live.specs.States.{BookState, SeatState, book_of, seat_of, MovesAfter}
+use Rattle.tn_live.specs.States.{BookState, SeatState, book_of, spent_book, seat_of, MovesAfter}
 
 -- the receipt is for that pick of that seat after these entries, and its items are what the move adds
 pub record IsReceipt {A : Type 0} (program : Program) (seat : ℕ) (before : List Entry) (pick : ℕ) (r : Receipt A) : Type 0 where
@@ -54,4 +54,4 @@ BookTurns p b seat pick (Ok (Idle front)) c seen =
     (length b.entries < JOURNAL) × IsIdleAfter p (picks_of b.entries) pick × (c ≡ b) × (seen ≡ b.entries)
 BookTurns p b seat pick (Err LimitReached) c seen = (length b.entries ≡ JOURNAL) × (c ≡ b) × (seen ≡ b.entries)
 BookTurns p b seat pick (Err Spent) c seen = ⊥
-BookTurns p b seat pick (Err OutOfMemory) c seen = c.spent ≡ true
+BookTurns p b seat pick (Err OutOfMemory) c seen = c ≡ spent_book

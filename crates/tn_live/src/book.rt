@@ -4,17 +4,19 @@ ghost use Rattle.tn_live.specs.States.{Fits};
 
 use crate::closed::Closed;
 use crate::entry::Turn;
-use crate::front::{Naming, Opened};
+use crate::front::{Head, Naming, Opened};
 use crate::record::Record;
-use crate::seat::{Seat, fresh_seats, total_made};
+use crate::seat::{Seat, are_entered, fresh_seats, total_made};
 use std::alloc::{AllocError, Allocator};
 use std::marker::Model;
 use tn_program::Program;
 use tn_trace::{Core, StepFault};
 
-/// The lock's value: a core with the journal whose core it is. It is spent once a step was refused memory.
+/// The lock's value: a core with the journal whose core it is, beside the one head of the journal's log. It
+/// is spent once a step was refused memory: then it has the head alone.
 #[derive(Drop)]
 pub struct Book<A: Allocator, J: Naming> {
+    head: Head<J>,
     record: Option<Record<A, J>>,
 }
 
@@ -71,7 +73,6 @@ impl<A: Allocator + Copy, J: Naming> Book<A, J> {
         let seats = fresh_seats(alloc, &front, n)?;
         let record = Record {
             alloc,
-            head,
             front,
             core,
             entries: Vec::new(alloc),
@@ -79,6 +80,7 @@ impl<A: Allocator + Copy, J: Naming> Book<A, J> {
             counts: [0; 16],
         };
         let book = Book {
+            head,
             record: Some(record),
         };
         Ok((book, seats))
@@ -128,7 +130,7 @@ impl<A: Allocator + Copy, J: Naming> Book<A, J> {
         let Some(record) = &mut self.record else {
             return Err(StepFault::Spent);
         };
-        match record.step(&mut seat.seen, pick) {
+        match record.step(&self.head, &mut seat.seen, pick) {
             Ok(turn) => Ok(turn),
             Err(StepFault::LimitReached) => Err(StepFault::LimitReached),
             Err(StepFault::Spent) => Err(StepFault::Spent),
@@ -147,6 +149,9 @@ impl<A: Allocator + Copy, J: Naming> Book<A, J> {
             return None;
         }
         let record = self.record?;
+        if !are_entered(seats, &record.entries) {
+            return None;
+        }
         let made = total_made(seats)?;
         if made != record.entries.len() as u64 {
             return None;

@@ -4,7 +4,7 @@ use crate::front::Naming;
 use crate::record::Record;
 use std::alloc::Allocator;
 use std::marker::Model;
-use tn_program::Program;
+use tn_program::{Program, Sessions};
 use tn_term::Term;
 
 /// A closed journal, with the listings and the replies of its picks.
@@ -27,6 +27,7 @@ impl<A: Allocator, J: Naming> Model for Closed<A, J> {
 
 impl<A: Allocator + Copy, J: Naming> Closed<A, J> {
     ghost use Rattle.std.specs.Prelude.{◌≡◌, IsTrue, ◌↔◌, map};
+    ghost use Rattle.def_script.specs.Script.{creations};
     ghost use Rattle.def_run.specs.Listing.{replies};
     ghost use Rattle.tn_term.specs.Views.{tree_of};
     ghost use Rattle.tn_program.specs.Views.{program_of};
@@ -48,6 +49,13 @@ impl<A: Allocator + Copy, J: Naming> Closed<A, J> {
         ensures { program_of result.now ≡ J.program }
     {
         self.record.core.program()
+    }
+
+    /// The name and the tracer of each session, in the control list's order. It takes no memory.
+    pub fn sessions(&self) -> Sessions<'_, A>
+        ensures { result ≡ creations J.program.commands }
+    {
+        self.record.core.sessions()
     }
 
     /// The messages of the session with this number, from 1, in order; None for another number.

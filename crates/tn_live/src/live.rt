@@ -5,11 +5,14 @@ use crate::entry::Turn;
 use crate::front::{Naming, Opened};
 use crate::seat::{Seat, first_missing};
 use std::alloc::{AllocError, Allocator};
+use std::fmt;
 use std::marker::Model;
 use std::sync::{Mutex, Wait};
+use thiserror::Error;
 use tn_trace::{Core, StepFault};
 
-/// A book under a lock, beside the number of its seats.
+/// A book under a lock, beside the number of its seats. Contracts see the number, and the log that names the
+/// lock; its program is that of its type.
 #[derive(Drop)]
 pub struct Live<A: Allocator, J: Naming> {
     seats: u32,
@@ -21,20 +24,31 @@ impl<A: Allocator, J: Naming> Model for Live<A, J> {
 
     ghost Value = { LiveState };
 
-    ghost view = { λ l. live_of l.seats };
+    ghost view = { λ l. live_of l.seats J.log };
 }
 
 /// Why a lock wasn't closed.
-#[derive(Drop)]
+#[derive(Drop, Error)]
 pub enum CloseFault<A: Allocator, J: Naming> {
     /// 16: a step was refused memory, or the seats don't account for the journal.
+    #[error("fault 16 spent")]
     Spent,
     /// 17: the seat with this number wasn't handed in. All comes back unchanged.
+    #[error("fault 17 missing seat {missing}")]
     MissingSeat {
         missing: u32,
         live: Live<A, J>,
         seats: Vec<Seat<A, J>, A>,
     },
+}
+
+impl<A: Allocator, J: Naming> fmt::Debug for CloseFault<A, J> {
+    fn fmt<W: fmt::Write>(&self, f: &mut fmt::Formatter<W>) -> fmt::Result {
+        match self {
+            CloseFault::Spent => write!(f, "Spent"),
+            CloseFault::MissingSeat { missing, .. } => write!(f, "MissingSeat({missing})"),
+        }
+    }
 }
 
 impl<A: Allocator + Copy, J: Naming> Live<A, J> {
@@ -59,7 +73,7 @@ impl<A: Allocator + Copy, J: Naming> Live<A, J> {
         requires core { IsCore J.program [] core }
         requires named { opened ≡ J.log }
         requires count { (0 < n) × (n ≤ 16) }
-        ensures live { IfOk result (λ r. r.0 ≡ live_of n) }
+        ensures live { IfOk result (λ r. r.0 ≡ live_of n J.log) }
         ensures seats { IfOk result (λ r. AreFresh n r.1.items) }
     {
         let (book, seats) = Book::begin(alloc, core, opened, n)?;

@@ -22,7 +22,6 @@ pub(crate) struct Seen<A: Allocator, J: Naming> {
 #[derive(Drop)]
 pub(crate) struct Record<A: Allocator, J: Naming> {
     pub alloc: A,
-    pub head: Head<J>,
     pub front: Front<J>,
     pub core: Core<A>,
     pub entries: Vec<Entry, A>,
@@ -89,7 +88,13 @@ impl<A: Allocator + Copy, J: Naming> Record<A, J> {
     }
 
     /// Adds an entry, for which there is room, with the places of its messages: the entry's number.
-    fn add(&mut self, seat: u32, pick: u32, places: Vec<ItemPlace, A>) -> Result<u64, AllocError>
+    fn add(
+        &mut self,
+        head: &Head<J>,
+        seat: u32,
+        pick: u32,
+        places: Vec<ItemPlace, A>,
+    ) -> Result<u64, AllocError>
         requires seat { seat < 16 }
         requires few { length self.old.entries.items < 65536 }
         requires reached { self.old.front ≡ self.old.entries.items }
@@ -101,7 +106,7 @@ impl<A: Allocator + Copy, J: Naming> Record<A, J> {
     {
         let number = self.entries.len() as u64;
         let entry = Entry { seat, pick };
-        if !self.front.add(&self.head, number, &entry) {
+        if !self.front.add(head, number, &entry) {
             return Err(AllocError);
         }
         self.entries.push_reserved(entry);
@@ -113,6 +118,7 @@ impl<A: Allocator + Copy, J: Naming> Record<A, J> {
     /// Adds the entry of a move that the core made, and shows the journal to the seat that made it.
     fn enter(
         &mut self,
+        head: &Head<J>,
         seen: &mut Seen<A, J>,
         pick: u32,
         items: Vec<Item<A>, A>,
@@ -126,7 +132,7 @@ impl<A: Allocator + Copy, J: Naming> Record<A, J> {
         let Ok(places) = find_places(self.alloc, &items) else {
             return Err(StepFault::OutOfMemory);
         };
-        let Ok(number) = self.add(seen.number, pick, places) else {
+        let Ok(number) = self.add(head, seen.number, pick, places) else {
             return Err(StepFault::OutOfMemory);
         };
         self.show(seen);
@@ -141,7 +147,12 @@ impl<A: Allocator + Copy, J: Naming> Record<A, J> {
     }
 
     /// One step of the core. All room is got before it.
-    pub fn step(&mut self, seen: &mut Seen<A, J>, pick: u32) -> Result<Turn<A>, StepFault>
+    pub fn step(
+        &mut self,
+        head: &Head<J>,
+        seen: &mut Seen<A, J>,
+        pick: u32,
+    ) -> Result<Turn<A>, StepFault>
         requires record { IsRecord J.program self.old }
         requires seen { IsSeen J.program seen.old }
         requires begins { Begins self.old.entries.items seen.old.number seen.old.entries.items }
@@ -151,7 +162,7 @@ impl<A: Allocator + Copy, J: Naming> Record<A, J> {
             return Err(StepFault::OutOfMemory);
         };
         match self.core.step(pick) {
-            Ok(Answer::Moved { items }) => self.enter(seen, pick, items),
+            Ok(Answer::Moved { items }) => self.enter(head, seen, pick, items),
             Ok(Answer::Idle) => {
                 self.show(seen);
                 let front = self.entries.len() as u64;

@@ -1,8 +1,9 @@
 // The seats, each of which has seen a beginning of the journal.
 ghost use Rattle.std.specs.Prelude.{◌≡◌, ◌≤◌, ◌<◌, [], IfOk, IfSome, IfNone, IsTrue, IsFalse};
 ghost use Rattle.tn_live.specs.States.{seat_of, AreFresh};
-ghost use Rattle.tn_live.specs.Closing.{Lacks, AreHanded, IsMissing, made_in_all};
+ghost use Rattle.tn_live.specs.Closing.{Lacks, AreHanded, AreEntered, IsMissing, made_in_all};
 
+use crate::entry::Entry;
 use crate::front::{Front, Naming};
 use crate::record::Seen;
 use std::alloc::{AllocError, Allocator};
@@ -114,6 +115,18 @@ pub(crate) fn first_missing<A: Allocator, J: Naming>(
         }
     }
     None
+}
+
+/// Whether each entry is one of a seat.
+pub(crate) fn are_entered<A: Allocator, J: Naming>(seats: &[Seat<A, J>], entries: &[Entry]) -> bool
+    ensures { IsTrue result → AreEntered seats.now entries.now }
+{
+    for entry in entries {
+        if !has_seat(seats, entry.seat) {
+            return false;
+        }
+    }
+    true
 }
 
 /// How many entries the seats made; None for more than a `u64` counts.

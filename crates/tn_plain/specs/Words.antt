@@ -1,15 +1,15 @@
 -- What the words of the command line ask for (own).
 use Rattle.std.specs.Prelude.{◌≡◌, ◌≤◌, ℕ, ◌⊎◌, List, [], ◌∷◌, codes}
-use Rattle.std.specs.Str.Parse.{IsNumeral, digits_value, without_leading_plus}
+use Rattle.std.specs.Str.Parse.{IsNumeral, digits_value}
 use Rattle.tn_run.specs.Out.{Asked, by_picks, by_round}
 
--- the number that a word's decimal digits write, after one `+` or none
+-- the number that a word's decimal digits write
 abbrev pub number_of : List ℕ → ℕ
-number_of word = digits_value 10 (without_leading_plus word)
+number_of word = digits_value 10 word
 
--- the word is a number from 1 to 65536
+-- the word is decimal digits, and their number is from 1 to 65536
 pub record IsLimit (word : List ℕ) : Type 0 where
-  pub numeral : IsNumeral 10 (without_leading_plus word)
+  pub numeral : IsNumeral 10 word
   pub least : 1 ≤ number_of word
   pub most : number_of word ≤ 65536
 

@@ -13,7 +13,7 @@ ghost use Rattle.tn_plain.specs.Words.{IsLimit, number_of, AsksFor, AsksNothing}
 
 use std::process::ExitCode;
 use std::rt::{Env, Files};
-use tn_command::{REFUSED, Source, arguments, perform};
+use tn_command::{REFUSED, Source, arguments, perform, plain_number};
 use tn_run::Schedule;
 use tn_trace::JOURNAL;
 
@@ -27,8 +27,8 @@ const MOST: u32 = JOURNAL as u32;
 fn limit(word: &str) -> Option<u32>
     ensures { SomeIff result (IsLimit word.now) (number_of word.now) }
 {
-    match word.parse::<u32>() {
-        Ok(limit) if limit >= 1 && limit <= MOST => Some(limit),
+    match plain_number(word) {
+        Some(limit) if limit >= 1 && limit <= MOST => Some(limit),
         _ => None,
     }
 }

@@ -348,16 +348,16 @@ module _ (T : RattleType) (g : Ghosts T.Denot) (s : IsSend T) (f : Frees g g.dea
 
   module _ (J : RattleType) (n : naming.Ghosts J.Denot) (js : IsSend J) where
     record_send : IsSend (record_.the_row T J g n)
-    record_send = search (sendable, crosses, core_send, core_field_send, head_sent.the_send, front_sent.the_send, place_sent.the_send, place_sent.the_field_send, entry_sent.the_send, entry_sent.the_field_send) depth 40 fits 3000 parts 0
+    record_send = search (sendable, crosses, core_send, core_field_send, front_sent.the_send, place_sent.the_send, place_sent.the_field_send, entry_sent.the_send, entry_sent.the_field_send) depth 40 fits 3000 parts 0
 
     record_field_send : IsSend (record_.the_field T J g n).row
-    record_field_send = search (sendable, crosses, core_send, core_field_send, head_sent.the_send, front_sent.the_send, place_sent.the_send, place_sent.the_field_send, entry_sent.the_send, entry_sent.the_field_send, record_send) depth 40 fits 3000 parts 0
+    record_field_send = search (sendable, crosses, core_send, core_field_send, front_sent.the_send, place_sent.the_send, place_sent.the_field_send, entry_sent.the_send, entry_sent.the_field_send, record_send) depth 40 fits 3000 parts 0
 
     book_send : IsSend (book.the_row T J g n)
-    book_send = search (sendable, crosses, record_send, record_field_send) depth 40 fits 3000 parts 0
+    book_send = search (sendable, crosses, head_sent.the_send, record_send, record_field_send) depth 40 fits 3000 parts 0
 
     book_field_send : IsSend (book.the_field T J g n).row
-    book_field_send = search (sendable, crosses, record_send, record_field_send, book_send) depth 40 fits 3000 parts 0
+    book_field_send = search (sendable, crosses, head_sent.the_send, record_send, record_field_send, book_send) depth 40 fits 3000 parts 0
 
     seen_send : IsSend (seen.the_row T J g n)
     seen_send = search (sendable, crosses, front_sent.the_send, entry_sent.the_send, entry_sent.the_field_send) depth 40 fits 3000 parts 0

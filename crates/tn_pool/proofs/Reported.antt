@@ -1,13 +1,51 @@
 -- What workers did, as a report.
-use Rattle.std.proofs.Common.{◌≡◌, ℕ, zero, suc, ◌*◌, ◌≤◌, List, [], ◌∷◌, ◌++◌, length, take, drop, vec_len, slice_index_or, sym, refl, ap, ◌∙◌, subst, arith, append_assoc}
+use Rattle.std.proofs.Common.{◌≡◌, ◌≢◌, ℕ, zero, suc, ◌+◌, ◌*◌, ◌≤◌, List, [], ◌∷◌, ◌++◌, length, take, drop, vec_len, slice_index_or, All, Option, Some, None, IfSome, IsSome, is_some, sym, refl, ap, ap₂, ◌∙◌, subst, arith, append_assoc, length-append}
+use Rattle.std.specs.Option.{option_to_list}
 use Rattle.std.proofs.lemmas.List.{append-nil, take_all, map-append}
 use Rattle.std.proofs.lemmas.List.Elements.{All-append}
 use Rattle.def_script.specs.Program.{Program}
 use Rattle.tn_live.specs.declared.entry.Receipt.{Receipt}
 use Rattle.tn_live.specs.States.{SeatState}
+use Rattle.tn_pool.specs.declared.report.PoolFault.{PoolFault}
+use Rattle.tn_pool.specs.declared.report.Report.{Report}
+use Rattle.tn_pool.specs.declared.worker.Worker.{Worker}
 use Rattle.tn_pool.specs.Earnings.{Works, WorksFew}
-use Rattle.tn_pool.specs.Reports.{Member, seats_of, receipts_of, count_of, IsNew, AreNew, WorksAt, EachWorks, Reports}
+use Rattle.tn_pool.specs.Endings.{IsNoFullJournal, IsReady, IsAccounted, first_fault}
+use Rattle.tn_pool.specs.Reports.{Member, seats_of, receipts_of, tokens_of, fault_of, count_of, IsNew, AreNew, HasWorked, WorksAt, EachWorks, IsNothingDone, Reports, TellsEndings}
 use Rattle.tn_pool.proofs.Earned.{works-still}
+use Rattle.tn_pool.proofs.Ended.{first_of_three, some_first, some_later, both_real}
+
+-- ---- ends that hold nothing
+
+all-front : {X : Type 0} (P : X → Type 0) (xs ys : List X) → All P (xs ++ ys) → All P xs
+all-front P [] ys h k d lt = absurd (omega arith)
+all-front P (x ∷ xs) ys h zero d lt = h zero d (omega arith)
+all-front P (x ∷ xs) ys h (suc k) d lt = all-front P xs ys (λ j e less. h (suc j) e (omega arith)) k d (omega arith)
+
+all-last : {X : Type 0} (P : X → Type 0) (xs : List X) (x : X) → All P (xs ++ x ∷ []) → P x
+all-last P [] x h = h zero x (omega arith)
+all-last P (y ∷ xs) x h = all-last P xs x (λ j e less. h (suc j) e (omega arith))
+
+-- one end is taken from behind
+pub unused_still : (old new : List (List ℕ)) (end : List ℕ) → old ≡ new ++ end ∷ [] → All (λ view. view ≡ []) old → All (λ view. view ≡ []) new
+unused_still old new end e h = all-front (λ view. view ≡ []) new (end ∷ []) (subst (λ views. All (λ view. view ≡ []) views) e h)
+
+pub unused_last : (old new : List (List ℕ)) (end : List ℕ) → old ≡ new ++ end ∷ [] → All (λ view. view ≡ []) old → end ≡ []
+unused_last old new end e h = all-last (λ view. view ≡ []) new end (subst (λ views. All (λ view. view ≡ []) views) e h)
+
+-- ---- one more token, one more fault
+
+one-more : (k : Option ℕ) (xs : List ℕ) (n : ℕ) → length xs ≤ n → length (option_to_list k ++ xs) ≤ n + 1
+one-more None xs n h = omega arith
+one-more (Some x) xs n h = omega arith
+
+faulted-more : (k : Option ℕ) (xs : List ℕ) (a b : Option PoolFault) → (IsSome k → IsSome a) → (xs ≢ [] → IsSome b) → option_to_list k ++ xs ≢ [] → IsSome (first_fault a b)
+faulted-more None xs a b f g has = some_later a b (g has)
+faulted-more (Some x) xs a b f g has = some_first a b (f refl)
+
+first-none : (a : Option PoolFault) → first_fault a None ≡ a
+first-none None = refl
+first-none (Some fault) = refl
 
 module _ {A J : Type 0} where
   pub receipts-append : (ms ns : List (Member A J)) → receipts_of (ms ++ ns) ≡ receipts_of ms ++ receipts_of ns
@@ -37,11 +75,40 @@ module _ {A J : Type 0} where
   reports p most [] (n ∷ ns) new l each = absurd (omega (arith, l))
   reports p most (m ∷ ms) [] new l each = absurd (omega (arith, l))
   reports p most (m ∷ ms) (n ∷ ns) new l each =
-      let first = earned-all p most m n (new 0 m (omega arith)) (each 0 m (omega arith)) in
+      let first = earned-all p most m n (new 0 m (omega arith)) (each 0 m (omega arith)).works in
       let others = reports p most ms ns (λ k d lt. new (suc k) d (omega arith)) (omega (arith, l)) (λ i d lt. each (suc i) d (omega arith)) in (
         (n.1.seat, seats_of ns, n.1.receipts.items, receipts_of ns, refl, refl, first.0, others.0),
         omega (arith, first.1, others.1),
       )
+
+  -- a worker that has just its end
+  pub ready_at : (held : List ℕ) (w : Worker A J) → held ≡ [] → IsReady [] w → IsReady held w
+  ready_at held w none r = record { holds_none = none; keeps_none = r.keeps_none; unfailed = r.unfailed }
+
+  -- ---- tokens and faults
+
+  receipts_length : (ms : List (Member A J)) → length (receipts_of ms) ≡ count_of ms
+  receipts_length [] = refl
+  receipts_length (m ∷ ms) = length-append m.1.receipts.items (receipts_of ms) ∙ ap₂ (λ x y. x + y) (sym m.1.receipts.ok.0) (receipts_length ms)
+
+  -- what is told of the tokens and the fault of these workers
+  abbrev AreTold : List (Member A J) → Type 0
+  AreTold ms = (length (tokens_of ms) ≤ length ms) × (tokens_of ms ≢ [] → IsSome (fault_of ms)) × IfSome (fault_of ms) IsNoFullJournal
+
+  told_more : (m : Member A J) (ms : List (Member A J)) → IsAccounted m.0 m.1 → AreTold ms → AreTold (m ∷ ms)
+  told_more m ms first others = (
+    omega (arith, one-more m.1.kept (tokens_of ms) (length ms) others.0),
+    faulted-more m.1.kept (tokens_of ms) m.1.fault (fault_of ms) first.faulted others.1,
+    both_real m.1.fault (fault_of ms) first.real others.2,
+  )
+
+  ends_told : (p : Program) (most : ℕ) (ms ns : List (Member A J)) → AreNew ms → length ns ≡ length ms → EachWorks p most ms ns → AreTold ns
+  ends_told p most [] [] new l each = (omega arith, λ has. absurd (has refl), tt)
+  ends_told p most [] (n ∷ ns) new l each = absurd (omega (arith, l))
+  ends_told p most (m ∷ ms) [] new l each = absurd (omega (arith, l))
+  ends_told p most (m ∷ ms) (n ∷ ns) new l each =
+      told_more n ns ((each 0 m (omega arith)).accounted (new 0 m (omega arith)).2)
+      (ends_told p most ms ns (λ k d lt. new (suc k) d (omega arith)) (omega (arith, l)) (λ i d lt. each (suc i) d (omega arith)))
 
   -- one more worker is in the report
   pub seats_on : (old new : List SeatState) (m : Member A J) (rest rest1 : List (Member A J)) (all : List SeatState) → old ++ seats_of rest ≡ all → rest ≡ m ∷ rest1 → new ≡ old ++ m.1.seat ∷ [] → new ++ seats_of rest1 ≡ all
@@ -54,6 +121,25 @@ module _ {A J : Type 0} where
 
   pub seats_all : (old all : List SeatState) (rest : List (Member A J)) → rest ≡ [] → old ++ seats_of rest ≡ all → old ≡ all
   seats_all old all rest e was = sym (append-nil old) ∙ (ap (λ l. old ++ seats_of l) (sym e) ∙ was)
+
+  pub tokens_on : (old new : List ℕ) (m : Member A J) (rest rest1 : List (Member A J)) (all : List ℕ) → old ++ tokens_of rest ≡ all → rest ≡ m ∷ rest1 → new ≡ old ++ option_to_list m.1.kept → new ++ tokens_of rest1 ≡ all
+  tokens_on old new m rest rest1 all was e adds =
+      ap (λ l. l ++ tokens_of rest1) adds ∙ (append_assoc old (option_to_list m.1.kept) (tokens_of rest1) ∙ (ap (λ l. old ++ tokens_of l) (sym e) ∙ was))
+
+  pub tokens_all : (old all : List ℕ) (rest : List (Member A J)) → rest ≡ [] → old ++ tokens_of rest ≡ all → old ≡ all
+  tokens_all old all rest e was = sym (append-nil old) ∙ (ap (λ l. old ++ tokens_of l) (sym e) ∙ was)
+
+  pub fault_on : (old new : Option PoolFault) (m : Member A J) (rest rest1 : List (Member A J)) (all : Option PoolFault) → first_fault old (fault_of rest) ≡ all → rest ≡ m ∷ rest1 → new ≡ first_fault old m.1.fault
+      → first_fault new (fault_of rest1) ≡ all
+  fault_on old new m rest rest1 all was e adds =
+      ap (λ f. first_fault f (fault_of rest1)) adds ∙ (first_of_three old m.1.fault (fault_of rest1) ∙ (ap (λ l. first_fault old (fault_of l)) (sym e) ∙ was))
+
+  pub fault_all : (old all : Option PoolFault) (rest : List (Member A J)) → rest ≡ [] → first_fault old (fault_of rest) ≡ all → old ≡ all
+  fault_all old all rest e was = sym (first-none old) ∙ (ap (λ l. first_fault old (fault_of l)) (sym e) ∙ was)
+
+  -- the report of no worker has none
+  pub none_yet : (fault : Option PoolFault) (all : List (Member A J)) → fault ≡ None → first_fault fault (fault_of all) ≡ fault_of all
+  none_yet fault all e = ap (λ f. first_fault f (fault_of all)) e
 
   pub receipts_all : (old all : List (Receipt A)) (rest : List (Member A J)) → rest ≡ [] → old ++ receipts_of rest ≡ all → old ≡ all
   receipts_all old all rest e was = sym (append-nil old) ∙ (ap (λ l. old ++ receipts_of l) (sym e) ∙ was)
@@ -100,5 +186,34 @@ module _ {A J : Type 0} where
       let few : count_of vs ≤ n * most = subst (λ y. count_of vs ≤ y * most) k (reports p most ws vs new' l each).1 in
       rw q few
 
-  pub at_place : (p : Program) (most : ℕ) (old new : List (Member A J)) (i : ℕ) (d x y : Member A J) → x ≡ slice_index_or old i d → y ≡ slice_index_or new i d → WorksFew p most x.1 y.1 → WorksAt p most old new i d
-  at_place p most old new i d x y e f w = subst (λ v. WorksFew p most (slice_index_or old i d).1 v.1) f (subst (λ v. WorksFew p most v.1 y.1) e w)
+  -- and what is told of tokens and faults
+  pub run_endings : (p : Program) (most n : ℕ) (ws0 ws vs : List (Member A J)) (seats : ℕ) (r : Report A J) → AreNew ws0 → ws ≡ ws0 → length vs ≡ length ws → EachWorks p most ws vs → n ≡ length ws0 → n ≡ seats
+      → r.receipts.items ≡ receipts_of (take n (vs ++ drop (length vs) ws0)) → r.tokens.items ≡ tokens_of (take n (vs ++ drop (length vs) ws0)) → r.fault ≡ fault_of (take n (vs ++ drop (length vs) ws0))
+      → TellsEndings seats most r
+  run_endings p most n ws0 ws vs seats r new e l each m s rs ts f =
+      let new' = subst (λ y. AreNew y) (sym e) new in
+      let l' : length vs ≡ length ws0 = l ∙ ap (λ y. length y) e in
+      let q = whole n vs ws0 l' m in
+      let size : length vs ≡ seats = l' ∙ sym m ∙ s in
+      let told = ends_told p most ws vs new' l each in
+      let kept : r.tokens.items ≡ tokens_of vs = ts ∙ ap (λ y. tokens_of y) q in
+      let fault : r.fault ≡ fault_of vs = f ∙ ap (λ y. fault_of y) q in
+      let receipts : length r.receipts.items ≡ count_of (take n (vs ++ drop (length vs) ws0)) = ap length rs ∙ receipts_length (take n (vs ++ drop (length vs) ws0)) in
+      record {
+        few = omega (arith, receipts, run_count p most n ws0 ws vs new e l each m, ap (λ y. y * most) s);
+        tokens = omega (arith, ap length kept, told.0, size);
+        faulted = λ has. subst (λ o. IsSome o) (sym fault) (told.1 (λ none. has (kept ∙ none)));
+        real = subst (λ o. IfSome o IsNoFullJournal) (sym fault) told.2;
+      }
+
+  pub at_place : (p : Program) (most : ℕ) (old new : List (Member A J)) (i : ℕ) (d x y : Member A J) → x ≡ slice_index_or old i d → y ≡ slice_index_or new i d → HasWorked p most x y → WorksAt p most old new i d
+  at_place p most old new i d x y e f w = subst (λ v. HasWorked p most (slice_index_or old i d) v) f (subst (λ v. HasWorked p most v y) e w)
+
+-- where no turn was taken
+pub nothing_ends : {A J : Type 0} (seats most : ℕ) (r : Report A J) → IsNothingDone r → TellsEndings seats most r
+nothing_ends seats most r h = record {
+  few = omega (arith, ap length h.receipts);
+  tokens = omega (arith, ap length h.tokens);
+  faulted = λ has. ap is_some h.refused;
+  real = subst (λ o. IfSome o IsNoFullJournal) (sym h.refused) tt;
+}

@@ -1,12 +1,16 @@
 -- What many workers do, and what is reported of it.
 -- Stands on what one worker earns.
-use Rattle.std.specs.Prelude.{◌≡◌, ◌+◌, ◌≤◌, ◌<◌, ℕ, List, [], ◌∷◌, ◌++◌, length, map, slice_index_or, vec_len, vec_capacity, All}
+use Rattle.std.specs.Prelude.{◌≡◌, ◌≢◌, ◌+◌, ◌*◌, ◌≤◌, ◌<◌, ℕ, List, [], ◌∷◌, ◌++◌, length, map, slice_index_or, vec_len, vec_capacity, All, Option, Some, None, IfSome, IsSome}
+use Rattle.std.specs.Option.{option_to_list}
 use Rattle.def_script.specs.Program.{Program}
 use Rattle.tn_live.specs.declared.entry.Receipt.{Receipt}
 use Rattle.tn_live.specs.States.{SeatState}
 use Rattle.tn_pool.specs.declared.worker.Worker.{Worker}
 use Rattle.tn_pool.specs.declared.report.Report.{Report}
+use Rattle.tn_pool.specs.declared.report.PoolFault.{PoolFault}
+use Rattle.tn_pool.specs.declared.report.PoolFault.TheVariants.{Memory}
 use Rattle.tn_pool.specs.Earnings.{Works, WorksFew}
+use Rattle.tn_pool.specs.Endings.{IsReady, IsAccounted, IsNoFullJournal, first_fault}
 
 -- a worker with its end of the run queue, which is seen as a view
 abbrev pub Member : Type 0 → Type 0 → Type 0
@@ -25,25 +29,48 @@ abbrev pub count_of : {A J : Type 0} → List (Member A J) → ℕ
 count_of [] = 0
 count_of (m ∷ ms) = vec_len m.1.receipts + count_of ms
 
--- a worker that has no receipt yet
+-- the tokens that workers keep, by the order of the workers
+abbrev pub tokens_of : {A J : Type 0} → List (Member A J) → List ℕ
+tokens_of [] = []
+tokens_of (m ∷ ms) = option_to_list m.1.kept ++ tokens_of ms
+
+-- the fault of the first worker that has one
+abbrev pub fault_of : {A J : Type 0} → List (Member A J) → Option PoolFault
+fault_of [] = None
+fault_of (m ∷ ms) = first_fault m.1.fault (fault_of ms)
+
+-- a worker that has no receipt yet, and no fault and no token
 abbrev pub IsNew : {A J : Type 0} → Member A J → Type 0
-IsNew m = (m.1.receipts.items ≡ []) × (vec_len m.1.receipts ≡ 0)
+IsNew m = (m.1.receipts.items ≡ []) × (vec_len m.1.receipts ≡ 0) × IsReady m.0 m.1
 
 abbrev pub AreNew : {A J : Type 0} → List (Member A J) → Type 0
 AreNew members = All IsNew members
 
+-- the worker has worked, and its end holds at most the token that it keeps
+pub record HasWorked {A J : Type 0} (p : Program) (most : ℕ) (old new : Member A J) : Type 0 where
+  pub works : WorksFew p most old.1 new.1
+  pub accounted : IsReady old.0 old.1 → IsAccounted new.0 new.1
+
 -- the worker at this place has worked
 abbrev pub WorksAt : {A J : Type 0} → Program → ℕ → List (Member A J) → List (Member A J) → ℕ → Member A J → Type 0
-WorksAt p most old new i d = WorksFew p most (slice_index_or old i d).1 (slice_index_or new i d).1
+WorksAt p most old new i d = HasWorked p most (slice_index_or old i d) (slice_index_or new i d)
 
 -- each worker has worked
 abbrev pub EachWorks : {A J : Type 0} → Program → ℕ → List (Member A J) → List (Member A J) → Type 0
 EachWorks {A} {J} p most old new = (i : ℕ) (d : Member A J) → i < length old → WorksAt p most old new i d
 
--- the report has no seat and no receipt yet
+-- the report has no seat, no receipt, no token and no fault yet
 pub record IsEmptyReport {A J : Type 0} (r : Report A J) : Type 0 where
   pub seats : r.seats.items ≡ []
   pub receipts : r.receipts.items ≡ []
+  pub tokens : r.tokens.items ≡ []
+  pub unfailed : r.fault ≡ None
+
+-- no turn was taken, since memory was refused
+pub record IsNothingDone {A J : Type 0} (r : Report A J) : Type 0 where
+  pub receipts : r.receipts.items ≡ []
+  pub tokens : r.tokens.items ≡ []
+  pub refused : r.fault ≡ Some Memory
 
 -- it has room for so many more seats and tokens, and so many more receipts
 pub record HasRoom {A J : Type 0} (workers earned : ℕ) (r : Report A J) : Type 0 where
@@ -51,10 +78,12 @@ pub record HasRoom {A J : Type 0} (workers earned : ℕ) (r : Report A J) : Type
   pub receipts : vec_len r.receipts + earned ≤ vec_capacity r.receipts
   pub tokens : vec_len r.tokens + workers ≤ vec_capacity r.tokens
 
--- the report has the worker's seat and receipts too, in the room that there was
+-- the report has the worker's seat, receipts and token too, in the room that there was, and its fault where it had none
 pub record Adds {A J : Type 0} (w : Worker A J) (old new : Report A J) : Type 0 where
   pub seats : new.seats.items ≡ old.seats.items ++ w.seat ∷ []
   pub receipts : new.receipts.items ≡ old.receipts.items ++ w.receipts.items
+  pub tokens : new.tokens.items ≡ old.tokens.items ++ option_to_list w.kept
+  pub fault : new.fault ≡ first_fault old.fault w.fault
   pub seats_room : (vec_len new.seats ≡ vec_len old.seats + 1) × (vec_capacity new.seats ≡ vec_capacity old.seats)
   pub receipts_room : (vec_len new.receipts ≡ vec_len old.receipts + vec_len w.receipts) × (vec_capacity old.receipts ≤ vec_capacity new.receipts)
   pub tokens_room : (vec_len new.tokens ≤ vec_len old.tokens + 1) × (vec_capacity new.tokens ≡ vec_capacity old.tokens)
@@ -65,3 +94,10 @@ Reports p [] back receipts = (back ≡ []) × (receipts ≡ [])
 Reports {A} p (s ∷ seats) back receipts =
     (t : SeatState) × (more : List SeatState) × (earned : List (Receipt A)) × (rest : List (Receipt A)) × (back ≡ t ∷ more) × (receipts ≡ earned ++ rest)
     × Works p s t earned × Reports p seats more rest
+
+-- there are at most so many receipts for each seat, and one token for each; where there is a token there is a fault, and no fault is a full journal
+pub record TellsEndings {A J : Type 0} (seats turns : ℕ) (r : Report A J) : Type 0 where
+  pub few : length r.receipts.items ≤ seats * turns
+  pub tokens : length r.tokens.items ≤ seats
+  pub faulted : r.tokens.items ≢ [] → IsSome r.fault
+  pub real : IfSome r.fault IsNoFullJournal

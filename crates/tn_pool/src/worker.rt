@@ -1,6 +1,7 @@
 // One worker, and the turns that it takes.
 ghost use Rattle.std.specs.Prelude.{◌≡◌, ◌+◌, ◌<◌, ◌≤◌, [], vec_len, vec_capacity};
 ghost use Rattle.tn_pool.specs.Earnings.{Works, WorksOn, StaysSo};
+ghost use Rattle.tn_pool.specs.Endings.{ending_fault, IsReady, IsAccounted, StepsOn, GivesBack, TurnsOn};
 
 use crate::board::Board;
 use crate::gate::Gate;
@@ -35,6 +36,7 @@ pub struct Worker<A: Allocator, J: Naming> {
 pub fn new_worker<A: Allocator, J: Naming>(alloc: A, number: u32, seat: Seat<A, J>) -> Worker<A, J>
     ensures seat { result.seat ≡ seat }
     ensures receipts { (result.receipts.items ≡ []) × (vec_len result.receipts ≡ 0) }
+    ensures ready { IsReady [] result }
 {
     Worker {
         number,
@@ -42,6 +44,17 @@ pub fn new_worker<A: Allocator, J: Naming>(alloc: A, number: u32, seat: Seat<A, 
         receipts: Vec::new(alloc),
         kept: None,
         fault: None,
+    }
+}
+
+/// The fault of a worker whose step was answered this; None where the journal is full.
+fn ending_fault(fault: StepFault) -> Option<PoolFault>
+    ensures { result ≡ ending_fault fault }
+{
+    match fault {
+        StepFault::LimitReached => None,
+        StepFault::Spent => Some(PoolFault::Step(StepFault::Spent)),
+        StepFault::OutOfMemory => Some(PoolFault::Step(StepFault::OutOfMemory)),
     }
 }
 
@@ -56,6 +69,7 @@ fn step<A: Allocator + Copy, J: Naming, R: Wait, G: Gate>(
     requires room { vec_len worker.old.receipts < vec_capacity worker.old.receipts }
     ensures works { WorksOn J.program worker.old worker.new }
     ensures few { vec_len worker.new.receipts ≤ vec_len worker.old.receipts + 1 }
+    ensures ends { StepsOn result worker.old worker.new }
 {
     match shared.live.step(rt, &mut worker.seat, pick) {
         Ok(Turn::Moved(receipt)) => {
@@ -64,9 +78,8 @@ fn step<A: Allocator + Copy, J: Naming, R: Wait, G: Gate>(
             true
         }
         Ok(Turn::Idle { front: _ }) => true,
-        Err(StepFault::LimitReached) => false,
         Err(fault) => {
-            worker.fault = Some(PoolFault::Step(fault));
+            worker.fault = ending_fault(fault);
             false
         }
     }
@@ -79,7 +92,8 @@ fn give_back<A: Allocator, J: Naming, R: Wait>(
     worker: &mut Worker<A, J>,
     token: Token,
 ) -> bool
-    ensures { StaysSo worker.old worker.new }
+    ensures same { StaysSo worker.old worker.new }
+    ensures gives { GivesBack result token end.old worker.old end.new worker.new }
 {
     let Err(token) = end.give_turn(rt, token) else {
         return true;
@@ -100,6 +114,7 @@ fn turn<A: Allocator + Copy, J: Naming, R: Wait, G: Gate>(
 ) -> bool
     ensures works { WorksOn J.program worker.old worker.new }
     ensures few { vec_len worker.new.receipts ≤ vec_len worker.old.receipts + 1 }
+    ensures ends { IsReady end.old worker.old → TurnsOn result end.new worker.new }
 {
     if worker.receipts.reserve(1).is_err() {
         worker.fault = Some(PoolFault::Memory);
@@ -111,8 +126,10 @@ fn turn<A: Allocator + Copy, J: Naming, R: Wait, G: Gate>(
     shared.gate.before_turn(worker.number);
     let goes_on = step(rt, shared, worker, token.pick());
     shared.gate.after_turn(worker.number);
-    let is_given = give_back(rt, end, worker, token);
-    goes_on && is_given
+    if !give_back(rt, end, worker, token) {
+        return false;
+    }
+    goes_on
 }
 
 /// Takes at most so many turns.
@@ -125,6 +142,7 @@ pub fn work<A: Allocator + Copy, J: Naming, R: Wait, G: Gate>(
 )
     ensures works { WorksOn J.program worker.old worker.new }
     ensures few { vec_len worker.new.receipts ≤ vec_len worker.old.receipts + turns }
+    ensures accounted { IsReady end.old worker.old → IsAccounted end.new worker.new }
 {
     for _ in 0..turns {
         if !turn(rt, shared, end, worker) {

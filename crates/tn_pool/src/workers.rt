@@ -1,11 +1,13 @@
 // Workers, each in a thread of its own where one can be made.
-ghost use Rattle.std.specs.Prelude.{◌≡◌, ◌≤◌, ◌<◌, ◌*◌, ℕ, [], IfOk, length, vec_len, vec_capacity};
-ghost use Rattle.tn_pool.specs.Earnings.{WorksFew};
-ghost use Rattle.tn_pool.specs.Reports.{WorksAt, AreNew, IsEmptyReport, HasRoom, Adds, Reports, seats_of, receipts_of, count_of};
+ghost use Rattle.std.specs.Prelude.{◌≡◌, ◌+◌, ◌≤◌, ◌<◌, ◌*◌, ℕ, [], ◌++◌, IfOk, All, length, option_to_list, vec_len, vec_capacity};
+ghost use Rattle.tn_pool.specs.Endings.{first_fault};
+ghost use Rattle.tn_pool.specs.Reports.{HasWorked, WorksAt, AreNew, IsEmptyReport, HasRoom, Adds, IsNothingDone, Reports, TellsEndings};
+ghost use Rattle.tn_pool.specs.Reports.{seats_of, receipts_of, tokens_of, fault_of, count_of};
 
 use crate::board::Board;
 use crate::gate::Gate;
 use crate::report::{PoolFault, Report};
+use crate::token::Token;
 use crate::turns::{RunQueue, TurnEnd};
 use crate::worker::{Shared, Worker, new_worker, work};
 use std::alloc::{AllocError, Allocator, Global};
@@ -36,7 +38,7 @@ fn run_all<J: Naming + Send + Sync, R: Threads + Wait + Sync, G: Gate>(
         members,
         threads,
         &|_i: usize, member: &mut (TurnEnd<'_, Global>, Worker<Global, J>)|
-            ensures { WorksFew J.program turns member.entry.now.1 member.exit.now.1 }
+            ensures { HasWorked J.program turns member.entry.now member.exit.now }
         {
             let shared = Shared { live, board, gate };
             work(rt, &shared, turns, &mut member.0, &mut member.1)
@@ -52,6 +54,7 @@ fn pack<'a, A: Allocator + Copy, J: Naming>(
     members: &mut Vec<(TurnEnd<'a, A>, Worker<A, J>), A>,
 )
     requires ends { vec_len seats ≤ vec_len ends }
+    requires unused { All (λ view. view ≡ []) ends.items }
     requires room { vec_len seats ≤ vec_capacity members.old }
     requires empty { (members.old.items ≡ []) × (vec_len members.old ≡ 0) }
     ensures seats { seats_of members.new.items ≡ seats.items }
@@ -69,6 +72,28 @@ fn pack<'a, A: Allocator + Copy, J: Naming>(
     }
 }
 
+/// Adds a token, if there is one, to tokens that have room for it.
+fn add_token<A: Allocator>(tokens: &mut Vec<Token, A>, kept: Option<Token>)
+    requires { vec_len tokens.old < vec_capacity tokens.old }
+    ensures items { tokens.new.items ≡ tokens.old.items ++ option_to_list kept }
+    ensures room { (vec_len tokens.new ≤ vec_len tokens.old + 1) × (vec_capacity tokens.new ≡ vec_capacity tokens.old) }
+{
+    match kept {
+        Some(token) => tokens.push_reserved(token),
+        None => {}
+    }
+}
+
+/// The first of two faults, if any.
+fn first_fault(first: Option<PoolFault>, later: Option<PoolFault>) -> Option<PoolFault>
+    ensures { result ≡ first_fault first later }
+{
+    match first {
+        Some(fault) => Some(fault),
+        None => later,
+    }
+}
+
 /// Adds what a worker has to a report that has room for it.
 fn add_worker<A: Allocator, J: Naming>(report: &mut Report<A, J>, worker: Worker<A, J>)
     requires { HasRoom 1 (vec_len worker.receipts) report.old }
@@ -83,12 +108,8 @@ fn add_worker<A: Allocator, J: Naming>(report: &mut Report<A, J>, worker: Worker
     } = worker;
     report.seats.push_reserved(seat);
     let _ = report.receipts.append(&mut earned);
-    if let Some(token) = kept {
-        report.tokens.push_reserved(token);
-    }
-    if report.fault.is_none() {
-        report.fault = fault;
-    }
+    add_token(&mut report.tokens, kept);
+    report.fault = first_fault(report.fault, fault);
 }
 
 /// Takes the workers apart, into a report that has room for what they have.
@@ -100,6 +121,8 @@ fn unpack<A: Allocator, J: Naming>(
     requires room { HasRoom (vec_len members) (count_of members.items) report.old }
     ensures seats { report.new.seats.items ≡ seats_of members.entry.items }
     ensures receipts { report.new.receipts.items ≡ receipts_of members.entry.items }
+    ensures tokens { report.new.tokens.items ≡ tokens_of members.entry.items }
+    ensures fault { report.new.fault ≡ fault_of members.entry.items }
 {
     for (_, worker) in members {
         add_worker(report, worker);
@@ -128,7 +151,8 @@ fn empty_report<A: Allocator + Copy, J: Naming>(
 
 /// The report where memory was refused before any turn was taken.
 fn refused<A: Allocator + Copy, J: Naming>(alloc: A, seats: Vec<Seat<A, J>, A>) -> Report<A, J>
-    ensures { Reports J.program seats.items result.seats.items result.receipts.items }
+    ensures reports { Reports J.program seats.items result.seats.items result.receipts.items }
+    ensures nothing { IsNothingDone result }
 {
     Report {
         seats,
@@ -149,6 +173,7 @@ fn refused<A: Allocator + Copy, J: Naming>(alloc: A, seats: Vec<Seat<A, J>, A>) 
 /// fault; and where memory is refused, for a receipt or for giving its token back. No turn is taken where
 /// memory is refused for what the workers need before they start, which is room for as many receipts as
 /// all seats may make.
+#[tactic(auto, using(crate::proofs::Reported::nothing_ends))]
 pub fn run_workers<J: Naming + Send + Sync, R: Threads + Wait + Sync, G: Gate>(
     rt: &R,
     live: &Live<Global, J>,
@@ -157,7 +182,10 @@ pub fn run_workers<J: Naming + Send + Sync, R: Threads + Wait + Sync, G: Gate>(
     gate: &G,
     turns: u32,
 ) -> Report<Global, J>
-    ensures { Reports J.program seats.items result.seats.items result.receipts.items }
+    // All seats come back, with a receipt for each entry that they made meanwhile, and no other.
+    ensures reports { Reports J.program seats.items result.seats.items result.receipts.items }
+    // How many receipts and tokens there are at most, and that a token which wasn't given back has a fault.
+    ensures endings { TellsEndings (length seats.items) turns result }
 {
     let alloc = board.allocator();
     let count = seats.len();

@@ -1,6 +1,7 @@
 -- The creations among commands, command by command.
-use Rattle.std.proofs.Common.{◌≡◌, ℕ, zero, suc, ◌+◌, ◌-◌, ◌==◌, ◌<◌, ◌≤◌, Bool, true, false, ◌&&◌, cond, List, ◌∷◌, length, get_or, drop, map, slice_get, refl, sym, ap, ◌∙◌, arith}
+use Rattle.std.proofs.Common.{◌≡◌, ℕ, zero, suc, ◌+◌, ◌-◌, ◌==◌, ◌<◌, ◌≤◌, Bool, true, false, ◌&&◌, cond, List, ◌∷◌, length, get_or, drop, map, slice_get, Some, None, refl, sym, ap, ◌∙◌, arith}
 use Rattle.std.proofs.lemmas.List.{drop_more}
+use Rattle.def_term.specs.Names.{Name}
 use Rattle.def_script.specs.Program.{Command, create, destroy, set_processes, set_function, set_send, set_receive}
 use Rattle.def_script.specs.Rules.{is_creation}
 use Rattle.def_script.specs.Script.{creation_of, creations}
@@ -47,3 +48,27 @@ passed_over (set_processes s p h g) cs n w e f = let same : n - w ≡ n = omega 
 passed_over (set_function s m p o) cs n w e f = let same : n - w ≡ n = omega arith in (omega arith, ap (slice_get (creations cs)) (sym same))
 passed_over (set_send s p) cs n w e f = let same : n - w ≡ n = omega arith in (omega arith, ap (slice_get (creations cs)) (sym same))
 passed_over (set_receive s p) cs n w e f = let same : n - w ≡ n = omega arith in (omega arith, ap (slice_get (creations cs)) (sym same))
+
+-- ---- the first command of some
+
+made_first : (c : Command) (cs : List Command) (x : Name × Name) → creation_of c ≡ Some x → creations (c ∷ cs) ≡ x ∷ creations cs
+made_first (create s t) cs x e = let same : (s, t) ≡ x = cc in ap (λ y. y ∷ creations cs) same
+made_first (destroy s) cs x e = cc
+made_first (set_processes s p h f) cs x e = cc
+made_first (set_function s m p o) cs x e = cc
+made_first (set_send s p) cs x e = cc
+made_first (set_receive s p) cs x e = cc
+
+made_none : (c : Command) (cs : List Command) → creation_of c ≡ None → creations (c ∷ cs) ≡ creations cs
+made_none (create s t) cs e = cc
+made_none (destroy s) cs e = refl
+made_none (set_processes s p h f) cs e = refl
+made_none (set_function s m p o) cs e = refl
+made_none (set_send s p) cs e = refl
+made_none (set_receive s p) cs e = refl
+
+pub first_made : {X : Type 0} (f : X → Command) (xs : List X) (x : X) (rest : List X) (y : Name × Name) → xs ≡ x ∷ rest → creation_of (f x) ≡ Some y → creations (map f xs) ≡ y ∷ creations (map f rest)
+first_made f xs x rest y is made = ap (λ zs. creations (map f zs)) is ∙ made_first (f x) (map f rest) y made
+
+pub none_made : {X : Type 0} (f : X → Command) (xs : List X) (x : X) (rest : List X) → xs ≡ x ∷ rest → creation_of (f x) ≡ None → creations (map f xs) ≡ creations (map f rest)
+none_made f xs x rest is made = ap (λ zs. creations (map f zs)) is ∙ made_none (f x) (map f rest) made

@@ -9,10 +9,10 @@ use Rattle.tn_flags.specs.Views.{command_of}
 use Rattle.tn_flags.specs.declared.command.Command.{Command}
 use Rattle.tn_script.specs.Views.{form_of}
 use Rattle.tn_script.specs.declared.form.Form.{Form}
-use Rattle.tn_program.specs.declared.sessions.NameOf.{NameOf}
-use Rattle.tn_program.specs.declared.sessions.NameOf.TheVariants.{Session, Tracer}
-use Rattle.tn_program.specs.declared.sessions.CommandRule.{CommandRule}
-use Rattle.tn_program.specs.declared.sessions.CommandRule.TheVariants.{Again, Unmade, TracerTaken}
+use Rattle.tn_program.specs.declared.session_rules.NameOf.{NameOf}
+use Rattle.tn_program.specs.declared.session_rules.NameOf.TheVariants.{Session, Tracer}
+use Rattle.tn_program.specs.declared.session_rules.CommandRule.{CommandRule}
+use Rattle.tn_program.specs.declared.session_rules.CommandRule.TheVariants.{Again, Unmade, TracerTaken}
 
 -- the commands that the forms hold
 abbrev pub commands_in : {A : Type 0} → List (Form A) → List program.Command

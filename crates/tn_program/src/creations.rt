@@ -7,8 +7,48 @@ ghost use Rattle.tn_flags.specs.Views.{command_of};
 ghost use Rattle.tn_program.specs.Bound.{lent};
 
 use std::alloc::Allocator;
+use std::marker::Model;
 use tn_flags::Command;
 use tn_term::Atom;
+
+/// The sessions that a control list creates, in its order: of each the name and the tracer. It takes no
+/// memory. Contracts see it as the names and tracers that are still to come.
+#[derive(Drop)]
+pub struct Sessions<'a, A: Allocator> {
+    commands: &'a [Command<A>],
+}
+
+impl<'a, A: Allocator> Model for Sessions<'a, A> {
+    ghost use Rattle.std.specs.Prelude.{List, map};
+    ghost use Rattle.def_term.specs.Names.{Name};
+    ghost use Rattle.def_script.specs.Script.{creations};
+    ghost use Rattle.tn_flags.specs.Views.{command_of};
+
+    ghost Value = { List (Name × Name) };
+
+    ghost view = { λ s. creations (map command_of s.commands.now) };
+}
+
+impl<'a, A: Allocator> Iterator for Sessions<'a, A> {
+    ghost use Rattle.std.specs.Iterator.{YieldsFirstBy, item_count};
+    ghost use Rattle.tn_program.specs.Bound.{lent};
+
+    type Item = (&'a Atom<A>, &'a Atom<A>);
+
+    ghost next_gives = { YieldsFirstBy lent (λ left. left) };
+
+    ghost remaining = { item_count (λ left. left) };
+
+    fn next(&mut self) -> Option<(&'a Atom<A>, &'a Atom<A>)> {
+        while let Some((command, others)) = self.commands.split_first() {
+            self.commands = others;
+            if let Some(session) = creation(command) {
+                return Some(session);
+            }
+        }
+        None
+    }
+}
 
 /// The name and the tracer of the session that the command creates, if it creates one.
 fn creation<A: Allocator>(command: &Command<A>) -> Option<(&Atom<A>, &Atom<A>)>
@@ -66,4 +106,11 @@ pub fn find_session<A: Allocator>(
         left -= weight(command);
     }
     None
+}
+
+/// The sessions that the commands create.
+pub fn sessions_of<A: Allocator>(commands: &[Command<A>]) -> Sessions<'_, A>
+    ensures { result ≡ creations (map command_of commands.now) }
+{
+    Sessions { commands }
 }

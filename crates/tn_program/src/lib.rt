@@ -13,9 +13,10 @@ mod gather;
 mod lookup;
 mod parts;
 mod rules;
-mod sessions;
+mod session_rules;
 mod variables;
 
+pub use creations::Sessions;
 pub use fault::RuleFault;
 pub use gather::program;
 pub use parts::Program;

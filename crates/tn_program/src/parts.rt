@@ -1,7 +1,7 @@
 // A program, made of forms that keep all rules.
 ghost use Rattle.std.specs.Prelude.{◌≡◌, ◌↔◌, ◌≤◌, IfOk, IsTrue, length, map, slice_get};
 
-use crate::creations::{count_sessions, find_session};
+use crate::creations::{Sessions, count_sessions, find_session, sessions_of};
 use std::alloc::{AllocError, Allocator};
 use tn_flags::Command;
 use tn_script::{
@@ -61,6 +61,13 @@ impl<A: Allocator> Program<A> {
         ensures { option_map lent result ≡ slice_get (creations (program_of self.now).commands) number }
     {
         find_session(&self.commands, number)
+    }
+
+    /// The name and the tracer of each session, in the control list's order. It takes no memory.
+    pub fn sessions(&self) -> Sessions<'_, A>
+        ensures { result ≡ creations (program_of self.now).commands }
+    {
+        sessions_of(&self.commands)
     }
 
     /// Whether both are the same program. It takes no memory.

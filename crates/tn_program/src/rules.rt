@@ -20,7 +20,7 @@ use crate::counts::{
 };
 use crate::fault::{Rule, RuleFault, fault_in};
 use crate::lookup::{is_declared, is_declared_at_all, is_internal};
-use crate::sessions::{CommandRule, any_breaks};
+use crate::session_rules::{CommandRule, any_breaks};
 use crate::variables::{has_variable, is_unbound};
 use std::alloc::{AllocError, Allocator};
 use tn_flags::Command;

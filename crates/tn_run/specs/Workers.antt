@@ -39,6 +39,10 @@ IsOfMemory fault = fault ≡ Run OutOfMemory
 abbrev pub FailsWrite : {A : Type 0} → Result A LiveFault → ℕ → Type 0
 FailsWrite result n = IsErrOf result (Run (Write n))
 
+-- this holds where a write failed, whatever the number of bytes that were taken
+abbrev pub OnFailedWrite : {A : Type 0} → Result A LiveFault → Type 0 → Type 0
+OnFailedWrite result holds = (n : ℕ) → FailsWrite result n → holds
+
 -- a refused script has no picks
 abbrev pub HasPicksWhereListed : Outcome → List ℕ → Type 0
 HasPicksWhereListed Listed picks = Unit {0}

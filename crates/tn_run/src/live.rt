@@ -9,7 +9,7 @@ ghost use Rattle.tn_run.specs.Settled.{RunsToRest, IsClosedOutput};
 ghost use Rattle.tn_run.specs.Out.{by_workers, IsRunOf, IsToldWithoutPicks};
 ghost use Rattle.tn_run.specs.Plans.{Gave, TookSome};
 ghost use Rattle.tn_run.specs.Workers.{IsOfMemory, IsOfNoEnd, IsOfNoWrite, IsWorkerCount, HasPicksWhereListed};
-ghost use Rattle.tn_run.specs.Workers.{FailsWrite, WroteByWorkers, WroteSomeByWorkers};
+ghost use Rattle.tn_run.specs.Workers.{FailsWrite, OnFailedWrite, WroteByWorkers, WroteSomeByWorkers};
 
 use crate::acceptance::{Denial, accept};
 use crate::ends::{read_text, write_output};
@@ -199,11 +199,14 @@ pub fn run_live<R: Read, W: Write, T: Threads + Wait + Sync, G: Gate>(
     ensures writer_unfailed { OnOk result (has_failed writer.new ≡ has_failed writer.old) }
     ensures flushed { OnOk result (is_flushed writer.new ≡ true) }
 
-    // A fault says which end failed; only a failed write has written anything.
+    // A fault says which end failed; only a failed write has written anything, and the reader was then read
+    // as for an output.
     ensures read { IsErrOf result (LiveFault.Run RunFault.Read) → has_failed reader.new ≡ true }
     ensures read_wrote_nothing { IsErrOf result (LiveFault.Run RunFault.Read) → writer.new ≡ writer.old }
     ensures write { (n : ℕ) → FailsWrite result n → has_failed writer.new ≡ true }
     ensures written { WroteSomeByWorkers R.remaining reader.old W.contents writer.old writer.new result }
+    ensures write_took { OnFailedWrite result (TookSome R.remaining reader.old reader.new) }
+    ensures write_unfailed { OnFailedWrite result (has_failed reader.new ≡ has_failed reader.old) }
     ensures inside { IfErr result (λ e. IsOfNoEnd e → has_failed reader.new ≡ has_failed reader.old) }
     ensures inside_wrote_nothing { IfErr result (λ e. IsOfNoEnd e → writer.new ≡ writer.old) }
 {

@@ -134,12 +134,14 @@ pub fn run<A: Allocator + Copy, R: Read, W: Write>(
     ensures writer_unfailed { OnOk result (has_failed writer.new ≡ has_failed writer.old) }
     ensures flushed { OnOk result (is_flushed writer.new ≡ true) }
 
-    // A fault says which end failed; only a failed write has written anything.
+    // A fault says which end failed; only a failed write has written anything, and the reader was then read
+    // as for an output.
     ensures read { IsErrOf result RunFault.Read → has_failed reader.new ≡ true }
     ensures read_wrote_nothing { IsErrOf result RunFault.Read → writer.new ≡ writer.old }
     ensures write { (n : ℕ) → IsErrOf result (RunFault.Write n) → has_failed writer.new ≡ true }
     ensures written { WroteSome R.remaining reader.old (asked schedule.entry) W.contents writer.old writer.new result }
     ensures write_took { OnWriteFault result (TookFor (asked schedule.entry) R.remaining reader.old reader.new) }
+    ensures write_unfailed { OnWriteFault result (has_failed reader.new ≡ has_failed reader.old) }
     ensures memory { IsErrOf result RunFault.OutOfMemory → has_failed reader.new ≡ has_failed reader.old }
     ensures memory_wrote_nothing { IsErrOf result RunFault.OutOfMemory → writer.new ≡ writer.old }
 {

@@ -26,9 +26,13 @@ abbrev pub HoldsIn : {A : Type 0} → Program → List ℕ → Option (Engine A 
 HoldsIn p picks None = ⊥
 HoldsIn p picks (Some e) = IsRun AreTerms p picks e
 
+-- the core's program, also where it is spent
+abbrev pub program_in : {A : Type 0} → Core A → Program
+program_in c = program_of c.program
+
 -- the core is that of the program and of this journal, each pick of which moved
 pub record IsCore {A : Type 0} (p : Program) (picks : List ℕ) (c : Core A) : Type 0 where
-  pub program : program_of c.program ≡ p
+  pub program : program_in c ≡ p
   pub engine : HoldsIn p picks c.engine
 
 -- the core was refused memory
@@ -65,10 +69,6 @@ abbrev pub DestroyedStay : ℕ → Type 0
 DestroyedStay pick =
     (p : Program) (picks : List ℕ) (s : Name) → IsDestroyedAfter s p picks
     → messages s p (picks ++ pick ∷ []) ≡ messages s p picks
-
--- whatever journal the core is of, this is its program
-abbrev pub IsProgramOf : {A : Type 0} → Core A → Program → Type 0
-IsProgramOf core q = (p : Program) (picks : List ℕ) → IsCore p picks core → q ≡ p
 
 -- whatever journal the core is of, this is it
 abbrev pub IsJournal : {A : Type 0} → Core A → Result (Bor (List ℕ)) StepFault → Type 0

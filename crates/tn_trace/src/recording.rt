@@ -4,7 +4,7 @@ use crate::engine::Engine;
 use crate::item::{Answer, StepFault};
 use crate::keeping::Terms;
 use std::alloc::{AllocError, Allocator};
-use tn_program::Program;
+use tn_program::{Program, Sessions};
 use tn_term::Term;
 
 /// A program, and its node, sessions, listings, replies and journal after the picks that moved. It has
@@ -19,7 +19,8 @@ impl<A: Allocator + Copy> Core<A> {
     ghost use Rattle.std.specs.Prelude.{◌≡◌, [], IfOk};
     ghost use Rattle.tn_program.specs.Views.{program_of};
     ghost use Rattle.tn_trace.specs.Cores.{IsCore, IsSpent, StepsOn, DestroyedStay, IsJournal, AreReplies};
-    ghost use Rattle.tn_trace.specs.Cores.{IsProgramOf};
+    ghost use Rattle.def_script.specs.Script.{creations};
+    ghost use Rattle.tn_trace.specs.Cores.{program_in};
     ghost use Rattle.tn_trace.specs.Cores.{IsListing, ListsByView, StruckLeave};
 
     /// The core of the program and the empty journal.
@@ -33,11 +34,19 @@ impl<A: Allocator + Copy> Core<A> {
         })
     }
 
-    /// The program.
+    /// The program, also of a core that is spent.
     pub fn program(&self) -> &Program<A>
-        ensures { IsProgramOf self.now (program_of result.now) }
+        ensures { program_of result.now ≡ program_in self.now }
     {
         &self.program
+    }
+
+    /// The name and the tracer of each session, in the control list's order, also of a core that is spent. It
+    /// takes no memory.
+    pub fn sessions(&self) -> Sessions<'_, A>
+        ensures { result ≡ creations (program_in self.now).commands }
+    {
+        self.program.sessions()
     }
 
     /// One more pick.
@@ -48,6 +57,7 @@ impl<A: Allocator + Copy> Core<A> {
     /// OutOfMemory where memory was refused: the core is spent.
     pub fn step(&mut self, pick: u32) -> Result<Answer<A>, StepFault>
         ensures step { StepsOn pick self.old self.new result }
+        ensures program { program_in self.new ≡ program_in self.old }
         ensures spent { IsSpent self.old → (result ≡ Err StepFault.Spent) × (self.new ≡ self.old) }
         ensures destroyed { DestroyedStay pick }
     {

@@ -1,4 +1,4 @@
-use Rattle.std.proofs.Common.{◌≡◌, ◌∙◌, sym}
+use Rattle.std.proofs.Common.{◌≡◌, ◌∙◌, sym, ap}
 use Rattle.tn_live.specs.States.{AreFresh, live_of}
 use Rattle.complete_runs.proofs.Both.{both_if_ok}
 use Rattle.complete_live.proofs.SameStarts.{same_fresh}
@@ -6,7 +6,9 @@ use Rattle.complete_live.proofs.live.begin.Goals as goal
 
 pub returns-clause-lives : goal.returns-clause-lives
 returns-clause-lives g c =
-    both_if_ok (λ r. r.0 ≡ live_of c.args.n) (λ r. r.0 ≡ live_of c.args.n) (λ r q. r.0 ≡ q.0) (λ r q h i. h ∙ sym i) _ _ c.begin-first.ensures.live c.begin-second.ensures.live
+    let same = ap (live_of c.args.n) c.requires.logs in
+    both_if_ok (λ r. r.0 ≡ live_of c.args.n g.J.Naming.log) (λ r. r.0 ≡ live_of c.args.n g.K.Naming.log)
+    (λ r q. r.0 ≡ q.0) (λ r q h i. h ∙ same ∙ sym i) _ _ c.begin-first.ensures.live c.begin-second.ensures.live
 
 pub returns-clause-seats : goal.returns-clause-seats
 returns-clause-seats g c =

@@ -20,13 +20,16 @@ returns-clause-written g c =
     (record { done = two.done; picks = two.picks; read = λ e. seen_as g.W.Write.contents _ _ (two.read_wrote_nothing e); inside = if_err_more (λ e. seen_as g.W.Write.contents _ _ e) c.run_live-second.result two.inside_wrote_nothing })
 
 pub returns-clause-left : goal.returns-clause-left
-returns-clause-left g c = same_live_left _ _ _ _ c.run_live-first.result c.run_live-second.result c.requires.told c.run_live-first.ensures.taken c.run_live-second.ensures.taken
+returns-clause-left g c =
+    let one = c.run_live-first.ensures in
+    let two = c.run_live-second.ensures in
+    same_live_left _ _ _ _ c.run_live-first.result c.run_live-second.result c.requires.told one.taken one.write_took two.taken two.write_took
 
 pub returns-clause-reader : goal.returns-clause-reader
 returns-clause-reader g c =
     let one = c.run_live-first.ensures in
     let two = c.run_live-second.ensures in
-    same_live_read_failed _ _ _ _ c.run_live-first.result c.run_live-second.result c.requires.failed one.reader_unfailed one.read one.inside two.reader_unfailed two.read two.inside
+    same_live_read_failed _ _ _ _ c.run_live-first.result c.run_live-second.result c.requires.failed one.reader_unfailed one.read one.write_unfailed one.inside two.reader_unfailed two.read two.write_unfailed two.inside
 
 pub returns-clause-writer : goal.returns-clause-writer
 returns-clause-writer g c =

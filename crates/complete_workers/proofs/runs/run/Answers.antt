@@ -33,7 +33,7 @@ pub returns-clause-reader : goal.returns-clause-reader
 returns-clause-reader g c =
     let one = c.run-first.ensures in
     let two = c.run-second.ensures in
-    same_run_read_failed _ _ _ _ c.run-first.result c.run-second.result c.requires.failed one.reader_unfailed one.read one.memory two.reader_unfailed two.read two.memory
+    same_run_read_failed _ _ _ _ c.run-first.result c.run-second.result c.requires.failed one.reader_unfailed one.read one.write_unfailed one.memory two.reader_unfailed two.read two.write_unfailed two.memory
 
 pub returns-clause-writer : goal.returns-clause-writer
 returns-clause-writer g c =

@@ -1,6 +1,6 @@
 use Rattle.std.proofs.Common.{refl, arith}
-use Rattle.tn_trace.specs.declared.item.StepFault.TheVariants.{LimitReached}
 use Rattle.tn_pool.proofs.Earned.{on_moved, on_idle, on_fault}
+use Rattle.tn_pool.proofs.Ended.{step_ends}
 use Rattle.tn_pool.proofs.worker.step.Goals as goal
 
 pub returns-in-Ok-Moved-clause-works : goal.returns-in-Ok-Moved-clause-works
@@ -13,10 +13,9 @@ returns-in-Ok-Idle-clause-works g c =
     let t = rw c.in-Ok-Idle.field-0-is at c.in-Ok-Idle.ensures.seat in
     on_idle _ _ _ _ _ _ t refl
 
-pub returns-in-Err-LimitReached-clause-works : goal.returns-in-Err-LimitReached-clause-works
-returns-in-Err-LimitReached-clause-works g c =
-    let t = rw c.in-Err-LimitReached.field-0-is at c.in-Err-LimitReached.ensures.seat in
-    on_fault _ _ _ _ c.args.pick LimitReached t refl
-
 pub returns-in-Err : goal.returns-in-Err
-returns-in-Err g c = record { works = on_fault _ _ _ _ c.args.pick _ c.in-Err.ensures.seat refl; few = omega arith }
+returns-in-Err g c = record {
+  works = on_fault _ _ _ _ c.args.pick _ c.in-Err.ensures.seat refl;
+  few = omega arith;
+  ends = (refl, step_ends g.row.A.Denot g.J.Naming.program c.args.worker.now.seat c.step.new.seat c.args.pick c.in-Err.fault _ c.in-Err.ensures.seat c.ending_fault-worker.ensures);
+}

@@ -1,4 +1,4 @@
-use Rattle.std.proofs.Common.{◌≡◌, ◌+◌, ◌≤◌, ◌++◌, vec_len, vec_capacity}
+use Rattle.std.proofs.Common.{◌≡◌, ◌+◌, ◌≤◌, ◌++◌, [], All, vec_len, vec_capacity}
 use Rattle.std.specs.Vec.Iter.{into_iter_items, into_iter_len}
 use Rattle.tn_pool.specs.Reports.{seats_of, AreNew}
 use Rattle.tn_pool.proofs.workers.pack.Given as goal
@@ -11,3 +11,4 @@ invariant-loop-seat g l =
     × (into_iter_len l.seat-iterator ≤ vec_len l.ends)
     × (vec_len l.fn.seats ≤ vec_capacity l.members)
     × AreNew l.members.items
+    × All (λ view. view ≡ []) l.ends.items

@@ -13,7 +13,7 @@ use Rattle.tn_pool.specs.contracts.worker.Worker as worker
 use Rattle.tn_pool.specs.contracts.turns.TurnEnd as turn_end
 use Rattle.std.proofs.Common.{rules, List, [], ◌∷◌}
 use Rattle.std.proofs.Crossing as heap
-use Rattle.tn_pool.specs.Earnings.{WorksFew}
+use Rattle.tn_pool.specs.Reports.{HasWorked}
 use Rattle.tn_pool.proofs.Reported.{at_place}
 use Rattle.tn_pool.proofs.Crossings.{live_sync, live_field_sync, board_in_heap, captured_sync, worker_send, turn_end_send, tuple_send}
 use Rattle.tn_pool.proofs.workers.run_all.Goals as goal
@@ -21,7 +21,7 @@ use Rattle.tn_pool.proofs.workers.run_all.Goals as goal
 pub returns-clause-each : goal.returns-clause-each
 returns-clause-each g c = λ i d lt.
     let k = (c.for_each_mut.ensures i d lt).1 in
-    let w : WorksFew g.J.Naming.program c.args.turns k.argument.now.1 k.after_call.now.1 = search rules in
+    let w : HasWorked g.J.Naming.program c.args.turns k.argument.now k.after_call.now = search rules in
     at_place _ _ _ _ i d _ _ k.argument_is k.left w
 
 -- a worker and its end of the run queue may cross to a thread of their own

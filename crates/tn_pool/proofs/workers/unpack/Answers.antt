@@ -1,7 +1,7 @@
 use Rattle.std.proofs.Common.{arith, ap, ◌≡◌, []}
 use Rattle.std.specs.Vec.Iter.{into_iter_items}
 use Rattle.tn_pool.specs.Reports.{count_of}
-use Rattle.tn_pool.proofs.Reported.{seats_on, receipts_on, seats_all, receipts_all, nothing_left}
+use Rattle.tn_pool.proofs.Reported.{seats_on, receipts_on, tokens_on, fault_on, seats_all, receipts_all, tokens_all, fault_all, nothing_left}
 use Rattle.tn_pool.proofs.workers.unpack.Goals as goal
 
 pub loop-worker-preserved : goal.loop-worker-preserved
@@ -16,6 +16,8 @@ loop-worker-preserved g c =
       omega (arith, i.4, st.1, a.seats_room.0, a.seats_room.1),
       omega (arith, i.5, ap count_of st.0, a.receipts_room.0, a.receipts_room.1),
       omega (arith, i.6, st.1, a.tokens_room.0, a.tokens_room.1),
+      tokens_on _ _ _ _ _ _ i.7 st.0 a.tokens,
+      fault_on _ _ _ _ _ _ i.8 st.0 a.fault,
     )
 
 pub returns-clause-seats : goal.returns-clause-seats
@@ -27,3 +29,13 @@ pub returns-clause-receipts : goal.returns-clause-receipts
 returns-clause-receipts g c =
     let e : into_iter_items c.loop-worker.worker-iterator ≡ [] = nothing_left _ (omega (arith, c.loop-worker.worker-iterator.rest.ok.0, c.in-None.ensures.steps.0)) in
     receipts_all _ _ _ e c.loop-worker.invariant.3
+
+pub returns-clause-tokens : goal.returns-clause-tokens
+returns-clause-tokens g c =
+    let e : into_iter_items c.loop-worker.worker-iterator ≡ [] = nothing_left _ (omega (arith, c.loop-worker.worker-iterator.rest.ok.0, c.in-None.ensures.steps.0)) in
+    tokens_all _ _ _ e c.loop-worker.invariant.7
+
+pub returns-clause-fault : goal.returns-clause-fault
+returns-clause-fault g c =
+    let e : into_iter_items c.loop-worker.worker-iterator ≡ [] = nothing_left _ (omega (arith, c.loop-worker.worker-iterator.rest.ok.0, c.in-None.ensures.steps.0)) in
+    fault_all _ _ _ e c.loop-worker.invariant.8

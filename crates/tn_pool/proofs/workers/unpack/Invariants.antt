@@ -1,6 +1,7 @@
 use Rattle.std.proofs.Common.{◌≡◌, ◌+◌, ◌≤◌, ◌++◌, vec_len, vec_capacity}
 use Rattle.std.specs.Vec.Iter.{into_iter_items, into_iter_len}
-use Rattle.tn_pool.specs.Reports.{seats_of, receipts_of, count_of}
+use Rattle.tn_pool.specs.Endings.{first_fault}
+use Rattle.tn_pool.specs.Reports.{seats_of, receipts_of, tokens_of, fault_of, count_of}
 use Rattle.tn_pool.proofs.workers.unpack.Given as goal
 
 abbrev pub invariant-loop-worker : goal.invariant-loop-worker
@@ -11,3 +12,5 @@ invariant-loop-worker g l =
     × (vec_len l.report.seats + into_iter_len l.worker-iterator ≤ vec_capacity l.report.seats)
     × (vec_len l.report.receipts + count_of (into_iter_items l.worker-iterator) ≤ vec_capacity l.report.receipts)
     × (vec_len l.report.tokens + into_iter_len l.worker-iterator ≤ vec_capacity l.report.tokens)
+    × (l.report.tokens.items ++ tokens_of (into_iter_items l.worker-iterator) ≡ tokens_of l.fn.members.items)
+    × (first_fault l.report.fault (fault_of (into_iter_items l.worker-iterator)) ≡ fault_of l.fn.members.items)

@@ -2,7 +2,7 @@ use Rattle.std.proofs.Common.{refl, sym, ◌∙◌}
 use Rattle.tn_flags.specs.Views.{command_of}
 use Rattle.tn_program.specs.Commands.{creates_with}
 use Rattle.tn_program.proofs.Any.{any_found, any_next, any_none}
-use Rattle.tn_program.proofs.sessions.commands_create.Goals as goal
+use Rattle.tn_program.proofs.session_rules.commands_create.Goals as goal
 
 pub loop-command-init : goal.loop-command-init
 loop-command-init g c = refl

@@ -2,7 +2,7 @@ use Rattle.std.proofs.Common.{sym, ◌∙◌}
 use Rattle.tn_program.specs.Commands.{command_breaks, commands_in}
 use Rattle.tn_flags.specs.Views.{command_of}
 use Rattle.tn_program.proofs.Any.{earlier_next}
-use Rattle.tn_program.proofs.sessions.any_breaks.Goals as goal
+use Rattle.tn_program.proofs.session_rules.any_breaks.Goals as goal
 
 pub loop-i-preserved : goal.loop-i-preserved
 loop-i-preserved g c =

@@ -5,7 +5,7 @@ use Rattle.tn_program.specs.Commands.{creates_with}
 use Rattle.tn_flags.specs.Views.{command_of}
 use Rattle.tn_script.specs.Views.{form_of}
 use Rattle.tn_program.proofs.Any.{any_flat}
-use Rattle.tn_program.proofs.sessions.is_created.Goals as goal
+use Rattle.tn_program.proofs.session_rules.is_created.Goals as goal
 
 pub returns-then-forms_create : goal.returns-then-forms_create
 returns-then-forms_create g c = c.if-forms_create.true ∙ sym (any_flat (creates_with c.args.of c.args.name.now) commands_of_form (map (form_of {A = g.row.A.Denot}) c.args.forms.now) (map (command_of {A = g.row.A.Denot}) c.args.commands.now) ∙ ap (λ b. b || list_any (creates_with c.args.of c.args.name.now) (map (command_of {A = g.row.A.Denot}) c.args.commands.now)) (sym c.forms_create.ensures ∙ c.if-forms_create.true))

@@ -3,7 +3,7 @@ use Rattle.tn_script.specs.Views.{form_of}
 use Rattle.def_script.specs.Rules.{commands_of_form}
 use Rattle.tn_program.specs.Commands.{any_creates}
 use Rattle.tn_program.proofs.Any.{any_found, any_next, any_none}
-use Rattle.tn_program.proofs.sessions.forms_create.Goals as goal
+use Rattle.tn_program.proofs.session_rules.forms_create.Goals as goal
 
 pub loop-form-init : goal.loop-form-init
 loop-form-init g c = refl

@@ -1,7 +1,7 @@
 use Rattle.std.proofs.Common.{◌∙◌, ap, not}
 use Rattle.def_script.specs.Rules.{is_created}
 use Rattle.tn_program.specs.Commands.{commands_before}
-use Rattle.tn_program.proofs.sessions.is_unmade.Goals as goal
+use Rattle.tn_program.proofs.session_rules.is_unmade.Goals as goal
 
 pub returns-in-SessionDestroy : goal.returns-in-SessionDestroy
 returns-in-SessionDestroy g c = rw c.in-SessionDestroy.is (ap not (c.is_session.ensures ∙ ap (is_created (commands_before c.args.forms.now c.args.before.now)) c.text.ensures.text))

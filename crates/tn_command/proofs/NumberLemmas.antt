@@ -1,0 +1,31 @@
+-- A text without a plus sign is read as a number by its digits alone.
+use Rattle.std.proofs.Common.{◌≡◌, ℕ, ◌<◌, ◌^◌, Bool, true, false, cond, List, [], ◌∷◌, drop, slice_index, Result, Ok, Err, refl, sym, ap, subst, arith}
+use Rattle.std.specs.Prelude.{◌==◌, OkIff, SomeIff}
+use Rattle.std.specs.Result.{result_ok}
+use Rattle.std.specs.Char.{digit_value}
+use Rattle.std.specs.Str.Parse.{IsNumeral, digits_value, without_leading_plus}
+use Rattle.std.proofs.lemmas.Bool.Decides.{Decides-eqb}
+use Rattle.tn_command.specs.Numbers.{IsPlainNumber}
+
+-- a plus sign is no digit
+plus-first : (c : ℕ) → (c == 43) ≡ true → digit_value c < 10 → ⊥
+plus-first c e digit =
+    let same : c ≡ 43 = (Decides-eqb c 43).0 e in
+    let bad : 36 < 10 = subst (λ x. digit_value x < 10) same digit in
+    absurd (omega arith)
+
+pub no_number : (text : List ℕ) → (slice_index text 0 == 43) ≡ true → IsPlainNumber text → ⊥
+no_number [] e plain = absurd (omega (arith, plain.0.0))
+no_number (c ∷ cs) e plain = plus-first c e plain.0.1.0
+
+no-plus : (text : List ℕ) → (slice_index text 0 == 43) ≡ false → without_leading_plus text ≡ text
+no-plus text e = ap (λ b. drop (cond b 1 0) text) e
+
+by-digits : {E : Type 0} (text : List ℕ) (r : Result ℕ E) → OkIff r (IsPlainNumber text) (digits_value 10 text) → SomeIff (result_ok r) (IsPlainNumber text) (digits_value 10 text)
+by-digits text (Ok n) h = h
+by-digits text (Err e) h = h
+
+pub plain : {E : Type 0} (text : List ℕ) (r : Result ℕ E) → (slice_index text 0 == 43) ≡ false
+    → OkIff r (IsNumeral 10 (without_leading_plus text) × (digits_value 10 (without_leading_plus text) < 2 ^ 32)) (digits_value 10 (without_leading_plus text))
+    → SomeIff (result_ok r) (IsPlainNumber text) (digits_value 10 text)
+plain text r e h = by-digits text r (subst (λ ds. OkIff r (IsNumeral 10 ds × (digits_value 10 ds < 2 ^ 32)) (digits_value 10 ds)) (no-plus text e) h)

@@ -1,0 +1,7 @@
+-- Numbers in the words of the command line (own).
+use Rattle.std.specs.Prelude.{ℕ, ◌<◌, ◌^◌, List}
+use Rattle.std.specs.Str.Parse.{IsNumeral, digits_value}
+
+-- decimal digits and nothing else, whose number is below 2^32
+abbrev pub IsPlainNumber : List ℕ → Type 0
+IsPlainNumber text = IsNumeral 10 text × (digits_value 10 text < 2 ^ 32)
