@@ -1,6 +1,6 @@
 -- What the words of the command line ask for (own).
 -- Stands on what `clap` found in the words: the text that each option and each word without a name has.
-use Rattle.std.specs.Prelude.{◌≡◌, ◌≢◌, ◌≤◌, ℕ, List, [], Option, Some, None, Result, Ok, MatchResult, IsSomeAnd, option_map, unwrap_or, if◌then◌else◌, codes}
+use Rattle.std.specs.Prelude.{◌≡◌, ◌≢◌, ◌≤◌, ℕ, List, [], Option, Some, None, Result, Ok, MatchResult, IsSomeAnd, ◌⊎◌, option_map, unwrap_or, if◌then◌else◌, codes}
 use Rattle.std.specs.Str.Parse.{digits_value}
 use Rattle.std.specs.Str.{bytes_eq}
 use Rattle.std.specs.Borrow.{Bor}
@@ -94,6 +94,28 @@ Asks name m (Workers script count turns) =
     (name ≡ codes "workers") × IsSourceNamed (text_of m (codes "script")) script
     × IsGiven 1 16 (text_of m (codes "n")) count × IsGiven 1 65536 (text_of m (codes "turns")) turns
 Asks name m (Spec trial) = (name ≡ codes "spec") × IsTrialOf m trial
+
+-- a number that the subcommand of this name was given isn't one, or is out of its bounds
+abbrev pub LacksNumber : List ℕ → ArgMatches → Type 0
+LacksNumber name m =
+    ((name ≡ codes "explain") × IsSomeAnd (text_of m (codes "move")) (λ text. ¬ (IsPlainNumber text)))
+    ⊎ ((name ≡ codes "round") × (¬ (IsWithin 1 65536 (text_of m (codes "limit")))))
+    ⊎ ((name ≡ codes "workers") × (¬ (IsWithin 1 16 (text_of m (codes "n")) × IsWithin 1 65536 (text_of m (codes "turns")))))
+    ⊎ ((name ≡ codes "spec") × (¬ (IsWithin 0 4294967295 (text_of m (codes "me")))))
+
+-- the subcommand that was found lacks a number
+pub record IsWithoutNumber (m : ArgMatches) : Type 0 where
+  pub name : List ℕ
+  pub given : ArgMatches
+  pub named : subcommand_name_of m ≡ Some name
+  pub found : option_map (λ p. p.1) (subcommand_rows_of m) ≡ Some (rows_of (found_of given))
+  pub lacks : LacksNumber name given
+
+-- no subcommand was found, or one of another name
+abbrev pub NamesNoCommand : ArgMatches → Type 0
+NamesNoCommand m =
+    (subcommand_name_of m ≢ Some (codes "replay")) × (subcommand_name_of m ≢ Some (codes "explain")) × (subcommand_name_of m ≢ Some (codes "round"))
+    × (subcommand_name_of m ≢ Some (codes "workers")) × (subcommand_name_of m ≢ Some (codes "spec"))
 
 -- the subcommand that was found asks for it
 pub record IsAskedBy (m : ArgMatches) (ask : Ask) : Type 0 where

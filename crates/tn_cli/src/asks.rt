@@ -1,7 +1,8 @@
 // What the command line asks for: a command, made of what was read of its words.
-ghost use Rattle.std.specs.Prelude.{◌≡◌, OkIff, IfOk, IfSome, codes};
+ghost use Rattle.std.specs.Prelude.{◌≡◌, OkIff, IfOk, IfErr, IfSome, IfNone, codes};
 ghost use Rattle.tn_cli.specs.Asks.{text_of, dialect_named, IsWithin, number_given, IsNumberOrNone};
 ghost use Rattle.tn_cli.specs.Asks.{ArePicksOf, IsSourceNamed, Asks, IsAskedBy};
+ghost use Rattle.tn_cli.specs.Asks.{LacksNumber, IsWithoutNumber, NamesNoCommand};
 
 use clap::ArgMatches;
 use tn_account::Asked;
@@ -140,7 +141,8 @@ fn replay<'a>(matches: &ArgMatches<'a>) -> Ask<'a>
 
 /// What `explain` asks for.
 fn explain<'a>(matches: &ArgMatches<'a>) -> Result<Ask<'a>, BadNumber<'a>>
-    ensures { IfOk result (Asks (codes "explain") matches.now) }
+    ensures asks { IfOk result (Asks (codes "explain") matches.now) }
+    ensures refused { IfErr result (λ e. LacksNumber (codes "explain") matches.now) }
 {
     let move_number = move_number(matches)?;
     Ok(Ask::Explain {
@@ -155,7 +157,8 @@ fn explain<'a>(matches: &ArgMatches<'a>) -> Result<Ask<'a>, BadNumber<'a>>
 
 /// What `round` asks for.
 fn round<'a>(matches: &ArgMatches<'a>) -> Result<Ask<'a>, BadNumber<'a>>
-    ensures { IfOk result (Asks (codes "round") matches.now) }
+    ensures asks { IfOk result (Asks (codes "round") matches.now) }
+    ensures refused { IfErr result (λ e. LacksNumber (codes "round") matches.now) }
 {
     let limit = number(matches, "limit", "--limit <N>", 1, 65536)?;
     Ok(Ask::Round {
@@ -166,7 +169,8 @@ fn round<'a>(matches: &ArgMatches<'a>) -> Result<Ask<'a>, BadNumber<'a>>
 
 /// What `workers` asks for.
 fn workers<'a>(matches: &ArgMatches<'a>) -> Result<Ask<'a>, BadNumber<'a>>
-    ensures { IfOk result (Asks (codes "workers") matches.now) }
+    ensures asks { IfOk result (Asks (codes "workers") matches.now) }
+    ensures refused { IfErr result (λ e. LacksNumber (codes "workers") matches.now) }
 {
     let count = number(matches, "n", "--n <N>", 1, 16)?;
     let turns = number(matches, "turns", "--turns <T>", 1, 65536)?;
@@ -179,7 +183,8 @@ fn workers<'a>(matches: &ArgMatches<'a>) -> Result<Ask<'a>, BadNumber<'a>>
 
 /// What `spec` asks for.
 fn spec<'a>(matches: &ArgMatches<'a>) -> Result<Ask<'a>, BadNumber<'a>>
-    ensures { IfOk result (Asks (codes "spec") matches.now) }
+    ensures asks { IfOk result (Asks (codes "spec") matches.now) }
+    ensures refused { IfErr result (λ e. LacksNumber (codes "spec") matches.now) }
 {
     let me = number(matches, "me", "--me <N>", 0, u32::MAX)?;
     Ok(Ask::Spec(Trial {
@@ -193,7 +198,9 @@ fn spec<'a>(matches: &ArgMatches<'a>) -> Result<Ask<'a>, BadNumber<'a>>
 
 /// What the command line asks for, by the subcommand that it names; None where it names none.
 pub fn ask_of<'a>(matches: &ArgMatches<'a>) -> Result<Option<Ask<'a>>, BadNumber<'a>>
-    ensures { IfOk result (λ o. IfSome o (IsAskedBy matches.now)) }
+    ensures asks { IfOk result (λ o. IfSome o (IsAskedBy matches.now)) }
+    ensures none { IfOk result (λ o. IfNone o (NamesNoCommand matches.now)) }
+    ensures refused { IfErr result (λ e. IsWithoutNumber matches.now) }
 {
     match matches.subcommand() {
         Some(("replay", given)) => Ok(Some(replay(given))),

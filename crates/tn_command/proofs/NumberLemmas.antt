@@ -1,5 +1,5 @@
 -- A text without a plus sign is read as a number by its digits alone.
-use Rattle.std.proofs.Common.{◌≡◌, ℕ, ◌<◌, ◌^◌, Bool, true, false, cond, List, [], ◌∷◌, drop, slice_index, Result, Ok, Err, refl, sym, ap, subst, arith}
+use Rattle.std.proofs.Common.{◌≡◌, ℕ, ◌<◌, ◌^◌, true, false, cond, List, [], ◌∷◌, drop, slice_index, Result, Ok, Err, ap, subst, arith}
 use Rattle.std.specs.Prelude.{◌==◌, OkIff, SomeIff}
 use Rattle.std.specs.Result.{result_ok}
 use Rattle.std.specs.Char.{digit_value}

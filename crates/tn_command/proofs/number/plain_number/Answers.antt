@@ -6,4 +6,4 @@ pub returns-then-has_plus : goal.returns-then-has_plus
 returns-then-has_plus c = no_number c.args.text.now (sym c.has_plus.ensures ∙ c.if-has_plus.true)
 
 pub returns : goal.returns
-returns c = rw c.ok.ensures.value (plain c.args.text.now c.parse.result (sym c.has_plus.ensures ∙ c.if-has_plus.false) c.parse.ensures.0)
+returns c = rw c.ok.ensures.value (plain c.args.text.now c.parse.result (sym c.has_plus.ensures ∙ c.if-has_plus.false) c.parse.ensures.value.0)

@@ -1,0 +1,210 @@
+"""Cases of the command line and of the start script: files, wrong words, help, builds, links and installations."""
+import os
+import pathlib
+import subprocess
+import tempfile
+
+from harness import EMPTY, PROGRAM, SEND_HI, SEND_HI_OUTPUT, SEND_HI_PICKS, START, TEXT_BYTES, TOP, check, run, wants
+from inventories import said_version
+
+
+def tries():
+    """The start script where nothing is built: which program answers, its status and what it says."""
+    kit = """#!/bin/sh
+echo "checked: none" >&2
+echo "interpreter: none" >&2
+echo "races: none" >&2
+echo "fault of the program" >&2
+echo "run=none" >&2
+while [ "$1" != -- ]; do shift; done
+shift
+echo "${PWD##*/} $*"
+exit 7
+"""
+    limits = {limit: ["round", "--limit", limit] for limit in ("1", "65536", "65537", "01", "ten")}
+    explain = ["explain", "--picks", "0", "--session", "s1", "--move", "2"]
+    words = {
+        "tn_plain": (["replay", "--picks", "0 0"], ["replay", "--picks", ""], ["round"], limits["1"], limits["65536"]),
+        "tn_cli": (["--help"], ["replay"], limits["65537"], limits["01"], limits["ten"], ["workers", "--n", "2"], explain),
+    }
+    with tempfile.TemporaryDirectory() as folder:
+        top = pathlib.Path(folder)
+        for name in words:
+            (top / "crates" / name / "src").mkdir(parents=True)
+            (top / "crates" / name / "src" / "main.rt").touch()
+        (top / "crates.txt").touch()
+        for name, text in (("tracenode", START.read_text()), ("rt", kit)):
+            (top / name).write_text(text)
+            (top / name).chmod(0o755)
+        path = dict(os.environ, PATH=f"{folder}:{os.environ['PATH']}")
+        for name, lines in words.items():
+            for line in lines:
+                ran = run(line, command=(str(top / "tracenode"),), env=path)
+                told = ran.stderr.decode().splitlines()[1:]
+                wanted = f"{name} {' '.join(line)}\n".encode()
+                good = (ran.returncode, ran.stdout, told) == (7, wanted, ["fault of the program"])
+                check(f"{line} where nothing is built", good, ran)
+        there = os.path.realpath(folder)
+        line = ["replay", "a.term", "--picks-file", "b c"]
+        ran = run(line, command=(str(top / "tracenode"),), env=path, cwd=folder)
+        wanted = f"tn_cli replay {there}/a.term --picks-file {there}/b c\n"
+        check("files where nothing is built", ran.stdout.decode() == wanted, ran)
+        line = ["explain", "--session", "s1", "a.term", "--picks-file=b", "--move", "2"]
+        ran = run(line, command=(str(top / "tracenode"),), env=path, cwd=folder)
+        wanted = f"tn_cli explain --session s1 {there}/a.term --picks-file={there}/b --move 2\n"
+        check("files of an explanation where nothing is built", ran.stdout.decode() == wanted, ran)
+        line = ["round", "--limit", "5", "/x/a.term"]
+        ran = run(line, command=(str(top / "tracenode"),), env=path, cwd=folder)
+        check("a whole path where nothing is built", ran.stdout == b"tn_cli round --limit 5 /x/a.term\n", ran)
+
+
+def files():
+    """Scripts and picks from files, and files that can't be read."""
+    with tempfile.TemporaryDirectory() as folder:
+        place = pathlib.Path(folder)
+        script, picks, ill = place / "script.term", place / "picks", place / "ill"
+        script.write_bytes(SEND_HI)
+        picks.write_text("0 0 100 100")
+        ill.write_bytes(b"0 \xff")
+        replay = ["replay", str(script), "--picks"]
+        wants("a script from a file", run([*replay, "0 0 100 100"]), 0, SEND_HI_OUTPUT)
+        wants("a script by -", run(["replay", "-", "--picks", "0 0 100 100"], SEND_HI), 0, SEND_HI_OUTPUT)
+        from_file = ["replay", str(script), "--picks-file"]
+        wants("picks from a file", run([*from_file, str(picks)]), 0, SEND_HI_OUTPUT)
+        picks.write_text("0 0 100 100\n")
+        wants("picks with a line feed", run([*from_file, str(picks)]), 0, SEND_HI_OUTPUT)
+        picks.write_text("0 0 100 100\n\n")
+        check("picks with two line feeds", run([*from_file, str(picks)]).stdout == b"refused 20 bad picks\n")
+        picks.write_text("0 0 100 100")
+        wants("picks from standard input", run([*from_file, "-"], b"0 0 100 100"), 0, SEND_HI_OUTPUT)
+        ran = run(["replay", "--picks-file", str(picks)], SEND_HI)
+        wants("picks from a file, a script from standard input", ran, 0, SEND_HI_OUTPUT)
+        bad = b"refused 20 bad picks\n"
+        check("ill-formed picks from a file", run([*from_file, str(ill)]).stdout == bad)
+        picks.write_text("0" * (TEXT_BYTES + 1))
+        check("too long picks from a file", run([*from_file, str(picks)]).stdout == bad)
+        picks.write_text(" ".join(["999"] * 262_144))
+        ran = run([*from_file, str(picks)])
+        check("picks of 1,048,575 bytes", ran.returncode == 0 and ran.stdout.endswith(b"== journal\n\n"), ran)
+        for name in (place / "absent", place, script / "below"):
+            for words in (["replay", str(name), "--picks", "0"], ["round", str(name)], [*from_file, str(name)]):
+                ran = run(words)
+                good = ran.returncode == 2 and not ran.stdout and ran.stderr.count(b"\n") == 1
+                check(f"{name.name} as a file of {words[0]}", good and str(name).encode() in ran.stderr, ran)
+        for words in (["replay", "--picks-file", "-"], ["replay", "-", "--picks-file", "-"]):
+            ran = run(words, SEND_HI)
+            check(f"both from standard input by {words}", ran.returncode == 2 and not ran.stdout and ran.stderr, ran)
+        ran = run([*replay, "0", "--picks-file", str(picks)])
+        check("picks of both kinds", ran.returncode == 2 and not ran.stdout and ran.stderr, ran)
+        ran = run([*replay, "0", "--picks", "0"])
+        check("picks twice", ran.returncode == 2 and not ran.stdout and ran.stderr, ran)
+        ran = run(["workers", str(script), "--n", "2"])
+        check("a script from a file by workers", ran.returncode == 0 and ran.stdout.startswith(b"== session s1"), ran)
+
+
+def command_lines():
+    """Help, wrong usage and wrong arguments."""
+    kit = subprocess.run(["rt", "version"], stdout=subprocess.PIPE, check=False).stdout
+    logic = b"".join(kit.partition(b"logic")[1:])
+    for word in ("--version", "-V"):
+        wants(f"version by {word}", run([word]), 0, f"tracenode {said_version()}\n".encode() + logic)
+    for word in ("--help", "-h"):
+        ran = run([word])
+        names = (b"replay", b"round", b"workers", b"explain", b"spec", b"Example:", b"Exit status:", b"A pick says")
+        good = ran.returncode == 0 and all(name in ran.stdout for name in names)
+        check(f"help by {word}", good and not ran.stderr, ran)
+    wrong = {
+        "no subcommand": [],
+        "an unknown subcommand": ["trace"],
+        "an unknown option": ["replay", "--pick", "0"],
+        "no picks": ["replay"],
+        "picks without a text": ["replay", "--picks"],
+        "a limit of 0": ["round", "--limit", "0"],
+        "a limit of 65537": ["round", "--limit", "65537"],
+        "a limit of letters": ["round", "--limit", "ten"],
+        "a limit below 0": ["round", "--limit", "-1"],
+        "workers without a number": ["workers"],
+        "no workers": ["workers", "--n", "0"],
+        "17 workers": ["workers", "--n", "17"],
+        "workers by letters": ["workers", "--n", "two"],
+        "no turns": ["workers", "--n", "2", "--turns", "0"],
+        "65537 turns": ["workers", "--n", "2", "--turns", "65537"],
+        "turns by letters": ["workers", "--n", "2", "--turns", "many"],
+    }
+    for name, words in wrong.items():
+        ran = run(words, SEND_HI)
+        check(name, ran.returncode == 2 and not ran.stdout and ran.stderr, ran)
+    ran = run([b"replay", b"--picks", b"0 \xff"], SEND_HI)
+    check("ill-formed picks", ran.returncode == 2 and ran.stdout == b"refused 20 bad picks\n", ran)
+    ran = run([b"round", b"--lim\xff"], SEND_HI)
+    check("an ill-formed option", ran.returncode == 2 and not ran.stdout and ran.stderr, ran)
+    bad_picks = b"refused 20 bad picks\n"
+    for text in ("-1", "--help", "0 00", "0  0", " 0", "4294967296", "x"):
+        wants(f"picks {text!r}", run(["replay", "--picks", text], SEND_HI), 2, bad_picks)
+    wants("the greatest pick", run(["replay", "--picks", "4294967295"]), 0, EMPTY)
+
+
+def starts():
+    """The start script, from other folders and through symbolic links."""
+    if not START.exists():
+        return
+    with tempfile.TemporaryDirectory() as folder:
+        link = pathlib.Path(folder) / "tn"
+        link.symlink_to(START)
+        again = pathlib.Path(folder) / "again"
+        again.symlink_to("tn")
+        places = dict(os.environ, CDPATH=str(TOP.parent) + ":" + folder)
+        wants("the start script", run(SEND_HI_PICKS, SEND_HI, command=(str(START),)), 0, SEND_HI_OUTPUT)
+        ran = run(SEND_HI_PICKS, SEND_HI, command=(str(link),), cwd=folder, env=places)
+        wants("through a link, from another folder", ran, 0, SEND_HI_OUTPUT)
+        ran = run(SEND_HI_PICKS, SEND_HI, command=("./again",), cwd=folder, env=places)
+        wants("through a link to a link", ran, 0, SEND_HI_OUTPUT)
+        ran = run(["replay", "--picks", ""], b"{", command=(str(link),), cwd=folder)
+        wants("a refusal's status", ran, 2, b"refused 2 token at 1\n")
+        copy = pathlib.Path(folder) / "copy"
+        copy.write_bytes(START.read_bytes())
+        copy.chmod(0o755)
+        ran = run(SEND_HI_PICKS, SEND_HI, command=(str(copy),), cwd=folder)
+        good = ran.returncode == 3 and sorted(os.listdir(folder)) == ["again", "copy", "tn"]
+        check("outside its checkout it makes nothing", good, ran)
+
+
+INSTALLED = {
+    "bin/tracenode": PROGRAM,
+    "share/man/man1/tracenode.1": TOP / "docs" / "tracenode.1",
+    "share/bash-completion/completions/tracenode": TOP / "completions" / "tracenode.bash",
+    "share/zsh/site-functions/_tracenode": TOP / "completions" / "_tracenode",
+    "share/fish/vendor_completions.d/tracenode.fish": TOP / "completions" / "tracenode.fish",
+}
+
+
+def installs():
+    """The start script's `--install`: what it copies to a folder, where it runs, and what it refuses."""
+    if not START.exists():
+        return
+    with tempfile.TemporaryDirectory() as folder:
+        root = pathlib.Path(folder) / "a b"
+        written = "".join(f"{os.path.realpath(folder)}/a b/{path}\n" for path in INSTALLED).encode()
+        for time in ("first", "again"):
+            ran = run(["--install", "a b"], command=(str(START),), cwd=folder)
+            wants(f"an installation, {time}", ran, 0, written)
+        found = {str(path.relative_to(root)) for path in root.rglob("*") if path.is_file()}
+        check("what is installed", found == set(INSTALLED), found)
+        for path, source in INSTALLED.items():
+            mode = 0o755 if path.startswith("bin/") else 0o644
+            good = (root / path).read_bytes() == source.read_bytes() and (root / path).stat().st_mode & 0o777 == mode
+            check(f"the installed {path}", good)
+        ran = run(SEND_HI_PICKS, SEND_HI, command=(str(root / "bin" / "tracenode"),), cwd="/")
+        wants("the installed program", ran, 0, SEND_HI_OUTPUT)
+        for words in (["--install"], ["--install", ""], ["--install", "a", "b"]):
+            ran = run(words, command=(str(START),), cwd=folder)
+            check(f"the words {words}", ran.returncode == 2 and not ran.stdout and ran.stderr.count(b"\n") == 1, ran)
+        bare = pathlib.Path(folder) / "bare"
+        (bare / "crates" / "tn_cli" / "src").mkdir(parents=True)
+        (bare / "crates" / "tn_cli" / "src" / "main.rt").touch()
+        (bare / "crates.txt").touch()
+        (bare / "tracenode").write_bytes(START.read_bytes())
+        (bare / "tracenode").chmod(0o755)
+        ran = run(["--install", "c"], command=(str(bare / "tracenode"),), cwd=folder)
+        is_refused = ran.returncode == 3 and not ran.stdout and b"--prove" in ran.stderr
+        check("an installation where nothing is built", is_refused and not (pathlib.Path(folder) / "c").exists(), ran)

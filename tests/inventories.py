@@ -1,0 +1,173 @@
+"""Compares the documents' inventories with the tree: crates, laws, functions, files, sizes and the version.
+
+A document names crates, functions and files in backquotes. What it names must exist where it says so, and what a table
+lists must be all that there is.
+"""
+import re
+
+from contracts import CRATES, TOP, chapter, tables
+
+DOCS = TOP / "docs"
+README = TOP / "README.md"
+DOCUMENTS = (README, TOP / "CHANGELOG.md", *sorted(DOCS.glob("*.md")))
+
+# Crates without a table of complete contracts: programs, and two whose contracts are not shown complete yet.
+WITHOUT_TABLES = {"tn_cli", "tn_plain", "tn_command", "tn_inquiry"}
+
+# What a path of a document begins with.
+FOLDERS = "bench|completions|crates|docs|examples|tests"
+
+
+def words(path):
+    """The words in backquotes of a document's prose and tables."""
+    text = re.sub(r"^    .*$", "", path.read_text(), flags=re.M)
+    return re.findall(r"`([^`\n]+)`", text)
+
+
+def crates():
+    """The names of all crates."""
+    return {path.name for path in CRATES.iterdir() if path.is_dir()}
+
+
+def first_cells(text):
+    """The words in backquotes of the first cells of a text's tables."""
+    return {word for cell in re.findall(r"^\| ([^|]*)\|", text, re.M) for word in re.findall(r"`([^`]+)`", cell)}
+
+
+def lists_of_crates():
+    """Each list of crates: the one of the build, that of the map, and the two of the promises."""
+    lines = [line for line in (TOP / "crates.txt").read_text().splitlines() if line and not line.startswith("#")]
+    listed = {line.partition(":")[0].split()[0] for line in lines}
+    yield "the crates of crates.txt", listed == crates(), listed ^ crates()
+    architecture = (DOCS / "ARCHITECTURE.md").read_text()
+    mapped = {word for word in first_cells(architecture) if re.fullmatch(r"(def|tn|complete|test|probe)_\w+", word)}
+    yield "the crates of ARCHITECTURE", mapped == crates(), mapped ^ crates()
+    defined = {name for name in crates() if name.startswith("def_")}
+    found = first_cells(chapter("## Definitions: what is proved of them"))
+    yield "the definitions of PROMISES", found == defined, found ^ defined
+    coded = {name for name in crates() if name.startswith(("tn_", "complete_"))}
+    found = first_cells(chapter("## Code: what the contracts say"))
+    yield "the code of PROMISES", found == coded, found ^ coded
+    tested = chapter("## What is tested")
+    missing = [name for name in crates() - defined - coded if name != "test_allocator" and f"`{name}`" not in tested]
+    yield "the tests of PROMISES", not missing, missing
+    complete = {name for name in coded if name.startswith("tn_")} - WITHOUT_TABLES
+    yield "the tables of complete contracts", set(tables()) == complete, set(tables()) ^ complete
+
+
+def laws():
+    """The laws that the page of laws lists, and those that the crates of definitions have."""
+    listed = set(re.findall(r"^\| `(def_\w+)` \| `(\w+)` \|", (DOCS / "LAWS.md").read_text(), re.M))
+    there = set()
+    for folder in CRATES.glob("def_*"):
+        for path in folder.rglob("src/*.rt"):
+            there |= {(folder.name, name) for name in re.findall(r"^pub fn (\w+)", path.read_text(), re.M)}
+    yield "the laws of LAWS", listed == there, listed ^ there
+
+
+def has(crate, name):
+    """Whether a crate declares a function, a type, or a word of its definitions by this name."""
+    kind, _, method = name.rpartition("::")
+    text = "\n".join(path.read_text() for part in ("src", "specs") for path in (CRATES / crate / part).rglob("*.*"))
+    patterns = [rf"\bfn {method}\b", rf"\b(?:struct|enum|trait|data|record) {method}\b", rf"\babbrev pub {method}\b"]
+    is_there = any(re.search(pattern, text) for pattern in patterns)
+    return is_there and (not kind or re.search(rf"\b(?:struct|enum|trait) {kind}\b", text) is not None)
+
+
+def promised_functions():
+    """Each function that a promise names, in the crate that it names."""
+    for row in re.findall(r"^\| [^|]+ \| ([^|]+) \| [^|]+ \|$", chapter("## Every promise"), re.M):
+        for part in row.split(";"):
+            crate, _, names = part.partition(":")
+            crate = crate.strip(" `")
+            if crate in crates() and names:
+                for name in re.findall(r"`([\w:]+)`", names):
+                    good = has(crate, name)
+                    yield f"the promise of {name} in {crate}", good, row
+
+
+def claims():
+    """Each claim of the README: its function is in the file that it names; its formulas are in the sources."""
+    text = README.read_text()
+    rows = re.findall(r"^\| [^|]+ \| `(\w+)` \| `([\w/.]+)` \|$", text, re.M)
+    yield "the claims of the README", len(rows) == 10, rows
+    for name, path in rows:
+        there = TOP / path
+        good = there.exists() and re.search(rf"\bpub fn {name}\b", there.read_text())
+        yield f"the claim of {name} in {path}", good, path
+    sources = " ".join(
+        " ".join((CRATES / path).read_text().split())
+        for path in ("tn_run/src/runs.rt", "tn_run/specs/Laws.antt", "def_run/specs/Listing.antt")
+    )
+    theorem = text.partition("\n## The theorem\n")[2].partition("\n## ")[0]
+    formulas = [" ".join(block.split()) for block in re.findall(r"(?:^    .+\n)+", theorem, re.M)]
+    yield "the formulas of the theorem", len(formulas) == 3, formulas
+    for formula in formulas:
+        yield f"the formula {formula[:60]}", formula in sources, formula
+
+
+def exists(word):
+    """Whether the files that a path of a document names exist."""
+    if "*" in word:
+        return any(TOP.glob(word.rstrip("/")))
+    return (TOP / word).exists()
+
+
+def files():
+    """Each file and folder that a document names."""
+    for document in DOCUMENTS:
+        for word in dict.fromkeys(words(document)):
+            if re.fullmatch(rf"(?:{FOLDERS})/[\w.*/+-]*", word) and "NAME" not in word:
+                yield f"{word} of {document.name}", exists(word), word
+            elif re.fullmatch(r"(?:def|tn|complete|test|probe)_\w+/[\w.*/+-]+", word) and "*" not in word:
+                yield f"{word} of {document.name}", exists(f"crates/{word}"), word
+    named = README.read_text()
+    for path in sorted(DOCS.glob("*.md")):
+        yield f"{path.name} in the README", f"docs/{path.name}" in named, path
+
+
+def glossary():
+    """Each name that the glossary says the code has."""
+    there = "\n".join(path.read_text() for part in ("src/*.rt", "specs/*.antt") for path in CRATES.glob(f"*/{part}"))
+    for row in re.findall(r"^\| [^|]+ \| [^|]+ \| ([^|]+) \| [^|]+ \|$", (DOCS / "GLOSSARY.md").read_text(), re.M):
+        for name in re.findall(r"`(\w+)`", row):
+            yield f"{name} of the glossary", re.search(rf"\b{name}\b", there), row
+
+
+def differences():
+    """Each difference that bench/node knows: its first words are those of a line of the page of differences."""
+    text = (DOCS / "DIFFERENCES.md").read_text()
+    lines = {line.rstrip(".") for line in re.findall(r"^\* \*\*(.+?)\*\*", text, re.M)}
+    source = (TOP / "bench" / "witness" / "differences.py").read_text()
+    for first in re.findall(r'^class \w+\(\w+\):\n    """([^.:"]+)', source, re.M):
+        if not first.startswith("A difference by which"):
+            yield f"the difference {first}", first in lines, first
+
+
+def sizes():
+    """The README is a front door, and the page of progress is short."""
+    text = README.read_text()
+    yield "the length of the README", text.count("\n") <= 150 and len(text.split()) <= 1200, len(text.split())
+    size = (DOCS / "PROGRESS.md").stat().st_size
+    yield "the length of PROGRESS", size < 4096, size
+
+
+def said_version():
+    """The version as the program's source says it."""
+    return re.search(r'VERSION: &str = "([\d.]+)\\n', (CRATES / "tn_cli" / "src" / "line.rt").read_text())[1]
+
+
+def version():
+    """The version is said by the program; the list of changes and the man page have the same."""
+    said = said_version()
+    changes = re.search(r"^## ([\d.]+), (\d{4}-\d\d-\d\d)$", (TOP / "CHANGELOG.md").read_text(), re.M)
+    yield "the version of the changes", changes and changes[1] == said, (said, changes)
+    title = (DOCS / "tracenode.1").read_text().partition("\n")[0]
+    yield "the version of the man page", f'"tracenode {said}"' in title, title
+
+
+def findings():
+    """Each thing to hold: its name, whether it holds, and what was seen."""
+    parts = (lists_of_crates, laws, promised_functions, claims, files, glossary, differences, sizes, version)
+    for part in parts:
+        yield from part()

@@ -1,0 +1,100 @@
+"""Cases of texts: refused scripts, long texts, prefixes of scripts, and numbers."""
+import pathlib
+import tempfile
+
+import scripts
+from explanation_cases import EXPLAIN_ALL
+from harness import EMPTY, PLAIN, ROWS, SEND_HI, SEND_HI_PICKS, TEXT_BYTES, check, run, wants
+from refusals import REFUSALS
+
+
+def refusals():
+    """Each refused script's line, from a file and from standard input, and that of refused picks."""
+    with tempfile.TemporaryDirectory() as folder:
+        script = pathlib.Path(folder) / "script.term"
+        for text, line in REFUSALS:
+            script.write_text(text)
+            for words in (["round"], ["workers", "--n", "1"]):
+                ran = run([*words, "script.term"], cwd=folder)
+                check(f"{words[0]}: {line}", ran.returncode == 2 and ran.stderr.decode() == line + "\n", ran)
+            ran = run(["replay", "--picks", "0"], text.encode())
+            wanted = line.replace("script.term:", "script:") + "\n"
+            check(f"replay: {line}", ran.returncode == 2 and ran.stderr.decode() == wanted, ran)
+        (pathlib.Path(folder) / "gr\u00fc\u00df.term").write_text("{")
+        ran = run(["round", "gr\u00fc\u00df.term"], cwd=folder)
+        check("a name that isn't ASCII", ran.stderr.decode().startswith("gr\u00fc\u00df.term:1:2: "), ran)
+    rule = b"picks: picks are numbers up to 4294967295 with one space between each two"
+    ran = run(["replay", "--picks", "0 100 07 1"], SEND_HI)
+    wants("the third pick", ran, 2, b"refused 20 bad picks\n", rule + b": pick 3, '07', has a leading zero\n")
+
+
+def long_texts():
+    """A script of 1 MiB, and one of a byte more."""
+    replay = ["replay", "--picks", ""]
+    wants("1,048,576 blanks", run(replay, b" " * TEXT_BYTES), 0, EMPTY)
+    wants("1,048,577 blanks", run(replay, b" " * (TEXT_BYTES + 1)), 2, b"refused 1 too long\n")
+
+
+def fronts():
+    """Each front of three scripts: the line of its refusal, or its output where it is whole forms."""
+    for text in (SEND_HI, *scripts.TEXTS):
+        for end in range(len(text) + 1):
+            output = scripts.output_of(text[:end])
+            status = 2 if output.startswith("refused") else 0
+            wants(f"the first {end} bytes of {text[:40]}", run(["replay", "--picks", ""], text[:end]), status, output.encode())
+
+
+def readings_of_scripts():
+    """The independent reading of scripts answers as the worked runs do."""
+    for row in sorted(ROWS.iterdir()):
+        output, answer = (row / "stdout").read_text(), scripts.output_of((row / "stdin").read_bytes())
+        if not output.startswith("refused 20"):
+            is_refused = output.startswith("refused")
+            check(f"the reading of row {row.name}", answer == output if is_refused else answer.startswith("== "), answer)
+
+
+# Options that take a number; numbers that other languages spell, and where each goes on as no number does.
+NUMBERS = (
+    ["round", "--limit"],
+    ["workers", "--n"],
+    ["workers", "--n", "1", "--turns"],
+    [*EXPLAIN_ALL, "--move"],
+    ["spec", "--list", "[]", "--me"],
+)
+SPELLINGS = {"1_000": 1, "1e3": 1, "+1": 0, "0x1": 1, "16#ff": 2, "1.0": 1}
+
+
+def spec_words(name, text):
+    """The words of a trial one of whose texts is this one."""
+    texts = {"list": "[]", "caller": "{m,f,1}", "specification": "[{'_',[],[]}]", name: text}
+    return ["spec", "--list", texts["list"], "--caller", texts["caller"], texts["specification"]]
+
+
+def numbers():
+    """Numbers as other languages spell them, in each place of a number: no option's value has a sign."""
+    for text in (*SPELLINGS, " 1", "-0"):
+        for words in NUMBERS:
+            ran = run([*words[:-1], f"{words[-1]}={text}"], SEND_HI if words[0] != "spec" else b"[{'_',[],[]}]")
+            check(f"{words[-1]} {text}", ran.returncode == 2 and not ran.stdout and ran.stderr, ran)
+    for text in SPELLINGS:
+        for words in NUMBERS[:1]:
+            ran = run([*words, text], SEND_HI, command=(str(PLAIN),))
+            check(f"{words[-1]} {text} without clap", ran.returncode == 2 and not ran.stdout and ran.stderr, ran)
+    for text in (*SPELLINGS, " 1"):
+        for picks in (text, f"0 {text}", f"{text} 0"):
+            wants(f"picks {picks}", run(["replay", "--picks", picks], SEND_HI), 2, b"refused 20 bad picks\n")
+        for pid in (f"<0.{text}.0>", f"<{text}.1.0>", f"<0.1.{text}>"):
+            wants(f"the pid {pid}", run(SEND_HI_PICKS, f"{{{pid}".encode()), 2, b"refused 2 token at 1\n")
+
+
+def numbers_in_terms():
+    """Such numbers as parts of terms: in forms, in lists, in callers and in specifications."""
+    forms = ("{function,m,f,exported,[],[{return,", "{process,m,f,[", "{control,[{session_create,")
+    texts = (("list", "["), ("caller", "{m,f,"), ("specification", "[{'_',[{'>',"))
+    for text, at in SPELLINGS.items():
+        for opening in forms:
+            line = f"refused 2 token at {len(opening) + at}\n".encode()
+            wants(f"{opening}{text}", run(SEND_HI_PICKS, f"{opening}{text}".encode()), 2, line)
+        for name, opening in texts:
+            told = f"{name}:1:{len(opening) + at + 1}: no term goes on so\n".encode()
+            wants(f"{name} {opening}{text}", run(spec_words(name, f"{opening}{text}")), 2, b"", told)
