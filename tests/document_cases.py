@@ -3,6 +3,8 @@ import re
 
 import contracts
 import inventories
+import names as source_names
+import promises as promise_tables
 from harness import TOP, check, run
 
 COMMANDS = (("replay",), ("round",), ("workers",), ("explain",), ("spec",))
@@ -26,11 +28,17 @@ def documents():
 
 def promises():
     """The contracts and the wrong bodies that docs/PROMISES.md lists, held against the crates."""
-    for name, holds, seen in contracts.findings():
+    for name, holds, seen in (*contracts.findings(), *promise_tables.findings()):
         check(name, holds, seen)
 
 
 def lists():
     """What the documents list and name, compared with the tree."""
     for name, holds, seen in inventories.findings():
+        check(name, holds, seen)
+
+
+def names():
+    """The names and shapes of the sources."""
+    for name, holds, seen in source_names.findings():
         check(name, holds, seen)

@@ -11,8 +11,8 @@ DOCS = TOP / "docs"
 README = TOP / "README.md"
 DOCUMENTS = (README, TOP / "CHANGELOG.md", *sorted(DOCS.glob("*.md")))
 
-# Crates without a table of complete contracts: programs, and two whose contracts are not shown complete yet.
-WITHOUT_TABLES = {"tn_cli", "tn_plain", "tn_command", "tn_inquiry"}
+# Crates without a table of complete contracts: programs, and one whose contracts are not shown complete yet.
+WITHOUT_TABLES = {"tn_cli", "tn_plain", "tn_command"}
 
 # What a path of a document begins with.
 FOLDERS = "bench|completions|crates|docs|examples|tests"

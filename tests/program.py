@@ -53,7 +53,7 @@ SUBJECTS = {
         command_line_cases.starts,
         command_line_cases.installs,
     ),
-    "document": (document_cases.documents, document_cases.promises, document_cases.lists),
+    "document": (document_cases.documents, document_cases.promises, document_cases.lists, document_cases.names),
     "failure": (
         failure_cases.ends,
         failure_cases.memory,

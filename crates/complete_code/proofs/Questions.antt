@@ -11,9 +11,9 @@ use Rattle.def_text.proofs.Either.{once}
 use Rattle.def_spec.specs.Outcome as outcome
 use Rattle.def_spec.specs.Reading.{spec_of}
 use Rattle.def_explain.specs.Places.{stop_of}
-use Rattle.def_explain.specs.Texts.{trial_text}
+use Rattle.def_explain.specs.Texts.{spec_test_text}
 use Rattle.tn_term.proofs.Views.{elements-of_elements}
-use Rattle.tn_text.specs.Answers.{IsRefusal}
+use Rattle.tn_text.specs.Answers.{IsTextRefusal}
 use Rattle.tn_text.specs.declared.fault.TextFault.{TextFault}
 use Rattle.tn_text.specs.declared.fault.TextFault.TheVariants as texts
 use Rattle.tn_spec.specs.Readings.{IsFaultIn, IsTooLarge, FaultAgreesWithSize}
@@ -21,16 +21,16 @@ use Rattle.tn_spec.specs.Views.{dialect_of}
 use Rattle.tn_spec.specs.declared.fault.SpecFault.{SpecFault}
 use Rattle.tn_spec.specs.declared.fault.SpecFault.TheVariants as specs
 use Rattle.tn_spec.specs.declared.func.Dialect.{Dialect}
-use Rattle.tn_trial.specs.Questions.{IsList, IsListFault, IsCallerFault, caller_is, HasCallerFault, IsSpecification, IsSpecificationFault, context_of, IsAnswer, HasList, HasCaller, IsNoAnswer}
-use Rattle.tn_trial.specs.declared.question.Question.{Question}
-use Rattle.tn_trial.specs.declared.question.QuestionFault.{QuestionFault}
-use Rattle.tn_trial.specs.declared.question.QuestionFault.TheVariants.{List as OfList, NoList, Caller, NoCaller, Text, Spec, OutOfMemory}
-use Rattle.complete_code.specs.Questions.{IsRefusedText, IsRefusedSpec, IsRefused, AreAnsweredAlike}
+use Rattle.tn_verdict.specs.SpecTestInputs.{IsList, IsListFault, IsCallerFault, caller_is, HasCallerFault, IsSpecification, IsSpecificationFault, context_of, IsAnswerTo, HasList, HasCaller, IsNoAnswer}
+use Rattle.tn_verdict.specs.declared.spec_test_input.SpecTestInput.{SpecTestInput}
+use Rattle.tn_verdict.specs.declared.spec_test_input.SpecTestFault.{SpecTestFault}
+use Rattle.tn_verdict.specs.declared.spec_test_input.SpecTestFault.TheVariants.{List as OfList, NoList, Caller, NoCaller, Text, Spec, OutOfMemory}
+use Rattle.complete_code.specs.Questions.{IsRefusedText, IsRefusedSpec, IsSpecTestRefused, AreAnsweredAlike}
 
 -- ---- texts
 
 -- a text that spells a term isn't refused
-not_refused : (bytes : List ℕ) (t : Tree) (f : TextFault) → Spells bytes t → IsRefusal bytes f → IsRefusedText f
+not_refused : (bytes : List ℕ) (t : Tree) (f : TextFault) → Spells bytes t → IsTextRefusal bytes f → IsRefusedText f
 not_refused bytes t texts.TooLong s r = absurd (omega (arith, s.short))
 not_refused bytes t (texts.Token at) s r = absurd (refused bytes t misplaced at s r)
 not_refused bytes t (texts.TooDeep at) s r = absurd (refused bytes t too_deep at s r)
@@ -38,7 +38,7 @@ not_refused bytes t (texts.TooLarge at) s r = absurd (refused bytes t too_large 
 not_refused bytes t texts.OutOfMemory s r = tt
 
 -- and one that is, is refused in one way
-one_refusal : (bytes : List ℕ) (e f : TextFault) → IsRefusal bytes e → IsRefusal bytes f → ¬ IsRefusedText e → ¬ IsRefusedText f → e ≡ f
+one_refusal : (bytes : List ℕ) (e f : TextFault) → IsTextRefusal bytes e → IsTextRefusal bytes f → ¬ IsRefusedText e → ¬ IsRefusedText f → e ≡ f
 one_refusal bytes texts.OutOfMemory f p q r s = absurd (r tt)
 one_refusal bytes e texts.OutOfMemory p q r s = absurd (s tt)
 one_refusal bytes texts.TooLong texts.TooLong p q r s = refl
@@ -88,30 +88,30 @@ one_specification bytes d s t p q =
     let again : spec_of (dialect_of d) q.0 ≡ Ok t = q.2 in
     cc
 
-one_text : (q : Question) (t u : List ℕ) → IsAnswer q t → IsAnswer q u → t ≡ u
+one_text : (q : SpecTestInput) (t u : List ℕ) → IsAnswerTo q t → IsAnswerTo q u → t ≡ u
 one_text q t u x y =
-    x.told
-    ∙ ap (λ s. trial_text s.dialect s.clauses (context_of q x.elements x.caller)) (one_specification q.spec.now q.dialect x.spec y.spec x.of_spec y.of_spec)
-    ∙ ap (λ ts. trial_text y.spec.dialect y.spec.clauses (context_of q ts x.caller)) (one_list q.list.now x.elements y.elements x.of_list y.of_list)
-    ∙ ap (λ f. trial_text y.spec.dialect y.spec.clauses (context_of q y.elements f)) (one_caller q.caller x.caller y.caller x.of_caller y.of_caller)
-    ∙ sym y.told
+    x.reported
+    ∙ ap (λ s. spec_test_text s.dialect s.clauses (context_of q x.elements x.caller)) (one_specification q.spec.now q.dialect x.spec y.spec x.of_spec y.of_spec)
+    ∙ ap (λ ts. spec_test_text y.spec.dialect y.spec.clauses (context_of q ts x.caller)) (one_list q.list.now x.elements y.elements x.of_list y.of_list)
+    ∙ ap (λ f. spec_test_text y.spec.dialect y.spec.clauses (context_of q y.elements f)) (one_caller q.caller x.caller y.caller x.of_caller y.of_caller)
+    ∙ sym y.reported
 
 -- ---- a text that is right has no fault
 
-no_list_fault : {A : Type 0} (bytes : List ℕ) (ts : List Tree) (f : QuestionFault A) → IsList bytes ts → IsListFault bytes f → IsRefused f
+no_list_fault : {A : Type 0} (bytes : List ℕ) (ts : List Tree) (f : SpecTestFault A) → IsList bytes ts → IsListFault bytes f → IsSpecTestRefused f
 no_list_fault bytes ts (OfList f) l p = not_refused bytes (list (of_elements ts)) f l p
 no_list_fault bytes ts NoList l p = absurd (p.2 (of_elements ts) (one bytes p.0 (list (of_elements ts)) p.1 l))
 no_list_fault bytes ts OutOfMemory l p = tt
 no_list_fault bytes ts _ l p = absurd p
 
-no_fault_of : {A : Type 0} (bytes : Bor (List ℕ)) (f : Option Mfa) (e : QuestionFault A) → caller_is (Some bytes) f → IsCallerFault bytes.now e → IsRefused e
+no_fault_of : {A : Type 0} (bytes : Bor (List ℕ)) (f : Option Mfa) (e : SpecTestFault A) → caller_is (Some bytes) f → IsCallerFault bytes.now e → IsSpecTestRefused e
 no_fault_of bytes None e k p = absurd k
 no_fault_of bytes (Some f) (Caller e) k p = not_refused bytes.now (mfa_term f) e k.0 p
 no_fault_of bytes (Some f) NoCaller k p = absurd (p.2 f k.1 (one bytes.now p.0 (mfa_term f) p.1 k.0))
 no_fault_of bytes (Some f) OutOfMemory k p = tt
 no_fault_of bytes (Some f) _ k p = absurd p
 
-no_caller_fault : {A : Type 0} (text : Option (Bor (List ℕ))) (f : Option Mfa) (e : QuestionFault A) → caller_is text f → HasCallerFault text e → IsRefused e
+no_caller_fault : {A : Type 0} (text : Option (Bor (List ℕ))) (f : Option Mfa) (e : SpecTestFault A) → caller_is text f → HasCallerFault text e → IsSpecTestRefused e
 no_caller_fault text f e k p = no_fault_of p.0 f e (subst (λ t. caller_is t f) p.1 k) p.2
 
 no_fault_in : {A : Type 0} (d : Dialect) (t : Tree) (s : outcome.Spec) (f : SpecFault A) → spec_of (dialect_of d) t ≡ Ok s → ¬ IsTooLarge t → IsFaultIn d t f → FaultAgreesWithSize t f → IsRefusedSpec f
@@ -120,7 +120,7 @@ no_fault_in d t s (specs.Unsupported name) read small p q = absurd (cc)
 no_fault_in d t s specs.TooLarge read small p q = absurd (small q)
 no_fault_in d t s specs.OutOfMemory read small p q = tt
 
-no_specification_fault : {A : Type 0} (bytes : List ℕ) (d : Dialect) (s : outcome.Spec) (f : QuestionFault A) → IsSpecification bytes d s → IsSpecificationFault bytes d f → IsRefused f
+no_specification_fault : {A : Type 0} (bytes : List ℕ) (d : Dialect) (s : outcome.Spec) (f : SpecTestFault A) → IsSpecification bytes d s → IsSpecificationFault bytes d f → IsSpecTestRefused f
 no_specification_fault bytes d s (Text f) k p = not_refused bytes k.0 f k.1 p
 no_specification_fault bytes d s (Spec n f) k p =
     let e : k.0 ≡ p.0 = one bytes k.0 p.0 k.1 p.1 in
@@ -130,7 +130,7 @@ no_specification_fault bytes d s _ k p = absurd p
 
 -- ---- a text has one fault
 
-one_list_fault : {A : Type 0} (bytes : List ℕ) (e f : QuestionFault A) → IsListFault bytes e → IsListFault bytes f → ¬ IsRefused e → ¬ IsRefused f → e ≡ f
+one_list_fault : {A : Type 0} (bytes : List ℕ) (e f : SpecTestFault A) → IsListFault bytes e → IsListFault bytes f → ¬ IsSpecTestRefused e → ¬ IsSpecTestRefused f → e ≡ f
 one_list_fault bytes OutOfMemory f p q r s = absurd (r tt)
 one_list_fault bytes e OutOfMemory p q r s = absurd (s tt)
 one_list_fault bytes (OfList e) (OfList f) p q r s = ap OfList (one_refusal bytes e f p q r s)
@@ -141,7 +141,7 @@ one_list_fault bytes (OfList e) _ p q r s = absurd q
 one_list_fault bytes NoList _ p q r s = absurd q
 one_list_fault bytes _ f p q r s = absurd p
 
-one_fault_of : {A : Type 0} (bytes : List ℕ) (e f : QuestionFault A) → IsCallerFault bytes e → IsCallerFault bytes f → ¬ IsRefused e → ¬ IsRefused f → e ≡ f
+one_fault_of : {A : Type 0} (bytes : List ℕ) (e f : SpecTestFault A) → IsCallerFault bytes e → IsCallerFault bytes f → ¬ IsSpecTestRefused e → ¬ IsSpecTestRefused f → e ≡ f
 one_fault_of bytes OutOfMemory f p q r s = absurd (r tt)
 one_fault_of bytes e OutOfMemory p q r s = absurd (s tt)
 one_fault_of bytes (Caller e) (Caller f) p q r s = ap Caller (one_refusal bytes e f p q r s)
@@ -152,7 +152,7 @@ one_fault_of bytes (Caller e) _ p q r s = absurd q
 one_fault_of bytes NoCaller _ p q r s = absurd q
 one_fault_of bytes _ f p q r s = absurd p
 
-one_caller_fault : {A : Type 0} (text : Option (Bor (List ℕ))) (e f : QuestionFault A) → HasCallerFault text e → HasCallerFault text f → ¬ IsRefused e → ¬ IsRefused f → e ≡ f
+one_caller_fault : {A : Type 0} (text : Option (Bor (List ℕ))) (e f : SpecTestFault A) → HasCallerFault text e → HasCallerFault text f → ¬ IsSpecTestRefused e → ¬ IsSpecTestRefused f → e ≡ f
 one_caller_fault text e f p q r s =
     let first : text ≡ Some p.0 = p.1 in
     let second : text ≡ Some q.0 = q.1 in
@@ -170,7 +170,7 @@ one_fault_in d t (specs.Unsupported m) specs.Badarg p large q larger r s = absur
 one_fault_in d t specs.TooLarge f p large q larger r s = absurd (larger large)
 one_fault_in d t e specs.TooLarge p large q larger r s = absurd (large larger)
 
-one_specification_fault : {A : Type 0} (bytes : List ℕ) (d : Dialect) (e f : QuestionFault A) → IsSpecificationFault bytes d e → IsSpecificationFault bytes d f → ¬ IsRefused e → ¬ IsRefused f → e ≡ f
+one_specification_fault : {A : Type 0} (bytes : List ℕ) (d : Dialect) (e f : SpecTestFault A) → IsSpecificationFault bytes d e → IsSpecificationFault bytes d f → ¬ IsSpecTestRefused e → ¬ IsSpecTestRefused f → e ≡ f
 one_specification_fault bytes d OutOfMemory f p q r s = absurd (r tt)
 one_specification_fault bytes d e OutOfMemory p q r s = absurd (s tt)
 one_specification_fault bytes d (Text e) (Text f) p q r s = ap Text (one_refusal bytes e f p q r s)
@@ -187,10 +187,10 @@ one_specification_fault bytes d _ f p q r s = absurd p
 
 -- ---- which text a fault is of
 
-abbrev HasFault : {A : Type 0} → Question → QuestionFault A → Type 0
+abbrev HasFault : {A : Type 0} → SpecTestInput → SpecTestFault A → Type 0
 HasFault q f = IsListFault q.list.now f ⊎ ((HasList q × HasCallerFault q.caller f) ⊎ (HasList q × HasCaller q × IsSpecificationFault q.spec.now q.dialect f))
 
-has_fault : {A : Type 0} (q : Question) (f : QuestionFault A) → IsNoAnswer q f → HasFault q f
+has_fault : {A : Type 0} (q : SpecTestInput) (f : SpecTestFault A) → IsNoAnswer q f → HasFault q f
 has_fault q (OfList f) p = inl p
 has_fault q NoList p = inl p
 has_fault q (Caller f) p = inr (inl p)
@@ -199,12 +199,12 @@ has_fault q (Text f) p = inr (inr p)
 has_fault q (Spec n f) p = inr (inr p)
 has_fault q OutOfMemory p = inl tt
 
-no_fault : {A : Type 0} (q : Question) (t : List ℕ) (f : QuestionFault A) → IsAnswer q t → HasFault q f → IsRefused f
+no_fault : {A : Type 0} (q : SpecTestInput) (t : List ℕ) (f : SpecTestFault A) → IsAnswerTo q t → HasFault q f → IsSpecTestRefused f
 no_fault q t f x (inl p) = no_list_fault q.list.now x.elements f x.of_list p
 no_fault q t f x (inr (inl p)) = no_caller_fault q.caller x.caller f x.of_caller p.1
 no_fault q t f x (inr (inr p)) = no_specification_fault q.spec.now q.dialect x.spec f x.of_spec p.2
 
-one_fault : {A : Type 0} (q : Question) (e f : QuestionFault A) → HasFault q e → HasFault q f → ¬ IsRefused e → ¬ IsRefused f → e ≡ f
+one_fault : {A : Type 0} (q : SpecTestInput) (e f : SpecTestFault A) → HasFault q e → HasFault q f → ¬ IsSpecTestRefused e → ¬ IsSpecTestRefused f → e ≡ f
 one_fault q e f (inl x) (inl y) r s = one_list_fault q.list.now e f x y r s
 one_fault q e f (inl x) (inr (inl y)) r s = absurd (r (no_list_fault q.list.now y.0.0 e y.0.1 x))
 one_fault q e f (inl x) (inr (inr y)) r s = absurd (r (no_list_fault q.list.now y.0.0 e y.0.1 x))
@@ -217,7 +217,7 @@ one_fault q e f (inr (inr x)) (inr (inr y)) r s = one_specification_fault q.spec
 
 -- ---- two answers
 
-pub answered_alike : {A : Type 0} (q : Question) (a b : Result (Vec ℕ A) (QuestionFault A)) → MatchResult a (λ v. IsAnswer q v.items) (λ f. IsNoAnswer q f) → MatchResult b (λ v. IsAnswer q v.items) (λ f. IsNoAnswer q f)
+pub answered_alike : {A : Type 0} (q : SpecTestInput) (a b : Result (Vec ℕ A) (SpecTestFault A)) → MatchResult a (λ v. IsAnswerTo q v.items) (λ f. IsNoAnswer q f) → MatchResult b (λ v. IsAnswerTo q v.items) (λ f. IsNoAnswer q f)
     → AreAnsweredAlike a b
 answered_alike q (Ok v) (Ok w) x y = one_text q v.items w.items x y
 answered_alike q (Ok v) (Err f) x y = no_fault q v.items f x (has_fault q f y)

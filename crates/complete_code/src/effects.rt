@@ -7,7 +7,7 @@ use std::alloc::{AllocError, Allocator};
 use tn_action::Effect;
 use tn_flags::Flags;
 
-/// `tn_trial::put_pid` has one answer but for what stands there after refused memory: that is a part of it.
+/// `tn_verdict::put_pid` has one answer but for what stands there after refused memory: that is a part of it.
 pub fn put_pid<B: Allocator>(
     pid: u32,
     one: &mut Vec<u8, B>,
@@ -16,12 +16,12 @@ pub fn put_pid<B: Allocator>(
     requires { one.old.items ≡ other.old.items }
     ensures { OnOk result.0 (OnOk result.1 (one.new.items ≡ other.new.items)) }
 {
-    let first = tn_trial::put_pid(pid, one);
-    let second = tn_trial::put_pid(pid, other);
+    let first = tn_verdict::put_pid(pid, one);
+    let second = tn_verdict::put_pid(pid, other);
     (first, second)
 }
 
-/// `tn_trial::put_flags` has one answer but for what stands there after refused memory: that is a part of it.
+/// `tn_verdict::put_flags` has one answer but for what stands there after refused memory: that is a part of it.
 pub fn put_flags<B: Allocator>(
     verb: &'static [u8],
     flags: Flags,
@@ -33,12 +33,12 @@ pub fn put_flags<B: Allocator>(
     requires texts { one.old.items ≡ other.old.items }
     ensures { OnOk result.0 (OnOk result.1 (one.new.items ≡ other.new.items)) }
 {
-    let first = tn_trial::put_flags(verb, flags, one);
-    let second = tn_trial::put_flags(verb, again, other);
+    let first = tn_verdict::put_flags(verb, flags, one);
+    let second = tn_verdict::put_flags(verb, again, other);
     (first, second)
 }
 
-/// `tn_trial::put_effects` has one answer but for what stands there after refused memory: that is a part of it.
+/// `tn_verdict::put_effects` has one answer but for what stands there after refused memory: that is a part of it.
 pub fn put_effects<A: Allocator, B: Allocator>(
     effects: &[Effect<A>],
     again: &[Effect<A>],
@@ -49,7 +49,7 @@ pub fn put_effects<A: Allocator, B: Allocator>(
     requires texts { one.old.items ≡ other.old.items }
     ensures { OnOk result.0 (OnOk result.1 (one.new.items ≡ other.new.items)) }
 {
-    let first = tn_trial::put_effects(effects, one);
-    let second = tn_trial::put_effects(again, other);
+    let first = tn_verdict::put_effects(effects, one);
+    let second = tn_verdict::put_effects(again, other);
     (first, second)
 }

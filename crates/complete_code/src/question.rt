@@ -2,20 +2,20 @@
 ghost use Rattle.complete_code.specs.Questions.{AreAnsweredAlike};
 
 use std::alloc::Allocator;
-use tn_trial::{Question, QuestionFault};
+use tn_verdict::{SpecTestFault, SpecTestInput};
 
-/// `tn_trial::answer` has one answer.
+/// `tn_verdict::answer` has one answer.
 pub fn answer<A: Allocator + Copy>(
     alloc: A,
-    question: &Question<'_>,
+    question: &SpecTestInput<'_>,
 ) -> (
-    Result<Vec<u8, A>, QuestionFault<A>>,
-    Result<Vec<u8, A>, QuestionFault<A>>,
+    Result<Vec<u8, A>, SpecTestFault<A>>,
+    Result<Vec<u8, A>, SpecTestFault<A>>,
 )
     ensures { AreAnsweredAlike result.0 result.1 }
 {
     (
-        tn_trial::answer(alloc, question),
-        tn_trial::answer(alloc, question),
+        tn_verdict::answer(alloc, question),
+        tn_verdict::answer(alloc, question),
     )
 }

@@ -1,11 +1,11 @@
 // The texts of reasons.
 ghost use Rattle.std.specs.Prelude.{◌≡◌, OnOk};
-ghost use Rattle.tn_reason.specs.Views.{reason_seen};
+ghost use Rattle.tn_verdict.specs.Views.{reason_seen};
 
 use std::alloc::{AllocError, Allocator};
-use tn_reason::Reason;
+use tn_verdict::Reason;
 
-/// `tn_trial::put_reason` has one answer but for what stands there after refused memory: that is a part of it.
+/// `tn_verdict::put_reason` has one answer but for what stands there after refused memory: that is a part of it.
 pub fn put_reason<A: Allocator, C: Allocator + Copy, B: Allocator>(
     alloc: C,
     reason: Reason<'_, A>,
@@ -17,7 +17,7 @@ pub fn put_reason<A: Allocator, C: Allocator + Copy, B: Allocator>(
     requires texts { one.old.items ≡ other.old.items }
     ensures { OnOk result.0 (OnOk result.1 (one.new.items ≡ other.new.items)) }
 {
-    let first = tn_trial::put_reason(alloc, reason, one);
-    let second = tn_trial::put_reason(alloc, again, other);
+    let first = tn_verdict::put_reason(alloc, reason, one);
+    let second = tn_verdict::put_reason(alloc, again, other);
     (first, second)
 }

@@ -7,7 +7,7 @@ use std::alloc::{AllocError, Allocator};
 use tn_action::Context;
 use tn_spec::Spec;
 
-/// `tn_trial::put_clause` has one answer but for what stands there after refused memory: that is a part of it.
+/// `tn_verdict::put_clause` has one answer but for what stands there after refused memory: that is a part of it.
 pub fn put_clause<B: Allocator>(
     before: usize,
     one: &mut Vec<u8, B>,
@@ -16,13 +16,13 @@ pub fn put_clause<B: Allocator>(
     requires { one.old.items ≡ other.old.items }
     ensures { OnOk result.0 (OnOk result.1 (one.new.items ≡ other.new.items)) }
 {
-    let first = tn_trial::put_clause(before, one);
-    let second = tn_trial::put_clause(before, other);
+    let first = tn_verdict::put_clause(before, one);
+    let second = tn_verdict::put_clause(before, other);
     (first, second)
 }
 
-/// `tn_trial::put_trial` has one answer.
-pub fn put_trial<A: Allocator + Copy, B: Allocator>(
+/// `tn_verdict::put_spec_test` has one answer.
+pub fn put_spec_test<A: Allocator + Copy, B: Allocator>(
     alloc: A,
     spec: &Spec<A>,
     again: &Spec<A>,
@@ -36,7 +36,7 @@ pub fn put_trial<A: Allocator + Copy, B: Allocator>(
     ensures one_err { OnErr result.0 (one.new.items ≡ one.old.items) }
     ensures other_err { OnErr result.1 (other.new.items ≡ other.old.items) }
 {
-    let first = tn_trial::put_trial(alloc, spec, context, one);
-    let second = tn_trial::put_trial(alloc, again, context, other);
+    let first = tn_verdict::put_spec_test(alloc, spec, context, one);
+    let second = tn_verdict::put_spec_test(alloc, again, context, other);
     (first, second)
 }

@@ -1,16 +1,16 @@
 // What becomes of a clause.
 ghost use Rattle.std.specs.Prelude.{◌≡◌, IfOk};
 ghost use Rattle.tn_action.specs.Views.{context_seen};
-ghost use Rattle.tn_reason.specs.Views.{verdict_seen};
+ghost use Rattle.tn_verdict.specs.Views.{verdict_seen};
 ghost use Rattle.tn_spec.specs.Views.{clause_seen};
 
 use bumpalo::Bump;
 use std::alloc::{AllocError, Allocator};
 use tn_action::Context;
-use tn_reason::Verdict;
 use tn_spec::{Clause, Dialect};
+use tn_verdict::Verdict;
 
-/// `tn_reason::verdict` has one answer.
+/// `tn_verdict::verdict` has one answer.
 pub fn verdict<'a, A: Allocator + Copy>(
     alloc: A,
     arena: &'a Bump<A>,
@@ -26,7 +26,7 @@ pub fn verdict<'a, A: Allocator + Copy>(
     ensures { IfOk result.0 (λ v. IfOk result.1 (λ w. verdict_seen v ≡ verdict_seen w)) }
 {
     (
-        tn_reason::verdict(alloc, arena, dialect, one, context),
-        tn_reason::verdict(alloc, arena, dialect, other, context),
+        tn_verdict::verdict(alloc, arena, dialect, one, context),
+        tn_verdict::verdict(alloc, arena, dialect, other, context),
     )
 }

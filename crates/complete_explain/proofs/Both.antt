@@ -5,8 +5,8 @@ use Rattle.def_node.specs.Event.{Event}
 use Rattle.def_session.specs.State as definition
 use Rattle.def_explain.specs.Accounts.{event_lines}
 use Rattle.tn_session.specs.declared.session.Session.{Session}
-use Rattle.tn_lines.specs.Lines.{lines_text}
-use Rattle.tn_lines.specs.Makes.{Makes}
+use Rattle.tn_explain.specs.Lines.{lines_text}
+use Rattle.tn_explain.specs.SessionLines.{Makes}
 
 pub when : {X E P Q : Type 0} (r : Result X E) → (P → Q) → OnOk r P → OnOk r Q
 when (Ok x) f p = f p

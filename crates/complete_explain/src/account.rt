@@ -2,21 +2,21 @@
 ghost use Rattle.std.specs.Prelude.{◌≡◌, OnOk, OnErr};
 
 use std::alloc::{AllocError, Allocator};
-use tn_account::{Asked, put_account};
+use tn_explain::{Filter, put_account};
 use tn_program::Program;
 
 /// What is explained: a program's run by these picks, and what is asked of it.
 #[derive(Clone, Copy)]
-pub struct Explained<'a, A: Allocator> {
+pub struct ExplainedProgram<'a, A: Allocator> {
     pub program: &'a Program<A>,
     pub picks: &'a [u32],
-    pub asked: Asked<'a>,
+    pub filter: Filter<'a>,
 }
 
-/// `tn_account::put_account` leaves one text, and after a refusal the text that was there.
+/// `tn_explain::put_account` leaves one text, and after a refusal the text that was there.
 pub fn text<A: Allocator + Copy>(
     alloc: A,
-    of: Explained<'_, A>,
+    of: ExplainedProgram<'_, A>,
     first: &mut Vec<u8, A>,
     second: &mut Vec<u8, A>,
 ) -> (Result<(), AllocError>, Result<(), AllocError>)
@@ -25,7 +25,7 @@ pub fn text<A: Allocator + Copy>(
     ensures err { OnErr result.0 (OnErr result.1 (first.new.items ≡ second.new.items)) }
 {
     (
-        put_account(alloc, of.program, of.picks, &of.asked, first),
-        put_account(alloc, of.program, of.picks, &of.asked, second),
+        put_account(alloc, of.program, of.picks, &of.filter, first),
+        put_account(alloc, of.program, of.picks, &of.filter, second),
     )
 }

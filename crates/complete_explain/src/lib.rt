@@ -1,4 +1,4 @@
-//! The contracts of tn_lines and tn_account, and those of tn_explain on places, are complete. Each function
+//! The contracts of tn_explain, and those of tn_refusal on places and refusals, are complete. Each function
 //! calls one of theirs twice on equal values. It knows no more than the contract, so its proof shows that
 //! the contract leaves one answer.
 //!
@@ -8,3 +8,4 @@
 mod account;
 mod lines;
 mod places;
+mod refusals;

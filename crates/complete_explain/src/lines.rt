@@ -2,31 +2,31 @@
 ghost use Rattle.std.specs.Prelude.{◌≡◌, List, Bool, OnOk};
 ghost use Rattle.def_term.specs.Names as names;
 ghost use Rattle.def_session.specs.State as definition;
-ghost use Rattle.def_session.specs.Session.{event_told};
+ghost use Rattle.def_session.specs.Session.{event_reported};
 ghost use Rattle.tn_term.specs.Views.{tree_of};
 ghost use Rattle.tn_flags.specs.Views.{event_of};
 ghost use Rattle.tn_session.specs.Sessions.{IsAt};
 
 use std::alloc::{AllocError, Allocator};
+use tn_explain::{put_command_line, put_event_lines};
 use tn_flags::Event;
-use tn_lines::{put_command_line, put_event_lines};
 use tn_session::Session;
 use tn_term::{Atom, Term};
 
 /// An event, and the name of the session that sees it.
 #[derive(Clone, Copy)]
-pub struct Seen<'a, A: Allocator> {
+pub struct SessionView<'a, A: Allocator> {
     pub name: &'a Atom<A>,
     pub event: &'a Event<A>,
 }
 
-/// `tn_lines::put_event_lines` leaves one text, and one state of the session. After a refusal nothing of
+/// `tn_explain::put_event_lines` leaves one text, and one state of the session. After a refusal nothing of
 /// them is said, but that the text that was there is still a front of it.
 pub fn event<A: Allocator + Copy>(
     alloc: A,
     one: &mut Session<A>,
     other: &mut Session<A>,
-    seen: Seen<'_, A>,
+    seen: SessionView<'_, A>,
     first: &mut Vec<u8, A>,
     second: &mut Vec<u8, A>,
 ) -> (Result<(), AllocError>, Result<(), AllocError>)
@@ -35,8 +35,8 @@ pub fn event<A: Allocator + Copy>(
     requires other { IsAt at.0 at.1 other.old }
     requires texts { first.old.items ≡ second.old.items }
     ensures text { OnOk result.0 (OnOk result.1 (first.new.items ≡ second.new.items)) }
-    ensures one { OnOk result.0 (IsAt at.0 (event_told at.1 (event_of seen.entry.event.now)).0 one.new) }
-    ensures other { OnOk result.1 (IsAt at.0 (event_told at.1 (event_of seen.entry.event.now)).0 other.new) }
+    ensures one { OnOk result.0 (IsAt at.0 (event_reported at.1 (event_of seen.entry.event.now)).0 one.new) }
+    ensures other { OnOk result.1 (IsAt at.0 (event_reported at.1 (event_of seen.entry.event.now)).0 other.new) }
 {
     (
         put_event_lines(alloc, seen.name, one, seen.event, first),
@@ -44,7 +44,7 @@ pub fn event<A: Allocator + Copy>(
     )
 }
 
-/// `tn_lines::put_command_line` leaves one text. After a refusal nothing of it is said, but that the text
+/// `tn_explain::put_command_line` leaves one text. After a refusal nothing of it is said, but that the text
 /// that was there is still a front of it.
 pub fn command<A: Allocator, B: Allocator>(
     name: &Atom<A>,

@@ -1,20 +1,22 @@
 // Places in a text.
 ghost use Rattle.std.specs.Prelude.{◌≡◌, ◌<◌, length, IfOk};
-ghost use Rattle.tn_explain.specs.Starts.{IsListable};
-ghost use Rattle.complete_explain.specs.Fronts.{IsPlaced, BeginAlike};
+ghost use Rattle.tn_refusal.specs.Locations.{IsPlaced};
+ghost use Rattle.tn_refusal.specs.Refusals.{refusal_of, refused_part};
+ghost use Rattle.tn_refusal.specs.Starts.{IsListable};
+ghost use Rattle.complete_explain.specs.Fronts.{BeginAlike};
 
 use std::alloc::{AllocError, Allocator};
-use tn_explain::{Place, Reason, form_offset, place_of};
+use tn_refusal::{LineColumn, Refusal, form_offset, line_column_of};
 
-/// `tn_explain::place_of` has one answer.
-pub fn place(text: &[u8], offset: usize) -> (Place, Place)
+/// `tn_refusal::line_column_of` has one answer.
+pub fn place(text: &[u8], offset: usize) -> (LineColumn, LineColumn)
     requires { length text.now < usize.MAX }
     ensures { result.0 ≡ result.1 }
 {
-    (place_of(text, offset), place_of(text, offset))
+    (line_column_of(text, offset), line_column_of(text, offset))
 }
 
-/// `tn_explain::form_offset` has one answer for a text of tokens. Of another text that is short enough it
+/// `tn_refusal::form_offset` has one answer for a text of tokens. Of another text that is short enough it
 /// may have the offset or none.
 pub fn offset<A: Allocator + Copy>(
     alloc: A,
@@ -33,20 +35,20 @@ pub fn offset<A: Allocator + Copy>(
     )
 }
 
-/// `tn_explain::explain` has one answer but for what follows the words of the rule, which says what breaks it.
+/// `tn_refusal::explain` has one answer but for what follows the words of the rule, which says what breaks it.
 pub fn line<A: Allocator + Copy>(
     alloc: A,
     name: &str,
     text: &[u8],
-    reason: Reason,
+    refusal: Refusal,
 ) -> (
     Result<Vec<u8, A>, AllocError>,
     Result<Vec<u8, A>, AllocError>,
 )
-    requires { IsPlaced text.now reason }
-    ensures { IfOk result.0 (λ v. IfOk result.1 (λ w. BeginAlike name.now reason v.items w.items)) }
+    requires { IsPlaced text.now (refused_part (refusal_of refusal)) }
+    ensures { IfOk result.0 (λ v. IfOk result.1 (λ w. BeginAlike name.now (refusal_of refusal) v.items w.items)) }
 {
-    let first = tn_explain::explain(alloc, name, text, reason);
-    let second = tn_explain::explain(alloc, name, text, reason);
+    let first = tn_refusal::explain(alloc, name, text, refusal);
+    let second = tn_refusal::explain(alloc, name, text, refusal);
     (first, second)
 }

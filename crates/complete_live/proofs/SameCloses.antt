@@ -8,8 +8,8 @@ use Rattle.tn_live.specs.declared.entry.Entry.{Entry}
 use Rattle.tn_live.specs.declared.live.CloseFault.{CloseFault}
 use Rattle.tn_live.specs.declared.live.CloseFault.TheVariants.{Spent, MissingSeat}
 use Rattle.tn_live.specs.Journal.{made_by}
-use Rattle.tn_live.specs.States.{LiveState, SeatState, Begins}
-use Rattle.tn_live.specs.Closing.{Lacks, AreEntered, IsMissing, Ends, Closes}
+use Rattle.tn_live.specs.States.{LiveState, SeatState, HasPrefix}
+use Rattle.tn_live.specs.ClosedJournals.{LacksSeat, AreEntered, IsMissing, EndsJournal, Closes}
 use Rattle.tn_live.proofs.Journals.{made-append}
 use Rattle.complete_live.specs.Alike.{CloseAlike, missing_seen}
 
@@ -52,7 +52,7 @@ unlike : (n m : ℕ) → nat_eq n m ≡ false → m ≢ n
 unlike n m e same = grind arith
 
 -- of seats one of which has the number, one is found
-found : (P Q : SeatState → Type 0) (n : ℕ) (seats : List SeatState) → (Lacks seats n → ⊥) → All P seats → All Q seats → (s : SeatState) × (nat_eq n s.number ≡ true) × P s × Q s
+found : (P Q : SeatState → Type 0) (n : ℕ) (seats : List SeatState) → (LacksSeat seats n → ⊥) → All P seats → All Q seats → (s : SeatState) × (nat_eq n s.number ≡ true) × P s × Q s
 found P Q n [] some h i = absurd (some (All-nil (λ (s : SeatState). s.number ≢ n)))
 found P Q n (s ∷ seats) some h i =
     by_test (nat_eq n s.number) refl
@@ -80,7 +80,7 @@ last_is [] e d = refl
 last_is (x ∷ es) e d = last_is es e x.seat
 
 -- a seat that made the last entry has seen all
-seen_all : (es seen front : List Entry) (e : Entry) (n : ℕ) → es ≡ front ++ e ∷ [] → nat_eq e.seat n ≡ true → Begins es n seen → seen ≡ es
+seen_all : (es seen front : List Entry) (e : Entry) (n : ℕ) → es ≡ front ++ e ∷ [] → nat_eq e.seat n ≡ true → HasPrefix es n seen → seen ≡ es
 seen_all es seen front e n last own b =
     elim (by_last b.0) [
       | inl none ↦ sym (b.1 ∙ ap (λ z. seen ++ z) none ∙ append-nil seen)
@@ -107,14 +107,14 @@ of_last P [] e h = All-head P e [] h
 of_last P (x ∷ front) e h = of_last P front e (All-tail P x (front ++ e ∷ []) h)
 
 -- the seat of the last entry has seen all, and of what it has seen each journal consists
-one_journal : (seats : List SeatState) (es fs : List Entry) → Ends seats es → Ends seats fs → es ≡ fs
+one_journal : (seats : List SeatState) (es fs : List Entry) → EndsJournal seats es → EndsJournal seats fs → es ≡ fs
 one_journal seats es fs h i =
     let size : length fs ≡ length es = i.all_made ∙ sym h.all_made in
     elim (by_last es) [
       | inl none ↦ none ∙ sym (empty fs (size ∙ ap length none))
       | inr last ↦
-          let some : Lacks seats last.1.seat → ⊥ = of_last (λ e. Lacks seats e.seat → ⊥) last.0 last.1 (subst (AreEntered seats) last.2 h.entered) in
-          let one = found (λ s. Begins es s.number s.seen) (λ s. Begins fs s.number s.seen) last.1.seat seats some h.begins i.begins in
+          let some : LacksSeat seats last.1.seat → ⊥ = of_last (λ e. LacksSeat seats e.seat → ⊥) last.0 last.1 (subst (AreEntered seats) last.2 h.entered) in
+          let one = found (λ s. HasPrefix es s.number s.seen) (λ s. HasPrefix fs s.number s.seen) last.1.seat seats some h.begins i.begins in
           let whole : one.0.seen ≡ es = seen_all es one.0.seen last.0 last.1 one.0.number last.2 one.1 one.2 in
           let other = one.3 in
           sym whole ∙ sym (no_rest one.0.seen other.0 fs other.1 (size ∙ ap length (sym whole)))

@@ -10,7 +10,7 @@ use Rattle.tn_trace.specs.Cores.{Lists, creation_numbered}
 use Rattle.tn_live.specs.declared.entry.Entry.{Entry}
 use Rattle.tn_live.specs.declared.entry.Receipt.{Receipt}
 use Rattle.tn_live.specs.Journal.{entry, picks_of}
-use Rattle.tn_live.specs.Closing.{Confirms}
+use Rattle.tn_live.specs.ClosedJournals.{Confirms}
 use Rattle.complete_runs.specs.Alike.{listing_seen}
 use Rattle.complete_live.specs.Alike.{receipt_seen}
 use Rattle.complete_live.proofs.SameStarts.{same_truth}

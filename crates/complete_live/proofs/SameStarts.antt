@@ -2,7 +2,7 @@
 use Rattle.std.proofs.Common.{◌≡◌, ◌∙◌, ℕ, suc, ◌<◌, Bool, true, false, List, [], ◌∷◌, length, IsTrue, ◌↔◌, slice_get, refl, sym, ap, subst, arith}
 use Rattle.std.specs.Option.{unwrap_or}
 use Rattle.def_script.specs.Program.{Program}
-use Rattle.tn_live.specs.States.{BookState, SeatState, Fits, AreFresh}
+use Rattle.tn_live.specs.States.{BookState, SeatState, SeatFits, AreFresh}
 
 -- lists with the same at each place
 same_lists : {X : Type 0} (xs ys : List X) → length xs ≡ length ys → ((k : ℕ) → k < length xs → slice_get xs k ≡ slice_get ys k) → xs ≡ ys
@@ -23,7 +23,7 @@ same_truth false true h i = h.1 (i.0 refl)
 same_truth false false h i = refl
 
 pub same_fits : (p q : Program) (b c : BookState) (v w : Program) (s t : SeatState) (x y : Bool) → p ≡ q → b ≡ c → v ≡ w → s ≡ t
-    → IsTrue x ↔ (v ≡ p) × Fits b s → IsTrue y ↔ (w ≡ q) × Fits c t → x ≡ y
+    → IsTrue x ↔ (v ≡ p) × SeatFits b s → IsTrue y ↔ (w ≡ q) × SeatFits c t → x ≡ y
 same_fits p q b c v w s t x y named books programs seats h i =
     let back : (q, c, w, t) ≡ (p, b, v, s) = λ j. (sym named j, sym books j, sym programs j, sym seats j) in
-    same_truth x y h (subst (λ (z : Program × BookState × Program × SeatState). IsTrue y ↔ (z.2 ≡ z.0) × Fits z.1 z.3) back i)
+    same_truth x y h (subst (λ (z : Program × BookState × Program × SeatState). IsTrue y ↔ (z.2 ≡ z.0) × SeatFits z.1 z.3) back i)

@@ -14,11 +14,11 @@ use Rattle.tn_live.specs.declared.entry.Turn.{Turn}
 use Rattle.tn_live.specs.declared.entry.Turn.TheVariants.{Moved, Idle}
 use Rattle.tn_live.specs.Journal.{entry, picks_of, made_by}
 use Rattle.tn_live.specs.States.{BookState, SeatState, book_of, spent_book, seat_of, MovesAfter}
-use Rattle.tn_live.specs.Turning.{IsReceipt, SeatTurns, SeatCounts, BookTurns}
+use Rattle.tn_live.specs.SeatTurns.{IsReceipt, SeatTurns, SeatCounts, BookTurns}
 use Rattle.complete_scripts.specs.Agreement.{Agree}
-use Rattle.complete_scripts.proofs.Agreeing.{agree_by}
+use Rattle.complete_scripts.proofs.Agreements.{agree_by}
 use Rattle.complete_runs.proofs.Both.{where_both}
-use Rattle.complete_live.specs.Alike.{ReceiptState, TurnState, receipt, front, receipt_seen, step_seen, take_seen, TurnAlike, TakesAlike}
+use Rattle.complete_live.specs.Alike.{ReceiptState, TurnState, receipt, front, receipt_seen, turn_state_seen, take_seen, TurnAlike, TakesAlike}
 
 -- ---- a pick doesn't both move and rest
 
@@ -86,7 +86,7 @@ whole : (b c : BookState) (s t : SeatState) (pick : ℕ) (before : List Entry) �
 whole b c s t pick before seat book seen = ap (λ z. z.seen) (sym seat) ∙ seen ∙ ap (λ z. z.entries) book
 
 module _ {A : Type 0} (p : Program) (b c : BookState) (s t : SeatState) (pick : ℕ) where
-  comes : (r : Result (Turn A) StepFault) → SeatTurns p s pick r t → BookTurns p b s.number pick r c t.seen → IfSome (step_seen r) (Comes p b.entries s.number pick)
+  comes : (r : Result (Turn A) StepFault) → SeatTurns p s pick r t → BookTurns p b s.number pick r c t.seen → IfSome (turn_state_seen r) (Comes p b.entries s.number pick)
   comes (Ok (Moved r)) h k =
       let same : h.0 ≡ b.entries = append_cancel_right h.0 b.entries (entry s.number pick ∷ []) (whole b c s t pick h.0 h.2 k.2 k.3) in
       (k.0, k.1, receipt_is p h.0 s.number pick r h.4 ∙ ap (λ es. receipt_after p es s.number pick) same)
@@ -95,14 +95,14 @@ module _ {A : Type 0} (p : Program) (b c : BookState) (s t : SeatState) (pick : 
   comes (Err Spent) h k = k
   comes (Err OutOfMemory) h k = tt
 
-  book_is : (r : Result (Turn A) StepFault) → BookTurns p b s.number pick r c t.seen → IfSome (step_seen r) (λ x. c ≡ book_after b s.number pick x)
+  book_is : (r : Result (Turn A) StepFault) → BookTurns p b s.number pick r c t.seen → IfSome (turn_state_seen r) (λ x. c ≡ book_after b s.number pick x)
   book_is (Ok (Moved r)) k = k.2
   book_is (Ok (Idle n)) k = k.2
   book_is (Err LimitReached) k = k.1
   book_is (Err Spent) k = absurd k
   book_is (Err OutOfMemory) k = tt
 
-  seat_is : (r : Result (Turn A) StepFault) → SeatTurns p s pick r t → BookTurns p b s.number pick r c t.seen → IfSome (step_seen r) (λ x. t ≡ seat_after b s.number pick x)
+  seat_is : (r : Result (Turn A) StepFault) → SeatTurns p s pick r t → BookTurns p b s.number pick r c t.seen → IfSome (turn_state_seen r) (λ x. t ≡ seat_after b s.number pick x)
   seat_is (Ok (Moved r)) h k = h.2 ∙ ap (seat_of s.number) (whole b c s t pick h.0 h.2 k.2 k.3)
   seat_is (Ok (Idle n)) h k = h.1 ∙ ap (seat_of s.number) k.3
   seat_is (Err LimitReached) h k = h.1 ∙ ap (seat_of s.number) k.2
@@ -118,7 +118,7 @@ module _ {A : Type 0} (p : Program) (b c : BookState) (s t : SeatState) (pick : 
 same_turn : {A : Type 0} (p : Program) (b : BookState) (s : SeatState) (pick : ℕ) (r : Result (Turn A) StepFault) (c : BookState) (t : SeatState) (q : Result (Turn A) StepFault) (d : BookState) (u : SeatState)
     → SeatTurns p s pick r t → BookTurns p b s.number pick r c t.seen → SeatTurns p s pick q u → BookTurns p b s.number pick q d u.seen → TurnAlike s r c t q d u
 same_turn p b s pick r c t q d u h k i l =
-    let agree : Agree (step_seen r) (step_seen q) = agree_by (Comes p b.entries s.number pick) (one_turn p b.entries s.number pick) _ _ (comes p b c s t pick r h k) (comes p b d s u pick q i l) in
+    let agree : Agree (turn_state_seen r) (turn_state_seen q) = agree_by (Comes p b.entries s.number pick) (one_turn p b.entries s.number pick) _ _ (comes p b c s t pick r h k) (comes p b d s u pick q i l) in
     record {
       answers = agree;
       books =

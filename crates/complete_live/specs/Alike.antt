@@ -36,14 +36,14 @@ turn_seen (Moved r) = receipt (receipt_seen r)
 turn_seen (Idle n) = front n
 
 -- what a step of a book answers; nothing where memory was refused
-abbrev pub step_seen : {A : Type 0} → Result (Turn A) StepFault → Option (Result TurnState StepFault)
-step_seen r = answer_of turn_seen fault_seen r
+abbrev pub turn_state_seen : {A : Type 0} → Result (Turn A) StepFault → Option (Result TurnState StepFault)
+turn_state_seen r = answer_of turn_seen fault_seen r
 
 -- the answers are the same, and so are the books and the seats; where memory was refused, the book is spent and the seat is as it was
 pub record TurnAlike {A : Type 0} (s : SeatState) (r : Result (Turn A) StepFault) (one : BookState) (seat : SeatState) (q : Result (Turn A) StepFault) (other : BookState) (same_seat : SeatState) : Type 0 where
-  pub answers : Agree (step_seen r) (step_seen q)
-  pub books : WhereBoth (step_seen r) (step_seen q) (one ≡ other)
-  pub seats : WhereBoth (step_seen r) (step_seen q) (seat ≡ same_seat)
+  pub answers : Agree (turn_state_seen r) (turn_state_seen q)
+  pub books : WhereBoth (turn_state_seen r) (turn_state_seen q) (one ≡ other)
+  pub seats : WhereBoth (turn_state_seen r) (turn_state_seen q) (seat ≡ same_seat)
   pub spent : IsErrOf r step.OutOfMemory → one ≡ spent_book
   pub unmoved : IsErrOf r step.OutOfMemory → seat ≡ s
 

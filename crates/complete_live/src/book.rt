@@ -2,21 +2,21 @@
 ghost use Rattle.std.specs.Prelude.{◌≡◌, ◌≤◌, ◌<◌, [], IfOk};
 ghost use Rattle.tn_program.specs.Views.{program_of};
 ghost use Rattle.tn_trace.specs.Cores.{IsCore};
-ghost use Rattle.tn_live.specs.States.{Fits};
+ghost use Rattle.tn_live.specs.States.{SeatFits};
 ghost use Rattle.complete_live.specs.Alike.{TurnAlike};
 
 use std::alloc::{AllocError, Allocator};
-use tn_live::{Book, Naming, Opened, Seat, Turn};
+use tn_live::{Book, JournalName, NewLog, Seat, Turn};
 use tn_program::Program;
 use tn_trace::{Core, StepFault};
 
 /// `tn_live::Book::begin` has one answer.
-pub fn begin<A: Allocator + Copy, J: Naming, K: Naming>(
+pub fn begin<A: Allocator + Copy, J: JournalName, K: JournalName>(
     alloc: A,
     one: Core<A>,
     other: Core<A>,
-    opened: Opened,
-    same_opened: Opened,
+    new_log: NewLog,
+    same_opened: NewLog,
     n: u32,
 ) -> (
     Result<(Book<A, J>, Vec<Seat<A, J>, A>), AllocError>,
@@ -24,19 +24,19 @@ pub fn begin<A: Allocator + Copy, J: Naming, K: Naming>(
 )
     requires first { IsCore J.program [] one }
     requires second { IsCore K.program [] other }
-    requires named { opened ≡ J.log }
+    requires named { new_log ≡ J.log }
     requires same_named { same_opened ≡ K.log }
     requires count { (0 < n) × (n ≤ 16) }
     ensures books { IfOk result.0 (λ r. IfOk result.1 (λ q. r.0 ≡ q.0)) }
     ensures seats { IfOk result.0 (λ r. IfOk result.1 (λ q. r.1.items ≡ q.1.items)) }
 {
-    let first = Book::<A, J>::begin(alloc, one, opened, n);
+    let first = Book::<A, J>::begin(alloc, one, new_log, n);
     let second = Book::<A, K>::begin(alloc, other, same_opened, n);
     (first, second)
 }
 
 /// `tn_live::Book::fits` has one answer.
-pub fn fits<A: Allocator + Copy, J: Naming, K: Naming>(
+pub fn fits<A: Allocator + Copy, J: JournalName, K: JournalName>(
     one: &Book<A, J>,
     other: &Book<A, K>,
     program: &Program<A>,
@@ -56,7 +56,7 @@ pub fn fits<A: Allocator + Copy, J: Naming, K: Naming>(
 }
 
 /// `tn_live::Book::step` has one answer. It includes the book and the seat afterwards.
-pub fn step<A: Allocator + Copy, J: Naming, K: Naming>(
+pub fn step<A: Allocator + Copy, J: JournalName, K: JournalName>(
     one: &mut Book<A, J>,
     other: &mut Book<A, K>,
     seat: &mut Seat<A, J>,
@@ -66,7 +66,7 @@ pub fn step<A: Allocator + Copy, J: Naming, K: Naming>(
     requires named { J.program ≡ K.program }
     requires books { one.old ≡ other.old }
     requires seats { seat.old ≡ same_seat.old }
-    requires fits { Fits one.old seat.old }
+    requires fits { SeatFits one.old seat.old }
     ensures { TurnAlike seat.old result.0 one.new seat.new result.1 other.new same_seat.new }
 {
     let first = one.step(seat, pick);

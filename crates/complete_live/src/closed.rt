@@ -6,12 +6,12 @@ ghost use Rattle.complete_runs.specs.Alike.{listing_seen};
 ghost use Rattle.complete_live.specs.Alike.{receipt_seen};
 
 use std::alloc::Allocator;
-use tn_live::{Closed, Entry, Naming, Receipt};
+use tn_live::{Closed, Entry, JournalName, Receipt};
 use tn_program::{Program, Sessions};
 use tn_term::Term;
 
 /// `tn_live::Closed::journal` has one answer.
-pub fn journal<'a, A: Allocator + Copy, J: Naming, K: Naming>(
+pub fn journal<'a, A: Allocator + Copy, J: JournalName, K: JournalName>(
     one: &'a Closed<A, J>,
     other: &'a Closed<A, K>,
 ) -> (&'a [Entry], &'a [Entry])
@@ -22,7 +22,7 @@ pub fn journal<'a, A: Allocator + Copy, J: Naming, K: Naming>(
 }
 
 /// `tn_live::Closed::program` has one answer.
-pub fn program<'a, A: Allocator + Copy, J: Naming, K: Naming>(
+pub fn program<'a, A: Allocator + Copy, J: JournalName, K: JournalName>(
     one: &'a Closed<A, J>,
     other: &'a Closed<A, K>,
 ) -> (&'a Program<A>, &'a Program<A>)
@@ -33,7 +33,7 @@ pub fn program<'a, A: Allocator + Copy, J: Naming, K: Naming>(
 }
 
 /// `tn_live::Closed::sessions` has one answer.
-pub fn sessions<'a, A: Allocator + Copy, J: Naming, K: Naming>(
+pub fn sessions<'a, A: Allocator + Copy, J: JournalName, K: JournalName>(
     one: &'a Closed<A, J>,
     other: &'a Closed<A, K>,
 ) -> (Sessions<'a, A>, Sessions<'a, A>)
@@ -44,7 +44,7 @@ pub fn sessions<'a, A: Allocator + Copy, J: Naming, K: Naming>(
 }
 
 /// `tn_live::Closed::listing` has one answer.
-pub fn listing<'a, A: Allocator + Copy, J: Naming, K: Naming>(
+pub fn listing<'a, A: Allocator + Copy, J: JournalName, K: JournalName>(
     one: &'a Closed<A, J>,
     other: &'a Closed<A, K>,
     session: u32,
@@ -57,7 +57,7 @@ pub fn listing<'a, A: Allocator + Copy, J: Naming, K: Naming>(
 }
 
 /// `tn_live::Closed::replies` has one answer.
-pub fn replies<'a, A: Allocator + Copy, J: Naming, K: Naming>(
+pub fn replies<'a, A: Allocator + Copy, J: JournalName, K: JournalName>(
     one: &'a Closed<A, J>,
     other: &'a Closed<A, K>,
 ) -> (&'a [Term<A>], &'a [Term<A>])
@@ -69,7 +69,7 @@ pub fn replies<'a, A: Allocator + Copy, J: Naming, K: Naming>(
 }
 
 /// `tn_live::Closed::confirm` has one answer.
-pub fn confirm<A: Allocator + Copy, J: Naming, K: Naming>(
+pub fn confirm<A: Allocator + Copy, J: JournalName, K: JournalName>(
     one: &Closed<A, J>,
     other: &Closed<A, K>,
     receipt: &Receipt<A>,

@@ -5,16 +5,16 @@ ghost use Rattle.complete_live.specs.Alike.{TakesAlike, CloseAlike};
 
 use std::alloc::{AllocError, Allocator};
 use std::sync::Wait;
-use tn_live::{CloseFault, Closed, Live, Naming, Opened, Seat, Turn};
+use tn_live::{CloseFault, Closed, JournalName, Live, NewLog, Seat, Turn};
 use tn_trace::{Core, StepFault};
 
 /// `tn_live::Live::begin` has one answer.
-pub fn begin<A: Allocator + Copy, J: Naming, K: Naming>(
+pub fn begin<A: Allocator + Copy, J: JournalName, K: JournalName>(
     alloc: A,
     one: Core<A>,
     other: Core<A>,
-    opened: Opened,
-    same_opened: Opened,
+    new_log: NewLog,
+    same_opened: NewLog,
     n: u32,
 ) -> (
     Result<(Live<A, J>, Vec<Seat<A, J>, A>), AllocError>,
@@ -22,20 +22,20 @@ pub fn begin<A: Allocator + Copy, J: Naming, K: Naming>(
 )
     requires first { IsCore J.program [] one }
     requires second { IsCore K.program [] other }
-    requires named { opened ≡ J.log }
+    requires named { new_log ≡ J.log }
     requires same_named { same_opened ≡ K.log }
     requires logs { J.log ≡ K.log }
     requires count { (0 < n) × (n ≤ 16) }
     ensures lives { IfOk result.0 (λ r. IfOk result.1 (λ q. r.0 ≡ q.0)) }
     ensures seats { IfOk result.0 (λ r. IfOk result.1 (λ q. r.1.items ≡ q.1.items)) }
 {
-    let first = Live::<A, J>::begin(alloc, one, opened, n);
+    let first = Live::<A, J>::begin(alloc, one, new_log, n);
     let second = Live::<A, K>::begin(alloc, other, same_opened, n);
     (first, second)
 }
 
 /// `tn_live::Live::step` has one answer where both seats have then seen the same.
-pub fn step<A: Allocator + Copy, J: Naming, K: Naming, R: Wait>(
+pub fn step<A: Allocator + Copy, J: JournalName, K: JournalName, R: Wait>(
     locks: (&Live<A, J>, &Live<A, K>),
     rt: &R,
     seat: &mut Seat<A, J>,
@@ -52,7 +52,7 @@ pub fn step<A: Allocator + Copy, J: Naming, K: Naming, R: Wait>(
 }
 
 /// `tn_live::Live::close` has one answer. It includes the lock and the seats that come back.
-pub fn close<A: Allocator + Copy, J: Naming, K: Naming, R: Wait>(
+pub fn close<A: Allocator + Copy, J: JournalName, K: JournalName, R: Wait>(
     one: Live<A, J>,
     other: Live<A, K>,
     rt: &R,

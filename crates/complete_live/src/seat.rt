@@ -2,10 +2,13 @@
 ghost use Rattle.std.specs.Prelude.{◌≡◌};
 
 use std::alloc::Allocator;
-use tn_live::{Naming, Seat};
+use tn_live::{JournalName, Seat};
 
 /// `tn_live::Seat::made` has one answer.
-pub fn made<A: Allocator, J: Naming, K: Naming>(one: &Seat<A, J>, other: &Seat<A, K>) -> (u64, u64)
+pub fn made<A: Allocator, J: JournalName, K: JournalName>(
+    one: &Seat<A, J>,
+    other: &Seat<A, K>,
+) -> (u64, u64)
     requires { one.now ≡ other.now }
     ensures { result.0 ≡ result.1 }
 {
@@ -13,7 +16,7 @@ pub fn made<A: Allocator, J: Naming, K: Naming>(one: &Seat<A, J>, other: &Seat<A
 }
 
 /// `tn_live::Seat::last` has one answer.
-pub fn last<A: Allocator, J: Naming, K: Naming>(
+pub fn last<A: Allocator, J: JournalName, K: JournalName>(
     one: &Seat<A, J>,
     other: &Seat<A, K>,
 ) -> (Option<u64>, Option<u64>)
@@ -24,7 +27,7 @@ pub fn last<A: Allocator, J: Naming, K: Naming>(
 }
 
 /// `tn_live::total_made` has one answer.
-pub fn total_made<A: Allocator, J: Naming, K: Naming>(
+pub fn total_made<A: Allocator, J: JournalName, K: JournalName>(
     one: &[Seat<A, J>],
     other: &[Seat<A, K>],
 ) -> (Option<u64>, Option<u64>)

@@ -2,7 +2,7 @@
 ghost use Rattle.std.specs.Prelude.{◌≡◌, ◌≤◌, IfOk};
 ghost use Rattle.tn_term.specs.Views.{tree_of};
 ghost use Rattle.tn_script.specs.Views.{entry_of, functions_of};
-ghost use Rattle.tn_process.specs.Views.{process_of, act_of};
+ghost use Rattle.tn_process.specs.Views.{process_seen, act_of};
 
 use std::alloc::{AllocError, Allocator};
 use tn_process::{Act, Process};
@@ -16,7 +16,7 @@ pub fn new<A: Allocator + Copy>(
     other: Entry<A>,
 ) -> (Process<A>, Process<A>)
     requires { entry_of one ≡ entry_of other }
-    ensures { process_of result.0 ≡ process_of result.1 }
+    ensures { process_seen result.0 ≡ process_seen result.1 }
 {
     (Process::new(alloc, one), Process::new(alloc, other))
 }
@@ -27,7 +27,7 @@ pub fn is_linked<A: Allocator + Copy>(
     other: &Process<A>,
     pid: u32,
 ) -> (bool, bool)
-    requires { process_of one.now ≡ process_of other.now }
+    requires { process_seen one.now ≡ process_seen other.now }
     ensures { result.0 ≡ result.1 }
 {
     (one.is_linked(pid), other.is_linked(pid))
@@ -38,7 +38,7 @@ pub fn links<'a, A: Allocator + Copy>(
     one: &'a Process<A>,
     other: &'a Process<A>,
 ) -> (&'a [bool; 64], &'a [bool; 64])
-    requires { process_of one.now ≡ process_of other.now }
+    requires { process_seen one.now ≡ process_seen other.now }
     ensures { result.0.now ≡ result.1.now }
 {
     (one.links(), other.links())
@@ -51,10 +51,10 @@ pub fn set_link<A: Allocator + Copy>(
     pid: u32,
     linked: bool,
 )
-    requires alike { process_of one.old ≡ process_of other.old }
+    requires alike { process_seen one.old ≡ process_seen other.old }
     requires low { 100 ≤ pid }
     requires high { pid ≤ 163 }
-    ensures { process_of one.new ≡ process_of other.new }
+    ensures { process_seen one.new ≡ process_seen other.new }
 {
     one.set_link(pid, linked);
     other.set_link(pid, linked);
@@ -67,9 +67,9 @@ pub fn put_message<A: Allocator + Copy>(
     message: Term<A>,
     same_message: Term<A>,
 ) -> (Result<(), AllocError>, Result<(), AllocError>)
-    requires alike { process_of one.old ≡ process_of other.old }
+    requires alike { process_seen one.old ≡ process_seen other.old }
     requires messages { tree_of message ≡ tree_of same_message }
-    ensures { IfOk result.0 (λ _. IfOk result.1 (λ _. process_of one.new ≡ process_of other.new)) }
+    ensures { IfOk result.0 (λ _. IfOk result.1 (λ _. process_seen one.new ≡ process_seen other.new)) }
 {
     let first = one.put_message(message);
     let second = other.put_message(same_message);
@@ -83,9 +83,9 @@ pub fn put_signal<A: Allocator + Copy>(
     reason: Term<A>,
     same_reason: Term<A>,
 )
-    requires alike { process_of one.old ≡ process_of other.old }
+    requires alike { process_seen one.old ≡ process_seen other.old }
     requires reasons { tree_of reason ≡ tree_of same_reason }
-    ensures { process_of one.new ≡ process_of other.new }
+    ensures { process_seen one.new ≡ process_seen other.new }
 {
     one.put_signal(reason);
     other.put_signal(same_reason);
@@ -99,10 +99,10 @@ pub fn part<A: Allocator + Copy>(
     pid: u32,
     reason: &Term<A>,
 ) -> (Result<(), AllocError>, Result<(), AllocError>)
-    requires alike { process_of one.old ≡ process_of other.old }
+    requires alike { process_seen one.old ≡ process_seen other.old }
     requires low { 100 ≤ pid }
     requires high { pid ≤ 163 }
-    ensures { IfOk result.0 (λ _. IfOk result.1 (λ _. process_of one.new ≡ process_of other.new)) }
+    ensures { IfOk result.0 (λ _. IfOk result.1 (λ _. process_seen one.new ≡ process_seen other.new)) }
 {
     let first = one.part(alloc, pid, reason);
     let second = other.part(alloc, pid, reason);
@@ -119,7 +119,7 @@ pub fn act<A: Allocator + Copy>(
     pid: u32,
     child: Option<u32>,
 ) -> (Result<Act<A>, AllocError>, Result<Act<A>, AllocError>)
-    requires { process_of one.old ≡ process_of other.old }
+    requires { process_seen one.old ≡ process_seen other.old }
     ensures { IfOk result.0 (λ a. IfOk result.1 (λ b. act_of one.new a ≡ act_of other.new b)) }
 {
     let first = one.act(alloc, functions, pid, child);

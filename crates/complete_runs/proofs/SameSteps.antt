@@ -10,16 +10,15 @@ use Rattle.def_run.specs.Listing.{Item as DefinedItem, answer, messages}
 use Rattle.def_run.specs.Laws.{IsIdleAfter}
 use Rattle.def_run.proofs.Runs.{idle_moved}
 use Rattle.tn_term.specs.declared.term.Term.{Term}
-use Rattle.tn_trace.specs.Cores.{HoldsIn, IsCore, IsSpent, Lists, Stepped, creation_numbered}
-use Rattle.tn_trace.specs.declared.engine.Engine.{Engine}
-use Rattle.tn_trace.specs.declared.keeping.Terms.{Terms}
+use Rattle.tn_trace.specs.Cores.{IsCore, IsCoreSpent, Lists, IsStepOf, creation_numbered}
 use Rattle.tn_trace.specs.declared.item.Answer.{Answer}
 use Rattle.tn_trace.specs.declared.item.Answer.TheVariants.{Moved, Idle}
 use Rattle.tn_trace.specs.declared.item.StepFault.{StepFault}
 use Rattle.tn_trace.specs.declared.item.StepFault.TheVariants.{LimitReached, Spent, OutOfMemory}
-use Rattle.tn_trace.specs.declared.recording.Core.{Core}
+use Rattle.tn_trace.specs.declared.run_core.Core.{Core}
+use Rattle.tn_trace.proofs.CoreLemmas.{core_moves}
 use Rattle.complete_scripts.specs.Agreement.{Agree}
-use Rattle.complete_scripts.proofs.Agreeing.{agree_by}
+use Rattle.complete_scripts.proofs.Agreements.{agree_by}
 use Rattle.complete_runs.specs.Alike.{AreOfOne, StepAlike, listing_seen, step_seen}
 use Rattle.complete_runs.proofs.Both.{both_if_ok, both_ok, where_both}
 
@@ -41,11 +40,6 @@ same_listing p picks n r q h i =
 
 -- ---- steps
 
--- each pick of a core's journal moved
-holds_moves : {A : Type 0} (p : Program) (picks : List ℕ) (o : Option (Engine A (Terms A))) → HoldsIn p picks o → moves p picks ≡ picks
-holds_moves p picks None h = absurd h
-holds_moves p picks (Some e) h = h.moved
-
 -- what a step of a core of this journal answers
 abbrev Comes : Program → List ℕ → ℕ → Result (Option (List DefinedItem)) StepFault → Type 0
 Comes p picks pick (Ok (Some items)) =
@@ -57,7 +51,7 @@ Comes p picks pick (Err OutOfMemory) = ⊥
 
 -- of a full journal
 pub full_stays : {A : Type 0} (p : Program) (picks : List ℕ) (pick : ℕ) (old new : Core A) (r : Result (Answer A) StepFault) → length picks ≡ JOURNAL
-    → Stepped p picks pick old new r → (r ≡ Err LimitReached) × (new ≡ old)
+    → IsStepOf p picks pick old new r → (r ≡ Err LimitReached) × (new ≡ old)
 full_stays p picks pick old new (Ok (Moved items)) full h = absurd (omega (arith, full, h.room))
 full_stays p picks pick old new (Ok Idle) full h = absurd (omega (arith, full, h.room))
 full_stays p picks pick old new (Err LimitReached) full h = (refl, h.1)
@@ -87,9 +81,9 @@ one_answer p picks pick (Ok x) (Err OutOfMemory) h i = absurd i
 one_answer p picks pick (Err LimitReached) (Err Spent) h i = absurd i
 one_answer p picks pick (Err LimitReached) (Err OutOfMemory) h i = absurd i
 
-comes : {A : Type 0} (p : Program) (picks : List ℕ) (pick : ℕ) (old new : Core A) (r : Result (Answer A) StepFault) → Stepped p picks pick old new r → IfSome (step_seen r) (Comes p picks pick)
+comes : {A : Type 0} (p : Program) (picks : List ℕ) (pick : ℕ) (old new : Core A) (r : Result (Answer A) StepFault) → IsStepOf p picks pick old new r → IfSome (step_seen r) (Comes p picks pick)
 comes p picks pick old new (Ok (Moved items)) h = (h.room, h.moved, h.answered)
-comes p picks pick old new (Ok Idle) h = (h.room, h.idle, holds_moves p picks _ h.after.engine)
+comes p picks pick old new (Ok Idle) h = (h.room, h.idle, core_moves p picks new h.after)
 comes p picks pick old new (Err LimitReached) h = h.0
 comes p picks pick old new (Err Spent) h = h
 comes p picks pick old new (Err OutOfMemory) h = tt
@@ -103,18 +97,18 @@ journal_after picks pick (Err fault) = picks
 abbrev IsAfter : {A : Type 0} → Program → List ℕ → ℕ → Core A → Result (Option (List DefinedItem)) StepFault → Type 0
 IsAfter p picks pick new x = IsCore p (journal_after picks pick x) new
 
-is_after : {A : Type 0} (p : Program) (picks : List ℕ) (pick : ℕ) (old new : Core A) (r : Result (Answer A) StepFault) → IsCore p picks old → Stepped p picks pick old new r → IfSome (step_seen r) (IsAfter p picks pick new)
+is_after : {A : Type 0} (p : Program) (picks : List ℕ) (pick : ℕ) (old new : Core A) (r : Result (Answer A) StepFault) → IsCore p picks old → IsStepOf p picks pick old new r → IfSome (step_seen r) (IsAfter p picks pick new)
 is_after p picks pick old new (Ok (Moved items)) core h = h.after
 is_after p picks pick old new (Ok Idle) core h = h.after
 is_after p picks pick old new (Err LimitReached) core h = subst (IsCore p picks) (sym h.1) core
 is_after p picks pick old new (Err Spent) core h = absurd h
 is_after p picks pick old new (Err OutOfMemory) core h = tt
 
-refused : {A : Type 0} (p : Program) (picks : List ℕ) (pick : ℕ) (old new : Core A) (r : Result (Answer A) StepFault) → Stepped p picks pick old new r → IsErrOf r OutOfMemory → IsSpent new
-refused p picks pick old new r h e = let k : Stepped p picks pick old new (Err OutOfMemory) = subst (Stepped p picks pick old new) e h in k.1
+refused : {A : Type 0} (p : Program) (picks : List ℕ) (pick : ℕ) (old new : Core A) (r : Result (Answer A) StepFault) → IsStepOf p picks pick old new r → IsErrOf r OutOfMemory → IsCoreSpent new
+refused p picks pick old new r h e = let k : IsStepOf p picks pick old new (Err OutOfMemory) = subst (IsStepOf p picks pick old new) e h in k.1
 
 pub same_step : {A : Type 0} (p : Program) (picks : List ℕ) (pick : ℕ) (one one' : Core A) (r : Result (Answer A) StepFault) (other other' : Core A) (q : Result (Answer A) StepFault)
-    → IsCore p picks one → IsCore p picks other → Stepped p picks pick one one' r → Stepped p picks pick other other' q → StepAlike p r one' q other'
+    → IsCore p picks one → IsCore p picks other → IsStepOf p picks pick one one' r → IsStepOf p picks pick other other' q → StepAlike p r one' q other'
 same_step {A} p picks pick one one' r other other' q core core' h i =
     let agree : Agree (step_seen r) (step_seen q) = agree_by (Comes p picks pick) (one_answer p picks pick) _ _ (comes p picks pick one one' r h) (comes p picks pick other other' q i) in
     record {

@@ -5,11 +5,11 @@ use Rattle.std.specs.Option.{option_map}
 use Rattle.def_term.specs.Alive.{Alive}
 use Rattle.def_term.specs.Tree.{Tree}
 use Rattle.def_script.specs.Program.{Program}
-use Rattle.def_script.specs.Opening.{Opening}
+use Rattle.def_script.specs.Exports.{Exports}
 use Rattle.def_run.specs.Listing.{Item as DefinedItem}
 use Rattle.tn_term.specs.Views.{tree_of}
 use Rattle.tn_term.specs.declared.term.Term.{Term}
-use Rattle.tn_trace.specs.Cores.{IsCore, IsSpent}
+use Rattle.tn_trace.specs.Cores.{IsCore, IsCoreSpent}
 use Rattle.tn_trace.specs.Items.{item_seen}
 use Rattle.tn_listing.specs.declared.picks.PicksFault.{PicksFault}
 use Rattle.tn_listing.specs.declared.picks.PicksFault.TheVariants as picks
@@ -21,7 +21,7 @@ use Rattle.tn_trace.specs.declared.item.Answer.{Answer}
 use Rattle.tn_trace.specs.declared.item.Answer.TheVariants.{Moved, Idle}
 use Rattle.tn_trace.specs.declared.item.StepFault.{StepFault}
 use Rattle.tn_trace.specs.declared.item.StepFault.TheVariants.{LimitReached, Spent, OutOfMemory}
-use Rattle.tn_trace.specs.declared.recording.Core.{Core}
+use Rattle.tn_trace.specs.declared.run_core.Core.{Core}
 use Rattle.tn_trace.specs.declared.slot.Slot.{Slot}
 use Rattle.tn_trace.specs.declared.transcript.Transcript.{Transcript}
 use Rattle.complete_scripts.specs.Agreement.{Agree, WhereBoth, answer_of}
@@ -57,7 +57,7 @@ step_seen r = answer_of answer_seen fault_seen r
 pub record StepAlike {A : Type 0} (p : Program) (r : Result (Answer A) StepFault) (one : Core A) (q : Result (Answer A) StepFault) (other : Core A) : Type 0 where
   pub answers : Agree (step_seen r) (step_seen q)
   pub after : WhereBoth (step_seen r) (step_seen q) (AreOfOne p one other)
-  pub refused : IsErrOf r OutOfMemory → IsSpent one
+  pub refused : IsErrOf r OutOfMemory → IsCoreSpent one
 
 -- ---- picks
 
@@ -74,7 +74,7 @@ pub record StartAlike {A K : Type 0} (Keeps : K → List Tree → Type 0) (p : P
   pub second : AreAtStart Keeps p others
 
 -- both slots are of one session in one state, with the same messages
-pub record AreTracked {A K : Type 0} (Keeps : K → List Tree → Type 0) (o : Opening) (one other : Slot A K) : Type 0 where
+pub record AreTrackedAlike {A K : Type 0} (Keeps : K → List Tree → Type 0) (o : Exports) (one other : Slot A K) : Type 0 where
   pub living : Alive
   pub track : Track
   pub first : IsTracked Keeps o living track one

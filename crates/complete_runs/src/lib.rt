@@ -5,12 +5,12 @@
 #![tactic(auto)]
 
 mod functions;
-mod kept;
 mod line;
 mod listing;
 mod output;
 mod picks;
-mod recording;
+mod run_core;
 mod sessions;
+mod sink;
 mod slot;
 mod transcript;

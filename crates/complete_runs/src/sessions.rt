@@ -9,10 +9,10 @@ use std::alloc::{AllocError, Allocator};
 use tn_flags::Event;
 use tn_program::Program;
 use tn_term::Alive;
-use tn_trace::{Kept, Slot};
+use tn_trace::{MessageSink, Slot};
 
 /// `tn_trace::absent_sessions` has one answer.
-pub fn absent_sessions<A: Allocator + Copy, K: Kept<A> + Drop>(
+pub fn absent_sessions<A: Allocator + Copy, K: MessageSink<A> + Drop>(
     alloc: A,
     one: &Program<A>,
     other: &Program<A>,

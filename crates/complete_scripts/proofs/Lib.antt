@@ -1,4 +1,4 @@
-pub mod Agreeing
+pub mod Agreements
 pub mod SameForms
 pub mod SamePrograms
 pub mod SameSessions

@@ -14,9 +14,9 @@ use Rattle.tn_script.specs.declared.fault.ScriptFault.{ScriptFault}
 use Rattle.tn_script.specs.declared.fault.ScriptFault.TheVariants.{TooLong, Token, TooDeep, TooLarge, Form as Shapeless, TooManyForms, OutOfMemory}
 use Rattle.tn_script.specs.declared.form.Form as code
 use Rattle.tn_script.specs.Views.{form_of}
-use Rattle.tn_script.specs.Answers.{AreForms, refusal_of}
+use Rattle.tn_script.specs.Answers.{AreForms, refusal_seen}
 use Rattle.complete_scripts.specs.Agreement.{Agree, answer_of}
-use Rattle.complete_scripts.proofs.Agreeing.{agree_by}
+use Rattle.complete_scripts.proofs.Agreements.{agree_by}
 
 the_same : {X : Type 0} (x y : X) → Some x ≡ Some y → x ≡ y
 the_same x y e = cc
@@ -45,7 +45,7 @@ one_answer bytes (Err r) (Ok fs) h i = absurd (spelled_alone bytes fs r i.0 i.1 
 one_answer bytes (Err r) (Err s) h i = ap Err (refused_once bytes r s h.0 i.0)
 
 comes_to : {A : Type 0} (bytes : List ℕ) (r : Result (Vec (code.Form A) A) ScriptFault) → AreForms bytes r
-    → IfSome (answer_of (λ v. map form_of v.items) refusal_of r) (ComesTo bytes)
+    → IfSome (answer_of (λ v. map form_of v.items) refusal_seen r) (ComesTo bytes)
 comes_to bytes (Ok v) h = (h.0, omega (arith, length-map v.items form_of, h.1))
 comes_to bytes (Err TooLong) h = (h, λ q n e. cc)
 comes_to bytes (Err (Token at)) h = (h, λ q n e. cc)
@@ -56,5 +56,5 @@ comes_to bytes (Err TooManyForms) h = (h, λ q n e. cc)
 comes_to bytes (Err OutOfMemory) h = tt
 
 pub same_forms : {A : Type 0} (bytes : List ℕ) (r q : Result (Vec (code.Form A) A) ScriptFault) → AreForms bytes r → AreForms bytes q
-    → Agree (answer_of (λ v. map form_of v.items) refusal_of r) (answer_of (λ v. map form_of v.items) refusal_of q)
+    → Agree (answer_of (λ v. map form_of v.items) refusal_seen r) (answer_of (λ v. map form_of v.items) refusal_seen q)
 same_forms bytes r q h i = agree_by (ComesTo bytes) (one_answer bytes) _ _ (comes_to bytes r h) (comes_to bytes q i)

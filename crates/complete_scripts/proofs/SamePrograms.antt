@@ -6,10 +6,10 @@ use Rattle.def_script.specs.Rules.{Rule, first_broken}
 use Rattle.def_script.specs.Script.{program_from}
 use Rattle.tn_program.specs.declared.fault.RuleFault.{RuleFault}
 use Rattle.tn_program.specs.declared.parts.Program as code
-use Rattle.tn_program.specs.Faults.{IsFirstFault, IsProgramOf, broken_of}
+use Rattle.tn_program.specs.Faults.{IsFirstRuleFault, IsProgramOf, broken_of}
 use Rattle.tn_program.specs.Views.{program_of}
 use Rattle.complete_scripts.specs.Agreement.{Agree, answer_of}
-use Rattle.complete_scripts.proofs.Agreeing.{agree_by}
+use Rattle.complete_scripts.proofs.Agreements.{agree_by}
 
 -- the forms make this program, or this is the first rule that one breaks
 abbrev pub ComeTo : List Form → Result Program (ℕ × Rule) → Type 0
@@ -25,7 +25,7 @@ one_answer fs (Ok p) (Err b) h i = none_some (first_broken fs) b h.0 i
 one_answer fs (Err b) (Ok q) h i = none_some (first_broken fs) b i.0 h
 one_answer fs (Err b) (Err d) h i = let e : Some b ≡ Some d = sym h ∙ i in cc
 
-fault_comes : (fs : List Form) (o : Option (ℕ × Rule)) → IsFirstFault fs o → IfSome {T = Result Program (ℕ × Rule)} (option_map Err o) (ComeTo fs)
+fault_comes : (fs : List Form) (o : Option (ℕ × Rule)) → IsFirstRuleFault fs o → IfSome {T = Result Program (ℕ × Rule)} (option_map Err o) (ComeTo fs)
 fault_comes fs None h = tt
 fault_comes fs (Some b) h = h
 

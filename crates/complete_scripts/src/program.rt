@@ -3,7 +3,7 @@ ghost use Rattle.std.specs.Prelude.{◌≡◌, IfOk, map};
 ghost use Rattle.std.specs.Option.{option_map};
 ghost use Rattle.tn_flags.specs.Views.{command_of};
 ghost use Rattle.tn_script.specs.Views.{functions_of, entry_of};
-ghost use Rattle.tn_program.specs.Bound.{lent};
+ghost use Rattle.tn_program.specs.Variables.{name_pair};
 ghost use Rattle.tn_program.specs.Views.{program_of};
 
 use std::alloc::{AllocError, Allocator};
@@ -63,7 +63,7 @@ pub fn session_at<'a, A: Allocator>(
     Option<(&'a Atom<A>, &'a Atom<A>)>,
 )
     requires { program_of one.now ≡ program_of other.now }
-    ensures { option_map lent result.0 ≡ option_map lent result.1 }
+    ensures { option_map name_pair result.0 ≡ option_map name_pair result.1 }
 {
     (one.session_at(number), other.session_at(number))
 }
@@ -88,7 +88,7 @@ pub fn next<'a, A: Allocator>(
     Option<(&'a Atom<A>, &'a Atom<A>)>,
 )
     requires { one.old ≡ other.old }
-    ensures session { option_map lent result.0 ≡ option_map lent result.1 }
+    ensures session { option_map name_pair result.0 ≡ option_map name_pair result.1 }
     ensures left { one.new ≡ other.new }
 {
     let first = one.next();

@@ -1,7 +1,7 @@
 // The forms of a text.
 ghost use Rattle.std.specs.Prelude.{◌≡◌, map};
 ghost use Rattle.tn_script.specs.Views.{form_of};
-ghost use Rattle.tn_script.specs.Answers.{refusal_of};
+ghost use Rattle.tn_script.specs.Answers.{refusal_seen};
 ghost use Rattle.complete_scripts.specs.Agreement.{Agree, answer_of};
 
 use std::alloc::Allocator;
@@ -17,7 +17,7 @@ pub fn forms<A: Allocator + Copy>(
     Result<Vec<Form<A>, A>, ScriptFault>,
 )
     requires { one.now ≡ other.now }
-    ensures { let told = answer_of (λ v. map form_of v.items) refusal_of in Agree (told result.0) (told result.1) }
+    ensures { let told = answer_of (λ v. map form_of v.items) refusal_seen in Agree (told result.0) (told result.1) }
 {
     let first = tn_script::forms(alloc, one);
     let second = tn_script::forms(alloc, other);

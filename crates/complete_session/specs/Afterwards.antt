@@ -16,7 +16,7 @@ pub record AreInOne {A : Type 0} (fs : List (names.Mfa × Bool)) (one other : Se
   pub second : IsAt fs state other
 
 -- so they are, and the answers are the same
-pub record AnswerAlike {A X : Type 0} (fs : List (names.Mfa × Bool)) (one : Session A) (x : X) (other : Session A) (y : X) : Type 0 where
+pub record Alike {A X : Type 0} (fs : List (names.Mfa × Bool)) (one : Session A) (x : X) (other : Session A) (y : X) : Type 0 where
   pub sessions : AreInOne fs one other
   pub answers : x ≡ y
 

@@ -2,14 +2,14 @@
 ghost use Rattle.std.specs.Prelude.{◌≡◌};
 ghost use Rattle.std.specs.Option.{option_map};
 ghost use Rattle.tn_term.specs.Views.{alive_of};
-ghost use Rattle.tn_flags.specs.Views.{call_of, flags_of, table_of};
+ghost use Rattle.tn_flags.specs.Views.{call_seen, flags_of, table_of};
 ghost use Rattle.tn_session.specs.Looks.{look_seen, lent_seen, newest_seen};
-ghost use Rattle.tn_session.specs.Views.{kind_seen};
+ghost use Rattle.tn_session.specs.Views.{mark_kind_seen};
 
 use std::alloc::Allocator;
 use tn_flags::{Call, FlagTable, Flags};
 use tn_index::Setting;
-use tn_session::{Kind, Look, Newest};
+use tn_session::{Kind, Look, NewestSetting};
 use tn_spec::Spec;
 use tn_term::Alive;
 
@@ -76,31 +76,31 @@ pub fn mark_of<A: Allocator + Copy>(
     depth: usize,
 ) -> (Option<Kind>, Option<Kind>)
     requires { look_seen one.now ≡ look_seen other.now }
-    ensures { option_map kind_seen result.0 ≡ option_map kind_seen result.1 }
+    ensures { option_map mark_kind_seen result.0 ≡ option_map mark_kind_seen result.1 }
 {
     (one.mark_of(pid, depth), other.mark_of(pid, depth))
 }
 
-/// `tn_session::Look::sending` has one answer.
-pub fn sending<'a, A: Allocator + Copy>(
+/// `tn_session::Look::send_setting` has one answer.
+pub fn send_setting<'a, A: Allocator + Copy>(
     one: &Look<'a, A>,
     other: &Look<'a, A>,
 ) -> (Setting<&'a Spec<A>>, Setting<&'a Spec<A>>)
     requires { look_seen one.now ≡ look_seen other.now }
     ensures { lent_seen result.0 ≡ lent_seen result.1 }
 {
-    (one.sending(), other.sending())
+    (one.send_setting(), other.send_setting())
 }
 
-/// `tn_session::Look::receiving` has one answer.
-pub fn receiving<'a, A: Allocator + Copy>(
+/// `tn_session::Look::receive_setting` has one answer.
+pub fn receive_setting<'a, A: Allocator + Copy>(
     one: &Look<'a, A>,
     other: &Look<'a, A>,
 ) -> (Setting<&'a Spec<A>>, Setting<&'a Spec<A>>)
     requires { look_seen one.now ≡ look_seen other.now }
     ensures { lent_seen result.0 ≡ lent_seen result.1 }
 {
-    (one.receiving(), other.receiving())
+    (one.receive_setting(), other.receive_setting())
 }
 
 /// `tn_session::Look::newest` has one answer.
@@ -109,9 +109,9 @@ pub fn newest<'a, A: Allocator + Copy>(
     other: &Look<'a, A>,
     call: &Call<A>,
     same_call: &Call<A>,
-) -> (Option<Newest<'a, A>>, Option<Newest<'a, A>>)
+) -> (Option<NewestSetting<'a, A>>, Option<NewestSetting<'a, A>>)
     requires looks { look_seen one.now ≡ look_seen other.now }
-    requires calls { call_of call.now ≡ call_of same_call.now }
+    requires calls { call_seen call.now ≡ call_seen same_call.now }
     ensures { option_map newest_seen result.0 ≡ option_map newest_seen result.1 }
 {
     (one.newest(call), other.newest(same_call))

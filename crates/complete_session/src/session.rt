@@ -7,9 +7,9 @@ ghost use Rattle.tn_term.specs.Views.{alive_of, tree_of};
 ghost use Rattle.tn_flags.specs.Views.{command_of, event_of};
 ghost use Rattle.tn_session.specs.Looks.{look_seen};
 ghost use Rattle.tn_session.specs.Sessions.{IsAt, IsSpent};
-ghost use Rattle.tn_session.specs.Telling.{message_in};
+ghost use Rattle.tn_session.specs.EventSteps.{message_in};
 ghost use Rattle.tn_session.specs.Views.{function_seen};
-ghost use Rattle.complete_session.specs.Afterwards.{AnswerAlike, AreInOne, term_seen};
+ghost use Rattle.complete_session.specs.Afterwards.{Alike, AreInOne, term_seen};
 
 use std::alloc::{AllocError, Allocator};
 use tn_flags::{Command, Event};
@@ -64,7 +64,7 @@ pub fn command<A: Allocator + Copy>(
     requires first { IsAt at.0 at.1 one.old }
     requires second { IsAt at.0 at.1 other.old }
     requires commands { command_of command.now ≡ command_of same_command.now }
-    ensures reply { IfOk result.0 (λ t. IfOk result.1 (λ u. AnswerAlike at.0 one.new (tree_of t) other.new (tree_of u))) }
+    ensures reply { IfOk result.0 (λ t. IfOk result.1 (λ u. Alike at.0 one.new (tree_of t) other.new (tree_of u))) }
     ensures refused { OnErr result.0 (IsSpent one.new) }
 {
     let first = one.command(command);
@@ -98,7 +98,7 @@ pub fn event<A: Allocator + Copy>(
     requires first { IsAt at.0 at.1 one.old }
     requires second { IsAt at.0 at.1 other.old }
     requires events { event_of event.now ≡ event_of same_event.now }
-    ensures message { IfOk result.0 (λ m. IfOk result.1 (λ n. AnswerAlike at.0 one.new (term_seen m) other.new (term_seen n))) }
+    ensures ok { IfOk result.0 (λ m. IfOk result.1 (λ n. Alike at.0 one.new (term_seen m) other.new (term_seen n))) }
     ensures refused { OnErr result.0 (IsSpent one.new) }
 {
     let first = one.event(event);
@@ -132,7 +132,7 @@ pub fn tell<'a, A: Allocator + Copy>(
     requires first { IsAt at.0 at.1 one.old }
     requires second { IsAt at.0 at.1 other.old }
     requires events { event_of event.now ≡ event_of same_event.now }
-    ensures message { IfOk result.0 (λ m. IfOk result.1 (λ n. AnswerAlike at.0 one.new (message_in m) other.new (message_in n))) }
+    ensures ok { IfOk result.0 (λ m. IfOk result.1 (λ n. Alike at.0 one.new (message_in m) other.new (message_in n))) }
     ensures refused { OnErr result.0 (IsSpent one.new) }
 {
     let first = one.tell(event);

@@ -10,17 +10,17 @@ use Rattle.tn_spec.specs.declared.fault.SpecFault.{SpecFault}
 use Rattle.tn_spec.specs.declared.fault.SpecFault.TheVariants.{Badarg, Unsupported, TooLarge, OutOfMemory}
 use Rattle.tn_spec.specs.declared.func.Dialect.{Dialect}
 use Rattle.tn_spec.specs.declared.spec.Spec.{Spec}
-use Rattle.complete_specs.specs.Readings.{IsRefused, AreReadAlike}
+use Rattle.complete_specs.specs.Readings.{IsSpecRefused, AreReadAlike}
 
 -- ---- of a clause
 
-no_fault : {A Y : Type 0} (r : Reads Y) (y : Y) (f : SpecFault A) → r ≡ Ok y → IsFaultOf r f → IsRefused f
+no_fault : {A Y : Type 0} (r : Reads Y) (y : Y) (f : SpecFault A) → r ≡ Ok y → IsFaultOf r f → IsSpecRefused f
 no_fault r y Badarg p q = absurd (cc)
 no_fault r y (Unsupported s) p q = absurd (cc)
 no_fault r y TooLarge p q = q
 no_fault r y OutOfMemory p q = tt
 
-one_fault : {A Y : Type 0} (r : Reads Y) (e f : SpecFault A) → IsFaultOf r e → IsFaultOf r f → ¬ IsRefused e → ¬ IsRefused f → e ≡ f
+one_fault : {A Y : Type 0} (r : Reads Y) (e f : SpecFault A) → IsFaultOf r e → IsFaultOf r f → ¬ IsSpecRefused e → ¬ IsSpecRefused f → e ≡ f
 one_fault r OutOfMemory f p q m n = absurd (m tt)
 one_fault r e OutOfMemory p q m n = absurd (n tt)
 one_fault r TooLarge f p q m n = absurd p
@@ -38,13 +38,13 @@ read_alike view r q (Err e) (Err f) same p o = one_fault r e f p (subst (λ s. I
 
 -- ---- of a specification
 
-no_fault_in : {A : Type 0} (d : Dialect) (t : Tree) (s : Spec A) (f : SpecFault A) → spec_of (dialect_of d) t ≡ Ok (spec_seen s) → ¬ IsTooLarge t → IsFaultIn d t f → FaultAgreesWithSize t f → IsRefused f
+no_fault_in : {A : Type 0} (d : Dialect) (t : Tree) (s : Spec A) (f : SpecFault A) → spec_of (dialect_of d) t ≡ Ok (spec_seen s) → ¬ IsTooLarge t → IsFaultIn d t f → FaultAgreesWithSize t f → IsSpecRefused f
 no_fault_in d t s Badarg read small p q = absurd (cc)
 no_fault_in d t s (Unsupported name) read small p q = absurd (cc)
 no_fault_in d t s TooLarge read small p q = absurd (small q)
 no_fault_in d t s OutOfMemory read small p q = tt
 
-one_fault_in : {A : Type 0} (d : Dialect) (t : Tree) (e f : SpecFault A) → IsFaultIn d t e → FaultAgreesWithSize t e → IsFaultIn d t f → FaultAgreesWithSize t f → ¬ IsRefused e → ¬ IsRefused f → e ≡ f
+one_fault_in : {A : Type 0} (d : Dialect) (t : Tree) (e f : SpecFault A) → IsFaultIn d t e → FaultAgreesWithSize t e → IsFaultIn d t f → FaultAgreesWithSize t f → ¬ IsSpecRefused e → ¬ IsSpecRefused f → e ≡ f
 one_fault_in d t OutOfMemory f p large q larger m n = absurd (m tt)
 one_fault_in d t e OutOfMemory p large q larger m n = absurd (n tt)
 one_fault_in d t Badarg Badarg p large q larger m n = refl

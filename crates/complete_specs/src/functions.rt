@@ -12,13 +12,13 @@ pub fn apply<'a, A: Allocator>(
     func: Func,
     one: &[Value<'a, A>],
     other: &[Value<'a, A>],
-    me: u32,
+    self_pid: u32,
 ) -> (Option<Value<'a, A>>, Option<Value<'a, A>>)
     requires { map value_seen one.now ≡ map value_seen other.now }
     ensures { option_map value_seen result.0 ≡ option_map value_seen result.1 }
 {
     (
-        tn_guard::apply(func, one, me),
-        tn_guard::apply(func, other, me),
+        tn_guard::apply(func, one, self_pid),
+        tn_guard::apply(func, other, self_pid),
     )
 }

@@ -7,8 +7,8 @@
 
 mod actions;
 mod bindings;
-mod covering;
 mod fault;
+mod function_setting;
 mod functions;
 mod matching;
 mod names;

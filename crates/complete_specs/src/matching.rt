@@ -7,7 +7,7 @@ ghost use Rattle.tn_head.specs.Views.{binding_seen};
 ghost use Rattle.tn_spec.specs.Views.{head_seen};
 
 use std::alloc::{AllocError, Allocator};
-use tn_guard::{Parts, Value};
+use tn_guard::{ListView, Value};
 use tn_head::{Bindings, SomeBindings};
 use tn_spec::{Head, Pattern};
 
@@ -16,8 +16,8 @@ pub fn bind<'a, P: Allocator, A: Allocator, B: Allocator + Copy>(
     alloc: B,
     head: &Head<P>,
     again: &Head<P>,
-    one: Parts<'a, A>,
-    other: Parts<'a, A>,
+    one: ListView<'a, A>,
+    other: ListView<'a, A>,
 ) -> (
     Result<Option<Bindings<'a, A, B>>, AllocError>,
     Result<Option<Bindings<'a, A, B>>, AllocError>,

@@ -1,13 +1,13 @@
 // What an atom is in a head or an expression.
 ghost use Rattle.std.specs.Prelude.{◌≡◌};
-ghost use Rattle.tn_spec.specs.Names.{kind_seen};
+ghost use Rattle.tn_spec.specs.Names.{atom_kind_seen};
 
 use tn_spec::AtomKind;
 
 /// `tn_spec::kind_of` has one answer.
 pub fn kind_of(one: &str, other: &str) -> (AtomKind, AtomKind)
     requires { one.now ≡ other.now }
-    ensures { kind_seen result.0 ≡ kind_seen result.1 }
+    ensures { atom_kind_seen result.0 ≡ atom_kind_seen result.1 }
 {
     (tn_spec::kind_of(one), tn_spec::kind_of(other))
 }

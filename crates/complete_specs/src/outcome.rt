@@ -5,7 +5,7 @@ ghost use Rattle.tn_spec.specs.Wholes.{spec_seen};
 ghost use Rattle.tn_action.specs.Views.{context_seen, effect_seen, outcome_seen};
 
 use std::alloc::{AllocError, Allocator};
-use tn_action::{Context, Effect, Outcome, Scene};
+use tn_action::{Context, Effect, EvalContext, Outcome};
 use tn_spec::{Expr, Spec};
 
 /// `tn_action::outcome` has one answer.
@@ -33,7 +33,7 @@ pub fn outcome<A: Allocator + Copy>(
 pub fn body_effects<'a, A: Allocator + Copy>(
     body: &'a Vec<Expr<A>, A>,
     again: &'a Vec<Expr<A>, A>,
-    scene: &Scene<'a, '_, A>,
+    scene: &EvalContext<'a, '_, A>,
 ) -> (
     Result<Vec<Effect<A>, A>, AllocError>,
     Result<Vec<Effect<A>, A>, AllocError>,

@@ -3,12 +3,12 @@ ghost use Rattle.std.specs.Prelude.{◌≡◌, IfOk};
 ghost use Rattle.tn_guard.specs.Views.{value_seen};
 
 use std::alloc::{AllocError, Allocator};
-use tn_action::Scene;
+use tn_action::EvalContext;
 use tn_guard::Value;
 
-/// `tn_action::Scene::caller` has one answer.
+/// `tn_action::EvalContext::caller` has one answer.
 pub fn caller<'a, A: Allocator + Copy>(
-    scene: &Scene<'a, '_, A>,
+    scene: &EvalContext<'a, '_, A>,
 ) -> (
     Result<Value<'a, A>, AllocError>,
     Result<Value<'a, A>, AllocError>,

@@ -4,7 +4,7 @@ ghost use Rattle.std.specs.Option.{option_map};
 ghost use Rattle.tn_term.specs.Views.{mfa_seen};
 
 use std::alloc::{AllocError, Allocator};
-use tn_index::{Covering, Settings};
+use tn_index::{FunctionSetting, Settings};
 use tn_term::Mfa;
 
 /// `tn_index::Settings::new` has one answer.
@@ -20,16 +20,16 @@ pub fn set<S: Drop, A: Allocator + Copy>(
     other: &mut Settings<S, A>,
     functions: &[(Mfa<A>, bool)],
     others: &[(Mfa<A>, bool)],
-    covering: Covering<S, A>,
-    again: Covering<S, A>,
+    function_setting: FunctionSetting<S, A>,
+    again: FunctionSetting<S, A>,
 ) -> (Result<(), AllocError>, Result<(), AllocError>)
     requires settings { one.old ≡ other.old }
-    requires commands { covering ≡ again }
+    requires commands { function_setting ≡ again }
     ensures ok { OnOk result.0 (OnOk result.1 (one.new ≡ other.new)) }
     ensures one_err { OnErr result.0 (one.new ≡ one.old) }
     ensures other_err { OnErr result.1 (other.new ≡ other.old) }
 {
-    let first = one.set(functions, covering);
+    let first = one.set(functions, function_setting);
     let second = other.set(others, again);
     (first, second)
 }
@@ -41,7 +41,10 @@ pub fn get<'s, S: Drop, A: Allocator + Copy>(
     function: &Mfa<A>,
     again: &Mfa<A>,
     exported: bool,
-) -> (Option<&'s Covering<S, A>>, Option<&'s Covering<S, A>>)
+) -> (
+    Option<&'s FunctionSetting<S, A>>,
+    Option<&'s FunctionSetting<S, A>>,
+)
     requires settings { one.now ≡ other.now }
     requires functions { mfa_seen function.now ≡ mfa_seen again.now }
     ensures { option_map (λ k. k.now) result.0 ≡ option_map (λ k. k.now) result.1 }

@@ -2,15 +2,15 @@
 ghost use Rattle.std.specs.Prelude.{◌≡◌, IfOk};
 ghost use Rattle.std.specs.Option.{option_map};
 ghost use Rattle.tn_term.specs.Views.{tree_of};
-ghost use Rattle.tn_guard.specs.Views.{parts_seen, value_seen, word_seen};
+ghost use Rattle.tn_guard.specs.Views.{list_view_seen, value_seen, atom_const_seen};
 
 use std::alloc::{AllocError, Allocator};
-use tn_guard::{Parts, Value, Word};
+use tn_guard::{AtomConst, ListView, Value};
 use tn_term::Term;
 
-/// `tn_guard::Word::text` has one answer.
-pub fn text(one: Word, other: Word) -> (&'static str, &'static str)
-    requires { word_seen one ≡ word_seen other }
+/// `tn_guard::AtomConst::text` has one answer.
+pub fn text(one: AtomConst, other: AtomConst) -> (&'static str, &'static str)
+    requires { atom_const_seen one ≡ atom_const_seen other }
     ensures { result.0.now ≡ result.1.now }
 {
     (one.text(), other.text())
@@ -87,9 +87,9 @@ pub fn pid<'a, A: Allocator>(one: Value<'a, A>, other: Value<'a, A>) -> (Option<
 pub fn tuple_parts<'a, A: Allocator>(
     one: Value<'a, A>,
     other: Value<'a, A>,
-) -> (Option<Parts<'a, A>>, Option<Parts<'a, A>>)
+) -> (Option<ListView<'a, A>>, Option<ListView<'a, A>>)
     requires { value_seen one ≡ value_seen other }
-    ensures { option_map parts_seen result.0 ≡ option_map parts_seen result.1 }
+    ensures { option_map list_view_seen result.0 ≡ option_map list_view_seen result.1 }
 {
     (one.tuple_parts(), other.tuple_parts())
 }
@@ -98,9 +98,9 @@ pub fn tuple_parts<'a, A: Allocator>(
 pub fn list_parts<'a, A: Allocator>(
     one: Value<'a, A>,
     other: Value<'a, A>,
-) -> (Option<Parts<'a, A>>, Option<Parts<'a, A>>)
+) -> (Option<ListView<'a, A>>, Option<ListView<'a, A>>)
     requires { value_seen one ≡ value_seen other }
-    ensures { option_map parts_seen result.0 ≡ option_map parts_seen result.1 }
+    ensures { option_map list_view_seen result.0 ≡ option_map list_view_seen result.1 }
 {
     (one.list_parts(), other.list_parts())
 }

@@ -6,7 +6,7 @@ ghost use Rattle.tn_spec.specs.Views.{expr_seen};
 ghost use Rattle.tn_action.specs.Views.{effect_seen};
 
 use std::alloc::{AllocError, Allocator};
-use tn_action::{Effect, Scene};
+use tn_action::{Effect, EvalContext};
 use tn_guard::Value;
 use tn_spec::Expr;
 
@@ -14,7 +14,7 @@ use tn_spec::Expr;
 pub fn value<'a, A: Allocator + Copy>(
     expr: &'a Expr<A>,
     again: &'a Expr<A>,
-    scene: &Scene<'a, '_, A>,
+    scene: &EvalContext<'a, '_, A>,
     one: &mut Vec<Effect<A>, A>,
     other: &mut Vec<Effect<A>, A>,
 ) -> (

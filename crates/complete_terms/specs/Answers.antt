@@ -18,11 +18,11 @@ FaultsAlike f OutOfMemory = Unit {0}
 FaultsAlike f g = f ≡ g
 
 -- the same value, by this view, or the same fault
-abbrev pub Alike : {X V : Type 0} → (X → V) → Result X TextFault → Result X TextFault → Type 0
-Alike view (Ok x) (Ok y) = view x ≡ view y
-Alike view (Ok x) (Err g) = IsRefusedMemory g
-Alike view (Err f) (Ok y) = IsRefusedMemory f
-Alike view (Err f) (Err g) = FaultsAlike f g
+abbrev pub AreAlike : {X V : Type 0} → (X → V) → Result X TextFault → Result X TextFault → Type 0
+AreAlike view (Ok x) (Ok y) = view x ≡ view y
+AreAlike view (Ok x) (Err g) = IsRefusedMemory g
+AreAlike view (Err f) (Ok y) = IsRefusedMemory f
+AreAlike view (Err f) (Err g) = FaultsAlike f g
 
 -- this term is read, unless memory is refused
 abbrev pub ReadsAs : {A : Type 0} → Tree → Result (Term A) TextFault → Type 0

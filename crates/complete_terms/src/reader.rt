@@ -1,7 +1,7 @@
 // What a text is read as.
 ghost use Rattle.std.specs.Prelude.{map};
 ghost use Rattle.tn_term.specs.Views.{tree_of};
-ghost use Rattle.complete_terms.specs.Answers.{Alike};
+ghost use Rattle.complete_terms.specs.Answers.{AreAlike};
 
 use std::alloc::Allocator;
 use tn_term::Term;
@@ -15,7 +15,7 @@ pub fn all_tokens<A: Allocator + Copy>(
     Result<Vec<Token, A>, TextFault>,
     Result<Vec<Token, A>, TextFault>,
 )
-    ensures { Alike (λ v. v.items) result.0 result.1 }
+    ensures { AreAlike (λ v. v.items) result.0 result.1 }
 {
     (tokens(alloc, bytes), tokens(alloc, bytes))
 }
@@ -25,7 +25,7 @@ pub fn one_term<A: Allocator + Copy>(
     alloc: A,
     bytes: &[u8],
 ) -> (Result<Term<A>, TextFault>, Result<Term<A>, TextFault>)
-    ensures { Alike tree_of result.0 result.1 }
+    ensures { AreAlike tree_of result.0 result.1 }
 {
     let first = read_term(alloc, bytes);
     let second = read_term(alloc, bytes);
@@ -40,7 +40,7 @@ pub fn all_terms<A: Allocator + Copy>(
     Result<Vec<Term<A>, A>, TextFault>,
     Result<Vec<Term<A>, A>, TextFault>,
 )
-    ensures { Alike (λ v. map tree_of v.items) result.0 result.1 }
+    ensures { AreAlike (λ v. map tree_of v.items) result.0 result.1 }
 {
     let first = read_terms(alloc, bytes);
     let second = read_terms(alloc, bytes);

@@ -10,22 +10,25 @@ use Rattle.def_run.specs.Output.{refusal_text}
 use Rattle.def_run.proofs.Outputs.{picks_are_one}
 use Rattle.tn_program.specs.declared.parts.Program as code
 use Rattle.tn_program.specs.Views.{program_of}
-use Rattle.tn_run.specs.Out.{Asked, by_picks, by_round, by_workers, ArePicks, HasPicks, HasNoPicks, IsListed, IsRefusedSo, IsRunOf}
-use Rattle.tn_run.specs.Scripts.{IsAccepted, refusal_of}
-use Rattle.tn_run.specs.declared.acceptance.Denial.{Denial}
-use Rattle.tn_run.specs.declared.acceptance.Denial.TheVariants as denial
+use Rattle.tn_refusal.specs.Refusals.{refusal_of}
+use Rattle.tn_refusal.specs.declared.refusal.Denial.{Denial}
+use Rattle.tn_refusal.specs.declared.refusal.Denial.TheVariants as denial
+use Rattle.tn_run.specs.Answers.{ScheduleView, by_picks, by_round, by_workers, ArePicks, HasPicks, IsRunListing, run_for}
+use Rattle.tn_run.specs.Jobs.{Gives, OfScript}
+use Rattle.tn_run.specs.Scripts.{IsAccepted}
+use Rattle.tn_run.proofs.JobLemmas.{refused_by}
 use Rattle.tn_run.specs.declared.outcome.Outcome.{Outcome}
 use Rattle.tn_run.specs.declared.outcome.Outcome.TheVariants.{Listed, Refused}
-use Rattle.tn_run.specs.declared.outcome.Refusal as told
-use Rattle.tn_run.specs.declared.outcome.Refusal.TheVariants.{TooLong, Token, TooDeep, TooLarge, Form as Shapeless, TooManyForms, Duplicate, Undeclared, NotExported, Unbound, TracerTaken, Arity, Limit, BadPicks}
+use Rattle.tn_refusal.specs.declared.refusal.Refusal as reported
+use Rattle.tn_refusal.specs.declared.refusal.Refusal.TheVariants.{TooLong, Token, TooDeep, TooLarge, Form as Shapeless, TooManyForms, Duplicate, Undeclared, NotExported, Unbound, TracerTaken, Arity, Limit, BadPicks}
 use Rattle.complete_scripts.specs.Agreement.{Agree, answer_of}
-use Rattle.complete_scripts.proofs.Agreeing.{agree_by}
+use Rattle.complete_scripts.proofs.Agreements.{agree_by}
 use Rattle.complete_workers.specs.Runs.{denial_seen}
 
 -- ---- refusals
 
 -- the code's refusal that stands for a refusal
-abbrev told_of : Refusal → told.Refusal
+abbrev told_of : Refusal → reported.Refusal
 told_of script.too_long = TooLong
 told_of (script.token at) = Token at
 told_of (script.too_deep at) = TooDeep at
@@ -41,7 +44,7 @@ told_of (script.broken rules.wrong_arity n) = Arity n
 told_of (script.broken rules.past_limit n) = Limit n
 told_of script.bad_picks = BadPicks
 
-told_back : (r : told.Refusal) → told_of (refusal_of r) ≡ r
+told_back : (r : reported.Refusal) → told_of (refusal_of r) ≡ r
 told_back TooLong = refl
 told_back (Token at) = refl
 told_back (TooDeep at) = refl
@@ -57,16 +60,16 @@ told_back (Arity n) = refl
 told_back (Limit n) = refl
 told_back BadPicks = refl
 
-same_refusal : (r s : told.Refusal) → refusal_of r ≡ refusal_of s → r ≡ s
+same_refusal : (r s : reported.Refusal) → refusal_of r ≡ refusal_of s → r ≡ s
 same_refusal r s e = sym (told_back r) ∙ ap told_of e ∙ told_back s
 
 -- ---- accepted texts
 
-abbrev ComesTo : List ℕ → Result Program told.Refusal → Type 0
+abbrev ComesTo : List ℕ → Result Program reported.Refusal → Type 0
 ComesTo bytes (Ok p) = IsScript bytes p
 ComesTo bytes (Err r) = IsRefused bytes (refusal_of r)
 
-one_answer : (bytes : List ℕ) (x y : Result Program told.Refusal) → ComesTo bytes x → ComesTo bytes y → x ≡ y
+one_answer : (bytes : List ℕ) (x y : Result Program reported.Refusal) → ComesTo bytes x → ComesTo bytes y → x ≡ y
 one_answer bytes (Ok p) (Ok q) h i = ap Ok (one_program bytes p q h i)
 one_answer bytes (Ok p) (Err r) h i = absurd (not_both bytes p (refusal_of r) h i)
 one_answer bytes (Err r) (Ok p) h i = absurd (not_both bytes p (refusal_of r) i h)
@@ -84,76 +87,68 @@ same_accepted {A} bytes other r q e h i =
 
 -- ---- runs
 
--- the picks that are asked are given, or there are none
-given : (a : Asked) (p : Program) (picks : List ℕ) → ArePicks a p picks → HasPicks a
+-- the picks that are asked are given
+pub given : (a : ScheduleView) (p : Program) (picks : List ℕ) → ArePicks a p picks → HasPicks a
 given (by_picks text) p picks h = (picks, h)
 given (by_round limit) p picks h = tt
 given (by_workers made) p picks h = tt
 
-picks_or_none : (a : Asked) → HasPicks a → HasNoPicks a → ⊥
-picks_or_none (by_picks text) h none = none h.0 h.1
-picks_or_none (by_round limit) h none = none
-picks_or_none (by_workers made) h none = none
-
-one_picks : (a : Asked) (p : Program) (picks others : List ℕ) → ArePicks a p picks → ArePicks a p others → picks ≡ others
+one_picks : (a : ScheduleView) (p : Program) (picks others : List ℕ) → ArePicks a p picks → ArePicks a p others → picks ≡ others
 one_picks (by_picks text) p picks others h i = picks_are_one text picks others h i
 one_picks (by_round limit) p picks others h i = h ∙ sym i
 one_picks (by_workers made) p picks others h i = h.0 ∙ sym i.0
 
--- a refusal is of the picks alone, or of the bytes
-refused_by : (bytes : List ℕ) (a : Asked) (r : Refusal) → IsRefusedSo bytes a r → (HasNoPicks a × (r ≡ script.bad_picks)) ⊎ (HasPicks a × IsRefused bytes r)
-refused_by bytes a script.too_long h = inr h
-refused_by bytes a (script.token at) h = inr h
-refused_by bytes a (script.too_deep at) h = inr h
-refused_by bytes a (script.too_large at) h = inr h
-refused_by bytes a (script.form n) h = inr h
-refused_by bytes a script.too_many_forms h = inr h
-refused_by bytes a (script.broken r n) h = inr h
-refused_by bytes a script.bad_picks h = inl (h, refl)
+-- why a run is refused: there are no picks, or the bytes are no script
+abbrev Cause : List ℕ → ScheduleView → Refusal → Type 0
+Cause bytes a r = ((HasPicks a → ⊥) × (r ≡ script.bad_picks)) ⊎ (HasPicks a × IsRefused bytes r)
 
-abbrev Cause : List ℕ → Asked → Refusal → Type 0
-Cause bytes a r = (HasNoPicks a × (r ≡ script.bad_picks)) ⊎ (HasPicks a × IsRefused bytes r)
-
-one_cause : (bytes : List ℕ) (a : Asked) (r s : Refusal) → Cause bytes a r → Cause bytes a s → r ≡ s
+one_cause : (bytes : List ℕ) (a : ScheduleView) (r s : Refusal) → Cause bytes a r → Cause bytes a s → r ≡ s
 one_cause bytes a r s (inl h) (inl i) = h.1 ∙ sym i.1
-one_cause bytes a r s (inl h) (inr i) = absurd (picks_or_none a i.0 h.0)
-one_cause bytes a r s (inr h) (inl i) = absurd (picks_or_none a h.0 i.0)
+one_cause bytes a r s (inl h) (inr i) = absurd (h.0 i.0)
+one_cause bytes a r s (inr h) (inl i) = absurd (i.0 h.0)
 one_cause bytes a r s (inr h) (inr i) = refused_once bytes r s h.1 i.1
 
-not_caused : (bytes : List ℕ) (a : Asked) (r : Refusal) (output : List ℕ) → IsListed bytes a output → Cause bytes a r → ⊥
-not_caused bytes a r output h (inl i) = picks_or_none a (given a h.program h.picks h.given) i.0
+abbrev IsListingOf : List ℕ → ScheduleView → List ℕ → Type 0
+IsListingOf bytes a output = OfScript bytes (λ p. IsRunListing a p output)
+
+not_caused : (bytes : List ℕ) (a : ScheduleView) (r : Refusal) (output : List ℕ) → IsListingOf bytes a output → Cause bytes a r → ⊥
+not_caused bytes a r output h (inl i) = i.0 (given a h.program h.output.picks h.output.given)
 not_caused bytes a r output h (inr i) = not_both bytes h.program r h.accepted i.1
 
-one_listing : (bytes : List ℕ) (a : Asked) (x y : List ℕ) → IsListed bytes a x → IsListed bytes a y → x ≡ y
+one_listing : (bytes : List ℕ) (a : ScheduleView) (x y : List ℕ) → IsListingOf bytes a x → IsListingOf bytes a y → x ≡ y
 one_listing bytes a x y h i =
     let program : i.program ≡ h.program = one_program bytes i.program h.program i.accepted h.accepted in
-    let picks : h.picks ≡ i.picks = one_picks a h.program h.picks i.picks h.given (subst (λ p. ArePicks a p i.picks) program i.given) in
-    h.listing ∙ ap₂ program_output (sym program) picks ∙ sym i.listing
+    let picks : h.output.picks ≡ i.output.picks = one_picks a h.program h.output.picks i.output.picks h.output.given (subst (λ p. ArePicks a p i.output.picks) program i.output.given) in
+    h.output.listing ∙ ap₂ program_output (sym program) picks ∙ sym i.output.listing
 
-pub one_run : (bytes : List ℕ) (a : Asked) (o u : Outcome) (x y : List ℕ) → IsRunOf bytes a o x → IsRunOf bytes a u y → (o ≡ u) × (x ≡ y)
+pub one_run : (bytes : List ℕ) (a : ScheduleView) (o u : Outcome) (x y : List ℕ) → Gives (run_for a) bytes o x → Gives (run_for a) bytes u y → (o ≡ u) × (x ≡ y)
 one_run bytes a Listed Listed x y h i = (refl, one_listing bytes a x y h i)
-one_run bytes a Listed (Refused s) x y h i = absurd (not_caused bytes a (refusal_of s) x h (refused_by bytes a (refusal_of s) i.0))
-one_run bytes a (Refused r) Listed x y h i = absurd (not_caused bytes a (refusal_of r) y i (refused_by bytes a (refusal_of r) h.0))
+one_run bytes a Listed (Refused s) x y h i = absurd (not_caused bytes a (refusal_of s) x h (refused_by (HasPicks a) bytes (refusal_of s) i.0))
+one_run bytes a (Refused r) Listed x y h i = absurd (not_caused bytes a (refusal_of r) y i (refused_by (HasPicks a) bytes (refusal_of r) h.0))
 one_run bytes a (Refused r) (Refused s) x y h i =
-    let e : refusal_of r ≡ refusal_of s = one_cause bytes a (refusal_of r) (refusal_of s) (refused_by bytes a (refusal_of r) h.0) (refused_by bytes a (refusal_of s) i.0) in
+    let e : refusal_of r ≡ refusal_of s = one_cause bytes a (refusal_of r) (refusal_of s) (refused_by (HasPicks a) bytes (refusal_of r) h.0) (refused_by (HasPicks a) bytes (refusal_of s) i.0) in
     (ap Refused (same_refusal r s e), h.1 ∙ ap refusal_text e ∙ sym i.1)
 
 -- a run has the picks that are asked, or there are none
-pub with_or_without : (bytes : List ℕ) (a : Asked) (o : Outcome) (x : List ℕ) → IsRunOf bytes a o x → HasPicks a ⊎ HasNoPicks a
-with_or_without bytes a Listed x h = inl (given a h.program h.picks h.given)
-with_or_without bytes a (Refused r) x h = elim (refused_by bytes a (refusal_of r) h.0) [ inl k ↦ inr k.0 | inr k ↦ inl k.0 ]
+with_or_without : (a : ScheduleView) (bytes : List ℕ) (r : Refusal) → Cause bytes a r → HasPicks a ⊎ (HasPicks a → ⊥)
+with_or_without a bytes r (inl h) = inr h.0
+with_or_without a bytes r (inr h) = inl h.0
+
+pub reads_or_not : (a : ScheduleView) (bytes : List ℕ) (o : Outcome) (x : List ℕ) → Gives (run_for a) bytes o x → HasPicks a ⊎ (HasPicks a → ⊥)
+reads_or_not a bytes Listed x h = inl (given a h.program h.output.picks h.output.given)
+reads_or_not a bytes (Refused r) x h = with_or_without a bytes (refusal_of r) (refused_by (HasPicks a) bytes (refusal_of r) h.0)
 
 -- whatever picks workers make, the outcome is one
 refused_for : (bytes made : List ℕ) (r : Refusal) → Cause bytes (by_workers made) r → IsRefused bytes r
-refused_for bytes made r (inl h) = absurd h.0
+refused_for bytes made r (inl h) = absurd (h.0 tt)
 refused_for bytes made r (inr h) = h.1
 
-refused_so : (bytes made : List ℕ) (r : told.Refusal) (x : List ℕ) → IsRunOf bytes (by_workers made) (Refused r) x → IsRefused bytes (refusal_of r)
-refused_so bytes made r x h = refused_for bytes made (refusal_of r) (refused_by bytes (by_workers made) (refusal_of r) h.0)
+refused_with : (bytes made : List ℕ) (r : reported.Refusal) (x : List ℕ) → Gives (run_for (by_workers made)) bytes (Refused r) x → IsRefused bytes (refusal_of r)
+refused_with bytes made r x h = refused_for bytes made (refusal_of r) (refused_by (Unit {0}) bytes (refusal_of r) h.0)
 
-pub one_outcome : (bytes made other : List ℕ) (o u : Outcome) (x y : List ℕ) → IsRunOf bytes (by_workers made) o x → IsRunOf bytes (by_workers other) u y → o ≡ u
+pub one_outcome : (bytes made other : List ℕ) (o u : Outcome) (x y : List ℕ) → Gives (run_for (by_workers made)) bytes o x → Gives (run_for (by_workers other)) bytes u y → o ≡ u
 one_outcome bytes made other Listed Listed x y h i = refl
-one_outcome bytes made other Listed (Refused s) x y h i = absurd (not_both bytes h.program (refusal_of s) h.accepted (refused_so bytes other s y i))
-one_outcome bytes made other (Refused r) Listed x y h i = absurd (not_both bytes i.program (refusal_of r) i.accepted (refused_so bytes made r x h))
+one_outcome bytes made other Listed (Refused s) x y h i = absurd (not_both bytes h.program (refusal_of s) h.accepted (refused_with bytes other s y i))
+one_outcome bytes made other (Refused r) Listed x y h i = absurd (not_both bytes i.program (refusal_of r) i.accepted (refused_with bytes made r x h))
 one_outcome bytes made other (Refused r) (Refused s) x y h i =
-    ap Refused (same_refusal r s (refused_once bytes (refusal_of r) (refusal_of s) (refused_so bytes made r x h) (refused_so bytes other s y i)))
+    ap Refused (same_refusal r s (refused_once bytes (refusal_of r) (refusal_of s) (refused_with bytes made r x h) (refused_with bytes other s y i)))

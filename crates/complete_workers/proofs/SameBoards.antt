@@ -2,7 +2,7 @@
 use Rattle.std.proofs.Common.{◌≡◌, ◌∙◌, ℕ, suc, List, [], ◌∷◌, length, All, Option, Some, None, IfSome, OnSome, Result, Ok, Err, IfOk, OnOk, IfErr, refl, sym, ap, ap₂, arith}
 use Rattle.std.specs.Borrow.{Bor}
 use Rattle.tn_listing.specs.declared.line.Line.{Line}
-use Rattle.tn_pool.specs.Boards.{IsAt}
+use Rattle.tn_pool.specs.Boards.{IsLineAt}
 use Rattle.complete_workers.specs.Receipts.{ArePlacedAlike}
 
 -- two lists of one length, of one value throughout
@@ -39,7 +39,7 @@ not_lent None none h = refl
 not_lent (Some line) none h = absurd (none h)
 
 -- two lines of one place
-pub same_places : {A : Type 0} (session index : ℕ) (o p : Option (Bor (Line A))) → IfSome o (λ l. IsAt session index l.now) → IfSome p (λ l. IsAt session index l.now)
+pub same_places : {A : Type 0} (session index : ℕ) (o p : Option (Bor (Line A))) → IfSome o (λ l. IsLineAt session index l.now) → IfSome p (λ l. IsLineAt session index l.now)
     → IfSome o (λ l. IfSome p (λ k. ArePlacedAlike l.now k.now))
 same_places session index None p h i = tt
 same_places session index (Some l) None h i = tt

@@ -6,11 +6,9 @@ use Rattle.std.specs.Io.KnownBytes.{Appends}
 use Rattle.std.specs.declared.vec.Vec.{Vec}
 use Rattle.tn_run.specs.declared.fault.RunFault.{RunFault}
 use Rattle.tn_run.specs.declared.fault.RunFault.TheVariants.{Read, Write, OutOfMemory}
-use Rattle.tn_run.specs.declared.fault.LiveFault.TheVariants.{Run}
 use Rattle.tn_run.specs.Ends.{TakesText, WritesFront, full}
-use Rattle.tn_run.specs.Workers.{IsOfNoWrite}
 use Rattle.complete_runs.proofs.Both.{both_if_ok}
-use Rattle.complete_workers.specs.Ends.{EndAlike, fault_of}
+use Rattle.complete_workers.specs.Ends.{EndAlike, error_of}
 
 pub none_some : {X P : Type 0} (x : X) → None ≡ Some x → P
 none_some x e = cc
@@ -71,30 +69,24 @@ same_left old other new new' r q e h i some =
     both_if_ok (λ v. TakesText old new v.items) (λ v. TakesText other new' v.items) (λ v w. new ≡ new') (λ v w k l. (same_taken old other new new' v.items w.items e some k l).1) r q h i
 
 -- whether a read has failed, then
-abbrev pub read_failed : Bool → Option RunFault → Bool
+abbrev read_failed : Bool → Option RunFault → Bool
 read_failed was None = was
 read_failed was (Some Read) = true
 read_failed was (Some (Write n)) = was
 read_failed was (Some OutOfMemory) = was
 
-pub read_failed_is : {X : Type 0} (was now : Bool) (r : Result X RunFault) → OnOk r (now ≡ was) → (IsErrOf r Read → now ≡ true) → (IsErrOf r OutOfMemory → now ≡ was) → IfErr r (λ e. IsOfNoWrite (Run e)) → now ≡ read_failed was (fault_of r)
+read_failed_is : {X : Type 0} (was now : Bool) (r : Result X RunFault) → OnOk r (now ≡ was) → (IsErrOf r Read → now ≡ true) → (IsErrOf r OutOfMemory → now ≡ was) → IfErr r (λ e. (n : ℕ) → e ≢ Write n) → now ≡ read_failed was (error_of r)
 read_failed_is was now (Ok x) h i k none = h
 read_failed_is was now (Err Read) h i k none = i refl
-read_failed_is was now (Err (Write n)) h i k none = absurd none
+read_failed_is was now (Err (Write n)) h i k none = absurd (none n refl)
 read_failed_is was now (Err OutOfMemory) h i k none = k refl
-
-no_write_fault : {X : Type 0} (r : Result X RunFault) → IfErr r (λ e. (n : ℕ) → e ≢ Write n) → IfErr r (λ e. IsOfNoWrite (Run e))
-no_write_fault (Ok x) h = tt
-no_write_fault (Err Read) h = tt
-no_write_fault (Err (Write n)) h = h n refl
-no_write_fault (Err OutOfMemory) h = tt
 
 pub same_read_failed : {X : Type 0} (was was' now now' : Bool) (r q : Result X RunFault) → was ≡ was'
     → OnOk r (now ≡ was) → (IsErrOf r Read → now ≡ true) → (IsErrOf r OutOfMemory → now ≡ was) → IfErr r (λ e. (n : ℕ) → e ≢ Write n)
     → OnOk q (now' ≡ was') → (IsErrOf q Read → now' ≡ true) → (IsErrOf q OutOfMemory → now' ≡ was') → IfErr q (λ e. (n : ℕ) → e ≢ Write n)
     → EndAlike r q → now ≡ now'
 same_read_failed was was' now now' r q e h i k l h' i' k' l' same =
-    same_by read_failed was was' now now' (fault_of r) (fault_of q) e (read_failed_is was now r h i k (no_write_fault r l)) (read_failed_is was' now' q h' i' k' (no_write_fault q l')) same
+    same_by read_failed was was' now now' (error_of r) (error_of q) e (read_failed_is was now r h i k l) (read_failed_is was' now' q h' i' k' l') same
 
 -- ---- what is written
 
@@ -113,7 +105,7 @@ written_by was output (Some OutOfMemory) = was
 abbrev Front : Option (List ℕ) → Option (List ℕ) → List ℕ → RunFault → Type 0
 Front old new output e = (n : ℕ) × (e ≡ Write n) × WritesFront old new output n
 
-written_is : (was output : List ℕ) (new : Option (List ℕ)) (r : Result (Unit {0}) RunFault) → OnOk r (Appends (Some was) new output) → IfErr r (λ e. Front (Some was) new output e) → new ≡ Some (written_by was output (fault_of r))
+written_is : (was output : List ℕ) (new : Option (List ℕ)) (r : Result (Unit {0}) RunFault) → OnOk r (Appends (Some was) new output) → IfErr r (λ e. Front (Some was) new output e) → new ≡ Some (written_by was output (error_of r))
 written_is was output new (Ok done) h i = appended was output new h
 written_is was output new (Err e) h i = appended was (take i.0 output) new i.2.gained ∙ ap (λ x. Some (written_by was output (Some x))) (sym i.1)
 
@@ -125,18 +117,18 @@ same_written (Some was) None new new' output output' r q e f h i k l some same =
 same_written (Some was) (Some was') new new' output output' r q e f h i k l some same =
     written_is was output new r h i
     ∙ ap (λ x. Some (written_by was output x)) same
-    ∙ ap₂ (λ x y. Some (written_by x y (fault_of q))) (the_same was was' e) f
+    ∙ ap₂ (λ x y. Some (written_by x y (error_of q))) (the_same was was' e) f
     ∙ sym (written_is was' output' new' q k l)
 
 abbrev write_failed : Bool → Option RunFault → Bool
 write_failed was None = was
 write_failed was (Some fault) = true
 
-write_failed_is : (was now : Bool) (r : Result (Unit {0}) RunFault) → OnOk r (now ≡ was) → OnErr r (now ≡ true) → now ≡ write_failed was (fault_of r)
+write_failed_is : (was now : Bool) (r : Result (Unit {0}) RunFault) → OnOk r (now ≡ was) → OnErr r (now ≡ true) → now ≡ write_failed was (error_of r)
 write_failed_is was now (Ok done) h i = h
 write_failed_is was now (Err e) h i = i
 
 pub same_write_failed : (was was' now now' : Bool) (r q : Result (Unit {0}) RunFault) → was ≡ was' → OnOk r (now ≡ was) → OnErr r (now ≡ true) → OnOk q (now' ≡ was') → OnErr q (now' ≡ true)
     → EndAlike r q → now ≡ now'
 same_write_failed was was' now now' r q e h i k l same =
-    same_by write_failed was was' now now' (fault_of r) (fault_of q) e (write_failed_is was now r h i) (write_failed_is was' now' q k l) same
+    same_by write_failed was was' now now' (error_of r) (error_of q) e (write_failed_is was now r h i) (write_failed_is was' now' q k l) same

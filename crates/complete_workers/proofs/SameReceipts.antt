@@ -8,11 +8,11 @@ use Rattle.tn_live.specs.declared.entry.Entry.{Entry}
 use Rattle.tn_live.specs.declared.entry.Receipt.{Receipt}
 use Rattle.tn_live.specs.Journal.{picks_of}
 use Rattle.tn_live.specs.States.{SeatState}
-use Rattle.tn_live.specs.Turning.{IsReceipt}
+use Rattle.tn_live.specs.SeatTurns.{IsReceipt}
 use Rattle.tn_pool.specs.Earnings.{Earns, Works}
 use Rattle.tn_pool.specs.Reports.{Reports}
 use Rattle.complete_live.specs.Alike.{ReceiptState, receipt_seen}
-use Rattle.complete_workers.specs.Receipts.{numbers_of}
+use Rattle.complete_workers.specs.Receipts.{seat_numbers}
 
 -- ---- one seat
 
@@ -70,10 +70,10 @@ module _ {A : Type 0} (p : Program) where
   pub same_receipts : (seats others back back' : List SeatState) (rs qs : List (Receipt A)) → seats ≡ others → Reports p seats back rs → Reports p others back' qs → back ≡ back' → map receipt_seen rs ≡ map receipt_seen qs
   same_receipts seats others back back' rs qs e h i same = of_seats seats back back' rs qs h (subst (λ s. Reports p s back' qs) (sym e) i) same
 
-  numbers_stay : (seats back : List SeatState) (rs : List (Receipt A)) → Reports p seats back rs → numbers_of back ≡ numbers_of seats
-  numbers_stay [] back rs h = ap numbers_of h.0
+  numbers_stay : (seats back : List SeatState) (rs : List (Receipt A)) → Reports p seats back rs → seat_numbers back ≡ seat_numbers seats
+  numbers_stay [] back rs h = ap seat_numbers h.0
   numbers_stay (s ∷ seats) back rs h =
-      ap numbers_of h.4 ∙ ap₂ (λ x xs. x ∷ xs) (ap (λ (x : SeatState). x.number) h.6.seen) (numbers_stay seats h.1 h.3 h.7)
+      ap seat_numbers h.4 ∙ ap₂ (λ x xs. x ∷ xs) (ap (λ (x : SeatState). x.number) h.6.seen) (numbers_stay seats h.1 h.3 h.7)
 
-  pub same_numbers : (seats others back back' : List SeatState) (rs qs : List (Receipt A)) → seats ≡ others → Reports p seats back rs → Reports p others back' qs → numbers_of back ≡ numbers_of back'
-  same_numbers seats others back back' rs qs e h i = numbers_stay seats back rs h ∙ ap numbers_of e ∙ sym (numbers_stay others back' qs i)
+  pub same_numbers : (seats others back back' : List SeatState) (rs qs : List (Receipt A)) → seats ≡ others → Reports p seats back rs → Reports p others back' qs → seat_numbers back ≡ seat_numbers back'
+  same_numbers seats others back back' rs qs e h i = numbers_stay seats back rs h ∙ ap seat_numbers e ∙ sym (numbers_stay others back' qs i)

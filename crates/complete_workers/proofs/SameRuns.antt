@@ -1,293 +1,228 @@
--- Two runs over the same bytes answer, write and leave the same.
-use Rattle.std.proofs.Common.{◌≡◌, ◌∙◌, ◌⊎◌, inl, inr, ℕ, Bool, true, List, [], ◌++◌, take, Option, Some, None, IsSome, Result, Ok, Err, IfOk, IfErr, OnOk, IsErrOf, refl, sym, ap, subst}
-use Rattle.tn_text.specs.Watch.{watched_inner}
+-- Two answers of one job over the same bytes: what is answered, written and left is the same.
+use Rattle.std.proofs.Common.{◌≡◌, ◌∙◌, ◌⊎◌, inl, inr, ℕ, Bool, true, List, [], ◌++◌, take, Option, Some, None, IsSome, Result, Ok, Err, IfOk, IfErr, OnOk, refl, sym, ap, ap₂, subst}
+use Rattle.tn_text.specs.Watch.{watched_inner, has_failed, is_flushed}
 use Rattle.tn_text.specs.declared.watched.Watched.{Watched}
-use Rattle.tn_run.specs.Out.{Asked, by_workers, HasPicks, HasNoPicks, IsRunOf}
-use Rattle.tn_run.specs.Plans.{TakesSome, Writes, WritesSome}
-use Rattle.tn_run.specs.Workers.{HasPicksWhereListed, IsOfNoEnd, IsOfNoWrite}
+use Rattle.tn_run.specs.Answers.{by_workers, HasPicksWhereListed, live_end_of, live_run, run_for}
+use Rattle.tn_run.specs.Ends.{TakesText}
+use Rattle.tn_run.specs.Jobs.{Meets, FailedEnd, Gives, JobView, Writes, WritesSome, no_end_failed, reader_failed, writer_failed}
 use Rattle.tn_run.specs.declared.outcome.Outcome.{Outcome}
 use Rattle.tn_run.specs.declared.outcome.Outcome.TheVariants.{Listed, Refused}
-use Rattle.tn_run.specs.declared.fault.RunFault.{RunFault}
-use Rattle.tn_run.specs.declared.fault.RunFault.TheVariants.{Read, Write, OutOfMemory}
 use Rattle.tn_run.specs.declared.fault.LiveFault.{LiveFault}
-use Rattle.tn_run.specs.declared.fault.LiveFault.TheVariants.{Run, Pool}
 use Rattle.tn_run.specs.declared.live.Ran.{Ran}
 use Rattle.complete_runs.proofs.Both.{both_if_ok}
-use Rattle.complete_workers.specs.Ends.{EndAlike, TellAlike, fault_of}
-use Rattle.complete_workers.specs.Runs.{AreOfOneText, HasRead, HasReadLive, IsRefusal, MadeAlike, MeetNoLiveWriteFault, MeetNoWriteFault}
-use Rattle.complete_workers.proofs.OneRun.{one_outcome, one_run, with_or_without}
-use Rattle.complete_workers.proofs.SameEnds.{appended, as_other, not_told, read_failed, same_by, taken_is}
+use Rattle.complete_workers.specs.Ends.{EndAlike, TellAlike, error_of}
+use Rattle.complete_workers.specs.Runs.{AreOfOneText, HasRead, IsOfNoWrite, IsRefusedOutcome, MadeAlike, MeetNoWriteFault}
+use Rattle.complete_workers.proofs.OneRun.{one_outcome, one_run}
+use Rattle.complete_workers.proofs.SameEnds.{appended, as_other, not_told, taken_is}
 
 -- the same reader or writer tells the same bytes
 pub seen_as : {T : Type 0} (known : T → Option (List ℕ)) (one other : Watched T) → one ≡ other → TellAlike known one other
 seen_as {T} known one other e = ap (λ (w : Watched T). known (watched_inner w)) e
 
--- ---- by picks or by a round: the outcome
+-- ---- what both remember
 
-same_outcome_of : (a : Asked) (old w w' v v' : Option (List ℕ)) (o u : Outcome) → IsSome old → Writes old a w w' o → Writes old a v v' u → o ≡ u
-same_outcome_of a None w w' v v' o u some h i = not_told some
-same_outcome_of a (Some bytes) w w' v v' o u some h i = (one_run bytes a o u h.0 i.0 h.1 i.1).0
+-- whether a read has failed, a write has, and all was flushed, after this fault
+abbrev reader_after : Bool → FailedEnd → Bool
+reader_after was reader_failed = true
+reader_after was (writer_failed n) = was
+reader_after was no_end_failed = was
 
-pub same_outcome : (a : Asked) (old other w w' v v' : Option (List ℕ)) (r q : Result Outcome RunFault) → old ≡ other → IfOk r (Writes old a w w') → IfOk q (Writes other a v v')
-    → IsSome old → IfOk r (λ o. IfOk q (λ u. o ≡ u))
-same_outcome a old other w w' v v' r q e h i some =
-    both_if_ok (Writes old a w w') (Writes old a v v') (λ o u. o ≡ u) (λ o u k l. same_outcome_of a old w w' v v' o u some k l) r q h (subst (λ z. IfOk q (Writes z a v v')) (sym e) i)
+abbrev writer_after : Bool → FailedEnd → Bool
+writer_after was reader_failed = was
+writer_after was (writer_failed n) = true
+writer_after was no_end_failed = was
+
+-- after this answer, where `by` says it of a fault
+abbrev after_answer : {F : Type 0} → (F → Bool) → Bool → Option F → Bool
+after_answer by done None = done
+after_answer by done (Some fault) = by fault
+
+module _ {R W O F : Type 0} (job : JobView O F) (known : R → Option (List ℕ)) (reader reader' : Watched R) (gained : W → Option (List ℕ)) (writer writer' : Watched W) where
+  reader_at : (f : F) (x : FailedEnd) → job.end_of f ≡ x → Meets job known reader reader' gained writer writer' (Err f) → has_failed reader' ≡ reader_after (has_failed reader) x
+  reader_at f reader_failed e h = (h.on_read e).failed
+  reader_at f (writer_failed n) e h = (h.on_write n e).read.unfailed
+  reader_at f no_end_failed e h = (h.on_neither e).unfailed
+
+  reader_is : (r : Result O F) → Meets job known reader reader' gained writer writer' r → has_failed reader' ≡ after_answer (λ f. reader_after (has_failed reader) (job.end_of f)) (has_failed reader) (error_of r)
+  reader_is (Ok o) h = h.read.unfailed
+  reader_is (Err f) h = reader_at f (job.end_of f) refl h
+
+  writer_at : (f : F) (x : FailedEnd) → job.end_of f ≡ x → Meets job known reader reader' gained writer writer' (Err f) → has_failed writer' ≡ writer_after (has_failed writer) x
+  writer_at f reader_failed e h = ap has_failed (h.on_read e).unwritten
+  writer_at f (writer_failed n) e h = (h.on_write n e).failed
+  writer_at f no_end_failed e h = ap has_failed (h.on_neither e).unwritten
+
+  writer_is : (r : Result O F) → Meets job known reader reader' gained writer writer' r → has_failed writer' ≡ after_answer (λ f. writer_after (has_failed writer) (job.end_of f)) (has_failed writer) (error_of r)
+  writer_is (Ok o) h = h.unfailed
+  writer_is (Err f) h = writer_at f (job.end_of f) refl h
+
+  -- a fault of no write leaves the writer as it was
+  untouched_at : (f : F) (x : FailedEnd) → job.end_of f ≡ x → IsOfNoWrite job.end_of f → Meets job known reader reader' gained writer writer' (Err f) → writer' ≡ writer
+  untouched_at f reader_failed e none h = (h.on_read e).unwritten
+  untouched_at f (writer_failed n) e none h = absurd (none n e)
+  untouched_at f no_end_failed e none h = (h.on_neither e).unwritten
+
+  pub untouched : (f : F) → IsOfNoWrite job.end_of f → Meets job known reader reader' gained writer writer' (Err f) → writer' ≡ writer
+  untouched f none h = untouched_at f (job.end_of f) refl none h
+
+  flushed_is : (r : Result O F) → IfErr r (IsOfNoWrite job.end_of) → Meets job known reader reader' gained writer writer' r → is_flushed writer' ≡ after_answer (λ f. is_flushed writer) true (error_of r)
+  flushed_is (Ok o) none h = h.flushed
+  flushed_is (Err f) none h = ap is_flushed (untouched f none h)
+
+module _ {R W O F : Type 0} (job : JobView O F) (known : R → Option (List ℕ)) (one one' other other' : Watched R) (gained : W → Option (List ℕ)) (out out' same same' : Watched W) (r q : Result O F)
+    (h : Meets job known one one' gained out out' r) (i : Meets job known other other' gained same same' q) where
+  pub same_read_failed_by : has_failed one ≡ has_failed other → EndAlike r q → has_failed one' ≡ has_failed other'
+  same_read_failed_by e alike =
+      reader_is job known one one' gained out out' r h
+      ∙ ap₂ (λ was fault. after_answer (λ f. reader_after was (job.end_of f)) was fault) e alike
+      ∙ sym (reader_is job known other other' gained same same' q i)
+
+  pub same_write_failed_by : has_failed out ≡ has_failed same → EndAlike r q → has_failed out' ≡ has_failed same'
+  same_write_failed_by e alike =
+      writer_is job known one one' gained out out' r h
+      ∙ ap₂ (λ was fault. after_answer (λ f. writer_after was (job.end_of f)) was fault) e alike
+      ∙ sym (writer_is job known other other' gained same same' q i)
+
+  pub same_flushed : is_flushed out ≡ is_flushed same → MeetNoWriteFault job.end_of r q → is_flushed out' ≡ is_flushed same'
+  same_flushed e alike =
+      flushed_is job known one one' gained out out' r alike.1 h
+      ∙ ap₂ (λ was fault. after_answer (λ f. was) true fault) e alike.0
+      ∙ sym (flushed_is job known other other' gained same same' q (as_other (IsOfNoWrite job.end_of) r q alike.0 alike.1) i)
+
+-- ---- the outcome
+
+module _ {O F : Type 0} (job : JobView O F) (G : O → O → Type 0) (one : (bytes : List ℕ) (o u : O) (x y : List ℕ) → Gives job bytes o x → Gives job bytes u y → G o u) where
+  outcome_of : (old w w' v v' : Option (List ℕ)) (o u : O) → IsSome old → Writes job old w w' o → Writes job old v v' u → G o u
+  outcome_of None w w' v v' o u some h i = not_told some
+  outcome_of (Some bytes) w w' v v' o u some h i = one bytes o u h.0 i.0 h.1 i.1
+
+  pub same_outcome : (old other w w' v v' : Option (List ℕ)) (r q : Result O F) → old ≡ other → IfOk r (Writes job old w w') → IfOk q (Writes job other v v')
+      → IsSome old → IfOk r (λ o. IfOk q (G o))
+  same_outcome old other w w' v v' r q e h i some =
+      both_if_ok (Writes job old w w') (Writes job old v v') G (λ o u k l. outcome_of old w w' v v' o u some k l) r q h (subst (λ z. IfOk q (Writes job z v v')) (sym e) i)
 
 -- ---- what is written
 
--- what the writer tells, where it told its bytes: they have gained what was written of the one output
-abbrev Gained : List ℕ → Asked → List ℕ → Option (List ℕ) → Option RunFault → Type 0
-Gained bytes a was new None = (o : Outcome) × (output : List ℕ) × IsRunOf bytes a o output × (new ≡ Some (was ++ output))
-Gained bytes a was new (Some Read) = new ≡ Some was
-Gained bytes a was new (Some (Write n)) = (o : Outcome) × (output : List ℕ) × IsRunOf bytes a o output × (new ≡ Some (was ++ take n output))
-Gained bytes a was new (Some OutOfMemory) = new ≡ Some was
-
-one_gain : (bytes : List ℕ) (a : Asked) (was : List ℕ) (new new' : Option (List ℕ)) (fault : Option RunFault) → Gained bytes a was new fault → Gained bytes a was new' fault → new ≡ new'
-one_gain bytes a was new new' None h i = h.3 ∙ ap (λ x. Some (was ++ x)) (one_run bytes a h.0 i.0 h.1 i.1 h.2 i.2).1 ∙ sym i.3
-one_gain bytes a was new new' (Some Read) h i = h ∙ sym i
-one_gain bytes a was new new' (Some (Write n)) h i = h.3 ∙ ap (λ x. Some (was ++ take n x)) (one_run bytes a h.0 i.0 h.1 i.1 h.2 i.2).1 ∙ sym i.3
-one_gain bytes a was new new' (Some OutOfMemory) h i = h ∙ sym i
-
 -- what the contract says of the writer
-pub record SaysWritten (told : Option (List ℕ)) (a : Asked) (old new : Option (List ℕ)) (r : Result Outcome RunFault) : Type 0 where
-  pub done : IfOk r (Writes told a old new)
-  pub written : (n : ℕ) → IsErrOf r (Write n) → WritesSome told a old new n
-  pub read : IsErrOf r Read → new ≡ old
-  pub memory : IsErrOf r OutOfMemory → new ≡ old
+pub record SaysWritten {O F : Type 0} (job : JobView O F) (bytes old new : Option (List ℕ)) (r : Result O F) : Type 0 where
+  pub done : IfOk r (Writes job bytes old new)
+  pub front : IfErr r (λ f. (n : ℕ) → job.end_of f ≡ writer_failed n → WritesSome job bytes old new n)
+  pub rest : IfErr r (λ f. IsOfNoWrite job.end_of f → new ≡ old)
 
-gained : (bytes : List ℕ) (a : Asked) (was : List ℕ) (new : Option (List ℕ)) (r : Result Outcome RunFault) → SaysWritten (Some bytes) a (Some was) new r → Gained bytes a was new (fault_of r)
-gained bytes a was new (Ok o) h = let d = h.done in (o, d.0, d.1, appended was d.0 new d.2)
-gained bytes a was new (Err Read) h = h.read refl
-gained bytes a was new (Err (Write n)) h = let d = h.written n refl in (d.0, d.1, d.2, appended was (take n d.1) new d.3.gained)
-gained bytes a was new (Err OutOfMemory) h = h.memory refl
+module _ {R W O F : Type 0} (job : JobView O F) (known : R → Option (List ℕ)) (reader reader' : Watched R) (gained : W → Option (List ℕ)) (writer writer' : Watched W) where
+  pub says_written : (r : Result O F) → Meets job known reader reader' gained writer writer' r → SaysWritten job (known (watched_inner reader)) (gained (watched_inner writer)) (gained (watched_inner writer')) r
+  says_written (Ok o) h = record { done = h.written; front = tt; rest = tt }
+  says_written (Err f) h = record {
+    done = tt;
+    front = λ n e. (h.on_write n e).written;
+    rest = λ none. seen_as gained writer' writer (untouched job known reader reader' gained writer writer' f none h);
+  }
 
-pub same_run_written : (a : Asked) (told told' old old' new new' : Option (List ℕ)) (r q : Result Outcome RunFault) → told ≡ told' → old ≡ old' → SaysWritten told a old new r → SaysWritten told' a old' new' q
-    → IsSome told → IsSome old → EndAlike r q → new ≡ new'
-same_run_written a None told' old old' new new' r q e f h i some there same = not_told some
-same_run_written a (Some bytes) told' None old' new new' r q e f h i some there same = not_told there
-same_run_written a (Some bytes) told' (Some was) old' new new' r q e f h i some there same =
-    let i' : SaysWritten (Some bytes) a (Some was) new' q = subst (λ t. SaysWritten t a (Some was) new' q) (sym e) (subst (λ w. SaysWritten told' a w new' q) (sym f) i) in
-    one_gain bytes a was new new' (fault_of q) (subst (Gained bytes a was new) same (gained bytes a was new r h)) (gained bytes a was new' q i')
+module _ {O F : Type 0} (job : JobView O F) (one : (bytes : List ℕ) (o u : O) (x y : List ℕ) → Gives job bytes o x → Gives job bytes u y → x ≡ y) where
+  -- two writers that told the same bytes, by the end that failed
+  done_alike : (bytes was : List ℕ) (new new' : Option (List ℕ)) (o u : O) → Writes job (Some bytes) (Some was) new o → Writes job (Some bytes) (Some was) new' u → new ≡ new'
+  done_alike bytes was new new' o u h i = appended was h.0 new h.2 ∙ ap (λ x. Some (was ++ x)) (one bytes o u h.0 i.0 h.1 i.1) ∙ sym (appended was i.0 new' i.2)
+
+  front_alike : (bytes was : List ℕ) (new new' : Option (List ℕ)) (n : ℕ) → WritesSome job (Some bytes) (Some was) new n → WritesSome job (Some bytes) (Some was) new' n → new ≡ new'
+  front_alike bytes was new new' n h i =
+      appended was (take n h.1) new h.3.gained ∙ ap (λ x. Some (was ++ take n x)) (one bytes h.0 i.0 h.1 i.1 h.2 i.2) ∙ sym (appended was (take n i.1) new' i.3.gained)
+
+  fault_alike : (bytes was : List ℕ) (new new' : Option (List ℕ)) (f : F) (x : FailedEnd) → job.end_of f ≡ x → SaysWritten job (Some bytes) (Some was) new (Err f) → SaysWritten job (Some bytes) (Some was) new' (Err f) → new ≡ new'
+  fault_alike bytes was new new' f reader_failed e h i = h.rest (λ n k. cc (e, k)) ∙ sym (i.rest (λ n k. cc (e, k)))
+  fault_alike bytes was new new' f (writer_failed n) e h i = front_alike bytes was new new' n (h.front n e) (i.front n e)
+  fault_alike bytes was new new' f no_end_failed e h i = h.rest (λ n k. cc (e, k)) ∙ sym (i.rest (λ n k. cc (e, k)))
+
+  answers_alike : (bytes was : List ℕ) (new new' : Option (List ℕ)) (r q : Result O F) → EndAlike r q → SaysWritten job (Some bytes) (Some was) new r → SaysWritten job (Some bytes) (Some was) new' q → new ≡ new'
+  answers_alike bytes was new new' (Ok o) (Ok u) same h i = done_alike bytes was new new' o u h.done i.done
+  answers_alike bytes was new new' (Ok o) (Err g) same h i = absurd (cc same)
+  answers_alike bytes was new new' (Err f) (Ok u) same h i = absurd (cc same)
+  answers_alike bytes was new new' (Err f) (Err g) same h i =
+      let e : f ≡ g = cc same in
+      fault_alike bytes was new new' f (job.end_of f) refl h (subst (λ k. SaysWritten job (Some bytes) (Some was) new' (Err k)) (sym e) i)
+
+  pub same_run_written : (bytes bytes' old old' new new' : Option (List ℕ)) (r q : Result O F) → bytes ≡ bytes' → old ≡ old' → SaysWritten job bytes old new r → SaysWritten job bytes' old' new' q
+      → IsSome bytes → IsSome old → EndAlike r q → new ≡ new'
+  same_run_written None bytes' old old' new new' r q e f h i there some same = not_told there
+  same_run_written (Some bytes) bytes' None old' new new' r q e f h i there some same = not_told some
+  same_run_written (Some bytes) bytes' (Some was) old' new new' r q e f h i there some same =
+      answers_alike bytes was new new' r q same h (subst (λ t. SaysWritten job t (Some was) new' q) (sym e) (subst (λ w. SaysWritten job bytes' w new' q) (sym f) i))
 
 -- ---- what is left of the reader
 
--- what the contract says of the reader, once all of it was read
-pub record SaysLeft (a : Asked) (old new : Option (List ℕ)) (r : Result Outcome RunFault) : Type 0 where
-  pub taken : OnOk r (HasPicks a → TakesSome old new)
-  pub write_took : (n : ℕ) → IsErrOf r (Write n) → HasPicks a → TakesSome old new
-  pub unread : HasNoPicks a → new ≡ old
+abbrev Taken : (old new : Option (List ℕ)) → Type 0
+Taken old new = (text : List ℕ) × TakesText old new text
 
-ran : (bytes : List ℕ) (a : Asked) (w w' : Option (List ℕ)) (r : Result Outcome RunFault) → HasRead r → SaysWritten (Some bytes) a w w' r → HasPicks a ⊎ HasNoPicks a
-ran bytes a w w' (Ok o) read h = let d = h.done in with_or_without bytes a o d.0 d.1
-ran bytes a w w' (Err Read) read h = absurd read
-ran bytes a w w' (Err (Write n)) read h = let d = h.written n refl in with_or_without bytes a d.0 d.1 d.2
-ran bytes a w w' (Err OutOfMemory) read h = absurd read
+module _ {R W O F : Type 0} (job : JobView O F) (known : R → Option (List ℕ)) (gained : W → Option (List ℕ)) (either : (bytes : List ℕ) (o : O) (x : List ℕ) → Gives job bytes o x → job.reads ⊎ (job.reads → ⊥)) where
+  took_at : (reader reader' : Watched R) (writer writer' : Watched W) (f : F) (x : FailedEnd) → job.end_of f ≡ x → HasRead {O = O} job.end_of (Err f) → Meets job known reader reader' gained writer writer' (Err f) → job.reads
+      → Taken (known (watched_inner reader)) (known (watched_inner reader'))
+  took_at reader reader' writer writer' f reader_failed e read h reads = absurd (rw e at read)
+  took_at reader reader' writer writer' f (writer_failed n) e read h reads = (h.on_write n e).read.taken reads
+  took_at reader reader' writer writer' f no_end_failed e read h reads = absurd (rw e at read)
 
-took : (a : Asked) (old new : Option (List ℕ)) (r : Result Outcome RunFault) → HasRead r → SaysLeft a old new r → HasPicks a → TakesSome old new
-took a old new (Ok o) read h has = h.taken has
-took a old new (Err Read) read h has = absurd read
-took a old new (Err (Write n)) read h has = h.write_took n refl has
-took a old new (Err OutOfMemory) read h has = absurd read
+  took : (reader reader' : Watched R) (writer writer' : Watched W) (r : Result O F) → HasRead job.end_of r → Meets job known reader reader' gained writer writer' r → job.reads → Taken (known (watched_inner reader)) (known (watched_inner reader'))
+  took reader reader' writer writer' (Ok o) read h reads = h.read.taken reads
+  took reader reader' writer writer' (Err f) read h reads = took_at reader reader' writer writer' f (job.end_of f) refl read h reads
 
-same_rest : (bytes : List ℕ) (a : Asked) (new new' : Option (List ℕ)) (r q : Result Outcome RunFault) → HasRead r → HasRead q → SaysLeft a (Some bytes) new r → SaysLeft a (Some bytes) new' q → HasPicks a ⊎ HasNoPicks a → new ≡ new'
-same_rest bytes a new new' r q read read' h i (inl has) =
-    let one = took a (Some bytes) new r read h has in
-    let two = took a (Some bytes) new' q read' i has in
-    (taken_is bytes new one.0 one.1).1 ∙ sym (taken_is bytes new' two.0 two.1).1
-same_rest bytes a new new' r q read read' h i (inr none) = h.unread none ∙ sym (i.unread none)
+  ran_at : (bytes : List ℕ) (old new : Option (List ℕ)) (f : F) (x : FailedEnd) → job.end_of f ≡ x → HasRead {O = O} job.end_of (Err f) → SaysWritten job (Some bytes) old new (Err f) → job.reads ⊎ (job.reads → ⊥)
+  ran_at bytes old new f reader_failed e read h = absurd (rw e at read)
+  ran_at bytes old new f (writer_failed n) e read h = let d = h.front n e in either bytes d.0 d.1 d.2
+  ran_at bytes old new f no_end_failed e read h = absurd (rw e at read)
 
-pub same_run_left : (a : Asked) (old other new new' w w' : Option (List ℕ)) (r q : Result Outcome RunFault) → old ≡ other → SaysWritten old a w w' r → SaysLeft a old new r → SaysLeft a other new' q
-    → IsSome old → HasRead r → HasRead q → new ≡ new'
-same_run_left a None other new new' w w' r q e says h i some read read' = not_told some
-same_run_left a (Some bytes) other new new' w w' r q e says h i some read read' =
-    same_rest bytes a new new' r q read read' h (subst (λ o. SaysLeft a o new' q) (sym e) i) (ran bytes a w w' r read says)
+  ran_of : (bytes old new : Option (List ℕ)) (r : Result O F) → IsSome bytes → HasRead job.end_of r → SaysWritten job bytes old new r → job.reads ⊎ (job.reads → ⊥)
+  ran_of None old new r some read h = not_told some
+  ran_of (Some bytes) old new (Ok o) some read h = let d = h.done in either bytes o d.0 d.1
+  ran_of (Some bytes) old new (Err f) some read h = ran_at bytes old new f (job.end_of f) refl read h
 
--- ---- what both remember
+  front_left : (old other new new' : Option (List ℕ)) → old ≡ other → IsSome old → Taken old new → Taken other new' → new ≡ new'
+  front_left None other new new' e some h i = not_told some
+  front_left (Some bytes) other new new' e some h i =
+      let i' : Taken (Some bytes) new' = subst (λ o. Taken o new') (sym e) i in
+      (taken_is bytes new h.0 h.1).1 ∙ sym (taken_is bytes new' i'.0 i'.1).1
 
-run_read_failed_is : {X : Type 0} (was now : Bool) (r : Result X RunFault) → OnOk r (now ≡ was) → (IsErrOf r Read → now ≡ true) → ((n : ℕ) → IsErrOf r (Write n) → now ≡ was) → (IsErrOf r OutOfMemory → now ≡ was)
-    → now ≡ read_failed was (fault_of r)
-run_read_failed_is was now (Ok x) h i k l = h
-run_read_failed_is was now (Err Read) h i k l = i refl
-run_read_failed_is was now (Err (Write n)) h i k l = k n refl
-run_read_failed_is was now (Err OutOfMemory) h i k l = l refl
+  left_by : (one one' other other' : Watched R) (out out' same same' : Watched W) (r q : Result O F) → TellAlike known one other → Meets job known one one' gained out out' r → Meets job known other other' gained same same' q
+      → IsSome (known (watched_inner one)) → HasRead job.end_of r → HasRead job.end_of q → job.reads ⊎ (job.reads → ⊥) → TellAlike known one' other'
+  left_by one one' other other' out out' same same' r q e h i some read read' (inl reads) =
+      front_left (known (watched_inner one)) (known (watched_inner other)) (known (watched_inner one')) (known (watched_inner other')) e some (took one one' out out' r read h reads) (took other other' same same' q read' i reads)
+  left_by one one' other other' out out' same same' r q e h i some read read' (inr not) =
+      seen_as known one' one (h.unread not) ∙ e ∙ sym (seen_as known other' other (i.unread not))
 
-pub same_run_read_failed : {X : Type 0} (was was' now now' : Bool) (r q : Result X RunFault) → was ≡ was'
-    → OnOk r (now ≡ was) → (IsErrOf r Read → now ≡ true) → ((n : ℕ) → IsErrOf r (Write n) → now ≡ was) → (IsErrOf r OutOfMemory → now ≡ was)
-    → OnOk q (now' ≡ was') → (IsErrOf q Read → now' ≡ true) → ((n : ℕ) → IsErrOf q (Write n) → now' ≡ was') → (IsErrOf q OutOfMemory → now' ≡ was')
-    → EndAlike r q → now ≡ now'
-same_run_read_failed was was' now now' r q e h i k l h' i' k' l' same =
-    same_by read_failed was was' now now' (fault_of r) (fault_of q) e (run_read_failed_is was now r h i k l) (run_read_failed_is was' now' q h' i' k' l') same
+  pub same_run_left : (one one' other other' : Watched R) (out out' same same' : Watched W) (r q : Result O F) → TellAlike known one other → Meets job known one one' gained out out' r → Meets job known other other' gained same same' q
+      → IsSome (known (watched_inner one)) → HasRead job.end_of r → HasRead job.end_of q → TellAlike known one' other'
+  same_run_left one one' other other' out out' same same' r q e h i some read read' =
+      left_by one one' other other' out out' same same' r q e h i some read read'
+      (ran_of (known (watched_inner one)) (gained (watched_inner out)) (gained (watched_inner out')) r some read (says_written job known one one' gained out out' r h))
 
--- whether a write has failed, then
-abbrev write_failed : Bool → Option RunFault → Bool
-write_failed was None = was
-write_failed was (Some Read) = was
-write_failed was (Some (Write n)) = true
-write_failed was (Some OutOfMemory) = was
+-- ---- by workers
 
-write_failed_is : {X : Type 0} (was now : Bool) (r : Result X RunFault) → OnOk r (now ≡ was) → (IsErrOf r Read → now ≡ was) → ((n : ℕ) → IsErrOf r (Write n) → now ≡ true) → (IsErrOf r OutOfMemory → now ≡ was)
-    → now ≡ write_failed was (fault_of r)
-write_failed_is was now (Ok x) h i k l = h
-write_failed_is was now (Err Read) h i k l = i refl
-write_failed_is was now (Err (Write n)) h i k l = k n refl
-write_failed_is was now (Err OutOfMemory) h i k l = l refl
-
-pub same_run_write_failed : {X : Type 0} (was was' now now' : Bool) (r q : Result X RunFault) → was ≡ was'
-    → OnOk r (now ≡ was) → (IsErrOf r Read → now ≡ was) → ((n : ℕ) → IsErrOf r (Write n) → now ≡ true) → (IsErrOf r OutOfMemory → now ≡ was)
-    → OnOk q (now' ≡ was') → (IsErrOf q Read → now' ≡ was') → ((n : ℕ) → IsErrOf q (Write n) → now' ≡ true) → (IsErrOf q OutOfMemory → now' ≡ was')
-    → EndAlike r q → now ≡ now'
-same_run_write_failed was was' now now' r q e h i k l h' i' k' l' same =
-    same_by write_failed was was' now now' (fault_of r) (fault_of q) e (write_failed_is was now r h i k l) (write_failed_is was' now' q h' i' k' l') same
-
--- whether all was flushed, then
-abbrev flushed_by : {E : Type 0} → Bool → Option E → Bool
-flushed_by was None = true
-flushed_by was (Some fault) = was
-
-flushed_is : {X : Type 0} (was now : Bool) (r : Result X RunFault) → OnOk r (now ≡ true) → (IsErrOf r Read → now ≡ was) → (IsErrOf r OutOfMemory → now ≡ was) → IfErr r (λ e. IsOfNoWrite (Run e))
-    → now ≡ flushed_by was (fault_of r)
-flushed_is was now (Ok x) h i k none = h
-flushed_is was now (Err Read) h i k none = i refl
-flushed_is was now (Err (Write n)) h i k none = absurd none
-flushed_is was now (Err OutOfMemory) h i k none = k refl
-
-pub same_run_flushed : {X : Type 0} (was was' now now' : Bool) (r q : Result X RunFault) → was ≡ was'
-    → OnOk r (now ≡ true) → (IsErrOf r Read → now ≡ was) → (IsErrOf r OutOfMemory → now ≡ was)
-    → OnOk q (now' ≡ true) → (IsErrOf q Read → now' ≡ was') → (IsErrOf q OutOfMemory → now' ≡ was')
-    → MeetNoWriteFault r q → now ≡ now'
-same_run_flushed was was' now now' r q e h i k h' i' k' same =
-    same_by flushed_by was was' now now' (fault_of r) (fault_of q) e (flushed_is was now r h i k same.1)
-    (flushed_is was' now' q h' i' k' (as_other (λ e. IsOfNoWrite (Run e)) r q same.0 same.1)) same.0
-
--- ---- by workers: the outcome
-
--- what holds of a fault that is of no end, said of what is seen
-pub if_err_more : {X P Q : Type 0} → (P → Q) → (r : Result X LiveFault) → IfErr r (λ e. IsOfNoEnd e → P) → IfErr r (λ e. IsOfNoEnd e → Q)
-if_err_more by (Ok x) h = tt
-if_err_more by (Err e) h = λ none. by (h none)
-
-no_picks : (o : Outcome) (picks : List ℕ) → IsRefusal o → HasPicksWhereListed o picks → picks ≡ []
+no_picks : (o : Outcome) (picks : List ℕ) → IsRefusedOutcome o → HasPicksWhereListed o picks → picks ≡ []
 no_picks Listed picks h i = absurd h
 no_picks (Refused r) picks h i = i
 
-are_of_one : (told w w' v v' : Option (List ℕ)) (r q : Ran) → IsSome told → Writes told (by_workers r.picks.items) w w' r.outcome → Writes told (by_workers q.picks.items) v v' q.outcome
-    → HasPicksWhereListed r.outcome r.picks.items → HasPicksWhereListed q.outcome q.picks.items → AreOfOneText r q
-are_of_one None w w' v v' r q some h i k l = not_told some
-are_of_one (Some bytes) w w' v v' r q some h i k l =
+of_one_text : (bytes w w' v v' : Option (List ℕ)) (r q : Ran) → IsSome bytes → Writes live_run bytes w w' r → Writes live_run bytes v v' q → HasPicksWhereListed r.outcome r.picks.items → HasPicksWhereListed q.outcome q.picks.items
+    → AreOfOneText r q
+of_one_text None w w' v v' r q some h i k l = not_told some
+of_one_text (Some bytes) w w' v v' r q some h i k l =
     let same : r.outcome ≡ q.outcome = one_outcome bytes r.picks.items q.picks.items r.outcome q.outcome h.0 i.0 h.1 i.1 in
-    record { outcome = same; picks = λ is. no_picks r.outcome r.picks.items is k ∙ sym (no_picks q.outcome q.picks.items (subst IsRefusal same is) l) }
+    record { outcome = same; picks = λ is. no_picks r.outcome r.picks.items is k ∙ sym (no_picks q.outcome q.picks.items (subst IsRefusedOutcome same is) l) }
 
--- what the contract says of the writer and of the picks
-pub record SaysRan (told old new : Option (List ℕ)) (r : Result Ran LiveFault) : Type 0 where
-  pub done : IfOk r (λ x. Writes told (by_workers x.picks.items) old new x.outcome)
-  pub picks : IfOk r (λ x. HasPicksWhereListed x.outcome x.picks.items)
-  pub read : IsErrOf r (Run Read) → new ≡ old
-  pub inside : IfErr r (λ e. IsOfNoEnd e → new ≡ old)
+pub same_live_outcome : (bytes bytes' w w' v v' : Option (List ℕ)) (r q : Result Ran LiveFault) → bytes ≡ bytes' → IfOk r (Writes live_run bytes w w') → IfOk r live_run.has → IfOk q (Writes live_run bytes' v v') → IfOk q live_run.has
+    → IsSome bytes → IfOk r (λ x. IfOk q (AreOfOneText x))
+same_live_outcome bytes bytes' w w' v v' (Err e) q same h k i l some = tt
+same_live_outcome bytes bytes' w w' v v' (Ok x) (Err e) same h k i l some = tt
+same_live_outcome bytes bytes' w w' v v' (Ok x) (Ok y) same h k i l some = of_one_text bytes w w' v v' x y some h (subst (λ t. Writes live_run t v v' y) (sym same) i) k l
 
-pub same_live_outcome : (told told' w w' v v' : Option (List ℕ)) (r q : Result Ran LiveFault) → told ≡ told' → SaysRan told w w' r → SaysRan told' v v' q → IsSome told → IfOk r (λ x. IfOk q (AreOfOneText x))
-same_live_outcome told told' w w' v v' (Err e) q same h i some = tt
-same_live_outcome told told' w w' v v' (Ok x) (Err e) same h i some = tt
-same_live_outcome told told' w w' v v' (Ok x) (Ok y) same h i some =
-    are_of_one told w w' v v' x y some h.done (subst (λ t. Writes t (by_workers y.picks.items) v v' y.outcome) (sym same) i.done) h.picks i.picks
-
--- ---- what is written
-
-same_made : (told w new new' : Option (List ℕ)) (r q : Ran) → r.picks.items ≡ q.picks.items → IsSome told → IsSome w → Writes told (by_workers r.picks.items) w new r.outcome → Writes told (by_workers q.picks.items) w new' q.outcome
-    → new ≡ new'
+same_made : (bytes w new new' : Option (List ℕ)) (r q : Ran) → r.picks.items ≡ q.picks.items → IsSome bytes → IsSome w → Writes live_run bytes w new r → Writes live_run bytes w new' q → new ≡ new'
 same_made None w new new' r q e some there h i = not_told some
 same_made (Some bytes) None new new' r q e some there h i = not_told there
 same_made (Some bytes) (Some was) new new' r q e some there h i =
-    let i' : IsRunOf bytes (by_workers r.picks.items) q.outcome i.0 = subst (λ ps. IsRunOf bytes (by_workers ps) q.outcome i.0) (sym e) i.1 in
+    let i' : Gives (run_for (by_workers r.picks.items)) bytes q.outcome i.0 = subst (λ ps. Gives (run_for (by_workers ps)) bytes q.outcome i.0) (sym e) i.1 in
     appended was h.0 new h.2 ∙ ap (λ x. Some (was ++ x)) (one_run bytes (by_workers r.picks.items) r.outcome q.outcome h.0 i.0 h.1 i').1 ∙ sym (appended was i.0 new' i.2)
 
--- a fault of no write leaves what there was
-stays : {V X : Type 0} (old new : V) (e : LiveFault) → (IsErrOf {T = X} (Err e) (Run Read) → new ≡ old) → (IsOfNoEnd e → new ≡ old) → IsOfNoWrite e → new ≡ old
-stays old new (Run Read) h i none = h refl
-stays old new (Run (Write n)) h i none = absurd none
-stays old new (Run OutOfMemory) h i none = i tt
-stays old new (Pool fault) h i none = i tt
-
-pub same_live_written : (told told' old old' new new' : Option (List ℕ)) (r q : Result Ran LiveFault) → told ≡ told' → old ≡ old' → SaysRan told old new r → SaysRan told' old' new' q
-    → IsSome told → IsSome old → MadeAlike r q → new ≡ new'
-same_live_written told told' old old' new new' (Ok x) (Ok y) e f h i some there made =
-    same_made told old new new' x y made some there h.done
-    (subst (λ t. Writes t (by_workers y.picks.items) old new' y.outcome) (sym e) (subst (λ w. Writes told' (by_workers y.picks.items) w new' y.outcome) (sym f) i.done))
-same_live_written told told' old old' new new' (Ok x) (Err d) e f h i some there made = absurd made
-same_live_written told told' old old' new new' (Err b) (Ok y) e f h i some there made = absurd made
-same_live_written told told' old old' new new' (Err b) (Err d) e f h i some there made =
-    stays {X = Ran} old new b h.read h.inside made.1 ∙ f ∙ sym (stays {X = Ran} old' new' d i.read i.inside (subst IsOfNoWrite made.0 made.1))
-
--- ---- what is left of the reader
-
-same_front : (old other new new' : Option (List ℕ)) → old ≡ other → IsSome old → TakesSome old new → TakesSome other new' → new ≡ new'
-same_front None other new new' e some h i = not_told some
-same_front (Some bytes) other new new' e some h i =
-    let i' : TakesSome (Some bytes) new' = subst (λ o. TakesSome o new') (sym e) i in
-    (taken_is bytes new h.0 h.1).1 ∙ sym (taken_is bytes new' i'.0 i'.1).1
-
-live_took : {X : Type 0} (old new : Option (List ℕ)) (r : Result X LiveFault) → OnOk r (TakesSome old new) → ((n : ℕ) → IsErrOf r (Run (Write n)) → TakesSome old new) → HasReadLive r → TakesSome old new
-live_took old new (Ok x) h i read = h
-live_took old new (Err (Run Read)) h i read = absurd read
-live_took old new (Err (Run (Write n))) h i read = i n refl
-live_took old new (Err (Run OutOfMemory)) h i read = absurd read
-live_took old new (Err (Pool fault)) h i read = absurd read
-
-pub same_live_left : {X : Type 0} (old other new new' : Option (List ℕ)) (r q : Result X LiveFault) → old ≡ other
-    → OnOk r (TakesSome old new) → ((n : ℕ) → IsErrOf r (Run (Write n)) → TakesSome old new) → OnOk q (TakesSome other new') → ((n : ℕ) → IsErrOf q (Run (Write n)) → TakesSome other new')
-    → IsSome old → HasReadLive r → HasReadLive q → new ≡ new'
-same_live_left old other new new' r q e h i k l some read read' = same_front old other new new' e some (live_took old new r h i read) (live_took other new' q k l read')
-
--- ---- what both remember
-
-abbrev live_read_failed : Bool → Option LiveFault → Bool
-live_read_failed was None = was
-live_read_failed was (Some (Run fault)) = read_failed was (Some fault)
-live_read_failed was (Some (Pool fault)) = was
-
-live_read_failed_is : {X : Type 0} (was now : Bool) (r : Result X LiveFault) → OnOk r (now ≡ was) → (IsErrOf r (Run Read) → now ≡ true) → ((n : ℕ) → IsErrOf r (Run (Write n)) → now ≡ was) → IfErr r (λ e. IsOfNoEnd e → now ≡ was)
-    → now ≡ live_read_failed was (fault_of r)
-live_read_failed_is was now (Ok x) h i k l = h
-live_read_failed_is was now (Err (Run Read)) h i k l = i refl
-live_read_failed_is was now (Err (Run (Write n))) h i k l = k n refl
-live_read_failed_is was now (Err (Run OutOfMemory)) h i k l = l tt
-live_read_failed_is was now (Err (Pool fault)) h i k l = l tt
-
-pub same_live_read_failed : {X : Type 0} (was was' now now' : Bool) (r q : Result X LiveFault) → was ≡ was'
-    → OnOk r (now ≡ was) → (IsErrOf r (Run Read) → now ≡ true) → ((n : ℕ) → IsErrOf r (Run (Write n)) → now ≡ was) → IfErr r (λ e. IsOfNoEnd e → now ≡ was)
-    → OnOk q (now' ≡ was') → (IsErrOf q (Run Read) → now' ≡ true) → ((n : ℕ) → IsErrOf q (Run (Write n)) → now' ≡ was') → IfErr q (λ e. IsOfNoEnd e → now' ≡ was')
-    → EndAlike r q → now ≡ now'
-same_live_read_failed was was' now now' r q e h i k l h' i' k' l' same =
-    same_by live_read_failed was was' now now' (fault_of r) (fault_of q) e (live_read_failed_is was now r h i k l) (live_read_failed_is was' now' q h' i' k' l') same
-
-abbrev live_write_failed : Bool → Option LiveFault → Bool
-live_write_failed was None = was
-live_write_failed was (Some (Run fault)) = write_failed was (Some fault)
-live_write_failed was (Some (Pool fault)) = was
-
-live_write_failed_is : {X : Type 0} (was now : Bool) (r : Result X LiveFault) → OnOk r (now ≡ was) → (IsErrOf r (Run Read) → now ≡ was) → ((n : ℕ) → IsErrOf r (Run (Write n)) → now ≡ true) → IfErr r (λ e. IsOfNoEnd e → now ≡ was)
-    → now ≡ live_write_failed was (fault_of r)
-live_write_failed_is was now (Ok x) h i k l = h
-live_write_failed_is was now (Err (Run Read)) h i k l = i refl
-live_write_failed_is was now (Err (Run (Write n))) h i k l = k n refl
-live_write_failed_is was now (Err (Run OutOfMemory)) h i k l = l tt
-live_write_failed_is was now (Err (Pool fault)) h i k l = l tt
-
-pub same_live_write_failed : {X : Type 0} (was was' now now' : Bool) (r q : Result X LiveFault) → was ≡ was'
-    → OnOk r (now ≡ was) → (IsErrOf r (Run Read) → now ≡ was) → ((n : ℕ) → IsErrOf r (Run (Write n)) → now ≡ true) → IfErr r (λ e. IsOfNoEnd e → now ≡ was)
-    → OnOk q (now' ≡ was') → (IsErrOf q (Run Read) → now' ≡ was') → ((n : ℕ) → IsErrOf q (Run (Write n)) → now' ≡ true) → IfErr q (λ e. IsOfNoEnd e → now' ≡ was')
-    → EndAlike r q → now ≡ now'
-same_live_write_failed was was' now now' r q e h i k l h' i' k' l' same =
-    same_by live_write_failed was was' now now' (fault_of r) (fault_of q) e (live_write_failed_is was now r h i k l) (live_write_failed_is was' now' q h' i' k' l') same
-
-live_flushed_is : {X : Type 0} (was now : Bool) (r : Result X LiveFault) → OnOk r (now ≡ true) → (IsErrOf r (Run Read) → now ≡ was) → IfErr r (λ e. IsOfNoEnd e → now ≡ was) → IfErr r IsOfNoWrite
-    → now ≡ flushed_by was (fault_of r)
-live_flushed_is was now (Ok x) h i k none = h
-live_flushed_is {X} was now (Err e) h i k none = stays {X = X} was now e i k none
-
-pub same_live_flushed : {X : Type 0} (was was' now now' : Bool) (r q : Result X LiveFault) → was ≡ was'
-    → OnOk r (now ≡ true) → (IsErrOf r (Run Read) → now ≡ was) → IfErr r (λ e. IsOfNoEnd e → now ≡ was)
-    → OnOk q (now' ≡ true) → (IsErrOf q (Run Read) → now' ≡ was') → IfErr q (λ e. IsOfNoEnd e → now' ≡ was')
-    → MeetNoLiveWriteFault r q → now ≡ now'
-same_live_flushed was was' now now' r q e h i k h' i' k' same =
-    same_by flushed_by was was' now now' (fault_of r) (fault_of q) e (live_flushed_is was now r h i k same.1)
-    (live_flushed_is was' now' q h' i' k' (as_other IsOfNoWrite r q same.0 same.1)) same.0
+pub same_live_written : (bytes bytes' old old' new new' : Option (List ℕ)) (r q : Result Ran LiveFault) → bytes ≡ bytes' → old ≡ old' → SaysWritten live_run bytes old new r → SaysWritten live_run bytes' old' new' q
+    → IsSome bytes → IsSome old → MadeAlike r q → new ≡ new'
+same_live_written bytes bytes' old old' new new' (Ok x) (Ok y) e f h i some there made =
+    same_made bytes old new new' x y made some there h.done (subst (λ t. Writes live_run t old new' y) (sym e) (subst (λ w. Writes live_run bytes' w new' y) (sym f) i.done))
+same_live_written bytes bytes' old old' new new' (Ok x) (Err d) e f h i some there made = absurd made
+same_live_written bytes bytes' old old' new new' (Err b) (Ok y) e f h i some there made = absurd made
+same_live_written bytes bytes' old old' new new' (Err b) (Err d) e f h i some there made =
+    h.rest made.1 ∙ f ∙ sym (i.rest (subst (IsOfNoWrite live_end_of) made.0 made.1))

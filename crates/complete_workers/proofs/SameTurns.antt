@@ -2,13 +2,13 @@
 use Rattle.std.proofs.Common.{◌≡◌, ◌∙◌, ℕ, Bool, true, List, [], ◌∷◌, ◌++◌, All, Option, Some, None, IfSome, IfNone, Result, Ok, Err, IfOk, OnOk, IfErr, vec_len, sym, ap, ap₂, arith}
 use Rattle.std.specs.declared.vec.Vec.{Vec}
 use Rattle.def_turns.specs.Moments.{TakesTurn, FindsNoTurn, GivesTurn, KeepsTurn}
-use Rattle.def_turns.specs.Turns.{times, without}
+use Rattle.def_turns.specs.Turns.{times, list_without}
 use Rattle.crossbeam_deque.specs.Injected.{injector_view}
 use Rattle.tn_pool.specs.declared.rule.Hand.{Hand}
 use Rattle.tn_pool.specs.declared.turns.RunQueue.{RunQueue}
 use Rattle.tn_pool.specs.Queues.{HoldsAlone}
 use Rattle.complete_runs.proofs.Both.{both_if_ok}
-use Rattle.complete_workers.specs.Ends.{EndAlike, fault_of}
+use Rattle.complete_workers.specs.Ends.{EndAlike, error_of}
 use Rattle.complete_workers.specs.Turns.{hand_of}
 use Rattle.complete_workers.proofs.SameBoards.{same_throughout}
 
@@ -49,17 +49,17 @@ same_taken old other new new' o p e h i k l same = held_is old new o h i ∙ ap 
 
 -- what it holds after the token was given, or came back
 abbrev held_by : List ℕ → ℕ → Option ℕ → List ℕ
-held_by old x None = without x old
+held_by old x None = list_without x old
 held_by old x (Some back) = old
 
-given_is : (old new : List ℕ) (x : ℕ) (r : Result (Unit {0}) ℕ) → OnOk r (GivesTurn old x new) → IfErr r (λ back. KeepsTurn old x back new) → new ≡ held_by old x (fault_of r)
+given_is : (old new : List ℕ) (x : ℕ) (r : Result (Unit {0}) ℕ) → OnOk r (GivesTurn old x new) → IfErr r (λ back. KeepsTurn old x back new) → new ≡ held_by old x (error_of r)
 given_is old new x (Ok done) h i = h.step.loses
 given_is old new x (Err back) h i = i.stays
 
 pub same_given : (old other new new' : List ℕ) (x y : ℕ) (r q : Result (Unit {0}) ℕ) → old ≡ other → x ≡ y → OnOk r (GivesTurn old x new) → IfErr r (λ back. KeepsTurn old x back new)
     → OnOk q (GivesTurn other y new') → IfErr q (λ back. KeepsTurn other y back new') → EndAlike r q → new ≡ new'
 same_given old other new new' x y r q e f h i k l same =
-    given_is old new x r h i ∙ ap (held_by old x) same ∙ ap₂ (λ w z. held_by w z (fault_of q)) e f ∙ sym (given_is other new' y q k l)
+    given_is old new x r h i ∙ ap (held_by old x) same ∙ ap₂ (λ w z. held_by w z (error_of q)) e f ∙ sym (given_is other new' y q k l)
 
 pub same_back : (old other new new' : List ℕ) (x y : ℕ) (r q : Result (Unit {0}) ℕ) → x ≡ y → IfErr r (λ back. KeepsTurn old x back new) → IfErr q (λ back. KeepsTurn other y back new')
     → IfErr r (λ b. IfErr q (λ c. b ≡ c))

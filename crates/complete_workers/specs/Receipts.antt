@@ -5,8 +5,8 @@ use Rattle.tn_live.specs.States.{SeatState}
 use Rattle.tn_pool.specs.declared.report.Report.{Report}
 use Rattle.complete_live.specs.Alike.{receipt_seen}
 
-abbrev pub numbers_of : List SeatState → List ℕ
-numbers_of seats = map (λ s. s.number) seats
+abbrev pub seat_numbers : List SeatState → List ℕ
+seat_numbers seats = map (λ s. s.number) seats
 
 -- where the seats have seen the same, the receipts are the same
 abbrev pub EarnAlike : {A J : Type 0} → Report A J → Report A J → Type 0

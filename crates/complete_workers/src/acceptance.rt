@@ -15,7 +15,7 @@ pub fn accept<A: Allocator + Copy>(
     other: &[u8],
 ) -> (Result<Program<A>, Denial>, Result<Program<A>, Denial>)
     requires { one.now ≡ other.now }
-    ensures { let told = answer_of program_of denial_seen in Agree (told result.0) (told result.1) }
+    ensures { let reported = answer_of program_of denial_seen in Agree (reported result.0) (reported result.1) }
 {
     let first = tn_run::accept(alloc, one);
     let second = tn_run::accept(alloc, other);

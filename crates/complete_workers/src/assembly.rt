@@ -3,19 +3,19 @@ ghost use Rattle.std.specs.Prelude.{◌≡◌, IfOk};
 ghost use Rattle.tn_live.specs.Journal.{picks_of};
 
 use std::alloc::{AllocError, Allocator};
-use tn_live::{Closed, Naming};
-use tn_pool::{Assembled, Board};
+use tn_live::{Closed, JournalName};
+use tn_pool::{Board, JournalOutput};
 
 /// `tn_pool::assemble` has one answer, whatever the boards hold. Only how many lines came from one is free.
-pub fn assemble<A: Allocator + Copy, B: Allocator + Copy, J: Naming, K: Naming>(
+pub fn assemble<A: Allocator + Copy, B: Allocator + Copy, J: JournalName, K: JournalName>(
     alloc: B,
     one: &Closed<A, J>,
     other: &Closed<A, K>,
     board: &Board<A>,
     other_board: &Board<A>,
 ) -> (
-    Result<Assembled<B>, AllocError>,
-    Result<Assembled<B>, AllocError>,
+    Result<JournalOutput<B>, AllocError>,
+    Result<JournalOutput<B>, AllocError>,
 )
     requires programs { J.program ≡ K.program }
     requires picks { picks_of one.now ≡ picks_of other.now }

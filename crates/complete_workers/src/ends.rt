@@ -1,7 +1,7 @@
 // Reading a text, and writing an output.
 ghost use Rattle.std.specs.Prelude.{◌≡◌, IfOk, OnOk};
 ghost use Rattle.tn_text.specs.Watch.{has_failed, is_flushed};
-ghost use Rattle.complete_workers.specs.Ends.{EndAlike, TellAlike, Tells, WriteAlike};
+ghost use Rattle.complete_workers.specs.Ends.{EndAlike, TellAlike, Knows, WriteAlike};
 
 use std::alloc::Allocator;
 use std::io::{Read, Write};
@@ -15,10 +15,10 @@ pub fn read_text<A: Allocator, R: Read>(
     one: &mut Watched<R>,
     other: &mut Watched<R>,
 ) -> (Result<Vec<u8, A>, RunFault>, Result<Vec<u8, A>, RunFault>)
-    requires told { TellAlike R.remaining one.old other.old }
+    requires reported { TellAlike R.remaining one.old other.old }
     requires failed { has_failed one.old ≡ has_failed other.old }
-    ensures text { Tells R.remaining one.old → IfOk result.0 (λ v. IfOk result.1 (λ w. v.items ≡ w.items)) }
-    ensures left { Tells R.remaining one.old → OnOk result.0 (OnOk result.1 (TellAlike R.remaining one.new other.new)) }
+    ensures text { Knows R.remaining one.old → IfOk result.0 (λ v. IfOk result.1 (λ w. v.items ≡ w.items)) }
+    ensures left { Knows R.remaining one.old → OnOk result.0 (OnOk result.1 (TellAlike R.remaining one.new other.new)) }
     ensures failed { EndAlike result.0 result.1 → has_failed one.new ≡ has_failed other.new }
 {
     let first = tn_run::read_text(alloc, one);
@@ -35,9 +35,9 @@ pub fn write_output<W: Write>(
     same_output: &[u8],
 ) -> (Result<(), RunFault>, Result<(), RunFault>)
     requires outputs { output.now ≡ same_output.now }
-    requires told { TellAlike W.contents one.old other.old }
+    requires reported { TellAlike W.contents one.old other.old }
     requires failed { has_failed one.old ≡ has_failed other.old }
-    ensures told { WriteAlike W.contents one.old one.new other.new result.0 result.1 }
+    ensures reported { WriteAlike W.contents one.old one.new other.new result.0 result.1 }
     ensures failed { EndAlike result.0 result.1 → has_failed one.new ≡ has_failed other.new }
     ensures flushed { OnOk result.0 (OnOk result.1 (is_flushed one.new ≡ is_flushed other.new)) }
 {

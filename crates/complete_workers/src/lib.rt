@@ -12,7 +12,6 @@ mod acceptance;
 mod assembly;
 mod board;
 mod ends;
-mod line;
 mod live;
 mod runs;
 mod token;

@@ -1,9 +1,10 @@
 // A run by workers.
 ghost use Rattle.std.specs.Prelude.{◌≡◌, IfOk};
 ghost use Rattle.tn_text.specs.Watch.{has_failed, is_flushed};
+ghost use Rattle.tn_run.specs.Answers.{live_end_of};
 ghost use Rattle.tn_run.specs.Workers.{IsWorkerCount};
-ghost use Rattle.complete_workers.specs.Ends.{EndAlike, SeenAlike, TellAlike, Tells};
-ghost use Rattle.complete_workers.specs.Runs.{AreOfOneText, LiveLeaveAlike, MeetNoLiveWriteFault, RunAlike};
+ghost use Rattle.complete_workers.specs.Ends.{EndAlike, SeenAlike, TellAlike, Knows};
+ghost use Rattle.complete_workers.specs.Runs.{AreOfOneText, LeaveAlike, MeetNoWriteFault, RunAlike};
 
 use std::alloc::Global;
 use std::io::{Read, Write};
@@ -26,15 +27,15 @@ pub fn run_live<R: Read, W: Write, T: Threads + Wait + Sync, G: Gate>(
     same_out: &mut Watched<W>,
 ) -> (Result<Ran, LiveFault>, Result<Ran, LiveFault>)
     requires count { IsWorkerCount by.1.now.count }
-    requires told { TellAlike R.remaining one.old other.old }
+    requires reported { TellAlike R.remaining one.old other.old }
     requires failed { has_failed one.old ≡ has_failed other.old }
     requires outs { SeenAlike W.contents out.old same_out.old }
-    ensures outcome { Tells R.remaining one.old → IfOk result.0 (λ r. IfOk result.1 (AreOfOneText r)) }
-    ensures written { Tells R.remaining one.old → RunAlike W.contents out.old out.new same_out.new result.0 result.1 }
-    ensures left { LiveLeaveAlike R.remaining one.old one.new other.new result.0 result.1 }
+    ensures outcome { Knows R.remaining one.old → IfOk result.0 (λ r. IfOk result.1 (AreOfOneText r)) }
+    ensures written { Knows R.remaining one.old → RunAlike W.contents out.old out.new same_out.new result.0 result.1 }
+    ensures left { LeaveAlike live_end_of R.remaining one.old one.new other.new result.0 result.1 }
     ensures reader { EndAlike result.0 result.1 → has_failed one.new ≡ has_failed other.new }
     ensures writer { EndAlike result.0 result.1 → has_failed out.new ≡ has_failed same_out.new }
-    ensures flushed { MeetNoLiveWriteFault result.0 result.1 → is_flushed out.new ≡ is_flushed same_out.new }
+    ensures flushed { MeetNoWriteFault live_end_of result.0 result.1 → is_flushed out.new ≡ is_flushed same_out.new }
 {
     let (alloc, workers) = by;
     let first = tn_run::run_live(rt, alloc, one, out, workers);

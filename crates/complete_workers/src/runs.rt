@@ -1,8 +1,9 @@
 // A run of a script.
 ghost use Rattle.std.specs.Prelude.{◌≡◌, IfOk};
 ghost use Rattle.tn_text.specs.Watch.{has_failed, is_flushed};
-ghost use Rattle.tn_run.specs.Out.{asked, HasNoPicks};
-ghost use Rattle.complete_workers.specs.Ends.{EndAlike, SeenAlike, TellAlike, Tells, WriteAlike};
+ghost use Rattle.tn_run.specs.Answers.{HasPicks, schedule_seen};
+ghost use Rattle.tn_run.specs.Jobs.{failed_end};
+ghost use Rattle.complete_workers.specs.Ends.{EndAlike, SeenAlike, TellAlike, Knows, WriteAlike};
 ghost use Rattle.complete_workers.specs.Runs.{LeaveAlike, MeetNoWriteFault};
 
 use std::alloc::Allocator;
@@ -20,16 +21,16 @@ pub fn run<A: Allocator + Copy, R: Read, W: Write>(
     same_out: &mut Watched<W>,
     schedule: Schedule<'_>,
 ) -> (Result<Outcome, RunFault>, Result<Outcome, RunFault>)
-    requires told { TellAlike R.remaining one.old other.old }
+    requires reported { TellAlike R.remaining one.old other.old }
     requires failed { has_failed one.old ≡ has_failed other.old }
     requires outs { SeenAlike W.contents out.old same_out.old }
-    ensures outcome { Tells R.remaining one.old → IfOk result.0 (λ o. IfOk result.1 (λ p. o ≡ p)) }
-    ensures written { Tells R.remaining one.old → WriteAlike W.contents out.old out.new same_out.new result.0 result.1 }
-    ensures unread { HasNoPicks (asked schedule.entry) → TellAlike R.remaining one.new other.new }
-    ensures left { LeaveAlike R.remaining one.old one.new other.new result.0 result.1 }
+    ensures outcome { Knows R.remaining one.old → IfOk result.0 (λ o. IfOk result.1 (λ p. o ≡ p)) }
+    ensures written { Knows R.remaining one.old → WriteAlike W.contents out.old out.new same_out.new result.0 result.1 }
+    ensures unread { (HasPicks (schedule_seen schedule.entry) → ⊥) → TellAlike R.remaining one.new other.new }
+    ensures left { LeaveAlike failed_end R.remaining one.old one.new other.new result.0 result.1 }
     ensures reader { EndAlike result.0 result.1 → has_failed one.new ≡ has_failed other.new }
     ensures writer { EndAlike result.0 result.1 → has_failed out.new ≡ has_failed same_out.new }
-    ensures flushed { MeetNoWriteFault result.0 result.1 → is_flushed out.new ≡ is_flushed same_out.new }
+    ensures flushed { MeetNoWriteFault failed_end result.0 result.1 → is_flushed out.new ≡ is_flushed same_out.new }
 {
     let first = tn_run::run(alloc, one, out, schedule);
     let second = tn_run::run(alloc, other, same_out, schedule);

@@ -1,17 +1,17 @@
 // What workers hand back.
 ghost use Rattle.std.specs.Prelude.{◌≡◌};
-ghost use Rattle.complete_workers.specs.Receipts.{EarnAlike, numbers_of};
+ghost use Rattle.complete_workers.specs.Receipts.{EarnAlike, seat_numbers};
 
 use std::alloc::Global;
 use std::marker::{Send, Sync};
 use std::sync::Wait;
 use std::thread::Threads;
-use tn_live::{Live, Naming, Seat};
+use tn_live::{JournalName, Live, Seat};
 use tn_pool::{Board, Gate, Report};
 
 /// `tn_pool::run_workers` has one answer but for what each seat has seen, and for faults and tokens that are
 /// kept: the receipts go by what the seats have seen.
-pub fn run_workers<J: Naming + Send + Sync, R: Threads + Wait + Sync, G: Gate>(
+pub fn run_workers<J: JournalName + Send + Sync, R: Threads + Wait + Sync, G: Gate>(
     rt: &R,
     live: &Live<Global, J>,
     board: &Board<Global>,
@@ -20,7 +20,7 @@ pub fn run_workers<J: Naming + Send + Sync, R: Threads + Wait + Sync, G: Gate>(
     turns: u32,
 ) -> (Report<Global, J>, Report<Global, J>)
     requires { seats.0.items ≡ seats.1.items }
-    ensures numbers { numbers_of result.0.seats.items ≡ numbers_of result.1.seats.items }
+    ensures numbers { seat_numbers result.0.seats.items ≡ seat_numbers result.1.seats.items }
     ensures receipts { EarnAlike result.0 result.1 }
 {
     let (one, other) = seats;

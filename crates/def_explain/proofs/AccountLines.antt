@@ -5,25 +5,25 @@ use Rattle.def_spec.specs.Expressions.{Dialect, Context}
 use Rattle.def_spec.specs.Outcome.{Clause}
 use Rattle.def_node.specs.Event.{Event, sent, received, called, returned, raised, spawning, spawned, exited, linked, unlinked, getting_linked, getting_unlinked}
 use Rattle.def_session.specs.Settings.{Setting, off, plain, by, setting_for}
-use Rattle.def_session.specs.State.{Phase, absent, live, destroyed, Kind, for_returns, for_exceptions, Session, flags_at}
-use Rattle.def_session.specs.Session.{inherited, evaluated, context, told_for, told_in}
+use Rattle.def_session.specs.State.{Phase, absent, live, destroyed, MarkKind, for_returns, for_exceptions, Session, flags_at}
+use Rattle.def_session.specs.Session.{inherit, effects_of, context, reported_for, reported_in}
 use Rattle.def_explain.specs.Causes.{Cause, no_mark, marked_for_returns, no_flag, no_setting, of_named_calls, switched_off, no_clause, silenced, message_false, cause_of}
 use Rattle.def_explain.specs.Verdicts.{Verdict, fails, fires, verdict_of}
-use Rattle.def_explain.specs.Accounts.{Line, said, tells, told_in_lines, line_where, changed_text, flag_lines, inheritance_lines, lines_by, clause_lines, setting_lines, evaluation_lines, cause_lines, marked_lines, mark_lines, end_lines, message_lines, live_lines, event_lines_in}
+use Rattle.def_explain.specs.Accounts.{Line, said, tells, reported_in_lines, line_where, changed_text, flag_lines, inheritance_lines, lines_by, clause_lines, setting_lines, evaluation_lines, cause_lines, marked_lines, mark_lines, end_lines, message_lines, live_lines, event_lines_in}
 use Rattle.def_explain.specs.Laws.{LinesTellTheMessage}
 use Rattle.def_explain.proofs.CauseOfEvents.{cause_where_nothing_told, cause_is_computed}
 
--- none of them tells a message
+-- none of them reports a message
 abbrev Says : List Line → Type 0
-Says ls = told_in_lines ls ≡ []
+Says ls = reported_in_lines ls ≡ []
 
-pub joined-told : (ls ms : List Line) → told_in_lines (ls ++ ms) ≡ told_in_lines ls ++ told_in_lines ms
-joined-told [] ms = refl
-joined-told (said b ∷ ls) ms = joined-told ls ms
-joined-told (tells t ∷ ls) ms = ap (λ x. t ∷ x) (joined-told ls ms)
+pub joined-reported : (ls ms : List Line) → reported_in_lines (ls ++ ms) ≡ reported_in_lines ls ++ reported_in_lines ms
+joined-reported [] ms = refl
+joined-reported (said b ∷ ls) ms = joined-reported ls ms
+joined-reported (tells t ∷ ls) ms = ap (λ x. t ∷ x) (joined-reported ls ms)
 
 both-say : (ls ms : List Line) → Says ls → Says ms → Says (ls ++ ms)
-both-say ls ms h k = joined-told ls ms ∙ ap (λ x. x ++ told_in_lines ms) h ∙ k
+both-say ls ms h k = joined-reported ls ms ∙ ap (λ x. x ++ reported_in_lines ms) h ∙ k
 
 where-says : (p : ℕ) (text : List ℕ) → Says (line_where p text)
 where-says p [] = refl
@@ -34,10 +34,10 @@ flags-say p old new = where-says p (changed_text p (flags_at old p) (flags_at ne
 
 inheritance-says : (s : Session) (e : Event) → Says (inheritance_lines s e)
 inheritance-says s (spawned child parent f args) =
-    let t : Session = inherited s (spawned child parent f args) in
+    let t : Session = inherit s (spawned child parent f args) in
     both-say (flag_lines parent s t) (flag_lines child s t) (flags-say parent s t) (flags-say child s t)
 inheritance-says s (getting_linked p linker) =
-    let t : Session = inherited s (getting_linked p linker) in
+    let t : Session = inherit s (getting_linked p linker) in
     both-say (flag_lines linker s t) (flag_lines p s t) (flags-say linker s t) (flags-say p s t)
 inheritance-says s (sent p t to alive) = refl
 inheritance-says s (received p sender t) = refl
@@ -92,7 +92,7 @@ said-if : (b : Bool) (text : List ℕ) → Says (if b then said text ∷ [] else
 said-if true text = refl
 said-if false text = refl
 
-marked-says : (o : Option Kind) → Says (marked_lines o)
+marked-says : (o : Option MarkKind) → Says (marked_lines o)
 marked-says None = refl
 marked-says (Some for_returns) = refl
 marked-says (Some for_exceptions) = refl
@@ -125,30 +125,30 @@ end-says s (unlinked p q) = refl
 end-says s (getting_linked p q) = refl
 end-says s (getting_unlinked p q) = refl
 
--- why nothing is told, or the message
-message-told : (s : Session) (e : Event) (c : Option Cause) (m : Option Tree) → cause_of s e ≡ c → (told_for s e (evaluated s e)).1 ≡ m → told_in_lines (message_lines s e c m) ≡ option_to_list m
-message-told s e (Some c) None f g = cause-says s e c
-message-told s e (Some c) (Some t) f g =
-    let none : (told_for s e (evaluated s e)).1 ≡ None = (cause_where_nothing_told s e).0 (c, (cause_is_computed s e c).0 f) in
+-- why nothing is reported, or the message
+message-reported : (s : Session) (e : Event) (c : Option Cause) (m : Option Tree) → cause_of s e ≡ c → (reported_for s e (effects_of s e)).1 ≡ m → reported_in_lines (message_lines s e c m) ≡ option_to_list m
+message-reported s e (Some c) None f g = cause-says s e c
+message-reported s e (Some c) (Some t) f g =
+    let none : (reported_for s e (effects_of s e)).1 ≡ None = (cause_where_nothing_told s e).0 (c, (cause_is_computed s e c).0 f) in
     absurd (cc (sym none ∙ g))
-message-told s e None None f g = refl
-message-told s e None (Some t) f g = joined-told (evaluation_lines s e) _ ∙ ap (λ x. x ++ t ∷ []) (evaluation-says s e)
+message-reported s e None None f g = refl
+message-reported s e None (Some t) f g = joined-reported (evaluation_lines s e) _ ∙ ap (λ x. x ++ t ∷ []) (evaluation-says s e)
 
-live-told : (s : Session) (e : Event) → told_in_lines (live_lines s e) ≡ option_to_list (told_for s e (evaluated s e)).1
-live-told s e =
-    let ls : List Line = message_lines s e (cause_of s e) (told_for s e (evaluated s e)).1 in
-    joined-told ls (mark_lines s e ++ end_lines s e)
-    ∙ ap (λ x. told_in_lines ls ++ x) (both-say (mark_lines s e) (end_lines s e) (marks-say s e) (end-says s e))
-    ∙ append-nil (told_in_lines ls)
-    ∙ message-told s e (cause_of s e) (told_for s e (evaluated s e)).1 refl refl
+live-reported : (s : Session) (e : Event) → reported_in_lines (live_lines s e) ≡ option_to_list (reported_for s e (effects_of s e)).1
+live-reported s e =
+    let ls : List Line = message_lines s e (cause_of s e) (reported_for s e (effects_of s e)).1 in
+    joined-reported ls (mark_lines s e ++ end_lines s e)
+    ∙ ap (λ x. reported_in_lines ls ++ x) (both-say (mark_lines s e) (end_lines s e) (marks-say s e) (end-says s e))
+    ∙ append-nil (reported_in_lines ls)
+    ∙ message-reported s e (cause_of s e) (reported_for s e (effects_of s e)).1 refl refl
 
-in-phase : (p : Phase) (s : Session) (e : Event) → told_in_lines (event_lines_in p s e) ≡ option_to_list (told_in p s e).1
+in-phase : (p : Phase) (s : Session) (e : Event) → reported_in_lines (event_lines_in p s e) ≡ option_to_list (reported_in p s e).1
 in-phase absent s e = refl
 in-phase destroyed s e = refl
 in-phase live s e =
-    joined-told (inheritance_lines s e) (live_lines (inherited s e) e)
-    ∙ ap (λ x. x ++ told_in_lines (live_lines (inherited s e) e)) (inheritance-says s e)
-    ∙ live-told (inherited s e) e
+    joined-reported (inheritance_lines s e) (live_lines (inherit s e) e)
+    ∙ ap (λ x. x ++ reported_in_lines (live_lines (inherit s e) e)) (inheritance-says s e)
+    ∙ live-reported (inherit s e) e
 
 pub lines_tell_the_message : LinesTellTheMessage
 lines_tell_the_message s e = in-phase s.phase s e

@@ -4,8 +4,8 @@ use Rattle.def_spec.specs.Expressions.{Dialect, Context}
 use Rattle.def_spec.specs.Outcome.{Clause, Outcome, no_match, matched, IsOutcomeOf, outcome_in}
 use Rattle.def_spec.proofs.Outcomes.{outcome_is_computed, outcome_is_unique}
 use Rattle.def_node.specs.Event.{Call}
-use Rattle.def_session.specs.Settings.{Covering, Setting, off, plain, by, has_among, setting_for}
-use Rattle.def_session.specs.Session.{effects_in, evaluated_by}
+use Rattle.def_session.specs.Settings.{FunctionSetting, Setting, off, plain, by, has_among, setting_for}
+use Rattle.def_session.specs.Session.{effects_of_outcome, evaluated_by}
 use Rattle.def_explain.specs.Reasons.{Reason, IsReason, reason_of}
 use Rattle.def_explain.specs.Causes.{Cause, no_mark, marked_for_returns, no_flag, no_setting, of_named_calls, switched_off, no_clause, silenced, message_false, EachReason, IsOfSetting, newest_of, IsOfCall, reasons_before, reasons_of, cause_of_setting, cause_of_call}
 use Rattle.def_explain.proofs.ClauseReasons.{reason_where_not_fired, reason_is_computed}
@@ -13,7 +13,7 @@ use Rattle.def_explain.proofs.ClauseReasons.{reason_where_not_fired, reason_is_c
 -- ---- clauses
 
 -- no effects where there is no match
-no_effects : (o : Outcome) → effects_in o ≡ None → o ≡ no_match
+no_effects : (o : Outcome) → effects_of_outcome o ≡ None → o ≡ no_match
 no_effects no_match e = refl
 no_effects (matched es) e = absurd (cc e)
 
@@ -48,7 +48,7 @@ setting_sound (by s) c e = each_there s.dialect s.clauses c (subst (IsOutcomeOf 
 pub setting_complete : (g : Setting) (c : Context) (x : Cause) → IsOfSetting g c x → (evaluated_by g c ≡ None) × (x ≡ cause_of_setting g c)
 setting_complete off c switched_off h = (refl, refl)
 setting_complete (by s) c (no_clause rs) h = (
-  sym (ap effects_in (outcome_is_unique s c no_match (each_none s.dialect s.clauses c rs h))),
+  sym (ap effects_of_outcome (outcome_is_unique s c no_match (each_none s.dialect s.clauses c rs h))),
   ap no_clause (each_is s.dialect s.clauses c rs h),
 )
 setting_complete g c x h = absurd h
@@ -56,19 +56,19 @@ setting_complete g c x h = absurd h
 -- ---- calls
 
 -- the setting that the newest command gives a call
-abbrev pub setting_by : Option Covering → Call → Setting
+abbrev pub setting_by : Option FunctionSetting → Call → Setting
 setting_by None c = off
 setting_by (Some k) c = if k.local || c.named then k.setting else off
 
-setting_after : (k : Covering) (rest : Setting) (o : Option Covering) (c : Call) (q : Bool) → rest ≡ setting_by o c → (if q then (if k.local || c.named then k.setting else off) else rest) ≡ setting_by (if q then Some k else o) c
+setting_after : (k : FunctionSetting) (rest : Setting) (o : Option FunctionSetting) (c : Call) (q : Bool) → rest ≡ setting_by o c → (if q then (if k.local || c.named then k.setting else off) else rest) ≡ setting_by (if q then Some k else o) c
 setting_after k rest o c true e = refl
 setting_after k rest o c false e = e
 
-pub setting_is : (ks : List Covering) (c : Call) → setting_for ks c ≡ setting_by (newest_of ks c) c
+pub setting_is : (ks : List FunctionSetting) (c : Call) → setting_for ks c ≡ setting_by (newest_of ks c) c
 setting_is [] c = refl
 setting_is (k ∷ ks) c = setting_after k (setting_for ks c) (newest_of ks c) c (has_among k c.mfa c.exported) (setting_is ks c)
 
-pub call_sound : (o : Option Covering) (call : Call) (c : Context) → evaluated_by (setting_by o call) c ≡ None → IsOfCall o call c (cause_of_call o call c)
+pub call_sound : (o : Option FunctionSetting) (call : Call) (c : Context) → evaluated_by (setting_by o call) c ≡ None → IsOfCall o call c (cause_of_call o call c)
 call_sound None call c e = tt
 call_sound (Some k) call c e = go (k.local || call.named) refl e
   where
@@ -92,14 +92,14 @@ call_sound (Some k) call c e = go (k.local || call.named) refl e
     go true f h = kept (cause_of_setting k.setting c) f (setting_sound k.setting c h)
     go false f h = f
 
-by_setting : (k : Covering) (call : Call) (c : Context) (x : Cause) → ((k.local || call.named) ≡ true) × IsOfSetting k.setting c x → (evaluated_by (setting_by (Some k) call) c ≡ None) × (x ≡ cause_of_call (Some k) call c)
+by_setting : (k : FunctionSetting) (call : Call) (c : Context) (x : Cause) → ((k.local || call.named) ≡ true) × IsOfSetting k.setting c x → (evaluated_by (setting_by (Some k) call) c ≡ None) × (x ≡ cause_of_call (Some k) call c)
 by_setting k call c x h =
     let r : (evaluated_by k.setting c ≡ None) × (x ≡ cause_of_setting k.setting c) = setting_complete k.setting c x h.1 in (
       ap (λ q. evaluated_by (if q then k.setting else off) c) h.0 ∙ r.0,
       r.1 ∙ sym (ap (λ q. if q then cause_of_setting k.setting c else of_named_calls) h.0),
     )
 
-pub call_complete : (o : Option Covering) (call : Call) (c : Context) (x : Cause) → IsOfCall o call c x → (evaluated_by (setting_by o call) c ≡ None) × (x ≡ cause_of_call o call c)
+pub call_complete : (o : Option FunctionSetting) (call : Call) (c : Context) (x : Cause) → IsOfCall o call c x → (evaluated_by (setting_by o call) c ≡ None) × (x ≡ cause_of_call o call c)
 call_complete None call c no_setting h = (refl, refl)
 call_complete None call c no_mark h = absurd h
 call_complete None call c marked_for_returns h = absurd h

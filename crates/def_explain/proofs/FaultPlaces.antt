@@ -9,7 +9,7 @@ use Rattle.def_spec.specs.Expressions.{Dialect, Expr, bound_to, whole_list, all_
 use Rattle.def_spec.proofs.Conditions.{if_true, unless_true, while_true, until_true, of-bound, of-tuple, of-list, of-call, of-action, of-several, of-while, of-until}
 use Rattle.def_spec.proofs.Values.{before}
 use Rattle.def_explain.specs.Laws.{FaultWhereNoValue}
-use Rattle.def_explain.specs.Values.{HasTruth, HasOther, applied, HaveValues, FaultsItself, FaultsAt, FaultsInOne, FaultsWhileTrue, FaultsUntilTrue, or_itself, or_behind, behind_true, behind_other, fault_in, fault_in_one, fault_while_true, fault_until_true}
+use Rattle.def_explain.specs.Values.{HasTruth, HasOther, function_value, HaveValues, FaultsItself, FaultsAt, FaultsInOne, FaultsWhileTrue, FaultsUntilTrue, or_itself, or_after, after_true, after_other, fault_in, fault_in_one, fault_while_true, fault_until_true}
 
 -- one of the two is there, and not both
 abbrev pub Tied : {X Y : Type 0} → Option X → Option Y → Type 0
@@ -58,7 +58,7 @@ tied-action : (e : Expr) (x : Option Expr) → Tied {X = Tree} None (or_itself x
 tied-action e None = tt
 tied-action e (Some x) = tt
 
-tied-before : (v : Option Tree) (vs : Option (List Tree)) (x y : Option Expr) → Tied v x → Tied vs y → Tied (before v vs) (or_behind x y)
+tied-before : (v : Option Tree) (vs : Option (List Tree)) (x y : Option Expr) → Tied v x → Tied vs y → Tied (before v vs) (or_after x y)
 tied-before None vs None y s t = absurd s
 tied-before None vs (Some x) y s t = tt
 tied-before (Some v) vs (Some x) y s t = absurd s
@@ -75,13 +75,13 @@ tied-unless : (q : Bool) (r : Option Tree) (u : Tree) (y : Option Expr) → Tied
 tied-unless true r u y t = tt
 tied-unless false r u y t = t
 
-tied-while : (v r : Option Tree) (x y : Option Expr) → Tied v x → Tied r y → Tied (if_true v r) (or_behind x (behind_true v y))
+tied-while : (v r : Option Tree) (x y : Option Expr) → Tied v x → Tied r y → Tied (if_true v r) (or_after x (after_true v y))
 tied-while None r None y s t = absurd s
 tied-while None r (Some x) y s t = tt
 tied-while (Some v) r (Some x) y s t = absurd s
 tied-while (Some v) r None y s t = tied-if (is_true v) r (truth false) y t
 
-tied-until : (v r : Option Tree) (x y : Option Expr) → Tied v x → Tied r y → Tied (unless_true v r) (or_behind x (behind_other v y))
+tied-until : (v r : Option Tree) (x y : Option Expr) → Tied v x → Tied r y → Tied (unless_true v r) (or_after x (after_other v y))
 tied-until None r None y s t = absurd s
 tied-until None r (Some x) y s t = tt
 tied-until (Some v) r (Some x) y s t = absurd s
@@ -96,7 +96,7 @@ module _ (d : Dialect) (b : Bindings) (c : Context) where
     tied (constant t) = tt
     tied (tuple_of es) = subst (λ v. Tied v (fault_in_one d b c es)) (sym (of-tuple d b c es)) (tied-map (λ ts. tuple (of_elements ts)) _ _ (tied-one es))
     tied (list_of es) = subst (λ v. Tied v (fault_in_one d b c es)) (sym (of-list d b c es)) (tied-map (λ ts. list (of_elements ts)) _ _ (tied-one es))
-    tied (call f es) = subst (λ v. Tied v (fault_in d b c (call f es))) (sym (of-call d b c f es)) (tied-call (λ ts. apply f ts c.me) (call f es) _ _ (tied-one es))
+    tied (call f es) = subst (λ v. Tied v (fault_in d b c (call f es))) (sym (of-call d b c f es)) (tied-call (λ ts. apply f ts c.self_pid) (call f es) _ _ (tied-one es))
     tied (and_also es) = tied-all es
     tied (or_else es) = tied-some_true es
     tied (perform a es) = subst (λ v. Tied v (fault_in d b c (perform a es))) (sym (of-action d b c a es)) (tied-action (perform a es) (fault_in_one d b c es))
@@ -120,11 +120,11 @@ module _ (d : Dialect) (b : Bindings) (c : Context) where
   where_itself x e None (Some t) h = absurd (cc h)
   where_itself x e (Some y) r h = inl h
 
-  where_behind : (x : Expr) (f r : Option Expr) → or_behind f r ≡ Some x → (f ≡ Some x) ⊎ ((f ≡ None) × (r ≡ Some x))
-  where_behind x None r h = inr (refl, h)
-  where_behind x (Some y) r h = inl h
+  where_after : (x : Expr) (f r : Option Expr) → or_after f r ≡ Some x → (f ≡ Some x) ⊎ ((f ≡ None) × (r ≡ Some x))
+  where_after x None r h = inr (refl, h)
+  where_after x (Some y) r h = inl h
 
-  where_true : (x : Expr) (v : Option Tree) (r : Option Expr) → behind_true v r ≡ Some x → ((t : Tree) × (v ≡ Some t) × (is_true t ≡ true)) × (r ≡ Some x)
+  where_true : (x : Expr) (v : Option Tree) (r : Option Expr) → after_true v r ≡ Some x → ((t : Tree) × (v ≡ Some t) × (is_true t ≡ true)) × (r ≡ Some x)
   where_true x None r h = absurd (cc h)
   where_true x (Some t) r h = go (is_true t) refl h
     where
@@ -132,7 +132,7 @@ module _ (d : Dialect) (b : Bindings) (c : Context) where
       go true e k = ((t, refl, e), k)
       go false e k = absurd (cc k)
 
-  where_other : (x : Expr) (v : Option Tree) (r : Option Expr) → behind_other v r ≡ Some x → ((t : Tree) × (v ≡ Some t) × (is_true t ≡ false)) × (r ≡ Some x)
+  where_other : (x : Expr) (v : Option Tree) (r : Option Expr) → after_other v r ≡ Some x → ((t : Tree) × (v ≡ Some t) × (is_true t ≡ false)) × (r ≡ Some x)
   where_other x None r h = absurd (cc h)
   where_other x (Some t) r h = go (is_true t) refl h
     where
@@ -160,11 +160,11 @@ module _ (d : Dialect) (b : Bindings) (c : Context) where
   pick p q v (inl h) = inl (p h)
   pick p q v (inr h) = inr (v h.0, q h.1)
 
-  pick_true : {P Q : Type 0} {f r : Option Expr} {x : Expr} (e : Expr) → (f ≡ Some x → P) → (r ≡ Some x → Q) → ((f ≡ Some x) ⊎ ((f ≡ None) × (behind_true (value d in_condition b c e) r ≡ Some x))) → P ⊎ (HasTruth d b c e × Q)
+  pick_true : {P Q : Type 0} {f r : Option Expr} {x : Expr} (e : Expr) → (f ≡ Some x → P) → (r ≡ Some x → Q) → ((f ≡ Some x) ⊎ ((f ≡ None) × (after_true (value d in_condition b c e) r ≡ Some x))) → P ⊎ (HasTruth d b c e × Q)
   pick_true e p q (inl h) = inl (p h)
   pick_true {x = x} e p q (inr h) = inr ((where_true x (value d in_condition b c e) _ h.1).0, q (where_true x (value d in_condition b c e) _ h.1).1)
 
-  pick_other : {P Q : Type 0} {f r : Option Expr} {x : Expr} (e : Expr) → (f ≡ Some x → P) → (r ≡ Some x → Q) → ((f ≡ Some x) ⊎ ((f ≡ None) × (behind_other (value d in_condition b c e) r ≡ Some x))) → P ⊎ (HasOther d b c e × Q)
+  pick_other : {P Q : Type 0} {f r : Option Expr} {x : Expr} (e : Expr) → (f ≡ Some x → P) → (r ≡ Some x → Q) → ((f ≡ Some x) ⊎ ((f ≡ None) × (after_other (value d in_condition b c e) r ≡ Some x))) → P ⊎ (HasOther d b c e × Q)
   pick_other e p q (inl h) = inl (p h)
   pick_other {x = x} e p q (inr h) = inr ((where_other x (value d in_condition b c e) _ h.1).0, q (where_other x (value d in_condition b c e) _ h.1).1)
 
@@ -176,36 +176,36 @@ module _ (d : Dialect) (b : Bindings) (c : Context) where
     fault_sound (constant t) x h = absurd (cc h)
     fault_sound (tuple_of es) x h = one_sound es x h
     fault_sound (list_of es) x h = one_sound es x h
-    fault_sound (call f es) x h = call_sound es (call f es) x (applied d b c f es) (one_sound es x) (where_itself x (call f es) (fault_in_one d b c es) (applied d b c f es) h)
+    fault_sound (call f es) x h = call_sound es (call f es) x (function_value d b c f es) (one_sound es x) (where_itself x (call f es) (fault_in_one d b c es) (function_value d b c f es) h)
     fault_sound (and_also es) x h = while_sound es x h
     fault_sound (or_else es) x h = until_sound es x h
     fault_sound (perform a es) x h = action_sound es (perform a es) x (call_sound es (perform a es) x None (one_sound es x) (where_itself x (perform a es) (fault_in_one d b c es) None h))
 
     one_sound : (es : Exprs) (x : Expr) → fault_in_one d b c es ≡ Some x → FaultsInOne d b c es x
     one_sound no_exprs x h = absurd (cc h)
-    one_sound (and_expr e es) x h = pick (fault_sound e x) (one_sound es x) (tied-some _ _ (tied e)) (where_behind x (fault_in d b c e) (fault_in_one d b c es) h)
+    one_sound (and_expr e es) x h = pick (fault_sound e x) (one_sound es x) (tied-some _ _ (tied e)) (where_after x (fault_in d b c e) (fault_in_one d b c es) h)
 
     while_sound : (es : Exprs) (x : Expr) → fault_while_true d b c es ≡ Some x → FaultsWhileTrue d b c es x
     while_sound no_exprs x h = absurd (cc h)
-    while_sound (and_expr e es) x h = pick_true e (fault_sound e x) (while_sound es x) (where_behind x (fault_in d b c e) (behind_true (value d in_condition b c e) (fault_while_true d b c es)) h)
+    while_sound (and_expr e es) x h = pick_true e (fault_sound e x) (while_sound es x) (where_after x (fault_in d b c e) (after_true (value d in_condition b c e) (fault_while_true d b c es)) h)
 
     until_sound : (es : Exprs) (x : Expr) → fault_until_true d b c es ≡ Some x → FaultsUntilTrue d b c es x
     until_sound no_exprs x h = absurd (cc h)
-    until_sound (and_expr e es) x h = pick_other e (fault_sound e x) (until_sound es x) (where_behind x (fault_in d b c e) (behind_other (value d in_condition b c e) (fault_until_true d b c es)) h)
+    until_sound (and_expr e es) x h = pick_other e (fault_sound e x) (until_sound es x) (where_after x (fault_in d b c e) (after_other (value d in_condition b c e) (fault_until_true d b c es)) h)
 
   -- ---- and where it faults is what is computed
 
   itself_none : (e : Expr) (f : Option Expr) (r : Option Tree) → f ≡ None → r ≡ None → or_itself f e r ≡ Some e
   itself_none e f r h k = ap (λ x. or_itself x e r) h ∙ ap (or_itself None e) k
 
-  behind_none : (f r : Option Expr) (x : Expr) → f ≡ None → r ≡ Some x → or_behind f r ≡ Some x
-  behind_none f r x h k = ap (λ y. or_behind y r) h ∙ k
+  after_none : (f r : Option Expr) (x : Expr) → f ≡ None → r ≡ Some x → or_after f r ≡ Some x
+  after_none f r x h k = ap (λ y. or_after y r) h ∙ k
 
-  true_there : (v : Option Tree) (r : Option Expr) (x : Expr) (t : Tree) → v ≡ Some t → is_true t ≡ true → r ≡ Some x → behind_true v r ≡ Some x
-  true_there v r x t h k l = ap (λ y. behind_true y r) h ∙ ap (λ q. if q then r else None) k ∙ l
+  true_there : (v : Option Tree) (r : Option Expr) (x : Expr) (t : Tree) → v ≡ Some t → is_true t ≡ true → r ≡ Some x → after_true v r ≡ Some x
+  true_there v r x t h k l = ap (λ y. after_true y r) h ∙ ap (λ q. if q then r else None) k ∙ l
 
-  other_there : (v : Option Tree) (r : Option Expr) (x : Expr) (t : Tree) → v ≡ Some t → is_true t ≡ false → r ≡ Some x → behind_other v r ≡ Some x
-  other_there v r x t h k l = ap (λ y. behind_other y r) h ∙ ap (λ q. if q then None else r) k ∙ l
+  other_there : (v : Option Tree) (r : Option Expr) (x : Expr) (t : Tree) → v ≡ Some t → is_true t ≡ false → r ≡ Some x → after_other v r ≡ Some x
+  other_there v r x t h k l = ap (λ y. after_other y r) h ∙ ap (λ q. if q then None else r) k ∙ l
 
   no_fault : (e : Expr) (t : Tree) → value d in_condition b c e ≡ Some t → fault_in d b c e ≡ None
   no_fault e t h = tied-other _ _ t (tied e) h
@@ -222,28 +222,28 @@ module _ (d : Dialect) (b : Bindings) (c : Context) where
     fault_complete (constant t) x h = absurd h
     fault_complete (tuple_of es) x h = one_complete es x h
     fault_complete (list_of es) x h = one_complete es x h
-    fault_complete (call f es) x h = call_complete es (call f es) x (applied d b c f es) (one_complete es x) h
+    fault_complete (call f es) x h = call_complete es (call f es) x (function_value d b c f es) (one_complete es x) h
     fault_complete (and_also es) x h = while_complete es x h
     fault_complete (or_else es) x h = until_complete es x h
     fault_complete (perform a es) x h = call_complete es (perform a es) x None (one_complete es x) (action_complete es (perform a es) x h)
 
     one_complete : (es : Exprs) (x : Expr) → FaultsInOne d b c es x → fault_in_one d b c es ≡ Some x
     one_complete no_exprs x h = absurd h
-    one_complete (and_expr e es) x (inl h) = ap (λ y. or_behind y (fault_in_one d b c es)) (fault_complete e x h)
-    one_complete (and_expr e es) x (inr h) = behind_none (fault_in d b c e) (fault_in_one d b c es) x (no_fault e h.0.0 h.0.1) (one_complete es x h.1)
+    one_complete (and_expr e es) x (inl h) = ap (λ y. or_after y (fault_in_one d b c es)) (fault_complete e x h)
+    one_complete (and_expr e es) x (inr h) = after_none (fault_in d b c e) (fault_in_one d b c es) x (no_fault e h.0.0 h.0.1) (one_complete es x h.1)
 
     while_complete : (es : Exprs) (x : Expr) → FaultsWhileTrue d b c es x → fault_while_true d b c es ≡ Some x
     while_complete no_exprs x h = absurd h
-    while_complete (and_expr e es) x (inl h) = ap (λ y. or_behind y (behind_true (value d in_condition b c e) (fault_while_true d b c es))) (fault_complete e x h)
+    while_complete (and_expr e es) x (inl h) = ap (λ y. or_after y (after_true (value d in_condition b c e) (fault_while_true d b c es))) (fault_complete e x h)
     while_complete (and_expr e es) x (inr h) =
-        behind_none (fault_in d b c e) (behind_true (value d in_condition b c e) (fault_while_true d b c es)) x (no_fault e h.0.0 h.0.1)
+        after_none (fault_in d b c e) (after_true (value d in_condition b c e) (fault_while_true d b c es)) x (no_fault e h.0.0 h.0.1)
         (true_there (value d in_condition b c e) (fault_while_true d b c es) x h.0.0 h.0.1 h.0.2 (while_complete es x h.1))
 
     until_complete : (es : Exprs) (x : Expr) → FaultsUntilTrue d b c es x → fault_until_true d b c es ≡ Some x
     until_complete no_exprs x h = absurd h
-    until_complete (and_expr e es) x (inl h) = ap (λ y. or_behind y (behind_other (value d in_condition b c e) (fault_until_true d b c es))) (fault_complete e x h)
+    until_complete (and_expr e es) x (inl h) = ap (λ y. or_after y (after_other (value d in_condition b c e) (fault_until_true d b c es))) (fault_complete e x h)
     until_complete (and_expr e es) x (inr h) =
-        behind_none (fault_in d b c e) (behind_other (value d in_condition b c e) (fault_until_true d b c es)) x (no_fault e h.0.0 h.0.1)
+        after_none (fault_in d b c e) (after_other (value d in_condition b c e) (fault_until_true d b c es)) x (no_fault e h.0.0 h.0.1)
         (other_there (value d in_condition b c e) (fault_until_true d b c es) x h.0.0 h.0.1 h.0.2 (until_complete es x h.1))
 
 pub fault_where_no_value : FaultWhereNoValue

@@ -9,3 +9,7 @@ pub mod HeadStops
 mod Names
 mod Rows
 mod TextRows
+mod CommandTerms
+mod RunRows
+pub mod AccountPicks
+mod RunMessages

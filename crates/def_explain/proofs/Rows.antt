@@ -3,7 +3,7 @@ use Rattle.std.proofs.Common.{◌≡◌, ℕ, true, false, List, [], ◌∷◌, 
 use Rattle.std.specs.Prelude.{replicate}
 use Rattle.def_term.specs.Tree.{Tree, int, list, none}
 use Rattle.def_term.specs.Names.{Mfa, word}
-use Rattle.def_spec.specs.Flags.{Flags, no_flags, only, joined, send_flag, call_flag, silent_flag}
+use Rattle.def_spec.specs.Flags.{Flags, no_flags, only, union, send_flag, call_flag, silent_flag}
 use Rattle.def_spec.specs.Matching.{Pattern, variable, anything, only_term, in_list, no_patterns, and_pattern}
 use Rattle.def_spec.specs.Functions as fn
 use Rattle.def_spec.specs.Expressions.{for_calls, Expr, bound_to, constant, call, and_also, perform, message, Exprs, no_exprs, and_expr, Context}
@@ -11,8 +11,8 @@ use Rattle.def_spec.specs.Outcome.{Clause}
 use Rattle.def_script.specs.Program.{error}
 use Rattle.def_node.specs.Event.{Event, Call, sent, called, returned, raised}
 use Rattle.def_session.specs.Settings.{Setting, off, plain, by, one}
-use Rattle.def_session.specs.State.{Kind, for_returns, for_exceptions, Session, live, unset, alive_at_start, with_flags, with_marks}
-use Rattle.def_explain.specs.Heads.{no_list, other_length, behind_matching}
+use Rattle.def_session.specs.State.{MarkKind, for_returns, for_exceptions, Session, live, new_session, alive_at_start, with_flags, with_marks}
+use Rattle.def_explain.specs.Heads.{no_list, other_length, after_matching}
 use Rattle.def_explain.specs.Reasons.{by_head, by_condition, has_value, faults_at, reason_of}
 use Rattle.def_explain.specs.Causes.{no_mark, marked_for_returns, no_flag, no_setting, of_named_calls, switched_off, no_clause, silenced, message_false, cause_of}
 
@@ -22,7 +22,7 @@ abbrev number : ℕ → Tree
 number n = int (pos n)
 
 abbrev on : List Tree → Context
-on ts = record { matched_list = ts; me = 100; caller_mfa = None; alive = alive_at_start 1; flags = replicate 64 no_flags }
+on ts = record { matched_list = ts; self_pid = 100; caller_mfa = None; alive = alive_at_start 1; flags = replicate 64 no_flags }
 
 abbrev pair : Pattern → Pattern → Pattern
 pair p q = in_list (and_pattern p (and_pattern q no_patterns))
@@ -37,7 +37,7 @@ abbrev clause : Pattern → Exprs → Clause
 clause p es = record { head = p; conditions = es; body = no_exprs }
 
 -- [{['$1','$1'],[],[]}] on [1,2]: the first element matches, and with the second they don't
-pub second_element : reason_of for_calls (clause (pair (variable 1) (variable 1)) no_exprs) (on (number 1 ∷ number 2 ∷ [])) ≡ Some (by_head (behind_matching 1))
+pub second_element : reason_of for_calls (clause (pair (variable 1) (variable 1)) no_exprs) (on (number 1 ∷ number 2 ∷ [])) ≡ Some (by_head (after_matching 1))
 second_element = refl
 
 -- the same on [1,1] fires
@@ -56,7 +56,7 @@ term_for_list = refl
 pub false_condition : reason_of for_calls (clause (pair (variable 1) anything) (and_expr (above (bound_to 1) (constant (number 3))) no_exprs)) (on (number 2 ∷ number 0 ∷ [])) ≡ Some (by_condition 0 (has_value (word "false")))
 false_condition = refl
 
--- {hd,'$1'} where '$1' is [], behind a condition that is true
+-- {hd,'$1'} where '$1' is [], after a condition that is true
 pub fault_of_head : reason_of for_calls (clause (pair (variable 1) anything) (and_expr (constant (word "true")) (and_expr (above (unary fn.head (bound_to 1)) (constant (number 3))) no_exprs))) (on (list none ∷ number 0 ∷ [])) ≡ Some (by_condition 1 (faults_at (unary fn.head (bound_to 1))))
 fault_of_head = refl
 
@@ -67,7 +67,7 @@ early_stop = refl
 -- ---- sessions
 
 abbrev plain_session : Session
-plain_session = unset live (alive_at_start 2)
+plain_session = new_session live (alive_at_start 2)
 
 abbrev flagged : Flags → Session
 flagged f = with_flags plain_session 100 f
@@ -88,7 +88,7 @@ set_for g s = record s { functions = record { covered = one function; setting = 
 pub without_flag : cause_of plain_session hello ≡ Some (no_flag send_flag)
 without_flag = refl
 
--- with the flag the send is told
+-- with the flag the send is reported
 pub with_flag : cause_of (flagged (only send_flag)) hello ≡ None
 with_flag = refl
 
@@ -113,7 +113,7 @@ pub false_message : cause_of (set_for (by (record { dialect = for_calls; clauses
 false_message = refl
 
 -- the flag `silent`
-pub silent_call : cause_of (set_for plain (flagged (joined (only call_flag) (only silent_flag)))) (called 100 (record local_call { named = true })) ≡ Some silenced
+pub silent_call : cause_of (set_for plain (flagged (union (only call_flag) (only silent_flag)))) (called 100 (record local_call { named = true })) ≡ Some silenced
 silent_call = refl
 
 -- the return of a frame without a mark
@@ -121,7 +121,7 @@ pub unmarked_return : cause_of (flagged (only call_flag)) (returned 100 function
 unmarked_return = refl
 
 -- a session whose process has a mark of this kind at depth 1
-abbrev marked : Kind → Session → Session
+abbrev marked : MarkKind → Session → Session
 marked k s = with_marks s 100 (record { depth = 1; kind = k } ∷ [])
 
 -- an exception that leaves a frame without a mark
@@ -139,9 +139,9 @@ exception_without_flag = refl
 pub told_exception : cause_of (marked for_exceptions (flagged (only call_flag))) (raised 100 function error (word "bad") 1) ≡ None
 told_exception = refl
 
-pub silent_exception : cause_of (marked for_exceptions (flagged (joined (only call_flag) (only silent_flag)))) (raised 100 function error (word "bad") 1) ≡ Some silenced
+pub silent_exception : cause_of (marked for_exceptions (flagged (union (only call_flag) (only silent_flag)))) (raised 100 function error (word "bad") 1) ≡ Some silenced
 silent_exception = refl
 
--- a return is told by either mark
+-- a return is reported by either mark
 pub return_marked_for_exceptions : cause_of (marked for_exceptions (flagged (only call_flag))) (returned 100 function (word "ok") 1) ≡ None
 return_marked_for_exceptions = refl

@@ -10,11 +10,11 @@ use Rattle.def_spec.specs.Expressions.{for_calls, for_sends, Expr, bound_to, con
 use Rattle.def_spec.specs.Outcome.{Clause}
 use Rattle.def_session.specs.State.{alive_at_start}
 use Rattle.def_explain.specs.Spellings.{spelling}
-use Rattle.def_explain.specs.Texts.{trial_flags, trial_text}
+use Rattle.def_explain.specs.Texts.{spec_test_flags, spec_test_text}
 
 -- hi and 1
 abbrev hi_one : Context
-hi_one = record { matched_list = word "hi" ∷ int (pos 1) ∷ []; me = 100; caller_mfa = None; alive = alive_at_start 1; flags = trial_flags for_calls 100 }
+hi_one = record { matched_list = word "hi" ∷ int (pos 1) ∷ []; self_pid = 100; caller_mfa = None; alive = alive_at_start 1; flags = spec_test_flags for_calls 100 }
 
 abbrev pair : Pattern → Pattern → Pattern
 pair p q = in_list (and_pattern p (and_pattern q no_patterns))
@@ -57,27 +57,27 @@ tracing = record {
 }
 
 -- two clauses that don't fire, one that does, and one that isn't reached
-pub third_fires : trial_text for_calls (of_integer ∷ of_twice ∷ with_message ∷ of_head ∷ []) hi_one
+pub third_fires : spec_test_text for_calls (of_integer ∷ of_twice ∷ with_message ∷ of_head ∷ []) hi_one
     ≡ codes "clause 1: condition 1 is false\nclause 2: the head doesn't match at element 2\nclause 3 fires: message {second,hi}, <0.100.0> gets send\n  '$1' is hi\n=> a message that ends in {second,hi}\n"
 unfolding is_written_bare digits
 third_fires = refl
 
 -- a fault, and none that fires
-pub none_fires : trial_text for_calls (of_head ∷ []) hi_one ≡ codes "clause 1: condition 1 faults at {hd,'$1'}\n=> no message: no clause fires\n"
+pub none_fires : spec_test_text for_calls (of_head ∷ []) hi_one ≡ codes "clause 1: condition 1 faults at {hd,'$1'}\n=> no message: no clause fires\n"
 unfolding is_written_bare digits
 none_fires = refl
 
 -- `silent` is about calls alone
-pub silent_call : trial_text for_calls (whole_and_silent ∷ []) hi_one ≡ codes "clause 1 fires: silent true\n  '$7' is [hi,1]\n=> no message: silent\n"
+pub silent_call : spec_test_text for_calls (whole_and_silent ∷ []) hi_one ≡ codes "clause 1 fires: silent true\n  '$7' is [hi,1]\n=> no message: silent\n"
 unfolding is_written_bare digits
 silent_call = refl
 
-pub silent_send : trial_text for_sends (whole_and_silent ∷ []) hi_one ≡ codes "clause 1 fires: silent true\n  '$7' is [hi,1]\n=> a message\n"
+pub silent_send : spec_test_text for_sends (whole_and_silent ∷ []) hi_one ≡ codes "clause 1 fires: silent true\n  '$7' is [hi,1]\n=> a message\n"
 unfolding is_written_bare digits
 silent_send = refl
 
--- a change is told as it is asked for, whatever it changes; the process has `call` before it
-pub changed_flags : trial_text for_calls (tracing ∷ []) hi_one
+-- a change is reported as it is asked for, whatever it changes; the process has `call` before it
+pub changed_flags : spec_test_text for_calls (tracing ∷ []) hi_one
     ≡ codes "clause 1 fires: <0.100.0> gets send, message true, <0.100.0> loses call gets call, message false, <0.100.0> keeps its flags\n=> no message: it is false\n"
 unfolding is_written_bare digits
 changed_flags = refl

@@ -1,36 +1,36 @@
 -- What one session makes of an event or a command, line by line (own).
--- Stands on what a session makes of an event, on why it tells nothing, and on the texts of reasons and effects.
+-- Depends on what a session makes of an event, on why it reports nothing, and on the texts of reasons and effects.
 use Rattle.std.specs.Prelude.{ℕ, suc, if◌then◌else◌, List, [], ◌∷◌, ◌++◌, Option, Some, None, codes, decimal}
 use Rattle.std.specs.Option.{unwrap_or}
 use Rattle.def_term.specs.Tree.{Tree, pid}
 use Rattle.def_term.specs.Names.{Mfa, word}
 use Rattle.def_term.specs.Text.{w, atom_text, pid_text}
 use Rattle.def_script.specs.Program.{Command}
-use Rattle.def_script.specs.Opening.{Opening}
+use Rattle.def_script.specs.Exports.{Exports}
 use Rattle.def_spec.specs.Flags.{Flags, only, without, flags_by_name}
 use Rattle.def_spec.specs.Expressions.{Dialect, Context}
 use Rattle.def_spec.specs.Outcome.{Clause}
 use Rattle.def_node.specs.Event.{Event, sent, received, called, returned, raised, spawned, exited, getting_linked}
 use Rattle.def_session.specs.Settings.{Setting, off, plain, by, setting_for}
-use Rattle.def_session.specs.State.{Phase, absent, live, destroyed, Kind, for_returns, for_exceptions, Session, flags_at}
-use Rattle.def_session.specs.Session.{inherited, evaluated, mark_asked, is_marked, context, told_for}
+use Rattle.def_session.specs.State.{Phase, absent, live, destroyed, MarkKind, for_returns, for_exceptions, Session, flags_at}
+use Rattle.def_session.specs.Session.{inherit, effects_of, mark_asked, is_marked, context, reported_for}
 use Rattle.def_session.specs.Commands.{command_done}
 use Rattle.def_explain.specs.Causes.{Cause, no_mark, marked_for_returns, no_flag, no_setting, of_named_calls, switched_off, no_clause, silenced, message_false, cause_of}
 use Rattle.def_explain.specs.Verdicts.{Verdict, fails, fires, verdict_of}
 use Rattle.def_explain.specs.Texts.{said_of_each, effects_text, reason_text, clause_text}
 
--- what is said, or a message that is told
+-- what is said, or a message that is reported
 pub data Line : Type 0 where
   said : List ℕ → Line
   tells : Tree → Line
 
 -- the messages among these lines
-abbrev pub told_in_lines : List Line → List Tree
-told_in_lines [] = []
-told_in_lines (said text ∷ ls) = told_in_lines ls
-told_in_lines (tells t ∷ ls) = t ∷ told_in_lines ls
+abbrev pub reported_in_lines : List Line → List Tree
+reported_in_lines [] = []
+reported_in_lines (said text ∷ ls) = reported_in_lines ls
+reported_in_lines (tells t ∷ ls) = t ∷ reported_in_lines ls
 
--- something said behind them
+-- something said after them
 abbrev pub followed_by_line : List Line → List ℕ → List Line
 followed_by_line ls text = ls ++ said text ∷ []
 
@@ -51,18 +51,18 @@ flag_lines p old new = line_where p (changed_text p (flags_at old p) (flags_at n
 
 -- what a child or a partner inherits, and what the other keeps
 abbrev pub inheritance_lines : Session → Event → List Line
-inheritance_lines s (spawned child parent f args) = flag_lines parent s (inherited s (spawned child parent f args)) ++ flag_lines child s (inherited s (spawned child parent f args))
-inheritance_lines s (getting_linked p linker) = flag_lines linker s (inherited s (getting_linked p linker)) ++ flag_lines p s (inherited s (getting_linked p linker))
+inheritance_lines s (spawned child parent f args) = flag_lines parent s (inherit s (spawned child parent f args)) ++ flag_lines child s (inherit s (spawned child parent f args))
+inheritance_lines s (getting_linked p linker) = flag_lines linker s (inherit s (getting_linked p linker)) ++ flag_lines p s (inherit s (getting_linked p linker))
 inheritance_lines s e = []
 
 -- ---- clauses
 
--- a clause that doesn't fire comes before those behind it
+-- a clause that doesn't fire comes before those after it
 abbrev pub lines_by : ℕ → Verdict → List Line → List Line
 lines_by n (fails r) behind = said (clause_text n (codes ": " ++ reason_text r)) ∷ behind
 lines_by n (fires b es) behind = said (clause_text n (codes " fires" ++ effects_text es)) ∷ []
 
--- the clauses behind so many, up to the first that fires
+-- the clauses after so many, up to the first that fires
 abbrev pub clause_lines : ℕ → Dialect → List Clause → Context → List Line
 clause_lines n d [] c = said (codes "no clause fires") ∷ []
 clause_lines n d (k ∷ ks) c = lines_by n (verdict_of d k c) (clause_lines (suc n) d ks c)
@@ -91,7 +91,7 @@ abbrev pub no_setting_text : Event → List ℕ
 no_setting_text (called p c) = codes "no setting for " ++ mfa_text c.mfa
 no_setting_text e = codes "no setting"
 
--- why nothing is told
+-- why nothing is reported
 abbrev pub cause_lines : Session → Event → Cause → List Line
 cause_lines s e no_mark = said (codes "the call has no mark") ∷ []
 cause_lines s e marked_for_returns = said (codes "the call is marked for returns alone") ∷ []
@@ -106,7 +106,7 @@ cause_lines s e message_false = followed_by_line (evaluation_lines s e) (codes "
 -- ---- one event
 
 -- the mark that a call gets
-abbrev pub marked_lines : Option Kind → List Line
+abbrev pub marked_lines : Option MarkKind → List Line
 marked_lines None = []
 marked_lines (Some for_returns) = said (codes "the call is marked") ∷ []
 marked_lines (Some for_exceptions) = said (codes "the call is marked for exceptions") ∷ []
@@ -117,7 +117,7 @@ unmarked_lines s p depth = if is_marked s p depth then said (codes "the mark is 
 
 -- a call is marked by the effects; a return, or an exception that leaves its frame, takes the mark away
 abbrev pub mark_lines : Session → Event → List Line
-mark_lines s (called p c) = marked_lines (mark_asked (unwrap_or (evaluated s (called p c)) []))
+mark_lines s (called p c) = marked_lines (mark_asked (unwrap_or (effects_of s (called p c)) []))
 mark_lines s (returned p f t depth) = unmarked_lines s p depth
 mark_lines s (raised p f c t depth) = unmarked_lines s p depth
 mark_lines s e = []
@@ -127,7 +127,7 @@ abbrev pub end_lines : Session → Event → List Line
 end_lines s (exited p r) = line_where p (said_of_each (codes " loses ") (flags_at s p) flags_by_name)
 end_lines s e = []
 
--- why nothing is told, or what is
+-- why nothing is reported, or what is
 abbrev pub message_lines : Session → Event → Option Cause → Option Tree → List Line
 message_lines s e (Some c) m = cause_lines s e c
 message_lines s e None None = []
@@ -135,13 +135,13 @@ message_lines s e None (Some m) = evaluation_lines s e ++ tells m ∷ []
 
 -- of a session once flags were inherited
 abbrev pub live_lines : Session → Event → List Line
-live_lines s e = message_lines s e (cause_of s e) (told_for s e (evaluated s e)).1 ++ (mark_lines s e ++ end_lines s e)
+live_lines s e = message_lines s e (cause_of s e) (reported_for s e (effects_of s e)).1 ++ (mark_lines s e ++ end_lines s e)
 
 -- a session that isn't there makes nothing of an event
 abbrev pub event_lines_in : Phase → Session → Event → List Line
 event_lines_in absent s e = []
 event_lines_in destroyed s e = []
-event_lines_in live s e = inheritance_lines s e ++ live_lines (inherited s e) e
+event_lines_in live s e = inheritance_lines s e ++ live_lines (inherit s e) e
 
 -- what a session makes of an event
 abbrev pub event_lines : Session → Event → List Line
@@ -150,5 +150,5 @@ event_lines s e = event_lines_in s.phase s e
 -- ---- one command
 
 -- the reply to a command of its own
-abbrev pub command_lines : Opening → Session → Command → List Line
+abbrev pub command_lines : Exports → Session → Command → List Line
 command_lines o s c = said (codes "replies " ++ w (command_done o s c).1) ∷ []

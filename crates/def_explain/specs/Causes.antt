@@ -1,5 +1,5 @@
--- Why a session tells nothing of an event (own; trace:process/4, trace:function/4, trace:send/3, trace:recv/3).
--- Stands on what a session makes of an event, and on the reasons of clauses.
+-- Why a session reports nothing of an event (own; trace:process/4, trace:function/4, trace:send/3, trace:recv/3).
+-- Depends on what a session makes of an event, and on the reasons of clauses.
 use Rattle.std.specs.Prelude.{◌≡◌, Bool, true, false, ◌||◌, if◌then◌else◌, List, [], ◌∷◌, Option, Some, None}
 use Rattle.std.specs.Bool.{⊤}
 use Rattle.def_term.specs.Tree.{Tree, pid}
@@ -9,10 +9,10 @@ use Rattle.def_spec.specs.Flags.{Flag}
 use Rattle.def_spec.specs.Expressions.{Dialect, Context, Effect}
 use Rattle.def_spec.specs.Outcome.{Clause}
 use Rattle.def_node.specs.Event.{Event, Call, sent, received, called, returned, raised}
-use Rattle.def_session.specs.Settings.{Covering, Setting, off, by, has_among}
-use Rattle.def_session.specs.State.{Kind, for_returns, for_exceptions, Session, flags_at, mark_of}
+use Rattle.def_session.specs.Settings.{FunctionSetting, Setting, off, by, has_among}
+use Rattle.def_session.specs.State.{MarkKind, for_returns, for_exceptions, Session, flags_at, mark_of}
 use Rattle.def_session.specs.Messages.{process_of, last_message}
-use Rattle.def_session.specs.Session.{evaluated, context, is_marked, all_affected, is_silenced}
+use Rattle.def_session.specs.Session.{effects_of, context, is_marked, all_affected, is_silenced}
 use Rattle.def_session.specs.Laws.{needed_for}
 use Rattle.def_explain.specs.Reasons.{Reason, IsReason, reason_of}
 
@@ -47,19 +47,19 @@ EachReason d [] c (r ∷ rs) = ⊥
 EachReason d (k ∷ ks) c [] = ⊥
 EachReason d (k ∷ ks) c (r ∷ rs) = IsReason d k c r × EachReason d ks c rs
 
--- why a setting tells nothing in this context
+-- why a setting reports nothing in this context
 abbrev pub IsOfSetting : Setting → Context → Cause → Type 0
 IsOfSetting off c switched_off = ⊤
 IsOfSetting (by s) c (no_clause rs) = EachReason s.dialect s.clauses c rs
 IsOfSetting g c cause = ⊥
 
 -- the newest command that has the called function among its own
-abbrev pub newest_of : List Covering → Call → Option Covering
+abbrev pub newest_of : List FunctionSetting → Call → Option FunctionSetting
 newest_of [] c = None
 newest_of (k ∷ ks) c = if has_among k c.mfa c.exported then Some k else newest_of ks c
 
--- why the newest command tells nothing of a call, or that none covers its function
-abbrev pub IsOfCall : Option Covering → Call → Context → Cause → Type 0
+-- why the newest command reports nothing of a call, or that none covers its function
+abbrev pub IsOfCall : Option FunctionSetting → Call → Context → Cause → Type 0
 IsOfCall None call c no_setting = ⊤
 IsOfCall None call c cause = ⊥
 IsOfCall (Some k) call c of_named_calls = (k.local || call.named) ≡ false
@@ -85,13 +85,13 @@ IsOfReturns s e = ⊥
 
 -- the event is evaluated, with these effects
 abbrev pub IsEvaluated : Session → Event → List Effect → Type 0
-IsEvaluated s e es = evaluated s e ≡ Some es
+IsEvaluated s e es = effects_of s e ≡ Some es
 
 -- whether the message is silenced, once the effects are done
 abbrev pub is_silent_after : Session → Event → List Effect → Bool
 is_silent_after s e es = is_silenced (all_affected (process_of e) s es) e
 
--- why a session that is there tells nothing of an event, the session as it is once flags were inherited
+-- why a session that is there reports nothing of an event, the session as it is once flags were inherited
 abbrev pub IsCause : Session → Event → Cause → Type 0
 IsCause s e no_mark = IsOfUnmarked s e
 IsCause s e marked_for_returns = IsOfReturns s e
@@ -118,7 +118,7 @@ cause_of_setting (by s) c = no_clause (reasons_of s.dialect s.clauses c)
 cause_of_setting g c = switched_off
 
 -- what the newest command makes of a call
-abbrev pub cause_of_call : Option Covering → Call → Context → Cause
+abbrev pub cause_of_call : Option FunctionSetting → Call → Context → Cause
 cause_of_call None call c = no_setting
 cause_of_call (Some k) call c = if k.local || call.named then cause_of_setting k.setting c else of_named_calls
 
@@ -141,15 +141,15 @@ cause_by s e (Some es) = if is_silent_after s e es then Some silenced else if is
 
 -- of an event whose frame, if it is a return or an exception, is marked for it
 abbrev pub cause_where : Session → Event → Option Cause
-cause_where s e = if flags_at s (process_of e) (needed_for e) then cause_by s e (evaluated s e) else Some (no_flag (needed_for e))
+cause_where s e = if flags_at s (process_of e) (needed_for e) then cause_by s e (effects_of s e) else Some (no_flag (needed_for e))
 
 -- of an exception, by the mark of its frame
-abbrev pub cause_by_mark : Session → Event → Option Kind → Option Cause
+abbrev pub cause_by_mark : Session → Event → Option MarkKind → Option Cause
 cause_by_mark s e None = Some no_mark
 cause_by_mark s e (Some for_returns) = Some marked_for_returns
 cause_by_mark s e (Some for_exceptions) = cause_where s e
 
--- why the session tells nothing of the event; none where it tells of it
+-- why the session reports nothing of the event; none where it reports of it
 abbrev pub cause_of : Session → Event → Option Cause
 cause_of s (returned p f t depth) = if is_marked s p depth then cause_where s (returned p f t depth) else Some no_mark
 cause_of s (raised p f c t depth) = cause_by_mark s (raised p f c t depth) (mark_of s p depth)

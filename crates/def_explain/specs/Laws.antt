@@ -1,5 +1,5 @@
 -- What is promised of reasons and causes (own).
--- Stands on reasons, on causes, on which clause fires and on what a session makes of an event.
+-- Depends on reasons, on causes, on which clause fires and on what a session makes of an event.
 use Rattle.std.specs.Prelude.{◌≡◌, ◌↔◌, ℕ, List, option_to_list, Some, None}
 use Rattle.std.specs.Option.{option_map}
 use Rattle.def_term.specs.Tree.{Tree, Trees, list, of_elements}
@@ -11,11 +11,11 @@ use Rattle.def_spec.specs.Outcome.{Clause, Fires, outcome_in}
 use Rattle.def_explain.specs.Heads.{HeadReason, IsHeadReason}
 use Rattle.def_explain.specs.Values.{FaultsAt}
 use Rattle.def_explain.specs.Spellings.{function_name, action_name}
-use Rattle.def_explain.specs.Accounts.{told_in_lines, event_lines}
+use Rattle.def_explain.specs.Accounts.{reported_in_lines, event_lines}
 use Rattle.def_explain.specs.Places.{StopsAtClause, stop_of}
 use Rattle.def_node.specs.Event.{Event}
 use Rattle.def_session.specs.State.{Session}
-use Rattle.def_session.specs.Session.{evaluated, told_for, event_told}
+use Rattle.def_session.specs.Session.{effects_of, reported_for, event_reported}
 use Rattle.def_explain.specs.Reasons.{Reason, IsReason, reason_of}
 use Rattle.def_explain.specs.Causes.{Cause, IsCause, cause_of}
 use Rattle.def_explain.specs.Verdicts.{Verdict, IsVerdict, verdict_of, outcome_by_verdicts}
@@ -36,7 +36,7 @@ ReasonIsComputed = (d : Dialect) (k : Clause) (c : Context) (r : Reason) → (re
 abbrev pub VerdictIsComputed : Type 0
 VerdictIsComputed = (d : Dialect) (k : Clause) (c : Context) (v : Verdict) → (verdict_of d k c ≡ v) ↔ IsVerdict d k c v
 
--- the outcome is that of the first clause that is said to fire
+-- the outcome is that of the first clause whose verdict is that it fires
 abbrev pub OutcomeIsByVerdicts : Type 0
 OutcomeIsByVerdicts = (d : Dialect) (ks : List Clause) (c : Context) → outcome_by_verdicts d ks c ≡ outcome_in d ks c
 
@@ -59,9 +59,9 @@ HeadReasonWhereNotMatched = (p : Pattern) (ts : List Tree) → ((r : HeadReason)
 abbrev pub FaultWhereNoValue : Type 0
 FaultWhereNoValue = (d : Dialect) (b : Bindings) (c : Context) (e : Expr) → ((x : Expr) × FaultsAt d b c e x) ↔ (value d in_condition b c e ≡ None)
 
--- a session that is there has a cause for an event exactly where it tells nothing of it
+-- a session that is there has a cause for an event exactly where it reports nothing of it
 abbrev pub CauseWhereNothingTold : Type 0
-CauseWhereNothingTold = (s : Session) (e : Event) → ((x : Cause) × IsCause s e x) ↔ ((told_for s e (evaluated s e)).1 ≡ None)
+CauseWhereNothingTold = (s : Session) (e : Event) → ((x : Cause) × IsCause s e x) ↔ ((reported_for s e (effects_of s e)).1 ≡ None)
 
 -- and one at most
 abbrev pub CauseIsOne : Type 0
@@ -73,4 +73,4 @@ CauseIsComputed = (s : Session) (e : Event) (x : Cause) → (cause_of s e ≡ So
 
 -- the messages among the lines of an event are the session's message of it
 abbrev pub LinesTellTheMessage : Type 0
-LinesTellTheMessage = (s : Session) (e : Event) → told_in_lines (event_lines s e) ≡ option_to_list (event_told s e).1
+LinesTellTheMessage = (s : Session) (e : Event) → reported_in_lines (event_lines s e) ≡ option_to_list (event_reported s e).1

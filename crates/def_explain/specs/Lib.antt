@@ -8,3 +8,6 @@ pub mod Spellings
 pub mod Texts
 pub mod Values
 pub mod Verdicts
+pub mod RunLaws
+pub mod Runs
+pub mod RunTexts

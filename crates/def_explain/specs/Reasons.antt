@@ -1,5 +1,5 @@
 -- Why a clause doesn't fire (own; "Match Specifications in Erlang", "Execution of the Match").
--- Stands on why heads don't match, on where expressions fault, and on which clause fires.
+-- Depends on why heads don't match, on where expressions fault, and on which clause fires.
 use Rattle.std.specs.Prelude.{◌≡◌, ℕ, zero, suc, true, false, Option, Some, None, if◌then◌else◌}
 use Rattle.def_term.specs.Tree.{Tree}
 use Rattle.def_spec.specs.Matching.{Bindings, Matches, bindings_of}
@@ -14,7 +14,7 @@ pub data ConditionReason : Type 0 where
   has_value : Tree → ConditionReason
   faults_at : Expr → ConditionReason
 
--- the head doesn't match, or the condition behind so many isn't true
+-- the head doesn't match, or the condition after so many isn't true
 pub data Reason : Type 0 where
   by_head : HeadReason → Reason
   by_condition : ℕ → ConditionReason → Reason
@@ -44,7 +44,7 @@ untrue_by n None None r = None
 untrue_by n None (Some x) r = Some (by_condition n (faults_at x))
 untrue_by n (Some t) x r = if is_true t then r else Some (by_condition n (has_value t))
 
--- of the first condition that isn't true, behind so many
+-- of the first condition that isn't true, after so many
 abbrev pub untrue_in : Dialect → Bindings → Context → ℕ → Exprs → Option Reason
 untrue_in d b c n no_exprs = None
 untrue_in d b c n (and_expr e es) = untrue_by n (value d in_condition b c e) (fault_in d b c e) (untrue_in d b c (suc n) es)

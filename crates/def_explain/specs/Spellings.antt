@@ -1,5 +1,5 @@
 -- The term that spells an expression ("Match Specifications in Erlang", "Grammar").
--- Stands on expressions and on how a term is read as one.
+-- Depends on expressions and on how a term is read as one.
 use Rattle.std.specs.Prelude.{Bool, true, false, not, ◌&&◌, if◌then◌else◌, ◌∷◌, codes, decimal}
 use Rattle.std.specs.Str.{bytes_eq}
 use Rattle.def_term.specs.Tree.{Tree, int, atom, pid, tuple, list, Trees, none, more}
@@ -67,7 +67,7 @@ action_name disable_trace = codes "disable_trace"
 action_name trace = codes "trace"
 action_name caller = codes "caller"
 
--- `$` and digits aren't
+-- an atom of `$` and digits isn't plain
 abbrev pub is_plain : AtomKind → Bool
 is_plain (a_variable n) = false
 is_plain a_wrong_variable = false

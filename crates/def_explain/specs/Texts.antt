@@ -1,5 +1,5 @@
--- The text of a trial: what becomes of the clauses of one specification on one list (own).
--- Stands on verdicts, on the texts of terms and on what a message's last element is.
+-- The text of a test of a match specification: what becomes of its clauses on one list (own).
+-- Depends on verdicts, on the texts of terms and on what a message's last element is.
 use Rattle.std.specs.Prelude.{ℕ, suc, Bool, true, false, not, ◌==◌, ◌&&◌, ◌||◌, if◌then◌else◌, List, [], ◌∷◌, ◌++◌, flat_map, replicate, Option, Some, None, codes, decimal}
 use Rattle.def_term.specs.Tree.{Tree}
 use Rattle.def_term.specs.Order.{same}
@@ -11,22 +11,22 @@ use Rattle.def_spec.specs.Matching.{Bindings}
 use Rattle.def_spec.specs.Expressions.{Dialect, for_calls, for_sends, for_receives, Context, Effect, gives_message, traces_return, traces_exception, silences, changes}
 use Rattle.def_spec.specs.Outcome.{Clause}
 use Rattle.def_session.specs.Messages.{last_message}
-use Rattle.def_explain.specs.Heads.{HeadReason, no_list, other_length, behind_matching}
+use Rattle.def_explain.specs.Heads.{HeadReason, no_list, other_length, after_matching}
 use Rattle.def_explain.specs.Reasons.{ConditionReason, has_value, faults_at, Reason, by_head, by_condition}
 use Rattle.def_explain.specs.Spellings.{spelling}
 use Rattle.def_explain.specs.Verdicts.{Verdict, fails, fires, verdict_of}
 
 -- ---- flags
 
--- the flag without which the specification isn't looked at
+-- the flag without which the specification isn't evaluated
 abbrev pub flag_of_dialect : Dialect → Flag
 flag_of_dialect for_calls = call_flag
 flag_of_dialect for_sends = send_flag
 flag_of_dialect for_receives = receive_flag
 
--- in a trial the process has this one, and no process has another
-abbrev pub trial_flags : Dialect → ℕ → FlagTable
-trial_flags d me = with_flags_in (replicate PROCESSES no_flags) me (only (flag_of_dialect d))
+-- in a test the process has this flag alone, and no other process has any
+abbrev pub spec_test_flags : Dialect → ℕ → FlagTable
+spec_test_flags d self_pid = with_flags_in (replicate PROCESSES no_flags) self_pid (only (flag_of_dialect d))
 
 -- ---- reasons
 
@@ -34,7 +34,7 @@ trial_flags d me = with_flags_in (replicate PROCESSES no_flags) me (only (flag_o
 abbrev pub head_reason_text : HeadReason → List ℕ
 head_reason_text no_list = codes "the head doesn't match"
 head_reason_text other_length = codes "the head has another number of elements"
-head_reason_text (behind_matching n) = codes "the head doesn't match at element " ++ decimal (suc n)
+head_reason_text (after_matching n) = codes "the head doesn't match at element " ++ decimal (suc n)
 
 -- the value that a condition has, or the part of it that faults
 abbrev pub condition_reason_text : ConditionReason → List ℕ
@@ -48,7 +48,7 @@ reason_text (by_condition n r) = codes "condition " ++ decimal (suc n) ++ condit
 
 -- ---- effects
 
--- the flags of a set, each behind a verb
+-- the flags of a set, each after a verb
 abbrev pub said_of_each : List ℕ → Flags → List (Name × Flag) → List ℕ
 said_of_each verb fs [] = []
 said_of_each verb fs (e ∷ es) = (if fs e.1 then verb ++ atom_text e.0 else []) ++ said_of_each verb fs es
@@ -71,7 +71,7 @@ effect_text traces_exception = codes "exception_trace"
 effect_text (silences b) = silent_text b
 effect_text (changes n off on) = pid_text n ++ said_of_flags (said_of_each (codes " loses ") off flags_by_name ++ said_of_each (codes " gets ") on flags_by_name)
 
--- with a comma between any two, behind a colon
+-- with a comma between any two, after a colon
 abbrev pub effects_text : List Effect → List ℕ
 effects_text [] = []
 effects_text (e ∷ es) = codes ": " ++ effect_text e ++ flat_map (λ x. codes ", " ++ effect_text x) es
@@ -86,12 +86,12 @@ binding_line e = codes "  " ++ atom_text (36 ∷ decimal e.0) ++ codes " is " ++
 abbrev pub clause_text : ℕ → List ℕ → List ℕ
 clause_text n rest = codes "clause " ++ decimal (suc n) ++ rest
 
--- whether the process me has the flag `silent` behind these effects, where it had it or not before
-abbrev pub silent_behind : ℕ → Bool → List Effect → Bool
-silent_behind me b [] = b
-silent_behind me b (silences x ∷ es) = silent_behind me x es
-silent_behind me b (changes n off on ∷ es) = silent_behind me (if n == me then on silent_flag || (b && not (off silent_flag)) else b) es
-silent_behind me b (e ∷ es) = silent_behind me b es
+-- whether the process of this pid has the flag `silent` after these effects; `b` is whether it had it before
+abbrev pub later_silent : ℕ → Bool → List Effect → Bool
+later_silent self_pid b [] = b
+later_silent self_pid b (silences x ∷ es) = later_silent self_pid x es
+later_silent self_pid b (changes n off on ∷ es) = later_silent self_pid (if n == self_pid then on silent_flag || (b && not (off silent_flag)) else b) es
+later_silent self_pid b (e ∷ es) = later_silent self_pid b es
 
 -- `silent` is about calls alone
 abbrev pub is_for_calls : Dialect → Bool
@@ -109,22 +109,22 @@ ending_text (Some t) =
 
 -- what these effects make of the message
 abbrev pub end_text : Dialect → ℕ → List Effect → List ℕ
-end_text d me es = if is_for_calls d && silent_behind me false es then codes "no message: silent" else ending_text (last_message es)
+end_text d self_pid es = if is_for_calls d && later_silent self_pid false es then codes "no message: silent" else ending_text (last_message es)
 
--- a clause that fires in the process me, its bindings by rising number, and the message
+-- a clause that fires in the process of this pid, its bindings by rising number, and the message
 abbrev pub fires_text : Dialect → ℕ → ℕ → Bindings → List Effect → List ℕ
-fires_text d me n b es = clause_text n (codes " fires" ++ effects_text es ++ 10 ∷ flat_map binding_line b ++ codes "=> " ++ end_text d me es ++ 10 ∷ [])
+fires_text d self_pid n b es = clause_text n (codes " fires" ++ effects_text es ++ 10 ∷ flat_map binding_line b ++ codes "=> " ++ end_text d self_pid es ++ 10 ∷ [])
 
--- a clause and, where it doesn't fire, those behind it
+-- a clause and, where it doesn't fire, those after it
 abbrev pub verdict_text : Dialect → ℕ → ℕ → Verdict → List ℕ → List ℕ
-verdict_text d me n (fails r) behind = clause_text n (codes ": " ++ reason_text r ++ 10 ∷ behind)
-verdict_text d me n (fires b es) behind = fires_text d me n b es
+verdict_text d self_pid n (fails r) behind = clause_text n (codes ": " ++ reason_text r ++ 10 ∷ behind)
+verdict_text d self_pid n (fires b es) behind = fires_text d self_pid n b es
 
--- the clauses behind so many, up to the first that fires
-abbrev pub trial_text_behind : Dialect → ℕ → List Clause → Context → List ℕ
-trial_text_behind d n [] c = codes "=> no message: no clause fires" ++ 10 ∷ []
-trial_text_behind d n (k ∷ ks) c = verdict_text d c.me n (verdict_of d k c) (trial_text_behind d (suc n) ks c)
+-- the clauses after so many, up to the first that fires
+abbrev pub spec_test_text_after : Dialect → ℕ → List Clause → Context → List ℕ
+spec_test_text_after d n [] c = codes "=> no message: no clause fires" ++ 10 ∷ []
+spec_test_text_after d n (k ∷ ks) c = verdict_text d c.self_pid n (verdict_of d k c) (spec_test_text_after d (suc n) ks c)
 
 -- of all clauses
-abbrev pub trial_text : Dialect → List Clause → Context → List ℕ
-trial_text d ks c = trial_text_behind d 0 ks c
+abbrev pub spec_test_text : Dialect → List Clause → Context → List ℕ
+spec_test_text d ks c = spec_test_text_after d 0 ks c

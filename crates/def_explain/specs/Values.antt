@@ -1,5 +1,5 @@
 -- Where an expression of a condition faults (own; "Match Specifications in Erlang", "Function Descriptions").
--- Stands on values. An action stands in bodies alone, and has no value in a condition.
+-- Depends on values. Actions are in bodies alone, and have no value in a condition.
 use Rattle.std.specs.Prelude.{◌≡◌, true, false, ◌⊎◌, List, Option, Some, None, if◌then◌else◌}
 use Rattle.std.specs.Option.{option_and_then}
 use Rattle.def_term.specs.Tree.{Tree}
@@ -16,19 +16,19 @@ or_itself None e None = Some e
 or_itself None e (Some t) = None
 
 -- the fault, else that of what follows
-abbrev pub or_behind : Option Expr → Option Expr → Option Expr
-or_behind (Some x) r = Some x
-or_behind None r = r
+abbrev pub or_after : Option Expr → Option Expr → Option Expr
+or_after (Some x) r = Some x
+or_after None r = r
 
 -- what follows a true value
-abbrev pub behind_true : Option Tree → Option Expr → Option Expr
-behind_true None r = None
-behind_true (Some t) r = if is_true t then r else None
+abbrev pub after_true : Option Tree → Option Expr → Option Expr
+after_true None r = None
+after_true (Some t) r = if is_true t then r else None
 
 -- what follows another value
-abbrev pub behind_other : Option Tree → Option Expr → Option Expr
-behind_other None r = None
-behind_other (Some t) r = if is_true t then None else r
+abbrev pub after_other : Option Tree → Option Expr → Option Expr
+after_other None r = None
+after_other (Some t) r = if is_true t then None else r
 
 -- ---- where an expression faults, and the same computed
 
@@ -45,8 +45,8 @@ module _ (d : Dialect) (b : Bindings) (c : Context) where
   HasOther e = (t : Tree) × (value d in_condition b c e ≡ Some t) × (is_true t ≡ false)
 
   -- a function on the values of its arguments
-  abbrev pub applied : Func → Exprs → Option Tree
-  applied f es = option_and_then (λ ts. apply f ts c.me) (values d in_condition b c es)
+  abbrev pub function_value : Func → Exprs → Option Tree
+  function_value f es = option_and_then (λ ts. apply f ts c.self_pid) (values d in_condition b c es)
 
   -- several expressions have values
   abbrev pub HaveValues : Exprs → Type 0
@@ -65,7 +65,7 @@ module _ (d : Dialect) (b : Bindings) (c : Context) where
     FaultsAt (constant t) x = ⊥
     FaultsAt (tuple_of es) x = FaultsInOne es x
     FaultsAt (list_of es) x = FaultsInOne es x
-    FaultsAt (call f es) x = FaultsInOne es x ⊎ ((x ≡ call f es) × FaultsItself es (applied f es))
+    FaultsAt (call f es) x = FaultsInOne es x ⊎ ((x ≡ call f es) × FaultsItself es (function_value f es))
     FaultsAt (and_also es) x = FaultsWhileTrue es x
     FaultsAt (or_else es) x = FaultsUntilTrue es x
     FaultsAt (perform a es) x = FaultsInOne es x ⊎ ((x ≡ perform a es) × HaveValues es)
@@ -94,7 +94,7 @@ module _ (d : Dialect) (b : Bindings) (c : Context) where
     fault_in (constant t) = None
     fault_in (tuple_of es) = fault_in_one es
     fault_in (list_of es) = fault_in_one es
-    fault_in (call f es) = or_itself (fault_in_one es) (call f es) (applied f es)
+    fault_in (call f es) = or_itself (fault_in_one es) (call f es) (function_value f es)
     fault_in (and_also es) = fault_while_true es
     fault_in (or_else es) = fault_until_true es
     fault_in (perform a es) = or_itself (fault_in_one es) (perform a es) None
@@ -102,14 +102,14 @@ module _ (d : Dialect) (b : Bindings) (c : Context) where
     -- in the first that faults
     pub fault_in_one : Exprs → Option Expr
     fault_in_one no_exprs = None
-    fault_in_one (and_expr e es) = or_behind (fault_in e) (fault_in_one es)
+    fault_in_one (and_expr e es) = or_after (fault_in e) (fault_in_one es)
 
-    -- stops behind the first that isn't true
+    -- stops after the first that isn't true
     pub fault_while_true : Exprs → Option Expr
     fault_while_true no_exprs = None
-    fault_while_true (and_expr e es) = or_behind (fault_in e) (behind_true (value d in_condition b c e) (fault_while_true es))
+    fault_while_true (and_expr e es) = or_after (fault_in e) (after_true (value d in_condition b c e) (fault_while_true es))
 
-    -- stops behind the first that is true
+    -- stops after the first that is true
     pub fault_until_true : Exprs → Option Expr
     fault_until_true no_exprs = None
-    fault_until_true (and_expr e es) = or_behind (fault_in e) (behind_other (value d in_condition b c e) (fault_until_true es))
+    fault_until_true (and_expr e es) = or_after (fault_in e) (after_other (value d in_condition b c e) (fault_until_true es))

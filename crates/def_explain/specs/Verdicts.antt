@@ -1,5 +1,5 @@
 -- What becomes of each clause of a specification (own; "Match Specifications in Erlang", "Execution of the Match").
--- Stands on reasons and on which clause fires.
+-- Depends on reasons and on which clause fires.
 use Rattle.std.specs.Prelude.{◌≡◌, List, [], ◌∷◌, Option, Some, None, unwrap_or}
 use Rattle.def_spec.specs.Matching.{Bindings, bindings_of}
 use Rattle.def_spec.specs.Expressions.{Dialect, Context, Effect, effects_of_all}

@@ -1,10 +1,12 @@
-//! Why a session tells nothing of an event, and why a clause of a specification doesn't fire.
+//! Why a session reports nothing of an event, why a clause of a specification doesn't fire, and what the sessions
+//! make of a run, move by move.
 //!
-//! Stands on the match specifications of `def_spec` and the sessions of `def_session`. Promises, as laws over
-//! the definitions: a session that is there has a cause exactly where it tells nothing of an event, and a
-//! clause a reason exactly where it doesn't fire, one at most, and it is what is computed; a head has one
-//! exactly where it doesn't match; and a condition faults at a part of it exactly where it has no value.
-//! There is no code.
+//! Depends on the match specifications of `def_spec`, the sessions of `def_session` and the runs of `def_run`.
+//! Promises, as laws over the definitions: a session that is there has a cause exactly where it reports nothing of
+//! an event, and a clause a reason exactly where it doesn't fire, one at most, and it is what is computed; a head
+//! has one exactly where it doesn't match; a condition faults at a part of it exactly where it has no value; the
+//! messages that a session reports in the account of a run are its listing's; and a command is written as a term
+//! that is read as it. There is no code.
 #![tactic(auto)]
 
 ghost use Rattle.def_explain.specs.Laws.{ReasonWhereNotFired, ReasonIsOne, ReasonIsComputed};
@@ -13,6 +15,7 @@ ghost use Rattle.def_explain.specs.Laws.{FunctionNameIsRead, ActionNameIsRead, S
 ghost use Rattle.def_explain.specs.Laws.{HeadReasonWhereNotMatched, FaultWhereNoValue};
 ghost use Rattle.def_explain.specs.Laws.{LinesTellTheMessage};
 ghost use Rattle.def_explain.specs.Laws.{CauseWhereNothingTold, CauseIsOne, CauseIsComputed};
+ghost use Rattle.def_explain.specs.RunLaws.{AccountTellsTheListing, CommandTermIsRead};
 
 /// A clause has a reason exactly where it doesn't fire, and one at most, which is what is computed.
 pub fn a_clause_has_a_reason_or_fires()
@@ -22,7 +25,7 @@ pub fn a_clause_has_a_reason_or_fires()
 {}
 
 /// A clause has one verdict, which is what is computed: why it doesn't fire, or with which binding it does and
-/// what its body asks for. The outcome of a specification is that of the first clause that is said to fire.
+/// what its body asks for. The outcome of a specification is that of the first clause that fires.
 pub fn a_clause_has_one_verdict()
     ensures computed { VerdictIsComputed }
     ensures outcome { OutcomeIsByVerdicts }
@@ -49,7 +52,7 @@ pub fn a_fault_is_where_no_value_is()
     ensures { FaultWhereNoValue }
 {}
 
-/// A session that is there has a cause exactly where it tells nothing of an event, and one at most, which is
+/// A session that is there has a cause exactly where it reports nothing of an event, and one at most, which is
 /// what is computed.
 pub fn a_session_has_a_cause_or_tells()
     ensures exactly { CauseWhereNothingTold }
@@ -60,4 +63,14 @@ pub fn a_session_has_a_cause_or_tells()
 /// The messages among the lines of an event are the session's message of it.
 pub fn lines_tell_the_message()
     ensures { LinesTellTheMessage }
+{}
+
+/// The messages that a session reports in the account of a run are its listing's, in their order.
+pub fn an_account_tells_the_listing()
+    ensures { AccountTellsTheListing }
+{}
+
+/// A command is written as a term that is read as that command.
+pub fn a_command_is_written_as_it_is_read()
+    ensures { CommandTermIsRead }
 {}

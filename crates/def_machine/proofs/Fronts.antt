@@ -1,11 +1,11 @@
--- What follows stays behind the code.
+-- What follows stays after the code.
 use Rattle.std.proofs.Common.{ℕ, suc, ◌+◌, Bool, true, false, if◌then◌else◌, List, ◌∷◌, Option, Some, None}
 use Rattle.std.specs.FinMap.{find}
 use Rattle.std.proofs.Common.{nat_cmp}
 use Rattle.def_spec.specs.Matching.{Pattern, Patterns, variable, anything, only_term, in_tuple, in_list, no_patterns, and_pattern}
-use Rattle.def_spec.specs.Expressions.{Dialect, Expr, Exprs, no_exprs, and_expr, bound_to, whole_list, all_bound, constant, tuple_of, list_of, call, and_also, or_else, perform, Part, in_condition, in_body}
+use Rattle.def_spec.specs.Expressions.{Dialect, Expr, Exprs, no_exprs, and_expr, bound_to, whole_list, all_bound, constant, tuple_of, list_of, call, and_also, or_else, perform, Position, in_condition, in_body}
 use Rattle.def_machine.specs.Instructions.{OnFault, Instruction, load_own_pid, apply_function}
-use Rattle.def_machine.specs.Compiling.{VariableRegisters, variables_after, registers_taken, variable_code, pattern_code, each_pattern_code, registers_of, is_on_self, call_code, expr_code, exprs_code, while_true_code, until_true_code}
+use Rattle.def_machine.specs.Compilation.{VariableRegisters, variables_after, registers_taken, variable_code, pattern_code, each_pattern_code, registers_of, is_on_self, call_code, expr_code, exprs_code, while_true_code, until_true_code}
 use Rattle.def_machine.proofs.Runs.{Before, before-self, before-cons, before-trans}
 
 var_front : (o : Option ℕ) (r f : ℕ) (k : List Instruction) → Before (variable_code o r f k) k
@@ -24,7 +24,7 @@ mutual
   each_front no_patterns env r i d f k = before-cons _ k k (before-self k)
   each_front (and_pattern p ps) env r i d f k = before-cons _ _ k (before-trans _ _ k (pattern_front p env d (suc d) f _) (each_front ps (variables_after p env d (suc d)) r (suc i) (suc d + registers_taken p) f k))
 
-apply_front : (place : Part) (f : ℕ) (i : OnFault → Instruction) (k : List Instruction) → Before (call_code place f i k) k
+apply_front : (place : Position) (f : ℕ) (i : OnFault → Instruction) (k : List Instruction) → Before (call_code place f i k) k
 apply_front in_condition f i k = before-cons _ k k (before-self k)
 apply_front in_body f i k = before-cons _ k k (before-self k)
 
@@ -32,7 +32,7 @@ action_front : (s : Bool) (i : Instruction) (own other k : List Instruction) →
 action_front true i own other k x y = before-cons i own k x
 action_front false i own other k x y = y
 
-module _ (dialect : Dialect) (place : Part) (f : ℕ) (env : VariableRegisters) where
+module _ (dialect : Dialect) (place : Position) (f : ℕ) (env : VariableRegisters) where
   mutual
     pub expr_front : (e : Expr) (d : ℕ) (k : List Instruction) → Before (expr_code dialect place f env e d k) k
     expr_front (bound_to n) d k = before-self k

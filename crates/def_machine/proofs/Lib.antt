@@ -1,15 +1,22 @@
 pub mod Runs
 pub mod Fine
-pub mod Known
+pub mod KnownRegisters
 pub mod Fronts
+pub mod Occurrences
 pub mod Patterns
 pub mod Values
 pub mod Clauses
 pub mod Inside
 pub mod Safe
-pub mod Placed
+pub mod PlacedCode
 pub mod Endings
-pub mod Folded
-pub mod Compiled
-pub mod Checked
+pub mod FoldedHeads
+pub mod CompiledCode
+pub mod CheckedCode
 mod Rows
+pub mod AcceptedTests
+pub mod AcceptedPlaces
+pub mod AcceptedVariables
+pub mod AcceptedHeads
+pub mod AcceptedExpressions
+pub mod AcceptedCode

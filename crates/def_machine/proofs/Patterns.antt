@@ -3,15 +3,15 @@ use Rattle.std.proofs.Common.{◌≡◌, ℕ, zero, suc, ◌+◌, ◌-◌, ◌<�
 use Rattle.std.specs.FinMap.{find, put}
 use Rattle.def_term.specs.Tree.{Tree, tuple, list, int, atom, pid, Trees, none, more, count}
 use Rattle.def_term.specs.Order.{same}
-use Rattle.def_spec.specs.Matching.{Pattern, Patterns, variable, anything, only_term, in_tuple, in_list, no_patterns, and_pattern, Bindings, value_bound, met, bind_on, bind_each}
+use Rattle.def_spec.specs.Matching.{Pattern, Patterns, variable, anything, only_term, in_tuple, in_list, no_patterns, and_pattern, Bindings, value_bound, bind, bind_on, bind_each}
 use Rattle.def_spec.specs.Functions.{nth}
 use Rattle.def_spec.specs.Expressions.{Context, Effect}
 use Rattle.def_spec.specs.Outcome.{Outcome}
-use Rattle.def_machine.specs.Instructions.{Kind, kind_tuple, kind_list, Instruction, take_element, test_kind, test_length, test_equal}
-use Rattle.def_machine.specs.Machine.{Registers, with_register, going_to, setting, tested, parts, has_kind, taken, equal_terms, does}
-use Rattle.def_machine.specs.Compiling.{VariableRegisters, jumping, registers_taken, registers_taken_each, variable_met, variables_after, variables_after_each, variable_code, pattern_code, each_pattern_code}
+use Rattle.def_machine.specs.Instructions.{ShapeKind, kind_tuple, kind_list, Instruction, take_element, test_kind, test_length, test_equal}
+use Rattle.def_machine.specs.Machine.{Registers, with_register, going_to, set_register, test_move, parts, has_kind, set_term, equal_terms, does}
+use Rattle.def_machine.specs.Compilation.{VariableRegisters, jump_by, registers_taken, registers_taken_each, variable_met, variables_after, variables_after_each, variable_code, pattern_code, each_pattern_code}
 use Rattle.def_machine.proofs.Runs.{Ends, by_move, Before, jump_to, before-trans}
-use Rattle.def_machine.proofs.Known.{Known, terms_of, where_of, Holds, Agree, holds-on, agree-self, agree-both, agree-with, with-same, put-terms, put-where, put-holds, found, FoundAs}
+use Rattle.def_machine.proofs.KnownRegisters.{Known, terms_of, where_of, Holds, Agree, holds-on, agree-self, agree-both, agree-with, with-same, put-terms, put-where, put-holds, found, FoundAs}
 use Rattle.def_machine.proofs.Fronts.{pattern_front, each_front}
 
 abbrev past : ℕ → Trees → Trees
@@ -42,7 +42,7 @@ not_length n i true e l = let f : n ≡ i = eqb-true n i e in absurd (omega (ari
 not_length n i false e l = refl
 
 module _ (c : Context) (o : Outcome) (F : List Instruction) (e : List Effect) where
-  pub jump_ends : (i : ℕ → Instruction) (rest : List Instruction) (g h : Registers) → Before rest F → does c (i (length rest - length F)) g e ≡ Some (going_to (length rest - length F) h e) → Ends c o F h e → Ends c o (jumping i (length F) rest) g e
+  pub jump_ends : (i : ℕ → Instruction) (rest : List Instruction) (g h : Registers) → Before rest F → does c (i (length rest - length F)) g e ≡ Some (going_to (length rest - length F) h e) → Ends c o F h e → Ends c o (jump_by i (length F) rest) g e
   jump_ends i rest g h b is r = by_move c o _ rest g e _ is (subst (λ l. Ends c o l h e) (sym (jump_to rest F b)) r)
 
   -- what is left to show of a pattern that takes the registers from d to f
@@ -55,7 +55,7 @@ module _ (c : Context) (o : Outcome) (F : List Instruction) (e : List Effect) wh
   later k env env' g g' d d' f f' (Some b) a n w r = λ h m x y t v. r h m (a h x) (subst (λ z. Holds h z m) n y) t (v ∙ w)
 
   -- a test of one register that passes or jumps
-  pub test_ends : (i : ℕ → Instruction) (b : Bool) (rest : List Instruction) (g : Registers) → Before rest F → ((n : ℕ) → does c (i n) g e ≡ Some (tested b n g e)) → (b ≡ true → Ends c o rest g e) → (b ≡ false → Ends c o F g e) → Ends c o (jumping i (length F) rest) g e
+  pub test_ends : (i : ℕ → Instruction) (b : Bool) (rest : List Instruction) (g : Registers) → Before rest F → ((n : ℕ) → does c (i n) g e ≡ Some (test_move b n g e)) → (b ≡ true → Ends c o rest g e) → (b ≡ false → Ends c o F g e) → Ends c o (jump_by i (length F) rest) g e
   test_ends i true rest g b is y n = by_move c o _ rest g e _ (is _) (y refl)
   test_ends i false rest g b is y n = jump_ends i rest g g b (is _) (n refl)
 
@@ -68,7 +68,7 @@ module _ (c : Context) (o : Outcome) (F : List Instruction) (e : List Effect) wh
   refused : (s : Bool) (b : Bindings) → s ≡ false → (if s then Some b else None) ≡ None
   refused s b is = ap (λ z. if z then Some b else None) is
 
-  var_ends : (n : ℕ) (t : Tree) (m : Known) (r d : ℕ) (k : List Instruction) (g : Registers) (x : Option ℕ) (y : Option Tree) → FoundAs g d x y → r < d → Holds g d m → g r ≡ Some t → Before k F → AfterPattern k (variable_met n r (where_of m) x) g d (d + 0) (met n t (terms_of m) y) → Ends c o (variable_code x r (length F) k) g e
+  var_ends : (n : ℕ) (t : Tree) (m : Known) (r d : ℕ) (k : List Instruction) (g : Registers) (x : Option ℕ) (y : Option Tree) → FoundAs g d x y → r < d → Holds g d m → g r ≡ Some t → Before k F → AfterPattern k (variable_met n r (where_of m) x) g d (d + 0) (bind n t (terms_of m) y) → Ends c o (variable_code x r (length F) k) g e
   var_ends n t m r d k g None None at l holds is b after =
       let z : d ≡ d + 0 = omega arith in
       after g (put nat_cmp n (r, t) m) (agree-self d g) (subst (λ w. Holds g w (put nat_cmp n (r, t) m)) z (put-holds g d n r t m l is holds)) (put-terms n r t m) (put-where n r t m)
@@ -76,13 +76,13 @@ module _ (c : Context) (o : Outcome) (F : List Instruction) (e : List Effect) wh
   var_ends n t m r d k g (Some q) None at l holds is b after = absurd at
   var_ends n t m r d k g (Some q) (Some u) at l holds is b after =
       let z : d ≡ d + 0 = omega arith in
-      test_ends (test_equal q r) (same u t) k g b (λ j. ap (option_map (λ s. tested s j g e)) (same_known g q r u t at.1 is))
+      test_ends (test_equal q r) (same u t) k g b (λ j. ap (option_map (λ s. test_move s j g e)) (same_known g q r u t at.1 is))
       (λ yes. subst (AfterPattern k (where_of m) g d (d + 0)) (chosen (same u t) (terms_of m) yes) after g m (agree-self d g) (subst (λ w. Holds g w m) z holds) refl refl)
       (λ no. subst (AfterPattern k (where_of m) g d (d + 0)) (refused (same u t) (terms_of m) no) after g)
 
   -- the kind is tested, and then the parts
-  kind_ends : (kind : Kind) (r : ℕ) (t : Tree) (rest : List Instruction) (g : Registers) → g r ≡ Some t → Before rest F → (has_kind kind t ≡ true → Ends c o rest g e) → (has_kind kind t ≡ false → Ends c o F g e) → Ends c o (jumping (test_kind r kind) (length F) rest) g e
-  kind_ends kind r t rest g is b y1 n1 = test_ends (test_kind r kind) (has_kind kind t) rest g b (λ n. ap (option_map (λ s. tested (has_kind kind s) n g e)) is) y1 n1
+  kind_ends : (kind : ShapeKind) (r : ℕ) (t : Tree) (rest : List Instruction) (g : Registers) → g r ≡ Some t → Before rest F → (has_kind kind t ≡ true → Ends c o rest g e) → (has_kind kind t ≡ false → Ends c o F g e) → Ends c o (jump_by (test_kind r kind) (length F) rest) g e
+  kind_ends kind r t rest g is b y1 n1 = test_ends (test_kind r kind) (has_kind kind t) rest g b (λ n. ap (option_map (λ s. test_move (has_kind kind s) n g e)) is) y1 n1
 
   -- once the first was held against its element, the others
   rest_ends : (p : Pattern) (ps : Patterns) (ts : Trees) (u : Tree) (i : ℕ) (m : Known) (r d : ℕ) (k : List Instruction) (g h : Registers) (x : Option Bindings) → ((m1 : Known) (d1 : ℕ) (j : Registers) → r < d1 → Holds j d1 m1 → j r ≡ Some u → AfterPattern k (variables_after_each ps (where_of m1) d1) j d1 (d1 + registers_taken_each ps) (bind_each ps ts (terms_of m1)) → Ends c o (each_pattern_code ps (where_of m1) r (suc i) d1 (length F) k) j e) → r < d → Agree d g h → g r ≡ Some u → AfterPattern k (variables_after_each (and_pattern p ps) (where_of m) d) g d (d + registers_taken_each (and_pattern p ps)) (option_and_then (bind_each ps ts) x) → AfterPattern (each_pattern_code ps (variables_after p (where_of m) d (suc d)) r (suc i) (suc d + registers_taken p) (length F) k) (variables_after p (where_of m) d (suc d)) h (suc d) (suc d + registers_taken p) x
@@ -96,14 +96,14 @@ module _ (c : Context) (o : Outcome) (F : List Instruction) (e : List Effect) wh
       (later k (variables_after_each ps (variables_after p (where_of m) d (suc d)) d1) (variables_after_each ps (where_of m1) d1) g j d d1 (d + registers_taken_each (and_pattern p ps)) (d1 + registers_taken_each ps) (bind_each ps ts (terms_of m1)) (λ q x. agree-both d d1 g j q (omega arith) all x) num (ap (λ w. variables_after_each ps w d1) places)
       (subst (λ y. AfterPattern k (variables_after_each (and_pattern p ps) (where_of m) d) g d (d + registers_taken_each (and_pattern p ps)) (bind_each ps ts y)) (sym terms) after)))
 
-  takes : (d r i n : ℕ) (u : Tree) (x : Option Tree) (g : Registers) → g r ≡ Some u → nth (parts u) i ≡ x → does c (take_element d r i n) g e ≡ Some (taken d n x g e)
-  takes d r i n u x g is at = ap (option_map (λ s. taken d n (nth (parts s) i) g e)) is ∙ ap (λ s. Some (taken d n s g e)) at
+  takes : (d r i n : ℕ) (u : Tree) (x : Option Tree) (g : Registers) → g r ≡ Some u → nth (parts u) i ≡ x → does c (take_element d r i n) g e ≡ Some (set_term d n x g e)
+  takes d r i n u x g is at = ap (option_map (λ s. set_term d n (nth (parts s) i) g e)) is ∙ ap (λ s. Some (set_term d n s g e)) at
 
-  none_ends : (d r i : ℕ) (u : Tree) (rest : List Instruction) (g : Registers) → g r ≡ Some u → nth (parts u) i ≡ None → Before rest F → Ends c o F g e → Ends c o (jumping (take_element d r i) (length F) rest) g e
+  none_ends : (d r i : ℕ) (u : Tree) (rest : List Instruction) (g : Registers) → g r ≡ Some u → nth (parts u) i ≡ None → Before rest F → Ends c o F g e → Ends c o (jump_by (take_element d r i) (length F) rest) g e
   none_ends d r i u rest g is at b after = jump_ends (take_element d r i) rest g g b (takes d r i (length rest - length F) u None g is at) after
 
-  some_ends : (d r i : ℕ) (u t : Tree) (rest : List Instruction) (g : Registers) → g r ≡ Some u → nth (parts u) i ≡ Some t → Ends c o rest (with_register d t g) e → Ends c o (jumping (take_element d r i) (length F) rest) g e
-  some_ends d r i u t rest g is at after = by_move c o (take_element d r i (length rest - length F)) rest g e (setting d t g e) (takes d r i (length rest - length F) u (Some t) g is at) after
+  some_ends : (d r i : ℕ) (u t : Tree) (rest : List Instruction) (g : Registers) → g r ≡ Some u → nth (parts u) i ≡ Some t → Ends c o rest (with_register d t g) e → Ends c o (jump_by (take_element d r i) (length F) rest) g e
+  some_ends d r i u t rest g is at after = by_move c o (take_element d r i (length rest - length F)) rest g e (set_register d t g e) (takes d r i (length rest - length F) u (Some t) g is at) after
 
   mutual
     pub pattern_ends : (p : Pattern) (t : Tree) (m : Known) (r d : ℕ) (k : List Instruction) (g : Registers) → r < d → Holds g d m → g r ≡ Some t → Before k F → AfterPattern k (variables_after p (where_of m) r d) g d (d + registers_taken p) (bind_on p t (terms_of m)) → Ends c o (pattern_code p (where_of m) r d (length F) k) g e
@@ -112,8 +112,8 @@ module _ (c : Context) (o : Outcome) (F : List Instruction) (e : List Effect) wh
     pattern_ends (only_term u) t m r d k g l holds is b after =
         let h : Registers = with_register d u g in
         let a : Agree d g h = agree-with d d u g (omega arith) in
-        by_move c o _ _ g e (setting d u g e) refl
-        (test_ends (test_equal d r) (same u t) k h b (λ j. ap (option_map (λ s. tested s j h e)) (same_known h d r u t (with-same d u g) (a r l ∙ is)))
+        by_move c o _ _ g e (set_register d u g e) refl
+        (test_ends (test_equal d r) (same u t) k h b (λ j. ap (option_map (λ s. test_move s j h e)) (same_known h d r u t (with-same d u g) (a r l ∙ is)))
         (λ yes. subst (AfterPattern k (where_of m) g d (d + 1)) (chosen (same u t) (terms_of m) yes) after h m a (holds-on g h d (d + 1) m (omega arith) a holds) refl refl)
         (λ no. subst (AfterPattern k (where_of m) g d (d + 1)) (refused (same u t) (terms_of m) no) after h))
     pattern_ends (in_tuple ps) (tuple ts) m r d k g l holds is b after =
@@ -134,10 +134,10 @@ module _ (c : Context) (o : Outcome) (F : List Instruction) (e : List Effect) wh
     each_ends no_patterns none u i m r d k g l holds is at n b after =
         let z : d ≡ d + 0 = omega arith in
         let yes : (count (parts u) == i) ≡ true = eq-eqb (count (parts u)) i (omega (arith, n)) in
-        test_ends (test_length r i) true k g b (λ j. ap (option_map (λ s. tested (count (parts s) == i) j g e)) is ∙ ap (λ s. Some (tested s j g e)) yes) (λ _. after g m (agree-self d g) (subst (λ w. Holds g w m) z holds) refl refl) (λ no. cc)
+        test_ends (test_length r i) true k g b (λ j. ap (option_map (λ s. test_move (count (parts s) == i) j g e)) is ∙ ap (λ s. Some (test_move s j g e)) yes) (λ _. after g m (agree-self d g) (subst (λ w. Holds g w m) z holds) refl refl) (λ no. cc)
     each_ends no_patterns (more t ts) u i m r d k g l holds is at n b after =
         let not : (count (parts u) == i) ≡ false = not_length (count (parts u)) i _ refl (omega (arith, n)) in
-        test_ends (test_length r i) false k g b (λ j. ap (option_map (λ s. tested (count (parts s) == i) j g e)) is ∙ ap (λ s. Some (tested s j g e)) not) (λ yes. cc) (λ _. after g)
+        test_ends (test_length r i) false k g b (λ j. ap (option_map (λ s. test_move (count (parts s) == i) j g e)) is ∙ ap (λ s. Some (test_move s j g e)) not) (λ yes. cc) (λ _. after g)
     each_ends (and_pattern p ps) none u i m r d k g l holds is at n b after =
         none_ends d r i u _ g is (nth_nil i (parts u) at) (before-trans _ _ F (pattern_front p (where_of m) d (suc d) (length F) _) (before-trans _ k F (each_front ps (variables_after p (where_of m) d (suc d)) r (suc i) (suc d + registers_taken p) (length F) k) b)) (after g)
     each_ends (and_pattern p ps) (more t ts) u i m r d k g l holds is at n b after =

@@ -9,8 +9,8 @@ use Rattle.def_spec.specs.Expressions.{for_calls, for_sends, message, trace, bou
 use Rattle.def_spec.specs.Outcome.{Spec}
 use Rattle.def_spec.specs.Reading.{spec_of}
 use Rattle.def_machine.specs.Instructions.{kind_tuple, kind_list, goes_on_at, gives_exit, load_constant, load_list, load_own_pid, take_element, test_kind, test_length, test_equal, jump, build, apply_function, perform_action, change_flags, end_with_match, end_without_match}
-use Rattle.def_machine.specs.Compiling.{code_of}
-use Rattle.def_machine.specs.Checking.{is_checked}
+use Rattle.def_machine.specs.Compilation.{code_of}
+use Rattle.def_machine.specs.Acceptance.{is_checked}
 
 -- [{['$1'],[{'>',{hd,'$1'},3}],[]},{['_'],[],[{message,second}]}]
 abbrev guard_fault : Spec

@@ -1,7 +1,7 @@
 pub mod Instructions
 pub mod Machine
 pub mod Validity
-pub mod Checking
-pub mod Folding
-pub mod Compiling
+pub mod Acceptance
+pub mod HeadFolds
+pub mod Compilation
 pub mod Laws

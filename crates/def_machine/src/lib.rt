@@ -1,15 +1,17 @@
 //! What compiled match specifications are: instructions, the machine that runs them, which code is valid,
 //! a test of code, and the code of a specification.
 //!
-//! Stands on def_term and def_spec. Promises, as laws: from each state at most one step is possible, and
+//! Depends on def_term and def_spec. Promises, as laws: from each state at most one step is possible, and
 //! none at the end; valid code comes to an end in every context, in at most as many steps as it has
-//! instructions; code that the test accepts is valid; folded heads match alike; and the code of a sound
-//! specification is valid, and ends with the specification's outcome.
+//! instructions; code that the test accepts is valid; folded heads match alike; the code of a sound
+//! specification is valid, and ends with the specification's outcome; and the test accepts that code.
+//! There is no code.
 #![tactic(auto)]
 
 ghost use Rattle.def_machine.specs.Laws.{StepIsOne, NoStepFromTheEnd, RunsEndAlike, ValidCodeEnds};
 ghost use Rattle.def_machine.specs.Laws.{CheckedCodeIsValid, FoldedHeadsMatchAlike};
 ghost use Rattle.def_machine.specs.Laws.{CompiledCodeIsValid, CompiledCodeEndsWithTheOutcome};
+ghost use Rattle.def_machine.specs.Laws.{CompiledCodeIsChecked};
 
 /// From each state of any code at most one step is possible, and none at the end; so two runs from one
 /// state end alike.
@@ -42,4 +44,9 @@ pub fn folded_heads_match_alike()
 pub fn compiled_code_gives_the_outcome()
     ensures valid { CompiledCodeIsValid }
     ensures outcome { CompiledCodeEndsWithTheOutcome }
+{}
+
+/// The test of code accepts the code of a sound specification.
+pub fn compiled_code_is_accepted()
+    ensures { CompiledCodeIsChecked }
 {}

@@ -2,12 +2,12 @@
 use Rattle.std.proofs.Common.{◌≡◌, ℕ, suc, ◌<◌, ◌≤◌, Bool, true, false, cond, List, [], ◌∷◌, length, map, slice_get, Option, Some, None, refl, arith}
 use Rattle.std.specs.Prelude.{nat_le}
 use Rattle.std.proofs.lemmas.Bool.Decides.{nat_tests}
-use Rattle.def_term.specs.Tree.{Tree}
+use Rattle.def_term.specs.Tree.{Tree, pid_in}
 use Rattle.def_term.specs.Names.{Name, word}
 use Rattle.def_script.specs.Program.{Class, Step, send, receive, call_remote, call_local, catch, spawn, link, unlink, give_back, raise, Function, Entry, entry_mfa, number_from}
 use Rattle.def_node.specs.Event.{Event}
-use Rattle.def_node.specs.Values.{built, fitting, fitting_all, pid_in}
-use Rattle.def_node.specs.Process.{Process, Frame, Exception, Manner, Act, with_frames, stepped, advanced, remotely, locally, catching, exception_of, kept_by, catch_target, raises_to, raises, enters, enters_at, leaves_to, to_pid, receives, within, calls, spawns_at, performs, runs_in, runs, begins, act_after, act}
+use Rattle.def_node.specs.Values.{instance_of, fit, fitting_all}
+use Rattle.def_node.specs.Process.{Process, Frame, Exception, Manner, Act, with_frames, step_on, next_step, remotely, locally, catch_manner, exception_of, kept_by, catch_target, raises_to, raises, enters, enters_at, leaves_to, to_pid, receives, within, calls, spawns_at, performs, runs_in, runs, begins, act_after, act}
 use Rattle.def_node.specs.Limits.{IsOwnAct}
 
 if_own : (most : ℕ) → (ls : List Bool) (child : Option ℕ) (b : Bool) (a c : Act) → (b ≡ true → IsOwnAct most ls child a) → (b ≡ false → IsOwnAct most ls child c) → IsOwnAct most ls child (cond b a c)
@@ -68,22 +68,22 @@ spawns_at_own most (Some c) q f fs x m g args few = ((refl, omega arith), refl)
 calls_own : (most : ℕ) → 64 ≤ most → (child : Option ℕ) (ks : List Function) (n : ℕ) (q : Process) (f : Frame) (fs : List Frame) (a : Manner) (m g : Name) (args : List Tree)
     → IsOwnAct most q.links child (calls ks n q f fs a m g args)
 calls_own most wide child ks n q f fs a m g args =
-    within_own most child q.links (fitting_all args) _ (λ ts. enters_own most wide child ks n (stepped q f fs) (advanced f ∷ fs) a ts (number_from 0 ks (record { module_name = m; function_name = g; arity = length ts })))
+    within_own most child q.links (fitting_all args) _ (λ ts. enters_own most wide child ks n (step_on q f fs) (next_step f ∷ fs) a ts (number_from 0 ks (record { module_name = m; function_name = g; arity = length ts })))
 
 performs_own : (most : ℕ) → 64 ≤ most → (ks : List Function) (n : ℕ) (child : Option ℕ) (q : Process) (k : Function) (f : Frame) (fs : List Frame) (o : Option Step)
     → length fs < most → IsOwnAct most q.links child (performs ks n child q k f fs o)
 performs_own most wide ks n child q k f fs None few = leaves_own most child q f.target fs (word "ok") _ (omega arith)
 performs_own most wide ks n child q k f fs (Some (send to t)) few =
-    within_own most child q.links (fitting (built f.env to)) _ (λ to. within_own most child q.links (fitting (built f.env t)) _ (λ t. to_pid_own most child _ q.links (pid_in to) (λ m. (refl, omega arith))))
+    within_own most child q.links (fit (instance_of f.env to)) _ (λ to. within_own most child q.links (fit (instance_of f.env t)) _ (λ t. to_pid_own most child _ q.links (pid_in to) (λ m. (refl, omega arith))))
 performs_own most wide ks n child q k f fs (Some (receive x)) few = receives_own most child q f fs x q.mailbox few
-performs_own most wide ks n child q k f fs (Some (call_remote x m g ts)) few = calls_own most wide child ks n q f fs (remotely x) m g (map (built f.env) ts)
-performs_own most wide ks n child q k f fs (Some (call_local x g ts)) few = calls_own most wide child ks n q f fs (locally x) k.module_name g (map (built f.env) ts)
-performs_own most wide ks n child q k f fs (Some (catch x m g ts)) few = calls_own most wide child ks n q f fs (catching x) m g (map (built f.env) ts)
-performs_own most wide ks n child q k f fs (Some (spawn x m g ts)) few = within_own most child q.links (fitting_all (map (built f.env) ts)) _ (λ args. spawns_at_own most child q f fs x m g args few)
-performs_own most wide ks n child q k f fs (Some (link t)) few = within_own most child q.links (fitting (built f.env t)) _ (λ t. to_pid_own most child _ q.links (pid_in t) (λ m. (refl, omega arith)))
-performs_own most wide ks n child q k f fs (Some (unlink t)) few = within_own most child q.links (fitting (built f.env t)) _ (λ t. to_pid_own most child _ q.links (pid_in t) (λ m. (refl, omega arith)))
-performs_own most wide ks n child q k f fs (Some (give_back t)) few = within_own most child q.links (fitting (built f.env t)) _ (λ t. leaves_own most child q f.target fs t _ (omega arith))
-performs_own most wide ks n child q k f fs (Some (raise c t)) few = within_own most child q.links (fitting (built f.env t)) _ (λ t. raises_own most child ks n q (f ∷ fs) c t (omega arith))
+performs_own most wide ks n child q k f fs (Some (call_remote x m g ts)) few = calls_own most wide child ks n q f fs (remotely x) m g (map (instance_of f.env) ts)
+performs_own most wide ks n child q k f fs (Some (call_local x g ts)) few = calls_own most wide child ks n q f fs (locally x) k.module_name g (map (instance_of f.env) ts)
+performs_own most wide ks n child q k f fs (Some (catch x m g ts)) few = calls_own most wide child ks n q f fs (catch_manner x) m g (map (instance_of f.env) ts)
+performs_own most wide ks n child q k f fs (Some (spawn x m g ts)) few = within_own most child q.links (fitting_all (map (instance_of f.env) ts)) _ (λ args. spawns_at_own most child q f fs x m g args few)
+performs_own most wide ks n child q k f fs (Some (link t)) few = within_own most child q.links (fit (instance_of f.env t)) _ (λ t. to_pid_own most child _ q.links (pid_in t) (λ m. (refl, omega arith)))
+performs_own most wide ks n child q k f fs (Some (unlink t)) few = within_own most child q.links (fit (instance_of f.env t)) _ (λ t. to_pid_own most child _ q.links (pid_in t) (λ m. (refl, omega arith)))
+performs_own most wide ks n child q k f fs (Some (give_back t)) few = within_own most child q.links (fit (instance_of f.env t)) _ (λ t. leaves_own most child q f.target fs t _ (omega arith))
+performs_own most wide ks n child q k f fs (Some (raise c t)) few = within_own most child q.links (fit (instance_of f.env t)) _ (λ t. raises_own most child ks n q (f ∷ fs) c t (omega arith))
 
 runs_in_own : (most : ℕ) → 64 ≤ most → (ks : List Function) (n : ℕ) (child : Option ℕ) (q : Process) (f : Frame) (fs : List Frame) (o : Option Function)
     → length fs < most → IsOwnAct most q.links child (runs_in ks n child q f fs o)

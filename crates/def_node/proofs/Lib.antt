@@ -1,8 +1,8 @@
 pub mod Acts
-mod Entered
+mod OldestFrames
 pub mod Steps
 pub mod Still
 pub mod Limits
 pub mod Rows
-pub mod Known
+pub mod KnownPids
 pub mod Raises

@@ -7,7 +7,7 @@ use Rattle.def_term.specs.Tree.{Tree, tuple, more, none}
 use Rattle.def_term.specs.Names.{word}
 use Rattle.def_script.specs.Program.{Class, error, throw, exit, Function}
 use Rattle.def_node.specs.Event.{Event}
-use Rattle.def_node.specs.Process.{Frame, Process, continues, exits, resumed, Exception, exception_of, reason_of, caught_as, raised_in, left_by, kept_by, catch_target, raises_to, leaves_by}
+use Rattle.def_node.specs.Process.{Frame, Process, continues, exits, resume, Exception, exception_of, exit_reason, caught_as, raised_in, left_by, kept_by, catch_target, raises_to, leaves_by}
 use Rattle.def_node.specs.Laws.{NoneByCatch, LeavesDownToACatch, LeavesAllFrames, down_from, LeftHaveTheirDepths, events_of_raise, caught_value, CaughtRaiseGoesOn, UncaughtErrorEnds, UncaughtExitEnds, UncaughtThrowIsAnError, RaiseIsCaughtOrNot}
 
 abbrev frames : List (Frame × ℕ) → List Frame
@@ -114,11 +114,11 @@ caught_raise_goes_on ks n q above beneath f g c t h e =
     ap (leaves_by ks n q fs) (caught_as_it_is fs c t (one_any above (g ∷ beneath) f e))
     ∙ ap (λ v. raises_to q v (kept_by fs) x es) (target_down above (g ∷ beneath) f h e)
     ∙ ap (λ gs. raises_to q f.target gs x es) (kept_down above (g ∷ beneath) f h e)
-    ∙ ap (λ v. continues (resumed q f.target v g beneath) es) (value_is c t)
+    ∙ ap (λ v. continues (resume q f.target v g beneath) es) (value_is c t)
 
 -- an exception that leaves all frames
 ends : (ks : List Function) (n : ℕ) (q : Process) (fs : List Frame) (c : Class) (t : Tree) → NoneByCatch fs
-    → leaves_by ks n q fs (record { class = c; value = t }) ≡ exits q.links (reason_of c t) (events_of_raise ks n fs c t)
+    → leaves_by ks n q fs (record { class = c; value = t }) ≡ exits q.links (exit_reason c t) (events_of_raise ks n fs c t)
 ends ks n q fs c t h = ap (λ gs. raises_to q (catch_target fs) gs (record { class = c; value = t }) (events_of_raise ks n fs c t)) (none_kept fs h)
 
 pub uncaught_error_ends : UncaughtErrorEnds

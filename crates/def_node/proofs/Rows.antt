@@ -4,16 +4,16 @@ use Rattle.def_term.specs.Tree.{Tree, pid, tuple, list, more, none}
 use Rattle.def_term.specs.Names.{Name, Mfa, word}
 use Rattle.def_script.specs.Program.{Class, error, throw, exit, Step, send, receive, call_remote, call_local, catch, spawn, link, give_back, raise, Function, Entry, Program}
 use Rattle.def_node.specs.Event.{Event, sent, received, called, returned, raised, spawning, spawned, exited, linked, getting_linked, getting_unlinked}
-use Rattle.def_node.specs.Node.{State, Next, gives_events, gives_command, gives_nothing, next, opening_state}
+use Rattle.def_node.specs.Node.{NodeState, PickResult, gives_events, gives_command, gives_nothing, next, opening_state}
 use Rattle.def_node.specs.Limits.{state_after}
 
-abbrev shown : Next → List Event
+abbrev shown : PickResult → List Event
 shown (gives_events t es) = es
 shown (gives_command t k) = []
 shown (gives_nothing t) = []
 
 -- the events of each pick
-abbrev events_of : Program → State → List ℕ → List (List Event)
+abbrev events_of : Program → NodeState → List ℕ → List (List Event)
 events_of p s [] = []
 events_of p s (n ∷ ns) = let m = next p s n in shown m ∷ events_of p (state_after m) ns
 
@@ -99,7 +99,7 @@ raises_in f c t depth = raised 100 (mfa f) c t depth
 abbrev pair_of : Tree → Tree → Tree
 pair_of t u = tuple (more t (more u none))
 
--- two frames are left, the one that the catch called too, and the value is bound behind the step
+-- two frames are left, the one that the catch called too, and the value is bound after the step
 caught_error : of_picks (three (catches (codes "f") ∷ give_back (word "X") ∷ []) (calls (codes "g") ∷ []) (raise error (word "bad") ∷ [])) (times 100 5)
     ≡ ((entry_call 100 (codes "go") ∷ []) ∷ (call_by (codes "go") (codes "f") 2 ∷ []) ∷ (call_by (codes "f") (codes "g") 3 ∷ [])
     ∷ (raises_in (codes "g") error (word "bad") 3 ∷ raises_in (codes "f") error (word "bad") 2 ∷ [])
@@ -124,7 +124,7 @@ nothing_caught : last_of (of_picks (three (catches (codes "f") ∷ give_back (wo
     ≡ (returned 100 (mfa (codes "go")) (word "ok") 1 ∷ exited 100 (word "normal") ∷ [])
 nothing_caught = refl
 
--- and is behind it no more: a throw after its return isn't caught
+-- and is after it no more: a throw after its return isn't caught
 catch_is_over : last_of (of_picks (three (catches (codes "f") ∷ raise throw (word "X") ∷ []) [] []) (times 100 4))
     ≡ (raises_in (codes "go") error (pair_of (word "nocatch") (word "ok")) 1 ∷ exited 100 (pair_of (pair_of (word "nocatch") (word "ok")) (list none)) ∷ [])
 catch_is_over = refl

@@ -4,7 +4,7 @@ use Rattle.std.specs.Prelude.{nat_le, nat_lt}
 use Rattle.std.proofs.lemmas.Bool.Decides.{nat_tests}
 use Rattle.def_script.specs.Program.{Function}
 use Rattle.def_node.specs.Process.{Process, act}
-use Rattle.def_node.specs.Node.{World, idle, place_in, living, stepped_at, next_of, next_pid, acted}
+use Rattle.def_node.specs.Node.{World, idle, place_in, place_of_pid, stepped_at, next_of, next_pid, after_act}
 
 place_some : (o : Option (Option Process)) (k i : ℕ) → place_in o k ≡ Some i → (q : Process) × ((o ≡ Some (Some q)) × (k ≡ i))
 place_some None k i e = absurd (let h : None ≡ Some i = e in cc)
@@ -20,7 +20,7 @@ from_hundred : (n i : ℕ) → nat_le 100 n ≡ true → n - 100 ≡ i → n ≡
 from_hundred n i le e = grind (arith, nat_tests)
 
 here_if : (w : World) (n i : ℕ) (b : Bool) → nat_le 100 n ≡ b → cond b (place_in (slice_get w.slots (n - 100)) (n - 100)) None ≡ Some i
-    → (q : Process) × ((slice_get w.slots i ≡ Some (Some q)) × ((n ≡ 100 + i) × ((ks : List Function) → acted w i n (act ks n (next_pid w) q) ≡ next_of ks w n)))
+    → (q : Process) × ((slice_get w.slots i ≡ Some (Some q)) × ((n ≡ 100 + i) × ((ks : List Function) → after_act w i n (act ks n (next_pid w) q) ≡ next_of ks w n)))
 here_if w n i false le e = absurd (let h : None ≡ Some i = e in cc)
 here_if w n i true le e =
     let p = place_some (slice_get w.slots (n - 100)) (n - 100) i e in
@@ -31,14 +31,14 @@ here_if w n i true le e =
         (
           from_hundred n i le p.1.1,
           λ ks. sym (ap (λ b. cond b (stepped_at ks w (n - 100) n (slice_get w.slots (n - 100))) (idle w)) le
-              ∙ ap (stepped_at ks w (n - 100) n) p.1.0 ∙ ap (λ j. acted w j n (act ks n (next_pid w) q)) p.1.1),
+              ∙ ap (stepped_at ks w (n - 100) n) p.1.0 ∙ ap (λ j. after_act w j n (act ks n (next_pid w) q)) p.1.1),
         ),
       ),
     )
 
 -- a living process stands at its place, and the step is its act
-pub living_here : (w : World) (n i : ℕ) → living w n ≡ Some i
-    → (q : Process) × ((slice_get w.slots i ≡ Some (Some q)) × ((n ≡ 100 + i) × ((ks : List Function) → acted w i n (act ks n (next_pid w) q) ≡ next_of ks w n)))
+pub living_here : (w : World) (n i : ℕ) → place_of_pid w n ≡ Some i
+    → (q : Process) × ((slice_get w.slots i ≡ Some (Some q)) × ((n ≡ 100 + i) × ((ks : List Function) → after_act w i n (act ks n (next_pid w) q) ≡ next_of ks w n)))
 living_here w n i e = here_if w n i (nat_le 100 n) refl e
 
 nowhere_if : (ks : List Function) (w : World) (n : ℕ) (b : Bool) → cond b (place_in (slice_get w.slots (n - 100)) (n - 100)) None ≡ None
@@ -46,7 +46,7 @@ nowhere_if : (ks : List Function) (w : World) (n : ℕ) (b : Bool) → cond b (p
 nowhere_if ks w n false e = refl
 nowhere_if ks w n true e = idle_at ks w (n - 100) n (slice_get w.slots (n - 100)) e
 
-pub living_nowhere : (ks : List Function) (w : World) (n : ℕ) → living w n ≡ None → idle w ≡ next_of ks w n
+pub living_nowhere : (ks : List Function) (w : World) (n : ℕ) → place_of_pid w n ≡ None → idle w ≡ next_of ks w n
 living_nowhere ks w n e = nowhere_if ks w n (nat_le 100 n) e
 
 pid_if : (b : Bool) (n c : ℕ) → cond b (Some n) None ≡ Some c → b ≡ true

@@ -2,13 +2,13 @@
 use Rattle.std.proofs.Common.{◌≡◌, ℕ, zero, suc, ◌-◌, Bool, true, false, cond, List, [], ◌∷◌, length, map, slice_get, Option, Some, None, refl, ap, sym, ◌∙◌}
 use Rattle.std.specs.Prelude.{nat_le, nat_lt, ◌==◌}
 use Rattle.std.specs.Option.{option_map}
-use Rattle.def_term.specs.Tree.{Tree}
+use Rattle.def_term.specs.Tree.{Tree, pid_in}
 use Rattle.def_term.specs.Names.{Name, word}
 use Rattle.def_script.specs.Program.{Class, Step, send, receive, call_remote, call_local, catch, spawn, link, unlink, give_back, raise, Function, Program, Entry, entry_mfa, number_from}
 use Rattle.def_node.specs.Event.{Event, linked, unlinked}
-use Rattle.def_node.specs.Values.{built, fitting, fitting_all, pid_in}
-use Rattle.def_node.specs.Process.{Process, Frame, Exception, Manner, Act, waits, continues, sends, links_to, unlinks_from, spawns, exits, with_frames, stepped, advanced, remotely, locally, catching, exception_of, kept_by, catch_target, raises_to, raises, enters, enters_at, leaves_to, to_pid, receives, within, calls, spawns_at, performs, runs_in, runs, begins, act_after, act}
-use Rattle.def_node.specs.Node.{World, Move, moved, idle, State, Next, gives_command, gives_nothing, next, of_move, changed, put_at, living, delivered_to, linked_at, linked_to, unlinked_from, acted, stepped_at, next_of, next_pid}
+use Rattle.def_node.specs.Values.{instance_of, fit, fitting_all}
+use Rattle.def_node.specs.Process.{Process, Frame, Exception, Manner, Act, waits, continues, sends, links_to, unlinks_from, spawns, exits, with_frames, step_on, next_step, remotely, locally, catch_manner, exception_of, kept_by, catch_target, raises_to, raises, enters, enters_at, leaves_to, to_pid, receives, within, calls, spawns_at, performs, runs_in, runs, begins, act_after, act}
+use Rattle.def_node.specs.Node.{World, Move, moved, idle, NodeState, PickResult, gives_command, gives_nothing, next, of_move, with_slot, put_at, place_of_pid, delivered_to, linked_at, linked_to, unlinked_from, after_act, stepped_at, next_of, next_pid}
 use Rattle.def_node.specs.Limits.{IsStill, NothingChanges, state_after}
 
 -- an act that waits leaves the process as it was
@@ -65,22 +65,22 @@ spawns_at_waits o q f fs x m g args (Some c) = tt
 calls_waits : (o : Process) (ks : List Function) (n : ℕ) (q : Process) (f : Frame) (fs : List Frame) (a : Manner) (m g : Name) (args : List Tree)
     → WaitsAs o (calls ks n q f fs a m g args)
 calls_waits o ks n q f fs a m g args =
-    within_waits o q.links (fitting_all args) _ (λ ts. enters_waits o ks n (stepped q f fs) (advanced f ∷ fs) a ts (number_from 0 ks (record { module_name = m; function_name = g; arity = length ts })))
+    within_waits o q.links (fitting_all args) _ (λ ts. enters_waits o ks n (step_on q f fs) (next_step f ∷ fs) a ts (number_from 0 ks (record { module_name = m; function_name = g; arity = length ts })))
 
 performs_waits : (o : Process) (ks : List Function) (n : ℕ) (child : Option ℕ) (q : Process) (k : Function) (f : Frame) (fs : List Frame) (s : Option Step)
     → with_frames q (f ∷ fs) ≡ o → WaitsAs o (performs ks n child q k f fs s)
 performs_waits o ks n child q k f fs None is = leaves_waits o q f.target fs (word "ok") _
 performs_waits o ks n child q k f fs (Some (send to t)) is =
-    within_waits o q.links (fitting (built f.env to)) _ (λ to. within_waits o q.links (fitting (built f.env t)) _ (λ t. to_pid_waits o _ q.links (pid_in to) (λ m. tt)))
+    within_waits o q.links (fit (instance_of f.env to)) _ (λ to. within_waits o q.links (fit (instance_of f.env t)) _ (λ t. to_pid_waits o _ q.links (pid_in to) (λ m. tt)))
 performs_waits o ks n child q k f fs (Some (receive x)) is = receives_waits o q f fs x q.mailbox is
-performs_waits o ks n child q k f fs (Some (call_remote x m g ts)) is = calls_waits o ks n q f fs (remotely x) m g (map (built f.env) ts)
-performs_waits o ks n child q k f fs (Some (call_local x g ts)) is = calls_waits o ks n q f fs (locally x) k.module_name g (map (built f.env) ts)
-performs_waits o ks n child q k f fs (Some (catch x m g ts)) is = calls_waits o ks n q f fs (catching x) m g (map (built f.env) ts)
-performs_waits o ks n child q k f fs (Some (spawn x m g ts)) is = within_waits o q.links (fitting_all (map (built f.env) ts)) _ (λ args. spawns_at_waits o q f fs x m g args child)
-performs_waits o ks n child q k f fs (Some (link t)) is = within_waits o q.links (fitting (built f.env t)) _ (λ t. to_pid_waits o _ q.links (pid_in t) (λ m. tt))
-performs_waits o ks n child q k f fs (Some (unlink t)) is = within_waits o q.links (fitting (built f.env t)) _ (λ t. to_pid_waits o _ q.links (pid_in t) (λ m. tt))
-performs_waits o ks n child q k f fs (Some (give_back t)) is = within_waits o q.links (fitting (built f.env t)) _ (λ t. leaves_waits o q f.target fs t _)
-performs_waits o ks n child q k f fs (Some (raise c t)) is = within_waits o q.links (fitting (built f.env t)) _ (λ t. raises_waits o ks n q (f ∷ fs) c t)
+performs_waits o ks n child q k f fs (Some (call_remote x m g ts)) is = calls_waits o ks n q f fs (remotely x) m g (map (instance_of f.env) ts)
+performs_waits o ks n child q k f fs (Some (call_local x g ts)) is = calls_waits o ks n q f fs (locally x) k.module_name g (map (instance_of f.env) ts)
+performs_waits o ks n child q k f fs (Some (catch x m g ts)) is = calls_waits o ks n q f fs (catch_manner x) m g (map (instance_of f.env) ts)
+performs_waits o ks n child q k f fs (Some (spawn x m g ts)) is = within_waits o q.links (fitting_all (map (instance_of f.env) ts)) _ (λ args. spawns_at_waits o q f fs x m g args child)
+performs_waits o ks n child q k f fs (Some (link t)) is = within_waits o q.links (fit (instance_of f.env t)) _ (λ t. to_pid_waits o _ q.links (pid_in t) (λ m. tt))
+performs_waits o ks n child q k f fs (Some (unlink t)) is = within_waits o q.links (fit (instance_of f.env t)) _ (λ t. to_pid_waits o _ q.links (pid_in t) (λ m. tt))
+performs_waits o ks n child q k f fs (Some (give_back t)) is = within_waits o q.links (fit (instance_of f.env t)) _ (λ t. leaves_waits o q f.target fs t _)
+performs_waits o ks n child q k f fs (Some (raise c t)) is = within_waits o q.links (fit (instance_of f.env t)) _ (λ t. raises_waits o ks n q (f ∷ fs) c t)
 
 runs_in_waits : (o : Process) (ks : List Function) (n : ℕ) (child : Option ℕ) (q : Process) (f : Frame) (fs : List Frame) (k : Option Function)
     → with_frames q (f ∷ fs) ≡ o → WaitsAs o (runs_in ks n child q f fs k)
@@ -102,7 +102,7 @@ act_after_waits ks n child q (Some r) = tt
 pub act_waits : (ks : List Function) (n : ℕ) (child : Option ℕ) (q : Process) → WaitsAs q (act ks n child q)
 act_waits ks n child q = act_after_waits ks n child q q.signal
 
-changed_same : (ss : List (Option Process)) (i : ℕ) (q : Process) → slice_get ss i ≡ Some (Some q) → changed ss i (λ x. q) ≡ ss
+changed_same : (ss : List (Option Process)) (i : ℕ) (q : Process) → slice_get ss i ≡ Some (Some q) → with_slot ss i (λ x. q) ≡ ss
 changed_same [] i q e = refl
 changed_same (s ∷ ss) zero q e = let k : s ≡ Some q = (let m : Some s ≡ Some (Some q) = e in cc) in ap (λ x. option_map (λ y. q) x ∷ ss) k ∙ ap (λ x. x ∷ ss) (sym k)
 changed_same (s ∷ ss) (suc i) q e = ap (λ xs. s ∷ xs) (changed_same ss i q e)
@@ -123,17 +123,17 @@ unlinked_still : (w v : World) (i n m : ℕ) (o : Option ℕ) → IsStill v (unl
 unlinked_still w v i n m None = tt
 unlinked_still w v i n m (Some j) = tt
 
-acted_still : (w : World) (i n : ℕ) (q : Process) (a : Act) → slice_get w.slots i ≡ Some (Some q) → WaitsAs q a → IsStill w (acted w i n a)
+acted_still : (w : World) (i n : ℕ) (q : Process) (a : Act) → slice_get w.slots i ≡ Some (Some q) → WaitsAs q a → IsStill w (after_act w i n a)
 acted_still w i n q (waits r) here is =
     ap (λ (x : Process). put_at w i x) is ∙ ap (λ (ss : List (Option Process)). record w { slots = ss }) (changed_same w.slots i q here)
 acted_still w i n q (continues r e) here is = tt
-acted_still w i n q (sends r m t) here is = delivered_still (put_at w i r) w n m t (living (put_at w i r) m)
+acted_still w i n q (sends r m t) here is = delivered_still (put_at w i r) w n m t (place_of_pid (put_at w i r) m)
 acted_still w i n q (links_to r m) here is =
     let v = put_at w i r in
-    if_still w (n == m) (moved v []) _ tt (if_still w (linked_at v i m) (moved v (linked n m ∷ [])) _ tt (linked_still v w i n m (living v m)))
+    if_still w (n == m) (moved v []) _ tt (if_still w (linked_at v i m) (moved v (linked n m ∷ [])) _ tt (linked_still v w i n m (place_of_pid v m)))
 acted_still w i n q (unlinks_from r m) here is =
     let v = put_at w i r in
-    if_still w (n == m) (moved v []) _ tt (if_still w (linked_at v i m) _ (moved v (unlinked n m ∷ [])) (unlinked_still v w i n m (living v m)) tt)
+    if_still w (n == m) (moved v []) _ tt (if_still w (linked_at v i m) _ (moved v (unlinked n m ∷ [])) (unlinked_still v w i n m (place_of_pid v m)) tt)
 acted_still w i n q (spawns r c e) here is = tt
 acted_still w i n q (exits partners r before) here is = tt
 
@@ -145,21 +145,21 @@ stepped_still ks w i n (Some (Some q)) here = acted_still w i n q (act ks n (nex
 pub next_still : (ks : List Function) (w : World) (n : ℕ) → IsStill w (next_of ks w n)
 next_still ks w n = if_still w (nat_le 100 n) _ (idle w) (stepped_still ks w (n - 100) n (slice_get w.slots (n - 100)) refl) refl
 
-move_nothing : (s : State) (m : Move) → IsStill s.world m → NothingChanges s (of_move s m)
+move_nothing : (s : NodeState) (m : Move) → IsStill s.world m → NothingChanges s (of_move s m)
 move_nothing s (moved v es) still = tt
 move_nothing s (idle v) still = ap (λ (x : World). record s { world = x }) still
 
-if_nothing : (s : State) (b : Bool) (a c : Next) → NothingChanges s a → NothingChanges s c → NothingChanges s (cond b a c)
+if_nothing : (s : NodeState) (b : Bool) (a c : PickResult) → NothingChanges s a → NothingChanges s c → NothingChanges s (cond b a c)
 if_nothing s true a c p q = p
 if_nothing s false a c p q = q
 
-pub next_nothing : (p : Program) (s : State) (n : ℕ) → NothingChanges s (next p s n)
+pub next_nothing : (p : Program) (s : NodeState) (n : ℕ) → NothingChanges s (next p s n)
 next_nothing p s zero = if_nothing s (nat_lt s.taken (length p.commands)) (gives_command (record s { taken = suc s.taken }) (suc s.taken)) (gives_nothing s) tt refl
 next_nothing p s (suc n) = move_nothing s (next_of p.functions s.world (suc n)) (next_still p.functions s.world (suc n))
 
-if_same_world : (s : State) (b : Bool) (a c : Next) → (state_after a).world ≡ s.world → (state_after c).world ≡ s.world → (state_after (cond b a c)).world ≡ s.world
+if_same_world : (s : NodeState) (b : Bool) (a c : PickResult) → (state_after a).world ≡ s.world → (state_after c).world ≡ s.world → (state_after (cond b a c)).world ≡ s.world
 if_same_world s true a c p q = p
 if_same_world s false a c p q = q
 
-pub control_still : (p : Program) (s : State) → (state_after (next p s 0)).world ≡ s.world
+pub control_still : (p : Program) (s : NodeState) → (state_after (next p s 0)).world ≡ s.world
 control_still p s = if_same_world s (nat_lt s.taken (length p.commands)) (gives_command (record s { taken = suc s.taken }) (suc s.taken)) (gives_nothing s) refl refl

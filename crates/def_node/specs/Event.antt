@@ -1,5 +1,5 @@
 -- The events of the node, which sessions may tell of (trace:process/4 and trace:function/4).
--- Stands on terms, the names of functions and the classes of exceptions.
+-- Depends on terms, the names of functions and the classes of exceptions.
 use Rattle.std.specs.Prelude.{ℕ, Bool, List, Option}
 use Rattle.def_term.specs.Tree.{Tree}
 use Rattle.def_term.specs.Names.{Mfa}

@@ -1,13 +1,13 @@
 -- What is promised of the node (own).
--- Stands on the node, and on what keeps within its limits.
+-- Depends on the node, and on what keeps within its limits.
 use Rattle.std.specs.Prelude.{◌≡◌, ◌≤◌, ◌-◌, ◌⊎◌, ℕ, true, false, List, [], ◌∷◌, ◌++◌, length, map, filter_map, All}
 use Rattle.def_term.specs.Alive.{PROCESSES}
 use Rattle.def_term.specs.Names.{word}
 use Rattle.def_term.specs.Tree.{Tree, tuple, list, of_elements}
 use Rattle.def_script.specs.Program.{Class, error, throw, exit, Function, Entry, Program}
 use Rattle.def_node.specs.Event.{Event}
-use Rattle.def_node.specs.Process.{Frame, Process, continues, exits, resumed, raised_in, left_by, kept_by, raises}
-use Rattle.def_node.specs.Node.{World, State, next, next_of, opening_world}
+use Rattle.def_node.specs.Process.{Frame, Process, continues, exits, resume, raised_in, left_by, kept_by, raises}
+use Rattle.def_node.specs.Node.{World, NodeState, next, next_of, opening_world}
 use Rattle.def_node.specs.Limits.{IsStill, NothingChanges, IsEntered, IsWithin, IsAfter, world_after, state_after, AllKnown, events_in}
 
 -- a pick that is idle leaves the processes as they were
@@ -16,7 +16,7 @@ IdleLeavesTheProcesses = (ks : List Function) → (w : World) → (n : ℕ) → 
 
 -- and the place in the control list too
 abbrev pub IdleLeavesTheState : Type 0
-IdleLeavesTheState = (p : Program) → (s : State) → (n : ℕ) → NothingChanges s (next p s n)
+IdleLeavesTheState = (p : Program) → (s : NodeState) → (n : ℕ) → NothingChanges s (next p s n)
 
 -- a program of at most 64 processes begins within the limits
 abbrev pub OpeningIsWithin : Type 0
@@ -32,7 +32,7 @@ NoPidIsUsedAgain = (ks : List Function) → (w : World) → (n : ℕ) → IsWith
 
 -- control picks change the place in the control list alone
 abbrev pub ControlChangesNoProcess : Type 0
-ControlChangesNoProcess = (p : Program) → (s : State) → (state_after (next p s 0)).world ≡ s.world
+ControlChangesNoProcess = (p : Program) → (s : NodeState) → (state_after (next p s 0)).world ≡ s.world
 
 -- each event is about processes that the run may have started
 abbrev pub EventsAreOfTheRun : Type 0
@@ -77,10 +77,10 @@ caught_value error t = tuple (of_elements (word "EXIT" ∷ tuple (of_elements (t
 abbrev pub CaughtRaiseGoesOn : Type 0
 CaughtRaiseGoesOn =
     (ks : List Function) (n : ℕ) (q : Process) (above beneath : List Frame) (f g : Frame) (c : Class) (t : Tree) → NoneByCatch above → f.by_catch ≡ true →
-    raises ks n q (above ++ f ∷ g ∷ beneath) c t ≡ continues (resumed q f.target (caught_value c t) g beneath) (events_of_raise ks n (above ++ f ∷ g ∷ beneath) c t)
+    raises ks n q (above ++ f ∷ g ∷ beneath) c t ≡ continues (resume q f.target (caught_value c t) g beneath) (events_of_raise ks n (above ++ f ∷ g ∷ beneath) c t)
 
 -- where no catch step called the oldest frame, each raise is over frames of the one kind or the other: a catch step called none,
--- or the newest that one called stands on another
+-- or the newest that one called depends on another
 abbrev pub RaiseIsCaughtOrNot : Type 0
 RaiseIsCaughtOrNot =
     (fs : List Frame) → IsEntered fs →

@@ -1,8 +1,8 @@
 -- What keeps within the limits of the node (own).
--- Stands on the node. Laws speak of it.
+-- Depends on the node. Laws speak of it.
 use Rattle.std.specs.Prelude.{ℕ, ◌≡◌, ◌≤◌, Bool, false, List, [], ◌∷◌, length, Option, Some, None}
 use Rattle.def_term.specs.Alive.{FIRST_PID, PROCESSES, LAST_PID}
-use Rattle.def_node.specs.Node.{World, Move, moved, idle, State, Next, gives_events, gives_command, gives_nothing}
+use Rattle.def_node.specs.Node.{World, Move, moved, idle, NodeState, PickResult, gives_events, gives_command, gives_nothing}
 use Rattle.def_node.specs.Event.{Event, sent, received, called, returned, raised, spawning, spawned, exited, linked, unlinked, getting_linked, getting_unlinked}
 use Rattle.def_node.specs.Process.{FRAMES, Frame, Process, Act, waits, continues, sends, links_to, unlinks_from, spawns, exits}
 
@@ -60,13 +60,13 @@ IsStill w (moved v es) = Unit {0}
 IsStill w (idle v) = v ≡ w
 
 -- the state after a pick
-abbrev pub state_after : Next → State
+abbrev pub state_after : PickResult → NodeState
 state_after (gives_events t es) = t
 state_after (gives_command t k) = t
 state_after (gives_nothing t) = t
 
 -- where a pick gives nothing, the state is as it was
-abbrev pub NothingChanges : State → Next → Type 0
+abbrev pub NothingChanges : NodeState → PickResult → Type 0
 NothingChanges s (gives_events t es) = Unit {0}
 NothingChanges s (gives_command t k) = Unit {0}
 NothingChanges s (gives_nothing t) = t ≡ s

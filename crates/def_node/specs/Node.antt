@@ -1,5 +1,5 @@
 -- The node: all processes, and what one step of one of them does to the others (own). It knows nothing of sessions.
--- Stands on events, on the program and on what a process does by itself.
+-- Depends on events, on the program and on what a process does by itself.
 use Rattle.std.specs.Prelude.{ℕ, zero, suc, ◌+◌, ◌-◌, ◌==◌, nat_le, nat_lt, Bool, true, false, ◌&&◌, if◌then◌else◌, List, [], ◌∷◌, ◌++◌, length, map, replicate, slice_get, slice_set, Option, Some, None}
 use Rattle.std.specs.Option.{option_map, unwrap_or}
 use Rattle.def_term.specs.Tree.{Tree}
@@ -26,18 +26,18 @@ place_in (Some None) i = None
 place_in (Some (Some q)) i = Some i
 
 -- the place of the process with this pid, where it lives
-abbrev pub living : World → ℕ → Option ℕ
-living w n = if nat_le FIRST_PID n then place_in (slice_get w.slots (n - FIRST_PID)) (n - FIRST_PID) else None
+abbrev pub place_of_pid : World → ℕ → Option ℕ
+place_of_pid w n = if nat_le FIRST_PID n then place_in (slice_get w.slots (n - FIRST_PID)) (n - FIRST_PID) else None
 
 -- the process at this place changed, if it lives
-abbrev pub changed : List (Option Process) → ℕ → (Process → Process) → List (Option Process)
-changed [] i f = []
-changed (s ∷ ss) zero f = option_map f s ∷ ss
-changed (s ∷ ss) (suc i) f = s ∷ changed ss i f
+abbrev pub with_slot : List (Option Process) → ℕ → (Process → Process) → List (Option Process)
+with_slot [] i f = []
+with_slot (s ∷ ss) zero f = option_map f s ∷ ss
+with_slot (s ∷ ss) (suc i) f = s ∷ with_slot ss i f
 
 -- the processes with the one at this place changed
 abbrev pub change_at : World → ℕ → (Process → Process) → World
-change_at w i f = record w { slots = changed w.slots i f }
+change_at w i f = record w { slots = with_slot w.slots i f }
 
 -- the processes with this one at this place
 abbrev pub put_at : World → ℕ → Process → World
@@ -55,8 +55,8 @@ delivered_to w n m t None = moved w (sent n t m false ∷ [])
 delivered_to w n m t (Some i) = moved (change_at w i (with_message t)) (sent n t m true ∷ received m n t ∷ [])
 
 -- a send from n to m
-abbrev pub delivered : World → ℕ → ℕ → Tree → Move
-delivered w n m t = delivered_to w n m t (living w m)
+abbrev pub deliver : World → ℕ → ℕ → Tree → Move
+deliver w n m t = delivered_to w n m t (place_of_pid w m)
 
 -- ---- links and signals
 
@@ -97,7 +97,7 @@ abbrev pub link_made : World → ℕ → ℕ → ℕ → Move
 link_made w i n m =
     if n == m then moved w [] else
     if linked_at w i m then moved w (linked n m ∷ []) else
-    linked_to w i n m (living w m)
+    linked_to w i n m (place_of_pid w m)
 
 -- the link is removed at both ends
 abbrev pub unlinked_from : World → ℕ → ℕ → ℕ → Option ℕ → Move
@@ -108,20 +108,20 @@ unlinked_from w i n m (Some j) = moved (change_at (change_at w i (with_link m fa
 abbrev pub link_removed : World → ℕ → ℕ → ℕ → Move
 link_removed w i n m =
     if n == m then moved w [] else
-    if linked_at w i m then unlinked_from w i n m (living w m) else
+    if linked_at w i m then unlinked_from w i n m (place_of_pid w m) else
     moved w (unlinked n m ∷ [])
 
 -- ---- the end of a process
 
 -- each linked partner loses the link, and gets the exit signal unless the reason is `normal`
-abbrev pub parted : ℕ → Tree → Process → Process
-parted n r q = if same r (word "normal") then with_link n false q else with_signal r (with_link n false q)
+abbrev pub part : ℕ → Tree → Process → Process
+part n r q = if same r (word "normal") then with_link n false q else with_signal r (with_link n false q)
 
 -- each partner of n in turn
 abbrev pub partners_told : ℕ → Tree → List Bool → List (Option Process) → List (Option Process)
 partners_told n r [] ss = ss
 partners_told n r (b ∷ bs) [] = []
-partners_told n r (b ∷ bs) (s ∷ ss) = (if b then option_map (parted n r) s else s) ∷ partners_told n r bs ss
+partners_told n r (b ∷ bs) (s ∷ ss) = (if b then option_map (part n r) s else s) ∷ partners_told n r bs ss
 
 -- the pids of the partners, from this one on, by rising pid
 abbrev pub partner_pids : ℕ → List Bool → List ℕ
@@ -130,8 +130,8 @@ partner_pids m (true ∷ bs) = m ∷ partner_pids (suc m) bs
 partner_pids m (false ∷ bs) = partner_pids (suc m) bs
 
 -- an exit gives exit, then for each linked partner by rising pid getting_unlinked
-abbrev pub ended : World → ℕ → ℕ → List Bool → Tree → List Event → Move
-ended w i n partners r before =
+abbrev pub exit_process : World → ℕ → ℕ → List Bool → Tree → List Event → Move
+exit_process w i n partners r before =
     moved (record { slots = partners_told n r partners (slice_set w.slots i None) })
     (before ++ exited n r ∷ map (λ m. getting_unlinked m n) (partner_pids FIRST_PID partners))
 
@@ -146,28 +146,28 @@ abbrev pub next_pid : World → Option ℕ
 next_pid w = if nat_lt (length w.slots) PROCESSES then Some (FIRST_PID + length w.slots) else None
 
 -- a spawn gives the events spawn, then spawned
-abbrev pub started : World → ℕ → ℕ → Entry → Move
-started w n child e =
+abbrev pub start_process : World → ℕ → ℕ → Entry → Move
+start_process w n child e =
     moved (record { slots = w.slots ++ Some (fresh e) ∷ [] })
     (spawning n child (entry_mfa e) e.args ∷ spawned child n (entry_mfa e) e.args ∷ [])
 
 -- ---- one step
 
 -- the act of the process n, at the place i: first the process is what the act leaves of it, and then comes what else the act does
-abbrev pub acted : World → ℕ → ℕ → Act → Move
-acted w i n (waits q) = idle (put_at w i q)
-acted w i n (continues q es) = moved (put_at w i q) es
-acted w i n (sends q m t) = delivered (put_at w i q) n m t
-acted w i n (links_to q m) = link_made (put_at w i q) i n m
-acted w i n (unlinks_from q m) = link_removed (put_at w i q) i n m
-acted w i n (spawns q child e) = started (put_at w i q) n child e
-acted w i n (exits partners r before) = ended w i n partners r before
+abbrev pub after_act : World → ℕ → ℕ → Act → Move
+after_act w i n (waits q) = idle (put_at w i q)
+after_act w i n (continues q es) = moved (put_at w i q) es
+after_act w i n (sends q m t) = deliver (put_at w i q) n m t
+after_act w i n (links_to q m) = link_made (put_at w i q) i n m
+after_act w i n (unlinks_from q m) = link_removed (put_at w i q) i n m
+after_act w i n (spawns q child e) = start_process (put_at w i q) n child e
+after_act w i n (exits partners r before) = exit_process w i n partners r before
 
 -- the step of what is at a place: nothing where no process was started, or it has exited
 abbrev pub stepped_at : List Function → World → ℕ → ℕ → Option (Option Process) → Move
 stepped_at ks w i n None = idle w
 stepped_at ks w i n (Some None) = idle w
-stepped_at ks w i n (Some (Some q)) = acted w i n (act ks n (next_pid w) q)
+stepped_at ks w i n (Some (Some q)) = after_act w i n (act ks n (next_pid w) q)
 
 -- the next step of the process n; a pick is idle where the process was never started, has exited, or waits
 abbrev pub next_of : List Function → World → ℕ → Move
@@ -180,26 +180,26 @@ opening_world es = record { slots = map (λ e. Some (fresh e)) es }
 -- ---- picks
 
 -- the processes, and how many commands of the control list were taken
-pub record State : Type 0 where
+pub record NodeState : Type 0 where
   pub world : World
   pub taken : ℕ
 
 -- what a pick gives: events, the number of the next command (from 1), or nothing
-pub data Next : Type 0 where
-  gives_events : State → List Event → Next
-  gives_command : State → ℕ → Next
-  gives_nothing : State → Next
+pub data PickResult : Type 0 where
+  gives_events : NodeState → List Event → PickResult
+  gives_command : NodeState → ℕ → PickResult
+  gives_nothing : NodeState → PickResult
 
 -- a move with the place in the control list
-abbrev pub of_move : State → Move → Next
+abbrev pub of_move : NodeState → Move → PickResult
 of_move s (moved w es) = gives_events (record s { world = w }) es
 of_move s (idle w) = gives_nothing (record s { world = w })
 
 -- pick 0 is the control list, pick n the process n
-abbrev pub next : Program → State → ℕ → Next
+abbrev pub next : Program → NodeState → ℕ → PickResult
 next p s zero = if nat_lt s.taken (length p.commands) then gives_command (record s { taken = suc s.taken }) (suc s.taken) else gives_nothing s
 next p s (suc n) = of_move s (next_of p.functions s.world (suc n))
 
 -- no command is taken yet
-abbrev pub opening_state : Program → State
+abbrev pub opening_state : Program → NodeState
 opening_state p = record { world = opening_world p.entries; taken = 0 }

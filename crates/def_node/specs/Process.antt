@@ -1,14 +1,14 @@
 -- A process, and what it does by itself at its next step (own).
--- Stands on the events, on templates and on the program. What the step does to other processes is in `Node`.
+-- Depends on the events, on templates and on the program. What the step does to other processes is in `Node`.
 -- Exceptions are those of erlang:error/1, throw/1 and exit/1, caught as by `catch`; they have no stack trace.
 use Rattle.std.specs.Prelude.{ℕ, ◌+◌, nat_le, Bool, true, false, if◌then◌else◌, List, [], ◌∷◌, map, filter_map, length, slice_get, Option, Some, None, codes}
 use Rattle.std.specs.List.{list_any}
 use Rattle.std.specs.Option.{option_map}
-use Rattle.def_term.specs.Tree.{Tree, pid, tuple, list, none, more}
+use Rattle.def_term.specs.Tree.{Tree, pid, tuple, list, none, more, pid_in}
 use Rattle.def_term.specs.Names.{Name, Mfa, word}
 use Rattle.def_script.specs.Program.{Class, error, throw, Step, send, receive, call_remote, call_local, catch, spawn, link, unlink, give_back, raise, Function, mfa_of, Entry, entry_mfa, number_from}
 use Rattle.def_node.specs.Event.{Event, called, returned, raised}
-use Rattle.def_node.specs.Values.{Env, built, fitting, fitting_all, pid_in, rebound_target, params_bound}
+use Rattle.def_node.specs.Values.{Env, instance_of, fit, fitting_all, rebound_target, params_bound}
 
 -- a call that goes on: its function's number, how many of its steps are done, the values of its variables, the caller's target,
 -- and whether a catch step called it
@@ -44,8 +44,8 @@ abbrev pub with_frames : Process → List Frame → Process
 with_frames q fs = record q { frames = fs }
 
 -- one step on
-abbrev pub advanced : Frame → Frame
-advanced f = record f { place = f.place + 1 }
+abbrev pub next_step : Frame → Frame
+next_step f = record f { place = f.place + 1 }
 
 -- the frame with these values of variables
 abbrev pub with_env : Frame → Env → Frame
@@ -79,8 +79,8 @@ abbrev pub locally : Option Name → Manner
 locally x = record { target = x; named = false; by_catch = false }
 
 -- naming it in a catch
-abbrev pub catching : Option Name → Manner
-catching x = record { target = x; named = true; by_catch = true }
+abbrev pub catch_manner : Option Name → Manner
+catch_manner x = record { target = x; named = true; by_catch = true }
 
 -- a call of the function k with the number i, over the frames beneath. Over so many frames it ends the process
 abbrev pub enters_at : List Function → ℕ → Process → List Frame → Manner → List Tree → ℕ → Option Function → Act
@@ -96,13 +96,13 @@ enters ks n q fs a args None = exits q.links (word "undef") []
 enters ks n q fs a args (Some i) = enters_at ks n q fs a args i (slice_get ks i)
 
 -- the process goes on in the frame g, with a value at a target
-abbrev pub resumed : Process → Option Name → Tree → Frame → List Frame → Process
-resumed q x t g gs = record q { frames = record g { env = rebound_target x t g.env } ∷ gs }
+abbrev pub resume : Process → Option Name → Tree → Frame → List Frame → Process
+resume q x t g gs = record q { frames = record g { env = rebound_target x t g.env } ∷ gs }
 
 -- a return from the entry frame is followed by the exit with reason `normal`
 abbrev pub leaves_to : Process → Option Name → List Frame → Tree → Event → Act
 leaves_to q x [] t e = exits q.links (word "normal") (e ∷ [])
-leaves_to q x (g ∷ gs) t e = continues (resumed q x t g gs) (e ∷ [])
+leaves_to q x (g ∷ gs) t e = continues (resume q x t g gs) (e ∷ [])
 
 -- a return of this value from a frame of the function k, over the frames beneath
 abbrev pub leaves : ℕ → Process → Function → Option Name → List Frame → Tree → Act
@@ -123,14 +123,14 @@ exception_of fs throw t =
 exception_of fs c t = record { class = c; value = t }
 
 -- the reason with which it ends a process, if it isn't caught: that of an error has a stack trace too, which is empty (own)
-abbrev pub reason_of : Class → Tree → Tree
-reason_of error t = tuple (more t (more (list none) none))
-reason_of c t = t
+abbrev pub exit_reason : Class → Tree → Tree
+exit_reason error t = tuple (more t (more (list none) none))
+exit_reason c t = t
 
 -- the value of the catch that it is caught by
 abbrev pub caught_as : Class → Tree → Tree
 caught_as throw t = t
-caught_as c t = tuple (more (word "EXIT") (more (reason_of c t) none))
+caught_as c t = tuple (more (word "EXIT") (more (exit_reason c t) none))
 
 -- the frames that it leaves, each with its depth: from the newest on down to the first that a catch step called, or else all
 abbrev pub left_by : List Frame → List (Frame × ℕ)
@@ -151,10 +151,10 @@ catch_target (f ∷ fs) = if f.by_catch then f.target else catch_target fs
 abbrev pub raised_in : List Function → ℕ → Exception → Frame × ℕ → Option Event
 raised_in ks n e left = option_map (λ m. raised n m e.class e.value left.1) (mfa_at ks left.0.function)
 
--- where the entry frame is left too the process ends; else it goes on behind the catch step
+-- where the entry frame is left too the process ends; else it goes on after the catch step
 abbrev pub raises_to : Process → Option Name → List Frame → Exception → List Event → Act
-raises_to q x [] e es = exits q.links (reason_of e.class e.value) es
-raises_to q x (g ∷ gs) e es = continues (resumed q x (caught_as e.class e.value) g gs) es
+raises_to q x [] e es = exits q.links (exit_reason e.class e.value) es
+raises_to q x (g ∷ gs) e es = continues (resume q x (caught_as e.class e.value) g gs) es
 
 -- an exception leaves frames from the newest on down
 abbrev pub leaves_by : List Function → ℕ → Process → List Frame → Exception → Act
@@ -172,8 +172,8 @@ to_pid f ls (Some n) = f n
 to_pid f ls None = exits ls (word "badarg") []
 
 -- the process with its newest frame one step on
-abbrev pub stepped : Process → Frame → List Frame → Process
-stepped q f fs = record q { frames = advanced f ∷ fs }
+abbrev pub step_on : Process → Frame → List Frame → Process
+step_on q f fs = record q { frames = next_step f ∷ fs }
 
 -- and with a value at a target
 abbrev pub binds : Process → Frame → List Frame → Option Name → Tree → Process
@@ -192,12 +192,12 @@ within ls None f = exits ls (word "system_limit") []
 -- a send: both templates within the limits first, then the kind of the target
 abbrev pub sends_to : Process → Frame → List Frame → Tree → Tree → Act
 sends_to q f fs to t =
-    within q.links (fitting to) (λ to. within q.links (fitting t) (λ t. to_pid (λ n. sends (stepped q f fs) n t) q.links (pid_in to)))
+    within q.links (fit to) (λ to. within q.links (fit t) (λ t. to_pid (λ n. sends (step_on q f fs) n t) q.links (pid_in to)))
 
 -- a call: its arguments within the limits first, then the frame
 abbrev pub calls : List Function → ℕ → Process → Frame → List Frame → Manner → Name → Name → List Tree → Act
 calls ks n q f fs a m g args =
-    within q.links (fitting_all args) (λ args. enters ks n (stepped q f fs) (advanced f ∷ fs) a args (number_from 0 ks (record { module_name = m; function_name = g; arity = length args })))
+    within q.links (fitting_all args) (λ args. enters ks n (step_on q f fs) (next_step f ∷ fs) a args (number_from 0 ks (record { module_name = m; function_name = g; arity = length args })))
 
 -- a spawn with no pid left ends the process
 abbrev pub spawns_at : Process → Frame → List Frame → Option Name → Name → Name → List Tree → Option ℕ → Act
@@ -210,26 +210,26 @@ spawns_with q f fs x m g args child = within q.links (fitting_all args) (λ args
 
 -- a link: its template within the limits first, then its kind
 abbrev pub links_with : Process → Frame → List Frame → Tree → Act
-links_with q f fs t = within q.links (fitting t) (λ t. to_pid (λ m. links_to (stepped q f fs) m) q.links (pid_in t))
+links_with q f fs t = within q.links (fit t) (λ t. to_pid (λ m. links_to (step_on q f fs) m) q.links (pid_in t))
 
 -- an unlink: its template within the limits first, then its kind
 abbrev pub unlinks_with : Process → Frame → List Frame → Tree → Act
-unlinks_with q f fs t = within q.links (fitting t) (λ t. to_pid (λ m. unlinks_from (stepped q f fs) m) q.links (pid_in t))
+unlinks_with q f fs t = within q.links (fit t) (λ t. to_pid (λ m. unlinks_from (step_on q f fs) m) q.links (pid_in t))
 
 -- one step of the newest frame f, whose function is k; q is the process without it. child is the pid that a spawn would give.
 -- When the steps are used up the next step is a return of `ok`
 abbrev pub performs : List Function → ℕ → Option ℕ → Process → Function → Frame → List Frame → Option Step → Act
 performs ks n child q k f fs None = leaves n q k f.target fs (word "ok")
-performs ks n child q k f fs (Some (send to t)) = sends_to q f fs (built f.env to) (built f.env t)
+performs ks n child q k f fs (Some (send to t)) = sends_to q f fs (instance_of f.env to) (instance_of f.env t)
 performs ks n child q k f fs (Some (receive x)) = receives q f fs x q.mailbox
-performs ks n child q k f fs (Some (call_remote x m g ts)) = calls ks n q f fs (remotely x) m g (map (built f.env) ts)
-performs ks n child q k f fs (Some (call_local x g ts)) = calls ks n q f fs (locally x) k.module_name g (map (built f.env) ts)
-performs ks n child q k f fs (Some (catch x m g ts)) = calls ks n q f fs (catching x) m g (map (built f.env) ts)
-performs ks n child q k f fs (Some (spawn x m g ts)) = spawns_with q f fs x m g (map (built f.env) ts) child
-performs ks n child q k f fs (Some (link t)) = links_with q f fs (built f.env t)
-performs ks n child q k f fs (Some (unlink t)) = unlinks_with q f fs (built f.env t)
-performs ks n child q k f fs (Some (give_back t)) = within q.links (fitting (built f.env t)) (leaves n q k f.target fs)
-performs ks n child q k f fs (Some (raise c t)) = within q.links (fitting (built f.env t)) (raises ks n q (f ∷ fs) c)
+performs ks n child q k f fs (Some (call_remote x m g ts)) = calls ks n q f fs (remotely x) m g (map (instance_of f.env) ts)
+performs ks n child q k f fs (Some (call_local x g ts)) = calls ks n q f fs (locally x) k.module_name g (map (instance_of f.env) ts)
+performs ks n child q k f fs (Some (catch x m g ts)) = calls ks n q f fs (catch_manner x) m g (map (instance_of f.env) ts)
+performs ks n child q k f fs (Some (spawn x m g ts)) = spawns_with q f fs x m g (map (instance_of f.env) ts) child
+performs ks n child q k f fs (Some (link t)) = links_with q f fs (instance_of f.env t)
+performs ks n child q k f fs (Some (unlink t)) = unlinks_with q f fs (instance_of f.env t)
+performs ks n child q k f fs (Some (give_back t)) = within q.links (fit (instance_of f.env t)) (leaves n q k f.target fs)
+performs ks n child q k f fs (Some (raise c t)) = within q.links (fit (instance_of f.env t)) (raises ks n q (f ∷ fs) c)
 
 -- a step of the newest frame, whose function is this one
 abbrev pub runs_in : List Function → ℕ → Option ℕ → Process → Frame → List Frame → Option Function → Act

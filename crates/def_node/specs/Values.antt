@@ -1,5 +1,5 @@
 -- The values of variables, and what a template stands for (own).
--- Stands on terms and on what is a variable.
+-- Depends on terms and on what is a variable.
 use Rattle.std.specs.Prelude.{nat_le, Bool, true, ◌&&◌, if◌then◌else◌, List, [], ◌∷◌, ℕ, Option, Some, None}
 use Rattle.std.specs.Option.{unwrap_or}
 use Rattle.std.specs.Str.{bytes_eq}
@@ -13,13 +13,13 @@ abbrev pub Env : Type 0
 Env = List (Name × Tree)
 
 -- the value of a variable, where it is bound
-abbrev pub found : Env → Name → Option Tree
-found [] x = None
-found (e ∷ env) x = if bytes_eq e.0 x then Some e.1 else found env x
+abbrev pub binding_of : Env → Name → Option Tree
+binding_of [] x = None
+binding_of (e ∷ env) x = if bytes_eq e.0 x then Some e.1 else binding_of env x
 
 -- the value of an atom that is a bound variable
 abbrev pub value_of : Env → Name → Option Tree
-value_of env a = if is_variable a then found env a else None
+value_of env a = if is_variable a then binding_of env a else None
 
 -- a step that binds a bound variable replaces its value
 abbrev pub rebound : Env → Name → Tree → Env
@@ -39,17 +39,17 @@ params_bound env (x ∷ xs) (t ∷ ts) = params_bound (rebound env x t) xs ts
 
 -- each variable of a template stands for its value
 abbrev mutual
-  pub built : Env → Tree → Tree
-  built env (int z) = int z
-  built env (atom a) = unwrap_or (value_of env a) (atom a)
-  built env (pid n) = pid n
-  built env (tuple ts) = tuple (all_built env ts)
-  built env (list ts) = list (all_built env ts)
+  pub instance_of : Env → Tree → Tree
+  instance_of env (int z) = int z
+  instance_of env (atom a) = unwrap_or (value_of env a) (atom a)
+  instance_of env (pid n) = pid n
+  instance_of env (tuple ts) = tuple (all_built env ts)
+  instance_of env (list ts) = list (all_built env ts)
 
   -- each element so
   pub all_built : Env → Trees → Trees
   all_built env none = none
-  all_built env (more t ts) = more (built env t) (all_built env ts)
+  all_built env (more t ts) = more (instance_of env t) (all_built env ts)
 
 -- the greatest size of a built term
 abbrev pub SIZE : ℕ
@@ -60,8 +60,8 @@ abbrev pub fits : Tree → Bool
 fits t = nat_le (size t) SIZE && nat_le (depth t) DEPTH
 
 -- the built term, where it is within the limits
-abbrev pub fitting : Tree → Option Tree
-fitting t = if fits t then Some t else None
+abbrev pub fit : Tree → Option Tree
+fit t = if fits t then Some t else None
 
 -- each of the built terms is within the limits
 abbrev pub all_fit : List Tree → Bool
@@ -71,11 +71,3 @@ all_fit (t ∷ ts) = fits t && all_fit ts
 -- the built terms, where each is within the limits
 abbrev pub fitting_all : List Tree → Option (List Tree)
 fitting_all ts = if all_fit ts then Some ts else None
-
--- the number of a pid; another term has none
-abbrev pub pid_in : Tree → Option ℕ
-pid_in (int z) = None
-pid_in (atom a) = None
-pid_in (pid n) = Some n
-pid_in (tuple ts) = None
-pid_in (list ts) = None

@@ -1,6 +1,6 @@
 //! What the node is: events, templates, one process, all processes, and one pick.
 //!
-//! Stands on terms and on programs. What a process does by itself is one definition (`Process`), what
+//! Depends on terms and on programs. What a process does by itself is one definition (`Process`), what
 //! that does to the other processes another (`Node`). Promises, as laws, that a pick which gives nothing
 //! changes nothing, that the limits of 64 processes and 64 frames are kept, that no pid is used again,
 //! that a pick of the control list changes no process, that events are about processes of the run, and
@@ -51,7 +51,7 @@ pub fn a_raise_leaves_frames()
     ensures depths { LeftHaveTheirDepths }
 {}
 
-/// The process goes on behind the catch step that called the last frame which is left, and its target gets
+/// The process goes on after the catch step that called the last frame which is left, and its target gets
 /// what the class says. Where no catch step called a frame, an error or an exit ends the process, and a
 /// throw is the error `nocatch`. One of the two it is, as no catch step calls the oldest frame.
 pub fn a_raise_goes_on_or_ends_the_process()

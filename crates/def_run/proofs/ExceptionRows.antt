@@ -27,7 +27,7 @@ caught_error : program_output (chain (catches "f" (number 1 ∷ [])) (raise erro
 unfolding is_written_bare digits
 caught_error = refl
 
--- with marks for returns the same, but no exception is told
+-- with marks for returns the same, but no exception is reported
 caught_error_marked_for_returns : program_output (chain (catches "f" (number 1 ∷ [])) (raise error (braces (word "bad" ∷ word "X" ∷ []))) (braces (word "return_trace" ∷ []) ∷ []))
     (0 ∷ 0 ∷ 0 ∷ 100 ∷ 100 ∷ 100 ∷ 100 ∷ 100 ∷ [])
     ≡ lines ("== session s1 tracer t1" ∷ "{trace,<0.100.0>,call,{m,go,[]}}" ∷ "{trace,<0.100.0>,call,{m,f,[1]}}" ∷ "{trace,<0.100.0>,call,{m,g,[1]}}" ∷ "{trace,<0.100.0>,return_from,{m,go,0},{'EXIT',{{bad,1},[]}}}" ∷ "{trace,<0.100.0>,exit,normal}" ∷ "== replies" ∷ "{session,s1}" ∷ "1" ∷ "3" ∷ "== journal" ∷ "0 0 0 100 100 100 100 100" ∷ [])
@@ -67,7 +67,7 @@ uncaught_throw : program_output (chain (call_remote (Some (codes "X")) (codes "m
 unfolding is_written_bare digits
 uncaught_throw = refl
 
--- with marks for returns none of them is told
+-- with marks for returns none of them is reported
 uncaught_throw_marked_for_returns : program_output (chain (call_remote (Some (codes "X")) (codes "m") (codes "f") (number 1 ∷ [])) (raise throw (braces (word "bad" ∷ word "X" ∷ []))) (braces (word "return_trace" ∷ []) ∷ []))
     (0 ∷ 0 ∷ 0 ∷ 100 ∷ 100 ∷ 100 ∷ 100 ∷ [])
     ≡ lines ("== session s1 tracer t1" ∷ "{trace,<0.100.0>,call,{m,go,[]}}" ∷ "{trace,<0.100.0>,call,{m,f,[1]}}" ∷ "{trace,<0.100.0>,call,{m,g,[1]}}" ∷ "{trace,<0.100.0>,exit,{{nocatch,{bad,1}},[]}}" ∷ "== replies" ∷ "{session,s1}" ∷ "1" ∷ "3" ∷ "== journal" ∷ "0 0 0 100 100 100 100" ∷ [])
@@ -88,7 +88,7 @@ uncaught_exit : program_output (chain (call_remote (Some (codes "X")) (codes "m"
 unfolding is_written_bare digits
 uncaught_exit = refl
 
--- a mark is for exceptions where exception_trace stands beside return_trace, before it or behind it
+-- a mark is for exceptions where exception_trace stands beside return_trace, before it or after it
 both_traces : program_output (chain (call_remote (Some (codes "X")) (codes "m") (codes "f") (number 1 ∷ [])) (raise exit (braces (word "bad" ∷ word "X" ∷ []))) (braces (word "return_trace" ∷ []) ∷ braces (word "exception_trace" ∷ []) ∷ []))
     (0 ∷ 0 ∷ 0 ∷ 100 ∷ 100 ∷ 100 ∷ 100 ∷ [])
     ≡ lines ("== session s1 tracer t1" ∷ "{trace,<0.100.0>,call,{m,go,[]}}" ∷ "{trace,<0.100.0>,call,{m,f,[1]}}" ∷ "{trace,<0.100.0>,call,{m,g,[1]}}" ∷ "{trace,<0.100.0>,exception_from,{m,g,1},{exit,{bad,1}}}" ∷ "{trace,<0.100.0>,exception_from,{m,f,1},{exit,{bad,1}}}" ∷ "{trace,<0.100.0>,exception_from,{m,go,0},{exit,{bad,1}}}" ∷ "{trace,<0.100.0>,exit,{bad,1}}" ∷ "== replies" ∷ "{session,s1}" ∷ "1" ∷ "3" ∷ "== journal" ∷ "0 0 0 100 100 100 100" ∷ [])
@@ -129,7 +129,7 @@ caller_of_a_catch : program_output (chain (catches "f" (number 1 ∷ [])) (raise
 unfolding is_written_bare digits
 caller_of_a_catch = refl
 
--- the mark of a frame that is left is gone, though `call` was clear and nothing was told: a later frame of that depth has none
+-- the mark of a frame that is left is gone, though `call` was clear and nothing was reported: a later frame of that depth has none
 a_mark_goes_with_its_frame : program_output (program
     (function "go" [] (catch None (codes "m") (codes "f") (number 1 ∷ []) ∷ call_named "f" (number 2 ∷ []) ∷ []) ∷ function "f" ("X" ∷ []) (catch None (codes "m") (codes "g") (word "X" ∷ []) ∷ give_back (word "X") ∷ []) ∷ function "g" ("X" ∷ []) (raise throw (word "X") ∷ []) ∷ [])
     (entry "go" [] ∷ [])
@@ -139,7 +139,7 @@ a_mark_goes_with_its_frame : program_output (program
 unfolding is_written_bare digits
 a_mark_goes_with_its_frame = refl
 
--- the partner of a process that an exception ends gets its reason, behind all that tells of frames
+-- the partner of a process that an exception ends gets its reason, after all that reports of frames
 partner_of_a_throw : program_output (program
     (function "go" [] (link (pid 101) ∷ raise throw (word "boom") ∷ []) ∷ function "peer" [] (receive None ∷ []) ∷ [])
     (entry "go" [] ∷ entry "peer" [] ∷ [])
@@ -169,7 +169,7 @@ newest_of_two_catches : program_output (program
 unfolding is_written_bare digits
 newest_of_two_catches = refl
 
--- each session tells by its own marks
+-- each session reports by its own marks
 two_sessions_mark_apart : program_output (program
     (function "go" [] (catches "f" [] ∷ give_back (word "X") ∷ []) ∷ function "f" [] (raise throw (word "bad") ∷ []) ∷ [])
     (entry "go" [] ∷ [])
@@ -195,21 +195,21 @@ catch_that_returns = refl
 abbrev traces : List Tree → List Tree → Tree
 traces off on = braces (word "trace" ∷ brackets off ∷ brackets on ∷ [])
 
--- `trace` tells what it changes in each call that marks, and the marks tell exceptions as ever
+-- `trace` reports what it changes in each call that marks, and the marks tell exceptions as ever
 exceptions_of_changed_flags : program_output (chain (catches "f" (number 1 ∷ [])) (raise throw (braces (word "bad" ∷ word "X" ∷ []))) (braces (word "message" ∷ brackets (traces [] (word "send" ∷ []) ∷ []) ∷ []) ∷ braces (word "exception_trace" ∷ []) ∷ []))
     (0 ∷ 0 ∷ 0 ∷ 100 ∷ 100 ∷ 100 ∷ 100 ∷ 100 ∷ [])
     ≡ lines ("== session s1 tracer t1" ∷ "{trace,<0.100.0>,call,{m,go,[]},[true]}" ∷ "{trace,<0.100.0>,call,{m,f,[1]},[false]}" ∷ "{trace,<0.100.0>,call,{m,g,[1]},[false]}" ∷ "{trace,<0.100.0>,exception_from,{m,g,1},{throw,{bad,1}}}" ∷ "{trace,<0.100.0>,exception_from,{m,f,1},{throw,{bad,1}}}" ∷ "{trace,<0.100.0>,return_from,{m,go,0},{bad,1}}" ∷ "{trace,<0.100.0>,exit,normal}" ∷ "== replies" ∷ "{session,s1}" ∷ "1" ∷ "3" ∷ "== journal" ∷ "0 0 0 100 100 100 100 100" ∷ [])
 unfolding is_written_bare digits
 exceptions_of_changed_flags = refl
 
--- a call that marks and clears `call` is told, and the exception that leaves its frame isn't
+-- a call that marks and clears `call` is reported, and the exception that leaves its frame isn't
 cleared_call_tells_no_exception : program_output (chain (call_remote (Some (codes "X")) (codes "m") (codes "f") (number 1 ∷ [])) (raise throw (braces (word "bad" ∷ word "X" ∷ []))) (braces (word "exception_trace" ∷ []) ∷ traces (word "call" ∷ []) [] ∷ []))
     (0 ∷ 0 ∷ 0 ∷ 100 ∷ 100 ∷ 100 ∷ 100 ∷ [])
     ≡ lines ("== session s1 tracer t1" ∷ "{trace,<0.100.0>,call,{m,go,[]}}" ∷ "{trace,<0.100.0>,exit,{{nocatch,{bad,1}},[]}}" ∷ "== replies" ∷ "{session,s1}" ∷ "1" ∷ "3" ∷ "== journal" ∷ "0 0 0 100 100 100 100" ∷ [])
 unfolding is_written_bare digits
 cleared_call_tells_no_exception = refl
 
--- `silent` is set by f, whose call isn't told, and cleared by g: the exception that leaves both is told of both
+-- `silent` is set by f, whose call isn't reported, and cleared by g: the exception that leaves both is reported of both
 cleared_silent_tells_exceptions : program_output (program
     (function "go" [] (catches "f" (number 1 ∷ []) ∷ give_back (word "X") ∷ []) ∷ function "f" ("X" ∷ []) (call_named "g" (word "X" ∷ []) ∷ []) ∷ function "g" ("X" ∷ []) (raise throw (braces (word "bad" ∷ word "X" ∷ [])) ∷ []) ∷ [])
     (entry "go" [] ∷ [])
@@ -219,7 +219,7 @@ cleared_silent_tells_exceptions : program_output (program
 unfolding is_written_bare digits
 cleared_silent_tells_exceptions = refl
 
--- another process clears `call` of one in a marked frame, and the exception that leaves it isn't told
+-- another process clears `call` of one in a marked frame, and the exception that leaves it isn't reported
 cleared_by_another_process : program_output (program
     (function "go" [] (catches "f" (number 1 ∷ []) ∷ give_back (word "X") ∷ []) ∷ function "f" ("X" ∷ []) (raise throw (word "X") ∷ []) ∷ function "peer" [] (call_named "h" [] ∷ []) ∷ function "h" [] [] ∷ [])
     (entry "go" [] ∷ entry "peer" [] ∷ [])

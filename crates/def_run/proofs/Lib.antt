@@ -1,7 +1,7 @@
 pub mod Appends
 pub mod Replay
-pub mod Striking
-pub mod Destroyed
+pub mod StruckCommands
+pub mod DestroyedSessions
 pub mod Answers
 pub mod Runs
 pub mod Samples
@@ -20,6 +20,10 @@ pub mod LimitRows
 pub mod Picks
 pub mod Rounds
 pub mod Nexts
+mod UncreatedSessions
+pub mod Histories
+mod HistoryAnswers
+mod HistoryRows
 pub mod Outputs
 pub mod PickRows
 mod OutputRows

@@ -16,7 +16,7 @@ marks_end_with_their_frames : program_output (script_k (call_named "f" (number 1
 unfolding is_written_bare digits
 marks_end_with_their_frames = refl
 
--- a return is told by a mark for exceptions too
+-- a return is reported by a mark for exceptions too
 exception_trace_marks : program_output (script_k (call_named "f" (number 1 ∷ []) ∷ [])
     (mfa_of "f" 1) (brackets (braces (word "_" ∷ brackets [] ∷ brackets (braces (word "exception_trace" ∷ []) ∷ []) ∷ []) ∷ [])) []
     [])

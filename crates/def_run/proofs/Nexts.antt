@@ -4,7 +4,7 @@ use Rattle.std.specs.Prelude.{slice_get, nat_lt}
 use Rattle.std.proofs.lemmas.Bool.{ltb-true, ltb-false}
 use Rattle.def_script.specs.Program.{Function, Command, Program}
 use Rattle.def_node.specs.Limits.{IsStill}
-use Rattle.def_node.specs.Node.{World, Move, moved, idle, next_of, State, gives_command, gives_nothing, of_move, next}
+use Rattle.def_node.specs.Node.{World, Move, moved, idle, next_of, NodeState, gives_command, gives_nothing, of_move, next}
 use Rattle.def_node.proofs.Still.{next_still}
 use Rattle.def_run.specs.Run.{RunState, takes_command, goes_to, pick_step_with, pick_step, start, moves, run_state_after}
 use Rattle.def_run.specs.Laws.{state_at, IsNext, PickIsNext}
@@ -35,7 +35,7 @@ at_front : (front : List Command) (c : Command) (cs : List Command) → slice_ge
 at_front [] c cs = refl
 at_front (d ∷ front) c cs = at_front front c cs
 
-abbrev state_with : World → ℕ → State
+abbrev state_with : World → ℕ → NodeState
 state_with w n = record { world = w; taken = n }
 
 module _ (p : Program) (q : RunState) (room : ℕ) (front : List Command) (whole : p.commands ≡ front ++ q.commands) where

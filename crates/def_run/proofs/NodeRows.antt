@@ -10,7 +10,7 @@ use Rattle.def_run.specs.Round.{round}
 use Rattle.def_run.specs.Listing.{program_output}
 use Rattle.def_run.proofs.Samples.{number, braces, brackets, function, internal, entry, call_unnamed, program, creates, sets, sets_function, lines, script_a}
 
--- partners are told of an exit by rising pid
+-- partners are reported of an exit by rising pid
 partners_by_rising_pid : program_output (program
     (function "go" [] (link (pid 102) ∷ link (pid 101) ∷ raise exit (word "boom") ∷ []) ∷ function "peer" [] (receive None ∷ []) ∷ [])
     (entry "go" [] ∷ entry "peer" [] ∷ entry "peer" [] ∷ [])

@@ -15,7 +15,7 @@ use Rattle.def_run.specs.Round.{round}
 use Rattle.def_run.specs.Output.{HasBadPicks, refusal_text, IsOutput, lists, refuses, refuses_picks, IsRoundOutput, lists_round, refuses_round}
 use Rattle.def_run.specs.Laws.{PicksAreOne, OutputIsOne, RoundOutputIsOne}
 
--- the numbers of a text with single spaces, behind so much of the first
+-- the numbers of a text with single spaces, after so much of the first
 abbrev numbers_from : ℕ → List ℕ → List ℕ
 numbers_from n [] = n ∷ []
 numbers_from n (b ∷ bs) = if b == 32 then n ∷ numbers_from 0 bs else numbers_from (n * 10 + (b - 48)) bs

@@ -7,7 +7,7 @@ use Rattle.std.proofs.lemmas.List.Elements.{All-head, All-tail}
 use Rattle.def_term.specs.Text.{is_digit}
 use Rattle.def_run.specs.Picks.{SpellsPicks, picks_text}
 
--- where a scan of such a text stands: before a number, behind a 0 that begins one, or within another
+-- where a scan of such a text stands: before a number, after a 0 that begins one, or within another
 data Where : Type 0 where
   before zeroed within : Where
 
@@ -20,7 +20,7 @@ goes_on before (b ∷ bs) = if b == 48 then goes_on zeroed bs else if is_digit b
 goes_on zeroed (b ∷ bs) = if b == 32 then goes_on before bs else false
 goes_on within (b ∷ bs) = if is_digit b then goes_on within bs else if b == 32 then goes_on before bs else false
 
--- behind a number, whichever it was, the same can follow that is no digit
+-- after a number, whichever it was, the same can follow that is no digit
 abbrev Follows : List ℕ → Type 0
 Follows rest = (goes_on zeroed rest ≡ true) × (goes_on within rest ≡ true)
 

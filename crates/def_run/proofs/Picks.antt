@@ -3,7 +3,7 @@ use Rattle.std.proofs.Common.{◌≡◌, ◌+◌, ◌<◌, ℕ, zero, suc, List,
 use Rattle.def_script.specs.Program.{Function, Program, Command}
 use Rattle.def_node.specs.Node.{Move, moved, idle, next_of}
 use Rattle.def_run.specs.Run.{RunState, takes_command, goes_to, pick_step_with, run_state_after, start, moves}
-use Rattle.def_run.specs.Laws.{IsStep, Takes, PickIsItsStep, PickTakesACommand, FullJournalStays}
+use Rattle.def_run.specs.Laws.{IsStep, TakesCommandOf, PickIsItsStep, PickTakesACommand, FullJournalStays}
 use Rattle.def_run.proofs.Replay.{room_spent}
 
 abbrev place_of : Program → List ℕ → RunState
@@ -13,7 +13,7 @@ step_goes : (q : RunState) (room : ℕ) (m : Move) → IsStep m (goes_to q room 
 step_goes q room (moved w es) = (refl, refl, refl)
 step_goes q room (idle w) = refl
 
-command_goes : (q : RunState) (room : ℕ) (cs : List Command) → Takes cs (takes_command q room cs)
+command_goes : (q : RunState) (room : ℕ) (cs : List Command) → TakesCommandOf cs (takes_command q room cs)
 command_goes q room [] = refl
 command_goes q room (c ∷ cs) = (refl, refl, refl)
 
@@ -21,7 +21,7 @@ step_with : (ks : List Function) (q : RunState) (n room : ℕ) → 0 < room → 
 step_with ks q n zero h = absurd (omega arith)
 step_with ks q n (suc room) h = step_goes q room (next_of ks q.world (suc n))
 
-command_with : (ks : List Function) (q : RunState) (room : ℕ) → 0 < room → Takes q.commands (pick_step_with ks q room 0)
+command_with : (ks : List Function) (q : RunState) (room : ℕ) → 0 < room → TakesCommandOf q.commands (pick_step_with ks q room 0)
 command_with ks q zero h = absurd (omega arith)
 command_with ks q (suc room) h = command_goes q room q.commands
 

@@ -2,7 +2,7 @@
 use Rattle.std.proofs.Common.{◌≡◌, ◌≤◌, ◌+◌, ℕ, zero, suc, List, [], ◌∷◌, ◌++◌, length, Bool, true, false, if◌then◌else◌, refl, sym, ap, ◌∙◌, subst, arith}
 use Rattle.def_script.specs.Program.{Function, Program, Command}
 use Rattle.def_node.specs.Node.{Move, moved, idle, next_of}
-use Rattle.def_run.specs.Run.{RunState, PickStep, stays, takes_command, goes_to, pick_step_in, pick_step_with, pick_step, shown_from, moves_from, run_state_after, start, events, moves}
+use Rattle.def_run.specs.Run.{RunState, PickStep, stays, takes_command, goes_to, pick_step_in, pick_step_with, pick_step, history_from, moves_from, run_state_after, start, events, moves}
 use Rattle.def_run.proofs.Appends.{shown-append, moves-append, place-append}
 
 -- a pick that did not move changes nothing
@@ -29,23 +29,23 @@ pub pick_kept : (ks : List Function) (p : RunState) (pick : ℕ) → (pick_step 
 pick_kept ks p pick = with_kept ks p p.room pick
 
 -- a pick that moved does so again; one that did not is left out
-pub shown_again : (ks : List Function) (p : RunState) (picks : List ℕ) → shown_from ks p (moves_from ks p picks) ≡ shown_from ks p picks
+pub shown_again : (ks : List Function) (p : RunState) (picks : List ℕ) → history_from ks p (moves_from ks p picks) ≡ history_from ks p picks
 shown_again ks p [] = refl
 shown_again ks p (pick ∷ picks) = go (pick_step ks p pick) refl (pick_step ks p pick).moved refl (shown_again ks (pick_step ks p pick).after picks)
   where
     go : (t : PickStep) → pick_step ks p pick ≡ t → (b : Bool) → t.moved ≡ b
-        → shown_from ks t.after (moves_from ks t.after picks) ≡ shown_from ks t.after picks
-        → shown_from ks p ((if t.moved then pick ∷ [] else []) ++ moves_from ks t.after picks) ≡ t.shown ++ shown_from ks t.after picks
+        → history_from ks t.after (moves_from ks t.after picks) ≡ history_from ks t.after picks
+        → history_from ks p ((if t.moved then pick ∷ [] else []) ++ moves_from ks t.after picks) ≡ t.shown ++ history_from ks t.after picks
     go t e true h ih =
-        ap (λ b. shown_from ks p ((if b then pick ∷ [] else []) ++ moves_from ks t.after picks)) h
-        ∙ ap (λ u. u.shown ++ shown_from ks u.after (moves_from ks t.after picks)) e
+        ap (λ b. history_from ks p ((if b then pick ∷ [] else []) ++ moves_from ks t.after picks)) h
+        ∙ ap (λ u. u.shown ++ history_from ks u.after (moves_from ks t.after picks)) e
         ∙ ap (t.shown ++◌) ih
     go t e false h ih =
         let kept : t ≡ stays p = subst (λ u. u.moved ≡ false → u ≡ stays p) e (pick_kept ks p pick) h in
-        ap (λ b. shown_from ks p ((if b then pick ∷ [] else []) ++ moves_from ks t.after picks)) h
-        ∙ ap (λ u. shown_from ks u.after (moves_from ks t.after picks)) (sym kept)
+        ap (λ b. history_from ks p ((if b then pick ∷ [] else []) ++ moves_from ks t.after picks)) h
+        ∙ ap (λ u. history_from ks u.after (moves_from ks t.after picks)) (sym kept)
         ∙ ih
-        ∙ ap (λ u. u.shown ++ shown_from ks t.after picks) (sym kept)
+        ∙ ap (λ u. u.shown ++ history_from ks t.after picks) (sym kept)
 
 pub moves_again : (ks : List Function) (p : RunState) (picks : List ℕ) → moves_from ks p (moves_from ks p picks) ≡ moves_from ks p picks
 moves_again ks p [] = refl
@@ -94,10 +94,10 @@ module _ (ks : List Function) (p : RunState) (xs : List ℕ) (pick : ℕ) (ys : 
   kept : pick_step ks (run_state_after ks p xs) pick ≡ stays (run_state_after ks p xs)
   kept = pick_kept ks (run_state_after ks p xs) pick h
 
-  pub idle-shown : shown_from ks p (xs ++ pick ∷ ys) ≡ shown_from ks p (xs ++ ys)
+  pub idle-shown : history_from ks p (xs ++ pick ∷ ys) ≡ history_from ks p (xs ++ ys)
   idle-shown =
       shown-append ks p xs (pick ∷ ys)
-      ∙ ap (λ t. shown_from ks p xs ++ (t.shown ++ shown_from ks t.after ys)) kept
+      ∙ ap (λ t. history_from ks p xs ++ (t.shown ++ history_from ks t.after ys)) kept
       ∙ sym (shown-append ks p xs ys)
 
   pub idle-moves : moves_from ks p (xs ++ pick ∷ ys) ≡ moves_from ks p (xs ++ ys)

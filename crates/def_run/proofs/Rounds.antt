@@ -5,7 +5,7 @@ use Rattle.def_script.specs.Program.{Function, Program, Command}
 use Rattle.def_node.specs.Node.{World, Move, moved, idle, next_of, opening_world}
 use Rattle.def_run.specs.Run.{RunState, goes_to, pick_step, moves_from, run_state_after, start, moves}
 use Rattle.def_run.specs.Round.{is_empty, pass, passes, round}
-use Rattle.def_run.specs.Laws.{repeated, RoundMoves, RoundIsShort, RoundIsInOrder, RoundRests}
+use Rattle.def_run.specs.Laws.{repeat_picks, RoundMoves, RoundIsShort, RoundIsInOrder, RoundRests}
 use Rattle.def_run.proofs.Appends.{moves-append, place-append}
 use Rattle.def_run.proofs.Replay.{moves_again, place_again, room_spent}
 
@@ -47,38 +47,38 @@ module _ (once : List ℕ) where
   stays_there : (ks : List Function) (q : RunState) → moves_from ks q once ≡ [] → run_state_after ks q once ≡ q
   stays_there ks q h = sym (place_again ks q once) ∙ ap (run_state_after ks q) h
 
-  rests : (ks : List Function) (q : RunState) (n : ℕ) → moves_from ks q once ≡ [] → moves_from ks q (repeated once n) ≡ []
+  rests : (ks : List Function) (q : RunState) (n : ℕ) → moves_from ks q once ≡ [] → moves_from ks q (repeat_picks once n) ≡ []
   rests ks q zero h = refl
   rests ks q (suc n) h =
-      moves-append ks q once (repeated once n)
-      ∙ ap (λ xs. xs ++ moves_from ks (run_state_after ks q once) (repeated once n)) h
-      ∙ ap (λ x. moves_from ks x (repeated once n)) (stays_there ks q h)
+      moves-append ks q once (repeat_picks once n)
+      ∙ ap (λ xs. xs ++ moves_from ks (run_state_after ks q once) (repeat_picks once n)) h
+      ∙ ap (λ x. moves_from ks x (repeat_picks once n)) (stays_there ks q h)
       ∙ rests ks q n h
 
-  pub passes_move : (ks : List Function) (n : ℕ) (q : RunState) → passes_by ks n q ≡ moves_from ks q (repeated once n)
+  pub passes_move : (ks : List Function) (n : ℕ) (q : RunState) → passes_by ks n q ≡ moves_from ks q (repeat_picks once n)
   passes_move ks zero q = refl
-  passes_move ks (suc n) q = go (moves_from ks q once) refl (passes_move ks n (run_state_after ks q once)) ∙ sym (moves-append ks q once (repeated once n))
+  passes_move ks (suc n) q = go (moves_from ks q once) refl (passes_move ks n (run_state_after ks q once)) ∙ sym (moves-append ks q once (repeat_picks once n))
     where
-      go : (made : List ℕ) → moves_from ks q once ≡ made → passes_by ks n (run_state_after ks q once) ≡ moves_from ks (run_state_after ks q once) (repeated once n)
-          → made ++ (if is_empty made then [] else passes_by ks n (run_state_after ks q once)) ≡ made ++ moves_from ks (run_state_after ks q once) (repeated once n)
-      go [] e ih = sym (ap (λ x. moves_from ks x (repeated once n)) (stays_there ks q e) ∙ rests ks q n e)
+      go : (made : List ℕ) → moves_from ks q once ≡ made → passes_by ks n (run_state_after ks q once) ≡ moves_from ks (run_state_after ks q once) (repeat_picks once n)
+          → made ++ (if is_empty made then [] else passes_by ks n (run_state_after ks q once)) ≡ made ++ moves_from ks (run_state_after ks q once) (repeat_picks once n)
+      go [] e ih = sym (ap (λ x. moves_from ks x (repeat_picks once n)) (stays_there ks q e) ∙ rests ks q n e)
       go (x ∷ made) e ih = ap ((x ∷ made) ++◌) ih
 
   -- so many passes each moved something, or the last of them moved nothing
-  pub ends_at_rest : (ks : List Function) (n : ℕ) (q : RunState) → length (moves_from ks q (repeated once n)) < n → moves_from ks (run_state_after ks q (repeated once n)) once ≡ []
+  pub ends_at_rest : (ks : List Function) (n : ℕ) (q : RunState) → length (moves_from ks q (repeat_picks once n)) < n → moves_from ks (run_state_after ks q (repeat_picks once n)) once ≡ []
   ends_at_rest ks zero q h = absurd (omega arith)
   ends_at_rest ks (suc n) q h = go (moves_from ks q once) refl (λ g. ends_at_rest ks n (run_state_after ks q once) g)
     where
       go : (made : List ℕ) → moves_from ks q once ≡ made
-          → (length (moves_from ks (run_state_after ks q once) (repeated once n)) < n → moves_from ks (run_state_after ks (run_state_after ks q once) (repeated once n)) once ≡ [])
-          → moves_from ks (run_state_after ks q (once ++ repeated once n)) once ≡ []
+          → (length (moves_from ks (run_state_after ks q once) (repeat_picks once n)) < n → moves_from ks (run_state_after ks (run_state_after ks q once) (repeat_picks once n)) once ≡ [])
+          → moves_from ks (run_state_after ks q (once ++ repeat_picks once n)) once ≡ []
       go [] e ih =
-          ap (λ x. moves_from ks x once) (sym (place_again ks q (once ++ repeated once n)) ∙ ap (run_state_after ks q) (rests ks q (suc n) e))
+          ap (λ x. moves_from ks x once) (sym (place_again ks q (once ++ repeat_picks once n)) ∙ ap (run_state_after ks q) (rests ks q (suc n) e))
           ∙ e
       go (x ∷ made) e ih =
-          let split : moves_from ks q (once ++ repeated once n) ≡ (x ∷ made) ++ moves_from ks (run_state_after ks q once) (repeated once n) = moves-append ks q once (repeated once n) ∙ ap (λ xs. xs ++ moves_from ks (run_state_after ks q once) (repeated once n)) e in
-          let counted : length (moves_from ks q (once ++ repeated once n)) ≡ length (x ∷ made) + length (moves_from ks (run_state_after ks q once) (repeated once n)) = ap length split ∙ length-append (x ∷ made) _ in
-          ap (λ y. moves_from ks y once) (place-append ks q once (repeated once n))
+          let split : moves_from ks q (once ++ repeat_picks once n) ≡ (x ∷ made) ++ moves_from ks (run_state_after ks q once) (repeat_picks once n) = moves-append ks q once (repeat_picks once n) ∙ ap (λ xs. xs ++ moves_from ks (run_state_after ks q once) (repeat_picks once n)) e in
+          let counted : length (moves_from ks q (once ++ repeat_picks once n)) ≡ length (x ∷ made) + length (moves_from ks (run_state_after ks q once) (repeat_picks once n)) = ap length split ∙ length-append (x ∷ made) _ in
+          ap (λ y. moves_from ks y once) (place-append ks q once (repeat_picks once n))
           ∙ ih (omega arith)
 
 -- ---- the passes of a round
@@ -139,7 +139,7 @@ module _ (p : Program) (limit : ℕ) where
   room = min limit 65536
 
   abbrev many : List ℕ
-  many = repeated pass (room + 1)
+  many = repeat_picks pass (room + 1)
 
   abbrev opening_at : ℕ → RunState
   opening_at k = at (opening_world p.entries) p.commands k

@@ -60,7 +60,7 @@ idle_picks_leave_no_trace : program_output (program
 unfolding is_written_bare digits
 idle_picks_leave_no_trace = refl
 
--- an exit tells the linked partner, which exits with the same reason
+-- an exit reports the linked partner, which exits with the same reason
 exit_signal : program_output (program
     (function "go" [] (link (pid 101) ∷ raise exit (word "boom") ∷ []) ∷ function "peer" [] (receive None ∷ []) ∷ [])
     (entry "go" [] ∷ entry "peer" [] ∷ [])

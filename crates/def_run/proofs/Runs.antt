@@ -2,25 +2,25 @@
 use Rattle.std.proofs.Common.{◌≤◌, ℕ, List, [], ◌∷◌, ◌++◌, length, Option, Some, None, ap, ◌∙◌, append-nil, arith}
 use Rattle.std.specs.Prelude.{codes, filter, option_to_list}
 use Rattle.def_script.specs.Program.{Program}
-use Rattle.def_run.specs.Run.{Shown, start, run_state_after, moves_from}
-use Rattle.def_script.specs.Opening.{opening}
+use Rattle.def_run.specs.Run.{HistoryItem, start, run_state_after, moves_from}
+use Rattle.def_script.specs.Exports.{exports_of}
 use Rattle.def_run.specs.Listing.{messages_of, messages_from, session_after, replies_from, listing_text, listings_text, lines_of}
 use Rattle.def_run.specs.Picks.{picks_text}
 use Rattle.def_script.specs.Script.{creations}
 use Rattle.def_term.specs.Tree.{Tree}
 use Rattle.def_session.specs.State.{absent_session}
-use Rattle.def_session.specs.Session.{event_told}
+use Rattle.def_session.specs.Session.{event_reported}
 use Rattle.def_run.specs.View.{is_own}
 use Rattle.def_run.specs.Laws.{IdleLeavesThePlace, EventAddsOneAtMost, CommandAddsNone, IdleShowsNothing, IdleIsNotJournaled, IdleChangesNoOutput, JournalGivesTheOutput, RunsGrow, ListingGoesByTheView, SessionsAreIsolated}
 use Rattle.def_run.proofs.Appends.{moves-append, place-append, messages-append}
 use Rattle.def_run.proofs.Replay.{pick_kept, idle-shown, idle-moves, events_again, journal_again}
-use Rattle.def_run.proofs.Striking.{struck_view}
+use Rattle.def_run.proofs.StruckCommands.{struck_view}
 
 -- the output of what was shown and what moved
-abbrev output_of : Program → List Shown → List ℕ → List ℕ
+abbrev output_of : Program → List HistoryItem → List ℕ → List ℕ
 output_of p items journal =
-    listings_text (λ s. messages_from (opening p) (absent_session (opening p)) (filter (is_own s) items)) (creations p.commands)
-    ++ codes "== replies\n" ++ lines_of (replies_from (opening p) [] items)
+    listings_text (λ s. messages_from (exports_of p) (absent_session (exports_of p)) (filter (is_own s) items)) (creations p.commands)
+    ++ codes "== replies\n" ++ lines_of (replies_from (exports_of p) [] items)
     ++ codes "== journal\n" ++ picks_text journal ++ 10 ∷ []
 
 pub idle_place : IdleLeavesThePlace
@@ -34,7 +34,7 @@ one_at_most (Some t) = omega arith
 
 pub event_adds : EventAddsOneAtMost
 event_adds o s items e =
-    let m : Option Tree = (event_told (session_after o s items) e).1 in
+    let m : Option Tree = (event_reported (session_after o s items) e).1 in
     (option_to_list m, one_at_most m, messages-append o s items _ ∙ ap (messages_from o s items ++◌) (append-nil (option_to_list m)))
 
 pub command_adds : CommandAddsNone

@@ -49,7 +49,7 @@ enable_on_another_pid : program_output (script_a (pid 101) (creates "s1" "t1" �
 unfolding is_written_bare digits
 enable_on_another_pid = refl
 
--- a marked frame of a destroyed session tells nothing
+-- a marked frame of a destroyed session reports nothing
 nothing_after_destroy : program_output (script_k (call_named "f" (number 1 ∷ []) ∷ [])
     (mfa_of "f" 1) (brackets (braces (word "_" ∷ brackets [] ∷ brackets (braces (word "return_trace" ∷ []) ∷ []) ∷ []) ∷ [])) []
     (destroys "s1" ∷ destroys "s1" ∷ []))

@@ -62,7 +62,7 @@ trace_not_in_receive : program_output (script_k (call_named "f" (number 1 ∷ []
 unfolding is_written_bare digits
 trace_not_in_receive = refl
 
--- evaluation goes by the flags before: the call is told, and the next isn't looked at
+-- evaluation goes by the flags before: the call is reported, and the next isn't looked at
 trace_of_call : program_output (script_k (call_named "f" (number 1 ∷ []) ∷ call_named "f" (number 2 ∷ []) ∷ [])
     (mfa_of "f" 1) (brackets (braces (word "_" ∷ brackets [] ∷ brackets (braces (word "trace" ∷ brackets (word "call" ∷ []) ∷ brackets [] ∷ []) ∷ []) ∷ []) ∷ [])) []
     [])

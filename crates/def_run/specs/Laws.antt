@@ -1,15 +1,15 @@
 -- What is promised of runs, views and listings (own).
--- Stands on all definitions of a run.
+-- Depends on all definitions of a run.
 use Rattle.std.specs.Prelude.{◌≡◌, ℕ, zero, suc, ◌+◌, ◌-◌, min, ◌<◌, ◌≤◌, ◌==◌, Bool, true, false, List, [], ◌∷◌, ◌++◌, length, map, take, filter, slice_get, Some}
 use Rattle.std.specs.Str.{bytes_eq}
 use Rattle.def_term.specs.Tree.{Tree}
 use Rattle.def_term.specs.Names.{Name}
 use Rattle.def_script.specs.Program.{Command, Program}
 use Rattle.def_session.specs.State.{destroyed, Session}
-use Rattle.def_script.specs.Opening.{Opening}
+use Rattle.def_script.specs.Exports.{Exports}
 use Rattle.def_node.specs.Event.{Event}
-use Rattle.def_node.specs.Node.{Move, moved, idle, next_of, State, Next, gives_events, gives_command, gives_nothing, next}
-use Rattle.def_run.specs.Run.{JOURNAL, Shown, RunState, PickStep, happened, commanded, start, pick_step, run_state_after, events, moves}
+use Rattle.def_node.specs.Node.{Move, moved, idle, next_of, NodeState, PickResult, gives_events, gives_command, gives_nothing, next}
+use Rattle.def_run.specs.Run.{JOURNAL, HistoryItem, RunState, PickStep, event_item, command_item, start, pick_step, run_state_after, events, moves}
 use Rattle.def_run.specs.Round.{pass, round}
 use Rattle.def_run.specs.View.{view, strike_program, strike_picks}
 use Rattle.def_run.specs.Picks.{SpellsPicks}
@@ -66,12 +66,12 @@ RunsGrow = (p : Program) (picks more : List ℕ) → (rest : List ℕ) × (moves
 -- an event adds at most one message to those of a session
 abbrev pub EventAddsOneAtMost : Type 0
 EventAddsOneAtMost =
-    (o : Opening) (s : Session) (items : List Shown) (e : Event) →
-    (ms : List Tree) × (length ms ≤ 1) × (messages_from o s (items ++ happened e ∷ []) ≡ messages_from o s items ++ ms)
+    (o : Exports) (s : Session) (items : List HistoryItem) (e : Event) →
+    (ms : List Tree) × (length ms ≤ 1) × (messages_from o s (items ++ event_item e ∷ []) ≡ messages_from o s items ++ ms)
 
 -- and a command none
 abbrev pub CommandAddsNone : Type 0
-CommandAddsNone = (o : Opening) (s : Session) (items : List Shown) (c : Command) → messages_from o s (items ++ commanded c ∷ []) ≡ messages_from o s items
+CommandAddsNone = (o : Exports) (s : Session) (items : List HistoryItem) (c : Command) → messages_from o s (items ++ command_item c ∷ []) ≡ messages_from o s items
 
 -- ---- isolation
 
@@ -113,14 +113,14 @@ DestroyedStays = (s : Name) (p : Program) (picks more : List ℕ) → IsDestroye
 abbrev pub IsCreation : Program → ℕ → Name → Name → Type 0
 IsCreation p n s tracer = slice_get (creations p.commands) n ≡ Some (s, tracer)
 
--- told to the session of this number
+-- reported to the session of this number
 abbrev pub is_for : ℕ → Item → Bool
 is_for n x = x.session == n
 
 -- these messages of the session of a number, numbered from i
-abbrev pub numbered : ℕ → ℕ → List Tree → List Item
-numbered n i [] = []
-numbered n i (m ∷ ms) = record { session = n; index = i; message = m } ∷ numbered n (suc i) ms
+abbrev pub number_items : ℕ → ℕ → List Tree → List Item
+number_items n i [] = []
+number_items n i (m ∷ ms) = record { session = n; index = i; message = m } ∷ number_items n (suc i) ms
 
 -- the answers of the first k moves
 abbrev pub answers : Program → List ℕ → ℕ → List Item
@@ -137,25 +137,25 @@ MoveAddsItsAnswer =
 abbrev pub AnswerIsNumbered : Type 0
 AnswerIsNumbered =
     (p : Program) (picks : List ℕ) (n : ℕ) (s tracer : Name) (k : ℕ) → IsCreation p n s tracer →
-    filter (is_for (suc n)) (answer p picks k) ≡ numbered (suc n) (length (messages s p (take k (moves p picks)))) (for_session (suc n) (answer p picks k))
+    filter (is_for (suc n)) (answer p picks k) ≡ number_items (suc n) (length (messages s p (take k (moves p picks)))) (for_session (suc n) (answer p picks k))
 
 -- taken together, the answers of all moves are the listings, each message at its index
 abbrev pub AnswersAreListings : Type 0
 AnswersAreListings =
     (p : Program) (picks : List ℕ) (n : ℕ) (s tracer : Name) → IsCreation p n s tracer →
-    filter (is_for (suc n)) (answers p picks (length (moves p picks))) ≡ numbered (suc n) 0 (messages s p picks)
+    filter (is_for (suc n)) (answers p picks (length (moves p picks))) ≡ number_items (suc n) 0 (messages s p picks)
 
 -- ---- what a pick does
 
 -- the pick moves where the process does, and shows the events of its step
 abbrev pub IsStep : Move → PickStep → Type 0
-IsStep (moved w es) t = (t.moved ≡ true) × (t.shown ≡ map happened es) × (t.after.world ≡ w)
+IsStep (moved w es) t = (t.moved ≡ true) × (t.shown ≡ map event_item es) × (t.after.world ≡ w)
 IsStep (idle w) t = t.moved ≡ false
 
 -- the pick takes the next command, where one is left
-abbrev pub Takes : List Command → PickStep → Type 0
-Takes [] t = t.moved ≡ false
-Takes (c ∷ cs) t = (t.moved ≡ true) × (t.shown ≡ commanded c ∷ []) × (t.after.commands ≡ cs)
+abbrev pub TakesCommandOf : List Command → PickStep → Type 0
+TakesCommandOf [] t = t.moved ≡ false
+TakesCommandOf (c ∷ cs) t = (t.moved ≡ true) × (t.shown ≡ command_item c ∷ []) × (t.after.commands ≡ cs)
 
 -- while fewer than 65,536 picks have moved, a pick of a process moves exactly where the process does, and shows the events of its step
 abbrev pub PickIsItsStep : Type 0
@@ -167,20 +167,20 @@ PickIsItsStep =
 abbrev pub PickTakesACommand : Type 0
 PickTakesACommand =
     (p : Program) (picks : List ℕ) → length (moves p picks) < JOURNAL →
-    Takes (run_state_after p.functions (start p) picks).commands (pick_step p.functions (run_state_after p.functions (start p) picks) 0)
+    TakesCommandOf (run_state_after p.functions (start p) picks).commands (pick_step p.functions (run_state_after p.functions (start p) picks) 0)
 
 -- with 65,536 moves every pick is passed over
 abbrev pub FullJournalStays : Type 0
 FullJournalStays = (p : Program) (picks : List ℕ) (pick : ℕ) → length (moves p picks) ≡ JOURNAL → IsIdleAfter p picks pick
 
--- the node's state where a run stands
-abbrev pub state_at : Program → RunState → State
+-- the node's state at a state of a run
+abbrev pub state_at : Program → RunState → NodeState
 state_at p q = record { world = q.world; taken = length p.commands - length q.commands }
 
 -- what the node gives for a pick is what its step shows, and both lead to the same state
-abbrev pub IsNext : Program → Next → PickStep → Type 0
-IsNext p (gives_events s es) t = (t.moved ≡ true) × (s ≡ state_at p t.after) × (t.shown ≡ map happened es)
-IsNext p (gives_command s n) t = (t.moved ≡ true) × (s ≡ state_at p t.after) × ((k : ℕ) × (c : Command) × (n ≡ suc k) × (slice_get p.commands k ≡ Some c) × (t.shown ≡ commanded c ∷ []))
+abbrev pub IsNext : Program → PickResult → PickStep → Type 0
+IsNext p (gives_events s es) t = (t.moved ≡ true) × (s ≡ state_at p t.after) × (t.shown ≡ map event_item es)
+IsNext p (gives_command s n) t = (t.moved ≡ true) × (s ≡ state_at p t.after) × ((k : ℕ) × (c : Command) × (n ≡ suc k) × (slice_get p.commands k ≡ Some c) × (t.shown ≡ command_item c ∷ []))
 IsNext p (gives_nothing s) t = (t.moved ≡ false) × (s ≡ state_at p t.after)
 
 -- while fewer than 65,536 picks have moved, a pick of the run is what the node gives for it
@@ -192,9 +192,9 @@ PickIsNext =
 -- ---- rounds
 
 -- some picks again and again, n times
-abbrev pub repeated : List ℕ → ℕ → List ℕ
-repeated picks zero = []
-repeated picks (suc n) = picks ++ repeated picks n
+abbrev pub repeat_picks : List ℕ → ℕ → List ℕ
+repeat_picks picks zero = []
+repeat_picks picks (suc n) = picks ++ repeat_picks picks n
 
 -- every pick of a round moves
 abbrev pub RoundMoves : Type 0
@@ -206,7 +206,7 @@ RoundIsShort = (p : Program) (limit : ℕ) → length (round p limit) ≤ min li
 
 -- they are the first that move of the picks 0, 100, 101, .., 163 again and again
 abbrev pub RoundIsInOrder : Type 0
-RoundIsInOrder = (p : Program) (limit : ℕ) → round p limit ≡ take (min limit JOURNAL) (moves p (repeated pass (min limit JOURNAL + 1)))
+RoundIsInOrder = (p : Program) (limit : ℕ) → round p limit ≡ take (min limit JOURNAL) (moves p (repeat_picks pass (min limit JOURNAL + 1)))
 
 -- and where it has fewer, one more pass moves nothing
 abbrev pub RoundRests : Type 0

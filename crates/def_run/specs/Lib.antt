@@ -2,6 +2,8 @@ pub mod Run
 pub mod View
 pub mod Picks
 pub mod Listing
+pub mod History
 pub mod Round
 pub mod Output
 pub mod Laws
+pub mod HistoryLaws

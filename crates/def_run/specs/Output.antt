@@ -1,5 +1,5 @@
 -- The output of a run: what is written for the bytes of a script and a text of picks (own).
--- Stands on scripts and their refusals, on the texts of picks and on the output of an accepted script.
+-- Depends on scripts and their refusals, on the texts of picks and on the output of an accepted script.
 use Rattle.std.specs.Prelude.{◌≡◌, ℕ, List, [], ◌∷◌, ◌++◌}
 use Rattle.def_script.specs.Program.{Program}
 use Rattle.def_script.specs.Script.{Refusal, bad_picks, IsScript, IsRefused, refusal_line}

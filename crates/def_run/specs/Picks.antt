@@ -1,5 +1,5 @@
 -- The texts of lists of picks (own).
--- Stands on the length of a text.
+-- Depends on the length of a text.
 use Rattle.std.specs.Prelude.{◌≡◌, ℕ, ◌^◌, ◌<◌, ◌≤◌, List, length, map, All, decimal}
 use Rattle.std.specs.List.{join_with_byte}
 use Rattle.def_text.specs.Spelling.{LENGTH}

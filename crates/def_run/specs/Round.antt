@@ -1,5 +1,5 @@
 -- The picks of a round (own).
--- Stands on runs.
+-- Depends on runs.
 use Rattle.std.specs.Prelude.{ℕ, zero, suc, ◌+◌, min, Bool, true, false, if◌then◌else◌, List, [], ◌∷◌, ◌++◌}
 use Rattle.def_term.specs.Alive.{FIRST_PID, PROCESSES}
 use Rattle.def_script.specs.Program.{Function, Program}

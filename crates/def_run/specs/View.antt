@@ -1,25 +1,25 @@
 -- What one session sees of a run, and a program and its picks without one session (own).
--- Stands on runs.
+-- Depends on runs.
 use Rattle.std.specs.Prelude.{ℕ, zero, suc, Bool, true, not, if◌then◌else◌, List, [], ◌∷◌, filter}
 use Rattle.std.specs.Str.{bytes_eq}
 use Rattle.def_term.specs.Names.{Name}
 use Rattle.def_script.specs.Program.{Command, session_of, Program}
-use Rattle.def_script.specs.Opening.{Opening, opening}
-use Rattle.def_run.specs.Run.{Shown, happened, commanded, events}
+use Rattle.def_script.specs.Exports.{Exports, exports_of}
+use Rattle.def_run.specs.Run.{HistoryItem, event_item, command_item, events}
 
 -- an event, or a command to this session
-abbrev pub is_own : Name → Shown → Bool
-is_own s (happened e) = true
-is_own s (commanded c) = bytes_eq s (session_of c)
+abbrev pub is_own : Name → HistoryItem → Bool
+is_own s (event_item e) = true
+is_own s (command_item c) = bytes_eq s (session_of c)
 
--- what a session sees: the opening, and events with its own commands in their places
+-- what a session sees: the exports of the program, and the events with its own commands in their places
 pub record View : Type 0 where
-  pub opening : Opening
-  pub items : List Shown
+  pub opening : Exports
+  pub items : List HistoryItem
 
--- the opening, and the events without the commands of other sessions
+-- the exports, and the events and commands without the commands of other sessions
 abbrev pub view : Name → Program → List ℕ → View
-view s p picks = record { opening = opening p; items = filter (is_own s) (events p picks) }
+view s p picks = record { opening = exports_of p; items = filter (is_own s) (events p picks) }
 
 -- the commands of other sessions than r
 abbrev pub strike_commands : Name → List Command → List Command

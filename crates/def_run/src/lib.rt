@@ -1,12 +1,12 @@
-//! What a run of a program shows, what each session sees of it, and the texts of its output.
+//! What a run of a program shows, what each session sees of it, its history, and the texts of its output.
 //!
-//! Stands on def_term, def_script, def_node, def_spec and def_session. Promises, as laws: an idle pick
+//! Depends on def_term, def_text, def_script, def_node and def_session. Promises, as laws: an idle pick
 //! changes nothing and leaves no trace, and any other is its process's step or the next command; a round
 //! goes on until a pass moves nothing or the limit is reached; a journal replays to itself and has at
 //! most 65,536 moves; an event gives a session at most one message; a session's listing is a function of
 //! its view, and the view isn't changed by another session's commands; nothing follows a destruction;
-//! each move adds exactly its answer, so that the answers together are the listings; and of any bytes and
-//! any text of picks there is exactly one output.
+//! each move adds exactly its answer, so that the answers together are the listings; listings, replies and
+//! answers are projections of one history; and of any bytes and any text of picks there is exactly one output.
 #![tactic(auto)]
 
 ghost use Rattle.def_run.specs.Laws.{IdleLeavesThePlace, IdleShowsNothing, IdleIsNotJournaled, IdleChangesNoOutput};
@@ -16,6 +16,9 @@ ghost use Rattle.def_run.specs.Laws.{StrikingLeavesTheView, SessionsAreIsolated,
 ghost use Rattle.def_run.specs.Laws.{MoveAddsItsAnswer, AnswerIsNumbered, AnswersAreListings, PickIsItsStep};
 ghost use Rattle.def_run.specs.Laws.{PickTakesACommand, FullJournalStays, PickIsNext, RoundMoves, RoundIsShort};
 ghost use Rattle.def_run.specs.Laws.{RoundIsInOrder, RoundRests, PicksAreOne, OutputIsOne, RoundOutputIsOne};
+ghost use Rattle.def_run.specs.HistoryLaws.{HistoryShowsTheEvents, HistoryHasTheMoves, HistoryIsNumbered};
+ghost use Rattle.def_run.specs.HistoryLaws.{HistoryGoesByTheViews, HistoryHasTheListing, HistoryHasTheReplies};
+ghost use Rattle.def_run.specs.HistoryLaws.{HistoryHasTheAnswer, HistoryHasTheAnswers};
 
 /// A pick that moves nothing changes nothing. Put anywhere among the picks it leaves no trace in what is
 /// shown, in the journal or in the output.
@@ -62,6 +65,20 @@ pub fn answers_are_listings()
     ensures adds { MoveAddsItsAnswer }
     ensures numbered { AnswerIsNumbered }
     ensures all { AnswersAreListings }
+{}
+
+/// The history of a run has its moves, numbered from 1, and its events and commands in their order; at each
+/// of them the state of each session is that of the session's own view. The listing of each session, the
+/// replies, and what each move adds are projections of it.
+pub fn listings_are_in_the_history()
+    ensures events { HistoryShowsTheEvents }
+    ensures moves { HistoryHasTheMoves }
+    ensures numbers { HistoryIsNumbered }
+    ensures states { HistoryGoesByTheViews }
+    ensures listing { HistoryHasTheListing }
+    ensures replies { HistoryHasTheReplies }
+    ensures answer { HistoryHasTheAnswer }
+    ensures answers { HistoryHasTheAnswers }
 {}
 
 /// While fewer than 65,536 picks have moved, a pick of a process moves exactly where the process does, and

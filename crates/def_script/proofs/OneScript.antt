@@ -3,7 +3,7 @@ use Rattle.std.proofs.Common.{◌≡◌, ℕ, suc, ◌+◌, ◌<◌, ◌≤◌, 
 use Rattle.std.proofs.lemmas.Bool.Decides.{nat_tests}
 use Rattle.def_term.specs.Tree.{Tree}
 use Rattle.def_text.specs.Faults as faults
-use Rattle.def_text.specs.Faults.{Kind}
+use Rattle.def_text.specs.Faults.{FaultKind}
 use Rattle.def_text.specs.Spelling.{LENGTH}
 use Rattle.def_text.specs.Scripts.{SpellsTerms, ScriptRefused}
 use Rattle.def_text.proofs.Either.{script_one, script_refused, script_once, script_either}
@@ -149,12 +149,12 @@ spelled_refusal bytes ts bad_picks s h = absurd h
 
 -- ---- the ways out
 
-abbrev of_kind : Kind → ℕ → Refusal
+abbrev of_kind : FaultKind → ℕ → Refusal
 of_kind faults.misplaced at = token at
 of_kind faults.too_deep at = too_deep at
 of_kind faults.too_large at = too_large at
 
-denied_refusal : (bytes : List ℕ) (kind : Kind) (at : ℕ) (r : Refusal) → ScriptRefused bytes kind at → IsRefused bytes r → r ≡ of_kind kind at
+denied_refusal : (bytes : List ℕ) (kind : FaultKind) (at : ℕ) (r : Refusal) → ScriptRefused bytes kind at → IsRefused bytes r → r ≡ of_kind kind at
 denied_refusal bytes kind at too_long d h = absurd (omega (arith, d.short, h))
 denied_refusal bytes kind at (token n) d h = let e = script_once bytes faults.misplaced kind n at h d in ap₂ of_kind e.0 e.1
 denied_refusal bytes kind at (too_deep n) d h = let e = script_once bytes faults.too_deep kind n at h d in ap₂ of_kind e.0 e.1
@@ -181,9 +181,9 @@ by_length n m = elim (nat_lt m n) as (λ b. nat_lt m n ≡ b → (n ≤ m) ⊎ (
 data Way (bytes : List ℕ) : Type 0 where
   long : LENGTH < length bytes → Way bytes
   spelled : (ts : List Tree) → SpellsTerms bytes ts → Way bytes
-  denied : (kind : Kind) → (at : ℕ) → ScriptRefused bytes kind at → Way bytes
+  denied : (kind : FaultKind) → (at : ℕ) → ScriptRefused bytes kind at → Way bytes
 
-way_within : (bytes : List ℕ) → (((ts : List Tree) × SpellsTerms bytes ts) ⊎ ((kind : Kind) × (at : ℕ) × ScriptRefused bytes kind at)) → Way bytes
+way_within : (bytes : List ℕ) → (((ts : List Tree) × SpellsTerms bytes ts) ⊎ ((kind : FaultKind) × (at : ℕ) × ScriptRefused bytes kind at)) → Way bytes
 way_within bytes (inl s) = spelled s.0 s.1
 way_within bytes (inr d) = denied d.0 d.1 d.2
 

@@ -134,7 +134,7 @@ unbound_argument_of_catch = refl
 unbound_throw : first_broken (go (raise throw (word "X") ∷ []) ∷ []) ≡ Some (1, unbound)
 unbound_throw = refl
 
--- the target of a catch is bound behind it
+-- the target of a catch is bound after it
 bound_by_catch : first_broken (go (catch (Some (codes "X")) (codes "m") (codes "go") [] ∷ raise error (word "X") ∷ []) ∷ []) ≡ None
 bound_by_catch = refl
 

@@ -4,7 +4,7 @@ use Rattle.std.specs.Fmt.{digits}
 use Rattle.std.proofs.lemmas.List.{length-replicate}
 use Rattle.def_term.specs.Tree.{Tree, int, tuple, list, of_elements}
 use Rattle.def_term.specs.Names.{word}
-use Rattle.def_text.specs.Tokens.{Token, open_brace, close_brace, open_bracket, close_bracket, comma, stop, integer, atom, bad, gap_len, Spanned, Tokens}
+use Rattle.def_text.specs.Tokens.{Token, open_brace, close_brace, open_bracket, close_bracket, comma, stop, integer, atom, bad, gap_len, TokenSpan, Tokens}
 use Rattle.def_text.specs.Limits.{DEPTH}
 use Rattle.def_text.specs.Faults.{misplaced}
 use Rattle.def_text.specs.Spelling.{LENGTH, tokens_of}
@@ -18,7 +18,7 @@ use Rattle.def_script.specs.Rules.{undeclared, unbound, wrong_arity}
 use Rattle.def_script.specs.Script.{program_from, IsScript, too_long, token, form, broken, IsRefused, refusal_line}
 use Rattle.def_script.proofs.FirstBroken.{first_is, none_broken}
 
-abbrev spanned : Token → ℕ → ℕ → Spanned
+abbrev spanned : Token → ℕ → ℕ → TokenSpan
 spanned t from to = record { token = t; from = from; to = to }
 
 abbrev braces : List Tree → Tree
@@ -28,7 +28,7 @@ abbrev brackets : List Tree → Tree
 brackets ts = list (of_elements ts)
 
 -- a text spells the terms that are read from its tokens
-spelled : (bytes : List ℕ) (xs : List Spanned) (ts : List Tree) → length bytes ≤ LENGTH → Tokens bytes xs → read_script DEPTH true (tokens_of xs) ≡ Ok ts → SpellsTerms bytes ts
+spelled : (bytes : List ℕ) (xs : List TokenSpan) (ts : List Tree) → length bytes ≤ LENGTH → Tokens bytes xs → read_script DEPTH true (tokens_of xs) ≡ Ok ts → SpellsTerms bytes ts
 spelled bytes xs ts short are is =
     let both = found DEPTH (tokens_of xs) ts is in
     record { short = short; tokens = xs; are = are; derives = both.0; fits = both.1 }
@@ -37,7 +37,7 @@ spelled bytes xs ts short are is =
 abbrev pub refused_open_control_text : List ℕ
 refused_open_control_text = codes "{control,["
 
-abbrev refused_open_control_tokens : List Spanned
+abbrev refused_open_control_tokens : List TokenSpan
 refused_open_control_tokens = spanned open_brace 0 1 ∷ spanned (atom (codes "control")) 1 8 ∷ spanned comma 8 9 ∷ spanned open_bracket 9 10 ∷ []
 
 refused_open_control_are : Tokens refused_open_control_text refused_open_control_tokens
@@ -54,7 +54,7 @@ refused_open_control_line = refl
 abbrev pub refused_no_full_stop_text : List ℕ
 refused_no_full_stop_text = codes "{control,[]}"
 
-abbrev refused_no_full_stop_tokens : List Spanned
+abbrev refused_no_full_stop_tokens : List TokenSpan
 refused_no_full_stop_tokens = spanned open_brace 0 1 ∷ spanned (atom (codes "control")) 1 8 ∷ spanned comma 8 9 ∷ spanned open_bracket 9 10 ∷ spanned close_bracket 10 11 ∷ spanned close_brace 11 12 ∷ []
 
 refused_no_full_stop_are : Tokens refused_no_full_stop_text refused_no_full_stop_tokens
@@ -71,7 +71,7 @@ refused_no_full_stop_line = refl
 abbrev pub refused_no_comma_text : List ℕ
 refused_no_comma_text = codes "{a b}."
 
-abbrev refused_no_comma_tokens : List Spanned
+abbrev refused_no_comma_tokens : List TokenSpan
 refused_no_comma_tokens = spanned open_brace 0 1 ∷ spanned (atom (codes "a")) 1 2 ∷ spanned (atom (codes "b")) 3 4 ∷ spanned close_brace 4 5 ∷ spanned stop 5 6 ∷ []
 
 refused_no_comma_are : Tokens refused_no_comma_text refused_no_comma_tokens
@@ -88,7 +88,7 @@ refused_no_comma_line = refl
 abbrev pub refused_upper_case_text : List ℕ
 refused_upper_case_text = codes "X."
 
-abbrev refused_upper_case_tokens : List Spanned
+abbrev refused_upper_case_tokens : List TokenSpan
 refused_upper_case_tokens = spanned bad 0 2 ∷ []
 
 refused_upper_case_are : Tokens refused_upper_case_text refused_upper_case_tokens
@@ -105,7 +105,7 @@ refused_upper_case_line = refl
 abbrev pub refused_float_text : List ℕ
 refused_float_text = codes "1.5."
 
-abbrev refused_float_tokens : List Spanned
+abbrev refused_float_tokens : List TokenSpan
 refused_float_tokens = spanned (integer (pos 1)) 0 1 ∷ spanned bad 1 4 ∷ []
 
 refused_float_are : Tokens refused_float_text refused_float_tokens
@@ -122,7 +122,7 @@ refused_float_line = refl
 abbrev pub refused_begins_an_atom_text : List ℕ
 refused_begins_an_atom_text = codes "{func"
 
-abbrev refused_begins_an_atom_tokens : List Spanned
+abbrev refused_begins_an_atom_tokens : List TokenSpan
 refused_begins_an_atom_tokens = spanned open_brace 0 1 ∷ spanned (atom (codes "func")) 1 5 ∷ []
 
 refused_begins_an_atom_are : Tokens refused_begins_an_atom_text refused_begins_an_atom_tokens
@@ -139,7 +139,7 @@ refused_begins_an_atom_line = refl
 abbrev pub refused_reserved_word_text : List ℕ
 refused_reserved_word_text = codes "{fun"
 
-abbrev refused_reserved_word_tokens : List Spanned
+abbrev refused_reserved_word_tokens : List TokenSpan
 refused_reserved_word_tokens = spanned open_brace 0 1 ∷ spanned bad 1 4 ∷ []
 
 refused_reserved_word_are : Tokens refused_reserved_word_text refused_reserved_word_tokens
@@ -156,7 +156,7 @@ refused_reserved_word_line = refl
 abbrev pub refused_no_form_text : List ℕ
 refused_no_form_text = codes "7."
 
-abbrev refused_no_form_tokens : List Spanned
+abbrev refused_no_form_tokens : List TokenSpan
 refused_no_form_tokens = spanned (integer (pos 7)) 0 1 ∷ spanned stop 1 2 ∷ []
 
 refused_no_form_are : Tokens refused_no_form_text refused_no_form_tokens
@@ -179,7 +179,7 @@ refused_no_form_line = refl
 abbrev pub refused_undeclared_text : List ℕ
 refused_undeclared_text = codes "{process,m,go,[]}."
 
-abbrev refused_undeclared_tokens : List Spanned
+abbrev refused_undeclared_tokens : List TokenSpan
 refused_undeclared_tokens = spanned open_brace 0 1 ∷ spanned (atom (codes "process")) 1 8 ∷ spanned comma 8 9 ∷ spanned (atom (codes "m")) 9 10 ∷ spanned comma 10 11 ∷ spanned (atom (codes "go")) 11 13 ∷ spanned comma 13 14 ∷ spanned open_bracket 14 15 ∷ spanned close_bracket 15 16 ∷ spanned close_brace 16 17 ∷ spanned stop 17 18 ∷ []
 
 refused_undeclared_are : Tokens refused_undeclared_text refused_undeclared_tokens
@@ -205,7 +205,7 @@ refused_undeclared_line = refl
 abbrev pub refused_arity_text : List ℕ
 refused_arity_text = codes "{function,m,go,exported,[],[]}. {process,m,go,[1]}."
 
-abbrev refused_arity_tokens : List Spanned
+abbrev refused_arity_tokens : List TokenSpan
 refused_arity_tokens = spanned open_brace 0 1 ∷ spanned (atom (codes "function")) 1 9 ∷ spanned comma 9 10 ∷ spanned (atom (codes "m")) 10 11 ∷ spanned comma 11 12 ∷ spanned (atom (codes "go")) 12 14 ∷ spanned comma 14 15 ∷ spanned (atom (codes "exported")) 15 23 ∷ spanned comma 23 24 ∷ spanned open_bracket 24 25 ∷ spanned close_bracket 25 26 ∷ spanned comma 26 27 ∷ spanned open_bracket 27 28 ∷ spanned close_bracket 28 29 ∷ spanned close_brace 29 30 ∷ spanned stop 30 31 ∷ spanned open_brace 32 33 ∷ spanned (atom (codes "process")) 33 40 ∷ spanned comma 40 41 ∷ spanned (atom (codes "m")) 41 42 ∷ spanned comma 42 43 ∷ spanned (atom (codes "go")) 43 45 ∷ spanned comma 45 46 ∷ spanned open_bracket 46 47 ∷ spanned (integer (pos 1)) 47 48 ∷ spanned close_bracket 48 49 ∷ spanned close_brace 49 50 ∷ spanned stop 50 51 ∷ []
 
 refused_arity_are : Tokens refused_arity_text refused_arity_tokens
@@ -231,7 +231,7 @@ refused_arity_line = refl
 abbrev pub refused_unbound_text : List ℕ
 refused_unbound_text = codes "{function,m,go,exported,[],[{return,'X'}]}."
 
-abbrev refused_unbound_tokens : List Spanned
+abbrev refused_unbound_tokens : List TokenSpan
 refused_unbound_tokens = spanned open_brace 0 1 ∷ spanned (atom (codes "function")) 1 9 ∷ spanned comma 9 10 ∷ spanned (atom (codes "m")) 10 11 ∷ spanned comma 11 12 ∷ spanned (atom (codes "go")) 12 14 ∷ spanned comma 14 15 ∷ spanned (atom (codes "exported")) 15 23 ∷ spanned comma 23 24 ∷ spanned open_bracket 24 25 ∷ spanned close_bracket 25 26 ∷ spanned comma 26 27 ∷ spanned open_bracket 27 28 ∷ spanned open_brace 28 29 ∷ spanned (atom (codes "return")) 29 35 ∷ spanned comma 35 36 ∷ spanned (atom (codes "X")) 36 39 ∷ spanned close_brace 39 40 ∷ spanned close_bracket 40 41 ∷ spanned close_brace 41 42 ∷ spanned stop 42 43 ∷ []
 
 refused_unbound_are : Tokens refused_unbound_text refused_unbound_tokens
@@ -262,12 +262,12 @@ blanks_are_gaps : (n : ℕ) → gap_len false (blanks n) ≡ n
 blanks_are_gaps zero = refl
 blanks_are_gaps (suc n) = let e : gap_len false (blanks n) ≡ n = blanks_are_gaps n in omega (arith, e)
 
-none_behind : (n : ℕ) → drop n (blanks n) ≡ []
-none_behind zero = refl
-none_behind (suc n) = none_behind n
+none_after : (n : ℕ) → drop n (blanks n) ≡ []
+none_after zero = refl
+none_after (suc n) = none_after n
 
 blanks_have_no_token : (n : ℕ) → Tokens (blanks n) []
-blanks_have_no_token n = ap (λ m. drop m (blanks n)) (blanks_are_gaps n) ∙ none_behind n
+blanks_have_no_token n = ap (λ m. drop m (blanks n)) (blanks_are_gaps n) ∙ none_after n
 
 pub blanks_are_a_script : (n : ℕ) → n ≤ LENGTH → IsScript (blanks n) (program_from [])
 blanks_are_a_script n short =

@@ -1,5 +1,5 @@
 -- What is promised of scripts and their refusals (own).
--- Stands on scripts and on the rules.
+-- Depends on scripts and on the rules.
 use Rattle.std.specs.Prelude.{◌≡◌, ℕ, List, Some, None, ◌⊎◌}
 use Rattle.def_script.specs.Program.{Form, Program}
 use Rattle.def_script.specs.Rules.{Rule, Breaks, IsFirstBroken, first_broken}

@@ -1,6 +1,6 @@
 pub mod Limits
 pub mod Program
-pub mod Opening
+pub mod Exports
 pub mod Shapes
 pub mod Rules
 pub mod Script

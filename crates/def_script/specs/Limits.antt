@@ -1,5 +1,5 @@
 -- The limits on scripts, apart from those on terms (own).
--- Stands on nothing.
+-- Depends on nothing.
 use Rattle.std.specs.Prelude.{ℕ}
 
 -- forms of a script

@@ -1,5 +1,5 @@
 -- A program: the functions that it declares, the processes that it begins with, and its control list of session commands.
--- Stands on terms. The script language is this project's own; the classes of exceptions are those of the module erlang, and the commands trace:session_create/3, session_destroy/1, process/4, function/4, send/3 and recv/3.
+-- Depends on terms. The script language is this project's own; the classes of exceptions are those of the module erlang, and the commands trace:session_create/3, session_destroy/1, process/4, function/4, send/3 and recv/3.
 use Rattle.std.specs.Prelude.{ℕ, suc, nat_le, Bool, false, ◌&&◌, List, [], ◌∷◌, length, Option, Some, None, if◌then◌else◌}
 use Rattle.def_term.specs.Tree.{Tree}
 use Rattle.def_term.specs.Names.{Name, Mfa, same_mfa}

@@ -1,5 +1,5 @@
 -- The static rules 7 to 13 of scripts (own), and the first form that breaks one.
--- Stands on the program's data.
+-- Depends on the program's data.
 use Rattle.std.specs.Prelude.{◌≡◌, ℕ, suc, ◌+◌, ◌≤◌, nat_le, nat_lt, Bool, true, false, ◌&&◌, ◌||◌, not, List, [], ◌∷◌, ◌++◌, length, flat_map, Option, Some, None, if◌then◌else◌, option_to_list}
 use Rattle.std.specs.List.{list_any, count_by}
 use Rattle.std.specs.Str.{bytes_eq}
@@ -40,9 +40,9 @@ any_with_earlier p earlier [] = false
 any_with_earlier p earlier (x ∷ xs) = p earlier x || any_with_earlier p (earlier ++ x ∷ []) xs
 
 -- it is there, and passes
-abbrev pub passes : {X : Type 0} → (X → Bool) → Option X → Bool
-passes p None = false
-passes p (Some x) = p x
+abbrev pub on_some : {X : Type 0} → (X → Bool) → Option X → Bool
+on_some p None = false
+on_some p (Some x) = p x
 
 -- ---- what forms declare, start and order
 
@@ -62,8 +62,8 @@ commands_of_form (controls cs) = cs
 commands_of_form f = []
 
 -- the functions of all forms in their order
-abbrev pub functions_of : List Form → List Function
-functions_of fs = flat_map function_of_form fs
+abbrev pub form_functions : List Form → List Function
+form_functions fs = flat_map function_of_form fs
 
 -- the initial processes of all forms in their order
 abbrev pub entries_of : List Form → List Entry
@@ -197,13 +197,13 @@ commands_unmade earlier c = not (is_created earlier (session_of c))
 
 -- 8: names (in a call, spawn or process) M and F that no form of the script declares with any number of parameters; or has a command other than a creation on a session that no earlier command creates
 abbrev pub breaks_undeclared : List Form → List Form → Form → Bool
-breaks_undeclared fs earlier (declares k) = list_any (λ s. passes (λ f. not (is_declared_at_all fs f)) (named_by k.module_name s)) k.steps
+breaks_undeclared fs earlier (declares k) = list_any (λ s. on_some (λ f. not (is_declared_at_all fs f)) (named_by k.module_name s)) k.steps
 breaks_undeclared fs earlier (starts e) = not (is_declared_at_all fs (entry_mfa e))
 breaks_undeclared fs earlier (controls cs) = any_with_earlier commands_unmade (commands_of earlier) cs
 
 -- 9: spawns, starts or calls with the module an internal function: one that some form declares as internal, whatever other forms declare it as
 abbrev pub breaks_not_exported : List Form → Form → Bool
-breaks_not_exported fs (declares k) = list_any (λ s. passes (is_internal fs) (named_with_module s)) k.steps
+breaks_not_exported fs (declares k) = list_any (λ s. on_some (is_internal fs) (named_with_module s)) k.steps
 breaks_not_exported fs (starts e) = is_internal fs (entry_mfa e)
 breaks_not_exported fs (controls cs) = false
 
@@ -230,7 +230,7 @@ is_misnamed fs f = is_declared_at_all fs f && not (is_declared fs f)
 
 -- 12: names M and F that are declared, but not with that number of arguments
 abbrev pub breaks_arity : List Form → Form → Bool
-breaks_arity fs (declares k) = list_any (λ s. passes (is_misnamed fs) (named_by k.module_name s)) k.steps
+breaks_arity fs (declares k) = list_any (λ s. on_some (is_misnamed fs) (named_by k.module_name s)) k.steps
 breaks_arity fs (starts e) = is_misnamed fs (entry_mfa e)
 breaks_arity fs (controls cs) = false
 

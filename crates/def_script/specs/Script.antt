@@ -1,5 +1,5 @@
 -- What a text is as a script: the program that it makes, or its one refusal (own).
--- Stands on what a text spells, on the shapes of forms and on their rules.
+-- Depends on what a text spells, on the shapes of forms and on their rules.
 use Rattle.std.specs.Prelude.{◌≡◌, ℕ, suc, ◌<◌, ◌≤◌, List, [], ◌∷◌, ◌++◌, length, Option, Some, None, codes, decimal}
 use Rattle.def_term.specs.Tree.{Tree}
 use Rattle.def_term.specs.Names.{Name}
@@ -9,11 +9,11 @@ use Rattle.def_text.specs.Scripts.{SpellsTerms, ScriptRefused}
 use Rattle.def_script.specs.Limits.{FORMS}
 use Rattle.def_script.specs.Program.{Form, Program, Command, create}
 use Rattle.def_script.specs.Shapes.{form_in, forms_in}
-use Rattle.def_script.specs.Rules.{Rule, duplicate, undeclared, not_exported, unbound, tracer_taken, wrong_arity, past_limit, rule_number, functions_of, entries_of, commands_of, Breaks, IsFirstBroken}
+use Rattle.def_script.specs.Rules.{Rule, duplicate, undeclared, not_exported, unbound, tracer_taken, wrong_arity, past_limit, rule_number, form_functions, entries_of, commands_of, Breaks, IsFirstBroken}
 
 -- the functions, initial processes and commands of the forms, in their order
 abbrev pub program_from : List Form → Program
-program_from fs = record { functions = functions_of fs; entries = entries_of fs; commands = commands_of fs }
+program_from fs = record { functions = form_functions fs; entries = entries_of fs; commands = commands_of fs }
 
 -- the name and the tracer of the session that a command creates
 abbrev pub creation_of : Command → Option (Name × Name)

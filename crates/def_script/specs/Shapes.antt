@@ -1,5 +1,5 @@
 -- The shapes of forms, steps and commands (own): what a term stands for, if it has a shape.
--- Stands on terms and on the program's data.
+-- Depends on terms and on the program's data.
 use Rattle.std.specs.Prelude.{ℕ, nat_le, Bool, true, false, ◌&&◌, not, List, [], ◌∷◌, length, Option, Some, None, if◌then◌else◌, codes}
 use Prim.Native.String.{String}
 use Rattle.std.specs.Option.{option_map}

@@ -1,7 +1,7 @@
 //! What a script is: forms, their shapes and static rules, the program that they make, and how a text
 //! that is none is refused.
 //!
-//! Stands on def_term and def_text. Promises, as laws over the definitions, that a text is the script
+//! Depends on def_term and def_text. Promises, as laws over the definitions, that a text is the script
 //! of one program or is refused in one way, and never both, and that the computed first broken rule is
 //! the least of the lowest-numbered form that breaks one.
 #![tactic(auto)]

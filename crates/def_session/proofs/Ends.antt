@@ -10,30 +10,30 @@ use Rattle.def_script.specs.Program.{Class}
 use Rattle.def_node.specs.Event.{Event, called, returned, raised, spawned, exited, getting_linked}
 use Rattle.def_spec.specs.Flags.{no_flags, procs_flag, call_flag}
 use Rattle.def_spec.specs.Expressions.{Effect}
-use Rattle.def_session.specs.State.{Phase, absent, live, destroyed, Kind, Mark, Session, flags_at, with_flags, marks_at, with_marks, kind_among, mark_of}
+use Rattle.def_session.specs.State.{Phase, absent, live, destroyed, MarkKind, Mark, Session, flags_at, with_flags, marks_at, with_marks, kind_among, mark_of}
 use Rattle.def_session.specs.Messages.{process_of}
-use Rattle.def_session.specs.Session.{is_marked, is_marked_for_exceptions, inherited, evaluated, all_affected, mark_asked, marked, unmarked, finished, told_for, told_in, event_told}
+use Rattle.def_session.specs.Session.{is_marked, is_marked_for_exceptions, inherit, effects_of, all_affected, mark_asked, mark_frame, unmark_frame, finish, reported_for, reported_in, event_reported}
 use Rattle.def_session.specs.Laws.{ReturnEndsTheMark, ReturnEndsNoOtherMark, RaiseEndsTheMark, RaiseEndsNoOtherMark, ExitEndsTheFlags, ExitEndsTheMarks, MarksOfOthersStay, ExitEndsTheLife}
 
-without_effects : (s : Session) (e : Event) (a b : Bool) → (told_for s e (if a then (if b then Some [] else None) else None)).0 ≡ finished s e []
+without_effects : (s : Session) (e : Event) (a b : Bool) → (reported_for s e (if a then (if b then Some [] else None) else None)).0 ≡ finish s e []
 without_effects s e true true = refl
 without_effects s e true false = refl
 without_effects s e false b = refl
 
-after_exit : (s : Session) (p : ℕ) (r : Tree) → s.phase ≡ live → (event_told s (exited p r)).0 ≡ finished s (exited p r) []
-after_exit s p r h = ap (λ x. (told_in x s (exited p r)).0) h ∙ without_effects s (exited p r) true (flags_at s p procs_flag)
+after_exit : (s : Session) (p : ℕ) (r : Tree) → s.phase ≡ live → (event_reported s (exited p r)).0 ≡ finish s (exited p r) []
+after_exit s p r h = ap (λ x. (reported_in x s (exited p r)).0) h ∙ without_effects s (exited p r) true (flags_at s p procs_flag)
 
-after_return_live : (s : Session) (p : ℕ) (f : Mfa) (t : Tree) (depth : ℕ) → (told_in live s (returned p f t depth)).0 ≡ finished s (returned p f t depth) []
+after_return_live : (s : Session) (p : ℕ) (f : Mfa) (t : Tree) (depth : ℕ) → (reported_in live s (returned p f t depth)).0 ≡ finish s (returned p f t depth) []
 after_return_live s p f t depth = without_effects s (returned p f t depth) (is_marked s p depth) (flags_at s p call_flag)
 
-after_raise_live : (s : Session) (p : ℕ) (f : Mfa) (c : Class) (t : Tree) (depth : ℕ) → (told_in live s (raised p f c t depth)).0 ≡ finished s (raised p f c t depth) []
+after_raise_live : (s : Session) (p : ℕ) (f : Mfa) (c : Class) (t : Tree) (depth : ℕ) → (reported_in live s (raised p f c t depth)).0 ≡ finish s (raised p f c t depth) []
 after_raise_live s p f c t depth = without_effects s (raised p f c t depth) (is_marked_for_exceptions s p depth) (flags_at s p call_flag)
 
-after_raise : (s : Session) (p : ℕ) (f : Mfa) (c : Class) (t : Tree) (depth : ℕ) → s.phase ≡ live → (event_told s (raised p f c t depth)).0 ≡ finished s (raised p f c t depth) []
-after_raise s p f c t depth h = ap (λ x. (told_in x s (raised p f c t depth)).0) h ∙ after_raise_live s p f c t depth
+after_raise : (s : Session) (p : ℕ) (f : Mfa) (c : Class) (t : Tree) (depth : ℕ) → s.phase ≡ live → (event_reported s (raised p f c t depth)).0 ≡ finish s (raised p f c t depth) []
+after_raise s p f c t depth h = ap (λ x. (reported_in x s (raised p f c t depth)).0) h ∙ after_raise_live s p f c t depth
 
-after_return : (s : Session) (p : ℕ) (f : Mfa) (t : Tree) (depth : ℕ) → s.phase ≡ live → (event_told s (returned p f t depth)).0 ≡ finished s (returned p f t depth) []
-after_return s p f t depth h = ap (λ x. (told_in x s (returned p f t depth)).0) h ∙ after_return_live s p f t depth
+after_return : (s : Session) (p : ℕ) (f : Mfa) (t : Tree) (depth : ℕ) → s.phase ≡ live → (event_reported s (returned p f t depth)).0 ≡ finish s (returned p f t depth) []
+after_return s p f t depth h = ap (λ x. (reported_in x s (returned p f t depth)).0) h ∙ after_return_live s p f t depth
 
 -- ---- at one place
 
@@ -64,7 +64,7 @@ none_of_it (m ∷ ms) depth = go (m.depth == depth) refl (none_of_it ms depth)
     go true is rest = rest
     go false is rest = ap (λ b. if b then Some m.kind else kind_among (filter (others depth) ms) depth) is ∙ rest
 
-unmarked_ends : (s : Session) (p depth : ℕ) → mark_of (unmarked s p depth) p depth ≡ None
+unmarked_ends : (s : Session) (p depth : ℕ) → mark_of (unmark_frame s p depth) p depth ≡ None
 unmarked_ends s p depth = ap (λ ms. kind_among ms depth) (marks_left s p (others depth)) ∙ none_of_it (marks_at s p) depth
 
 pub return_ends_the_mark : ReturnEndsTheMark
@@ -98,10 +98,10 @@ all_others (m ∷ ms) depth other h = go (m.depth == depth) refl (all_others ms 
     go true is rest = rest ∙ sym (ap (λ b. if b then Some m.kind else kind_among ms other) (not_equal other depth m.depth h is))
     go false is rest = ap (λ k. if m.depth == other then Some m.kind else k) rest
 
-others_stay : (s : Session) (p depth other : ℕ) → other ≢ depth → mark_of (unmarked s p depth) p other ≡ mark_of s p other
+others_stay : (s : Session) (p depth other : ℕ) → other ≢ depth → mark_of (unmark_frame s p depth) p other ≡ mark_of s p other
 others_stay s p depth other h = ap (λ ms. kind_among ms other) (marks_left s p (others depth)) ∙ all_others (marks_at s p) depth other h
 
-returned_in : (x : Phase) (s : Session) (p : ℕ) (f : Mfa) (t : Tree) (depth other : ℕ) → other ≢ depth → mark_of (told_in x s (returned p f t depth)).0 p other ≡ mark_of s p other
+returned_in : (x : Phase) (s : Session) (p : ℕ) (f : Mfa) (t : Tree) (depth other : ℕ) → other ≢ depth → mark_of (reported_in x s (returned p f t depth)).0 p other ≡ mark_of s p other
 returned_in absent s p f t depth other h = refl
 returned_in destroyed s p f t depth other h = refl
 returned_in live s p f t depth other h = ap (λ x. mark_of x p other) (after_return_live s p f t depth) ∙ others_stay s p depth other h
@@ -109,7 +109,7 @@ returned_in live s p f t depth other h = ap (λ x. mark_of x p other) (after_ret
 pub return_ends_no_other_mark : ReturnEndsNoOtherMark
 return_ends_no_other_mark s p f t depth other h = returned_in s.phase s p f t depth other h
 
-raised_in : (x : Phase) (s : Session) (p : ℕ) (f : Mfa) (c : Class) (t : Tree) (depth other : ℕ) → other ≢ depth → mark_of (told_in x s (raised p f c t depth)).0 p other ≡ mark_of s p other
+raised_in : (x : Phase) (s : Session) (p : ℕ) (f : Mfa) (c : Class) (t : Tree) (depth other : ℕ) → other ≢ depth → mark_of (reported_in x s (raised p f c t depth)).0 p other ≡ mark_of s p other
 raised_in absent s p f c t depth other h = refl
 raised_in destroyed s p f c t depth other h = refl
 raised_in live s p f c t depth other h = ap (λ x. mark_of x p other) (after_raise_live s p f c t depth) ∙ others_stay s p depth other h
@@ -133,11 +133,11 @@ apart p q a b h e = h (omega (arith, a, b, e))
 with_marks_stay : (s : Session) (p q : ℕ) (ms : List Mark) → p - FIRST_PID ≢ q - FIRST_PID → marks_at (with_marks s p ms) q ≡ marks_at s q
 with_marks_stay s p q ms h = ap (λ o. unwrap_or o []) (elsewhere s.marks (p - FIRST_PID) (q - FIRST_PID) ms h)
 
-call_stays : (k : Option Kind) (s : Session) (p q depth : ℕ) → p - FIRST_PID ≢ q - FIRST_PID → marks_at (marked s p depth k) q ≡ marks_at s q
+call_stays : (k : Option MarkKind) (s : Session) (p q depth : ℕ) → p - FIRST_PID ≢ q - FIRST_PID → marks_at (mark_frame s p depth k) q ≡ marks_at s q
 call_stays (Some k) s p q depth h = with_marks_stay s p q (record { depth = depth; kind = k } ∷ marks_at s p) h
 call_stays None s p q depth h = refl
 
-finished_stays : (s : Session) (e : Event) (es : List Effect) (q : ℕ) → process_of e - FIRST_PID ≢ q - FIRST_PID → marks_at (finished s e es) q ≡ marks_at s q
+finished_stays : (s : Session) (e : Event) (es : List Effect) (q : ℕ) → process_of e - FIRST_PID ≢ q - FIRST_PID → marks_at (finish s e es) q ≡ marks_at s q
 finished_stays s (called p c) es q h = call_stays (mark_asked es) s p q c.depth h
 finished_stays s (returned p f t depth) es q h = with_marks_stay s p q (filter (others depth) (marks_at s p)) h
 finished_stays s (raised p f c t depth) es q h = with_marks_stay s p q (filter (others depth) (marks_at s p)) h
@@ -147,19 +147,19 @@ finished_stays s _ es q h = refl
 abbrev those_of : List (List Mark) → ℕ → List Mark
 those_of ms q = unwrap_or (slice_get ms (q - FIRST_PID)) []
 
-told_stays : (s : Session) (e : Event) (r : Option (List Effect)) (q : ℕ) → process_of e - FIRST_PID ≢ q - FIRST_PID → marks_at (told_for s e r).0 q ≡ marks_at s q
+told_stays : (s : Session) (e : Event) (r : Option (List Effect)) (q : ℕ) → process_of e - FIRST_PID ≢ q - FIRST_PID → marks_at (reported_for s e r).0 q ≡ marks_at s q
 told_stays s e None q h = finished_stays s e [] q h
 told_stays s e (Some es) q h = finished_stays (all_affected (process_of e) s es) e es q h
 
-inherited_stays : (s : Session) (e : Event) → (inherited s e).marks ≡ s.marks
+inherited_stays : (s : Session) (e : Event) → (inherit s e).marks ≡ s.marks
 inherited_stays s (spawned p parent f args) = refl
 inherited_stays s (getting_linked p q) = refl
 inherited_stays s _ = refl
 
-stay_in : (x : Phase) (s : Session) (e : Event) (q : ℕ) → process_of e - FIRST_PID ≢ q - FIRST_PID → marks_at (told_in x s e).0 q ≡ marks_at s q
+stay_in : (x : Phase) (s : Session) (e : Event) (q : ℕ) → process_of e - FIRST_PID ≢ q - FIRST_PID → marks_at (reported_in x s e).0 q ≡ marks_at s q
 stay_in absent s e q h = refl
 stay_in destroyed s e q h = refl
-stay_in live s e q h = told_stays (inherited s e) e (evaluated (inherited s e) e) q h ∙ ap (λ ms. those_of ms q) (inherited_stays s e)
+stay_in live s e q h = told_stays (inherit s e) e (effects_of (inherit s e) e) q h ∙ ap (λ ms. those_of ms q) (inherited_stays s e)
 
 pub marks_of_others_stay : MarksOfOthersStay
 marks_of_others_stay s e q depth a b h = ap (λ ms. kind_among ms depth) (stay_in s.phase s e q (apart (process_of e) q a b h))

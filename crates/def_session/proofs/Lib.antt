@@ -1,7 +1,7 @@
 pub mod Settings
-pub mod Destroyed
+pub mod DestroyedSessions
 pub mod Messages
 pub mod Ends
 pub mod Life
-pub mod Kept
+pub mod Invariance
 mod Marks

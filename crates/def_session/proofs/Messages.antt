@@ -1,4 +1,4 @@
--- A message is told by a live session, of a process with the flag that is needed, and is its event's.
+-- A message is reported by a live session, of a process with the flag that is needed, and is its event's.
 use Rattle.std.proofs.Common.{◌≡◌, ◌≢◌, ℕ, List, [], ◌∷◌, ◌++◌, Bool, true, false, if◌then◌else◌, refl, sym, ap, ◌∙◌, Option, Some, None, unwrap_or, inl, inr}
 use Rattle.def_term.specs.Tree.{Tree, tuple, of_elements}
 use Rattle.def_term.specs.Order.{same}
@@ -8,9 +8,9 @@ use Rattle.def_node.specs.Event.{Event, sent, received, called, returned, raised
 use Rattle.def_spec.specs.Flags.{Flag, arity_flag}
 use Rattle.def_spec.specs.Expressions.{Effect}
 use Rattle.def_session.specs.State.{Phase, absent, live, destroyed, Session, flags_at}
-use Rattle.def_session.specs.Messages.{elements_of, process_of, last_message, decided, followed_by}
-use Rattle.def_session.specs.Session.{inherited, where_set, evaluated, is_silenced, message_after, is_marked, is_marked_for_exceptions, all_affected, told_for, told_in}
-use Rattle.def_session.specs.Laws.{needed_for, IsMessageOf, plainly, with_one_more, IsToldOf, MessageIsOfItsEvent, ShortCallHasItsArity, PlainCallHasItsArguments}
+use Rattle.def_session.specs.Messages.{elements_of, process_of, last_message, message_by, followed_by}
+use Rattle.def_session.specs.Session.{inherit, where_set, effects_of, is_silenced, message_after, is_marked, is_marked_for_exceptions, all_affected, reported_for, reported_in}
+use Rattle.def_session.specs.Laws.{needed_for, IsMessageOf, plainly, with_one_more, IsReportedOf, MessageIsOfItsEvent, ShortCallHasItsArity, PlainCallHasItsArguments}
 
 value_in : (t u : Tree) → Some t ≡ Some u → t ≡ u
 value_in t u e = ap (λ o. unwrap_or o t) e
@@ -26,7 +26,7 @@ at_the_end [] t = refl
 at_the_end (u ∷ us) t = ap (u ∷◌) (at_the_end us t)
 
 module _ (e : Event) (short : Bool) (m : Tree) where
-  decided_is : (o : Option Tree) → decided o (elements_of short e) ≡ Some m → IsMessageOf e short o m
+  decided_is : (o : Option Tree) → message_by o (elements_of short e) ≡ Some m → IsMessageOf e short o m
   decided_is None h = plainly (inl refl) (sym (value_in _ _ h))
   decided_is (Some t) h = first (same t (word "true")) refl h
     where
@@ -49,7 +49,7 @@ set_at_return : (b : Bool) (s : Session) (p : ℕ) (f : Flag) (r : Option (List 
 set_at_return true s p f r es h = set_where s p f r es h
 set_at_return false s p f r es h = cc
 
-evaluated_set : (s : Session) (e : Event) (es : List Effect) → evaluated s e ≡ Some es → flags_at s (process_of e) (needed_for e) ≡ true
+evaluated_set : (s : Session) (e : Event) (es : List Effect) → effects_of s e ≡ Some es → flags_at s (process_of e) (needed_for e) ≡ true
 evaluated_set s (sent p t to alive) es h = set_where s p (needed_for (sent p t to alive)) _ es h
 evaluated_set s (received p sender t) es h = set_where s p (needed_for (received p sender t)) _ es h
 evaluated_set s (called p c) es h = set_where s p (needed_for (called p c)) _ es h
@@ -69,26 +69,26 @@ MessageOf s e es m = IsMessageOf e (flags_at s (process_of e) arity_flag) (last_
 decided_of : (s : Session) (e : Event) (es : List Effect) (m : Tree) → message_after s e es ≡ Some m → MessageOf s e es m
 decided_of s e es m h = go (is_silenced s e) h
   where
-    go : (b : Bool) → (if b then None else decided (last_message es) (elements_of (flags_at s (process_of e) arity_flag) e)) ≡ Some m → MessageOf s e es m
+    go : (b : Bool) → (if b then None else message_by (last_message es) (elements_of (flags_at s (process_of e) arity_flag) e)) ≡ Some m → MessageOf s e es m
     go true g = cc
     go false g = decided_is e (flags_at s (process_of e) arity_flag) m (last_message es) g
 
 abbrev Evaluated : Session → Event → Tree → Type 0
-Evaluated s e m = (es : List Effect) × (evaluated s e ≡ Some es) × MessageOf (all_affected (process_of e) s es) e es m
+Evaluated s e m = (es : List Effect) × (effects_of s e ≡ Some es) × MessageOf (all_affected (process_of e) s es) e es m
 
-told_of : (s : Session) (e : Event) (m : Tree) (r : Option (List Effect)) → evaluated s e ≡ r → (told_for s e r).1 ≡ Some m → Evaluated s e m
+told_of : (s : Session) (e : Event) (m : Tree) (r : Option (List Effect)) → effects_of s e ≡ r → (reported_for s e r).1 ≡ Some m → Evaluated s e m
 told_of s e m None h g = cc
 told_of s e m (Some es) h g = (es, h, decided_of (all_affected (process_of e) s es) e es m g)
 
-told_at : (p : Phase) (s : Session) (e : Event) (m : Tree) → s.phase ≡ p → (told_in p s e).1 ≡ Some m → IsToldOf s e m
-told_at absent s e m is h = cc
-told_at destroyed s e m is h = cc
-told_at live s e m is h =
-    let r : Evaluated (inherited s e) e m = told_of (inherited s e) e m (evaluated (inherited s e) e) refl h in
-    record { lives = is; flagged = evaluated_set (inherited s e) e r.0 r.1; effects = r.0; have = r.1; message = r.2 }
+reported_at : (p : Phase) (s : Session) (e : Event) (m : Tree) → s.phase ≡ p → (reported_in p s e).1 ≡ Some m → IsReportedOf s e m
+reported_at absent s e m is h = cc
+reported_at destroyed s e m is h = cc
+reported_at live s e m is h =
+    let r : Evaluated (inherit s e) e m = told_of (inherit s e) e m (effects_of (inherit s e) e) refl h in
+    record { lives = is; flagged = evaluated_set (inherit s e) e r.0 r.1; effects = r.0; have = r.1; message = r.2 }
 
 pub message_of_event : MessageIsOfItsEvent
-message_of_event s e m h = told_at s.phase s e m refl h
+message_of_event s e m h = reported_at s.phase s e m refl h
 
 pub short_call : ShortCallHasItsArity
 short_call p c = refl

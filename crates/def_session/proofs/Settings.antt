@@ -3,21 +3,21 @@ use Rattle.std.proofs.Common.{◌≡◌, List, [], ◌∷◌, ◌++◌, Bool, �
 use Rattle.std.proofs.lemmas.List.Elements.{All-head, All-tail}
 use Rattle.def_node.specs.Event.{Call}
 use Rattle.def_script.specs.Program.{set_function}
-use Rattle.def_session.specs.Settings.{Setting, off, Covering, has_among, setting_for, options_of}
+use Rattle.def_session.specs.Settings.{Setting, off, FunctionSetting, has_among, setting_for, options_of}
 use Rattle.def_session.specs.Commands.{function_set, function_set_if, done_in}
 use Rattle.def_session.specs.Laws.{NewestSettingWins, FalseRemoves, NoSetting, FunctionCommandIsNewest}
 
 module _ (c : Call) where
-  abbrev IsOther : Covering → Type 0
+  abbrev IsOther : FunctionSetting → Type 0
   IsOther j = has_among j c.mfa c.exported ≡ false
 
-  wins : (newer older : List Covering) (k : Covering) → All IsOther newer → has_among k c.mfa c.exported ≡ true → setting_for (newer ++ k ∷ older) c ≡ (if k.local || c.named then k.setting else off)
+  wins : (newer older : List FunctionSetting) (k : FunctionSetting) → All IsOther newer → has_among k c.mfa c.exported ≡ true → setting_for (newer ++ k ∷ older) c ≡ (if k.local || c.named then k.setting else off)
   wins [] older k h e = ap (λ b. if b then (if k.local || c.named then k.setting else off) else setting_for older c) e
   wins (j ∷ newer) older k h e =
       ap (λ b. if b then (if j.local || c.named then j.setting else off) else setting_for (newer ++ k ∷ older) c) (All-head IsOther j newer h)
       ∙ wins newer older k (All-tail IsOther j newer h) e
 
-  none_wins : (ks : List Covering) → All IsOther ks → setting_for ks c ≡ off
+  none_wins : (ks : List FunctionSetting) → All IsOther ks → setting_for ks c ≡ off
   none_wins [] h = refl
   none_wins (j ∷ ks) h =
       ap (λ b. if b then (if j.local || c.named then j.setting else off) else setting_for ks c) (All-head IsOther j ks h)

@@ -1,5 +1,5 @@
 -- The message of each event, and how effects decide it (trace:process/4; "Match Specifications in Erlang", "Functions Allowed Only for Tracing").
--- Stands on events and on effects.
+-- Depends on events and on effects.
 use Rattle.std.specs.Prelude.{ℕ, Bool, true, false, if◌then◌else◌, List, [], ◌∷◌, Option, Some, None}
 use Rattle.def_term.specs.Tree.{Tree, atom, pid, tuple, list, of_elements}
 use Rattle.def_term.specs.Order.{same}
@@ -70,9 +70,9 @@ followed_by [] t = t ∷ []
 followed_by (u ∷ us) t = u ∷ followed_by us t
 
 -- `false` suppresses the message, `true` or none sends it plain, any other term is its last element
-abbrev pub decided : Option Tree → List Tree → Option Tree
-decided None ts = Some (tuple (of_elements ts))
-decided (Some t) ts =
+abbrev pub message_by : Option Tree → List Tree → Option Tree
+message_by None ts = Some (tuple (of_elements ts))
+message_by (Some t) ts =
     if same t (word "true") then Some (tuple (of_elements ts)) else
     if same t (word "false") then None else
     Some (tuple (of_elements (followed_by ts t)))

@@ -1,5 +1,5 @@
 -- What a session's commands set: function settings, send and receive settings (trace:function/4, trace:send/3, trace:recv/3).
--- Stands on specifications and on the names of functions.
+-- Depends on specifications and on the names of functions.
 use Rattle.std.specs.Prelude.{nat_le, Bool, true, false, ◌&&◌, ◌||◌, if◌then◌else◌, List, [], ◌∷◌, Option, Some, None, pos, Ok}
 use Rattle.std.specs.Str.{bytes_eq}
 use Rattle.def_term.specs.Tree.{Tree, int, atom, tuple, list, none, more}
@@ -12,11 +12,11 @@ use Rattle.def_spec.specs.Outcome.{Spec}
 use Rattle.def_spec.specs.Reading.{Reads, then_read, is_wildcard, spec_of}
 
 -- the functions that a command is about
-pub data Covered : Type 0 where
-  one : Mfa → Covered
-  any_arity : (module_name function_name : Name) → Covered
-  whole_module : (module_name : Name) → Covered
-  every : Covered
+pub data FunctionPattern : Type 0 where
+  one : Mfa → FunctionPattern
+  any_arity : (module_name function_name : Name) → FunctionPattern
+  whole_module : (module_name : Name) → FunctionPattern
+  every : FunctionPattern
 
 -- disabled, without a specification, or with one
 pub data Setting : Type 0 where
@@ -25,8 +25,8 @@ pub data Setting : Type 0 where
   by : Spec → Setting
 
 -- a function command that was accepted
-pub record Covering : Type 0 where
-  pub covered : Covered
+pub record FunctionSetting : Type 0 where
+  pub covered : FunctionPattern
   pub setting : Setting
   pub local : Bool
 
@@ -38,23 +38,23 @@ setting_of d t =
     then_read (spec_of d t) (λ s. Ok (by s))
 
 -- {M,F,A} or {M,F,'_'}
-abbrev pub with_arity : Name → Name → Tree → Option Covered
+abbrev pub with_arity : Name → Name → Tree → Option FunctionPattern
 with_arity m f (int (pos n)) = if nat_le n PARAMETERS then Some (one (record { module_name = m; function_name = f; arity = n })) else None
 with_arity m f (atom s) = if is_wildcard s then Some (any_arity m f) else None
 with_arity m f _ = None
 
--- M and F are atoms; behind '_' only '_' may stand
-abbrev pub covered_by : Tree → Tree → Tree → Option Covered
-covered_by (atom m) (atom f) a =
+-- M and F are atoms; after '_' only '_' may stand
+abbrev pub pattern_by : Tree → Tree → Tree → Option FunctionPattern
+pattern_by (atom m) (atom f) a =
     if is_wildcard m then (if is_wildcard f && same a (word "_") then Some every else None) else
     if is_wildcard f then (if same a (word "_") then Some (whole_module m) else None) else
     with_arity m f a
-covered_by _ _ _ = None
+pattern_by _ _ _ = None
 
 -- {M,F,A}, {M,F,'_'}, {M,'_','_'} or {'_','_','_'}, with A from 0 to 255
-abbrev pub covered_of : Tree → Option Covered
-covered_of (tuple (more m (more f (more a none)))) = covered_by m f a
-covered_of _ = None
+abbrev pub trace_pattern_of : Tree → Option FunctionPattern
+trace_pattern_of (tuple (more m (more f (more a none)))) = pattern_by m f a
+trace_pattern_of _ = None
 
 -- whether local: [] or [global], or [local]
 abbrev pub options_of : Tree → Option Bool
@@ -63,18 +63,18 @@ options_of t =
     if same t (list (more (word "local") none)) then Some true else None
 
 -- the function is one of these
-abbrev pub is_covered : Covered → Mfa → Bool
+abbrev pub is_covered : FunctionPattern → Mfa → Bool
 is_covered (one a) f = same_mfa a f
 is_covered (any_arity m g) f = bytes_eq m f.module_name && bytes_eq g f.function_name
 is_covered (whole_module m) f = bytes_eq m f.module_name
 is_covered every f = true
 
 -- the function is among the matching ones of a command: exported ones alone, if it is global
-abbrev pub has_among : Covering → Mfa → Bool → Bool
+abbrev pub has_among : FunctionSetting → Mfa → Bool → Bool
 has_among k f exported = is_covered k.covered f && (k.local || exported)
 
 -- the last command that covers the function wins, whichever kind it is (own). It concerns every call if it is local, and else the calls that name the module
-abbrev pub setting_for : List Covering → Call → Setting
+abbrev pub setting_for : List FunctionSetting → Call → Setting
 setting_for [] c = off
 setting_for (k ∷ ks) c =
     if has_among k c.mfa c.exported then (if k.local || c.named then k.setting else off) else setting_for ks c

@@ -1,34 +1,34 @@
 -- The state of one session (trace:session_create/3, process/4).
--- Stands on flags, on settings and on who lives.
+-- Depends on flags, on settings and on who lives.
 use Rattle.std.specs.Prelude.{ℕ, ◌-◌, ◌==◌, true, false, if◌then◌else◌, List, [], ◌∷◌, ◌++◌, replicate, slice_get, slice_set, Option, Some, None}
 use Rattle.std.specs.Option.{unwrap_or}
 use Rattle.def_term.specs.Alive.{FIRST_PID, PROCESSES, Alive, with_alive}
-use Rattle.def_script.specs.Opening.{Opening}
+use Rattle.def_script.specs.Exports.{Exports}
 use Rattle.def_spec.specs.Flags.{Flags, no_flags, FlagTable, flags_in, with_flags_in}
-use Rattle.def_session.specs.Settings.{Covering, Setting, plain}
+use Rattle.def_session.specs.Settings.{FunctionSetting, Setting, plain}
 use Rattle.def_node.specs.Event.{Event, spawned, exited}
 
 -- before its creation, from then on, and after its destruction
 pub data Phase : Type 0 where
   absent live destroyed : Phase
 
--- what a mark is for: that the call's return is told alone, or an exception that leaves its frame too
-pub data Kind : Type 0 where
-  for_returns for_exceptions : Kind
+-- what a mark is for: that the call's return is reported alone, or an exception that leaves its frame too
+pub data MarkKind : Type 0 where
+  for_returns for_exceptions : MarkKind
 
 -- the mark of a frame, by the frame's depth
 pub record Mark : Type 0 where
   pub depth : ℕ
-  pub kind : Kind
+  pub kind : MarkKind
 
 -- its own flags for each process and for new processes, its settings, and its marked frames
 pub record Session : Type 0 where
   pub phase : Phase
   pub alive : Alive
   pub flags : FlagTable
-  pub for_new : Flags
+  pub new_process_flags : Flags
   -- accepted function commands, the newest first
-  pub functions : List Covering
+  pub functions : List FunctionSetting
   pub sending : Setting
   pub receiving : Setting
   -- of the processes from the first pid on, the marks of frames, the newest first
@@ -39,12 +39,12 @@ abbrev pub alive_at_start : ℕ → Alive
 alive_at_start n = replicate n true ++ replicate (PROCESSES - n) false
 
 -- a session without settings: no flags, no function settings, send and receive `true`
-abbrev pub unset : Phase → Alive → Session
-unset phase alive = record {
+abbrev pub new_session : Phase → Alive → Session
+new_session phase alive = record {
   phase = phase;
   alive = alive;
   flags = replicate PROCESSES no_flags;
-  for_new = no_flags;
+  new_process_flags = no_flags;
   functions = [];
   sending = plain;
   receiving = plain;
@@ -52,8 +52,8 @@ unset phase alive = record {
 }
 
 -- before the session is created
-abbrev pub absent_session : Opening → Session
-absent_session o = unset absent (alive_at_start o.processes)
+abbrev pub absent_session : Exports → Session
+absent_session o = new_session absent (alive_at_start o.processes)
 
 -- the flags of a process
 abbrev pub flags_at : Session → ℕ → Flags
@@ -72,12 +72,12 @@ abbrev pub with_marks : Session → ℕ → List Mark → Session
 with_marks s n ms = record s { marks = slice_set s.marks (n - FIRST_PID) ms }
 
 -- the kind of the newest of these marks that is of this depth
-abbrev pub kind_among : List Mark → ℕ → Option Kind
+abbrev pub kind_among : List Mark → ℕ → Option MarkKind
 kind_among [] depth = None
 kind_among (m ∷ ms) depth = if m.depth == depth then Some m.kind else kind_among ms depth
 
 -- the kind of the mark that the frame of this depth has, if it has one
-abbrev pub mark_of : Session → ℕ → ℕ → Option Kind
+abbrev pub mark_of : Session → ℕ → ℕ → Option MarkKind
 mark_of s n depth = kind_among (marks_at s n) depth
 
 -- who lives after an event

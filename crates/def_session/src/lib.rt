@@ -1,12 +1,12 @@
 //! What a trace session is: its state, what it makes of each event of the node, and what each of its own
 //! commands does and replies.
 //!
-//! Stands on def_term, def_script, def_node and def_spec. Promises, as laws: of the function commands
-//! the newest that covers a function decides, and `false` removes; a message is its event's, told by a
+//! Depends on def_term, def_script, def_node and def_spec. Promises, as laws: of the function commands
+//! the newest that covers a function decides, and `false` removes; a message is its event's, reported by a
 //! live session of a process that has the flag that the event needs; `trace` reads the flags that the
-//! session has at that point; which mark a call gets, and that a return or an exception is told by it; a
+//! session has at that point; which mark a call gets, and that a return or an exception is reported by it; a
 //! return or an exception ends its frame's mark, and an exit the process's flags and marks; a destroyed
-//! session tells nothing, and nothing brings it back.
+//! session reports nothing, and nothing brings it back.
 #![tactic(auto)]
 
 ghost use Rattle.def_session.specs.Laws.{NewestSettingWins, FalseRemoves, NoSetting, FunctionCommandIsNewest};
@@ -36,7 +36,7 @@ pub fn newest_setting_wins()
     ensures events { EventsKeepSettings }
 {}
 
-/// A message is told by a live session alone, of a process that has the flag that the event needs, and it
+/// A message is reported by a live session alone, of a process that has the flag that the event needs, and it
 /// is that event's message (`trace:process/4`), plain or with the term that the effects give last as one
 /// more element. A call's has {M,F,Arity} where the process has the flag `arity` after inheritance and the
 /// effects, and else {M,F,Args}.
@@ -46,7 +46,7 @@ pub fn message_is_of_its_event()
     ensures plain { PlainCallHasItsArguments }
 {}
 
-/// The flags that the action `trace` reads behind some effects are those that the session has once they are
+/// The flags that the action `trace` reads after some effects are those that the session has once they are
 /// done.
 pub fn trace_reads_the_session()
     ensures { TraceReadsTheSession }
@@ -62,7 +62,7 @@ pub fn nothing_follows_destruction()
 {}
 
 /// A call whose effects have `exception_trace` is marked for exceptions, and one whose effects have
-/// `return_trace` alone for returns. An exception that leaves a frame is told where that is marked for
+/// `return_trace` alone for returns. An exception that leaves a frame is reported where that is marked for
 /// exceptions, and a return where it is marked at all, with the flag `call` and without `silent`.
 pub fn marks_tell_returns_and_exceptions()
     ensures exceptions { ExceptionTraceMarks }
@@ -89,7 +89,7 @@ pub fn ends_take_marks_and_flags()
     ensures life { ExitEndsTheLife }
 {}
 
-/// Before its creation a session tells nothing, and every command but the creation is refused, which
+/// Before its creation a session reports nothing, and every command but the creation is refused, which
 /// makes it live (`trace:session_create/3`).
 pub fn nothing_precedes_creation()
     ensures creation { CreationMakesLive }

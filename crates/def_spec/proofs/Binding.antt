@@ -9,7 +9,7 @@ use Rattle.std.specs.Option.{option_and_then}
 use Rattle.def_term.specs.Tree.{Tree, tuple, list, Trees, none, more}
 use Rattle.def_term.specs.Order.{same}
 use Rattle.def_term.proofs.Same.{tied_self, same-is, same-self}
-use Rattle.def_spec.specs.Matching.{Pattern, Patterns, variable, anything, only_term, in_tuple, in_list, no_patterns, and_pattern, Bindings, value_bound, occurs, occurs_in_some, here, past, Fill, subst_in, subst_each, Matches, met, bind_on, bind_each, bindings_of}
+use Rattle.def_spec.specs.Matching.{Pattern, Patterns, variable, anything, only_term, in_tuple, in_list, no_patterns, and_pattern, Bindings, value_bound, occurs, occurs_in_some, here, past, Fill, subst_in, subst_each, Matches, bind, bind_on, bind_each, bindings_of}
 
 to_T : (b : Bool) → b ≡ true → T b
 to_T b e = subst T (sym e) tt
@@ -158,7 +158,7 @@ some_kept : (n : ℕ) (b : Bindings) (u : Tree) (m : ℕ) (s : Bool) → value_b
 some_kept n b u m true e h = let is : is_some (value_bound b m) ≡ true = ap (λ x. is_some (value_bound b x)) (eqb-true m n h) ∙ ap is_some e in is ∙ sym (ap (λ x. x || true) is)
 some_kept n b u m false e h = or_false (is_some (value_bound b m))
 
-met_sound : (n : ℕ) (t : Tree) (b c : Bindings) (o : Option Tree) → value_bound b n ≡ o → T (is_sorted nat_cmp b) → met n t b o ≡ Some c → Walked b c (λ m. m == n) (value_bound c n ≡ Some t)
+met_sound : (n : ℕ) (t : Tree) (b c : Bindings) (o : Option Tree) → value_bound b n ≡ o → T (is_sorted nat_cmp b) → bind n t b o ≡ Some c → Walked b c (λ m. m == n) (value_bound c n ≡ Some t)
 met_sound n t b c None e s h = subst (λ x. Walked b x (λ m. m == n) (value_bound x n ≡ Some t)) (bindings_in (put nat_cmp n t b) c h) (record {
   rising = is_sorted-put nat_cmp nat_cmp_total n t b s;
   keeps = λ m u f. get_put m n t b ∙ keeps_put n t b e m u (m == n) refl f;
@@ -210,7 +210,7 @@ extends_put : (n : ℕ) (t : Tree) (b c : Bindings) → Extends b c → value_bo
 extends_put n t b c e h m u true is f = subst (λ x. value_bound c x ≡ Some t) (sym (eqb-true m n is)) h ∙ f
 extends_put n t b c e h m u false is f = e m u f
 
-met_complete : (n : ℕ) (t : Tree) (b c : Bindings) (o : Option Tree) → value_bound b n ≡ o → Extends b c → value_bound c n ≡ Some t → (d : Bindings) × (met n t b o ≡ Some d) × Extends d c
+met_complete : (n : ℕ) (t : Tree) (b c : Bindings) (o : Option Tree) → value_bound b n ≡ o → Extends b c → value_bound c n ≡ Some t → (d : Bindings) × (bind n t b o ≡ Some d) × Extends d c
 met_complete n t b c None is e h = (put nat_cmp n t b, refl, λ m u f. extends_put n t b c e h m u (m == n) refl (sym (get_put m n t b) ∙ f))
 met_complete n t b c (Some u) is e h =
     let equal : u ≡ t = value_in u t (sym (e n u is) ∙ h) in

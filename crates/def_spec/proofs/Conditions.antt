@@ -70,10 +70,10 @@ module _ (d : Dialect) (b : Bindings) (c : Context) where
   pub of-list : (es : Exprs) → value d in_condition b c (list_of es) ≡ option_map (λ ts. list (of_elements ts)) (values d in_condition b c es)
   of-list es = mapped-value (evaluation_of_all d in_condition b c es []) (λ ts. list (of_elements ts))
 
-  pub of-call : (f : Func) (es : Exprs) → value d in_condition b c (call f es) ≡ option_and_then (λ ts. apply f ts c.me) (values d in_condition b c es)
-  of-call f es = then-value (evaluation_of_all d in_condition b c es []) _ (λ ts. apply f ts c.me) (λ ts y. fault-value (apply f ts c.me) y)
+  pub of-call : (f : Func) (es : Exprs) → value d in_condition b c (call f es) ≡ option_and_then (λ ts. apply f ts c.self_pid) (values d in_condition b c es)
+  of-call f es = then-value (evaluation_of_all d in_condition b c es []) _ (λ ts. apply f ts c.self_pid) (λ ts y. fault-value (apply f ts c.self_pid) y)
 
-  -- behind any effects the value is the same, and no effect is added
+  -- after any effects the value is the same, and no effect is added
   pub of-any : (e : Expr) (x : List Effect) → its_value (evaluation d in_condition b c e x) ≡ value d in_condition b c e
   of-any e x = ap its_value (conditions_have_no_effects d b c c.flags e x) ∙ fault-value (value d in_condition b c e) x
 

@@ -11,37 +11,38 @@ use Rattle.def_spec.specs.Expressions.{Dialect, Exprs, in_condition, in_body}
 use Rattle.def_spec.specs.Outcome.{Clause, Spec}
 use Rattle.def_spec.specs.Reading.{then_read, badarg, AtomKind, a_variable, a_wrong_variable, a_plain_atom, atom_kind, all_digits, is_dollar_number, is_plain_number, digits_of, is_wildcard, pattern_of_kind, pattern_of, patterns_of, head_of_kind, head_of, exprs_of, clause_of_parts, clause_of, clauses_of, spec_of}
 use Rattle.def_spec.specs.Laws.{AreNumbered, VariablesAreNumbered}
-use Rattle.def_spec.proofs.Reading.{read, then_ok, ok_is, both_true}
+use Rattle.def_spec.proofs.Reading.{read, then_ok, ok_is}
+use Rattle.std.proofs.lemmas.Bool.{and_parts}
 
 digit_value : (c : ℕ) → is_digit c ≡ true → c - 48 ≤ 9
-digit_value c h = let most : c ≤ 57 = leb-true c 57 (both_true (nat_le 48 c) (nat_le c 57) h).1 in omega arith
+digit_value c h = let most : c ≤ 57 = leb-true c 57 (and_parts (nat_le 48 c) (nat_le c 57) h).1 in omega arith
 
 -- at most three digits are at most 999
 pub plain_value : (ds : List ℕ) → all_digits ds ≡ true → is_plain_number ds ≡ true → number_after 0 ds ≤ 999
 plain_value [] h p = cc
 plain_value (d ∷ []) h p =
-    let a : d - 48 ≤ 9 = digit_value d (both_true (is_digit d) true h).0 in
+    let a : d - 48 ≤ 9 = digit_value d (and_parts (is_digit d) true h).0 in
     omega arith
 plain_value (d ∷ e ∷ []) h p =
-    let r : (is_digit d ≡ true) × (all_digits (e ∷ []) ≡ true) = both_true _ _ h in
+    let r : (is_digit d ≡ true) × (all_digits (e ∷ []) ≡ true) = and_parts _ _ h in
     let a : d - 48 ≤ 9 = digit_value d r.0 in
-    let b : e - 48 ≤ 9 = digit_value e (both_true (is_digit e) true r.1).0 in
+    let b : e - 48 ≤ 9 = digit_value e (and_parts (is_digit e) true r.1).0 in
     omega arith
 plain_value (d ∷ e ∷ f ∷ []) h p =
-    let r : (is_digit d ≡ true) × (all_digits (e ∷ f ∷ []) ≡ true) = both_true _ _ h in
-    let q : (is_digit e ≡ true) × (all_digits (f ∷ []) ≡ true) = both_true _ _ r.1 in
+    let r : (is_digit d ≡ true) × (all_digits (e ∷ f ∷ []) ≡ true) = and_parts _ _ h in
+    let q : (is_digit e ≡ true) × (all_digits (f ∷ []) ≡ true) = and_parts _ _ r.1 in
     let a : d - 48 ≤ 9 = digit_value d r.0 in
     let b : e - 48 ≤ 9 = digit_value e q.0 in
-    let c : f - 48 ≤ 9 = digit_value f (both_true (is_digit f) true q.1).0 in
+    let c : f - 48 ≤ 9 = digit_value f (and_parts (is_digit f) true q.1).0 in
     omega arith
 plain_value (d ∷ e ∷ f ∷ g ∷ gs) h p =
-    let few : length (d ∷ e ∷ f ∷ g ∷ gs) ≤ 3 = leb-true _ 3 (both_true (not (d == 48)) _ p).1 in
+    let few : length (d ∷ e ∷ f ∷ g ∷ gs) ≤ 3 = leb-true _ 3 (and_parts (not (d == 48)) _ p).1 in
     absurd (omega arith)
 
 digits_true : (s : Name) → is_dollar_number s ≡ true → all_digits (digits_of s) ≡ true
 digits_true [] h = cc
 digits_true (c ∷ []) h = cc
-digits_true (c ∷ d ∷ ds) h = (both_true (c == 36) (all_digits (d ∷ ds)) h).1
+digits_true (c ∷ d ∷ ds) h = (and_parts (c == 36) (all_digits (d ∷ ds)) h).1
 
 abbrev KindNumbered : AtomKind → Type 0
 KindNumbered (a_variable n) = n ≤ 999

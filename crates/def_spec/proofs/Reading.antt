@@ -4,13 +4,14 @@ use Rattle.std.specs.Prelude.{Ok, Err, codes, length}
 use Rattle.std.proofs.lemmas.Bool.{le-leb}
 use Rattle.std.specs.Str.{bytes_eq}
 use Rattle.std.proofs.lemmas.Slice.Eq.{bytes_eq-Decides}
+use Rattle.std.proofs.lemmas.Bool.{and_parts}
 use Rattle.def_term.specs.Tree.{Tree, int, atom, pid, tuple, list, Trees, none, more, count}
 use Rattle.def_term.specs.Names.{Name}
 use Rattle.def_term.specs.Text.{is_among}
 use Rattle.def_spec.specs.Matching.{Pattern, occurs}
-use Rattle.def_spec.specs.Expressions.{Dialect, Expr, bound_to, whole_list, all_bound, constant, tuple_of, list_of, Exprs, no_exprs, and_expr, Part, in_condition, in_body}
+use Rattle.def_spec.specs.Expressions.{Dialect, Expr, bound_to, whole_list, all_bound, constant, tuple_of, list_of, Exprs, no_exprs, and_expr, Position, in_condition, in_body}
 use Rattle.def_spec.specs.Outcome.{Clause, Spec}
-use Rattle.def_spec.specs.Reading.{SpecFault, badarg, unsupported, Reads, then_read, AtomKind, a_variable, a_wrong_variable, a_plain_atom, atom_kind, Called, a_function, an_and_also, an_or_else, an_action, Row, table, unsupported_names, found_in, is_allowed, is_at_most, takes, called_of, named_call, call_of, atom_expr_of_kind, is_constant, only_element, expr_of, exprs_of, head_of, clause_of_parts, clause_of, clauses_of, spec_of}
+use Rattle.def_spec.specs.Reading.{SpecFault, badarg, unsupported, Reads, then_read, AtomKind, a_variable, a_wrong_variable, a_plain_atom, atom_kind, Callee, a_function, an_and_also, an_or_else, an_action, Row, table, unsupported_names, found_in, is_allowed, is_at_most, takes, called_of, named_call, call_of, atom_expr_of_kind, is_constant, only_element, expr_of, exprs_of, head_of, clause_of_parts, clause_of, clauses_of, spec_of}
 use Rattle.def_spec.specs.Laws.{IsCovered, AreCovered, count_of, numbers_of, IsAllowed, IsFitting, AllCallsFit, CallsOfAllFit, IsSoundClause, AreSoundClauses, IsSound, ReadSpecsAreSound, trees_before, AreRead, FirstFaultyClause, HeadFaultFirst, ConditionFaultNext, BodyFaultLast, FirstFaultyExpression, UnsupportedFirst}
 
 pub then_ok : {X Y : Type 0} (r : Reads X) (f : X → Reads Y) (y : Y) → then_read r f ≡ Ok y → (x : X) × (r ≡ Ok x) × (f x ≡ Ok y)
@@ -22,10 +23,6 @@ read x = Ok x
 
 pub ok_is : {X : Type 0} (x y : X) → read x ≡ read y → x ≡ y
 ok_is x y h = cc
-
-pub both_true : (a b : Bool) → (a && b) ≡ true → (a ≡ true) × (b ≡ true)
-both_true true b e = (refl, e)
-both_true false b e = cc
 
 -- ---- the table
 
@@ -54,32 +51,32 @@ table_right = refl
 
 found_right : (rs : List Row) (s : Name) (r : Row) → are_right rs ≡ true → found_in rs s ≡ Some r → is_right r ≡ true
 found_right [] s r h e = cc
-found_right (q ∷ qs) s r h e = go (bytes_eq q.name s) (both_true (is_right q) (are_right qs) h) (found_right qs s r) e
+found_right (q ∷ qs) s r h e = go (bytes_eq q.name s) (and_parts (is_right q) (are_right qs) h) (found_right qs s r) e
   where
     go : (b : Bool) → (is_right q ≡ true) × (are_right qs ≡ true) → (are_right qs ≡ true → found_in qs s ≡ Some r → is_right r ≡ true) → (if b then Some q else found_in qs s) ≡ Some r → is_right r ≡ true
     go true g k f = let same : q ≡ r = cc in subst (λ x. is_right x ≡ true) same g.0
     go false g k f = k g.1 f
 
-allowed_is : (d : Dialect) (part : Part) (f : Called) → is_allowed d part f ≡ true → IsAllowed d part f
+allowed_is : (d : Dialect) (part : Position) (f : Callee) → is_allowed d part f ≡ true → IsAllowed d part f
 allowed_is d in_condition (an_action a) h = cc
 allowed_is d in_body (an_action a) h = h
 allowed_is d part (a_function f) h = tt
 allowed_is d part an_and_also h = tt
 allowed_is d part an_or_else h = tt
 
-module _ (d : Dialect) (part : Part) where
-  row_fits : (r : Row) (n : ℕ) (f : Called) → is_right r ≡ true → called_of d part n (Some r) ≡ Ok f → IsFitting d part f n
+module _ (d : Dialect) (part : Position) where
+  row_fits : (r : Row) (n : ℕ) (f : Callee) → is_right r ≡ true → called_of d part n (Some r) ≡ Ok f → IsFitting d part f n
   row_fits r n f right h = go (takes r n && is_allowed d part r.called) refl h
     where
       numbers : (r.least ≡ (numbers_of r.called).0) × (r.most ≡ (numbers_of r.called).1)
       numbers =
-          let q : ((r.least == (numbers_of r.called).0) ≡ true) × (same_most r.most (numbers_of r.called).1 ≡ true) = both_true _ _ right in
+          let q : ((r.least == (numbers_of r.called).0) ≡ true) × (same_most r.most (numbers_of r.called).1 ≡ true) = and_parts _ _ right in
           (eqb-true _ _ q.0, most_is _ _ q.1)
 
       go : (b : Bool) → (takes r n && is_allowed d part r.called) ≡ b → (if b then Ok r.called else Err badarg) ≡ Ok f → IsFitting d part f n
       go true e g =
-          let taken : (takes r n ≡ true) × (is_allowed d part r.called ≡ true) = both_true _ _ e in
-          let within : (nat_le r.least n ≡ true) × (is_at_most r.most n ≡ true) = both_true _ _ taken.0 in
+          let taken : (takes r n ≡ true) × (is_allowed d part r.called ≡ true) = and_parts _ _ e in
+          let within : (nat_le r.least n ≡ true) × (is_at_most r.most n ≡ true) = and_parts _ _ taken.0 in
           subst (λ x. IsFitting d part x n) (ok_is r.called f g) (record {
             least = subst (λ m. nat_le m n ≡ true) numbers.0 within.0;
             most = subst (λ m. is_at_most m n ≡ true) numbers.1 within.1;
@@ -87,7 +84,7 @@ module _ (d : Dialect) (part : Part) where
           })
       go false e g = cc
 
-  named_fits : (s : Name) (n : ℕ) (f : Called) → named_call d part s n ≡ Ok f → IsFitting d part f n
+  named_fits : (s : Name) (n : ℕ) (f : Callee) → named_call d part s n ≡ Ok f → IsFitting d part f n
   named_fits s n f h = go (is_among unsupported_names s) h
     where
       found : (o : Option Row) → found_in table s ≡ o → called_of d part n o ≡ Ok f → IsFitting d part f n
@@ -100,7 +97,7 @@ module _ (d : Dialect) (part : Part) where
 
 -- ---- expressions
 
-module _ (d : Dialect) (part : Part) (head : Pattern) where
+module _ (d : Dialect) (part : Position) (head : Pattern) where
   abbrev Good : Expr → Type 0
   Good e = IsCovered head e × AllCallsFit d part e
 
@@ -121,7 +118,7 @@ module _ (d : Dialect) (part : Part) (head : Pattern) where
   atom_good s a_wrong_variable e h = cc
   atom_good s a_plain_atom e h = plain_good s e (bytes_eq s (codes "$_")) (bytes_eq s (codes "$$")) h
 
-  call_good : (f : Called) (es : Exprs) → IsFitting d part f (count_of es) → AreCovered head es → CallsOfAllFit d part es → Good (call_of f es)
+  call_good : (f : Callee) (es : Exprs) → IsFitting d part f (count_of es) → AreCovered head es → CallsOfAllFit d part es → Good (call_of f es)
   call_good (a_function f) es h c g = (c, (h, g))
   call_good an_and_also es h c g = (c, (h, g))
   call_good an_or_else es h c g = (c, (h, g))
@@ -131,7 +128,7 @@ module _ (d : Dialect) (part : Part) (head : Pattern) where
       → (if b then Ok (constant (only_element ts)) else then_read (named_call d part s (count ts)) (λ f. then_read (exprs_of d part head ts) (λ es. Ok (call_of f es)))) ≡ Ok e → Good e
   tuple_good s ts e true ih h = subst Good (ok_is (constant (only_element ts)) e h) (tt, tt)
   tuple_good s ts e false ih h =
-      let r : (f : Called) × (named_call d part s (count ts) ≡ Ok f) × (then_read (exprs_of d part head ts) (λ es. Ok (call_of f es)) ≡ Ok e) = then_ok _ _ e h in
+      let r : (f : Callee) × (named_call d part s (count ts) ≡ Ok f) × (then_read (exprs_of d part head ts) (λ es. Ok (call_of f es)) ≡ Ok e) = then_ok _ _ e h in
       let q : (es : Exprs) × (exprs_of d part head ts ≡ Ok es) × (read (call_of r.0 es) ≡ Ok e) = then_ok _ _ e r.2 in
       let g : AllGood (count ts) q.0 = ih q.0 q.1 in
       subst Good (ok_is (call_of r.0 q.0) e q.2) (call_good r.0 q.0 (subst (λ n. IsFitting d part r.0 n) (sym g.2) (named_fits d part s (count ts) r.0 r.1)) g.0 g.1)

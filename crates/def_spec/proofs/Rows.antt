@@ -44,7 +44,7 @@ own = called (word "self") none
 abbrev on_call : List Tree → Context
 on_call ts = record {
   matched_list = ts;
-  me = 100;
+  self_pid = 100;
   caller_mfa = None;
   alive = true ∷ true ∷ replicate 62 false;
   flags = with_flags_in (replicate 64 no_flags) 100 (only call_flag);
@@ -56,12 +56,12 @@ messages_of [] = []
 messages_of (gives_message t ∷ es) = t ∷ messages_of es
 messages_of (_ ∷ es) = messages_of es
 
-abbrev told_by : Outcome → List Tree
-told_by no_match = []
-told_by (matched es) = messages_of es
+abbrev reported_by : Outcome → List Tree
+reported_by no_match = []
+reported_by (matched es) = messages_of es
 
 abbrev told_if_read : Reads Spec → List Tree
-told_if_read (Ok s) = told_by (outcome_of s (on_call (int (pos 1) ∷ [])))
+told_if_read (Ok s) = reported_by (outcome_of s (on_call (int (pos 1) ∷ [])))
 told_if_read (Err e) = word "fault" ∷ []
 
 -- what the body tells of the call f(1), where its specification is read
@@ -73,19 +73,19 @@ truths a b = list (more a (more b none))
 
 -- ---- values
 
--- [{trace,[],[send]},{trace,[],[send]},{trace,[send],[]},{trace,[call],[call]}]: the second changes nothing more, and `call` is there behind the last as it was before
+-- [{trace,[],[send]},{trace,[],[send]},{trace,[send],[]},{trace,[call],[call]}]: the second changes nothing more, and `call` is there after the last as it was before
 tells_each_change : told_at_call (more (sent_message (list
     (more (traced no_list (one_flag (word "send"))) (more (traced no_list (one_flag (word "send"))) (more (traced (one_flag (word "send")) no_list) (more (traced (one_flag (word "call")) (one_flag (word "call"))) none)))))) none)
     ≡ list (more (word "true") (more (word "false") (more (word "true") (more (word "false") none)))) ∷ []
 tells_each_change = refl
 
 -- [{enable_trace,send},{trace,[],[send]}]: effects of the same body count
-tells_behind_other_effects : told_at_call (more (sent_message (truths (called (word "enable_trace") (more (word "send") none)) (traced no_list (one_flag (word "send"))))) none) ≡ truths (word "true") (word "false") ∷ []
-tells_behind_other_effects = refl
+tells_after_other_effects : told_at_call (more (sent_message (truths (called (word "enable_trace") (more (word "send") none)) (traced no_list (one_flag (word "send"))))) none) ≡ truths (word "true") (word "false") ∷ []
+tells_after_other_effects = refl
 
 -- {silent,true} sets a flag too
-tells_behind_silent : told_at_call (more (called (word "silent") (more (word "true") none)) (more (sent_message (traced no_list (one_flag (word "silent")))) none)) ≡ word "false" ∷ []
-tells_behind_silent = refl
+tells_after_silent : told_at_call (more (called (word "silent") (more (word "true") none)) (more (sent_message (traced no_list (one_flag (word "silent")))) none)) ≡ word "false" ∷ []
+tells_after_silent = refl
 
 -- {trace,{self},[],[arity]} as the message
 tells_of_self : told_at_call (more (sent_message (traced_at own no_list (one_flag (word "arity")))) (more (sent_message (traced_at own no_list (one_flag (word "arity")))) none)) ≡ word "true" ∷ word "false" ∷ []
@@ -96,8 +96,8 @@ tells_of_another : told_at_call (more (sent_message (traced_at (pid 101) no_list
 tells_of_another = refl
 
 -- a flag that is in both lists is set where it wasn't
-sets_behind_clearing : told_at_call (more (sent_message (truths (traced (one_flag (word "send")) (one_flag (word "send"))) (traced (one_flag (word "send")) no_list))) none) ≡ truths (word "true") (word "true") ∷ []
-sets_behind_clearing = refl
+sets_after_clearing : told_at_call (more (sent_message (truths (traced (one_flag (word "send")) (one_flag (word "send"))) (traced (one_flag (word "send")) no_list))) none) ≡ truths (word "true") (word "true") ∷ []
+sets_after_clearing = refl
 
 -- empty lists change nothing, and a flag that is listed twice is one flag
 tells_of_no_change : told_at_call (more (sent_message (truths (traced no_list no_list) (traced no_list (list (more (word "call") (more (word "call") none)))))) none) ≡ truths (word "false") (word "false") ∷ []
@@ -136,7 +136,7 @@ abbrev dead : Context
 dead = record (on_call (int (pos 1) ∷ [])) { alive = replicate 64 false }
 
 abbrev told_if_dead : Reads Spec → List Tree
-told_if_dead (Ok s) = told_by (outcome_of s dead)
+told_if_dead (Ok s) = reported_by (outcome_of s dead)
 told_if_dead (Err e) = word "fault" ∷ []
 
 dead_self_is_a_fault : told_if_dead (spec_of for_calls (one_clause (more (sent_message (traced no_list (one_flag (word "send")))) none))) ≡ word "EXIT" ∷ []

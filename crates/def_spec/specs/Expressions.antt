@@ -1,12 +1,12 @@
 -- Expressions of conditions and bodies, their values and their effects ("Match Specifications in Erlang", "Variables and Literals" and "Function Descriptions").
--- Stands on bindings, on functions of values and on flags. Only the action `trace` reads flags, and with them the effects before it.
+-- Depends on bindings, on functions of values and on flags. Only the action `trace` reads flags, and with them the effects before it.
 use Rattle.std.specs.Prelude.{ℕ, Bool, true, false, not, if◌then◌else◌, List, [], ◌∷◌, ◌++◌, Option, Some, None}
 use Rattle.std.specs.Option.{option_map}
 use Rattle.def_term.specs.Tree.{Tree, pid, tuple, list, of_elements}
 use Rattle.def_term.specs.Order.{same}
 use Rattle.def_term.specs.Names.{Mfa, word, mfa_term}
 use Rattle.def_term.specs.Alive.{Alive, is_alive}
-use Rattle.def_spec.specs.Flags.{Flag, Flags, no_flags, only, joined, without, same_flags, silent_flag, flag_named, flags_listed, FlagTable, flags_in, with_flags_in}
+use Rattle.def_spec.specs.Flags.{Flag, Flags, no_flags, only, union, without, same_flags, silent_flag, flag_named, flags_listed, FlagTable, flags_in, with_flags_in}
 use Rattle.def_spec.specs.Matching.{Bindings, value_bound}
 use Rattle.def_spec.specs.Functions.{Func, truth, is_true, apply}
 
@@ -44,7 +44,7 @@ mutual
 -- what an expression is evaluated in: the list that is matched, the own pid, the function of the frame beneath, who lives, and the flags of all processes
 pub record Context : Type 0 where
   pub matched_list : List Tree
-  pub me : ℕ
+  pub self_pid : ℕ
   pub caller_mfa : Option Mfa
   pub alive : Alive
   pub flags : FlagTable
@@ -60,25 +60,25 @@ pub data Effect : Type 0 where
   changes : (of_pid : ℕ) → (off on : Flags) → Effect
 
 -- flags cleared first and then set
-abbrev pub changed : Flags → (off on : Flags) → Flags
-changed f off on = joined (without f off) on
+abbrev pub change_flags : Flags → (off on : Flags) → Flags
+change_flags f off on = union (without f off) on
 
--- the flags of all processes behind an effect in the process me
-abbrev pub flags_behind : ℕ → FlagTable → Effect → FlagTable
-flags_behind me t (gives_message u) = t
-flags_behind me t traces_return = t
-flags_behind me t traces_exception = t
-flags_behind me t (silences b) = with_flags_in t me (if b then joined (flags_in t me) (only silent_flag) else without (flags_in t me) (only silent_flag))
-flags_behind me t (changes n off on) = with_flags_in t n (changed (flags_in t n) off on)
+-- the flags of all processes after an effect in the process me
+abbrev pub flags_by : ℕ → FlagTable → Effect → FlagTable
+flags_by self_pid t (gives_message u) = t
+flags_by self_pid t traces_return = t
+flags_by self_pid t traces_exception = t
+flags_by self_pid t (silences b) = with_flags_in t self_pid (if b then union (flags_in t self_pid) (only silent_flag) else without (flags_in t self_pid) (only silent_flag))
+flags_by self_pid t (changes n off on) = with_flags_in t n (change_flags (flags_in t n) off on)
 
--- behind several, in order
+-- after several, in order
 abbrev pub flags_after : ℕ → FlagTable → List Effect → FlagTable
-flags_after me t [] = t
-flags_after me t (e ∷ es) = flags_after me (flags_behind me t e) es
+flags_after self_pid t [] = t
+flags_after self_pid t (e ∷ es) = flags_after self_pid (flags_by self_pid t e) es
 
--- what is evaluated behind some effects has the flags that are there then
+-- what is evaluated after some effects has the flags that are there then
 abbrev pub context_after : Context → List Effect → Context
-context_after c es = record c { flags = flags_after c.me c.flags es }
+context_after c es = record c { flags = flags_after c.self_pid c.flags es }
 
 -- ---- actions
 
@@ -95,13 +95,13 @@ change on _ _ = None
 -- of a flag on self, or of flag E2 on pid E1
 abbrev pub change_by : Bool → Context → List Tree → Option (List Effect)
 change_by on c [] = None
-change_by on c (f ∷ []) = change on (living_pid c.alive (pid c.me)) (flag_named f)
+change_by on c (f ∷ []) = change on (living_pid c.alive (pid c.self_pid)) (flag_named f)
 change_by on c (p ∷ f ∷ []) = change on (living_pid c.alive p) (flag_named f)
 change_by on c (p ∷ f ∷ t ∷ ts) = None
 
 -- `true` where the flags of the process differ afterwards from those just before, else `false` (own)
 abbrev pub is_changing : Flags → (off on : Flags) → Bool
-is_changing f off on = not (same_flags f (changed f off on))
+is_changing f off on = not (same_flags f (change_flags f off on))
 
 -- two lists of flags on a living process; any other value is a fault without an effect (own)
 abbrev pub trace_change : Context → Option ℕ → Option Flags → Option Flags → Option (Tree × List Effect)
@@ -114,7 +114,7 @@ trace_on c p off on = trace_change c (living_pid c.alive p) (flags_listed off) (
 
 -- {trace,Disable,Enable} on self, {trace,Pid,Disable,Enable} on that pid
 abbrev pub trace_by : Context → List Tree → Option (Tree × List Effect)
-trace_by c (off ∷ on ∷ []) = trace_on c (pid c.me) off on
+trace_by c (off ∷ on ∷ []) = trace_on c (pid c.self_pid) off on
 trace_by c (p ∷ off ∷ on ∷ []) = trace_on c p off on
 trace_by c _ = None
 
@@ -149,9 +149,9 @@ action_done d caller ts c = Some (caller_term c.caller_mfa, [])
 -- ---- values
 
 -- where a fault is a fault of the whole, and where it is 'EXIT'
-pub data Part : Type 0 where
-  in_condition : Part
-  in_body : Part
+pub data Position : Type 0 where
+  in_condition : Position
+  in_body : Position
 
 -- an expression comes to a value or faults; with the effects so far
 pub data Evaluation (X : Type 0) : Type 0 where
@@ -169,25 +169,25 @@ or_fault (Some t) es = comes_to t es
 or_fault None es = faults es
 
 -- in a condition a fault is the fault of the whole, in a body a call that faults has the value 'EXIT' (own)
-abbrev pub settled : Part → Option Tree → Option Tree
-settled in_condition r = r
-settled in_body None = Some (word "EXIT")
-settled in_body (Some t) = Some t
+abbrev pub settle : Position → Option Tree → Option Tree
+settle in_condition r = r
+settle in_body None = Some (word "EXIT")
+settle in_body (Some t) = Some t
 
--- the effects of an action stand behind those so far; one that faults has none. Actions stand in bodies alone
-abbrev pub performed : Part → Option (Tree × List Effect) → List Effect → Evaluation Tree
-performed in_condition r es = faults es
-performed in_body None es = comes_to (word "EXIT") es
-performed in_body (Some p) es = comes_to p.0 (es ++ p.1)
+-- the effects of an action stand after those so far; one that faults has none. Actions stand in bodies alone
+abbrev pub with_effect : Position → Option (Tree × List Effect) → List Effect → Evaluation Tree
+with_effect in_condition r es = faults es
+with_effect in_body None es = comes_to (word "EXIT") es
+with_effect in_body (Some p) es = comes_to p.0 (es ++ p.1)
 
 -- by rising number
 abbrev pub values_bound : Bindings → List Tree
 values_bound [] = []
 values_bound (e ∷ es) = e.1 ∷ values_bound es
 
-module _ (d : Dialect) (part : Part) (b : Bindings) (c : Context) where
+module _ (d : Dialect) (part : Position) (b : Bindings) (c : Context) where
   abbrev mutual
-    -- what an expression comes to behind these effects; its own stand behind them, an argument's before its call's
+    -- what an expression comes to after these effects; its own stand after them, an argument's before its call's
     pub evaluation : Expr → List Effect → Evaluation Tree
     evaluation (bound_to n) x = or_fault (value_bound b n) x
     evaluation whole_list x = comes_to (list (of_elements c.matched_list)) x
@@ -195,10 +195,10 @@ module _ (d : Dialect) (part : Part) (b : Bindings) (c : Context) where
     evaluation (constant t) x = comes_to t x
     evaluation (tuple_of es) x = then_on (evaluation_of_all es x) (λ ts y. comes_to (tuple (of_elements ts)) y)
     evaluation (list_of es) x = then_on (evaluation_of_all es x) (λ ts y. comes_to (list (of_elements ts)) y)
-    evaluation (call f es) x = then_on (evaluation_of_all es x) (λ ts y. or_fault (settled part (apply f ts c.me)) y)
+    evaluation (call f es) x = then_on (evaluation_of_all es x) (λ ts y. or_fault (settle part (apply f ts c.self_pid)) y)
     evaluation (and_also es) x = evaluation_while_true es x
     evaluation (or_else es) x = evaluation_until_true es x
-    evaluation (perform a es) x = then_on (evaluation_of_all es x) (λ ts y. performed part (action_done d a ts (context_after c y)) y)
+    evaluation (perform a es) x = then_on (evaluation_of_all es x) (λ ts y. with_effect part (action_done d a ts (context_after c y)) y)
 
     -- left to right (own)
     pub evaluation_of_all : Exprs → List Effect → Evaluation (List Tree)
@@ -233,11 +233,11 @@ is_true_value None = false
 is_true_value (Some t) = is_true t
 
 -- the value of an expression, with no effect before it
-abbrev pub value : Dialect → Part → Bindings → Context → Expr → Option Tree
+abbrev pub value : Dialect → Position → Bindings → Context → Expr → Option Tree
 value d part b c e = its_value (evaluation d part b c e [])
 
 -- those of several
-abbrev pub values : Dialect → Part → Bindings → Context → Exprs → Option (List Tree)
+abbrev pub values : Dialect → Position → Bindings → Context → Exprs → Option (List Tree)
 values d part b c es = its_value (evaluation_of_all d part b c es [])
 
 -- the effects of a body

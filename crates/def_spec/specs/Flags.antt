@@ -1,5 +1,5 @@
 -- The ten flags of processes in a session (trace:process/4), sets of them, and the flags of all processes.
--- Stands on terms and on the pids of processes.
+-- Depends on terms and on the pids of processes.
 use Rattle.std.specs.Prelude.{ℕ, ◌-◌, ◌==◌, Bool, false, not, ◌&&◌, ◌||◌, if◌then◌else◌, List, [], ◌∷◌, Option, Some, None, codes, slice_get, slice_set}
 use Rattle.std.specs.Option.{option_map, unwrap_or}
 use Rattle.std.specs.Str.{bytes_eq}
@@ -37,8 +37,8 @@ abbrev pub only : Flag → Flags
 only f g = number_of f == number_of g
 
 -- the flags of either set
-abbrev pub joined : Flags → Flags → Flags
-joined f g x = f x || g x
+abbrev pub union : Flags → Flags → Flags
+union f g x = f x || g x
 
 -- the flags of the first set that are not in the second
 abbrev pub without : Flags → Flags → Flags
@@ -73,7 +73,7 @@ flag_named _ = None
 -- one more flag, where there is one
 abbrev pub and_flag : Option Flag → Option Flags → Option Flags
 and_flag None fs = None
-and_flag (Some f) fs = option_map (joined (only f)) fs
+and_flag (Some f) fs = option_map (union (only f)) fs
 
 -- the flags that the elements of a list name; none where one is no flag
 abbrev pub flags_named : Trees → Option Flags
@@ -105,13 +105,13 @@ with_flags_in t n f = slice_set t (n - FIRST_PID) f
 -- With the first alone it gives all, that one too; with the second all but that one, which it loses; with both all but both, which it loses (own)
 abbrev pub given_and_kept : (always first : Flag) → Flags → Flags × Flags
 given_and_kept always first f =
-    let rest : Flags = without f (joined (only always) (only first)) in
+    let rest : Flags = without f (union (only always) (only first)) in
     if f first then (rest, rest) else (if f always then f else no_flags, f)
 
 -- the new flags of parent and child
 abbrev pub after_spawn : (parent child : Flags) → Flags × Flags
-after_spawn parent child = let pair : Flags × Flags = given_and_kept set_on_spawn set_on_first_spawn parent in (pair.1, joined child pair.0)
+after_spawn parent child = let pair : Flags × Flags = given_and_kept set_on_spawn set_on_first_spawn parent in (pair.1, union child pair.0)
 
 -- the new flags of the linking process and its partner
 abbrev pub after_link : (linker partner : Flags) → Flags × Flags
-after_link linker partner = let pair : Flags × Flags = given_and_kept set_on_link set_on_first_link linker in (pair.1, joined partner pair.0)
+after_link linker partner = let pair : Flags × Flags = given_and_kept set_on_link set_on_first_link linker in (pair.1, union partner pair.0)

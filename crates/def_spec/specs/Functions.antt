@@ -1,5 +1,5 @@
 -- The functions of conditions and bodies ("Match Specifications in Erlang", "Function Descriptions", "Functions Allowed in All Types of Match Specifications"), and the value of one on values.
--- Stands on terms and their order. None is a fault.
+-- Depends on terms and their order. None is a fault.
 use Rattle.std.specs.Prelude.{ℕ, zero, suc, ◌-◌, ◌^◌, Bool, true, false, not, ◌&&◌, ◌||◌, if◌then◌else◌, List, [], ◌∷◌, Option, Some, None, ℤ, pos, negsuc, ◌+ℤ◌, ◌-ℤ◌, ◌*ℤ◌, neg_ℤ, int_le, int_div, int_rem}
 use Rattle.std.specs.Int.{w64, int_bit_and, int_bit_or, int_bit_xor}
 use Rattle.std.specs.Ordering.{is_gt, is_ge, is_lt, is_le}
@@ -120,9 +120,9 @@ whole f ts = on_two (of_integers (λ a b. in_64_bits (f a b))) ts
 -- ---- lists and tuples
 
 -- hd of a nonempty list; else a fault
-abbrev pub head_of : Tree → Option Tree
-head_of (list (more t ts)) = Some t
-head_of _ = None
+abbrev pub first_element : Tree → Option Tree
+first_element (list (more t ts)) = Some t
+first_element _ = None
 
 -- tl of a nonempty list; else a fault
 abbrev pub tail_of : Tree → Option Tree
@@ -174,48 +174,48 @@ node_of (_ ∷ ts) = None
 
 -- the value of one function on values
 abbrev pub apply : Func → List Tree → ℕ → Option Tree
-apply is_atom ts me = tests atom_test ts
-apply is_integer ts me = tests integer_test ts
-apply is_list ts me = tests list_test ts
-apply is_tuple ts me = tests tuple_test ts
-apply is_pid ts me = tests pid_test ts
-apply is_number ts me = tests integer_test ts
-apply is_boolean ts me = tests boolean_test ts
-apply is_float ts me = tests (λ t. false) ts
-apply is_port ts me = tests (λ t. false) ts
-apply is_reference ts me = tests (λ t. false) ts
-apply is_map ts me = tests (λ t. false) ts
-apply is_binary ts me = tests (λ t. false) ts
-apply is_bitstring ts me = tests (λ t. false) ts
-apply is_function ts me = tests (λ t. false) ts
-apply head ts me = on_one head_of ts
-apply tail ts me = on_one tail_of ts
-apply length ts me = on_one length_of ts
-apply size ts me = on_one tuple_size_of ts
-apply tuple_size ts me = on_one tuple_size_of ts
-apply element ts me = on_two element_of ts
-apply absolute ts me = on_one (of_integer magnitude) ts
-apply add ts me = whole (λ a b. a +ℤ b) ts
-apply subtract ts me = whole (λ a b. a -ℤ b) ts
-apply multiply ts me = whole (λ a b. a *ℤ b) ts
-apply divide ts me = on_two (of_integers quotient) ts
-apply remainder ts me = on_two (of_integers rest_of) ts
-apply bit_and ts me = whole (int_bit_and w64) ts
-apply bit_or ts me = whole (int_bit_or w64) ts
-apply bit_xor ts me = whole (int_bit_xor w64) ts
-apply bit_not ts me = on_one (of_integer (λ a. neg_ℤ a -ℤ pos 1)) ts
-apply greater ts me = compares (λ t u. is_gt (tree_cmp t u)) ts
-apply greater_or_equal ts me = compares (λ t u. is_ge (tree_cmp t u)) ts
-apply less ts me = compares (λ t u. is_lt (tree_cmp t u)) ts
-apply less_or_equal ts me = compares (λ t u. is_le (tree_cmp t u)) ts
-apply equal ts me = compares same ts
-apply exactly_equal ts me = compares same ts
-apply not_equal ts me = compares (λ t u. not (same t u)) ts
-apply exactly_not_equal ts me = compares (λ t u. not (same t u)) ts
-apply own_pid [] me = Some (pid me)
-apply own_pid (t ∷ ts) me = None
-apply own_node ts me = node_of ts
-apply all_of ts me = Some (truth (all_true ts))
-apply one_of ts me = Some (truth (some_true ts))
-apply just_one_of ts me = compares differ ts
-apply is_false ts me = tests (λ t. same t (word "false")) ts
+apply is_atom ts self_pid = tests atom_test ts
+apply is_integer ts self_pid = tests integer_test ts
+apply is_list ts self_pid = tests list_test ts
+apply is_tuple ts self_pid = tests tuple_test ts
+apply is_pid ts self_pid = tests pid_test ts
+apply is_number ts self_pid = tests integer_test ts
+apply is_boolean ts self_pid = tests boolean_test ts
+apply is_float ts self_pid = tests (λ t. false) ts
+apply is_port ts self_pid = tests (λ t. false) ts
+apply is_reference ts self_pid = tests (λ t. false) ts
+apply is_map ts self_pid = tests (λ t. false) ts
+apply is_binary ts self_pid = tests (λ t. false) ts
+apply is_bitstring ts self_pid = tests (λ t. false) ts
+apply is_function ts self_pid = tests (λ t. false) ts
+apply head ts self_pid = on_one first_element ts
+apply tail ts self_pid = on_one tail_of ts
+apply length ts self_pid = on_one length_of ts
+apply size ts self_pid = on_one tuple_size_of ts
+apply tuple_size ts self_pid = on_one tuple_size_of ts
+apply element ts self_pid = on_two element_of ts
+apply absolute ts self_pid = on_one (of_integer magnitude) ts
+apply add ts self_pid = whole (λ a b. a +ℤ b) ts
+apply subtract ts self_pid = whole (λ a b. a -ℤ b) ts
+apply multiply ts self_pid = whole (λ a b. a *ℤ b) ts
+apply divide ts self_pid = on_two (of_integers quotient) ts
+apply remainder ts self_pid = on_two (of_integers rest_of) ts
+apply bit_and ts self_pid = whole (int_bit_and w64) ts
+apply bit_or ts self_pid = whole (int_bit_or w64) ts
+apply bit_xor ts self_pid = whole (int_bit_xor w64) ts
+apply bit_not ts self_pid = on_one (of_integer (λ a. neg_ℤ a -ℤ pos 1)) ts
+apply greater ts self_pid = compares (λ t u. is_gt (tree_cmp t u)) ts
+apply greater_or_equal ts self_pid = compares (λ t u. is_ge (tree_cmp t u)) ts
+apply less ts self_pid = compares (λ t u. is_lt (tree_cmp t u)) ts
+apply less_or_equal ts self_pid = compares (λ t u. is_le (tree_cmp t u)) ts
+apply equal ts self_pid = compares same ts
+apply exactly_equal ts self_pid = compares same ts
+apply not_equal ts self_pid = compares (λ t u. not (same t u)) ts
+apply exactly_not_equal ts self_pid = compares (λ t u. not (same t u)) ts
+apply own_pid [] self_pid = Some (pid self_pid)
+apply own_pid (t ∷ ts) self_pid = None
+apply own_node ts self_pid = node_of ts
+apply all_of ts self_pid = Some (truth (all_true ts))
+apply one_of ts self_pid = Some (truth (some_true ts))
+apply just_one_of ts self_pid = compares differ ts
+apply is_false ts self_pid = tests (λ t. same t (word "false")) ts

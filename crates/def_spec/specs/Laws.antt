@@ -1,5 +1,5 @@
 -- What is promised of specifications ("Match Specifications in Erlang") and of flags (trace:process/4).
--- Stands on all definitions of specifications.
+-- Depends on all definitions of specifications.
 use Rattle.std.specs.Prelude.{◌≡◌, ◌↔◌, ◌≤◌, ◌⊎◌, ℕ, suc, nat_le, Bool, true, false, not, ◌&&◌, ◌||◌, List, [], ◌∷◌, ◌++◌, length, Option, Some, None, is_some, Ok, Err}
 use Rattle.std.specs.Bool.{⊤}
 use Rattle.def_term.specs.Tree.{Tree, atom, pid, tuple, list, Trees, none, more}
@@ -10,9 +10,9 @@ use Rattle.def_spec.specs.Flags.{Flag, Flags, FlagTable, flags_in, flags_listed,
 use Rattle.def_spec.specs.Matching.{Pattern, Bindings, Matches, bindings_of, occurs}
 use Rattle.def_spec.specs.Functions as fn
 use Rattle.def_spec.specs.Functions.{Func, truth}
-use Rattle.def_spec.specs.Expressions.{Dialect, Action, message, return_trace, exception_trace, silent, enable_trace, disable_trace, trace, caller, Expr, bound_to, whole_list, all_bound, constant, tuple_of, list_of, call, and_also, or_else, perform, Exprs, no_exprs, and_expr, Context, Effect, changes, changed, living_pid, trace_on, Part, in_condition, in_body, Evaluation, comes_to, faults, or_fault, evaluation, its_value, its_effects, value, values}
+use Rattle.def_spec.specs.Expressions.{Dialect, Action, message, return_trace, exception_trace, silent, enable_trace, disable_trace, trace, caller, Expr, bound_to, whole_list, all_bound, constant, tuple_of, list_of, call, and_also, or_else, perform, Exprs, no_exprs, and_expr, Context, Effect, changes, change_flags, living_pid, trace_on, Position, in_condition, in_body, Evaluation, comes_to, faults, or_fault, evaluation, its_value, its_effects, value, values}
 use Rattle.def_spec.specs.Outcome.{Clause, Spec, Outcome, IsOutcome, outcome_of}
-use Rattle.def_spec.specs.Reading.{SpecFault, unsupported, Called, a_function, an_and_also, an_or_else, an_action, has_action, is_at_most, unsupported_names, expr_of, exprs_of, head_of, clause_of, spec_of}
+use Rattle.def_spec.specs.Reading.{SpecFault, unsupported, Callee, a_function, an_and_also, an_or_else, an_action, has_action, is_at_most, unsupported_names, expr_of, exprs_of, head_of, clause_of, spec_of}
 
 -- ---- matching
 
@@ -65,7 +65,7 @@ BodiesHaveValues =
     (d : Dialect) (head : Pattern) (t : Tree) (b : Bindings) (c : Context) (e : Expr) (x : List Effect) → Matches head t b → IsCovered head e →
     is_some (its_value (evaluation d in_body b c e x)) ≡ true
 
--- a condition adds no effect, and has the same value with any flags and behind any effects
+-- a condition adds no effect, and has the same value with any flags and after any effects
 abbrev pub ConditionsHaveNoEffects : Type 0
 ConditionsHaveNoEffects =
     (d : Dialect) (b : Bindings) (c : Context) (flags : FlagTable) (e : Expr) (x : List Effect) →
@@ -73,9 +73,9 @@ ConditionsHaveNoEffects =
 
 -- ---- effects
 
--- the effects of what is evaluated stand behind those so far
-abbrev pub EffectsStandBehind : Type 0
-EffectsStandBehind = (d : Dialect) (part : Part) (b : Bindings) (c : Context) (e : Expr) (x : List Effect) → (own : List Effect) × (its_effects (evaluation d part b c e x) ≡ x ++ own)
+-- the effects of what is evaluated stand after those so far
+abbrev pub EffectsStandAfter : Type 0
+EffectsStandAfter = (d : Dialect) (part : Position) (b : Bindings) (c : Context) (e : Expr) (x : List Effect) → (own : List Effect) × (its_effects (evaluation d part b c e x) ≡ x ++ own)
 
 -- an action that isn't `trace`
 abbrev pub IsOther : Action → Type 0
@@ -102,18 +102,18 @@ abbrev mutual
   AreTraceless (and_expr e es) = IsTraceless e × AreTraceless es
 
 -- the same with these effects in front
-abbrev pub behind : {X : Type 0} → List Effect → Evaluation X → Evaluation X
-behind x (comes_to t y) = comes_to t (x ++ y)
-behind x (faults y) = faults (x ++ y)
+abbrev pub after_effects : {X : Type 0} → List Effect → Evaluation X → Evaluation X
+after_effects x (comes_to t y) = comes_to t (x ++ y)
+after_effects x (faults y) = faults (x ++ y)
 
--- without `trace` an expression has the value and the effects that it has alone, with any flags and behind any effects
+-- without `trace` an expression has the value and the effects that it has alone, with any flags and after any effects
 abbrev pub OnlyTraceReadsFlags : Type 0
 OnlyTraceReadsFlags =
-    (d : Dialect) (part : Part) (b : Bindings) (c : Context) (flags : FlagTable) (e : Expr) (x : List Effect) → IsTraceless e →
-    evaluation d part b (record c { flags = flags }) e x ≡ behind x (evaluation d part b c e [])
+    (d : Dialect) (part : Position) (b : Bindings) (c : Context) (flags : FlagTable) (e : Expr) (x : List Effect) → IsTraceless e →
+    evaluation d part b (record c { flags = flags }) e x ≡ after_effects x (evaluation d part b c e [])
 
 -- each expression has the value that it has alone
-abbrev pub EachValue : Dialect → Part → Bindings → Context → Exprs → List Tree → Type 0
+abbrev pub EachValue : Dialect → Position → Bindings → Context → Exprs → List Tree → Type 0
 EachValue d part b c no_exprs [] = ⊤
 EachValue d part b c no_exprs (t ∷ ts) = ⊥
 EachValue d part b c (and_expr e es) [] = ⊥
@@ -122,7 +122,7 @@ EachValue d part b c (and_expr e es) (t ∷ ts) = (value d part b c e ≡ Some t
 -- without `trace` the values of several expressions are the values of each by itself: what was evaluated before, and the effects that it had, change none
 abbrev pub EffectsChangeNoValue : Type 0
 EffectsChangeNoValue =
-    (d : Dialect) (part : Part) (b : Bindings) (c : Context) (es : Exprs) (ts : List Tree) → AreTraceless es →
+    (d : Dialect) (part : Position) (b : Bindings) (c : Context) (es : Exprs) (ts : List Tree) → AreTraceless es →
     (values d part b c es ≡ Some ts) ↔ EachValue d part b c es ts
 
 -- ---- the action `trace`
@@ -132,7 +132,7 @@ abbrev pub TraceTellsAChange : Type 0
 TraceTellsAChange =
     (c : Context) (n : ℕ) (disable enable : Tree) (off on : Flags) → is_alive c.alive n ≡ true → flags_listed disable ≡ Some off → flags_listed enable ≡ Some on →
     (b : Bool) × (trace_on c (pid n) disable enable ≡ Some (truth b, changes n off on ∷ []))
-    × ((b ≡ false) ↔ ((f : Flag) → changed (flags_in c.flags n) off on f ≡ flags_in c.flags n f))
+    × ((b ≡ false) ↔ ((f : Flag) → change_flags (flags_in c.flags n) off on f ≡ flags_in c.flags n f))
 
 -- anything else is a fault
 abbrev pub TraceFaults : Type 0
@@ -142,7 +142,7 @@ TraceFaults =
 
 -- a flag that is set is there whether it is cleared too or not; any other is there if it was and isn't cleared
 abbrev pub ClearsBeforeItSets : Type 0
-ClearsBeforeItSets = (f off on : Flags) (x : Flag) → (on x ≡ true → changed f off on x ≡ true) × (on x ≡ false → changed f off on x ≡ (f x && not (off x)))
+ClearsBeforeItSets = (f off on : Flags) (x : Flag) → (on x ≡ true → change_flags f off on x ≡ true) × (on x ≡ false → change_flags f off on x ≡ (f x && not (off x)))
 
 -- ---- reading
 
@@ -189,14 +189,14 @@ numbers_of_action trace = (2, Some 3)
 numbers_of_action caller = (0, Some 0)
 
 -- those of what is called
-abbrev pub numbers_of : Called → ℕ × Option ℕ
+abbrev pub numbers_of : Callee → ℕ × Option ℕ
 numbers_of (a_function f) = numbers_of_function f
 numbers_of an_and_also = (1, None)
 numbers_of an_or_else = (1, None)
 numbers_of (an_action a) = numbers_of_action a
 
 -- a call in a part where it is allowed: no action stands in a condition, nor one that the dialect lacks
-abbrev pub IsAllowed : Dialect → Part → Called → Type 0
+abbrev pub IsAllowed : Dialect → Position → Callee → Type 0
 IsAllowed d in_condition (an_action a) = ⊥
 IsAllowed d in_body (an_action a) = has_action d a ≡ true
 IsAllowed d part (a_function f) = ⊤
@@ -204,14 +204,14 @@ IsAllowed d part an_and_also = ⊤
 IsAllowed d part an_or_else = ⊤
 
 -- the number of arguments is one that the function has, and the call may stand there
-pub record IsFitting (d : Dialect) (part : Part) (f : Called) (n : ℕ) : Type 0 where
+pub record IsFitting (d : Dialect) (part : Position) (f : Callee) (n : ℕ) : Type 0 where
   pub least : nat_le (numbers_of f).0 n ≡ true
   pub most : is_at_most (numbers_of f).1 n ≡ true
   pub allowed : IsAllowed d part f
 
 abbrev mutual
   -- each call in the expression fits
-  pub AllCallsFit : Dialect → Part → Expr → Type 0
+  pub AllCallsFit : Dialect → Position → Expr → Type 0
   AllCallsFit d part (bound_to n) = ⊤
   AllCallsFit d part whole_list = ⊤
   AllCallsFit d part all_bound = ⊤
@@ -224,7 +224,7 @@ abbrev mutual
   AllCallsFit d part (perform a es) = IsFitting d part (an_action a) (count_of es) × CallsOfAllFit d part es
 
   -- of several expressions
-  pub CallsOfAllFit : Dialect → Part → Exprs → Type 0
+  pub CallsOfAllFit : Dialect → Position → Exprs → Type 0
   CallsOfAllFit d part no_exprs = ⊤
   CallsOfAllFit d part (and_expr e es) = AllCallsFit d part e × CallsOfAllFit d part es
 
@@ -287,11 +287,11 @@ BodyFaultLast =
 -- of several expressions the first fault
 abbrev pub FirstFaultyExpression : Type 0
 FirstFaultyExpression =
-    (d : Dialect) (part : Part) (p : Pattern) (t : Tree) (ts : Trees) (e : SpecFault) → expr_of d part p t ≡ Err e → exprs_of d part p (more t ts) ≡ Err e
+    (d : Dialect) (part : Position) (p : Pattern) (t : Tree) (ts : Trees) (e : SpecFault) → expr_of d part p t ≡ Err e → exprs_of d part p (more t ts) ≡ Err e
 
 -- an unsupported name is a fault of its own, whatever its arguments
 abbrev pub UnsupportedFirst : Type 0
-UnsupportedFirst = (d : Dialect) (part : Part) (p : Pattern) (s : Name) (ts : Trees) → is_among unsupported_names s ≡ true → expr_of d part p (tuple (more (atom s) ts)) ≡ Err (unsupported s)
+UnsupportedFirst = (d : Dialect) (part : Position) (p : Pattern) (s : Name) (ts : Trees) → is_among unsupported_names s ≡ true → expr_of d part p (tuple (more (atom s) ts)) ≡ Err (unsupported s)
 
 -- ---- inheritance
 

@@ -1,5 +1,5 @@
 -- Heads of clauses, and what it is to match one ("Match Specifications in Erlang", "Grammar").
--- Stands on terms and their equality. Above the walk that finds a binding stands `Matches`, which knows no walk.
+-- Depends on terms and their equality. Above the walk that finds a binding stands `Matches`, which knows no walk.
 use Rattle.std.specs.Prelude.{◌≡◌, ℕ, ◌==◌, Bool, false, ◌||◌, if◌then◌else◌, List, [], ◌∷◌, Option, Some, None, is_some, unwrap_or, IsTrue}
 use Rattle.std.specs.Ordering.{nat_cmp}
 use Rattle.std.specs.Option.{option_and_then}
@@ -73,14 +73,14 @@ pub record Matches (p : Pattern) (t : Tree) (b : Bindings) : Type 0 where
   pub filled : (fill : Fill) × (subst_in p b fill ≡ t)
 
 -- what is bound once t was met at the variable n, where it had that value
-abbrev pub met : ℕ → Tree → Bindings → Option Tree → Option Bindings
-met n t b None = Some (put nat_cmp n t b)
-met n t b (Some u) = if same u t then Some b else None
+abbrev pub bind : ℕ → Tree → Bindings → Option Tree → Option Bindings
+bind n t b None = Some (put nat_cmp n t b)
+bind n t b (Some u) = if same u t then Some b else None
 
 -- the bindings after a pattern was held against a term, from those before
 abbrev mutual
   pub bind_on : Pattern → Tree → Bindings → Option Bindings
-  bind_on (variable n) t b = met n t b (value_bound b n)
+  bind_on (variable n) t b = bind n t b (value_bound b n)
   bind_on anything t b = Some b
   bind_on (only_term c) t b = if same c t then Some b else None
   bind_on (in_tuple ps) (tuple ts) b = bind_each ps ts b

@@ -1,5 +1,5 @@
 -- The outcome of a specification ("Match Specifications in Erlang", "Execution of the Match").
--- Stands on matching, values and effects.
+-- Depends on matching, values and effects.
 -- Above the computed outcome stands `IsOutcome`: the least-numbered clause that fires.
 use Rattle.std.specs.Prelude.{◌≡◌, Bool, true, ◌⊎◌, ◌&&◌, if◌then◌else◌, List, [], ◌∷◌, Option, Some, None}
 use Rattle.std.specs.Option.{option_and_then}
@@ -57,8 +57,8 @@ each_true d b c no_exprs = true
 each_true d b c (and_expr e es) = is_true_value (value d in_condition b c e) && each_true d b c es
 
 -- the binding with which a clause fires, where it does
-abbrev pub firing : Dialect → Clause → Context → Option Bindings
-firing d k c = option_and_then (λ b. if each_true d b c k.conditions then Some b else None) (bindings_of k.head (matched_term c))
+abbrev pub firing_bindings : Dialect → Clause → Context → Option Bindings
+firing_bindings d k c = option_and_then (λ b. if each_true d b c k.conditions then Some b else None) (bindings_of k.head (matched_term c))
 
 -- the effects of the clause that fires, or what the clauses after it give
 abbrev pub or_next : Dialect → Option Bindings → Context → Exprs → Outcome → Outcome
@@ -68,7 +68,7 @@ or_next d None c body o = o
 -- the first clause that fires
 abbrev pub outcome_in : Dialect → List Clause → Context → Outcome
 outcome_in d [] c = no_match
-outcome_in d (k ∷ ks) c = or_next d (firing d k c) c k.body (outcome_in d ks c)
+outcome_in d (k ∷ ks) c = or_next d (firing_bindings d k c) c k.body (outcome_in d ks c)
 
 -- the outcome of a specification in a context
 abbrev pub outcome_of : Spec → Context → Outcome

@@ -1,5 +1,5 @@
 -- How a term is read as a specification: the clauses that it spells, or the first fault ("Match Specifications in Erlang", "Grammar").
--- Stands on terms, patterns, functions and expressions.
+-- Depends on terms, patterns, functions and expressions.
 -- Which fault is the first is this project's own: clauses in order; of a clause its shape, then head, conditions and body, left to right; of an expression first itself, then its arguments.
 use Rattle.std.specs.Prelude.{ℕ, ◌==◌, nat_le, Bool, true, false, not, ◌&&◌, if◌then◌else◌, List, [], ◌∷◌, length, Option, Some, None, Result, Ok, Err, codes}
 use Rattle.std.specs.Str.{bytes_eq}
@@ -9,7 +9,7 @@ use Rattle.def_term.specs.Text.{is_digit, number_after, is_among}
 use Rattle.def_spec.specs.Matching.{Pattern, variable, anything, only_term, in_tuple, in_list, Patterns, no_patterns, and_pattern, occurs}
 use Rattle.def_spec.specs.Functions as fn
 use Rattle.def_spec.specs.Functions.{Func}
-use Rattle.def_spec.specs.Expressions.{Dialect, for_calls, for_sends, for_receives, Action, message, return_trace, exception_trace, silent, enable_trace, disable_trace, trace, caller, Expr, bound_to, whole_list, all_bound, constant, tuple_of, list_of, call, and_also, or_else, perform, Exprs, no_exprs, and_expr, Part, in_condition, in_body}
+use Rattle.def_spec.specs.Expressions.{Dialect, for_calls, for_sends, for_receives, Action, message, return_trace, exception_trace, silent, enable_trace, disable_trace, trace, caller, Expr, bound_to, whole_list, all_bound, constant, tuple_of, list_of, call, and_also, or_else, perform, Exprs, no_exprs, and_expr, Position, in_condition, in_body}
 use Rattle.def_spec.specs.Outcome.{Clause, Spec}
 
 -- `badarg`, or `{unsupported,Name}`
@@ -53,7 +53,7 @@ pub data AtomKind : Type 0 where
   a_wrong_variable : AtomKind
   a_plain_atom : AtomKind
 
--- the characters behind `$`
+-- the characters after `$`
 abbrev pub digits_of : Name → List ℕ
 digits_of [] = []
 digits_of (c ∷ cs) = cs
@@ -106,21 +106,21 @@ head_of _ = Err badarg
 -- ---- names of functions
 
 -- a function, `andalso` or `orelse`, or an action
-pub data Called : Type 0 where
-  a_function : Func → Called
-  an_and_also : Called
-  an_or_else : Called
-  an_action : Action → Called
+pub data Callee : Type 0 where
+  a_function : Func → Callee
+  an_and_also : Callee
+  an_or_else : Callee
+  an_action : Action → Callee
 
 -- a name with what it calls, and the least and the greatest number of arguments, where there is a greatest. The numbers are this profile's (own)
 pub record Row : Type 0 where
   pub name : Name
-  pub called : Called
+  pub called : Callee
   pub least : ℕ
   pub most : Option ℕ
 
 -- a row of the table
-abbrev pub row : Name → Called → ℕ → Option ℕ → Row
+abbrev pub row : Name → Callee → ℕ → Option ℕ → Row
 row s c least most = record { name = s; called = c; least = least; most = most }
 
 -- a function with so many arguments
@@ -128,7 +128,7 @@ abbrev pub with_args : ℕ → Name → Func → Row
 with_args n s f = row s (a_function f) n (Some n)
 
 -- with one argument or more
-abbrev pub with_some : Name → Called → Row
+abbrev pub with_some : Name → Callee → Row
 with_some s c = row s c 1 None
 
 -- the functions of conditions and bodies, and the actions of bodies; that is_boolean and is_bitstring are allowed is (own)
@@ -171,7 +171,7 @@ has_action for_sends a = true
 has_action for_receives a = false
 
 -- whether a call may stand there: actions in bodies alone
-abbrev pub is_allowed : Dialect → Part → Called → Bool
+abbrev pub is_allowed : Dialect → Position → Callee → Bool
 is_allowed d in_condition (an_action a) = false
 is_allowed d in_body (an_action a) = has_action d a
 is_allowed d part _ = true
@@ -186,16 +186,16 @@ abbrev pub takes : Row → ℕ → Bool
 takes r n = nat_le r.least n && is_at_most r.most n
 
 -- a name that isn't in the table, a wrong number of arguments, or a call that isn't allowed there is a fault
-abbrev pub called_of : Dialect → Part → ℕ → Option Row → Reads Called
+abbrev pub called_of : Dialect → Position → ℕ → Option Row → Reads Callee
 called_of d part n None = Err badarg
 called_of d part n (Some r) = if takes r n && is_allowed d part r.called then Ok r.called else Err badarg
 
 -- what a name with so many arguments calls; an unsupported name is a fault of its own
-abbrev pub named_call : Dialect → Part → Name → ℕ → Reads Called
+abbrev pub named_call : Dialect → Position → Name → ℕ → Reads Callee
 named_call d part s n = if is_among unsupported_names s then Err (unsupported s) else called_of d part n (found_in table s)
 
 -- the expression of a call
-abbrev pub call_of : Called → Exprs → Expr
+abbrev pub call_of : Callee → Exprs → Expr
 call_of (a_function f) es = call f es
 call_of an_and_also es = and_also es
 call_of an_or_else es = or_else es
@@ -219,7 +219,7 @@ abbrev pub only_element : Trees → Tree
 only_element none = tuple none
 only_element (more t ts) = t
 
-module _ (d : Dialect) (part : Part) (head : Pattern) where
+module _ (d : Dialect) (part : Position) (head : Pattern) where
   abbrev mutual
     -- integers and pids are themselves
     pub expr_of : Tree → Reads Expr

@@ -1,7 +1,7 @@
 //! What a match specification is and what it shows: flags, heads and matching, expressions with their
 //! values and effects, the outcome, and how a term is read as a specification.
 //!
-//! Stands on def_term. Promises, as laws: the walk over a head finds the one binding, where there is one
+//! Depends on def_term. Promises, as laws: the walk over a head finds the one binding, where there is one
 //! and only there; the computed outcome is that of the least-numbered clause that fires; a body's value
 //! is a term, a condition has no effects, and without `trace` neither flags nor effects change a value;
 //! `trace` tells whether it changes flags; a specification that is read is sound, and a fault is the first
@@ -10,7 +10,7 @@
 
 ghost use Rattle.def_spec.specs.Laws.{WalkIsMatching, BindingIsUnique, WalkMissesNone, OutcomeIsComputed};
 ghost use Rattle.def_spec.specs.Laws.{OutcomeIsUnique, BodiesHaveValues, ConditionsHaveNoEffects};
-ghost use Rattle.def_spec.specs.Laws.{EffectsStandBehind, OnlyTraceReadsFlags, EffectsChangeNoValue};
+ghost use Rattle.def_spec.specs.Laws.{EffectsStandAfter, OnlyTraceReadsFlags, EffectsChangeNoValue};
 ghost use Rattle.def_spec.specs.Laws.{TraceTellsAChange, TraceFaults, ClearsBeforeItSets, ReadSpecsAreSound};
 ghost use Rattle.def_spec.specs.Laws.{FirstFaultyClause, HeadFaultFirst, ConditionFaultNext, BodyFaultLast};
 ghost use Rattle.def_spec.specs.Laws.{FirstFaultyExpression, UnsupportedFirst, SpawnInherits, LinkInherits};
@@ -32,12 +32,12 @@ pub fn outcome_is_of_the_first_clause()
 {}
 
 /// In a body each expression whose variables the head binds has a term as its value. The effects of what is
-/// evaluated stand behind those before it, and a condition has none. Without `trace` an expression has the
-/// value and the effects that it has alone, with any flags and behind any effects.
+/// evaluated stand after those before it, and a condition has none. Without `trace` an expression has the
+/// value and the effects that it has alone, with any flags and after any effects.
 pub fn bodies_have_values()
     ensures values { BodiesHaveValues }
     ensures conditions { ConditionsHaveNoEffects }
-    ensures behind { EffectsStandBehind }
+    ensures behind { EffectsStandAfter }
     ensures flags { OnlyTraceReadsFlags }
     ensures alone { EffectsChangeNoValue }
 {}

@@ -1,5 +1,5 @@
 -- The pids of the processes that one run may start, and which of them live (own).
--- Stands on nothing.
+-- Depends on nothing.
 use Rattle.std.specs.Prelude.{ℕ, ◌+◌, ◌-◌, nat_le, Bool, false, ◌&&◌, if◌then◌else◌, List, count_by, slice_get, slice_set}
 use Rattle.std.specs.Option.{unwrap_or}
 

@@ -1,12 +1,12 @@
 -- What is promised of the order of terms ("Term Comparisons" of the Erlang Reference Manual).
--- Stands on terms and their order.
+-- Depends on terms and their order.
 use Rattle.std.specs.Prelude.{◌≡◌}
 use Rattle.std.specs.Cmp.{IsTotalOrder}
 use Rattle.std.specs.declared.cmp.Ordering.TheVariants.{Equal}
 use Rattle.def_term.specs.Tree.{Tree}
 use Rattle.def_term.specs.Order.{tree_cmp}
 
--- of any two terms one is before the other or they are equal, and what is before a term is before those behind it
+-- of any two terms one is before the other or they are equal, and what is before a term is before those after it
 abbrev pub OrderIsTotal : Type 0
 OrderIsTotal = IsTotalOrder tree_cmp
 

@@ -1,5 +1,5 @@
 -- Names: atoms that name a module, a function, a variable or a session, and the functions that they name.
--- Stands on terms. {M,F,Arity} is that of trace:process/4.
+-- Depends on terms. {M,F,Arity} is that of trace:process/4.
 use Rattle.std.specs.Prelude.{ℕ, ◌==◌, Bool, ◌&&◌, List, codes, pos}
 use Prim.Native.String.{String}
 use Rattle.std.specs.Str.{bytes_eq}
@@ -14,6 +14,10 @@ pub record Mfa : Type 0 where
   pub module_name : Name
   pub function_name : Name
   pub arity : ℕ
+
+-- the function of this module, name and number of arguments
+abbrev pub mfa_from : Name → Name → ℕ → Mfa
+mfa_from m f n = record { module_name = m; function_name = f; arity = n }
 
 -- the same module, name and number of parameters
 abbrev pub same_mfa : Mfa → Mfa → Bool

@@ -1,5 +1,5 @@
 -- The order of terms, by cases on pairs of trees.
--- Stands on terms. It is that of the Erlang Reference Manual ("Term Comparisons"), of the five kinds of this profile.
+-- Depends on terms. It is that of the Erlang Reference Manual ("Term Comparisons"), of the five kinds of this profile.
 use Rattle.std.specs.Prelude.{ℕ, Bool}
 use Rattle.std.specs.declared.cmp.Ordering.{Ordering}
 use Rattle.std.specs.declared.cmp.Ordering.TheVariants.{Less, Equal, Greater}

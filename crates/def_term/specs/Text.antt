@@ -1,5 +1,5 @@
 -- The written text of a tree.
--- Stands on terms. It is that of `~w` of `io_lib`; where it differs, its line says (own).
+-- Depends on terms. It is that of `~w` of `io_lib`; where it differs, its line says (own).
 use Rattle.std.specs.Prelude.{ℕ, ◌+◌, ◌-◌, ◌*◌, List, [], ◌∷◌, ◌++◌, Bool, true, false, ◌&&◌, ◌||◌, not, cond, nat_le, ◌==◌, codes, decimal, flat_map}
 use Rattle.std.specs.Fmt.{signed_decimal}
 use Rattle.std.specs.Str.{bytes_eq}
@@ -52,12 +52,12 @@ unfoldable pub is_written_bare : List ℕ → Bool
 is_written_bare s = is_name s && not (is_among (codes "maybe" ∷ codes "else" ∷ reserved_words) s)
 
 -- a quote and a backslash have a backslash before them
-abbrev pub escaped : ℕ → List ℕ
-escaped b = cond ((b == 39) || (b == 92)) (92 ∷ b ∷ []) (b ∷ [])
+abbrev pub escape : ℕ → List ℕ
+escape b = cond ((b == 39) || (b == 92)) (92 ∷ b ∷ []) (b ∷ [])
 
 -- otherwise quoted
 abbrev pub atom_text : List ℕ → List ℕ
-atom_text s = cond (is_written_bare s) s (39 ∷ flat_map escaped s ++ 39 ∷ [])
+atom_text s = cond (is_written_bare s) s (39 ∷ flat_map escape s ++ 39 ∷ [])
 
 -- `<0.N.0>`
 abbrev pub pid_text : ℕ → List ℕ
@@ -69,13 +69,13 @@ abbrev mutual
   w (int n) = signed_decimal n
   w (atom s) = atom_text s
   w (pid n) = pid_text n
-  w (tuple ts) = 123 ∷ (joined ts ++ 125 ∷ [])
-  w (list ts) = 91 ∷ (joined ts ++ 93 ∷ [])
+  w (tuple ts) = 123 ∷ (comma_list ts ++ 125 ∷ [])
+  w (list ts) = 91 ∷ (comma_list ts ++ 93 ∷ [])
 
   -- the texts with a comma between any two
-  pub joined : Trees → List ℕ
-  joined none = []
-  joined (more t ts) = w t ++ each_after_comma ts
+  pub comma_list : Trees → List ℕ
+  comma_list none = []
+  comma_list (more t ts) = w t ++ each_after_comma ts
 
   -- each with a comma before it
   pub each_after_comma : Trees → List ℕ

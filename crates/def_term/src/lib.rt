@@ -1,6 +1,6 @@
 //! What a term is: a finite tree of five kinds; its order, its depth and size, its written text.
 //!
-//! Stands on no other crate. Promises, as laws, that the order of terms is total and that only
+//! Depends on no other crate. Promises, as laws, that the order of terms is total and that only
 //! equal terms compare as equal. Everything else here is definition, for every crate above.
 #![tactic(auto)]
 

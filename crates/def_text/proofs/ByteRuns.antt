@@ -16,7 +16,7 @@ run_all p (d ∷ ds) rest h s =
     let more : run_len p (ds ++ rest) + 1 ≡ length (d ∷ ds) = omega (arith, same) in
     ap (λ c. cond c (run_len p (ds ++ rest) + 1) 0) parts.0 ∙ more
 
--- the run, and what stands behind it
+-- the run, and what stands after it
 pub record Run (p : ℕ → Bool) (bs : List ℕ) (n : ℕ) : Type 0 where
   pub front : List ℕ
   pub rest : List ℕ

@@ -7,11 +7,11 @@ use Rattle.def_text.specs.Tokens.{Token, comma}
 use Rattle.def_text.specs.Grammar.{Derives, DerivesAll, DerivesRest}
 use Rattle.def_text.specs.Limits.{sizes_fit, all_sizes_fit, sizes_ok}
 use Rattle.def_text.specs.Faults.{too_large}
-use Rattle.def_text.specs.Reading.{Bracket, brace, bracket, node, open_token, close_token, most, Position, first, next, behind, Frame, frame, inside, put, sort, leaf, step_by_sort, step, leaf_at, has_room, after_step, run}
+use Rattle.def_text.specs.Reading.{Bracket, brace, bracket, node, open_token, close_token, most, ReadPosition, first, next, behind, OpenFrame, frame, inside, put, sort, leaf, step_by_sort, step, leaf_at, has_room, after_step, run}
 use Rattle.def_text.proofs.Steps.{opens, stands}
 
 -- a place where a term may stand
-abbrev pub MayStand : Position → Type 0
+abbrev pub MayStand : ReadPosition → Type 0
 MayStand first = Unit {0}
 MayStand next = Unit {0}
 MayStand behind = ⊥
@@ -56,38 +56,38 @@ elements-of (more u us) = ap (more u) (elements-of us)
 abbrev IsLeaf : Token → Tree → Type 0
 IsLeaf x t = sort x ≡ leaf t
 
-leaf_step_first : (limit : ℕ) (sized : Bool) (fs : List Frame) (t : Tree) (x : Token) → IsLeaf x t → step limit sized (inside first fs) x ≡ leaf_at limit sized t fs
+leaf_step_first : (limit : ℕ) (sized : Bool) (fs : List OpenFrame) (t : Tree) (x : Token) → IsLeaf x t → step limit sized (inside first fs) x ≡ leaf_at limit sized t fs
 leaf_step_first limit sized fs t x is = ap (step_by_sort limit sized (inside first fs)) is
 
-leaf_step_next : (limit : ℕ) (sized : Bool) (fs : List Frame) (t : Tree) (x : Token) → IsLeaf x t → step limit sized (inside next fs) x ≡ leaf_at limit sized t fs
+leaf_step_next : (limit : ℕ) (sized : Bool) (fs : List OpenFrame) (t : Tree) (x : Token) → IsLeaf x t → step limit sized (inside next fs) x ≡ leaf_at limit sized t fs
 leaf_step_next limit sized fs t x is = ap (step_by_sort limit sized (inside next fs)) is
 
-reads_leaf : (limit : ℕ) (sized : Bool) (p : Position) (fs : List Frame) (t : Tree) (x : Token) (rest : List Token) → MayStand p → length fs + depth t ≤ limit → sizes_ok sized t ≡ true
+reads_leaf : (limit : ℕ) (sized : Bool) (p : ReadPosition) (fs : List OpenFrame) (t : Tree) (x : Token) (rest : List Token) → MayStand p → length fs + depth t ≤ limit → sizes_ok sized t ≡ true
     → IsLeaf x t → run limit sized (inside p fs) (x ∷ rest) ≡ run limit sized (put t fs) rest
 reads_leaf limit sized first fs t x rest at fits z is = ap (λ r. after_step r (λ s. run limit sized s rest) (x ∷ rest)) (leaf_step_first limit sized fs t x is ∙ stands limit sized t fs fits z)
 reads_leaf limit sized next fs t x rest at fits z is = ap (λ r. after_step r (λ s. run limit sized s rest) (x ∷ rest)) (leaf_step_next limit sized fs t x is ∙ stands limit sized t fs fits z)
 reads_leaf limit sized behind fs t x rest at fits z is = absurd at
 
-reads_opening : (limit : ℕ) (sized : Bool) (p : Position) (b : Bracket) (fs : List Frame) (rest : List Token) → MayStand p → length fs < limit → run limit sized (inside p fs) (open_token b ∷ rest) ≡ run limit sized (inside first (frame b [] ∷ fs)) rest
+reads_opening : (limit : ℕ) (sized : Bool) (p : ReadPosition) (b : Bracket) (fs : List OpenFrame) (rest : List Token) → MayStand p → length fs < limit → run limit sized (inside p fs) (open_token b ∷ rest) ≡ run limit sized (inside first (frame b [] ∷ fs)) rest
 reads_opening limit sized first brace fs rest h below = ap (λ r. after_step r (λ s. run limit sized s rest) (text.open_brace ∷ rest)) (opens limit brace fs below)
 reads_opening limit sized first bracket fs rest h below = ap (λ r. after_step r (λ s. run limit sized s rest) (text.open_bracket ∷ rest)) (opens limit bracket fs below)
 reads_opening limit sized next brace fs rest h below = ap (λ r. after_step r (λ s. run limit sized s rest) (text.open_brace ∷ rest)) (opens limit brace fs below)
 reads_opening limit sized next bracket fs rest h below = ap (λ r. after_step r (λ s. run limit sized s rest) (text.open_bracket ∷ rest)) (opens limit bracket fs below)
 reads_opening limit sized behind b fs rest h below = absurd h
 
-pub closes_first : (limit : ℕ) (sized : Bool) (b : Bracket) (f : List Tree) (fs : List Frame) (rest : List Token) → run limit sized (inside first (frame b f ∷ fs)) (close_token b ∷ rest) ≡ run limit sized (put (node b (of_elements f)) fs) rest
+pub closes_first : (limit : ℕ) (sized : Bool) (b : Bracket) (f : List Tree) (fs : List OpenFrame) (rest : List Token) → run limit sized (inside first (frame b f ∷ fs)) (close_token b ∷ rest) ≡ run limit sized (put (node b (of_elements f)) fs) rest
 closes_first limit sized brace f fs rest = refl
 closes_first limit sized bracket f fs rest = refl
 
-pub closes_behind : (limit : ℕ) (sized : Bool) (b : Bracket) (f : List Tree) (fs : List Frame) (rest : List Token) → run limit sized (inside behind (frame b f ∷ fs)) (close_token b ∷ rest) ≡ run limit sized (put (node b (of_elements f)) fs) rest
-closes_behind limit sized brace f fs rest = refl
-closes_behind limit sized bracket f fs rest = refl
+pub closes_after : (limit : ℕ) (sized : Bool) (b : Bracket) (f : List Tree) (fs : List OpenFrame) (rest : List Token) → run limit sized (inside behind (frame b f ∷ fs)) (close_token b ∷ rest) ≡ run limit sized (put (node b (of_elements f)) fs) rest
+closes_after limit sized brace f fs rest = refl
+closes_after limit sized bracket f fs rest = refl
 
-passes_comma : (limit : ℕ) (sized : Bool) (b : Bracket) (f : List Tree) (fs : List Frame) (rest : List Token) → has_room sized b (length f) ≡ true → run limit sized (inside behind (frame b f ∷ fs)) (comma ∷ rest) ≡ run limit sized (inside next (frame b f ∷ fs)) rest
+passes_comma : (limit : ℕ) (sized : Bool) (b : Bracket) (f : List Tree) (fs : List OpenFrame) (rest : List Token) → has_room sized b (length f) ≡ true → run limit sized (inside behind (frame b f ∷ fs)) (comma ∷ rest) ≡ run limit sized (inside next (frame b f ∷ fs)) rest
 passes_comma limit sized b f fs rest h = ap (λ r. after_step r (λ s. run limit sized s rest) (comma ∷ rest)) (ap (λ c. cond c (Ok (inside next (frame b f ∷ fs))) (Err too_large)) h)
 
 mutual
-  pub reads : (limit : ℕ) (sized : Bool) (p : Position) (fs : List Frame) (t : Tree) (u rest : List Token) → MayStand p → Derives u t → depth t + length fs ≤ limit → sizes_ok sized t ≡ true → run limit sized (inside p fs) (u ++ rest) ≡ run limit sized (put t fs) rest
+  pub reads : (limit : ℕ) (sized : Bool) (p : ReadPosition) (fs : List OpenFrame) (t : Tree) (u rest : List Token) → MayStand p → Derives u t → depth t + length fs ≤ limit → sizes_ok sized t ≡ true → run limit sized (inside p fs) (u ++ rest) ≡ run limit sized (put t fs) rest
   reads limit sized p fs (int n) u rest at d fits z = ap (λ ts. run limit sized (inside p fs) (ts ++ rest)) d ∙ reads_leaf limit sized p fs (int n) (text.integer n) rest at (omega arith) z refl
   reads limit sized p fs (atom s) u rest at d fits z = ap (λ ts. run limit sized (inside p fs) (ts ++ rest)) d ∙ reads_leaf limit sized p fs (atom s) (text.atom s) rest at (omega arith) z refl
   reads limit sized p fs (pid n) u rest at d fits z = ap (λ ts. run limit sized (inside p fs) (ts ++ rest)) d ∙ reads_leaf limit sized p fs (pid n) (text.pid n) rest at (omega arith) z refl
@@ -104,7 +104,7 @@ mutual
   reads limit sized p fs (list us) u rest at (inr d) fits z =
       ap (λ ts. run limit sized (inside p fs) (ts ++ rest)) d.1 ∙ reads_leaf limit sized p fs (list us) (text.characters d.0) rest at (omega arith) z (ap (λ x. leaf (list x)) (sym d.2))
 
-  reads_all : (limit : ℕ) (sized : Bool) (b : Bracket) (fs : List Frame) (us : Trees) (u rest : List Token) → DerivesAll (close_token b) u us → greatest_depth us + length fs + 1 ≤ limit → sizes_ok sized (node b (of_elements (elements us))) ≡ true
+  reads_all : (limit : ℕ) (sized : Bool) (b : Bracket) (fs : List OpenFrame) (us : Trees) (u rest : List Token) → DerivesAll (close_token b) u us → greatest_depth us + length fs + 1 ≤ limit → sizes_ok sized (node b (of_elements (elements us))) ≡ true
       → run limit sized (inside first (frame b [] ∷ fs)) (u ++ rest) ≡ run limit sized (put (node b (of_elements (elements us))) fs) rest
   reads_all limit sized b fs none u rest d fits z = ap (λ ts. run limit sized (inside first (frame b [] ∷ fs)) (ts ++ rest)) d ∙ closes_first limit sized b [] fs rest
   reads_all limit sized b fs (more t us) u rest d fits z =
@@ -113,10 +113,10 @@ mutual
       ∙ reads limit sized first (frame b [] ∷ fs) t d.0 (d.1 ++ rest) tt d.3 (omega arith) (element_fits sized b [] us t z)
       ∙ reads_rest limit sized b fs (t ∷ []) us d.1 rest d.4 (omega arith) z
 
-  reads_rest : (limit : ℕ) (sized : Bool) (b : Bracket) (fs : List Frame) (f : List Tree) (us : Trees) (u rest : List Token) → DerivesRest (close_token b) u us → greatest_depth us + length fs + 1 ≤ limit → sizes_ok sized (node b (of_elements (f ++ elements us))) ≡ true
+  reads_rest : (limit : ℕ) (sized : Bool) (b : Bracket) (fs : List OpenFrame) (f : List Tree) (us : Trees) (u rest : List Token) → DerivesRest (close_token b) u us → greatest_depth us + length fs + 1 ≤ limit → sizes_ok sized (node b (of_elements (f ++ elements us))) ≡ true
       → run limit sized (inside behind (frame b f ∷ fs)) (u ++ rest) ≡ run limit sized (put (node b (of_elements (f ++ elements us))) fs) rest
   reads_rest limit sized b fs f none u rest d fits z =
-      ap (λ ts. run limit sized (inside behind (frame b f ∷ fs)) (ts ++ rest)) d ∙ closes_behind limit sized b f fs rest ∙ ap (λ g. run limit sized (put (node b (of_elements g)) fs) rest) (sym (append-nil f))
+      ap (λ ts. run limit sized (inside behind (frame b f ∷ fs)) (ts ++ rest)) d ∙ closes_after limit sized b f fs rest ∙ ap (λ g. run limit sized (put (node b (of_elements g)) fs) rest) (sym (append-nil f))
   reads_rest limit sized b fs f (more t us) u rest d fits z =
       ap (λ ts. run limit sized (inside behind (frame b f ∷ fs)) (ts ++ rest)) d.2
       ∙ passes_comma limit sized b f fs ((d.0 ++ d.1) ++ rest) (room_before sized b f us t z)

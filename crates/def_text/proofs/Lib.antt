@@ -1,4 +1,4 @@
-pub mod Led
+pub mod FoldStates
 pub mod ByteRuns
 pub mod Quotes
 pub mod Pids
@@ -14,7 +14,7 @@ pub mod Runs
 pub mod Faults
 pub mod Rows
 pub mod Numbers
-pub mod Written
+pub mod WrittenText
 pub mod Whole
 pub mod One
 pub mod ScriptRuns
@@ -22,3 +22,6 @@ pub mod ScriptFaults
 pub mod TokensExist
 pub mod OneFault
 pub mod Either
+pub mod PlaceRows
+pub mod Columns
+pub mod Starts

@@ -4,8 +4,8 @@ use Rattle.def_term.specs.Tree.{Tree}
 use Rattle.def_text.specs.Tokens.{Token}
 use Rattle.def_text.specs.Grammar.{Derives}
 use Rattle.def_text.specs.Limits.{DEPTH, Fits}
-use Rattle.def_text.specs.Faults.{Kind, misplaced, too_deep, too_large, FaultAt}
-use Rattle.def_text.specs.Spelling.{Spells, Refused, tokens_of}
+use Rattle.def_text.specs.Faults.{FaultKind, misplaced, too_deep, too_large, FaultAt}
+use Rattle.def_text.specs.Spelling.{Spells, IsRefusedAt, tokens_of}
 use Rattle.def_text.proofs.Unique.{same_tokens}
 use Rattle.def_text.proofs.Faults.{only}
 
@@ -17,7 +17,7 @@ one bytes t u s r =
     let same = same_tokens 0 bytes s.tokens r.tokens s.are r.are in
     one_term (tokens_of s.tokens) t u s.derives s.fits (subst (λ xs. Derives (tokens_of xs) u) (sym same) r.derives) r.fits
 
-fault_refuses : (front : List Token) (kind : Kind) (rest : List Token) (t : Tree) → FaultAt DEPTH front kind rest → Derives (front ++ rest) t → Fits DEPTH true t → ⊥
+fault_refuses : (front : List Token) (kind : FaultKind) (rest : List Token) (t : Tree) → FaultAt DEPTH front kind rest → Derives (front ++ rest) t → Fits DEPTH true t → ⊥
 fault_refuses front misplaced [] t h d f = h t (subst (λ xs. Derives xs t) (append-nil front) d)
 fault_refuses front too_deep [] t h d f = h
 fault_refuses front too_large [] t h d f = h
@@ -25,7 +25,7 @@ fault_refuses front misplaced (x ∷ rest) t h d f = h (rest, t, subst (λ xs. D
 fault_refuses front too_deep (x ∷ rest) t h d f = h.1 (rest, t, subst (λ xs. Derives xs t) (sym (append_assoc front (x ∷ []) rest)) d, record { nests = f.nests; sizes = refl })
 fault_refuses front too_large (x ∷ rest) t h d f = h.1 (rest, t, subst (λ xs. Derives xs t) (sym (append_assoc front (x ∷ []) rest)) d, f)
 
-pub refused : (bytes : List ℕ) (t : Tree) (kind : Kind) (at : ℕ) → Spells bytes t → Refused bytes kind at → ⊥
+pub refused : (bytes : List ℕ) (t : Tree) (kind : FaultKind) (at : ℕ) → Spells bytes t → IsRefusedAt bytes kind at → ⊥
 refused bytes t kind at s r =
     let same = same_tokens 0 bytes s.tokens (r.front ++ r.rest) s.are r.are in
     let d = subst (λ xs. Derives (tokens_of xs) t) same s.derives in

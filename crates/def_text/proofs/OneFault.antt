@@ -3,7 +3,7 @@ use Rattle.std.proofs.Common.{◌≡◌, ℕ, List, [], ◌∷◌, ◌++◌, ref
 use Rattle.def_term.specs.Tree.{Tree}
 use Rattle.def_text.specs.Tokens.{Token}
 use Rattle.def_text.specs.Grammar.{Derives, DerivesScript}
-use Rattle.def_text.specs.Faults.{Kind, misplaced, too_deep, too_large, Fault, Begins, BeginsAtAll, FaultAt, IsFirstFault}
+use Rattle.def_text.specs.Faults.{FaultKind, misplaced, too_deep, too_large, Fault, Begins, BeginsAtAll, FaultAt, IsFirstFault}
 use Rattle.def_text.specs.Scripts.{EachFits, BeginsScript, BeginsAnyScript, ScriptFaultAt, IsFirstScriptFault}
 
 -- what begins something within the limits, within the depth, and at all
@@ -12,7 +12,7 @@ record Beginnings (Any : List Token → Type 0) (Within : Bool → List Token �
   looser : (front : List Token) → Within true front → Within false front
   any : (front : List Token) → Within false front → Any front
 
-abbrev FaultOf : (List Token → Type 0) → (Bool → List Token → Type 0) → List Token → Kind → List Token → Type 0
+abbrev FaultOf : (List Token → Type 0) → (Bool → List Token → Type 0) → List Token → FaultKind → List Token → Type 0
 FaultOf Any Within front misplaced [] = Unit {0}
 FaultOf Any Within front too_deep [] = ⊥
 FaultOf Any Within front too_large [] = ⊥
@@ -21,12 +21,12 @@ FaultOf Any Within front too_deep (x ∷ rest) = Any (front ++ x ∷ []) × (Wit
 FaultOf Any Within front too_large (x ∷ rest) = Within false (front ++ x ∷ []) × (Within true (front ++ x ∷ []) → ⊥)
 
 -- where one token goes on, nothing begins within the limits
-denied : (Any : List Token → Type 0) (Within : Bool → List Token → Type 0) → Beginnings Any Within → (front : List Token) (k : Kind) (x : Token) (rest : List Token) → FaultOf Any Within front k (x ∷ rest) → Within true (front ++ x ∷ []) → ⊥
+denied : (Any : List Token → Type 0) (Within : Bool → List Token → Type 0) → Beginnings Any Within → (front : List Token) (k : FaultKind) (x : Token) (rest : List Token) → FaultOf Any Within front k (x ∷ rest) → Within true (front ++ x ∷ []) → ⊥
 denied Any Within b front misplaced x rest h w = h (b.any (front ++ x ∷ []) (b.looser (front ++ x ∷ []) w))
 denied Any Within b front too_deep x rest h w = h.1 (b.looser (front ++ x ∷ []) w)
 denied Any Within b front too_large x rest h w = h.1 w
 
-same_kind : (Any : List Token → Type 0) (Within : Bool → List Token → Type 0) → Beginnings Any Within → (front : List Token) (k j : Kind) (rest : List Token) → FaultOf Any Within front k rest → FaultOf Any Within front j rest → k ≡ j
+same_kind : (Any : List Token → Type 0) (Within : Bool → List Token → Type 0) → Beginnings Any Within → (front : List Token) (k j : FaultKind) (rest : List Token) → FaultOf Any Within front k rest → FaultOf Any Within front j rest → k ≡ j
 same_kind Any Within b front misplaced misplaced rest h i = refl
 same_kind Any Within b front too_deep too_deep rest h i = refl
 same_kind Any Within b front too_large too_large rest h i = refl
@@ -61,14 +61,14 @@ parts [] a (y ∷ g) b e = inr (inl (y, g, g ++ b, refl, e))
 parts (x ∷ f) a [] b e = inr (inr (x, f, f ++ a, refl, sym e))
 parts (x ∷ f) a (y ∷ g) b e = let first : x ≡ y = cc in let rest : f ++ a ≡ g ++ b = cc in parts_more x y f a g b first (parts f a g b rest)
 
-abbrev First : (List Token → Type 0) → (Bool → List Token → Type 0) → List Token → Kind → List Token → Type 0
+abbrev First : (List Token → Type 0) → (Bool → List Token → Type 0) → List Token → FaultKind → List Token → Type 0
 First Any Within xs k rest = (front : List Token) × (xs ≡ front ++ rest) × Within true front × FaultOf Any Within front k rest
 
-beyond : (Any : List Token → Type 0) (Within : Bool → List Token → Type 0) → Beginnings Any Within → (f a g : List Token) (k : Kind) → FaultOf Any Within f k a → Within true g → Beyond f a g → ⊥
+beyond : (Any : List Token → Type 0) (Within : Bool → List Token → Type 0) → Beginnings Any Within → (f a g : List Token) (k : FaultKind) → FaultOf Any Within f k a → Within true g → Beyond f a g → ⊥
 beyond Any Within b f a g k h w (x, more, rest, g_is, a_is) =
     denied Any Within b f k x rest (subst (FaultOf Any Within f k) a_is h) (b.shorter (f ++ x ∷ []) more (subst (Within true) (g_is ∙ sym (append_assoc f (x ∷ []) more)) w))
 
-one_first : (Any : List Token → Type 0) (Within : Bool → List Token → Type 0) → Beginnings Any Within → (xs : List Token) (k j : Kind) (a c : List Token) → First Any Within xs k a → First Any Within xs j c → (k ≡ j) × (a ≡ c)
+one_first : (Any : List Token → Type 0) (Within : Bool → List Token → Type 0) → Beginnings Any Within → (xs : List Token) (k j : FaultKind) (a c : List Token) → First Any Within xs k a → First Any Within xs j c → (k ≡ j) × (a ≡ c)
 one_first Any Within b xs k j a c h i =
     elim (parts h.0 a i.0 c (sym h.1 ∙ i.1)) [
       | inl same ↦ (same_kind Any Within b h.0 k j a h.3 (subst (λ f. FaultOf Any Within f j a) (sym same.0) (subst (FaultOf Any Within i.0 j) (sym same.1) i.3)), same.1)
@@ -84,7 +84,7 @@ term_beginnings limit = record {
   any = λ front h. (h.0, h.1, h.2);
 }
 
-term_fault : (limit : ℕ) (front : List Token) (k : Kind) (rest : List Token) → FaultAt limit front k rest → FaultOf BeginsAtAll (Begins limit) front k rest
+term_fault : (limit : ℕ) (front : List Token) (k : FaultKind) (rest : List Token) → FaultAt limit front k rest → FaultOf BeginsAtAll (Begins limit) front k rest
 term_fault limit front misplaced [] h = tt
 term_fault limit front too_deep [] h = h
 term_fault limit front too_large [] h = h
@@ -107,7 +107,7 @@ script_beginnings limit = record {
   any = λ front h. (h.0, h.1, h.2);
 }
 
-script_fault : (limit : ℕ) (front : List Token) (k : Kind) (rest : List Token) → ScriptFaultAt limit front k rest → FaultOf BeginsAnyScript (BeginsScript limit) front k rest
+script_fault : (limit : ℕ) (front : List Token) (k : FaultKind) (rest : List Token) → ScriptFaultAt limit front k rest → FaultOf BeginsAnyScript (BeginsScript limit) front k rest
 script_fault limit front misplaced [] h = tt
 script_fault limit front too_deep [] h = h
 script_fault limit front too_large [] h = h
@@ -120,12 +120,12 @@ one_script_fault limit xs r q h i =
     one_first BeginsAnyScript (BeginsScript limit) (script_beginnings limit) xs r.0 q.0 r.1 q.1 (h.0, h.1, h.2, script_fault limit h.0 r.0 r.1 h.3) (i.0, i.1, i.2, script_fault limit i.0 q.0 q.1 i.3)
 
 -- a script within the limits has no fault
-whole_denied : (limit : ℕ) (front : List Token) (k : Kind) (ts : List Tree) → ScriptFaultAt limit front k [] → DerivesScript (front ++ []) ts → ⊥
+whole_denied : (limit : ℕ) (front : List Token) (k : FaultKind) (ts : List Tree) → ScriptFaultAt limit front k [] → DerivesScript (front ++ []) ts → ⊥
 whole_denied limit front misplaced ts h d = h ts (subst (λ xs. DerivesScript xs ts) (append-nil front) d)
 whole_denied limit front too_deep ts h d = h
 whole_denied limit front too_large ts h d = h
 
-pub script_denied : (limit : ℕ) (front : List Token) (k : Kind) (rest : List Token) (ts : List Tree) → ScriptFaultAt limit front k rest → DerivesScript (front ++ rest) ts → EachFits limit true ts → ⊥
+pub script_denied : (limit : ℕ) (front : List Token) (k : FaultKind) (rest : List Token) (ts : List Tree) → ScriptFaultAt limit front k rest → DerivesScript (front ++ rest) ts → EachFits limit true ts → ⊥
 script_denied limit front k [] ts h d f = whole_denied limit front k ts h d
 script_denied limit front k (x ∷ rest) ts h d f =
     denied BeginsAnyScript (BeginsScript limit) (script_beginnings limit) front k x rest (script_fault limit front k (x ∷ rest) h) (rest, ts, subst (λ xs. DerivesScript xs ts) (sym (append_assoc front (x ∷ []) rest)) d, f)

@@ -41,10 +41,10 @@ abbrev pub ClosesAt : ℕ → ℕ → List ℕ → Option ℕ → Type 0
 ClosesAt q n bs None = Unit {0}
 ClosesAt q n bs (Some m) = Closes q n bs m
 
--- behind a backslash
-abbrev ClosesBehind : ℕ → ℕ → List ℕ → Option ℕ → Type 0
-ClosesBehind q n bs None = Unit {0}
-ClosesBehind q n bs (Some m) = (b : ℕ) × (xs : List ℕ) × (bs ≡ b ∷ xs) × (((b == q) || (b == 92)) ≡ true) × Closes q (n + 1) xs m
+-- after a backslash
+abbrev ClosesAfter : ℕ → ℕ → List ℕ → Option ℕ → Type 0
+ClosesAfter q n bs None = Unit {0}
+ClosesAfter q n bs (Some m) = (b : ℕ) × (xs : List ℕ) × (bs ≡ b ∷ xs) × (((b == q) || (b == 92)) ≡ true) × Closes q (n + 1) xs m
 
 special_printable : (q b : ℕ) → IsQuote q → ((b == q) || (b == 92)) ≡ true → is_printable b ≡ true
 special_printable q b ok h = elim (or_cases (b == q) (b == 92) h) [ inl e ↦ subst (λ x. is_printable x ≡ true) (sym (eqb-true b q e)) ok.printable | inr e ↦ subst (λ x. is_printable x ≡ true) (sym (eqb-true b 92 e)) refl ]
@@ -67,7 +67,7 @@ mutual
       (λ h. record { body = []; rest = bs; split = ap (λ x. x ∷ bs) (eqb-true b q h); len = omega arith; printable = refl })
       (λ h.
       cond_both (b == 92) _ _ (ClosesAt q n (b ∷ bs))
-      (λ is. subst (λ x. ClosesAt q n (x ∷ bs) (quoted_end q true (n + 1) bs)) (sym (eqb-true b 92 is)) (closed_behind q n bs ok))
+      (λ is. subst (λ x. ClosesAt q n (x ∷ bs) (quoted_end q true (n + 1) bs)) (sym (eqb-true b 92 is)) (closed_after q n bs ok))
       (λ isnt.
       cond_both (is_printable b) _ _ (ClosesAt q n (b ∷ bs))
       (λ pr.
@@ -75,9 +75,9 @@ mutual
       subst (λ e. ClosesAt q n (e ++ bs) (quoted_end q false (n + 1) bs)) plain (one_more q n (n + 1) b bs (quoted_end q false (n + 1) bs) pr (rw plain) (closed q (n + 1) bs ok)))
       (λ _. tt)))
 
-  closed_behind : (q n : ℕ) (bs : List ℕ) → IsQuote q → ClosesAt q n (92 ∷ bs) (quoted_end q true (n + 1) bs)
-  closed_behind q n [] ok = tt
-  closed_behind q n (b ∷ bs) ok =
+  closed_after : (q n : ℕ) (bs : List ℕ) → IsQuote q → ClosesAt q n (92 ∷ bs) (quoted_end q true (n + 1) bs)
+  closed_after q n [] ok = tt
+  closed_after q n (b ∷ bs) ok =
       cond_both ((b == q) || (b == 92)) _ _ (ClosesAt q n (92 ∷ b ∷ bs))
       (λ h.
       let both : escaped_in q b ≡ 92 ∷ b ∷ [] = cond-true ((b == q) || (b == 92)) (92 ∷ b ∷ []) (b ∷ []) h in

@@ -38,7 +38,7 @@ abbrev pub zeros : ℕ → List Token
 zeros zero = []
 zeros (suc n) = integer (pos 0) ∷ comma ∷ zeros n
 
--- the comma behind element 255 of a tuple
+-- the comma after element 255 of a tuple
 pub wide_tuple : read DEPTH true (open_brace ∷ zeros 255) ≡ Err (too_large, comma ∷ [])
 wide_tuple = refl
 
@@ -79,7 +79,7 @@ longest_string = refl
 pub long_string : sizes_fit (list (of_codes (replicate 4097 97))) ≡ false
 long_string = refl
 
--- the comma behind element 4,095 of a list, and behind element 4,096
+-- the comma after element 4,095 of a list, and after element 4,096
 pub widest_list : comma_at true (frame bracket (replicate 4095 (int (pos 0))) ∷ []) ≡ Ok (inside next (frame bracket (replicate 4095 (int (pos 0))) ∷ []))
 widest_list = refl
 
@@ -118,9 +118,9 @@ stop_within = refl
 pub no_stop_between : read_script 32 true (atom (codes "a") ∷ atom (codes "b") ∷ stop ∷ []) ≡ Err (misplaced, atom (codes "b") ∷ stop ∷ [])
 no_stop_between = refl
 
--- bytes that form no token, behind a whole term
-pub bad_behind : read_script 32 true (atom (codes "a") ∷ stop ∷ bad ∷ []) ≡ Err (misplaced, bad ∷ [])
-bad_behind = refl
+-- bytes that form no token, after a whole term
+pub bad_after : read_script 32 true (atom (codes "a") ∷ stop ∷ bad ∷ []) ≡ Err (misplaced, bad ∷ [])
+bad_after = refl
 
 -- the second term is too deep
 pub second_too_deep : read_script 32 true (atom (codes "a") ∷ stop ∷ replicate 33 open_bracket) ≡ Err (too_deep, open_bracket ∷ [])

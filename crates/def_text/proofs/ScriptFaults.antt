@@ -4,10 +4,10 @@ use Rattle.def_term.specs.Tree.{Tree, greatest_depth, of_elements}
 use Rattle.def_text.specs.Tokens as text
 use Rattle.def_text.specs.Tokens.{Token, stop}
 use Rattle.def_text.specs.Grammar.{DerivesScript}
-use Rattle.def_text.specs.Faults.{Kind, misplaced, too_deep, too_large, Fault}
-use Rattle.def_text.specs.Reading.{first, next, behind, State, inside, done, start, step, sort}
+use Rattle.def_text.specs.Faults.{FaultKind, misplaced, too_deep, too_large, Fault}
+use Rattle.def_text.specs.Reading.{first, next, behind, ReadState, inside, done, read_start, step, sort}
 use Rattle.def_text.specs.Scripts.{EachFits, BeginsScript, ScriptFaultAt, IsFirstScriptFault}
-use Rattle.def_text.specs.ScriptReading.{ScriptState, reading, script_start, behind_term, with_terms, script_step, after_script_step, script_run, script_end, script_finish, read_script}
+use Rattle.def_text.specs.ScriptReading.{ScriptState, reading, script_start, after_term, with_terms, script_step, after_script_step, script_run, script_end, script_finish, read_script}
 use Rattle.def_text.proofs.Faults.{act_higher, act_unsized, act_misplaced, deep, large}
 use Rattle.def_text.proofs.ScriptRuns.{ScriptLed, ScriptFits, with_ok, script_went_on, script_run_led, script_run_fits, script_run_append, script_run_stops, script_reads, script_can_end}
 
@@ -17,11 +17,11 @@ start_led = ([], [], refl, refl, refl)
 start_fits : (limit : ℕ) (sized : Bool) → ScriptFits limit sized script_start
 start_fits limit sized = (tt, tt)
 
-ends_at : (s : ScriptState) (ts : List Tree) → script_end s ≡ Ok ts → s ≡ reading ts start
+ends_at : (s : ScriptState) (ts : List Tree) → script_end s ≡ Ok ts → s ≡ reading ts read_start
 ends_at (reading us (done t)) ts h = absurd (cc)
 ends_at (reading us (inside first fs)) ts h = absurd (cc)
 ends_at (reading us (inside behind fs)) ts h = absurd (cc)
-ends_at (reading us (inside next [])) ts h = let e : us ≡ ts = cc in ap (λ x. reading x start) e
+ends_at (reading us (inside next [])) ts h = let e : us ≡ ts = cc in ap (λ x. reading x read_start) e
 ends_at (reading us (inside next (f ∷ fs))) ts h = absurd (cc)
 
 -- a state that cannot end leaves nothing
@@ -32,18 +32,18 @@ ends_misplaced (reading us (inside behind fs)) r h = cc
 ends_misplaced (reading us (inside next [])) r h = absurd (cc)
 ends_misplaced (reading us (inside next (f ∷ fs))) r h = cc
 
-finished : (q : Result ScriptState Fault) (ts : List Tree) → script_finish q ≡ Ok ts → q ≡ Ok (reading ts start)
+finished : (q : Result ScriptState Fault) (ts : List Tree) → script_finish q ≡ Ok ts → q ≡ Ok (reading ts read_start)
 finished (Err r) ts h = absurd (cc)
 finished (Ok s) ts h = ap (λ x. Ok x) (ends_at s ts h)
 
 -- the tokens of a state between terms derive its terms
-between : (ts : List Tree) (xs : List Token) → ScriptLed (reading ts start) xs → DerivesScript xs ts
+between : (ts : List Tree) (xs : List Token) → ScriptLed (reading ts read_start) xs → DerivesScript xs ts
 between ts xs h = subst (λ ys. DerivesScript ys ts) (sym (h.2 ∙ ap (λ ys. h.0 ++ ys) h.4 ∙ append-nil h.0)) h.3
 
 pub found : (limit : ℕ) (xs : List Token) (ts : List Tree) → read_script limit true xs ≡ Ok ts → DerivesScript xs ts × EachFits limit true ts
 found limit xs ts h =
     let e = finished (script_run limit true script_start xs) ts h in
-    (between ts xs (script_run_led limit true script_start [] xs (reading ts start) start_led e), (script_run_fits limit true script_start xs (reading ts start) (start_fits limit true) e).0)
+    (between ts xs (script_run_led limit true script_start [] xs (reading ts read_start) start_led e), (script_run_fits limit true script_start xs (reading ts read_start) (start_fits limit true) e).0)
 
 pub only : (limit : ℕ) (xs : List Token) (ts : List Tree) → DerivesScript xs ts → EachFits limit true ts → read_script limit true xs ≡ Ok ts
 only limit xs ts d f = ap script_finish (script_reads limit true [] ts xs d f)
@@ -53,7 +53,7 @@ begins limit sized front s e =
     let led = script_run_led limit sized script_start [] front s start_led e in
     let fits = script_run_fits limit sized script_start front s (start_fits limit sized) e in
     let c = script_can_end limit sized s front led fits in
-    (c.0, c.1, between c.1 (front ++ c.0) (script_run_led limit sized s front c.0 (reading c.1 start) led c.2), (script_run_fits limit sized s c.0 (reading c.1 start) fits c.2).0)
+    (c.0, c.1, between c.1 (front ++ c.0) (script_run_led limit sized s front c.0 (reading c.1 read_start) led c.2), (script_run_fits limit sized s c.0 (reading c.1 read_start) fits c.2).0)
 
 -- looser limits take the same steps
 step_loosest : (limit m : ℕ) (s : ScriptState) (x : Token) (s' : ScriptState) → limit ≤ m → script_step limit true s x ≡ Ok s' → script_step m false s x ≡ Ok s'
@@ -69,13 +69,13 @@ loosest limit m s (x ∷ xs) s' above e =
     ap (λ r. after_script_step r (λ z. script_run m false z xs) (x ∷ xs)) (step_loosest limit m s x w.0 above w.1) ∙ loosest limit m w.0 xs s' above w.2
 
 -- what a refused step was refused for
-with_err : (ts : List Tree) (r : Result State Kind) (k : Kind) → with_terms ts r ≡ Err k → r ≡ Err k
+with_err : (ts : List Tree) (r : Result ReadState FaultKind) (k : FaultKind) → with_terms ts r ≡ Err k → r ≡ Err k
 with_err ts (Ok s) k h = absurd (cc)
 with_err ts (Err j) k h = let e : j ≡ k = cc in ap (λ z. Err z) e
 
-behind_misplaced : (ts : List Tree) (t : Tree) (x : Token) (k : Kind) → behind_term ts t x ≡ Err k → k ≡ misplaced
-behind_misplaced ts t text.stop k h = absurd (cc)
-behind_misplaced ts t x k h = cc
+after_misplaced : (ts : List Tree) (t : Tree) (x : Token) (k : FaultKind) → after_term ts t x ≡ Err k → k ≡ misplaced
+after_misplaced ts t text.stop k h = absurd (cc)
+after_misplaced ts t x k h = cc
 
 step_misplaced : (limit m : ℕ) (a b : Bool) (s : ScriptState) (x : Token) → script_step limit a s x ≡ Err misplaced → script_step m b s x ≡ Err misplaced
 step_misplaced limit m a b (reading ts (done t)) x e = e
@@ -85,22 +85,22 @@ abbrev DeepStep : ℕ → ScriptState → Token → Type 0
 DeepStep limit s x = (script_step limit false s x ≡ Err too_deep) × (m : ℕ) × (limit ≤ m) × (s' : ScriptState) × (script_step m false s x ≡ Ok s')
 
 step_deep : (limit : ℕ) (s : ScriptState) (x : Token) → script_step limit true s x ≡ Err too_deep → DeepStep limit s x
-step_deep limit (reading ts (done t)) x e = let k = behind_misplaced ts t x too_deep e in absurd (cc)
+step_deep limit (reading ts (done t)) x e = let k = after_misplaced ts t x too_deep e in absurd (cc)
 step_deep limit (reading ts (inside p fs)) x e =
     let d = deep limit true (inside p fs) (sort x) (with_err ts (step limit true (inside p fs) x) too_deep e) in
     (ap (with_terms ts) d.0, d.1, d.2, reading ts d.3, ap (with_terms ts) d.4)
 
 step_large : (limit : ℕ) (s : ScriptState) (x : Token) → script_step limit true s x ≡ Err too_large → (s' : ScriptState) × (script_step limit false s x ≡ Ok s')
-step_large limit (reading ts (done t)) x e = let k = behind_misplaced ts t x too_large e in absurd (cc)
+step_large limit (reading ts (done t)) x e = let k = after_misplaced ts t x too_large e in absurd (cc)
 step_large limit (reading ts (inside p fs)) x e =
     let d = large limit true (inside p fs) (sort x) (with_err ts (step limit true (inside p fs) x) too_large e) in
     (reading ts d.0, ap (with_terms ts) d.1)
 
 -- where a step is refused, no further tokens help
-stuck : (m : ℕ) (sized : Bool) (front : List Token) (x : Token) (z : ScriptState) (k : Kind) (further : List Token) (ts : List Tree)
+stuck : (m : ℕ) (sized : Bool) (front : List Token) (x : Token) (z : ScriptState) (k : FaultKind) (further : List Token) (ts : List Tree)
     → script_run m sized script_start front ≡ Ok z → script_step m sized z x ≡ Err k → DerivesScript ((front ++ x ∷ []) ++ further) ts → EachFits m sized ts → ⊥
 stuck m sized front x z k further ts e refused d within =
-    let good : script_run m sized script_start ((front ++ x ∷ []) ++ further) ≡ Ok (reading ts start) = script_reads m sized [] ts ((front ++ x ∷ []) ++ further) d within in
+    let good : script_run m sized script_start ((front ++ x ∷ []) ++ further) ≡ Ok (reading ts read_start) = script_reads m sized [] ts ((front ++ x ∷ []) ++ further) d within in
     let bad : script_run m sized script_start ((front ++ x ∷ []) ++ further) ≡ Err (k, x ∷ further) =
     ap (script_run m sized script_start) (append_assoc front (x ∷ []) further) ∙ script_run_append m sized script_start front (x ∷ further) z e ∙ ap (λ r. after_script_step r (λ s. script_run m sized s further) (x ∷ further)) refused in
     cc
@@ -113,7 +113,7 @@ each_within : (m : ℕ) (ts : List Tree) → greatest_depth (of_elements ts) ≤
 each_within m [] h = tt
 each_within m (t ∷ ts) h = (record { nests = omega (arith, h); sizes = refl }, each_within m ts (omega (arith, h)))
 
-fault_at : (limit : ℕ) (front : List Token) (x : Token) (rest : List Token) (z : ScriptState) (k : Kind) → script_run limit true script_start front ≡ Ok z → script_step limit true z x ≡ Err k → ScriptFaultAt limit front k (x ∷ rest)
+fault_at : (limit : ℕ) (front : List Token) (x : Token) (rest : List Token) (z : ScriptState) (k : FaultKind) → script_run limit true script_start front ≡ Ok z → script_step limit true z x ≡ Err k → ScriptFaultAt limit front k (x ∷ rest)
 fault_at limit front x rest z misplaced e refused = λ h.
     let m = max limit (greatest_depth (of_elements h.1)) in
     stuck m false front x z misplaced h.0 h.1 (loosest limit m script_start front z (omega arith) e) (step_misplaced limit m true false z x refused) h.2 (each_within m h.1 (omega arith))
@@ -132,9 +132,9 @@ unfinished limit xs s r e h = (
   begins limit true xs s e,
   λ ts d.
       let m = max limit (greatest_depth (of_elements ts)) in
-      let good : script_run m false script_start xs ≡ Ok (reading ts start) = script_reads m false [] ts xs d (each_within m ts (omega arith)) in
+      let good : script_run m false script_start xs ≡ Ok (reading ts read_start) = script_reads m false [] ts xs d (each_within m ts (omega arith)) in
       let bad : script_run m false script_start xs ≡ Ok s = loosest limit m script_start xs s (omega arith) e in
-      let same : s ≡ reading ts start = cc in
+      let same : s ≡ reading ts read_start = cc in
       let ended : script_end s ≡ Ok ts = ap script_end same in
       cc,
 )

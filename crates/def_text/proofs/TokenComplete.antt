@@ -4,9 +4,9 @@ use Rattle.std.proofs.lemmas.Bool.{and_parts, cond-true, cond-false, ne_eqb, bot
 use Rattle.std.proofs.lemmas.Bool.Decides.{nat_tests}
 use Rattle.std.proofs.lemmas.List.{take_at}
 use Rattle.def_term.specs.Text.{is_digit, is_lower, is_name, is_name_byte, are_name_bytes, is_among, reserved_words}
-use Rattle.def_text.specs.Tokens.{open_brace, close_brace, open_bracket, close_bracket, comma, stop, integer, atom, characters, pid, bad, all_are, stops, ends_form, number, quoted, escaped_in, is_printable, IsDigits, Token, IsToken, IsPid, HasNoToken}
+use Rattle.def_text.specs.Tokens.{open_brace, close_brace, open_bracket, close_bracket, comma, stop, integer, atom, characters, pid, bad, all_are, stops, ends_form, number, in_quotes, escaped_in, is_printable, IsDigits, Token, IsToken, IsPid, HasNoToken}
 use Rattle.def_text.specs.Scan.{TokenKind, left_brace, right_brace, left_bracket, right_bracket, separator, full_stop, numeral, bare_atom, quoted_atom, string, process_identifier}
-use Rattle.def_text.specs.Scan.{run_len, quoted_end, pid_number_end, of_kind, token_at, IsOf}
+use Rattle.def_text.specs.Scan.{run_len, quoted_end, pid_number_end, of_kind, token_at, IsTokenOf}
 use Rattle.def_text.proofs.ByteRuns.{run_all}
 use Rattle.def_text.proofs.Quotes.{IsQuote, closes_at}
 use Rattle.def_text.proofs.Pids.{pid_closes}
@@ -14,7 +14,7 @@ use Rattle.def_text.proofs.TokenSound.{single_quote, double_quote, same_names}
 
 -- the bytes of a token, as the scanner sees them
 abbrev pub Seen : List ℕ → List ℕ → Token → Type 0
-Seen u rest t = (k : TokenKind) × IsOf k u rest t × (token_at (u ++ rest) ≡ Some (k, length u))
+Seen u rest t = (k : TokenKind) × IsTokenOf k u rest t × (token_at (u ++ rest) ≡ Some (k, length u))
 
 starts_digit : (b : ℕ) (bs : List ℕ) → is_digit b ≡ true → token_at (b ∷ bs) ≡ Some (numeral, run_len is_digit bs + 1)
 starts_digit b bs h = grind (arith, nat_tests)
@@ -66,10 +66,10 @@ quote_end q s rest ok pr =
     let body = flat_map (escaped_in q) s in
     ap (quoted_end q false 0) (append_assoc body (q ∷ []) rest) ∙ closes_at q 0 s rest ok pr ∙ ap (λ n. Some n) (omega (arith, length-append body (q ∷ [])))
 
-seen_atom : (s rest : List ℕ) → all_are is_printable s ≡ true → token_at (quoted 39 s ++ rest) ≡ Some (quoted_atom, length (quoted 39 s))
+seen_atom : (s rest : List ℕ) → all_are is_printable s ≡ true → token_at (in_quotes 39 s ++ rest) ≡ Some (quoted_atom, length (in_quotes 39 s))
 seen_atom s rest pr = ap (of_kind quoted_atom) (quote_end 39 s rest single_quote pr) ∙ ap (λ n. Some (quoted_atom, n)) (omega arith)
 
-seen_characters : (s rest : List ℕ) → all_are is_printable s ≡ true → token_at (quoted 34 s ++ rest) ≡ Some (string, length (quoted 34 s))
+seen_characters : (s rest : List ℕ) → all_are is_printable s ≡ true → token_at (in_quotes 34 s ++ rest) ≡ Some (string, length (in_quotes 34 s))
 seen_characters s rest pr = ap (of_kind string) (quote_end 34 s rest double_quote pr) ∙ ap (λ n. Some (string, n)) (omega arith)
 
 seen_pid : (ds rest : List ℕ) → IsPid (codes "<0." ++ ds ++ codes ".0>") ds (number ds) → token_at ((codes "<0." ++ ds ++ codes ".0>") ++ rest) ≡ Some (process_identifier, length (codes "<0." ++ ds ++ codes ".0>"))

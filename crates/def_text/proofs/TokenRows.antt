@@ -30,7 +30,7 @@ empty_atom = inr (record { text = refl; printable = refl })
 pub first_pid : IsToken (codes "<0.0.0>") [] (pid 0)
 first_pid = let ds : IsDigits (codes "0") = record { some = omega arith; all = refl } in (codes "0", record { text = refl; digits = ds; plain = refl; value = refl })
 
--- a full stop has a blank, `%` or the end of the text behind it
+-- a full stop has a blank, `%` or the end of the text after it
 pub stop_before_comment : IsToken (codes ".") (codes "% a") stop
 stop_before_comment = (refl, refl)
 

@@ -3,7 +3,7 @@ use Rattle.std.proofs.Common.{◌≡◌, ℕ, pos, neg_ℤ, ◌+◌, List, [], �
 use Rattle.std.proofs.lemmas.Bool.{and_parts, and_from, cond_both, eqb-true, eqb-false}
 use Rattle.std.proofs.lemmas.List.{take_at, drop_at}
 use Rattle.def_term.specs.Text.{is_digit, is_lower, is_name_byte, are_name_bytes, is_among, reserved_words}
-use Rattle.def_text.specs.Tokens.{open_brace, close_brace, open_bracket, close_bracket, comma, stop, integer, atom, characters, pid, all_are, ends_form, number, quoted, escaped_in, IsDigits, IsBare, IsQuoted}
+use Rattle.def_text.specs.Tokens.{open_brace, close_brace, open_bracket, close_bracket, comma, stop, integer, atom, characters, pid, all_are, ends_form, number, in_quotes, escaped_in, IsDigits, IsBare, IsQuoted}
 use Rattle.def_text.specs.Scan.{TokenKind, left_brace, right_brace, left_bracket, right_bracket, separator, full_stop, numeral, bare_atom, quoted_atom, string, process_identifier}
 use Rattle.def_text.specs.Scan.{run_len, quoted_end, pid_end, pid_number_end, of_kind, token_at, IsFound}
 use Rattle.def_text.proofs.ByteRuns.{run_parts}
@@ -69,7 +69,7 @@ quote_cut q b bs n is h =
     let body = flat_map (escaped_in q) h.body in
     let len = h.len in (
       h.body,
-      quoted q h.body,
+      in_quotes q h.body,
       h.rest,
       ap (λ x. x ∷ bs) (eqb-true b q is) ∙ ap (λ xs. q ∷ xs) (h.split ∙ sym (append_assoc body (q ∷ []) h.rest)),
       omega (arith, len, length-append body (q ∷ [])),
@@ -84,21 +84,21 @@ sound_characters : (b : ℕ) (bs : List ℕ) (o : Option ℕ) → (b == 34) ≡ 
 sound_characters b bs None is h = tt
 sound_characters b bs (Some n) is h = let c = quote_cut 34 b bs n is h in record { token = c.1; rest = c.2; split = c.3; len = c.4; found = (characters c.0, c.5, (c.0, refl)) }
 
-abbrev PidBehind : List ℕ → Option ℕ → Type 0
-PidBehind bs None = Unit {0}
-PidBehind bs (Some m) = (xs : List ℕ) × (bs ≡ 48 ∷ 46 ∷ xs) × PidEnds xs m
+abbrev PidAfter : List ℕ → Option ℕ → Type 0
+PidAfter bs None = Unit {0}
+PidAfter bs (Some m) = (xs : List ℕ) × (bs ≡ 48 ∷ 46 ∷ xs) × PidEnds xs m
 
-pid_behind : (bs : List ℕ) (o : Option ℕ) (a b : ℕ) → (a == 48) ≡ true → (b == 46) ≡ true → PidAt bs o → PidBehind (a ∷ b ∷ bs) o
-pid_behind bs None a b ah bh h = tt
-pid_behind bs (Some m) a b ah bh h = let a_is = eqb-true a 48 ah in let b_is = eqb-true b 46 bh in (bs, cc, h)
+pid_after : (bs : List ℕ) (o : Option ℕ) (a b : ℕ) → (a == 48) ≡ true → (b == 46) ≡ true → PidAt bs o → PidAfter (a ∷ b ∷ bs) o
+pid_after bs None a b ah bh h = tt
+pid_after bs (Some m) a b ah bh h = let a_is = eqb-true a 48 ah in let b_is = eqb-true b 46 bh in (bs, cc, h)
 
-pid_end_sound : (bs : List ℕ) → PidBehind bs (pid_end bs)
+pid_end_sound : (bs : List ℕ) → PidAfter bs (pid_end bs)
 pid_end_sound [] = tt
 pid_end_sound (a ∷ []) = tt
 pid_end_sound (a ∷ b ∷ bs) =
-    cond_both ((a == 48) && (b == 46)) (pid_number_end bs) None (PidBehind (a ∷ b ∷ bs)) (λ h. let parts = and_parts (a == 48) (b == 46) h in pid_behind bs (pid_number_end bs) a b parts.0 parts.1 (pid_sound bs)) (λ _. tt)
+    cond_both ((a == 48) && (b == 46)) (pid_number_end bs) None (PidAfter (a ∷ b ∷ bs)) (λ h. let parts = and_parts (a == 48) (b == 46) h in pid_after bs (pid_number_end bs) a b parts.0 parts.1 (pid_sound bs)) (λ _. tt)
 
-sound_pid : (b : ℕ) (bs : List ℕ) (o : Option ℕ) → (b == 60) ≡ true → PidBehind bs o → SoundAt (b ∷ bs) (of_kind process_identifier o)
+sound_pid : (b : ℕ) (bs : List ℕ) (o : Option ℕ) → (b == 60) ≡ true → PidAfter bs o → SoundAt (b ∷ bs) (of_kind process_identifier o)
 sound_pid b bs None is h = tt
 sound_pid b bs (Some m) is (xs, behind, e) =
     let ds = e.digits in

@@ -1,14 +1,14 @@
 -- Every text has a list of tokens.
 use Rattle.std.proofs.Common.{◌≡◌, ℕ, zero, suc, ◌+◌, ◌<◌, List, [], ◌∷◌, length, drop, false, Option, Some, None, refl, ap, sym, ◌∙◌, arith, append-nil, length-append, length-drop}
-use Rattle.def_text.specs.Tokens.{bad, gap_len, Spanned, Next, TokensFrom, Tokens}
+use Rattle.def_text.specs.Tokens.{bad, gap_len, TokenSpan, IsNextToken, TokensFrom, Tokens}
 use Rattle.def_text.specs.Scan.{TokenKind, token_at}
 use Rattle.def_text.proofs.TokenSound.{SoundAt, sound}
 use Rattle.def_text.proofs.TokenComplete.{none_there}
 use Rattle.def_text.proofs.TokenSteps.{nonempty, stands_of}
 
--- a next token behind the blanks, with fewer bytes behind it
+-- a next token after the blanks, with fewer bytes after it
 abbrev HasNext : ℕ → List ℕ → List ℕ → Type 0
-HasNext at bytes there = (u : List ℕ) × (rest : List ℕ) × (x : Spanned) × Next at bytes u rest x × (length rest < length there)
+HasNext at bytes there = (u : List ℕ) × (rest : List ℕ) × (x : TokenSpan) × IsNextToken at bytes u rest x × (length rest < length there)
 
 next_from : (at : ℕ) (bytes : List ℕ) (b : ℕ) (bs : List ℕ) (o : Option (TokenKind × ℕ)) → drop (gap_len false bytes) bytes ≡ b ∷ bs → token_at (b ∷ bs) ≡ o → SoundAt (b ∷ bs) o → HasNext at bytes (b ∷ bs)
 next_from at bytes b bs None there is h =
@@ -27,7 +27,7 @@ next_from at bytes b bs (Some p) there is c =
     )
 
 abbrev HasTokens : ℕ → List ℕ → Type 0
-HasTokens at bytes = (xs : List Spanned) × TokensFrom at bytes xs
+HasTokens at bytes = (xs : List TokenSpan) × TokensFrom at bytes xs
 
 tokens_there : (at : ℕ) (bytes there : List ℕ) → drop (gap_len false bytes) bytes ≡ there → ((next : ℕ) (rest : List ℕ) → length rest < length there → HasTokens next rest) → HasTokens at bytes
 tokens_there at bytes [] is go = ([], is)
@@ -43,5 +43,5 @@ tokens_within (suc size) at bytes h =
     let n = gap_len false bytes in
     tokens_there at bytes (drop n bytes) refl (λ next rest fewer. tokens_within size next rest (omega (arith, h, fewer, length-drop n bytes)))
 
-pub tokens_exist : (bytes : List ℕ) → (xs : List Spanned) × Tokens bytes xs
+pub tokens_exist : (bytes : List ℕ) → (xs : List TokenSpan) × Tokens bytes xs
 tokens_exist bytes = tokens_within (length bytes + 1) 0 bytes (omega arith)

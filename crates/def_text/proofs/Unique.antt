@@ -3,26 +3,26 @@ use Rattle.std.proofs.Common.{◌≡◌, ℕ, ℤ, pos, neg_ℤ, ◌<◌, List, 
 use Rattle.std.proofs.lemmas.List.{take_at, drop_at, append_cancel_right, append_cancel_left}
 use Rattle.std.proofs.lemmas.Bool.{cond_both, cond-false, or_parts}
 use Rattle.def_term.specs.Text.{is_digit}
-use Rattle.def_text.specs.Tokens.{Token, open_brace, close_brace, open_bracket, close_bracket, comma, stop, integer, atom, characters, pid, bad, gap_len, all_are, number, quoted, escaped_in, IsDigits, IsInteger, IsQuoted, IsPid, IsToken, Stands, Spanned, Next, TokensFrom, HasNoToken}
+use Rattle.def_text.specs.Tokens.{Token, open_brace, close_brace, open_bracket, close_bracket, comma, stop, integer, atom, characters, pid, bad, gap_len, all_are, number, in_quotes, escaped_in, IsDigits, IsInteger, IsQuoted, IsPid, IsToken, Stands, TokenSpan, IsNextToken, TokensFrom, HasNoToken}
 use Rattle.def_text.specs.Scan.{TokenKind, left_brace, right_brace, left_bracket, right_bracket, separator, full_stop, numeral, bare_atom, quoted_atom, string, process_identifier}
-use Rattle.def_text.specs.Scan.{token_at, IsOf, unescaped}
+use Rattle.def_text.specs.Scan.{token_at, IsTokenOf, unescape}
 use Rattle.def_text.proofs.TokenComplete.{seen}
 use Rattle.def_text.proofs.TokenSteps.{nonempty}
 
-one_unescaped : (q b : ℕ) (bs : List ℕ) → unescaped false (escaped_in q b ++ bs) ≡ b ∷ unescaped false bs
+one_unescaped : (q b : ℕ) (bs : List ℕ) → unescape false (escaped_in q b ++ bs) ≡ b ∷ unescape false bs
 one_unescaped q b bs =
-    cond_both ((b == q) || (b == 92)) (92 ∷ b ∷ []) (b ∷ []) (λ e. unescaped false (e ++ bs) ≡ b ∷ unescaped false bs) (λ _. refl)
-    (λ h. let parts = or_parts (b == q) (b == 92) h in cond-false (b == 92) (unescaped true bs) (b ∷ unescaped false bs) parts.1)
+    cond_both ((b == q) || (b == 92)) (92 ∷ b ∷ []) (b ∷ []) (λ e. unescape false (e ++ bs) ≡ b ∷ unescape false bs) (λ _. refl)
+    (λ h. let parts = or_parts (b == q) (b == 92) h in cond-false (b == 92) (unescape true bs) (b ∷ unescape false bs) parts.1)
 
-pub unescaped_is : (q : ℕ) (s rest : List ℕ) → unescaped false (flat_map (escaped_in q) s ++ rest) ≡ s ++ unescaped false rest
+pub unescaped_is : (q : ℕ) (s rest : List ℕ) → unescape false (flat_map (escaped_in q) s ++ rest) ≡ s ++ unescape false rest
 unescaped_is q [] rest = refl
 unescaped_is q (b ∷ s) rest =
-    ap (unescaped false) (append_assoc (escaped_in q b) (flat_map (escaped_in q) s) rest) ∙ one_unescaped q b (flat_map (escaped_in q) s ++ rest) ∙ ap (λ xs. b ∷ xs) (unescaped_is q s rest)
+    ap (unescape false) (append_assoc (escaped_in q b) (flat_map (escaped_in q) s) rest) ∙ one_unescaped q b (flat_map (escaped_in q) s ++ rest) ∙ ap (λ xs. b ∷ xs) (unescaped_is q s rest)
 
-same_quoted : (q : ℕ) (r s : List ℕ) → quoted q r ≡ quoted q s → r ≡ s
+same_quoted : (q : ℕ) (r s : List ℕ) → in_quotes q r ≡ in_quotes q s → r ≡ s
 same_quoted q r s h =
     let inner : flat_map (escaped_in q) r ++ q ∷ [] ≡ flat_map (escaped_in q) s ++ q ∷ [] = cc in
-    append_cancel_right r s (unescaped false (q ∷ [])) (sym (unescaped_is q r (q ∷ [])) ∙ ap (unescaped false) inner ∙ unescaped_is q s (q ∷ []))
+    append_cancel_right r s (unescape false (q ∷ [])) (sym (unescaped_is q r (q ∷ [])) ∙ ap (unescape false) inner ∙ unescaped_is q s (q ∷ []))
 
 minus_apart : (u ds : List ℕ) → IsDigits u → u ≡ 45 ∷ ds → ⊥
 minus_apart u ds h e = let d : all_are is_digit (45 ∷ ds) ≡ true = subst (λ x. all_are is_digit x ≡ true) e h.all in cc
@@ -42,7 +42,7 @@ same_pid u ds es m n h k =
     let same : ds ≡ es = append_cancel_left (codes "<0.") ds es (append_cancel_right (codes "<0." ++ ds) (codes "<0." ++ es) (codes ".0>") both) in
     h.value ∙ ap number same ∙ sym k.value
 
-one_kind : (k : TokenKind) (u rest : List ℕ) (s t : Token) → IsOf k u rest s → IsOf k u rest t → IsToken u rest s → IsToken u rest t → s ≡ t
+one_kind : (k : TokenKind) (u rest : List ℕ) (s t : Token) → IsTokenOf k u rest s → IsTokenOf k u rest t → IsToken u rest s → IsToken u rest t → s ≡ t
 one_kind left_brace u rest s t f g h i = f ∙ sym g
 one_kind right_brace u rest s t f g h i = f ∙ sym g
 one_kind left_bracket u rest s t f g h i = f ∙ sym g
@@ -89,7 +89,7 @@ same_good u v rest more s t e h i =
     let kinds : f.0 ≡ g.0 = ap (λ (p : TokenKind × ℕ). p.0) both in
     let parts = same_front u v rest more e size in
     let i' = subst (λ x. IsToken x rest t) (sym parts.0) (subst (λ x. IsToken v x t) (sym parts.1) i) in
-    let g' = subst (λ x. IsOf x u rest t) (sym kinds) (subst (λ x. IsOf g.0 x rest t) (sym parts.0) (subst (λ x. IsOf g.0 v x t) (sym parts.1) g.1)) in
+    let g' = subst (λ x. IsTokenOf x u rest t) (sym kinds) (subst (λ x. IsTokenOf g.0 x rest t) (sym parts.0) (subst (λ x. IsTokenOf g.0 v x t) (sym parts.1) g.1)) in
     (one_kind f.0 u rest s t f.1 g' h i', parts.0, parts.1)
 
 same_stands : (u v rest more : List ℕ) (s t : Token) → u ++ rest ≡ v ++ more → Stands u rest s → Stands v more t → (s ≡ t) × (u ≡ v) × (rest ≡ more)
@@ -105,12 +105,12 @@ same_stands u v rest more s t e h i =
       ]
     ]
 
-same_spanned : (x y : Spanned) → x.token ≡ y.token → x.from ≡ y.from → x.to ≡ y.to → x ≡ y
+same_spanned : (x y : TokenSpan) → x.token ≡ y.token → x.from ≡ y.from → x.to ≡ y.to → x ≡ y
 same_spanned x y e f g =
-    let made : Token → ℕ → ℕ → Spanned = λ t a b. record { token = t; from = a; to = b } in
+    let made : Token → ℕ → ℕ → TokenSpan = λ t a b. record { token = t; from = a; to = b } in
     ap (λ t. made t x.from x.to) e ∙ ap (λ a. made y.token a x.to) f ∙ ap (made y.token y.from) g
 
-same_next : (at : ℕ) (bytes u v rest more : List ℕ) (x y : Spanned) → Next at bytes u rest x → Next at bytes v more y → (x ≡ y) × (rest ≡ more)
+same_next : (at : ℕ) (bytes u v rest more : List ℕ) (x y : TokenSpan) → IsNextToken at bytes u rest x → IsNextToken at bytes v more y → (x ≡ y) × (rest ≡ more)
 same_next at bytes u v rest more x y h i =
     let s = same_stands u v rest more x.token y.token (sym h.split ∙ i.split) h.stands i.stands in
     let token = s.0 in
@@ -122,12 +122,12 @@ same_next at bytes u v rest more x y h i =
     (same_spanned x y token from to, s.2)
 
 -- where a token stands, the text has not ended
-never_ended : (at : ℕ) (bytes u rest : List ℕ) (x : Spanned) → drop (gap_len false bytes) bytes ≡ [] → Next at bytes u rest x → ⊥
+never_ended : (at : ℕ) (bytes u rest : List ℕ) (x : TokenSpan) → drop (gap_len false bytes) bytes ≡ [] → IsNextToken at bytes u rest x → ⊥
 never_ended at bytes u rest x e h =
     let none : length (u ++ rest) ≡ 0 = ap length (sym h.split ∙ e) in
     elim (good_or_bad x.token u rest h.stands) [ inl a ↦ (let some = nonempty x.token u rest a in omega (arith, none, some, length-append u rest)) | inr a ↦ (let some = a.1.1 in omega (arith, none, some, length-append u rest)) ]
 
-pub same_tokens : (at : ℕ) (bytes : List ℕ) (xs ys : List Spanned) → TokensFrom at bytes xs → TokensFrom at bytes ys → xs ≡ ys
+pub same_tokens : (at : ℕ) (bytes : List ℕ) (xs ys : List TokenSpan) → TokensFrom at bytes xs → TokensFrom at bytes ys → xs ≡ ys
 same_tokens at bytes [] [] h i = refl
 same_tokens at bytes [] (y ∷ ys) h i = absurd (never_ended at bytes i.0 i.1 y h i.2)
 same_tokens at bytes (x ∷ xs) [] h i = absurd (never_ended at bytes h.0 h.1 x i h.2)

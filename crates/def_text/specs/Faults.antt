@@ -1,5 +1,5 @@
 -- What a list of tokens begins, and where and how the text of one term is refused (own).
--- Stands on the grammar and the limits.
+-- Depends on the grammar and the limits.
 use Rattle.std.specs.Prelude.{◌≡◌, ℕ, List, [], ◌∷◌, ◌++◌, Bool, true, false}
 use Rattle.def_term.specs.Tree.{Tree}
 use Rattle.def_text.specs.Tokens.{Token}
@@ -7,10 +7,10 @@ use Rattle.def_text.specs.Grammar.{Derives}
 use Rattle.def_text.specs.Limits.{Fits}
 
 -- refusal 2, nothing begins so even without limits, or the whole text is only a beginning; 3, nested too deep; 4, a number, atom, string, tuple or list too large
-pub data Kind : Type 0 where
-  misplaced : Kind
-  too_deep : Kind
-  too_large : Kind
+pub data FaultKind : Type 0 where
+  misplaced : FaultKind
+  too_deep : FaultKind
+  too_large : FaultKind
 
 -- further tokens complete it, to a term within the limits
 abbrev pub Begins : ℕ → Bool → List Token → Type 0
@@ -22,10 +22,10 @@ BeginsAtAll front = (further : List Token) × (t : Tree) × Derives (front ++ fu
 
 -- a refusal, with the tokens from the refused one on; none are left where the whole text is only a beginning
 abbrev pub Fault : Type 0
-Fault = Kind × List Token
+Fault = FaultKind × List Token
 
--- which refusal it is behind a front that begins a term within the limits: with the next token it begins none even without limits; else none within the depth; else none within the sizes
-abbrev pub FaultAt : ℕ → List Token → Kind → List Token → Type 0
+-- which refusal it is after a front that begins a term within the limits: with the next token it begins none even without limits; else none within the depth; else none within the sizes
+abbrev pub FaultAt : ℕ → List Token → FaultKind → List Token → Type 0
 FaultAt limit front misplaced [] = (t : Tree) → Derives front t → ⊥
 FaultAt limit front too_deep [] = ⊥
 FaultAt limit front too_large [] = ⊥

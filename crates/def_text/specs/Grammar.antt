@@ -1,5 +1,5 @@
 -- The grammar: which tokens derive a term, and which a script.
--- Stands on trees and tokens. Terms are those of the Erlang Reference Manual ("Data Types"); a script is this project's own.
+-- Depends on trees and tokens. Terms are those of the Erlang Reference Manual ("Data Types"); a script is this project's own.
 use Rattle.std.specs.Prelude.{◌≡◌, ℕ, pos, List, [], ◌∷◌, ◌++◌, ◌⊎◌}
 use Rattle.def_term.specs.Tree.{Tree, int, atom, pid, tuple, list, Trees, none, more}
 use Rattle.def_text.specs.Tokens as text

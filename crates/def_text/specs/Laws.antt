@@ -1,15 +1,15 @@
 -- What is promised of tokens, of reading and of written text (own).
--- Stands on the tokens, the grammar, what texts spell and how they are refused.
+-- Depends on the tokens, the grammar, what texts spell and how they are refused.
 use Rattle.std.specs.Prelude.{◌≡◌, ℕ, ℤ, ◌<◌, ◌≤◌, ◌^◌, List, length, Ok, Err, true, ◌⊎◌}
 use Rattle.def_term.specs.Tree.{Tree}
 use Rattle.def_term.specs.Tree.{int, atom as name, pid as process}
 use Rattle.def_term.specs.Text.{is_digit, is_name_byte, w}
-use Rattle.def_text.specs.Tokens.{Token, integer, atom, pid, all_are, is_printable, stops, IsToken, Spanned, Tokens}
+use Rattle.def_text.specs.Tokens.{Token, integer, atom, pid, all_are, is_printable, stops, IsToken, TokenSpan, Tokens}
 use Rattle.def_text.specs.Grammar.{Derives, DerivesScript}
 use Rattle.def_text.specs.Limits.{DEPTH, Fits, in_range}
-use Rattle.def_text.specs.Faults.{Kind, Fault, IsFirstFault}
+use Rattle.def_text.specs.Faults.{FaultKind, Fault, IsFirstFault}
 use Rattle.def_text.specs.Reading.{read}
-use Rattle.def_text.specs.Spelling.{LENGTH, Spells, Refused}
+use Rattle.def_text.specs.Spelling.{LENGTH, Spells, IsRefusedAt}
 use Rattle.def_text.specs.Scripts.{EachFits, IsFirstScriptFault, SpellsTerms, ScriptRefused}
 use Rattle.def_text.specs.ScriptReading.{read_script}
 use Rattle.def_text.specs.Writable.{is_writable}
@@ -18,11 +18,11 @@ use Rattle.def_text.specs.Writable.{is_writable}
 
 -- a text has one list of tokens at most
 abbrev pub TokensAreOne : Type 0
-TokensAreOne = (bytes : List ℕ) (xs ys : List Spanned) → Tokens bytes xs → Tokens bytes ys → xs ≡ ys
+TokensAreOne = (bytes : List ℕ) (xs ys : List TokenSpan) → Tokens bytes xs → Tokens bytes ys → xs ≡ ys
 
 -- and each text has one
 abbrev pub TokensAreThere : Type 0
-TokensAreThere = (bytes : List ℕ) → (xs : List Spanned) × Tokens bytes xs
+TokensAreThere = (bytes : List ℕ) → (xs : List TokenSpan) × Tokens bytes xs
 
 -- ---- reading one term
 
@@ -60,15 +60,15 @@ SpelledTermIsOne = (bytes : List ℕ) (t u : Tree) → Spells bytes t → Spells
 
 -- a text that spells a term is not refused
 abbrev pub SpelledTermIsNotRefused : Type 0
-SpelledTermIsNotRefused = (bytes : List ℕ) (t : Tree) (kind : Kind) (at : ℕ) → Spells bytes t → Refused bytes kind at → ⊥
+SpelledTermIsNotRefused = (bytes : List ℕ) (t : Tree) (kind : FaultKind) (at : ℕ) → Spells bytes t → IsRefusedAt bytes kind at → ⊥
 
 -- a text is refused in one way at most
 abbrev pub TermRefusalIsOne : Type 0
-TermRefusalIsOne = (bytes : List ℕ) (kind other : Kind) (at there : ℕ) → Refused bytes kind at → Refused bytes other there → (kind ≡ other) × (at ≡ there)
+TermRefusalIsOne = (bytes : List ℕ) (kind other : FaultKind) (at there : ℕ) → IsRefusedAt bytes kind at → IsRefusedAt bytes other there → (kind ≡ other) × (at ≡ there)
 
 -- within the length each text spells a term or is refused
 abbrev pub TermOrRefusal : Type 0
-TermOrRefusal = (bytes : List ℕ) → length bytes ≤ LENGTH → ((t : Tree) × Spells bytes t) ⊎ ((kind : Kind) × (at : ℕ) × Refused bytes kind at)
+TermOrRefusal = (bytes : List ℕ) → length bytes ≤ LENGTH → ((t : Tree) × Spells bytes t) ⊎ ((kind : FaultKind) × (at : ℕ) × IsRefusedAt bytes kind at)
 
 -- ---- texts of scripts
 
@@ -78,15 +78,15 @@ SpelledTermsAreOne = (bytes : List ℕ) (ts us : List Tree) → SpellsTerms byte
 
 -- a text that spells terms with full stops is not refused so
 abbrev pub SpelledTermsAreNotRefused : Type 0
-SpelledTermsAreNotRefused = (bytes : List ℕ) (ts : List Tree) (kind : Kind) (at : ℕ) → SpellsTerms bytes ts → ScriptRefused bytes kind at → ⊥
+SpelledTermsAreNotRefused = (bytes : List ℕ) (ts : List Tree) (kind : FaultKind) (at : ℕ) → SpellsTerms bytes ts → ScriptRefused bytes kind at → ⊥
 
 -- a text is refused so in one way at most
 abbrev pub ScriptRefusalIsOne : Type 0
-ScriptRefusalIsOne = (bytes : List ℕ) (kind other : Kind) (at there : ℕ) → ScriptRefused bytes kind at → ScriptRefused bytes other there → (kind ≡ other) × (at ≡ there)
+ScriptRefusalIsOne = (bytes : List ℕ) (kind other : FaultKind) (at there : ℕ) → ScriptRefused bytes kind at → ScriptRefused bytes other there → (kind ≡ other) × (at ≡ there)
 
 -- within the length each text spells terms with full stops or is refused so
 abbrev pub TermsOrRefusal : Type 0
-TermsOrRefusal = (bytes : List ℕ) → length bytes ≤ LENGTH → ((ts : List Tree) × SpellsTerms bytes ts) ⊎ ((kind : Kind) × (at : ℕ) × ScriptRefused bytes kind at)
+TermsOrRefusal = (bytes : List ℕ) → length bytes ≤ LENGTH → ((ts : List Tree) × SpellsTerms bytes ts) ⊎ ((kind : FaultKind) × (at : ℕ) × ScriptRefused bytes kind at)
 
 -- ---- written text
 

@@ -9,3 +9,6 @@ pub mod Writable
 pub mod Scripts
 pub mod ScriptReading
 pub mod Laws
+pub mod Places
+pub mod Forms
+pub mod PlaceLaws

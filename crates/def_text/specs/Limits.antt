@@ -1,5 +1,5 @@
 -- The limits on terms (own): how deep they nest, and how large their numbers, atoms, tuples and lists are.
--- Stands on trees.
+-- Depends on trees.
 use Rattle.std.specs.Prelude.{◌≡◌, ℕ, ℤ, pos, negsuc, ◌≤◌, length, Bool, true, false, ◌&&◌, nat_le, nat_lt}
 use Rattle.def_term.specs.Tree.{Tree, int, atom, pid, tuple, list, Trees, none, more, count, depth}
 use Rattle.def_term.specs.Atoms.{ATOM_LENGTH}

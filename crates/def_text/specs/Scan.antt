@@ -1,5 +1,5 @@
 -- Which token stands at the front of the bytes, and how long it is, by cases on the bytes from the left.
--- Stands on tokens (own). Lemmas say that it finds each token, and only tokens.
+-- Depends on tokens (own). Lemmas say that it finds each token, and only tokens.
 use Rattle.std.specs.Prelude.{◌≡◌, ℕ, ◌+◌, List, [], ◌∷◌, take, drop, Bool, true, false, not, ◌&&◌, ◌||◌, if◌then◌else◌, nat_le, nat_lt, ◌==◌, Option, Some, None}
 use Rattle.def_term.specs.Text.{is_digit, is_lower, is_name_byte, is_among, reserved_words}
 use Rattle.def_text.specs.Tokens.{ends_form, Token, open_brace, close_brace, open_bracket, close_bracket, comma, stop, integer, atom, characters, pid, IsBare, IsQuoted, IsToken}
@@ -23,7 +23,7 @@ abbrev pub run_len : (ℕ → Bool) → List ℕ → ℕ
 run_len p [] = 0
 run_len p (b ∷ bs) = if p b then run_len p bs + 1 else 0
 
--- n bytes behind the opening quote, behind a backslash or not: how many there are with the closing quote; None where none closes it, or a byte or escape isn't allowed
+-- n bytes after the opening quote, after a backslash or not: how many there are with the closing quote; None where none closes it, or a byte or escape isn't allowed
 abbrev pub quoted_end : ℕ → Bool → ℕ → List ℕ → Option ℕ
 quoted_end q escaped n [] = None
 quoted_end q true n (b ∷ bs) = if (b == q) || (b == 92) then quoted_end q false (n + 1) bs else None
@@ -33,11 +33,11 @@ quoted_end q false n (b ∷ bs) =
     else (if nat_le 32 b && nat_le b 126 then quoted_end q false (n + 1) bs
     else None))
 
--- the characters, without the backslashes: behind one or not
-abbrev pub unescaped : Bool → List ℕ → List ℕ
-unescaped escaped [] = []
-unescaped true (b ∷ bs) = b ∷ unescaped false bs
-unescaped false (b ∷ bs) = if b == 92 then unescaped true bs else b ∷ unescaped false bs
+-- the characters, without the backslashes: after one or not
+abbrev pub unescape : Bool → List ℕ → List ℕ
+unescape escaped [] = []
+unescape true (b ∷ bs) = b ∷ unescape false bs
+unescape false (b ∷ bs) = if b == 92 then unescape true bs else b ∷ unescape false bs
 
 -- `.0>` stands at the front
 abbrev pub closes_pid : List ℕ → Bool
@@ -49,18 +49,18 @@ abbrev pub begins_zero : List ℕ → Bool
 begins_zero [] = false
 begins_zero (b ∷ bs) = b == 48
 
--- how many bytes behind `<` a pid has, where these stand behind `<0.`
+-- how many bytes after `<` a pid has, where these stand after `<0.`
 abbrev pub pid_number_end : List ℕ → Option ℕ
 pid_number_end bs =
     let n = run_len is_digit bs in
     if (n == 0) || (nat_lt 1 n && begins_zero bs) || not (closes_pid (drop n bs)) then None else Some (n + 5)
 
--- how many bytes behind `<` a pid has
+-- how many bytes after `<` a pid has
 abbrev pub pid_end : List ℕ → Option ℕ
 pid_end (a ∷ b ∷ bs) = if (a == 48) && (b == 46) then pid_number_end bs else None
 pid_end _ = None
 
--- a token of that kind with so many bytes behind its first
+-- a token of that kind with so many bytes after its first
 abbrev pub of_kind : TokenKind → Option ℕ → Option (TokenKind × ℕ)
 of_kind k None = None
 of_kind k (Some n) = Some (k, n + 1)
@@ -84,19 +84,19 @@ token_at (b ∷ bs) =
     else None)))))))))))
 
 -- the token that these bytes are is of that kind
-abbrev pub IsOf : TokenKind → List ℕ → List ℕ → Token → Type 0
-IsOf left_brace u rest t = t ≡ open_brace
-IsOf right_brace u rest t = t ≡ close_brace
-IsOf left_bracket u rest t = t ≡ open_bracket
-IsOf right_bracket u rest t = t ≡ close_bracket
-IsOf separator u rest t = t ≡ comma
-IsOf full_stop u rest t = t ≡ stop
-IsOf numeral u rest t = (n : _) × (t ≡ integer n)
-IsOf bare_atom u rest t = (s : List ℕ) × (t ≡ atom s) × IsBare u rest s
-IsOf quoted_atom u rest t = (s : List ℕ) × (t ≡ atom s) × IsQuoted 39 u s
-IsOf string u rest t = (s : List ℕ) × (t ≡ characters s)
-IsOf process_identifier u rest t = (n : ℕ) × (t ≡ pid n)
+abbrev pub IsTokenOf : TokenKind → List ℕ → List ℕ → Token → Type 0
+IsTokenOf left_brace u rest t = t ≡ open_brace
+IsTokenOf right_brace u rest t = t ≡ close_brace
+IsTokenOf left_bracket u rest t = t ≡ open_bracket
+IsTokenOf right_bracket u rest t = t ≡ close_bracket
+IsTokenOf separator u rest t = t ≡ comma
+IsTokenOf full_stop u rest t = t ≡ stop
+IsTokenOf numeral u rest t = (n : _) × (t ≡ integer n)
+IsTokenOf bare_atom u rest t = (s : List ℕ) × (t ≡ atom s) × IsBare u rest s
+IsTokenOf quoted_atom u rest t = (s : List ℕ) × (t ≡ atom s) × IsQuoted 39 u s
+IsTokenOf string u rest t = (s : List ℕ) × (t ≡ characters s)
+IsTokenOf process_identifier u rest t = (n : ℕ) × (t ≡ pid n)
 
 -- these bytes are some token of that kind
 abbrev pub IsFound : TokenKind → List ℕ → List ℕ → Type 0
-IsFound k u rest = (t : Token) × IsToken u rest t × IsOf k u rest t
+IsFound k u rest = (t : Token) × IsToken u rest t × IsTokenOf k u rest t

@@ -1,37 +1,37 @@
--- Reading a script as a fold over the tokens, which starts on a new term behind each full stop.
--- Stands on the fold that reads one term (own). Laws say that it reads what the grammar derives.
+-- Reading a script as a fold over the tokens, which starts on a new term after each full stop.
+-- Depends on the fold that reads one term (own). Laws say that it reads what the grammar derives.
 use Rattle.std.specs.Prelude.{ℕ, List, [], ◌∷◌, ◌++◌, Result, Ok, Err, Bool}
 use Rattle.def_term.specs.Tree.{Tree}
 use Rattle.def_text.specs.Tokens as text
 use Rattle.def_text.specs.Tokens.{Token}
-use Rattle.def_text.specs.Faults.{Kind, misplaced, Fault}
-use Rattle.def_text.specs.Reading.{first, next, behind, State, inside, done, start, step}
+use Rattle.def_text.specs.Faults.{FaultKind, misplaced, Fault}
+use Rattle.def_text.specs.Reading.{first, next, behind, ReadState, inside, done, read_start, step}
 
 -- the terms so far, and how far the next one is read; between terms that is its start
 pub data ScriptState : Type 0 where
-  reading : List Tree → State → ScriptState
+  reading : List Tree → ReadState → ScriptState
 
 -- nothing is read yet
 abbrev pub script_start : ScriptState
-script_start = reading [] start
+script_start = reading [] read_start
 
--- behind a term stands a full stop and nothing else
-abbrev pub behind_term : List Tree → Tree → Token → Result ScriptState Kind
-behind_term ts t text.stop = Ok (reading (ts ++ t ∷ []) start)
-behind_term ts t x = Err misplaced
+-- after a term stands a full stop and nothing else
+abbrev pub after_term : List Tree → Tree → Token → Result ScriptState FaultKind
+after_term ts t text.stop = Ok (reading (ts ++ t ∷ []) read_start)
+after_term ts t x = Err misplaced
 
 -- a step within the next term
-abbrev pub with_terms : List Tree → Result State Kind → Result ScriptState Kind
+abbrev pub with_terms : List Tree → Result ReadState FaultKind → Result ScriptState FaultKind
 with_terms ts (Ok s) = Ok (reading ts s)
 with_terms ts (Err k) = Err k
 
 -- one token
-abbrev pub script_step : ℕ → Bool → ScriptState → Token → Result ScriptState Kind
-script_step limit sized (reading ts (done t)) x = behind_term ts t x
+abbrev pub script_step : ℕ → Bool → ScriptState → Token → Result ScriptState FaultKind
+script_step limit sized (reading ts (done t)) x = after_term ts t x
 script_step limit sized (reading ts (inside p fs)) x = with_terms ts (step limit sized (inside p fs) x)
 
 -- goes on, or is refused at the first of these tokens
-abbrev pub after_script_step : Result ScriptState Kind → (ScriptState → Result ScriptState Fault) → List Token → Result ScriptState Fault
+abbrev pub after_script_step : Result ScriptState FaultKind → (ScriptState → Result ScriptState Fault) → List Token → Result ScriptState Fault
 after_script_step (Ok s) go xs = go s
 after_script_step (Err k) go xs = Err (k, xs)
 

@@ -1,5 +1,5 @@
 -- The tokens of a text: which bytes are which token, and the list of a text's tokens with their offsets.
--- Stands on the classes of characters and the reserved words of written terms. The tokens are those of terms in the
+-- Depends on the classes of characters and the reserved words of written terms. The tokens are those of terms in the
 -- Erlang Reference Manual ("Data Types", "Reserved Words"); where one differs, its line says (own).
 use Rattle.std.specs.Prelude.{◌≡◌, ℕ, ℤ, pos, neg_ℤ, ◌+◌, ◌-◌, ◌*◌, ◌<◌, List, [], ◌∷◌, ◌++◌, length, drop, flat_map, Bool, true, false, not, ◌&&◌, ◌||◌, ◌⊎◌, if◌then◌else◌, nat_le, ◌==◌, codes}
 use Rattle.def_term.specs.Text.{is_digit, number_after, is_name, is_name_byte, is_among, reserved_words}
@@ -40,7 +40,7 @@ abbrev pub stops : (ℕ → Bool) → List ℕ → Bool
 stops p [] = true
 stops p (b ∷ bs) = not (p b)
 
--- a full stop has a blank, a comment or the end behind it
+-- a full stop has a blank, a comment or the end after it
 abbrev pub ends_form : List ℕ → Bool
 ends_form [] = true
 ends_form (b ∷ bs) = is_blank b || (b == 37)
@@ -69,12 +69,12 @@ abbrev pub escaped_in : ℕ → ℕ → List ℕ
 escaped_in q b = if (b == q) || (b == 92) then 92 ∷ b ∷ [] else b ∷ []
 
 -- the characters between two quotes
-abbrev pub quoted : ℕ → List ℕ → List ℕ
-quoted q s = q ∷ (flat_map (escaped_in q) s ++ q ∷ [])
+abbrev pub in_quotes : ℕ → List ℕ → List ℕ
+in_quotes q s = q ∷ (flat_map (escaped_in q) s ++ q ∷ [])
 
 -- a quoted atom or a string, by its quote: characters 32 to 126 (own); may be empty
 pub record IsQuoted (q : ℕ) (u s : List ℕ) : Type 0 where
-  pub text : u ≡ quoted q s
+  pub text : u ≡ in_quotes q s
   pub printable : all_are is_printable s ≡ true
 
 -- a letter a to z, then the whole run of letters, digits, `_` and `@`, and no reserved word; `maybe` and `else` are none (own)
@@ -97,7 +97,7 @@ IsInteger u rest n =
     (stops is_digit rest ≡ true)
     × ((IsDigits u × (n ≡ pos (number u))) ⊎ ((ds : List ℕ) × (u ≡ 45 ∷ ds) × IsDigits ds × (n ≡ neg_ℤ (pos (number ds)))))
 
--- the bytes u, with the rest behind them, are this token, the longest that stands there
+-- the bytes u, with the rest after them, are this token, the longest that stands there
 abbrev pub IsToken : List ℕ → List ℕ → Token → Type 0
 IsToken u rest open_brace = u ≡ 123 ∷ []
 IsToken u rest close_brace = u ≡ 125 ∷ []
@@ -120,24 +120,24 @@ abbrev pub Stands : List ℕ → List ℕ → Token → Type 0
 Stands u rest bad = (rest ≡ []) × (0 < length u) × HasNoToken u
 Stands u rest t = IsToken u rest t
 
--- a token with its span: the offsets of its first byte and of the byte behind it
-pub record Spanned : Type 0 where
+-- a token with its span: the offsets of its first byte and of the byte after it
+pub record TokenSpan : Type 0 where
   pub token : Token
   pub from : ℕ
   pub to : ℕ
 
--- the first token behind the blanks and comments, of bytes whose first is at that offset
-pub record Next (at : ℕ) (bytes u rest : List ℕ) (x : Spanned) : Type 0 where
+-- the first token after the blanks and comments, of bytes whose first is at that offset
+pub record IsNextToken (at : ℕ) (bytes u rest : List ℕ) (x : TokenSpan) : Type 0 where
   pub split : drop (gap_len false bytes) bytes ≡ u ++ rest
   pub from : x.from ≡ at + gap_len false bytes
   pub to : x.to ≡ x.from + length u
   pub stands : Stands u rest x.token
 
 -- these are the tokens of the bytes, the first of which is at that offset, with blanks and comments between them
-abbrev pub TokensFrom : ℕ → List ℕ → List Spanned → Type 0
+abbrev pub TokensFrom : ℕ → List ℕ → List TokenSpan → Type 0
 TokensFrom at bytes [] = drop (gap_len false bytes) bytes ≡ []
-TokensFrom at bytes (x ∷ xs) = (u : List ℕ) × (rest : List ℕ) × Next at bytes u rest x × TokensFrom x.to rest xs
+TokensFrom at bytes (x ∷ xs) = (u : List ℕ) × (rest : List ℕ) × IsNextToken at bytes u rest x × TokensFrom x.to rest xs
 
 -- the tokens of the text, in order, with their offsets from 0
-abbrev pub Tokens : List ℕ → List Spanned → Type 0
+abbrev pub Tokens : List ℕ → List TokenSpan → Type 0
 Tokens bytes xs = TokensFrom 0 bytes xs

@@ -1,5 +1,5 @@
 -- Which terms have a written text that spells them.
--- Stands on trees and the limits on numbers (own).
+-- Depends on trees and the limits on numbers (own).
 use Rattle.std.specs.Prelude.{Bool, true, ◌&&◌, nat_lt}
 use Rattle.def_term.specs.Tree.{Tree, int, atom, pid, tuple, list, Trees, none, more}
 use Rattle.def_text.specs.Tokens.{all_are, is_printable}

@@ -5,6 +5,7 @@ ghost use Rattle.def_text.specs.Laws.{SpelledTermIsOne, SpelledTermIsNotRefused,
 ghost use Rattle.def_text.specs.Laws.{SpelledTermsAreOne, SpelledTermsAreNotRefused, ScriptRefusalIsOne};
 ghost use Rattle.def_text.specs.Laws.{TermsOrRefusal, IntegerIsItsToken, PidIsItsToken, AtomIsItsToken};
 ghost use Rattle.def_text.specs.Laws.{WrittenTextSpells};
+ghost use Rattle.def_text.specs.PlaceLaws.{PlaceIsThere, PlaceIsOne, OneByteOn, FormIsAfterStops, FormOffsetIsOne};
 
 /// A text has one list of tokens.
 pub fn tokens_are_determined()
@@ -53,4 +54,23 @@ pub fn a_leaf_is_written_as_its_token()
 /// The written text of a tree within the limits spells the tree.
 pub fn written_text_spells()
     ensures { WrittenTextSpells }
+{}
+
+/// The bytes before an offset are whole lines and the bytes of its own line, and its place says how many of
+/// each there are; no other place does.
+pub fn a_place_counts_lines_and_bytes()
+    ensures some { PlaceIsThere }
+    ensures one { PlaceIsOne }
+{}
+
+/// One byte on the column is the next, or after a line feed the first of the next line.
+pub fn one_byte_on()
+    ensures { OneByteOn }
+{}
+
+/// A form begins after as many full stops as there are forms before it, the last of which stands right
+/// before it; and a text's form begins at one offset.
+pub fn a_form_begins_after_full_stops()
+    ensures stops { FormIsAfterStops }
+    ensures one { FormOffsetIsOne }
 {}

@@ -3,7 +3,7 @@ use Rattle.std.proofs.Common.{◌≡◌, ℕ, zero, suc, ◌+◌, ◌≤◌, ◌
 use Rattle.std.proofs.lemmas.List.Sums.{sum_by-append, sum_by-cons}
 use Rattle.std.proofs.lemmas.Bool.Decides.{Decides-eqb, nat_tests}
 use Rattle.def_turns.specs.Slots.{is_slot, numbers_from, all_slots}
-use Rattle.def_turns.specs.Turns.{times, without}
+use Rattle.def_turns.specs.Turns.{times, list_without}
 use Rattle.def_turns.specs.Laws.{once}
 
 -- one where a test passes
@@ -30,21 +30,21 @@ cond-zero : (b : Bool) → cond {A = ℕ} b 0 0 ≡ 0
 cond-zero true = refl
 cond-zero false = refl
 
-without-step : (x y z : ℕ) (v : List ℕ) (b : Bool) → nat_eq z x ≡ b → times y (without x v) + cond (nat_eq x y) (times x v) 0 ≡ times y v → times y (without x (z ∷ v)) + cond (nat_eq x y) (times x (z ∷ v)) 0 ≡ times y (z ∷ v)
+without-step : (x y z : ℕ) (v : List ℕ) (b : Bool) → nat_eq z x ≡ b → times y (list_without x v) + cond (nat_eq x y) (times x v) 0 ≡ times y v → times y (list_without x (z ∷ v)) + cond (nat_eq x y) (times x (z ∷ v)) 0 ≡ times y (z ∷ v)
 without-step x y z v true e ih =
     let zx : z ≡ x = (Decides-eqb z x).0 e in
-    let w : without x (z ∷ v) ≡ without x v = ap (λ b. cond (not b) (z ∷ without x v) (without x v)) e in
+    let w : list_without x (z ∷ v) ≡ list_without x v = ap (λ b. cond (not b) (z ∷ list_without x v) (list_without x v)) e in
     let t : times x (z ∷ v) ≡ 1 + times x v = times-cons x z v ∙ ap (λ b. tick b + times x v) e in
     let c : cond (nat_eq x y) (times x (z ∷ v)) 0 ≡ tick (nat_eq x y) + cond (nat_eq x y) (times x v) 0 = ap (λ n. cond (nat_eq x y) n 0) t ∙ cond-suc (nat_eq x y) (times x v) in
     let h : tick (nat_eq z y) ≡ tick (nat_eq x y) = ap (λ k. tick (nat_eq k y)) zx in
     omega (arith, ih, c, h, times-cons y z v, ap (λ l. times y l) w)
 without-step x y z v false e ih =
-    let w : without x (z ∷ v) ≡ z ∷ without x v = ap (λ b. cond (not b) (z ∷ without x v) (without x v)) e in
+    let w : list_without x (z ∷ v) ≡ z ∷ list_without x v = ap (λ b. cond (not b) (z ∷ list_without x v) (list_without x v)) e in
     let t : times x (z ∷ v) ≡ times x v = times-cons x z v ∙ (ap (λ b. tick b + times x v) e ∙ omega arith) in
-    omega (arith, ih, ap (λ n. cond (nat_eq x y) n 0) t, times-cons y z v, times-cons y z (without x v), ap (λ l. times y l) w)
+    omega (arith, ih, ap (λ n. cond (nat_eq x y) n 0) t, times-cons y z v, times-cons y z (list_without x v), ap (λ l. times y l) w)
 
 -- what a view has without a slot
-pub times-without : (x y : ℕ) (v : List ℕ) → times y (without x v) + cond (nat_eq x y) (times x v) 0 ≡ times y v
+pub times-without : (x y : ℕ) (v : List ℕ) → times y (list_without x v) + cond (nat_eq x y) (times x v) 0 ≡ times y v
 times-without x y [] = omega (arith, cond-zero (nat_eq x y))
 times-without x y (z ∷ v) = without-step x y z v (nat_eq z x) refl (times-without x y v)
 

@@ -3,7 +3,7 @@ use Rattle.std.proofs.Common.{◌≡◌, ℕ, zero, suc, ◌+◌, ◌<◌, cond,
 use Rattle.std.specs.List.{sum_by}
 use Rattle.std.proofs.lemmas.List.Sums.{sum_by-cons, sum_by_push}
 use Rattle.def_turns.specs.Slots.{all_slots}
-use Rattle.def_turns.specs.Turns.{Turns, times, times_in, without, IsExclusive, ChangesView, Pushes, Steals, Opens, pushes, steals, opens, AreSteps, opening}
+use Rattle.def_turns.specs.Turns.{Turns, times, times_in, list_without, IsExclusive, ChangesView, Pushes, Steals, Opens, pushes, steals, opens, AreSteps, turns_start}
 use Rattle.def_turns.specs.Moments.{TakesTurn}
 use Rattle.def_turns.specs.Laws.{once, OpeningIsExclusive, StepsKeepTheRule, NoSlotIsLost, EachSlotStaysOnce, NoSlotIsHeldByTwo, PushChangesNoOtherView, StealChangesNoOtherView}
 use Rattle.def_turns.proofs.Counts.{tick, times-append, times-cons, times-one, times-without, equal-self, each_once, once-most}
@@ -19,7 +19,7 @@ push-counts : (s t : Turns) (x n slot : ℕ) (v w : List ℕ) → Pushes n slot 
 push-counts s t x n slot v w p =
     let q : times x t.queue ≡ times x s.queue + tick (nat_eq slot x) = ap (λ l. times x l) p.back ∙ (times-append x s.queue (slot ∷ []) ∙ ap (λ k. times x s.queue + k) (times-one x slot)) in
     let o : cond (nat_eq slot x) (times slot v) 0 ≡ tick (nat_eq slot x) = ap (λ k. cond (nat_eq slot x) k 0) p.held in
-    let l : times x w ≡ times x (without slot v) = ap (λ u. times x u) p.loses in
+    let l : times x w ≡ times x (list_without slot v) = ap (λ u. times x u) p.loses in
     omega (arith, q, o, l, times-without slot x v, views-after x n v w s t p.changes)
 
 steal-counts : (s t : Turns) (x n slot : ℕ) (v w : List ℕ) → Steals n slot v w s t → times_in x t ≡ times_in x s
@@ -53,7 +53,7 @@ steal_keeps s t n slot v w is p = rule_kept s t is (steals n slot v w p)
 pub open_keeps : (s t : Turns) → IsExclusive s → Opens s t → IsExclusive t
 open_keeps s t is p = rule_kept s t is (opens p)
 
-opening-once : (x : ℕ) → times_in x opening ≡ once x
+opening-once : (x : ℕ) → times_in x turns_start ≡ once x
 opening-once x = omega (arith, each_once x, sum_by-cons (λ u. times x u) all_slots [])
 
 pub opening_is : OpeningIsExclusive
@@ -67,7 +67,7 @@ count-kept s (t ∷ ts) steps zero d lt x = none_lost s t x steps.0
 count-kept s (t ∷ ts) steps (suc i) d lt x = count-kept t ts steps.1 i d (omega arith) x ∙ none_lost s t x steps.0
 
 pub stays_once : EachSlotStaysOnce
-stays_once ts steps i d lt x = count-kept opening ts steps i d lt x ∙ opening-once x
+stays_once ts steps i d lt x = count-kept turns_start ts steps i d lt x ∙ opening-once x
 
 -- ---- who holds a slot
 

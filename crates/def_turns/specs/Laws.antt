@@ -1,8 +1,8 @@
 -- What is promised of turns (own).
--- Stands on turns.
+-- Depends on turns.
 use Rattle.std.specs.Prelude.{◌≡◌, ◌≢◌, ◌<◌, ℕ, List, Some, slice_get, if◌then◌else◌, All}
 use Rattle.def_turns.specs.Slots.{is_slot, all_slots}
-use Rattle.def_turns.specs.Turns.{Turns, times, times_in, IsExclusive, Pushes, Steals, Step, AreSteps, opening}
+use Rattle.def_turns.specs.Turns.{Turns, times, times_in, IsExclusive, Pushes, Steals, TurnStep, AreSteps, turns_start}
 
 -- how often a number is to stand among all slots: once where it is a slot's
 abbrev pub once : ℕ → ℕ
@@ -14,19 +14,19 @@ EachSlotIsThereOnce = (x : ℕ) → times x all_slots ≡ once x
 
 -- the turns keep the rule at first
 abbrev pub OpeningIsExclusive : Type 0
-OpeningIsExclusive = IsExclusive opening
+OpeningIsExclusive = IsExclusive turns_start
 
 -- and at each step
 abbrev pub StepsKeepTheRule : Type 0
-StepsKeepTheRule = (s t : Turns) → IsExclusive s → Step s t → IsExclusive t
+StepsKeepTheRule = (s t : Turns) → IsExclusive s → TurnStep s t → IsExclusive t
 
 -- no step loses a slot, or makes one
 abbrev pub NoSlotIsLost : Type 0
-NoSlotIsLost = (s t : Turns) (x : ℕ) → Step s t → times_in x t ≡ times_in x s
+NoSlotIsLost = (s t : Turns) (x : ℕ) → TurnStep s t → times_in x t ≡ times_in x s
 
 -- whatever steps follow, each slot stands once in the queue or in a view, and nothing else does
 abbrev pub EachSlotStaysOnce : Type 0
-EachSlotStaysOnce = (ts : List Turns) → AreSteps opening ts → All (λ t. (x : ℕ) → times_in x t ≡ once x) ts
+EachSlotStaysOnce = (ts : List Turns) → AreSteps turns_start ts → All (λ t. (x : ℕ) → times_in x t ≡ once x) ts
 
 -- by the rule no slot is held by two ends
 abbrev pub NoSlotIsHeldByTwo : Type 0

@@ -1,6 +1,6 @@
 -- What an end may say of one of its calls (own): at one moment in it the turns were such, whatever other ends did before and after.
 -- The turns are those of no queue that has a name: what a caller learns is what they say of the end's view.
--- Stands on turns.
+-- Depends on turns.
 use Rattle.std.specs.Prelude.{◌≡◌, ℕ, List, [], Some, slice_get}
 use Rattle.def_turns.specs.Turns.{Turns, IsExclusive, Pushes, Steals}
 

@@ -1,5 +1,5 @@
 -- Slots of turns (own): one for each number that may move a node, which are the control list's and the pids that one run may start.
--- Stands on the pids of a run.
+-- Depends on the pids of a run.
 use Rattle.std.specs.Prelude.{ℕ, zero, suc, ◌+◌, nat_eq, nat_le, nat_lt, Bool, ◌||◌, ◌&&◌, List, [], ◌∷◌}
 use Rattle.def_term.specs.Alive.{FIRST_PID, PROCESSES}
 

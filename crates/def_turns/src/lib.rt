@@ -1,6 +1,6 @@
 //! What turns are: slots, the run queue, the ends that hold slots, and the steps push and steal.
 //!
-//! Stands on the pids of terms. Promises, as laws, that each step keeps the rule that no slot stands twice
+//! Depends on the pids of terms. Promises, as laws, that each step keeps the rule that no slot stands twice
 //! in the queue and the views, that none is lost, that no slot is held by two ends, and that a step changes
 //! no view but its own end's. All else is definition, for the crates above.
 #![tactic(auto)]

@@ -7,7 +7,7 @@ use tn_action::{Context, Effect, Outcome};
 use tn_code::Code;
 use tn_compile::compile;
 use tn_flags::{FlagTable, Flags};
-use tn_guard::Parts;
+use tn_guard::ListView;
 use tn_machine::execute;
 use tn_spec::{Dialect, SpecFault, spec_of};
 use tn_term::{Alive, Term};
@@ -136,8 +136,8 @@ fn say_outcomes<R: Print>(
     let alive = Alive::first(2);
     let flags = FlagTable::none();
     let context = Context {
-        list: Parts::Terms(list),
-        me: OWN,
+        list: ListView::Terms(list),
+        self_pid: OWN,
         caller: None,
         alive: &alive,
         flags: &flags,

@@ -8,7 +8,7 @@ use std::alloc::Global;
 use std::marker::Brand;
 use std::sync::Wait;
 use tn_listing::line_of;
-use tn_live::{CloseFault, Closed, Live, Naming, Opened, Receipt, Seat, Turn};
+use tn_live::{CloseFault, Closed, JournalName, Live, NewLog, Receipt, Seat, Turn};
 use tn_pool::{Board, assemble};
 use tn_trace::{Core, StepFault};
 
@@ -49,7 +49,7 @@ fn say_turn<R: Print>(
 }
 
 /// The first seat and then the other by turns take a pick each, and both one more, which no process takes.
-fn take<J: Naming, R: Print + Wait>(
+fn take<J: JournalName, R: Print + Wait>(
     rt: &R,
     inputs: &Inputs<'_>,
     live: &Live<Global, J>,
@@ -69,7 +69,7 @@ fn take<J: Naming, R: Print + Wait>(
 }
 
 /// Prints the output of a closed lock, with a second call where the first is refused memory.
-fn print_output<J: Naming, R: Print>(
+fn print_output<J: JournalName, R: Print>(
     rt: &R,
     alloc: Global,
     closed: &Closed<Global, J>,
@@ -87,7 +87,7 @@ fn print_output<J: Naming, R: Print>(
 }
 
 /// Says the entries of a closed lock; where it didn't close, the number of the fault.
-pub fn say_close<J: Naming, R: Print>(
+pub fn say_close<J: JournalName, R: Print>(
     rt: &R,
     closed: &Result<Closed<Global, J>, CloseFault<Global, J>>,
 ) {
@@ -105,21 +105,21 @@ pub fn say_close<J: Naming, R: Print>(
 }
 
 /// The picks by two seats of a lock, its close and its output.
-fn steps_of_a_lock<J: Naming, R: Print + Wait>(
+fn steps_of_a_lock<J: JournalName, R: Print + Wait>(
     rt: &R,
     inputs: &Inputs<'_>,
     core: Core<Global>,
-    opened: Opened,
+    new_log: NewLog,
 )
     requires core { IsCore J.program [] core }
-    requires named { opened ≡ J.log }
+    requires named { new_log ≡ J.log }
 {
     let alloc = inputs.alloc;
     let sessions = core.program().session_count();
     let Ok(board) = Board::new(alloc, alloc, sessions, LINES) else {
         return say(rt, "board out of memory");
     };
-    let Ok((live, mut seats)) = Live::<Global, J>::begin(alloc, core, opened, 2) else {
+    let Ok((live, mut seats)) = Live::<Global, J>::begin(alloc, core, new_log, 2) else {
         return say(rt, "lock out of memory");
     };
     take(rt, inputs, &live, seats.as_mut_slice(), &board);
@@ -136,7 +136,7 @@ pub fn steps_by_two_seats<R: Print + Wait>(rt: &R, inputs: &Inputs<'_>) {
         return;
     };
     match Core::new(inputs.alloc, program) {
-        Ok(core) => steps_of_a_lock::<Brand, R>(rt, inputs, core, Opened::new()),
+        Ok(core) => steps_of_a_lock::<Brand, R>(rt, inputs, core, NewLog::new()),
         Err(_) => say(rt, "core out of memory"),
     }
 }

@@ -4,7 +4,7 @@
 //! specification, the third word a list and the fourth a dialect. The test runs this program with each growth
 //! of memory refused in turn, and holds the lines against the answers that are allowed. Where a growth of the
 //! program's own is refused, which is before the first call, it writes nothing and ends with the status of a
-//! fault. Stands on the layers from tn_text to tn_run, and on tn_command for the words. It promises nothing
+//! fault. Depends on the layers from tn_text to tn_run, and on tn_command for the words. It promises nothing
 //! but safety.
 #![tactic(auto)]
 
@@ -74,15 +74,15 @@ fn start<R: Env + Input + Print + Eprint + Threads + Wait + Sync + AllocGlobal>(
         Err(status) => return status,
     };
     let Ok(text) = read_text(rt.alloc(), &mut Watched::of(rt.reader())) else {
-        return report(rt, Err(RunFault::OutOfMemory));
+        return report(rt, RunFault::OutOfMemory);
     };
     let picks = match read_picks(rt.alloc(), word(&words, 2).as_bytes()) {
         Ok(picks) => picks,
         Err(PicksFault::BadPicks) => return ExitCode::from(REFUSED),
-        Err(PicksFault::OutOfMemory) => return report(rt, Err(RunFault::OutOfMemory)),
+        Err(PicksFault::OutOfMemory) => return report(rt, RunFault::OutOfMemory),
     };
     let Ok(mut buffer) = Buffer::with_room(rt.alloc()) else {
-        return report(rt, Err(RunFault::OutOfMemory));
+        return report(rt, RunFault::OutOfMemory);
     };
     let inputs = Inputs {
         alloc: rt.alloc(),

@@ -10,7 +10,7 @@ use std::alloc::Global;
 use std::marker::{Brand, Send, Sync};
 use std::sync::Wait;
 use std::thread::Threads;
-use tn_live::{Live, Naming, Opened};
+use tn_live::{JournalName, Live, NewLog};
 use tn_pool::{Board, Open, PoolFault, Report, run_workers};
 use tn_trace::Core;
 
@@ -33,7 +33,7 @@ fn say_fault<R: Print>(rt: &R, fault: Option<PoolFault>) {
 }
 
 /// Says what a report has beside its seats: the receipts, the tokens and the fault.
-fn say_report<J: Naming, R: Print>(rt: &R, report: &Report<Global, J>) {
+fn say_report<J: JournalName, R: Print>(rt: &R, report: &Report<Global, J>) {
     for receipt in &report.receipts {
         let number = receipt.number;
         let pick = receipt.pick;
@@ -47,20 +47,20 @@ fn say_report<J: Naming, R: Print>(rt: &R, report: &Report<Global, J>) {
 }
 
 /// One worker over a core: what it reports, and the close of the lock.
-fn report_of_one<J: Naming + Send + Sync, R: Print + Threads + Wait + Sync>(
+fn report_of_one<J: JournalName + Send + Sync, R: Print + Threads + Wait + Sync>(
     rt: &R,
     alloc: Global,
     core: Core<Global>,
-    opened: Opened,
+    new_log: NewLog,
 )
     requires core { IsCore J.program [] core }
-    requires named { opened ≡ J.log }
+    requires named { new_log ≡ J.log }
 {
     let sessions = core.program().session_count();
     let Ok(board) = Board::new(alloc, alloc, sessions, LINES) else {
         return say(rt, "board out of memory");
     };
-    let Ok((live, seats)) = Live::<Global, J>::begin(alloc, core, opened, 1) else {
+    let Ok((live, seats)) = Live::<Global, J>::begin(alloc, core, new_log, 1) else {
         return say(rt, "lock out of memory");
     };
     let report = run_workers(rt, &live, &board, seats, &Open, TURNS);
@@ -82,20 +82,20 @@ fn lines_on(board: &Board<Global>) -> u64 {
 }
 
 /// One worker over a core: how many lines it has put on the board.
-fn lines_of_one<J: Naming + Send + Sync, R: Print + Threads + Wait + Sync>(
+fn lines_of_one<J: JournalName + Send + Sync, R: Print + Threads + Wait + Sync>(
     rt: &R,
     alloc: Global,
     core: Core<Global>,
-    opened: Opened,
+    new_log: NewLog,
 )
     requires core { IsCore J.program [] core }
-    requires named { opened ≡ J.log }
+    requires named { new_log ≡ J.log }
 {
     let sessions = core.program().session_count();
     let Ok(board) = Board::new(alloc, alloc, sessions, LINES) else {
         return say(rt, "board out of memory");
     };
-    let Ok((live, seats)) = Live::<Global, J>::begin(alloc, core, opened, 1) else {
+    let Ok((live, seats)) = Live::<Global, J>::begin(alloc, core, new_log, 1) else {
         return say(rt, "lock out of memory");
     };
     let _ = run_workers(rt, &live, &board, seats, &Open, MANY_TURNS);
@@ -109,7 +109,7 @@ pub fn lines_of_one_worker<R: Print + Threads + Wait + Sync>(rt: &R, inputs: &In
         return;
     };
     match Core::new(inputs.alloc, program) {
-        Ok(core) => lines_of_one::<Brand, R>(rt, inputs.alloc, core, Opened::new()),
+        Ok(core) => lines_of_one::<Brand, R>(rt, inputs.alloc, core, NewLog::new()),
         Err(_) => say(rt, "core out of memory"),
     }
 }
@@ -120,7 +120,7 @@ pub fn run_one_worker<R: Print + Threads + Wait + Sync>(rt: &R, inputs: &Inputs<
         return;
     };
     match Core::new(inputs.alloc, program) {
-        Ok(core) => report_of_one::<Brand, R>(rt, inputs.alloc, core, Opened::new()),
+        Ok(core) => report_of_one::<Brand, R>(rt, inputs.alloc, core, NewLog::new()),
         Err(_) => say(rt, "core out of memory"),
     }
 }

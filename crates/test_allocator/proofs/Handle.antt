@@ -1,4 +1,4 @@
--- `Refusing::lent` at a call. Assumes `Logic`.
+-- `Quota::serve` at a call. Assumes `Logic`.
 --     Lends, at_lent, lent_goes, lent_Gives      its contract, what it is handed, and the handle that it shows, if there is one
 use mathlib.Core.Path.{◌≡◌, refl, ap, ◌∙◌}
 use mathlib.Core.List.{List, [], ◌∷◌, ◌++◌}
@@ -26,9 +26,9 @@ use Rattle.std.proofs.Common.{IfSome}
 use Rattle.std.proofs.Common.{Option, None, Some}
 use Rattle.std.specs.contracts.option.Option as O
 use Rattle.std.proofs.alloc.Calls.{Al, seen}
-use Rattle.test_allocator.specs.contracts.Refusing as L
-use Rattle.test_allocator.specs.contracts.Refusing.lent as F
-use Rattle.test_allocator.specs.contracts.Refusing.lent.Key as key
+use Rattle.test_allocator.specs.contracts.Quota as L
+use Rattle.test_allocator.specs.contracts.Quota.serve as F
+use Rattle.test_allocator.specs.contracts.Quota.serve.Key as key
 
 abbrev pub shown_val : {X : Type 0} → Option (Bor X) → Val
 shown_val None = live 0 (of_list [])

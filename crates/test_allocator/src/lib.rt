@@ -1,6 +1,6 @@
 //! An allocator for tests, which refuses one growth.
 //!
-//! Stands on nothing. It promises that it is an allocator, which refuses where it says.
+//! Depends on nothing. It promises that it is an allocator, which refuses where it says.
 #![tactic(auto)]
 
 ghost use Rattle.std.specs.Prelude.{◌≡◌, IfSome};
@@ -10,15 +10,15 @@ use std::cell::Cell;
 
 /// Passes each call on to another allocator, but for the one growth that it refuses.
 #[derive(Drop)]
-pub struct Refusing<B> {
+pub struct Quota<B> {
     inner: B,
     left: Cell<u64>,
 }
 
-impl<B> Refusing<B> {
+impl<B> Quota<B> {
     /// Refuses the growth that comes after `served` others.
-    pub fn after(inner: B, served: u64) -> Refusing<B> {
-        Refusing {
+    pub fn after(inner: B, served: u64) -> Quota<B> {
+        Quota {
             inner,
             left: Cell::new(served),
         }
@@ -29,8 +29,8 @@ impl<B> Refusing<B> {
         self.left.get() == u64::MAX
     }
 
-    // The handle behind this one, unless the call is the one to refuse.
-    fn lent(&self) -> Option<&B>
+    // The handle after this one, unless the call is the one to refuse.
+    fn serve(&self) -> Option<&B>
         ensures { IfSome result (λ h. h.now ≡ self.now.inner) }
     {
         if is_refused(&self.left) {
@@ -51,11 +51,11 @@ fn is_refused(left: &Cell<u64>) -> bool {
     served == 0
 }
 
-unsafe impl<B: Allocator> Allocator for Refusing<B> {
+unsafe impl<B: Allocator> Allocator for Quota<B> {
     ghost dealloc_token = { λ heap ty ptr. B.dealloc_token heap.inner ty ptr };
 
     fn allocate(&self, size: usize, align: usize) -> Result<*mut u8, AllocError> {
-        match self.lent() {
+        match self.serve() {
             Some(heap) => heap.allocate(size, align),
             None => Err(AllocError),
         }

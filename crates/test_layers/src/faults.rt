@@ -37,16 +37,16 @@ const OF_RULES: [(RuleFault, &str); 8] = [
 #[test]
 fn texts_of_faults(rt: HostRuntime) -> Result<(), Fail> {
     for (fault, text) in &OF_TEXTS {
-        let told = format!(in rt.alloc(); "{fault}")?;
-        check(&rt, told.as_str() == *text, text);
+        let reported = format!(in rt.alloc(); "{fault}")?;
+        check(&rt, reported.as_str() == *text, text);
     }
     for (fault, text) in &OF_SCRIPTS {
-        let told = format!(in rt.alloc(); "{fault}")?;
-        check(&rt, told.as_str() == *text, text);
+        let reported = format!(in rt.alloc(); "{fault}")?;
+        check(&rt, reported.as_str() == *text, text);
     }
     for (fault, text) in &OF_RULES {
-        let told = format!(in rt.alloc(); "{fault}")?;
-        check(&rt, told.as_str() == *text, text);
+        let reported = format!(in rt.alloc(); "{fault}")?;
+        check(&rt, reported.as_str() == *text, text);
     }
     Ok(())
 }

@@ -124,25 +124,25 @@ const PAIRS: [Pair; 6] = [
 ];
 
 /// A word, and the flag that it names.
-struct Named {
+struct FlagName {
     word: &'static str,
     flag: Option<Flags>,
 }
 
-const NAMED: [Named; 4] = [
-    Named {
+const NAMED: [FlagName; 4] = [
+    FlagName {
         word: "call",
         flag: Some(CALL),
     },
-    Named {
+    FlagName {
         word: "set_on_first_link",
         flag: Some(FIRST_LINK),
     },
-    Named {
+    FlagName {
         word: "running",
         flag: None,
     },
-    Named {
+    FlagName {
         word: "[call]",
         flag: None,
     },

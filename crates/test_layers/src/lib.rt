@@ -1,6 +1,6 @@
 //! Tests of the layers' public functions, each once as it is meant to be used, with ample memory.
 //!
-//! Stands on the crates from tn_term to tn_trace. It promises nothing of its own.
+//! Depends on the crates from tn_term to tn_trace. It promises nothing of its own.
 #![tactic(auto)]
 
 #[cfg(test)]
@@ -10,11 +10,11 @@ mod faults;
 #[cfg(test)]
 mod flags;
 #[cfg(test)]
-mod happening;
-#[cfg(test)]
 mod long;
 #[cfg(test)]
 mod node;
+#[cfg(test)]
+mod node_event;
 #[cfg(test)]
 mod process;
 #[cfg(test)]

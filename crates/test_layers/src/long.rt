@@ -21,7 +21,7 @@ pub fn append(text: &mut Vec<u8>, long: &Long) -> Result<(), AllocError> {
 }
 
 /// The text that is meant.
-pub fn spelled(alloc: Global, long: &Long) -> Result<Vec<u8>, AllocError> {
+pub fn text_of_long(alloc: Global, long: &Long) -> Result<Vec<u8>, AllocError> {
     let mut text = Vec::new(alloc);
     append(&mut text, long)?;
     Ok(text)

@@ -53,12 +53,12 @@ const PARTED: [Link; 2] = [
     },
 ];
 
-fn accepted(alloc: Global) -> Result<Program<Global>, Fail> {
+fn program_of_script(alloc: Global) -> Result<Program<Global>, Fail> {
     Ok(program(alloc, forms(alloc, SCRIPT.as_bytes())?)?)
 }
 
 /// The process that the script starts, in a box, so that it is let go by one call wherever a test ends.
-fn started(alloc: Global, program: &Program<Global>) -> Result<Box<Process<Global>>, Fail> {
+fn first_process(alloc: Global, program: &Program<Global>) -> Result<Box<Process<Global>>, Fail> {
     let Some(entry) = program.entries().first() else {
         return Err(Fail::new("no entry"));
     };
@@ -90,7 +90,7 @@ fn check_linking(
 
 #[test]
 fn links(rt: HostRuntime) -> Result<(), Fail> {
-    let mut process = started(rt.alloc(), &accepted(rt.alloc())?)?;
+    let mut process = first_process(rt.alloc(), &program_of_script(rt.alloc())?)?;
     check_linking(&rt, rt.alloc(), &mut process)
 }
 
@@ -167,8 +167,8 @@ fn check_steps(
 
 #[test]
 fn steps(rt: HostRuntime) -> Result<(), Fail> {
-    let program = accepted(rt.alloc())?;
-    let mut process = started(rt.alloc(), &program)?;
+    let program = program_of_script(rt.alloc())?;
+    let mut process = first_process(rt.alloc(), &program)?;
     let functions = copy_functions(rt.alloc(), program.functions())?;
     check_steps(&rt, rt.alloc(), &mut process, &functions)
 }
@@ -187,7 +187,7 @@ fn check_signals(
 
 #[test]
 fn the_oldest_signal_ends_a_process(rt: HostRuntime) -> Result<(), Fail> {
-    let program = accepted(rt.alloc())?;
-    let mut process = started(rt.alloc(), &program)?;
+    let program = program_of_script(rt.alloc())?;
+    let mut process = first_process(rt.alloc(), &program)?;
     check_signals(&rt, rt.alloc(), &mut process, program.functions())
 }

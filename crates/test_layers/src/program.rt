@@ -11,7 +11,7 @@ const ACCEPTED: &str = "{function,m,go,exported,['To'],[{send,'To',{hi,1}}]}.
 {control,[{session_create,s1,t1,[]},{process,s1,all,true,[send]}]}.
 ";
 
-fn accepted(alloc: Global) -> Result<Program<Global>, Fail> {
+fn program_of_script(alloc: Global) -> Result<Program<Global>, Fail> {
     Ok(program(alloc, forms(alloc, ACCEPTED.as_bytes())?)?)
 }
 
@@ -41,7 +41,7 @@ fn check_session(rt: &impl Abort, program: &Program<Global>) {
 
 #[test]
 fn a_program_has_its_parts(rt: HostRuntime) -> Result<(), Fail> {
-    let program = accepted(rt.alloc())?;
+    let program = program_of_script(rt.alloc())?;
     check_session(&rt, &program);
     Ok(check_parts(&rt, rt.alloc(), &program)?)
 }

@@ -1,7 +1,7 @@
 // One session: its commands with their replies, what it tells of events, and what stays after its
 // destruction.
 use crate::checks::{check, check_term};
-use crate::happening::{Happening, event_of, function};
+use crate::node_event::{EventCase, event_of, function};
 use std::alloc::{AllocError, Global};
 use std::process::Abort;
 use std::test::Fail;
@@ -19,18 +19,18 @@ enum Step {
     },
     /// The message as a term, by its text, which is empty where there is none.
     Gives {
-        happening: Happening,
+        happening: EventCase,
         message: &'static str,
     },
     /// The same, by the text of a message that lends the event, and by the term that is made of it.
     Tells {
-        happening: Happening,
+        happening: EventCase,
         message: &'static str,
     },
 }
 
 /// A message to a process that isn't there.
-const LOST: Happening = Happening::Sent {
+const LOST: EventCase = EventCase::Sent {
     message: "{hi,1}",
     to: 199,
     is_alive: false,
@@ -85,7 +85,7 @@ const NEWEST: [Step; 8] = [
         reply: "2",
     },
     Step::Gives {
-        happening: Happening::Called {
+        happening: EventCase::Called {
             argument: "1",
             is_named: false,
         },
@@ -96,14 +96,14 @@ const NEWEST: [Step; 8] = [
         reply: "1",
     },
     Step::Gives {
-        happening: Happening::Called {
+        happening: EventCase::Called {
             argument: "1",
             is_named: false,
         },
         message: "",
     },
     Step::Tells {
-        happening: Happening::Called {
+        happening: EventCase::Called {
             argument: "1",
             is_named: true,
         },
@@ -114,7 +114,7 @@ const NEWEST: [Step; 8] = [
         reply: "1",
     },
     Step::Gives {
-        happening: Happening::Called {
+        happening: EventCase::Called {
             argument: "1",
             is_named: true,
         },
@@ -133,40 +133,40 @@ const MARKED: [Step; 9] = [
         reply: "1",
     },
     Step::Tells {
-        happening: Happening::Called {
+        happening: EventCase::Called {
             argument: "1",
             is_named: true,
         },
         message: "{trace,<0.100.0>,call,{m,f,1}}",
     },
     Step::Tells {
-        happening: Happening::Returned,
+        happening: EventCase::Returned,
         message: "{trace,<0.100.0>,return_from,{m,f,1},ok}",
     },
     Step::Tells {
-        happening: Happening::Returned,
+        happening: EventCase::Returned,
         message: "",
     },
     Step::Tells {
-        happening: Happening::Called {
+        happening: EventCase::Called {
             argument: "off",
             is_named: true,
         },
         message: "",
     },
     Step::Tells {
-        happening: Happening::Returned,
+        happening: EventCase::Returned,
         message: "",
     },
     Step::Tells {
-        happening: Happening::Called {
+        happening: EventCase::Called {
             argument: "on",
             is_named: true,
         },
         message: "{trace,<0.100.0>,call,{m,f,1}}",
     },
     Step::Tells {
-        happening: Happening::Returned,
+        happening: EventCase::Returned,
         message: "",
     },
 ];
@@ -182,61 +182,61 @@ const FAILING: [Step; 12] = [
         reply: "1",
     },
     Step::Tells {
-        happening: Happening::Called {
+        happening: EventCase::Called {
             argument: "both",
             is_named: true,
         },
         message: "{trace,<0.100.0>,call,{m,f,[both]}}",
     },
     Step::Tells {
-        happening: Happening::Raised {
+        happening: EventCase::Raised {
             class: Class::Error,
         },
         message: "{trace,<0.100.0>,exception_from,{m,f,1},{error,oops}}",
     },
     Step::Tells {
-        happening: Happening::Raised {
+        happening: EventCase::Raised {
             class: Class::Error,
         },
         message: "",
     },
     Step::Gives {
-        happening: Happening::Called {
+        happening: EventCase::Called {
             argument: "both",
             is_named: true,
         },
         message: "{trace,<0.100.0>,call,{m,f,[both]}}",
     },
     Step::Gives {
-        happening: Happening::Raised {
+        happening: EventCase::Raised {
             class: Class::Throw,
         },
         message: "{trace,<0.100.0>,exception_from,{m,f,1},{throw,oops}}",
     },
     Step::Tells {
-        happening: Happening::Called {
+        happening: EventCase::Called {
             argument: "both",
             is_named: true,
         },
         message: "{trace,<0.100.0>,call,{m,f,[both]}}",
     },
     Step::Tells {
-        happening: Happening::Returned,
+        happening: EventCase::Returned,
         message: "{trace,<0.100.0>,return_from,{m,f,1},ok}",
     },
     Step::Tells {
-        happening: Happening::Called {
+        happening: EventCase::Called {
             argument: "1",
             is_named: true,
         },
         message: "{trace,<0.100.0>,call,{m,f,[1]}}",
     },
     Step::Tells {
-        happening: Happening::Raised { class: Class::Exit },
+        happening: EventCase::Raised { class: Class::Exit },
         message: "",
     },
     Step::Tells {
-        happening: Happening::Returned,
+        happening: EventCase::Returned,
         message: "",
     },
 ];
@@ -248,7 +248,7 @@ const SHOWN: [Step; 9] = [
         reply: "2",
     },
     Step::Tells {
-        happening: Happening::Sent {
+        happening: EventCase::Sent {
             message: "-1",
             to: 101,
             is_alive: true,
@@ -256,59 +256,59 @@ const SHOWN: [Step; 9] = [
         message: "{trace,<0.100.0>,send,-1,<0.101.0>}",
     },
     Step::Tells {
-        happening: Happening::Received { message: "'a b'" },
+        happening: EventCase::Received { message: "'a b'" },
         message: "{trace,<0.101.0>,'receive','a b'}",
     },
     Step::Tells {
-        happening: Happening::Spawned {
+        happening: EventCase::Spawned {
             name: "F",
             argument: "\"a\"",
         },
         message: "{trace,<0.100.0>,spawn,<0.102.0>,{m,'F',[[97]]}}",
     },
     Step::Tells {
-        happening: Happening::Exited {
+        happening: EventCase::Exited {
             reason: "{boom,[]}",
         },
         message: "{trace,<0.101.0>,exit,{boom,[]}}",
     },
     Step::Tells {
-        happening: Happening::Linked,
+        happening: EventCase::Linked,
         message: "{trace,<0.100.0>,link,<0.101.0>}",
     },
     Step::Tells {
-        happening: Happening::Unlinked,
+        happening: EventCase::Unlinked,
         message: "{trace,<0.100.0>,unlink,<0.101.0>}",
     },
     Step::Tells {
-        happening: Happening::GettingLinked,
+        happening: EventCase::GettingLinked,
         message: "{trace,<0.100.0>,getting_linked,<0.101.0>}",
     },
     Step::Tells {
-        happening: Happening::GettingUnlinked,
+        happening: EventCase::GettingUnlinked,
         message: "{trace,<0.100.0>,getting_unlinked,<0.101.0>}",
     },
 ];
 
 /// A function of the program, and whether it is exported.
-struct Declared {
+struct SessionCase {
     name: &'static str,
     is_exported: bool,
 }
 
-const DECLARED: [Declared; 2] = [
-    Declared {
+const DECLARED: [SessionCase; 2] = [
+    SessionCase {
         name: "f",
         is_exported: true,
     },
-    Declared {
+    SessionCase {
         name: "g",
         is_exported: false,
     },
 ];
 
 /// A session of a program with the functions m:f/1, exported, and m:g/1, internal, and two processes.
-fn created(alloc: Global) -> Result<Session<Global>, Fail> {
+fn new_session(alloc: Global) -> Result<Session<Global>, Fail> {
     let mut functions = Vec::new(alloc);
     for declared in &DECLARED {
         let function = function(alloc, declared.name)?;
@@ -419,7 +419,7 @@ fn check_session(
 
 /// A session that was created takes these steps.
 fn check_steps(rt: &impl Abort, alloc: Global, steps: &[Step]) -> Result<(), Fail> {
-    let mut session = created(alloc)?;
+    let mut session = new_session(alloc)?;
     check_session(rt, alloc, &mut session, steps)
 }
 

@@ -11,19 +11,19 @@ use tn_text::read_term;
 const ATOMS: [&str; 3] = ["hello world", "", "s1"];
 
 /// A text of a term, with how deep it nests and how many terms it has in all.
-struct Measured {
+struct TermSize {
     text: &'static str,
     depth: u64,
     size: u64,
 }
 
-const MEASURED: [Measured; 2] = [
-    Measured {
+const MEASURED: [TermSize; 2] = [
+    TermSize {
         text: "{a,[1,[]],<0.100.0>}",
         depth: 3,
         size: 6,
     },
-    Measured {
+    TermSize {
         text: "7",
         depth: 0,
         size: 1,
@@ -34,33 +34,33 @@ const MEASURED: [Measured; 2] = [
 const RISING: &str = "[-2,7,a,b,<0.100.0>,{z},{a,a},[],[a],[a,b],[b]]";
 
 /// A function, and whether it is m:go/1.
-struct Named {
+struct TermName {
     module: &'static str,
     name: &'static str,
     arity: u8,
     is_same: bool,
 }
 
-const NAMED: [Named; 4] = [
-    Named {
+const NAMED: [TermName; 4] = [
+    TermName {
         module: "m",
         name: "go",
         arity: 1,
         is_same: true,
     },
-    Named {
+    TermName {
         module: "m",
         name: "go",
         arity: 2,
         is_same: false,
     },
-    Named {
+    TermName {
         module: "m",
         name: "stop",
         arity: 1,
         is_same: false,
     },
-    Named {
+    TermName {
         module: "n",
         name: "go",
         arity: 1,
@@ -120,7 +120,7 @@ fn is_atom(alloc: Global, letters: usize) -> Result<bool, AllocError> {
     Ok(Atom::new(alloc, &text)?.is_some())
 }
 
-fn function(alloc: Global, named: &Named) -> Result<Mfa<Global>, Fail> {
+fn function(alloc: Global, named: &TermName) -> Result<Mfa<Global>, Fail> {
     Ok(Mfa {
         module: atom(alloc, named.module)?,
         name: atom(alloc, named.name)?,
@@ -216,7 +216,7 @@ fn check_function(
     rt: &impl Abort,
     alloc: Global,
     other: &Mfa<Global>,
-    named: &Named,
+    named: &TermName,
 ) -> Result<(), Fail> {
     let function = function(alloc, named)?;
     assert!(rt; function.same(other) == named.is_same);

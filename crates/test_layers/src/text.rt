@@ -1,48 +1,48 @@
 // Texts of terms: what is written back, the refusals of others, and the limits; the tokens of a text and the
 // terms of a script.
 use crate::checks::{check, check_term};
-use crate::long::{Long, spelled};
+use crate::long::{Long, text_of_long};
 use std::alloc::Global;
 use std::process::Abort;
 use std::test::Fail;
 use tn_text::{Kind, TextFault, Token, read_term, read_terms, tokens, write_term};
 
 /// A text of a term, and what is written of the term.
-struct Written {
+struct TextCase {
     text: &'static str,
     wanted: &'static str,
 }
 
-const WRITTEN: [Written; 8] = [
-    Written {
+const WRITTEN: [TextCase; 8] = [
+    TextCase {
         text: "\"hi\" % a string",
         wanted: "[104,105]",
     },
-    Written {
+    TextCase {
         text: "{'receive', 'a b',\t'it\\'s', maybe, -9223372036854775808, <0.104.0>, []}",
         wanted: "{'receive','a b','it\\'s','maybe',-9223372036854775808,<0.104.0>,[]}",
     },
-    Written {
+    TextCase {
         text: "\"hi\"",
         wanted: "[104,105]",
     },
-    Written {
+    TextCase {
         text: "'receive'",
         wanted: "'receive'",
     },
-    Written {
+    TextCase {
         text: "'a b'",
         wanted: "'a b'",
     },
-    Written {
+    TextCase {
         text: "'it\\'s'",
         wanted: "'it\\'s'",
     },
-    Written {
+    TextCase {
         text: "maybe",
         wanted: "'maybe'",
     },
-    Written {
+    TextCase {
         text: "-9223372036854775808",
         wanted: "-9223372036854775808",
     },
@@ -234,7 +234,7 @@ fn terms_are_read_and_written(rt: HostRuntime) -> Result<(), Fail> {
 #[test]
 fn long_terms_are_read_and_written(rt: HostRuntime) -> Result<(), Fail> {
     for long in &WRITTEN_BACK {
-        let text = spelled(rt.alloc(), long)?;
+        let text = text_of_long(rt.alloc(), long)?;
         check_written(&rt, rt.alloc(), &text, &text, long.part)?;
     }
     Ok(())
@@ -256,7 +256,7 @@ fn short_terms(rt: HostRuntime) {
 #[test]
 fn limits_of_terms(rt: HostRuntime) -> Result<(), Fail> {
     for limit in &LONG_TERMS {
-        let text = spelled(rt.alloc(), &limit.text)?;
+        let text = text_of_long(rt.alloc(), &limit.text)?;
         let fault = fault_of_term(rt.alloc(), &text);
         check(&rt, fault == limit.fault, limit.text.part);
     }

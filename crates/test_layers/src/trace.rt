@@ -173,7 +173,7 @@ fn take(
     Ok(())
 }
 
-/// The messages, one behind the other, are written so.
+/// The messages, one after the other, are written so.
 fn check_messages(
     rt: &impl Abort,
     alloc: Global,

@@ -10,7 +10,7 @@ use std::sync::Wait;
 use std::sync::atomic::{AtomicU64, Ordering};
 use std::test::Fail;
 use std::thread::Threads;
-use tn_live::{Live, Naming, Opened, Receipt};
+use tn_live::{JournalName, Live, NewLog, Receipt};
 use tn_pool::{Board, Gate, run_workers};
 use tn_trace::Core;
 
@@ -40,9 +40,9 @@ impl Orders {
     }
 
     /// Looks until it was told.
-    fn wait_for(&self, told: &AtomicU64) {
+    fn wait_for(&self, reported: &AtomicU64) {
         for _ in 0..POLLS {
-            if told.load(Ordering::SeqCst) > 0 {
+            if reported.load(Ordering::SeqCst) > 0 {
                 return;
             }
         }
@@ -89,16 +89,16 @@ fn first_seat(receipts: &[Receipt<Global>]) -> Result<u32, Fail> {
 }
 
 /// The first entry is of the worker whose turn is first, though it is held once its answer is told.
-fn two_workers<J: Naming + Send + Sync, R: Threads + Abort + Wait + Sync>(
+fn two_workers<J: JournalName + Send + Sync, R: Threads + Abort + Wait + Sync>(
     rt: &R,
     alloc: Global,
     core: Core<Global>,
-    opened: Opened,
+    new_log: NewLog,
 ) -> Result<(), Fail>
     requires core { IsCore J.program [] core }
-    requires named { opened ≡ J.log }
+    requires named { new_log ≡ J.log }
 {
-    let (live, seats) = Live::<Global, J>::begin(alloc, core, opened, 2)?;
+    let (live, seats) = Live::<Global, J>::begin(alloc, core, new_log, 2)?;
     let board = Board::new(alloc, alloc, 1, 16)?;
     let gate = Orders::new();
     let report = run_workers(rt, &live, &board, seats, &gate, 100);
@@ -112,5 +112,5 @@ fn two_workers<J: Naming + Send + Sync, R: Threads + Abort + Wait + Sync>(
 fn an_answer_is_there_when_it_is_told(rt: HostRuntime) -> Result<(), Fail> {
     let alloc = rt.alloc();
     let core = Core::new(alloc, senders(alloc)?)?;
-    two_workers::<Brand, _>(&rt, alloc, core, Opened::new())
+    two_workers::<Brand, _>(&rt, alloc, core, NewLog::new())
 }

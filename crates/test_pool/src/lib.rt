@@ -3,7 +3,7 @@
 //! output with and without them, one worker's receipts, what a gate is told and when, and runs by workers,
 //! replayed.
 //!
-//! Stands on tn_live, tn_pool and tn_run, and on test_allocator.
+//! Depends on tn_live, tn_pool and tn_run, and on test_allocator.
 #![tactic(auto)]
 
 #[cfg(test)]

@@ -8,7 +8,7 @@ use std::process::Abort;
 use std::sync::Wait;
 use std::test::Fail;
 use tn_listing::{Line, line_of};
-use tn_live::{Closed, Live, Naming, Opened, Receipt, Seat, Turn};
+use tn_live::{Closed, JournalName, Live, NewLog, Receipt, Seat, Turn};
 use tn_pool::{Board, assemble};
 use tn_program::{Program, program};
 use tn_script::forms;
@@ -92,7 +92,7 @@ fn lines_come_back(rt: HostRuntime) -> Result<(), Fail> {
 }
 
 /// The first seat takes the picks, each of which moves.
-fn take<J: Naming, R: Wait>(
+fn take<J: JournalName, R: Wait>(
     rt: &R,
     alloc: Global,
     live: &Live<Global, J>,
@@ -132,7 +132,7 @@ fn fill(
 }
 
 /// The output is that of the picks, with so many lines of the board.
-fn check_output<J: Naming>(
+fn check_output<J: JournalName>(
     rt: &impl Abort,
     alloc: Global,
     closed: &Closed<Global, J>,
@@ -147,17 +147,17 @@ fn check_output<J: Naming>(
 }
 
 /// The output with no line, with all, and with another message's line at the index 2.
-fn check_boards<J: Naming, R: Wait + Abort>(
+fn check_boards<J: JournalName, R: Wait + Abort>(
     rt: &R,
     alloc: Global,
     core: Core<Global>,
-    opened: Opened,
+    new_log: NewLog,
     other: u64,
 ) -> Result<(), Fail>
     requires core { IsCore J.program [] core }
-    requires named { opened ≡ J.log }
+    requires named { new_log ≡ J.log }
 {
-    let (live, mut seats) = Live::<Global, J>::begin(alloc, core, opened, 1)?;
+    let (live, mut seats) = Live::<Global, J>::begin(alloc, core, new_log, 1)?;
     let receipts = take(rt, alloc, &live, &mut seats)?;
     let Ok(closed) = live.close(rt, seats) else {
         return Err(Fail::new("not closed"));
@@ -184,12 +184,12 @@ fn spawns(alloc: Global) -> Result<Program<Global>, Fail> {
 fn all_lines(rt: HostRuntime) -> Result<(), Fail> {
     let alloc = rt.alloc();
     let core = Core::new(alloc, spawns(alloc)?)?;
-    check_boards::<Brand, _>(&rt, alloc, core, Opened::new(), LINES)
+    check_boards::<Brand, _>(&rt, alloc, core, NewLog::new(), LINES)
 }
 
 #[test]
 fn all_lines_but_one(rt: HostRuntime) -> Result<(), Fail> {
     let alloc = rt.alloc();
     let core = Core::new(alloc, spawns(alloc)?)?;
-    check_boards::<Brand, _>(&rt, alloc, core, Opened::new(), 2)
+    check_boards::<Brand, _>(&rt, alloc, core, NewLog::new(), 2)
 }

@@ -8,7 +8,7 @@ use std::marker::Brand;
 use std::process::Abort;
 use std::sync::Wait;
 use std::test::Fail;
-use tn_live::{Book, CloseFault, Closed, Live, Naming, Opened, Receipt, Seat, Turn};
+use tn_live::{Book, CloseFault, Closed, JournalName, Live, NewLog, Receipt, Seat, Turn};
 use tn_program::{Program, program};
 use tn_script::forms;
 use tn_text::write_term;
@@ -43,7 +43,7 @@ fn program_of(alloc: Global, script: &str) -> Result<Program<Global>, Fail> {
 }
 
 /// The seat takes these picks, each of which moves, and the receipts are added to the others.
-fn take<J: Naming, R: Wait>(
+fn take<J: JournalName, R: Wait>(
     rt: &R,
     live: &Live<Global, J>,
     seat: &mut Seat<Global, J>,
@@ -60,7 +60,7 @@ fn take<J: Naming, R: Wait>(
 }
 
 /// The messages of session 1, each with a line feed.
-fn lines<J: Naming>(alloc: Global, closed: &Closed<Global, J>) -> Result<Vec<u8>, Fail> {
+fn lines<J: JournalName>(alloc: Global, closed: &Closed<Global, J>) -> Result<Vec<u8>, Fail> {
     let mut text = Vec::new(alloc);
     let Some(messages) = closed.listing(1) else {
         return Err(Fail::new("no listing"));
@@ -73,7 +73,7 @@ fn lines<J: Naming>(alloc: Global, closed: &Closed<Global, J>) -> Result<Vec<u8>
 }
 
 /// The entries have these picks, the first five by seat 0 and the rest by seat 1.
-fn check_journal<J: Naming>(rt: &impl Abort, closed: &Closed<Global, J>, picks: &[u32]) {
+fn check_journal<J: JournalName>(rt: &impl Abort, closed: &Closed<Global, J>, picks: &[u32]) {
     let journal = closed.journal();
     assert_eq!(rt; journal.len(), picks.len());
     for (at, entry) in journal.iter().enumerate() {
@@ -83,7 +83,7 @@ fn check_journal<J: Naming>(rt: &impl Abort, closed: &Closed<Global, J>, picks: 
 }
 
 /// Each receipt is confirmed; the one numbered 6 isn't once it has the number 5.
-fn check_receipts<J: Naming>(
+fn check_receipts<J: JournalName>(
     rt: &impl Abort,
     closed: &Closed<Global, J>,
     mut receipts: Vec<Receipt<Global>>,
@@ -98,7 +98,7 @@ fn check_receipts<J: Naming>(
 }
 
 /// The first seat takes five picks and the second four, as both then say; a further pick is idle.
-fn take_by_two<J: Naming, R: Wait + Abort>(
+fn take_by_two<J: JournalName, R: Wait + Abort>(
     rt: &R,
     live: &Live<Global, J>,
     seats: &mut [Seat<Global, J>],
@@ -118,7 +118,7 @@ fn take_by_two<J: Naming, R: Wait + Abort>(
 }
 
 /// The closed journal of the spawns: its entries, its one listing, its replies and its program.
-fn check_closed<J: Naming>(
+fn check_closed<J: JournalName>(
     rt: &impl Abort,
     alloc: Global,
     closed: &Closed<Global, J>,
@@ -132,16 +132,16 @@ fn check_closed<J: Naming>(
 }
 
 /// Two seats take the picks of the spawns in turn.
-fn spawns_by_two<J: Naming, R: Wait + Abort>(
+fn spawns_by_two<J: JournalName, R: Wait + Abort>(
     rt: &R,
     alloc: Global,
     core: Core<Global>,
-    opened: Opened,
+    new_log: NewLog,
 ) -> Result<(), Fail>
     requires core { IsCore J.program [] core }
-    requires named { opened ≡ J.log }
+    requires named { new_log ≡ J.log }
 {
-    let (live, mut seats) = Live::<Global, J>::begin(alloc, core, opened, 2)?;
+    let (live, mut seats) = Live::<Global, J>::begin(alloc, core, new_log, 2)?;
     let mut receipts = Vec::new(alloc);
     take_by_two(rt, &live, seats.as_mut_slice(), &mut receipts)?;
     let Ok(closed) = live.close(rt, seats) else {
@@ -155,11 +155,11 @@ fn spawns_by_two<J: Naming, R: Wait + Abort>(
 fn two_seats_in_turn(rt: HostRuntime) -> Result<(), Fail> {
     let alloc = rt.alloc();
     let core = Core::new(alloc, program_of(alloc, SPAWNS)?)?;
-    spawns_by_two::<Brand, _>(&rt, alloc, core, Opened::new())
+    spawns_by_two::<Brand, _>(&rt, alloc, core, NewLog::new())
 }
 
 /// The close without seat 1 handed all back, and with both seats it succeeds.
-fn check_handed_back<J: Naming, R: Wait + Abort>(
+fn check_handed_back<J: JournalName, R: Wait + Abort>(
     rt: &R,
     fault: CloseFault<Global, J>,
     second: Seat<Global, J>,
@@ -183,24 +183,24 @@ fn check_handed_back<J: Naming, R: Wait + Abort>(
 }
 
 /// A close without seat 1 hands all back, and a second one with both seats succeeds.
-fn closed_twice<J: Naming, R: Wait + Abort>(
+fn closed_twice<J: JournalName, R: Wait + Abort>(
     rt: &R,
     alloc: Global,
     core: Core<Global>,
-    opened: Opened,
+    new_log: NewLog,
 ) -> Result<(), Fail>
     requires core { IsCore J.program [] core }
-    requires named { opened ≡ J.log }
+    requires named { new_log ≡ J.log }
 {
-    let (live, mut seats) = Live::<Global, J>::begin(alloc, core, opened, 2)?;
+    let (live, mut seats) = Live::<Global, J>::begin(alloc, core, new_log, 2)?;
     let mut second = seats.pop().ok_or("a seat")?;
     let moved = live.step(rt, &mut second, 0);
     assert!(rt; matches!(&moved, Ok(Turn::Moved(_))));
     match live.close(rt, seats) {
         Ok(_) => Err(Fail::new("a seat is missing")),
         Err(fault) => {
-            let told = format!(in alloc; "{fault}")?;
-            assert_eq!(rt; told.as_str(), "fault 17 missing seat 1");
+            let reported = format!(in alloc; "{fault}")?;
+            assert_eq!(rt; reported.as_str(), "fault 17 missing seat 1");
             check_handed_back(rt, fault, second)
         }
     }
@@ -210,11 +210,11 @@ fn closed_twice<J: Naming, R: Wait + Abort>(
 fn a_missing_seat(rt: HostRuntime) -> Result<(), Fail> {
     let alloc = rt.alloc();
     let core = Core::new(alloc, program_of(alloc, SPAWNS)?)?;
-    closed_twice::<Brand, _>(&rt, alloc, core, Opened::new())
+    closed_twice::<Brand, _>(&rt, alloc, core, NewLog::new())
 }
 
 /// Both seats fit the book with its own program and with no other, before and after the first has moved.
-fn check_fits<J: Naming>(
+fn check_fits<J: JournalName>(
     rt: &impl Abort,
     book: &mut Book<Global, J>,
     seats: &mut [Seat<Global, J>],
@@ -238,16 +238,16 @@ fn check_fits<J: Naming>(
 }
 
 /// Which seats fit a book with which program.
-fn seats_that_fit<J: Naming, R: Abort>(
+fn seats_that_fit<J: JournalName, R: Abort>(
     rt: &R,
     alloc: Global,
     core: Core<Global>,
-    opened: Opened,
+    new_log: NewLog,
 ) -> Result<(), Fail>
     requires core { IsCore J.program [] core }
-    requires named { opened ≡ J.log }
+    requires named { new_log ≡ J.log }
 {
-    let (mut book, mut seats) = Book::<Global, J>::begin(alloc, core, opened, 2)?;
+    let (mut book, mut seats) = Book::<Global, J>::begin(alloc, core, new_log, 2)?;
     let spawns = program_of(alloc, SPAWNS)?;
     let sends = program_of(alloc, SENDS)?;
     check_fits(rt, &mut book, seats.as_mut_slice(), &spawns, &sends);
@@ -258,5 +258,5 @@ fn seats_that_fit<J: Naming, R: Abort>(
 fn which_seats_fit(rt: HostRuntime) -> Result<(), Fail> {
     let alloc = rt.alloc();
     let core = Core::new(alloc, program_of(alloc, SPAWNS)?)?;
-    seats_that_fit::<Brand, _>(&rt, alloc, core, Opened::new())
+    seats_that_fit::<Brand, _>(&rt, alloc, core, NewLog::new())
 }

@@ -8,8 +8,8 @@ use std::alloc::Allocator;
 use std::marker::Brand;
 use std::process::Abort;
 use std::sync::Wait;
-use test_allocator::Refusing;
-use tn_live::{CloseFault, Live, Naming, Opened, Seat, Turn};
+use test_allocator::Quota;
+use tn_live::{CloseFault, JournalName, Live, NewLog, Seat, Turn};
 use tn_program::{Program, program};
 use tn_script::forms;
 use tn_trace::{Core, StepFault};
@@ -42,7 +42,7 @@ fn has_moved<A: Allocator>(rt: &impl Abort, answer: Result<Turn<A>, StepFault>) 
 
 /// Two seats take the picks by turns, until a step is refused memory: whether all moved. A seat whose step
 /// was refused has made nothing.
-fn take<A: Allocator + Copy, J: Naming, R: Wait + Abort>(
+fn take<A: Allocator + Copy, J: JournalName, R: Wait + Abort>(
     rt: &R,
     live: &Live<A, J>,
     seats: &mut [Seat<A, J>],
@@ -61,7 +61,7 @@ fn take<A: Allocator + Copy, J: Naming, R: Wait + Abort>(
 }
 
 /// The lock answers each seat that it is spent.
-fn check_spent<A: Allocator + Copy, J: Naming, R: Wait + Abort>(
+fn check_spent<A: Allocator + Copy, J: JournalName, R: Wait + Abort>(
     rt: &R,
     live: &Live<A, J>,
     seats: &mut [Seat<A, J>],
@@ -73,7 +73,7 @@ fn check_spent<A: Allocator + Copy, J: Naming, R: Wait + Abort>(
 }
 
 /// Whether the lock closes; where it doesn't, it is spent.
-fn closes<A: Allocator + Copy, J: Naming, R: Wait + Abort>(
+fn closes<A: Allocator + Copy, J: JournalName, R: Wait + Abort>(
     rt: &R,
     live: Live<A, J>,
     seats: Vec<Seat<A, J>, A>,
@@ -91,16 +91,16 @@ fn closes<A: Allocator + Copy, J: Naming, R: Wait + Abort>(
 }
 
 /// The picks by two seats of a lock. After a refusal the lock is spent, and else it closes.
-fn steps_of_a_lock<A: Allocator + Copy, J: Naming, R: Wait + Abort>(
+fn steps_of_a_lock<A: Allocator + Copy, J: JournalName, R: Wait + Abort>(
     rt: &R,
     alloc: A,
     core: Core<A>,
-    opened: Opened,
+    new_log: NewLog,
 )
     requires core { IsCore J.program [] core }
-    requires named { opened ≡ J.log }
+    requires named { new_log ≡ J.log }
 {
-    let Ok((live, mut seats)) = Live::<A, J>::begin(alloc, core, opened, 2) else {
+    let Ok((live, mut seats)) = Live::<A, J>::begin(alloc, core, new_log, 2) else {
         return;
     };
     let moved = take(rt, &live, seats.as_mut_slice());
@@ -117,7 +117,7 @@ fn walk_a_lock<A: Allocator + Copy, R: Wait + Abort>(rt: &R, alloc: A) {
         return;
     };
     if let Ok(core) = Core::new(alloc, program) {
-        steps_of_a_lock::<A, Brand, R>(rt, alloc, core, Opened::new());
+        steps_of_a_lock::<A, Brand, R>(rt, alloc, core, NewLog::new());
     }
 }
 
@@ -125,7 +125,7 @@ fn walk_a_lock<A: Allocator + Copy, R: Wait + Abort>(rt: &R, alloc: A) {
 fn steps_under_a_lock(rt: HostRuntime) {
     let alloc = rt.alloc();
     for served in 0..ENOUGH {
-        let heap = Refusing::after(alloc, served);
+        let heap = Quota::after(alloc, served);
         walk_a_lock(&rt, &heap);
         if !heap.has_refused() {
             assert!(&rt; served > 50, "only {served} growths");

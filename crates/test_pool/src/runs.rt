@@ -87,7 +87,7 @@ fn written_by<T: Threads + Wait + Sync, G: Gate>(
 }
 
 /// What a run by the picks writes.
-fn replayed(alloc: Global, script: &str, picks: &[u32]) -> Result<Vec<u8>, Fail> {
+fn replay_of(alloc: Global, script: &str, picks: &[u32]) -> Result<Vec<u8>, Fail> {
     let mut text = Vec::new(alloc);
     write_picks(picks, &mut text)?;
     let mut reader = Watched::of(script.as_bytes());
@@ -109,7 +109,7 @@ fn check_replayed<T: Threads + Abort + Wait + Sync, G: Gate>(
 {
     let (ran, written) = written_by(rt, alloc, script, workers)?;
     assert_eq!(rt; ran.outcome, Outcome::Listed);
-    let again = replayed(alloc, script, &ran.picks)?;
+    let again = replay_of(alloc, script, &ran.picks)?;
     assert_eq!(rt; written.as_slice(), again.as_slice());
     Ok(ran.picks.len())
 }

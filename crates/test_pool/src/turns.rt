@@ -69,7 +69,7 @@ fn one_end(rt: HostRuntime) -> Result<(), Fail> {
     Ok(())
 }
 
-/// Three ends take one after another, in the queue's order, and find their tokens again behind the others'.
+/// Three ends take one after another, in the queue's order, and find their tokens again after the others'.
 #[test]
 fn three_ends(rt: HostRuntime) -> Result<(), Fail> {
     let alloc = rt.alloc();

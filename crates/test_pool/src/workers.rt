@@ -8,7 +8,7 @@ use std::process::Abort;
 use std::sync::Wait;
 use std::test::Fail;
 use std::thread::Threads;
-use tn_live::{Live, Naming, Opened};
+use tn_live::{JournalName, Live, NewLog};
 use tn_pool::{Board, Open, Report, run_workers};
 use tn_program::{Program, program};
 use tn_script::forms;
@@ -30,7 +30,7 @@ pub fn senders(alloc: Global) -> Result<Program<Global>, Fail> {
 }
 
 /// The journal closes with the receipts that the workers made, each of which it confirms.
-fn check_closed<J: Naming, R: Abort + Wait>(
+fn check_closed<J: JournalName, R: Abort + Wait>(
     rt: &R,
     live: Live<Global, J>,
     report: Report<Global, J>,
@@ -66,16 +66,16 @@ fn check_board(rt: &impl Abort, board: &Board<Global>) -> Result<(), Fail> {
 }
 
 /// One worker takes each turn that moves: 12 receipts, no token and no fault, and the lines on the board.
-fn lone_worker<J: Naming + Send + Sync, R: Threads + Abort + Wait + Sync>(
+fn lone_worker<J: JournalName + Send + Sync, R: Threads + Abort + Wait + Sync>(
     rt: &R,
     alloc: Global,
     core: Core<Global>,
-    opened: Opened,
+    new_log: NewLog,
 ) -> Result<(), Fail>
     requires core { IsCore J.program [] core }
-    requires named { opened ≡ J.log }
+    requires named { new_log ≡ J.log }
 {
-    let (live, seats) = Live::<Global, J>::begin(alloc, core, opened, 1)?;
+    let (live, seats) = Live::<Global, J>::begin(alloc, core, new_log, 1)?;
     let board = Board::new(alloc, alloc, 1, 1024)?;
     let report = run_workers(rt, &live, &board, seats, &Open, 1000);
     assert_eq!(rt; (report.seats.len(), report.receipts.len()), (1, 12));
@@ -87,5 +87,5 @@ fn lone_worker<J: Naming + Send + Sync, R: Threads + Abort + Wait + Sync>(
 fn one_worker(rt: HostRuntime) -> Result<(), Fail> {
     let alloc = rt.alloc();
     let core = Core::new(alloc, senders(alloc)?)?;
-    lone_worker::<Brand, _>(&rt, alloc, core, Opened::new())
+    lone_worker::<Brand, _>(&rt, alloc, core, NewLog::new())
 }

@@ -4,7 +4,7 @@ use crate::head::elements;
 use std::alloc::Global;
 use std::process::Abort;
 use std::test::Fail;
-use tn_guard::{Value, Word, apply};
+use tn_guard::{AtomConst, Value, apply};
 use tn_spec::Func;
 use tn_text::read_term;
 
@@ -36,16 +36,20 @@ fn is_fault<'a>(func: Func, args: &[Value<'a, Global>]) -> bool {
 
 /// `true` or `false`.
 fn truth<'a>(holds: bool) -> Value<'a, Global> {
-    Value::Word(if holds { Word::True } else { Word::False })
+    Value::AtomConst(if holds {
+        AtomConst::True
+    } else {
+        AtomConst::False
+    })
 }
 
 /// The words that evaluation makes, with the text of each.
-const WORDS: [(Word, &str); 5] = [
-    (Word::True, "true"),
-    (Word::False, "false"),
-    (Word::Node, "nonode@nohost"),
-    (Word::Exit, "'EXIT'"),
-    (Word::Undefined, "undefined"),
+const WORDS: [(AtomConst, &str); 5] = [
+    (AtomConst::True, "true"),
+    (AtomConst::False, "false"),
+    (AtomConst::Node, "nonode@nohost"),
+    (AtomConst::Exit, "'EXIT'"),
+    (AtomConst::Undefined, "undefined"),
 ];
 
 #[test]
@@ -53,7 +57,7 @@ fn words(rt: HostRuntime) -> Result<(), Fail> {
     let alloc = rt.alloc();
     for (word, text) in &WORDS {
         let term = read_term(alloc, text.as_bytes())?;
-        let value: Value<'_, Global> = Value::Word(*word);
+        let value: Value<'_, Global> = Value::AtomConst(*word);
         assert!(rt; value.same(Value::Lent(&term)), "{text}");
         assert!(rt; value.copy_into(alloc)?.same(&term), "{text}");
     }
@@ -72,7 +76,7 @@ fn check_outer<'a>(
     alloc: Global,
     zero: &'a [Value<'a, Global>],
 ) -> Result<(), Fail> {
-    let items = [Value::Word(Word::Exit), Value::Tuple(zero)];
+    let items = [Value::AtomConst(AtomConst::Exit), Value::Tuple(zero)];
     check_fields(rt, alloc, &items)
 }
 
@@ -98,7 +102,7 @@ fn check_whole<'a>(rt: &impl Abort, alloc: Global, made: Value<'a, Global>) -> R
 fn check_parts<'a>(rt: &impl Abort, fields: &'a [Value<'a, Global>; 2]) {
     let made = Value::Tuple(fields);
     let two: Value<'_, Global> = Value::Int(2);
-    let exit: Value<'_, Global> = Value::Word(Word::Exit);
+    let exit: Value<'_, Global> = Value::AtomConst(AtomConst::Exit);
     assert!(rt; answers(Func::Element, &[Value::Int(1), made], Some(fields[0])));
     assert!(rt; is_fault(Func::Element, &[Value::Int(3), made]));
     assert!(rt; answers(Func::Head, &[fields[0]], Some(exit)));
@@ -116,7 +120,7 @@ fn texts_pids_and_truth(rt: HostRuntime) -> Result<(), Fail> {
         assert_eq!(rt; value.atom_text().is_some(), 4 <= place && place < 7);
         assert_eq!(rt; value.pid().is_some(), 7 <= place && place < 9);
     }
-    let value: Value<'_, Global> = Value::Word(Word::Exit);
+    let value: Value<'_, Global> = Value::AtomConst(AtomConst::Exit);
     assert_eq!(rt; value.atom_text(), Some("EXIT"));
     let value: Value<'_, Global> = Value::Pid(u32::MAX);
     assert_eq!(rt; value.pid(), Some(u32::MAX));

@@ -1,7 +1,7 @@
 // Heads and lists, with the bindings that they have.
 use std::alloc::{AllocError, Allocator, Global};
 use std::test::Fail;
-use tn_guard::{Parts, Value};
+use tn_guard::{ListView, Value};
 use tn_head::{Binding, Bindings, bind};
 use tn_spec::{Clause, Dialect, Head, Spec, spec_of};
 use tn_term::Term;
@@ -85,7 +85,7 @@ fn value_of<'a>(
     list: &'a [Term<Global>],
     number: u16,
 ) -> Result<Option<Value<'a, Global>>, Fail> {
-    match bind(alloc, head, Parts::Terms(list))? {
+    match bind(alloc, head, ListView::Terms(list))? {
         Some(found) => Ok(found.get(number)),
         None => Err(Fail::new("no match")),
     }

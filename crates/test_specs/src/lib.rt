@@ -3,7 +3,7 @@
 //! back the memory that it takes, the text of code, instructions that are code and others, and the settings of
 //! functions by the newest command, with each growth of memory refused too.
 //!
-//! Stands on tn_text, tn_spec, tn_head, tn_guard, tn_action, tn_code, tn_compile, tn_machine and tn_index, and
+//! Depends on tn_text, tn_spec, tn_head, tn_guard, tn_action, tn_code, tn_compile, tn_machine and tn_index, and
 //! on test_allocator.
 #![tactic(auto)]
 
@@ -20,8 +20,8 @@ mod memory;
 #[cfg(test)]
 mod outcome;
 #[cfg(test)]
-mod seen;
-#[cfg(test)]
 mod settings;
 #[cfg(test)]
 mod spec;
+#[cfg(test)]
+mod spec_rows;

@@ -5,7 +5,7 @@ use std::alloc::Allocator;
 use std::test::Fail;
 use tn_action::Context;
 use tn_flags::FlagTable;
-use tn_guard::Parts;
+use tn_guard::ListView;
 use tn_spec::{Dialect, spec_of};
 use tn_term::{Alive, Term};
 use tn_text::read_term;
@@ -26,8 +26,8 @@ fn is_enough<A: Allocator + Copy>(heap: A, way: Way, list: &str) -> bool {
         return false;
     };
     let context = Context {
-        list: Parts::Terms(list.as_slice()),
-        me: 100,
+        list: ListView::Terms(list.as_slice()),
+        self_pid: 100,
         caller: None,
         alive: &Alive::first(2),
         flags: &FlagTable::none(),

@@ -10,7 +10,7 @@ use tn_action::{Context, Effect, Outcome, outcome};
 use tn_code::Code;
 use tn_compile::compile;
 use tn_flags::{FlagTable, Flags, flag_of_name};
-use tn_guard::{Parts, Value};
+use tn_guard::{ListView, Value};
 use tn_machine::execute;
 use tn_spec::{Dialect, Spec, spec_of};
 use tn_term::{Alive, Atom, Mfa, Term};
@@ -50,7 +50,7 @@ fn names(alloc: Global, flags: Flags) -> Result<Term<Global>, Fail> {
     Ok(Term::List(names))
 }
 
-/// `{message,Term}`, `return_trace`, `exception_trace`, `{silent,Bool}` or `{change,Pid,Off,On}`.
+/// `{message,Term}`, `return_trace`, `exception_trace`, `{silent,Bool}` or `{change,Pid,Disabled,On}`.
 fn effect_term<A: Allocator>(alloc: Global, effect: &Effect<A>) -> Result<Term<Global>, Fail> {
     let mut fields = Vec::new(alloc);
     match effect {
@@ -111,8 +111,8 @@ fn context<'a>(
     flags: &'a FlagTable,
 ) -> Context<'a, Global> {
     Context {
-        list: Parts::Terms(list),
-        me: OWN,
+        list: ListView::Terms(list),
+        self_pid: OWN,
         caller,
         alive,
         flags,
@@ -760,7 +760,7 @@ fn caller<A: Allocator + Copy>(alloc: A) -> Result<Option<Mfa<A>>, AllocError> {
     }))
 }
 
-/// Bindings, made values, each kind of effect and a fault, behind a clause whose condition is a fault.
+/// Bindings, made values, each kind of effect and a fault, after a clause whose condition is a fault.
 const SPEC: &str = "[{['$1','$2'],[{hd,[{'div','$1',0}]}],[]},
  {['$1','$2'],[{'==',{{'$1',['$2']}},{{'$1',{tl,[a,'$2']}}}}],
   [{message,[{{'$1','$2'}},'$_','$$',{hd,[]},{caller}]},{return_trace},{exception_trace},{silent,true},
@@ -835,8 +835,8 @@ fn a_list_of_values(rt: HostRuntime) -> Result<(), Fail> {
     let message = read_term(alloc, b"{hi,[1]}")?;
     let one = [Value::Lent(&message)];
     let context = Context {
-        list: Parts::Values(&[Value::Pid(101), Value::Lent(&message), Value::List(&one)]),
-        me: OWN,
+        list: ListView::Values(&[Value::Pid(101), Value::Lent(&message), Value::List(&one)]),
+        self_pid: OWN,
         caller: None,
         alive: &two_alive(),
         flags: &own_call()?,

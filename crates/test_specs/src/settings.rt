@@ -3,8 +3,8 @@ use linked_list_allocator::LocalHeap;
 use std::alloc::{AllocError, Allocator};
 use std::process::Abort;
 use std::test::Fail;
-use test_allocator::Refusing;
-use tn_index::{Covered, Covering, Setting, Settings};
+use test_allocator::Quota;
+use tn_index::{FunctionPattern, FunctionSetting, Setting, Settings};
 use tn_term::{Atom, Mfa};
 
 /// More growths than any of these walks needs.
@@ -84,29 +84,29 @@ fn functions<A: Allocator + Copy>(alloc: A) -> Result<Vec<(Mfa<A>, bool), A>, Al
 }
 
 /// The functions that a command is about.
-fn covered<A: Allocator + Copy>(alloc: A, of: Of) -> Result<Covered<A>, AllocError> {
+fn pattern_of<A: Allocator + Copy>(alloc: A, of: Of) -> Result<FunctionPattern<A>, AllocError> {
     match of {
         (Some(module), Some(name), Some(arity)) => {
-            Ok(Covered::One(function(alloc, module, name, arity)?))
+            Ok(FunctionPattern::One(function(alloc, module, name, arity)?))
         }
-        (Some(module), Some(name), None) => Ok(Covered::AnyArity {
+        (Some(module), Some(name), None) => Ok(FunctionPattern::AnyArity {
             module: atom(alloc, module)?,
             name: atom(alloc, name)?,
         }),
-        (Some(module), None, _) => Ok(Covered::WholeModule(atom(alloc, module)?)),
-        (None, _, _) => Ok(Covered::Every),
+        (Some(module), None, _) => Ok(FunctionPattern::WholeModule(atom(alloc, module)?)),
+        (None, _, _) => Ok(FunctionPattern::Every),
     }
 }
 
 /// The command as it is set, with its number.
-fn covering<A: Allocator + Copy>(
+fn function_setting<A: Allocator + Copy>(
     alloc: A,
     command: &Command,
     number: usize,
-) -> Result<Covering<usize, A>, AllocError> {
-    Ok(Covering {
-        covered: covered(alloc, command.0)?,
-        setting: Setting::By(number),
+) -> Result<FunctionSetting<usize, A>, AllocError> {
+    Ok(FunctionSetting {
+        covered: pattern_of(alloc, command.0)?,
+        setting: Setting::Specification(number),
         local: command.1,
     })
 }
@@ -118,9 +118,9 @@ fn number_of<A: Allocator + Copy>(
     exported: bool,
 ) -> usize {
     match settings.get(function, exported) {
-        Some(covering) => match &covering.setting {
-            Setting::By(number) => *number,
-            Setting::Off | Setting::Plain => 0,
+        Some(function_setting) => match &function_setting.setting {
+            Setting::Specification(number) => *number,
+            Setting::Disabled | Setting::Always => 0,
         },
         None => 0,
     }
@@ -150,10 +150,10 @@ fn walk<A: Allocator + Copy>(rt: &impl Abort, alloc: A, known: usize) -> Result<
     let mut refused = 0;
     for (place, command) in COMMANDS.iter().enumerate() {
         check_newest(rt, &settings, &functions, &newest);
-        let first = covering(alloc, command, place + 1)?;
+        let first = function_setting(alloc, command, place + 1)?;
         if settings.set(of_program, first).is_err() {
             check_newest(rt, &settings, &functions, &newest);
-            let again = covering(alloc, command, place + 1)?;
+            let again = function_setting(alloc, command, place + 1)?;
             settings.set(of_program, again)?;
             refused = place + 1;
         }
@@ -181,7 +181,7 @@ fn growths_refused(rt: HostRuntime) -> Result<(), Fail> {
     let before = memory.used();
     let mut last = 0;
     for served in 0..ENOUGH {
-        let heap = Refusing::after(&memory, served);
+        let heap = Quota::after(&memory, served);
         let walked = walk(&rt, &heap, OF_PROGRAM);
         assert_eq!(rt; memory.used(), before);
         if !heap.has_refused() {

@@ -1,6 +1,6 @@
 // A term that is read as a specification, part by part, and the texts of faults of others.
 use crate::head::{only_clause, spec_in};
-use crate::seen::{Row, check_patterns, check_rows};
+use crate::spec_rows::{Row, check_patterns, check_rows};
 use std::alloc::{AllocError, Global};
 use std::process::Abort;
 use std::test::Fail;
@@ -42,11 +42,11 @@ fn check_fault(
     rt: &impl Abort,
     alloc: Global,
     fault: &SpecFault<Global>,
-    told: &str,
+    reported: &str,
     shown: &str,
 ) -> Result<(), AllocError> {
     let text = format!(in alloc; "{fault}")?;
-    assert_eq!(rt; text.as_str(), told);
+    assert_eq!(rt; text.as_str(), reported);
     let text = format!(in alloc; "{fault:?}")?;
     assert_eq!(rt; text.as_str(), shown);
     Ok(())

@@ -11,7 +11,7 @@ use Rattle.def_term.specs.Names.{Mfa, mfa_term}
 use Rattle.def_spec.specs.Functions.{truth, is_true}
 use Rattle.def_spec.specs.Flags.{Flag, Flags, no_flags, only}
 use Rattle.def_spec.specs.Matching.{Bindings, bindings_of}
-use Rattle.def_spec.specs.Outcome.{Clause, Outcome, matched, matched_term, each_true, firing, or_next}
+use Rattle.def_spec.specs.Outcome.{Clause, Outcome, matched, matched_term, each_true, firing_bindings, or_next}
 use Rattle.def_spec.specs.Expressions as ex
 use Rattle.def_spec.specs.Expressions.{Expr, Exprs, no_exprs, and_expr, Effect, is_true_value, values_bound, Evaluation, comes_to, faults, then_on, or_fault, its_value, its_effects, evaluation, evaluation_of_all}
 use Rattle.def_spec.proofs.Conditions.{of-any}
@@ -20,8 +20,8 @@ use Rattle.tn_spec.specs.declared.expr.Expr as code
 use Rattle.tn_guard.specs.Views.{value_seen}
 use Rattle.tn_head.specs.Views.{binding_seen}
 use Rattle.tn_head.specs.declared.bindings.Binding.{Binding}
-use Rattle.tn_action.specs.Scenes.{evaluation_in, all_in, while_true_in, until_true_in}
-use Rattle.tn_action.specs.declared.scene.Scene.{Scene}
+use Rattle.tn_action.specs.EvalContexts.{evaluation_in, all_in, while_true_in, until_true_in}
+use Rattle.tn_action.specs.declared.eval_context.EvalContext.{EvalContext}
 
 -- ---- the expressions of a vector
 
@@ -57,13 +57,13 @@ answered_value (Some t) x = refl
 abbrev pub behind : List Tree → Evaluation (List Tree) → Evaluation (List Tree)
 behind ts r = then_on r (λ us z. comes_to (ts ++ us) z)
 
-pub behind_none : (r : Evaluation (List Tree)) → behind [] r ≡ r
-behind_none (comes_to ts x) = refl
-behind_none (faults x) = refl
+pub after_none : (r : Evaluation (List Tree)) → behind [] r ≡ r
+after_none (comes_to ts x) = refl
+after_none (faults x) = refl
 
-behind_one : (ts : List Tree) (t : Tree) (r : Evaluation (List Tree)) → behind ts (then_on r (λ us z. comes_to (t ∷ us) z)) ≡ behind (ts ++ t ∷ []) r
-behind_one ts t (comes_to us x) = ap (λ l. comes_to l x) (sym (append_assoc ts (t ∷ []) us))
-behind_one ts t (faults x) = refl
+after_one : (ts : List Tree) (t : Tree) (r : Evaluation (List Tree)) → behind ts (then_on r (λ us z. comes_to (t ∷ us) z)) ≡ behind (ts ++ t ∷ []) r
+after_one ts t (comes_to us x) = ap (λ l. comes_to l x) (sym (append_assoc ts (t ∷ []) us))
+after_one ts t (faults x) = refl
 
 -- ---- variables
 
@@ -73,13 +73,13 @@ each_bound (b ∷ bs) = ap (λ ts. value_seen b.value ∷ ts) (each_bound bs)
 
 -- ---- several expressions
 
-module _ {A : Type 0} {G : Ghosts A} (s : Scene A G) (all : Exprs) (e : Expr) (es : Exprs) (old new : List Effect) (here : all ≡ and_expr e es) where
+module _ {A : Type 0} {G : Ghosts A} (s : EvalContext A G) (all : Exprs) (e : Expr) (es : Exprs) (old new : List Effect) (here : all ≡ and_expr e es) where
   -- all of them, where the first has a value, and where it faults
   pub all_go_on : (ts us : List Tree) (t : Tree) (whole : Evaluation (List Tree)) → comes_to t new ≡ evaluation_in s e old → us ≡ ts ++ t ∷ []
       → behind ts (all_in s all old) ≡ whole → behind us (all_in s es new) ≡ whole
   all_go_on ts us t whole is more_of h =
       ap (λ l. behind l (all_in s es new)) more_of
-      ∙ sym (behind_one ts t (all_in s es new))
+      ∙ sym (after_one ts t (all_in s es new))
       ∙ ap (λ r. behind ts (then_on r (λ u y. then_on (all_in s es y) (λ us z. comes_to (u ∷ us) z)))) is
       ∙ ap (λ xs. behind ts (all_in s xs old)) (sym here)
       ∙ h
@@ -132,7 +132,7 @@ module _ {A : Type 0} {G : Ghosts A} (s : Scene A G) (all : Exprs) (e : Expr) (e
       ∙ ap (λ xs. until_true_in s xs old) (sym here)
       ∙ h
 
-module _ {A : Type 0} {G : Ghosts A} (s : Scene A G) (all : Exprs) (x : List Effect) (past : all ≡ no_exprs) where
+module _ {A : Type 0} {G : Ghosts A} (s : EvalContext A G) (all : Exprs) (x : List Effect) (past : all ≡ no_exprs) where
   -- at the end of the expressions
   pub all_done : (ts : List Tree) (whole : Evaluation (List Tree)) → behind ts (all_in s all x) ≡ whole → comes_to ts x ≡ whole
   all_done ts whole h = ap (λ l. comes_to l x) (sym (append-nil ts)) ∙ ap (λ xs. behind ts (all_in s xs x)) (sym past) ∙ h
@@ -184,13 +184,13 @@ module _ (d : ex.Dialect) (c : ex.Context) (k : Clause) where
   abbrev fires_with : Option Bindings → Outcome → Outcome
   fires_with r o = or_next d (option_and_then (λ b. if each_true d b c k.conditions then Some b else None) r) c k.body o
 
-  pub not_bound : None ≡ bindings_of k.head (matched_term c) → (o : Outcome) → or_next d (firing d k c) c k.body o ≡ o
+  pub not_bound : None ≡ bindings_of k.head (matched_term c) → (o : Outcome) → or_next d (firing_bindings d k c) c k.body o ≡ o
   not_bound e o = ap (λ r. fires_with r o) (sym e)
 
-  pub not_true : (b : Bindings) → Some b ≡ bindings_of k.head (matched_term c) → false ≡ each_true d b c k.conditions → (o : Outcome) → or_next d (firing d k c) c k.body o ≡ o
+  pub not_true : (b : Bindings) → Some b ≡ bindings_of k.head (matched_term c) → false ≡ each_true d b c k.conditions → (o : Outcome) → or_next d (firing_bindings d k c) c k.body o ≡ o
   not_true b e h o = ap (λ r. fires_with r o) (sym e) ∙ ap (λ q. or_next d (if q then Some b else None) c k.body o) (sym h)
 
-  pub fires : (b : Bindings) (es : List Effect) → Some b ≡ bindings_of k.head (matched_term c) → true ≡ each_true d b c k.conditions → es ≡ ex.effects_of_all d b c k.body → (o : Outcome) → or_next d (firing d k c) c k.body o ≡ matched es
+  pub fires : (b : Bindings) (es : List Effect) → Some b ≡ bindings_of k.head (matched_term c) → true ≡ each_true d b c k.conditions → es ≡ ex.effects_of_all d b c k.body → (o : Outcome) → or_next d (firing_bindings d k c) c k.body o ≡ matched es
   fires b es e h is o = ap (λ r. fires_with r o) (sym e) ∙ ap (λ q. or_next d (if q then Some b else None) c k.body o) (sym h) ∙ ap matched (sym is)
 
 -- ---- changes of flags

@@ -1,4 +1,4 @@
 pub mod Parts
-pub mod Scenes
+pub mod EvalContexts
 pub mod Steps
 pub mod Views

@@ -19,23 +19,23 @@ use Rattle.tn_spec.specs.declared.func.Dialect.{Dialect}
 use Rattle.tn_spec.specs.declared.func.Func.{Func}
 use Rattle.tn_spec.specs.declared.spec.Clause.{Clause}
 use Rattle.tn_spec.specs.declared.spec.Spec.{Spec}
-use Rattle.tn_action.specs.Parts.{part_seen}
-use Rattle.tn_action.specs.Scenes.{evaluation_in, all_in, while_true_in, until_true_in}
-use Rattle.tn_action.specs.Views.{acted, context_seen, effect_seen}
-use Rattle.tn_action.specs.declared.actions.Acted.{Acted}
+use Rattle.tn_action.specs.Parts.{eval_position_seen}
+use Rattle.tn_action.specs.EvalContexts.{evaluation_in, all_in, while_true_in, until_true_in}
+use Rattle.tn_action.specs.Views.{result_seen, context_seen, effect_seen}
+use Rattle.tn_action.specs.declared.actions.ActionResult.{ActionResult}
 use Rattle.tn_action.specs.declared.context.Context.{Context}
 use Rattle.tn_action.specs.declared.effect.Effect.{Effect}
-use Rattle.tn_action.specs.declared.scene.Scene.{Scene}
+use Rattle.tn_action.specs.declared.eval_context.EvalContext.{EvalContext}
 
 -- ---- actions
 
 -- the value and the effects of the action on these values, in every dialect and context
-abbrev pub IsDone : {A : Type 0} → ex.Action → List (Value A) → Option (Acted A) → Type 0
-IsDone a args r = (d : ex.Dialect) → (c : ex.Context) → option_map acted r ≡ ex.action_done d a (map value_seen args) c
+abbrev pub IsActionDone : {A : Type 0} → ex.Action → List (Value A) → Option (ActionResult A) → Type 0
+IsActionDone a args r = (d : ex.Dialect) → (c : ex.Context) → option_map result_seen r ≡ ex.action_done d a (map value_seen args) c
 
--- the context whose flags are those behind these effects
-abbrev pub context_behind : {A : Type 0} → Context A → List (Effect A) → ex.Context
-context_behind c es = ex.context_after (context_seen c) (map effect_seen es)
+-- the context whose flags are those after these effects
+abbrev pub context_at : {A : Type 0} → Context A → List (Effect A) → ex.Context
+context_at c es = ex.context_after (context_seen c) (map effect_seen es)
 
 -- one effect, where there is one
 abbrev pub change_seen : {A : Type 0} → Option (Effect A) → Option (List ex.Effect)
@@ -50,8 +50,8 @@ abbrev pub flags_changed : Bool → ℕ → Flags → ex.Effect
 flags_changed on n f = ex.changes n (if on then no_flags else f) (if on then f else no_flags)
 
 -- `trace` on the process of a value, with two lists of flags
-abbrev pub trace_on : {A : Type 0} → ex.Context → (process off on : Value A) → Option (Tree × List ex.Effect)
-trace_on c process off on = ex.trace_on c (value_seen process) (value_seen off) (value_seen on)
+abbrev pub trace_of : {A : Type 0} → ex.Context → (process off on : Value A) → Option (Tree × List ex.Effect)
+trace_of c process off on = ex.trace_on c (value_seen process) (value_seen off) (value_seen on)
 
 -- it changes these flags, and tells whether they change
 abbrev pub flags_traced : ex.Context → ℕ → (off on : Flags) → Tree × List ex.Effect
@@ -68,59 +68,59 @@ abbrev pub tuple_seen : {A : Type 0} → Option (SmallVec (Value A)) → Option 
 tuple_seen vs = option_map (λ ts. tuple (of_elements ts)) (several_seen vs)
 
 -- the list of them
-abbrev pub list_seen : {A : Type 0} → Option (SmallVec (Value A)) → Option Tree
-list_seen vs = option_map (λ ts. list (of_elements ts)) (several_seen vs)
+abbrev pub value_list_seen : {A : Type 0} → Option (SmallVec (Value A)) → Option Tree
+value_list_seen vs = option_map (λ ts. list (of_elements ts)) (several_seen vs)
 
 -- what the effects so far ask of the session
-abbrev pub asked : {A : Type 0} → Vec (Effect A) A → List ex.Effect
-asked es = map effect_seen es.items
+abbrev pub effect_list_seen : {A : Type 0} → Vec (Effect A) A → List ex.Effect
+effect_list_seen es = map effect_seen es.items
 
--- the effects are these behind the old ones
-abbrev pub AreBehind : {A : Type 0} → List ex.Effect → Vec (Effect A) A → Vec (Effect A) A → Type 0
-AreBehind es old new = asked new ≡ asked old ++ es
+-- the effects are these after the old ones
+abbrev pub AreAfter : {A : Type 0} → List ex.Effect → Vec (Effect A) A → Vec (Effect A) A → Type 0
+AreAfter es old new = effect_list_seen new ≡ effect_list_seen old ++ es
 
 -- a value or a fault, with the effects so far
-abbrev pub answer : {A : Type 0} → Option (Value A) → Vec (Effect A) A → ex.Evaluation Tree
-answer v es = ex.or_fault (option_map value_seen v) (asked es)
+abbrev pub evaluation_seen : {A : Type 0} → Option (Value A) → Vec (Effect A) A → ex.Evaluation Tree
+evaluation_seen v es = ex.or_fault (option_map value_seen v) (effect_list_seen es)
 
 -- several values or a fault
-abbrev pub answers : {A : Type 0} → Option (SmallVec (Value A)) → Vec (Effect A) A → ex.Evaluation (List Tree)
-answers vs es = ex.or_fault (several_seen vs) (asked es)
+abbrev pub evaluations_seen : {A : Type 0} → Option (SmallVec (Value A)) → Vec (Effect A) A → ex.Evaluation (List Tree)
+evaluations_seen vs es = ex.or_fault (several_seen vs) (effect_list_seen es)
 
-module _ {A : Type 0} {G : Ghosts A} (s : Scene A G) where
-  -- what an expression comes to behind the effects so far; a tuple of expressions, a list of them, and a function or an action on them
+module _ {A : Type 0} {G : Ghosts A} (s : EvalContext A G) where
+  -- what an expression comes to after the effects so far; a tuple of expressions, a list of them, and a function or an action on them
   abbrev pub evaluation_of : Expr A → Vec (Effect A) A → ex.Evaluation Tree
-  evaluation_of e x = evaluation_in s (expr_seen e) (asked x)
+  evaluation_of e x = evaluation_in s (expr_seen e) (effect_list_seen x)
 
   abbrev pub evaluation_of_tuple : Vec (Expr A) A → Vec (Effect A) A → ex.Evaluation Tree
-  evaluation_of_tuple es x = evaluation_in s (ex.tuple_of (exprs_seen es.items)) (asked x)
+  evaluation_of_tuple es x = evaluation_in s (ex.tuple_of (exprs_seen es.items)) (effect_list_seen x)
 
   abbrev pub evaluation_of_list : Vec (Expr A) A → Vec (Effect A) A → ex.Evaluation Tree
-  evaluation_of_list es x = evaluation_in s (ex.list_of (exprs_seen es.items)) (asked x)
+  evaluation_of_list es x = evaluation_in s (ex.list_of (exprs_seen es.items)) (effect_list_seen x)
 
-  abbrev pub evaluation_of_call : Func → Vec (Expr A) A → Vec (Effect A) A → ex.Evaluation Tree
-  evaluation_of_call f es x = evaluation_in s (ex.call (func_of f) (exprs_seen es.items)) (asked x)
+  abbrev pub call_value : Func → Vec (Expr A) A → Vec (Effect A) A → ex.Evaluation Tree
+  call_value f es x = evaluation_in s (ex.call (func_of f) (exprs_seen es.items)) (effect_list_seen x)
 
-  abbrev pub evaluation_of_action : Action → Vec (Expr A) A → Vec (Effect A) A → ex.Evaluation Tree
-  evaluation_of_action a es x = evaluation_in s (ex.perform (action_of a) (exprs_seen es.items)) (asked x)
+  abbrev pub action_value : Action → Vec (Expr A) A → Vec (Effect A) A → ex.Evaluation Tree
+  action_value a es x = evaluation_in s (ex.perform (action_of a) (exprs_seen es.items)) (effect_list_seen x)
 
   -- several expressions, all of them, and up to the first that isn't true, or that is
-  abbrev pub evaluation_of_all : Vec (Expr A) A → Vec (Effect A) A → ex.Evaluation (List Tree)
-  evaluation_of_all es x = all_in s (exprs_seen es.items) (asked x)
+  abbrev pub list_values : Vec (Expr A) A → Vec (Effect A) A → ex.Evaluation (List Tree)
+  list_values es x = all_in s (exprs_seen es.items) (effect_list_seen x)
 
   abbrev pub evaluation_while_true : Vec (Expr A) A → Vec (Effect A) A → ex.Evaluation Tree
-  evaluation_while_true es x = while_true_in s (exprs_seen es.items) (asked x)
+  evaluation_while_true es x = while_true_in s (exprs_seen es.items) (effect_list_seen x)
 
   abbrev pub evaluation_until_true : Vec (Expr A) A → Vec (Effect A) A → ex.Evaluation Tree
-  evaluation_until_true es x = until_true_in s (exprs_seen es.items) (asked x)
+  evaluation_until_true es x = until_true_in s (exprs_seen es.items) (effect_list_seen x)
 
-  -- an action on these values behind some effects
-  abbrev pub action_done : Action → List (Value A) → List (Effect A) → Option (Tree × List ex.Effect)
-  action_done a vs es = ex.action_done (dialect_of s.dialect) (action_of a) (map value_seen vs) (context_behind s.context.now es)
+  -- an action on these values after some effects
+  abbrev pub action_on_values : Action → List (Value A) → List (Effect A) → Option (Tree × List ex.Effect)
+  action_on_values a vs es = ex.action_done (dialect_of s.dialect) (action_of a) (map value_seen vs) (context_at s.context.now es)
 
   -- what a call of it comes to
-  abbrev pub performed : Action → List (Value A) → Vec (Effect A) A → ex.Evaluation Tree
-  performed a vs es = ex.performed (part_seen s.part) (action_done a vs es.items) (asked es)
+  abbrev pub perform_seen : Action → List (Value A) → Vec (Effect A) A → ex.Evaluation Tree
+  perform_seen a vs es = ex.with_effect (eval_position_seen s.part) (action_on_values a vs es.items) (effect_list_seen es)
 
 -- ---- outcomes
 
@@ -129,8 +129,8 @@ abbrev pub effects_seen : {A : Type 0} → Option (Vec (Effect A) A) → Option 
 effects_seen r = option_map (λ v. map effect_seen v.items) r
 
 -- the outcome of a specification
-abbrev pub outcome_in : {A : Type 0} → Spec A → Context A → definition.Outcome
-outcome_in s c = definition.outcome_of (spec_seen s) (context_seen c)
+abbrev pub spec_outcome : {A : Type 0} → Spec A → Context A → definition.Outcome
+spec_outcome s c = definition.outcome_of (spec_seen s) (context_seen c)
 
 -- it is the outcome of a specification
 abbrev pub IsOutcomeIn : {A : Type 0} → Spec A → Context A → definition.Outcome → Type 0
@@ -139,4 +139,4 @@ IsOutcomeIn s c o = definition.IsOutcome (spec_seen s) (context_seen c) o
 -- what the clause gives where it fires, or what the clauses after it give
 abbrev pub fired_or : {A : Type 0} → Dialect → Clause A → Context A → definition.Outcome → definition.Outcome
 fired_or d k c next =
-    definition.or_next (dialect_of d) (definition.firing (dialect_of d) (clause_seen k) (context_seen c)) (context_seen c) (exprs_seen k.body.items) next
+    definition.or_next (dialect_of d) (definition.firing_bindings (dialect_of d) (clause_seen k) (context_seen c)) (context_seen c) (exprs_seen k.body.items) next

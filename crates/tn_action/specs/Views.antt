@@ -12,10 +12,10 @@ use Rattle.tn_action.specs.declared.effect.Effect.{Effect}
 use Rattle.tn_action.specs.declared.effect.Effect.TheVariants.{Message, ReturnTrace, ExceptionTrace, Silent, Change}
 use Rattle.tn_action.specs.declared.effect.Outcome.{Outcome}
 use Rattle.tn_action.specs.declared.effect.Outcome.TheVariants.{NoMatch, Matched}
-use Rattle.tn_action.specs.declared.actions.Acted.{Acted}
+use Rattle.tn_action.specs.declared.actions.ActionResult.{ActionResult}
 
 abbrev pub context_seen : {A : Type 0} → Context A → ex.Context
-context_seen c = record { matched_list = parts_list c.list; me = c.me; caller_mfa = option_map (λ m. mfa_seen m.now) c.caller; alive = alive_of c.alive.now; flags = table_of c.flags.now }
+context_seen c = record { matched_list = parts_list c.list; self_pid = c.self_pid; caller_mfa = option_map (λ m. mfa_seen m.now) c.caller; alive = alive_of c.alive.now; flags = table_of c.flags.now }
 
 abbrev pub effect_seen : {A : Type 0} → Effect A → ex.Effect
 effect_seen (Message t) = ex.gives_message (tree_of t)
@@ -30,8 +30,8 @@ effect_list None = []
 effect_list (Some e) = effect_seen e ∷ []
 
 -- the value of an action, with its effect
-abbrev pub acted : {A : Type 0} → Acted A → Tree × List ex.Effect
-acted a = (value_seen a.value, effect_list a.effect)
+abbrev pub result_seen : {A : Type 0} → ActionResult A → Tree × List ex.Effect
+result_seen a = (value_seen a.value, effect_list a.effect)
 
 abbrev pub outcome_seen : {A : Type 0} → Outcome A → definition.Outcome
 outcome_seen NoMatch = definition.no_match

@@ -1,21 +1,21 @@
 // The actions of bodies ("Match Specifications in Erlang", "Functions Allowed Only for Tracing").
 ghost use Rattle.std.specs.Prelude.{◌≡◌, ◌∷◌, [], IfOk, map};
 ghost use Rattle.std.specs.Option.{option_map};
-ghost use Rattle.def_term.specs.Tree.{Tree};
+ghost use Rattle.def_term.specs.Tree.{Tree, pid_in};
 ghost use Rattle.def_term.specs.Names.{word};
 ghost use Rattle.def_spec.specs.Expressions as ex;
 ghost use Rattle.def_spec.specs.Flags.{flag_named};
 ghost use Rattle.tn_flags.specs.Views.{flags_of};
-ghost use Rattle.tn_guard.specs.Views.{value_seen, pid_in};
+ghost use Rattle.tn_guard.specs.Views.{value_seen};
 ghost use Rattle.tn_spec.specs.Views.{dialect_of};
 ghost use Rattle.tn_term.specs.Views.{alive_of};
-ghost use Rattle.tn_action.specs.Steps.{IsDone, action_done, change_seen, two_seen, flags_changed};
-ghost use Rattle.tn_action.specs.Views.{acted, context_seen, effect_seen, effect_list};
+ghost use Rattle.tn_action.specs.Steps.{IsActionDone, action_on_values, change_seen, two_seen, flags_changed};
+ghost use Rattle.tn_action.specs.Views.{result_seen, context_seen, effect_seen, effect_list};
 
 use crate::context::Context;
 use crate::effect::Effect;
+use crate::eval_context::EvalContext;
 use crate::names::flag_in;
-use crate::scene::Scene;
 use crate::trace::trace_by;
 use std::alloc::{AllocError, Allocator};
 use tn_flags::Flags;
@@ -26,30 +26,30 @@ use tn_term::Alive;
 /// The value of an action, and its effect, where it has one. The value is lent or lies in the arena; the
 /// effect is a copy in the allocator for effects.
 #[derive(Drop)]
-pub struct Acted<'a, A: Allocator> {
+pub struct ActionResult<'a, A: Allocator> {
     pub value: Value<'a, A>,
     pub effect: Option<Effect<A>>,
 }
 
-/// The value of an action on its arguments' values behind these effects, with its own effect; None is a
+/// The value of an action on its arguments' values after these effects, with its own effect; None is a
 /// fault. An error is refused memory.
 pub fn perform<'a, A: Allocator + Copy>(
     action: Action,
     args: &[Value<'a, A>],
-    scene: &Scene<'a, '_, A>,
+    scene: &EvalContext<'a, '_, A>,
     effects: &[Effect<A>],
-) -> Result<Option<Acted<'a, A>>, AllocError>
-    ensures { IfOk result (λ r. option_map acted r ≡ action_done scene.now action args.now effects.now) }
+) -> Result<Option<ActionResult<'a, A>>, AllocError>
+    ensures { IfOk result (λ r. option_map result_seen r ≡ action_on_values scene.now action args.now effects.now) }
 {
     match action {
         Action::Message => Ok(message(args, scene.alloc)?),
-        Action::ReturnTrace => Ok(Some(marking(scene.dialect, Effect::ReturnTrace))),
-        Action::ExceptionTrace => Ok(Some(marking(scene.dialect, Effect::ExceptionTrace))),
+        Action::ReturnTrace => Ok(Some(mark_result(scene.dialect, Effect::ReturnTrace))),
+        Action::ExceptionTrace => Ok(Some(mark_result(scene.dialect, Effect::ExceptionTrace))),
         Action::Silent => Ok(silent(args)),
-        Action::EnableTrace => Ok(changing(change(true, args, scene.context))),
-        Action::DisableTrace => Ok(changing(change(false, args, scene.context))),
+        Action::EnableTrace => Ok(change_result(change(true, args, scene.context))),
+        Action::DisableTrace => Ok(change_result(change(false, args, scene.context))),
         Action::Trace => Ok(trace_by(scene.context, effects, args)),
-        Action::Caller => Ok(Some(Acted {
+        Action::Caller => Ok(Some(ActionResult {
             value: scene.caller()?,
             effect: None,
         })),
@@ -57,10 +57,10 @@ pub fn perform<'a, A: Allocator + Copy>(
 }
 
 /// `true`, with this effect.
-fn done<'a, A: Allocator>(effect: Option<Effect<A>>) -> Acted<'a, A>
-    ensures { acted result ≡ (word "true", effect_list effect) }
+fn effect_result<'a, A: Allocator>(effect: Option<Effect<A>>) -> ActionResult<'a, A>
+    ensures { result_seen result ≡ (word "true", effect_list effect) }
 {
-    Acted {
+    ActionResult {
         value: Value::truth(true),
         effect,
     }
@@ -70,32 +70,32 @@ fn done<'a, A: Allocator>(effect: Option<Effect<A>>) -> Acted<'a, A>
 fn message<'a, A: Allocator + Copy>(
     args: &[Value<'a, A>],
     alloc: A,
-) -> Result<Option<Acted<'a, A>>, AllocError>
-    ensures { IfOk result (λ r. IsDone ex.message args.now r) }
+) -> Result<Option<ActionResult<'a, A>>, AllocError>
+    ensures { IfOk result (λ r. IsActionDone ex.message args.now r) }
 {
     if args.len() != 1 {
         return Ok(None);
     }
     let term = args[0].copy_into(alloc)?;
-    Ok(Some(done(Some(Effect::Message(term)))))
+    Ok(Some(effect_result(Some(Effect::Message(term)))))
 }
 
 /// `return_trace` and `exception_trace`, which have their effect in the dialect of calls alone.
-fn marking<'a, A: Allocator>(dialect: Dialect, effect: Effect<A>) -> Acted<'a, A>
-    ensures { acted result ≡ (word "true", ex.of_calls (dialect_of dialect) (effect_seen effect)) }
+fn mark_result<'a, A: Allocator>(dialect: Dialect, effect: Effect<A>) -> ActionResult<'a, A>
+    ensures { result_seen result ≡ (word "true", ex.of_calls (dialect_of dialect) (effect_seen effect)) }
 {
     match dialect {
-        Dialect::Call => done(Some(effect)),
-        Dialect::Send | Dialect::Recv => done(None),
+        Dialect::Call => effect_result(Some(effect)),
+        Dialect::Send | Dialect::Recv => effect_result(None),
     }
 }
 
 /// `silent`
-fn silent<'a, A: Allocator>(args: &[Value<'a, A>]) -> Option<Acted<'a, A>>
-    ensures { IsDone ex.silent args.now result }
+fn silent<'a, A: Allocator>(args: &[Value<'a, A>]) -> Option<ActionResult<'a, A>>
+    ensures { IsActionDone ex.silent args.now result }
 {
     if args.len() == 1 {
-        Some(done(silence(args[0])))
+        Some(effect_result(silence(args[0])))
     } else {
         None
     }
@@ -115,11 +115,11 @@ fn silence<'a, A: Allocator>(value: Value<'a, A>) -> Option<Effect<A>>
 }
 
 /// `true`, with this change; None where there is none.
-fn changing<'a, A: Allocator>(change: Option<Effect<A>>) -> Option<Acted<'a, A>>
-    ensures { option_map acted result ≡ option_map (λ e. (word "true", effect_seen e ∷ [])) change }
+fn change_result<'a, A: Allocator>(change: Option<Effect<A>>) -> Option<ActionResult<'a, A>>
+    ensures { option_map result_seen result ≡ option_map (λ e. (word "true", effect_seen e ∷ [])) change }
 {
     match change {
-        Some(effect) => Some(done(Some(effect))),
+        Some(effect) => Some(effect_result(Some(effect))),
         None => None,
     }
 }
@@ -149,7 +149,7 @@ fn change_own<A: Allocator>(
 ) -> Option<Effect<A>>
     ensures { change_seen result ≡ ex.change_by on (context_seen context.now) (value_seen flag.entry ∷ []) }
 {
-    change_flag(on, living(Some(context.me), context.alive), flag)
+    change_flag(on, living_pid(Some(context.self_pid), context.alive), flag)
 }
 
 /// The change of a flag of another process.
@@ -161,11 +161,11 @@ fn change_other<A: Allocator>(
 ) -> Option<Effect<A>>
     ensures { change_seen result ≡ ex.change_by on (context_seen context.now) (two_seen process.entry flag.entry) }
 {
-    change_flag(on, living(process.pid(), context.alive), flag)
+    change_flag(on, living_pid(process.pid(), context.alive), flag)
 }
 
 /// The pid, where it is a living process's.
-pub(crate) fn living(pid: Option<u32>, alive: &Alive) -> Option<u32>
+pub(crate) fn living_pid(pid: Option<u32>, alive: &Alive) -> Option<u32>
     ensures { (t : Tree) → pid ≡ pid_in t → result ≡ ex.living_pid (alive_of alive.now) t }
 {
     match pid {

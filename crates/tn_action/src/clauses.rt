@@ -2,13 +2,13 @@
 ghost use Rattle.std.specs.Prelude.{◌≡◌, IfOk, map};
 ghost use Rattle.def_spec.specs.Outcome as definition;
 ghost use Rattle.tn_spec.specs.Views.{exprs_seen};
-ghost use Rattle.tn_action.specs.Scenes.{each_true_in, body_effects_in, taken};
-ghost use Rattle.tn_action.specs.Steps.{outcome_in, IsOutcomeIn, fired_or, effects_seen};
+ghost use Rattle.tn_action.specs.EvalContexts.{each_true_in, body_effects_in, first_outcome};
+ghost use Rattle.tn_action.specs.Steps.{spec_outcome, IsOutcomeIn, fired_or, effects_seen};
 ghost use Rattle.tn_action.specs.Views.{effect_seen, outcome_seen};
 
 use crate::context::Context;
 use crate::effect::{Effect, Outcome};
-use crate::scene::{Part, Scene};
+use crate::eval_context::{EvalContext, Position};
 use crate::values::value;
 use bumpalo::Bump;
 use std::alloc::{AllocError, Allocator};
@@ -24,7 +24,7 @@ pub fn outcome<A: Allocator + Copy>(
     context: &Context<'_, A>,
 ) -> Result<Outcome<A>, AllocError>
     ensures answer { IfOk result (λ o. IsOutcomeIn spec.now context.now (outcome_seen o)) }
-    ensures computed { IfOk result (λ o. outcome_seen o ≡ outcome_in spec.now context.now) }
+    ensures computed { IfOk result (λ o. outcome_seen o ≡ spec_outcome spec.now context.now) }
 {
     let arena = Bump::new(alloc);
     Ok(first_fired(alloc, &arena, spec, context)?)
@@ -37,10 +37,10 @@ fn first_fired<'a, A: Allocator + Copy>(
     spec: &'a Spec<A>,
     context: &Context<'a, A>,
 ) -> Result<Outcome<A>, AllocError>
-    ensures { IfOk result (λ o. outcome_seen o ≡ outcome_in spec.now context.now) }
+    ensures { IfOk result (λ o. outcome_seen o ≡ spec_outcome spec.now context.now) }
 {
     for clause in &spec.clauses {
-        if let Some(effects) = fired(alloc, arena, spec.dialect, clause, context)? {
+        if let Some(effects) = clause_effects(alloc, arena, spec.dialect, clause, context)? {
             return Ok(Outcome::Matched(effects));
         }
     }
@@ -48,7 +48,7 @@ fn first_fired<'a, A: Allocator + Copy>(
 }
 
 /// The effects of the clause's body, where the clause fires.
-fn fired<'a, A: Allocator + Copy>(
+fn clause_effects<'a, A: Allocator + Copy>(
     alloc: A,
     arena: &'a Bump<A>,
     dialect: Dialect,
@@ -56,16 +56,16 @@ fn fired<'a, A: Allocator + Copy>(
     context: &Context<'a, A>,
 ) -> Result<Option<Vec<Effect<A>, A>>, AllocError>
     ensures { IfOk result (λ r. (next : definition.Outcome) →
-        fired_or dialect clause.now context.now next ≡ taken (effects_seen r) next) }
+        fired_or dialect clause.now context.now next ≡ first_outcome (effects_seen r) next) }
 {
     let Some(bindings) = bind(arena, &clause.head, context.list)? else {
         return Ok(None);
     };
-    let scene = Scene {
+    let scene = EvalContext {
         alloc,
         arena,
         dialect,
-        part: Part::Condition,
+        part: Position::Condition,
         bindings: &bindings,
         context,
     };
@@ -79,12 +79,12 @@ fn fired<'a, A: Allocator + Copy>(
 /// Whether each condition is `true`.
 fn each_true<'a, A: Allocator + Copy>(
     conditions: &'a Vec<Expr<A>, A>,
-    scene: &Scene<'a, '_, A>,
+    scene: &EvalContext<'a, '_, A>,
 ) -> Result<bool, AllocError>
     ensures { IfOk result (λ holds. holds ≡ each_true_in scene.now (exprs_seen conditions.now.items)) }
 {
-    let in_condition = Scene {
-        part: Part::Condition,
+    let in_condition = EvalContext {
+        part: Position::Condition,
         ..*scene
     };
     let mut effects = Vec::new(scene.alloc);
@@ -104,12 +104,12 @@ fn each_true<'a, A: Allocator + Copy>(
 /// The effects of a body, up to a fault. An error is refused memory.
 pub fn body_effects<'a, A: Allocator + Copy>(
     body: &'a Vec<Expr<A>, A>,
-    scene: &Scene<'a, '_, A>,
+    scene: &EvalContext<'a, '_, A>,
 ) -> Result<Vec<Effect<A>, A>, AllocError>
     ensures { IfOk result (λ v. map effect_seen v.items ≡ body_effects_in scene.now (exprs_seen body.now.items)) }
 {
-    let in_body = Scene {
-        part: Part::Body,
+    let in_body = EvalContext {
+        part: Position::Body,
         ..*scene
     };
     let mut effects = Vec::new(scene.alloc);

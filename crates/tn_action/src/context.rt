@@ -1,21 +1,21 @@
 // What a specification is evaluated in.
 ghost use Rattle.std.specs.Prelude.{◌≡◌};
 ghost use Rattle.tn_flags.specs.Views.{table_of};
-ghost use Rattle.tn_action.specs.Steps.{context_behind};
+ghost use Rattle.tn_action.specs.Steps.{context_at};
 
 use crate::effect::Effect;
 use std::alloc::Allocator;
 use tn_flags::FlagTable;
-use tn_guard::Parts;
+use tn_guard::ListView;
 use tn_term::{Alive, Mfa};
 
 /// What a specification is evaluated in.
 #[derive_where(Clone, Copy)]
 pub struct Context<'a, A: Allocator> {
     /// The elements of the list that is matched.
-    pub list: Parts<'a, A>,
+    pub list: ListView<'a, A>,
     /// The pid of the process whose event it is.
-    pub me: u32,
+    pub self_pid: u32,
     /// The function of the frame beneath; None for an entry call.
     pub caller: Option<&'a Mfa<A>>,
     /// Which processes live.
@@ -25,13 +25,13 @@ pub struct Context<'a, A: Allocator> {
 }
 
 impl<'a, A: Allocator> Context<'a, A> {
-    /// The flags of all processes behind these effects.
-    pub(crate) fn flags_behind(&self, effects: &[Effect<A>]) -> FlagTable
-        ensures { table_of result ≡ (context_behind self.now effects.now).flags }
+    /// The flags of all processes after these effects.
+    pub(crate) fn flags_after(&self, effects: &[Effect<A>]) -> FlagTable
+        ensures { table_of result ≡ (context_at self.now effects.now).flags }
     {
         let mut flags = *self.flags;
         for effect in effects {
-            effect.apply_to(&mut flags, self.me);
+            effect.apply_to(&mut flags, self.self_pid);
         }
         flags
     }

@@ -1,6 +1,6 @@
 // What a specification gives.
 ghost use Rattle.std.specs.Prelude.{◌≡◌};
-ghost use Rattle.def_spec.specs.Expressions.{flags_behind};
+ghost use Rattle.def_spec.specs.Expressions.{flags_by};
 ghost use Rattle.tn_flags.specs.Views.{table_of};
 ghost use Rattle.tn_action.specs.Views.{effect_seen};
 
@@ -26,12 +26,12 @@ pub enum Effect<A: Allocator> {
 
 impl<A: Allocator> Effect<A> {
     /// Changes the flags as the effect asks, in an event of the process `me`.
-    pub fn apply_to(&self, flags: &mut FlagTable, me: u32)
-        ensures { table_of flags.new ≡ flags_behind me (table_of flags.old) (effect_seen self.now) }
+    pub fn apply_to(&self, flags: &mut FlagTable, self_pid: u32)
+        ensures { table_of flags.new ≡ flags_by self_pid (table_of flags.old) (effect_seen self.now) }
     {
         match self {
             Effect::Message(_) | Effect::ReturnTrace | Effect::ExceptionTrace => {}
-            Effect::Silent(on) => flags.silence(me, *on),
+            Effect::Silent(on) => flags.silence(self_pid, *on),
             Effect::Change { pid, off, on } => flags.change(*pid, *off, *on),
         }
     }

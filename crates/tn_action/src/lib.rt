@@ -1,8 +1,8 @@
 //! The outcome of a match specification: which clause fires, and what its body asks for.
 //!
-//! Stands on tn_spec, tn_head, tn_guard and tn_flags, and on the definitions of def_spec. Promises that
+//! Depends on tn_spec, tn_head, tn_guard and tn_flags, and on the definitions of def_spec. Promises that
 //! `outcome` answers the one outcome of *Outcome*, `perform` the value and the effect of one action, and
-//! `trace_on` those of `trace` on a process; both go by the flags behind the effects so far.
+//! `trace_on` those of `trace` on a process; both go by the flags after the effects so far.
 //! What is evaluated lies in an arena that is given up with the evaluation; a term is copied only where it
 //! leaves in an effect.
 #![tactic(auto)]
@@ -11,15 +11,15 @@ mod actions;
 mod clauses;
 mod context;
 mod effect;
+mod eval_context;
 mod names;
-mod scene;
 mod trace;
 mod values;
 
-pub use actions::{Acted, perform};
+pub use actions::{ActionResult, perform};
 pub use clauses::{body_effects, outcome};
 pub use context::Context;
 pub use effect::{Effect, Outcome};
-pub use scene::{Part, Scene};
+pub use eval_context::{EvalContext, Position};
 pub use trace::trace_on;
 pub use values::value;

@@ -1,13 +1,13 @@
 // The action `trace` ("Match Specifications in Erlang", "Functions Allowed Only for Tracing").
 ghost use Rattle.std.specs.Prelude.{◌≡◌, Some, map};
 ghost use Rattle.std.specs.Option.{option_map};
-ghost use Rattle.def_spec.specs.Expressions as ex;
+ghost use Rattle.def_spec.specs.Expressions.{trace_by};
 ghost use Rattle.tn_flags.specs.Views.{flags_of};
 ghost use Rattle.tn_guard.specs.Views.{value_seen};
-ghost use Rattle.tn_action.specs.Steps.{context_behind, two_seen, trace_on, flags_traced};
-ghost use Rattle.tn_action.specs.Views.{acted};
+ghost use Rattle.tn_action.specs.Steps.{context_at, two_seen, trace_of, flags_traced};
+ghost use Rattle.tn_action.specs.Views.{result_seen};
 
-use crate::actions::{Acted, living};
+use crate::actions::{ActionResult, living_pid};
 use crate::context::Context;
 use crate::effect::Effect;
 use crate::names::flags_in;
@@ -15,19 +15,19 @@ use std::alloc::Allocator;
 use tn_flags::Flags;
 use tn_guard::Value;
 
-/// `trace` behind these effects: on the own process with two lists of flags, or on the process that comes
+/// `trace` after these effects: on the own process with two lists of flags, or on the process that comes
 /// before them.
 pub(crate) fn trace_by<'a, 'b, A: Allocator>(
     context: &Context<'_, A>,
-    effects: &[Effect<A>],
+    past: &[Effect<A>],
     args: &[Value<'b, A>],
-) -> Option<Acted<'a, A>>
-    ensures { option_map acted result ≡ ex.trace_by (context_behind context.now effects.now) (map value_seen args.now) }
+) -> Option<ActionResult<'a, A>>
+    ensures { option_map result_seen result ≡ trace_by (context_at context.now past.now) (map value_seen args.now) }
 {
     if args.len() == 2 {
-        trace_own(context, effects, args[0], args[1])
+        trace_own(context, past, args[0], args[1])
     } else if args.len() == 3 {
-        trace_on(context, effects, args[0], args[1], args[2])
+        trace_on(context, past, args[0], args[1], args[2])
     } else {
         None
     }
@@ -36,29 +36,29 @@ pub(crate) fn trace_by<'a, 'b, A: Allocator>(
 /// `trace` on the own process.
 fn trace_own<'a, 'b, A: Allocator>(
     context: &Context<'_, A>,
-    effects: &[Effect<A>],
+    past: &[Effect<A>],
     off: Value<'b, A>,
     on: Value<'b, A>,
-) -> Option<Acted<'a, A>>
-    ensures { option_map acted result ≡ ex.trace_by (context_behind context.now effects.now) (two_seen off.entry on.entry) }
+) -> Option<ActionResult<'a, A>>
+    ensures { option_map result_seen result ≡ trace_by (context_at context.now past.now) (two_seen off.entry on.entry) }
 {
-    let own: Value<'b, A> = Value::Pid(context.me);
-    trace_on(context, effects, own, off, on)
+    let own: Value<'b, A> = Value::Pid(context.self_pid);
+    trace_on(context, past, own, off, on)
 }
 
-/// `trace` on a process behind these effects: clears the flags of one list and sets those of the other. Its
+/// `trace` on a process after these effects: clears the flags of one list and sets those of the other. Its
 /// value is whether that changes the flags of the process. None, a fault, where no such process lives, or where
 /// a value is no list of flags.
 pub fn trace_on<'a, 'b, A: Allocator>(
     context: &Context<'_, A>,
-    effects: &[Effect<A>],
-    process: Value<'b, A>,
+    past: &[Effect<A>],
+    who: Value<'b, A>,
     off: Value<'b, A>,
     on: Value<'b, A>,
-) -> Option<Acted<'a, A>>
-    ensures { option_map acted result ≡ trace_on (context_behind context.now effects.now) process.entry off.entry on.entry }
+) -> Option<ActionResult<'a, A>>
+    ensures { option_map result_seen result ≡ trace_of (context_at context.now past.now) who.entry off.entry on.entry }
 {
-    let Some(pid) = living(process.pid(), context.alive) else {
+    let Some(pid) = living_pid(who.pid(), context.alive) else {
         return None;
     };
     let Some(off) = flags_in(off) else {
@@ -67,22 +67,22 @@ pub fn trace_on<'a, 'b, A: Allocator>(
     let Some(on) = flags_in(on) else {
         return None;
     };
-    Some(flag_change(context, effects, pid, off, on))
+    Some(flag_change(context, past, pid, off, on))
 }
 
-/// Flags of a process cleared and set behind these effects; the value is whether its flags change.
+/// Flags of a process cleared and set after these effects; the value is whether its flags change.
 fn flag_change<'a, A: Allocator>(
     context: &Context<'_, A>,
-    effects: &[Effect<A>],
+    past: &[Effect<A>],
     pid: u32,
     off: Flags,
     on: Flags,
-) -> Acted<'a, A>
-    ensures { acted result ≡ flags_traced (context_behind context.now effects.now) pid (flags_of off) (flags_of on) }
+) -> ActionResult<'a, A>
+    ensures { result_seen result ≡ flags_traced (context_at context.now past.now) pid (flags_of off) (flags_of on) }
 {
-    let flags = context.flags_behind(effects).of(pid);
+    let flags = context.flags_after(past).of(pid);
     let change = !flags.same(flags.without(off).join(on));
-    Acted {
+    ActionResult {
         value: Value::truth(change),
         effect: Some(Effect::Change { pid, off, on }),
     }

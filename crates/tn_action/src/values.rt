@@ -2,33 +2,34 @@
 ghost use Rattle.std.specs.Prelude.{◌≡◌, IfOk};
 ghost use Rattle.std.specs.Option.{option_map};
 ghost use Rattle.tn_guard.specs.Views.{value_seen};
-ghost use Rattle.tn_action.specs.Steps.{answer, answers, tuple_seen, list_seen, performed, AreBehind};
+ghost use Rattle.tn_action.specs.Steps.{evaluation_seen, evaluations_seen, tuple_seen};
+ghost use Rattle.tn_action.specs.Steps.{value_list_seen, perform_seen, AreAfter};
 ghost use Rattle.tn_action.specs.Steps.{evaluation_of, evaluation_of_tuple, evaluation_of_list};
-ghost use Rattle.tn_action.specs.Steps.{evaluation_of_call, evaluation_of_action};
-ghost use Rattle.tn_action.specs.Steps.{evaluation_of_all, evaluation_while_true, evaluation_until_true};
+ghost use Rattle.tn_action.specs.Steps.{call_value, action_value};
+ghost use Rattle.tn_action.specs.Steps.{list_values, evaluation_while_true, evaluation_until_true};
 ghost use Rattle.tn_action.specs.Views.{effect_list};
 
 use crate::actions::perform;
 use crate::effect::Effect;
-use crate::scene::{Part, Scene};
+use crate::eval_context::{EvalContext, Position};
 use bumpalo::Bump;
 use smallvec::SmallVec;
 use std::alloc::{AllocError, Allocator};
-use tn_guard::{Value, Word, apply};
+use tn_guard::{AtomConst, Value, apply};
 use tn_spec::{Action, Expr, Func};
 
 /// Values of the arguments of a call, or of elements: a few of them lie in the value itself, more in an
 /// arena.
 type SomeValues<'a, A> = SmallVec<Value<'a, A>, 4, &'a Bump<A>>;
 
-/// The value of an expression behind the effects so far, with its own put behind them; None is a fault.
+/// The value of an expression after the effects so far, with its own put after them; None is a fault.
 #[cycle(value)]
 pub fn value<'a, A: Allocator + Copy>(
     expr: &'a Expr<A>,
-    scene: &Scene<'a, '_, A>,
+    scene: &EvalContext<'a, '_, A>,
     effects: &mut Vec<Effect<A>, A>,
 ) -> Result<Option<Value<'a, A>>, AllocError>
-    ensures { IfOk result (λ v. answer v effects.new ≡ evaluation_of scene.now expr.now effects.old) }
+    ensures { IfOk result (λ v. evaluation_seen v effects.new ≡ evaluation_of scene.now expr.now effects.old) }
 {
     match expr {
         Expr::Variable(number) => Ok(scene.bindings.get(*number)),
@@ -48,10 +49,10 @@ pub fn value<'a, A: Allocator + Copy>(
 #[cycle(value)]
 fn tuple_value<'a, A: Allocator + Copy>(
     exprs: &'a Vec<Expr<A>, A>,
-    scene: &Scene<'a, '_, A>,
+    scene: &EvalContext<'a, '_, A>,
     effects: &mut Vec<Effect<A>, A>,
 ) -> Result<Option<Value<'a, A>>, AllocError>
-    ensures { IfOk result (λ v. answer v effects.new ≡ evaluation_of_tuple scene.now exprs.now effects.old) }
+    ensures { IfOk result (λ v. evaluation_seen v effects.new ≡ evaluation_of_tuple scene.now exprs.now effects.old) }
 {
     let parts = values(exprs, scene, effects)?;
     tuple_of(parts, scene.arena)
@@ -61,10 +62,10 @@ fn tuple_value<'a, A: Allocator + Copy>(
 #[cycle(value)]
 fn list_value<'a, A: Allocator + Copy>(
     exprs: &'a Vec<Expr<A>, A>,
-    scene: &Scene<'a, '_, A>,
+    scene: &EvalContext<'a, '_, A>,
     effects: &mut Vec<Effect<A>, A>,
 ) -> Result<Option<Value<'a, A>>, AllocError>
-    ensures { IfOk result (λ v. answer v effects.new ≡ evaluation_of_list scene.now exprs.now effects.old) }
+    ensures { IfOk result (λ v. evaluation_seen v effects.new ≡ evaluation_of_list scene.now exprs.now effects.old) }
 {
     let parts = values(exprs, scene, effects)?;
     list_of(parts, scene.arena)
@@ -75,41 +76,41 @@ fn list_value<'a, A: Allocator + Copy>(
 fn call_value<'a, A: Allocator + Copy>(
     func: Func,
     exprs: &'a Vec<Expr<A>, A>,
-    scene: &Scene<'a, '_, A>,
+    scene: &EvalContext<'a, '_, A>,
     effects: &mut Vec<Effect<A>, A>,
 ) -> Result<Option<Value<'a, A>>, AllocError>
-    ensures { IfOk result (λ v. answer v effects.new ≡ evaluation_of_call scene.now func exprs.now effects.old) }
+    ensures { IfOk result (λ v. evaluation_seen v effects.new ≡ call_value scene.now func exprs.now effects.old) }
 {
     let Some(args) = values(exprs, scene, effects)? else {
         return Ok(None);
     };
-    Ok(scene.settled(apply(func, args.as_slice(), scene.context.me)))
+    Ok(scene.settle(apply(func, args.as_slice(), scene.context.self_pid)))
 }
 
-/// The value of an action on the values of the expressions; its effect goes behind theirs.
+/// The value of an action on the values of the expressions; its effect goes after theirs.
 #[cycle(value)]
 fn action_value<'a, A: Allocator + Copy>(
     action: Action,
     exprs: &'a Vec<Expr<A>, A>,
-    scene: &Scene<'a, '_, A>,
+    scene: &EvalContext<'a, '_, A>,
     effects: &mut Vec<Effect<A>, A>,
 ) -> Result<Option<Value<'a, A>>, AllocError>
-    ensures { IfOk result (λ v. answer v effects.new ≡ evaluation_of_action scene.now action exprs.now effects.old) }
+    ensures { IfOk result (λ v. evaluation_seen v effects.new ≡ action_value scene.now action exprs.now effects.old) }
 {
     let Some(args) = values(exprs, scene, effects)? else {
         return Ok(None);
     };
-    Ok(performed(action, args.as_slice(), scene, effects)?)
+    Ok(perform_at(action, args.as_slice(), scene, effects)?)
 }
 
 /// The values of several expressions, left to right; None at the first fault.
 #[cycle(value)]
 fn values<'a, A: Allocator + Copy>(
     exprs: &'a Vec<Expr<A>, A>,
-    scene: &Scene<'a, '_, A>,
+    scene: &EvalContext<'a, '_, A>,
     effects: &mut Vec<Effect<A>, A>,
 ) -> Result<Option<SomeValues<'a, A>>, AllocError>
-    ensures { IfOk result (λ vs. answers vs effects.new ≡ evaluation_of_all scene.now exprs.now effects.old) }
+    ensures { IfOk result (λ vs. evaluations_seen vs effects.new ≡ list_values scene.now exprs.now effects.old) }
 {
     let mut parts = SmallVec::with_capacity(scene.arena, exprs.len())?;
     for i in 0..exprs.len() {
@@ -125,10 +126,10 @@ fn values<'a, A: Allocator + Copy>(
 #[cycle(value)]
 fn all_in_turn<'a, A: Allocator + Copy>(
     exprs: &'a Vec<Expr<A>, A>,
-    scene: &Scene<'a, '_, A>,
+    scene: &EvalContext<'a, '_, A>,
     effects: &mut Vec<Effect<A>, A>,
 ) -> Result<Option<Value<'a, A>>, AllocError>
-    ensures { IfOk result (λ v. answer v effects.new ≡ evaluation_while_true scene.now exprs.now effects.old) }
+    ensures { IfOk result (λ v. evaluation_seen v effects.new ≡ evaluation_while_true scene.now exprs.now effects.old) }
 {
     for i in 0..exprs.len() {
         match value(&exprs[i], scene, effects)? {
@@ -147,10 +148,10 @@ fn all_in_turn<'a, A: Allocator + Copy>(
 #[cycle(value)]
 fn one_in_turn<'a, A: Allocator + Copy>(
     exprs: &'a Vec<Expr<A>, A>,
-    scene: &Scene<'a, '_, A>,
+    scene: &EvalContext<'a, '_, A>,
     effects: &mut Vec<Effect<A>, A>,
 ) -> Result<Option<Value<'a, A>>, AllocError>
-    ensures { IfOk result (λ v. answer v effects.new ≡ evaluation_until_true scene.now exprs.now effects.old) }
+    ensures { IfOk result (λ v. evaluation_seen v effects.new ≡ evaluation_until_true scene.now exprs.now effects.old) }
 {
     for i in 0..exprs.len() {
         match value(&exprs[i], scene, effects)? {
@@ -183,7 +184,7 @@ fn list_of<'a, A: Allocator + Copy>(
     parts: Option<SomeValues<'a, A>>,
     arena: &'a Bump<A>,
 ) -> Result<Option<Value<'a, A>>, AllocError>
-    ensures { IfOk result (λ v. option_map value_seen v ≡ list_seen parts.entry) }
+    ensures { IfOk result (λ v. option_map value_seen v ≡ value_list_seen parts.entry) }
 {
     match parts {
         Some(parts) => Ok(Some(Value::List(arena.try_alloc_slice_copy(parts.as_slice())?))),
@@ -191,32 +192,32 @@ fn list_of<'a, A: Allocator + Copy>(
     }
 }
 
-/// The value of an action on these values, with its effect put behind the others; in a body a fault is
+/// The value of an action on these values, with its effect put after the others; in a body a fault is
 /// `'EXIT'`. No action stands in a condition, and there it is a fault.
-fn performed<'a, A: Allocator + Copy>(
+fn perform_at<'a, A: Allocator + Copy>(
     action: Action,
     args: &[Value<'a, A>],
-    scene: &Scene<'a, '_, A>,
+    scene: &EvalContext<'a, '_, A>,
     effects: &mut Vec<Effect<A>, A>,
 ) -> Result<Option<Value<'a, A>>, AllocError>
-    ensures { IfOk result (λ v. answer v effects.new ≡ performed scene.now action args.now effects.old) }
+    ensures { IfOk result (λ v. evaluation_seen v effects.new ≡ perform_seen scene.now action args.now effects.old) }
 {
-    let Part::Body = scene.part else {
+    let Position::Body = scene.part else {
         return Ok(None);
     };
     let Some(acted) = perform(action, args, scene, effects.as_slice())? else {
-        return Ok(Some(Value::Word(Word::Exit)));
+        return Ok(Some(Value::AtomConst(AtomConst::Exit)));
     };
     add(acted.effect, effects)?;
     Ok(Some(acted.value))
 }
 
-/// Puts an effect behind the others, where there is one.
+/// Puts an effect after the others, where there is one.
 fn add<A: Allocator>(
     effect: Option<Effect<A>>,
     effects: &mut Vec<Effect<A>, A>,
 ) -> Result<(), AllocError>
-    ensures { IfOk result (λ _. AreBehind (effect_list effect) effects.old effects.new) }
+    ensures { IfOk result (λ _. AreAfter (effect_list effect) effects.old effects.new) }
 {
     match effect {
         Some(effect) => effects.push(effect)?,

@@ -54,5 +54,5 @@ abbrev pub TRIAL : List (List ℕ)
 TRIAL = codes "list" ∷ codes "for" ∷ codes "me" ∷ codes "caller" ∷ codes "specification" ∷ []
 
 -- the commands of the program
-abbrev pub COMMANDS : List (List ℕ)
-COMMANDS = codes "replay" ∷ codes "round" ∷ codes "workers" ∷ codes "explain" ∷ codes "spec" ∷ []
+abbrev pub COMMAND_NAMES : List (List ℕ)
+COMMAND_NAMES = codes "replay" ∷ codes "round" ∷ codes "workers" ∷ codes "explain" ∷ codes "spec" ∷ []

@@ -2,7 +2,7 @@
 ghost use Rattle.std.specs.Prelude.{◌≡◌, codes, true, IfOk, IsOkAnd};
 ghost use Rattle.clap.specs.Built.{AddsArg, AddsSubcommand, subcommand_names};
 ghost use Rattle.tn_cli.specs.Line.{IsOption, IsWord, IsElse, IsFromTo, IsCommand};
-ghost use Rattle.tn_cli.specs.Line.{BY_PICKS, EXPLAIN, ROUND, WORKERS, TRIAL, COMMANDS};
+ghost use Rattle.tn_cli.specs.Line.{BY_PICKS, EXPLAIN, ROUND, WORKERS, TRIAL, COMMAND_NAMES};
 
 use clap::{Arg, ArgAction, Command, value_parser};
 use std::alloc::{AllocError, Global};
@@ -284,7 +284,7 @@ fn with_subcommand<'a>(
 
 /// The command with its subcommands.
 pub fn command<'a>(alloc: Global) -> Result<Command<'a>, AllocError>
-    ensures { IfOk result (λ c. subcommand_names c ≡ COMMANDS) }
+    ensures { IfOk result (λ c. subcommand_names c ≡ COMMAND_NAMES) }
 {
     let command = Command::new(alloc, "tracenode")
         .bin_name("tracenode")?

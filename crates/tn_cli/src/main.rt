@@ -1,6 +1,6 @@
 //! The program `tracenode`: a script from a file or standard input, the output on standard output.
 //!
-//! Stands on tn_command, which promises what is written, and on `clap`, which reads the command line. The
+//! Depends on tn_command, which promises what is written, and on `clap`, which reads the command line. The
 //! status is 0 for a listing or help, 2 for a refused script, text of picks or command line, and 3 for a
 //! fault, with one line on standard error.
 #![tactic(auto)]
@@ -8,28 +8,26 @@
 ghost use Rattle.std.specs.Process.{exit_status};
 ghost use Rattle.tn_command.specs.Status.{IsStatus};
 
-mod asks;
 mod line;
+mod request;
 
-use asks::{Ask, BadNumber, GivenPicks, Trial, ask_of};
 use clap::ArgMatches;
 use clap::error::ErrorKind;
 use line::command;
+use request::{BadNumber, PicksSource, Request, SpecTestArgs, request_of};
 use std::io;
 use std::process::ExitCode;
 use std::rt::{Env, Files};
 use std::sync::Wait;
 use std::thread::Threads;
-use tn_account::Asked;
 use tn_command::{
-    FAULT, Noted, REFUSED, Source, arguments, perform, perform_explain, perform_trial,
-    perform_workers, picks_of, report, tell_fault,
+    FAULT, LastError, REFUSED, Source, arguments, perform, picks_of, report, tell_fault, test_spec,
 };
-use tn_inquiry::Inquiry;
+use tn_explain::{ExplainRequest, Filter};
 use tn_pool::Open;
 use tn_run::{RunFault, Schedule, Workers, write_output};
 use tn_text::Watched;
-use tn_trial::Question;
+use tn_verdict::SpecTestInput;
 
 /// What is done with a script and a text of picks.
 #[derive(Clone, Copy)]
@@ -37,7 +35,7 @@ enum Task<'a> {
     /// The run's output is printed.
     Replay,
     /// The run is explained: the session and the move that are asked for.
-    Explain(Asked<'a>),
+    Explain(Filter<'a>),
 }
 
 /// Does the task with this text of picks.
@@ -50,8 +48,8 @@ fn run_task<R: Input + Files + Print + Eprint + AllocGlobal>(
     ensures { IsStatus (exit_status result) }
 {
     match task {
-        Task::Replay => perform(rt, script, Schedule::Picks(picks)),
-        Task::Explain(asked) => perform_explain(rt, script, &Inquiry { picks, asked }),
+        Task::Replay => perform(rt, script, &Schedule::Picks(picks)),
+        Task::Explain(filter) => perform(rt, script, &ExplainRequest { picks, filter }),
     }
 }
 
@@ -79,13 +77,13 @@ fn run_by_picks<R: Input + Files + Print + Eprint + AllocGlobal>(
     rt: &R,
     task: Task<'_>,
     script: Source<'_>,
-    picks: GivenPicks<'_>,
+    picks: PicksSource<'_>,
 ) -> ExitCode
     ensures { IsStatus (exit_status result) }
 {
     match picks {
-        GivenPicks::In(source) => run_from(rt, task, script, source),
-        GivenPicks::Text(text) => run_task(rt, task, script, text.as_bytes()),
+        PicksSource::In(source) => run_from(rt, task, script, source),
+        PicksSource::Text(text) => run_task(rt, task, script, text.as_bytes()),
     }
 }
 
@@ -103,25 +101,32 @@ fn run_workers<R: Input + Files + Print + Eprint + AllocGlobal + Threads + Wait 
         turns,
         gate: &Open,
     };
-    perform_workers(rt, script, &workers)
+    tn_command::run_workers(rt, script, &workers)
 }
 
 /// Makes a trial of a specification.
-fn try_spec<R: Print + Eprint + AllocGlobal>(rt: &R, trial: &Trial<'_>, spec: &[u8]) -> ExitCode
+fn try_spec<R: Print + Eprint + AllocGlobal>(
+    rt: &R,
+    trial: &SpecTestArgs<'_>,
+    spec: &[u8],
+) -> ExitCode
     ensures { IsStatus (exit_status result) }
 {
-    let question = Question {
+    let question = SpecTestInput {
         dialect: trial.dialect,
         list: trial.list.as_bytes(),
-        me: trial.me,
+        self_pid: trial.self_pid,
         caller: trial.caller.map(|text| text.as_bytes()),
         spec,
     };
-    perform_trial(rt, &question)
+    test_spec(rt, &question)
 }
 
 /// Makes a trial, of standard input where no specification is given or `-` is.
-fn run_spec<R: Input + Files + Print + Eprint + AllocGlobal>(rt: &R, trial: &Trial<'_>) -> ExitCode
+fn run_spec<R: Input + Files + Print + Eprint + AllocGlobal>(
+    rt: &R,
+    trial: &SpecTestArgs<'_>,
+) -> ExitCode
     ensures { IsStatus (exit_status result) }
 {
     match trial.specification {
@@ -134,26 +139,26 @@ fn run_spec<R: Input + Files + Print + Eprint + AllocGlobal>(rt: &R, trial: &Tri
 }
 
 /// Does what is asked for.
-fn run_ask<R: Input + Files + Print + Eprint + AllocGlobal + Threads + Wait + Sync>(
+fn run_request<R: Input + Files + Print + Eprint + AllocGlobal + Threads + Wait + Sync>(
     rt: &R,
-    ask: Ask<'_>,
+    ask: Request<'_>,
 ) -> ExitCode
     ensures { IsStatus (exit_status result) }
 {
     match ask {
-        Ask::Replay { script, picks } => run_by_picks(rt, Task::Replay, script, picks),
-        Ask::Explain {
+        Request::Replay { script, picks } => run_by_picks(rt, Task::Replay, script, picks),
+        Request::Explain {
             script,
             picks,
-            asked,
-        } => run_by_picks(rt, Task::Explain(asked), script, picks),
-        Ask::Round { script, limit } => perform(rt, script, Schedule::Round(limit)),
-        Ask::Workers {
+            filter,
+        } => run_by_picks(rt, Task::Explain(filter), script, picks),
+        Request::Round { script, limit } => perform(rt, script, &Schedule::Round(limit)),
+        Request::Workers {
             script,
             count,
             turns,
         } => run_workers(rt, script, count, turns),
-        Ask::Spec(trial) => run_spec(rt, &trial),
+        Request::Spec(trial) => run_spec(rt, &trial),
     }
 }
 
@@ -175,8 +180,8 @@ fn run_command<R: Input + Files + Print + Eprint + AllocGlobal + Threads + Wait 
 ) -> ExitCode
     ensures { IsStatus (exit_status result) }
 {
-    match ask_of(matches) {
-        Ok(Some(ask)) => run_ask(rt, ask),
+    match request_of(matches) {
+        Ok(Some(ask)) => run_request(rt, ask),
         Ok(None) => ExitCode::from(REFUSED),
         Err(bad) => refuse_number(rt, bad),
     }
@@ -191,9 +196,9 @@ fn explain<R: Print + Eprint + AllocGlobal>(rt: &R, error: &clap::Error) -> Exit
         return ExitCode::from(REFUSED);
     }
     let Ok(text) = format!(in rt.alloc(); "{error}") else {
-        return report(rt, Err(RunFault::OutOfMemory));
+        return report(rt, RunFault::OutOfMemory);
     };
-    let mut writer = Watched::of(Noted::of(io::writer(rt)));
+    let mut writer = Watched::of(LastError::of(io::writer(rt)));
     match write_output(&mut writer, text.as_bytes()) {
         Ok(()) => ExitCode::SUCCESS,
         Err(fault) => {
@@ -212,12 +217,12 @@ fn program<R: Env + Input + Files + Print + Eprint + AllocGlobal + Threads + Wai
     ensures { IsStatus (exit_status result) }
 {
     let Ok(command) = command(rt.alloc()) else {
-        return report(rt, Err(RunFault::OutOfMemory));
+        return report(rt, RunFault::OutOfMemory);
     };
     match command.try_get_matches_from(words) {
         Ok(matches) => run_command(rt, &matches),
         Err(error) if error.kind() == ErrorKind::OutOfMemory => {
-            report(rt, Err(RunFault::OutOfMemory))
+            report(rt, RunFault::OutOfMemory)
         }
         Err(error) => explain(rt, &error),
     }

@@ -1,2 +1,2 @@
 pub mod Tests
-pub mod Growing
+pub mod Growth

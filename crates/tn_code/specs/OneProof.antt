@@ -3,7 +3,7 @@ use Rattle.std.specs.Prelude.{◌≡◌, ℕ, zero, suc, ◌≤◌, List, [], �
 use Rattle.std.specs.Coded.{×_prop, Unit-prop, le_prop}
 use mathlib.Core.Bool.{Bool-set}
 use Rattle.def_machine.specs.Instructions.{Instruction}
-use Rattle.def_machine.specs.Validity.{Each, Way, ways, leads_to, reads, has_its_number, LeadsForward, IsInPlace, RegisterSet, no_register, adding, Standing, ReadsSet, Valid}
+use Rattle.def_machine.specs.Validity.{Each, Way, ways, leads_to, reads, has_its_number, LeadsForward, IsInPlace, RegisterSet, no_register, with_registers, HasInstruction, ReadsSet, Valid}
 use Rattle.tn_code.specs.Rooms.{SetsUpTo, AllSetUpTo}
 use Rattle.tn_code.specs.Views.{instructions_of}
 use Rattle.tn_code.specs.declared.instr.Instr.{Instr}
@@ -12,7 +12,7 @@ each-prop : {X : Type 0} (P : X → Type 0) → ((x : X) → IsProp (P x)) → (
 each-prop P one [] = Unit-prop
 each-prop P one (x ∷ xs) = ×_prop (one x) (each-prop P one xs)
 
-standing-prop : (P : Instruction → Type 0) → ((i : Instruction) → IsProp (P i)) → (x : Option Instruction) → IsProp (Standing P x)
+standing-prop : (P : Instruction → Type 0) → ((i : Instruction) → IsProp (P i)) → (x : Option Instruction) → IsProp (HasInstruction P x)
 standing-prop P one None = λ x y. absurd x
 standing-prop P one (Some i) = one i
 
@@ -28,9 +28,9 @@ in_place-prop code p j = λ x y i. record {
 reads-prop : (code : List Instruction) (n p : ℕ) (s : RegisterSet) → IsProp (ReadsSet code n p s)
 reads-prop code zero p s = Unit-prop
 reads-prop code (suc n) p s =
-    standing-prop (λ i. Each (λ r. s r ≡ true) (reads i) × Each (λ w. ReadsSet code n (leads_to p w) (adding w.sets s)) (ways i))
+    standing-prop (λ i. Each (λ r. s r ≡ true) (reads i) × Each (λ w. ReadsSet code n (leads_to p w) (with_registers w.sets s)) (ways i))
     (λ i. ×_prop (each-prop (λ r. s r ≡ true) (λ r. Bool-set (s r) true) (reads i))
-    (each-prop (λ w. ReadsSet code n (leads_to p w) (adding w.sets s)) (λ w. reads-prop code n (leads_to p w) (adding w.sets s)) (ways i)))
+    (each-prop (λ w. ReadsSet code n (leads_to p w) (with_registers w.sets s)) (λ w. reads-prop code n (leads_to p w) (with_registers w.sets s)) (ways i)))
     (slice_get code p)
 
 pub valid-prop : (code : List Instruction) → IsProp (Valid code)

@@ -46,7 +46,7 @@ pub enum Instr<A: Allocator> {
         index: usize,
         place: usize,
     },
-    /// The list of the elements behind the first; to `place` where there is none.
+    /// The list of the elements after the first; to `place` where there is none.
     TakeRest {
         to: usize,
         from: usize,
@@ -86,7 +86,7 @@ pub enum Instr<A: Allocator> {
         from: Vec<usize, A>,
         on_fault: OnFault,
     },
-    /// The value of an action, `'EXIT'` where it faults; its effect goes behind the others.
+    /// The value of an action, `'EXIT'` where it faults; its effect goes after the others.
     Perform {
         dialect: Dialect,
         action: Action,
@@ -94,7 +94,7 @@ pub enum Instr<A: Allocator> {
         from: Vec<usize, A>,
     },
     /// Clears flags of a process and sets others, by the terms in three registers; the value is whether its
-    /// flags change. The effect goes behind the others.
+    /// flags change. The effect goes after the others.
     ChangeFlags {
         to: usize,
         process: usize,

@@ -1,12 +1,12 @@
 //! Instructions of compiled specifications, and code that is valid.
 //!
-//! Stands on tn_term, tn_text and tn_spec, and on the definitions of def_machine. Promises that a `Code` is
+//! Depends on tn_term, tn_text and tn_spec, and on the definitions of def_machine. Promises that a `Code` is
 //! valid by its type, that `check` makes a code of exactly the instructions that the test of the definitions
 //! accepts, without memory, that a copy of an instruction is the same instruction, and that `dump` appends
-//! a text behind what is there, or nothing.
+//! a text after what is there, or nothing.
 #![tactic(auto)]
 
-mod checking;
+mod acceptance;
 mod code;
 mod copies;
 mod instr;
@@ -14,7 +14,7 @@ mod names;
 mod text;
 mod ways;
 
-pub use checking::check;
+pub use acceptance::check;
 pub use code::Code;
 pub use instr::{Instr, Kind, OnFault};
 pub use text::dump;

@@ -12,7 +12,7 @@ use tn_term::Term;
 use tn_text::write_term;
 
 /// Appends a line for each instruction: its place from 0, what it does, and its operands. `r4` is register
-/// 4, and behind `else` stands the place where it goes on. After an `Err` the vector is as it was.
+/// 4, and after `else` stands the place where it goes on. After an `Err` the vector is as it was.
 pub fn dump<A: Allocator, B: Allocator>(
     code: &Code<A>,
     out: &mut Vec<u8, B>,

@@ -1,8 +1,8 @@
 // The ways on from an instruction, and what it reads.
 ghost use Rattle.std.specs.Prelude.{◌≡◌, ◌∷◌, []};
 ghost use Rattle.def_machine.specs.Validity.{ways, onward, ways_of_fault};
-ghost use Rattle.def_machine.specs.Checking.{all_of_them, leads_forward, stops_at};
-ghost use Rattle.tn_code.specs.Views.{instruction_of, fault_of};
+ghost use Rattle.def_machine.specs.Acceptance.{all_of_them, leads_forward, stops_at};
+ghost use Rattle.tn_code.specs.Views.{instruction_of, on_fault_seen};
 ghost use Rattle.tn_code.specs.Ways.{ways_seen, next_before, away_list};
 
 use crate::instr::{Instr, OnFault};
@@ -38,7 +38,7 @@ fn onward(to: usize) -> Ways
 
 /// On to the next place, or where a fault leads.
 fn onward_or_away(to: usize, on_fault: OnFault) -> Ways
-    ensures { ways_seen result ≡ onward (to ∷ []) ∷ ways_of_fault (fault_of on_fault) }
+    ensures { ways_seen result ≡ onward (to ∷ []) ∷ ways_of_fault (on_fault_seen on_fault) }
 {
     match on_fault {
         OnFault::Place(place) => Ways {

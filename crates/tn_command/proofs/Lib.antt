@@ -1,3 +1,2 @@
-mod ExplainedLemmas
 mod NumberLemmas
-mod WrittenLemmas
+mod StatusLemmas

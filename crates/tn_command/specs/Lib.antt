@@ -1,7 +1,5 @@
 pub mod Ends
-pub mod Explained
-pub mod Lines
 pub mod Numbers
 pub mod Sources
 pub mod Status
-pub mod Trials
+pub mod SpecTests

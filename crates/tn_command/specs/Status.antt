@@ -1,15 +1,10 @@
--- The exit status of a run (own).
-use Rattle.std.specs.Prelude.{◌≡◌, ℕ, ◌⊎◌, true, List, Option, Result, Ok, Err}
+-- The exit status of a job, and what it says was written (own).
+use Rattle.std.specs.Prelude.{◌≡◌, ℕ, ◌⊎◌, true, false, if◌then◌else◌, List, Option, Result, Ok, Err}
 use Rattle.std.specs.Process.{exit_status}
 use Rattle.std.specs.declared.process.ExitCode.{ExitCode}
 use Rattle.tn_text.specs.Watch.{watched_inner, has_failed}
 use Rattle.tn_text.specs.declared.watched.Watched.{Watched}
-use Rattle.tn_run.specs.declared.outcome.Outcome.{Outcome}
-use Rattle.tn_run.specs.declared.outcome.Outcome.TheVariants.{Listed, Refused}
-use Rattle.tn_run.specs.declared.outcome.Refusal.{Refusal}
-use Rattle.tn_run.specs.declared.outcome.Schedule.{Schedule}
-use Rattle.tn_run.specs.Out.{Asked, asked, by_workers}
-use Rattle.tn_run.specs.Plans.{Writes}
+use Rattle.tn_run.specs.Jobs.{JobView, Writes}
 
 abbrev pub LISTED_STATUS : ℕ
 LISTED_STATUS = 0
@@ -20,11 +15,10 @@ REFUSED_STATUS = 2
 abbrev pub FAULT_STATUS : ℕ
 FAULT_STATUS = 3
 
--- 0 for a listing, 2 for a refusal, 3 for a fault of any kind
-abbrev pub status_of : {F : Type 0} → Result Outcome F → ℕ
-status_of (Ok Listed) = LISTED_STATUS
-status_of (Ok (Refused r)) = REFUSED_STATUS
-status_of (Err fault) = FAULT_STATUS
+-- 0 for an outcome that was asked for, 2 for a refusal or what is lacking, 3 for a fault of any kind
+abbrev pub status_of : {O F : Type 0} → JobView O F → Result O F → ℕ
+status_of job (Ok outcome) = if job.succeeds outcome then LISTED_STATUS else REFUSED_STATUS
+status_of job (Err fault) = FAULT_STATUS
 
 -- one of the three
 abbrev pub IsStatus : ℕ → Type 0
@@ -34,27 +28,17 @@ IsStatus n = (n ≡ LISTED_STATUS) ⊎ ((n ≡ REFUSED_STATUS) ⊎ (n ≡ FAULT_
 abbrev pub IsFailure : ℕ → Type 0
 IsFailure n = (n ≡ REFUSED_STATUS) ⊎ (n ≡ FAULT_STATUS)
 
--- with status 0 the output of an accepted script was written, and with 2 the line of a refusal
-pub record IsWrittenAs (n : ℕ) (told : Option (List ℕ)) (a : Asked) (old new : Option (List ℕ)) : Type 0 where
-  pub listed : n ≡ LISTED_STATUS → Writes told a old new Listed
-  pub refused : n ≡ REFUSED_STATUS → (r : Refusal) × Writes told a old new (Refused r)
-
--- the same, by the picks that workers made
-pub record IsWrittenByWorkers (n : ℕ) (told : Option (List ℕ)) (old new : Option (List ℕ)) : Type 0 where
-  pub listed : n ≡ LISTED_STATUS → (made : List ℕ) × Writes told (by_workers made) old new Listed
-  pub refused : n ≡ REFUSED_STATUS → (made : List ℕ) × (r : Refusal) × Writes told (by_workers made) old new (Refused r)
+-- with status 0 the output that was asked for was written, and with 2 that of an outcome that wasn't, as a refusal's line
+pub record IsWrittenAs {O F : Type 0} (job : JobView O F) (n : ℕ) (bytes old new : Option (List ℕ)) : Type 0 where
+  pub listed : n ≡ LISTED_STATUS → (outcome : O) × (job.succeeds outcome ≡ true) × Writes job bytes old new outcome
+  pub refused : n ≡ REFUSED_STATUS → (outcome : O) × (job.succeeds outcome ≡ false) × Writes job bytes old new outcome
 
 -- ---- of a watched reader and writer, each with the function that tells the known bytes of what is watched
 
--- the writer has gained what the exit status says, by the picks of the schedule
-abbrev pub WroteAs : {R W : Type 0} → ExitCode → (R → Option (List ℕ)) → Watched R → Schedule → (W → Option (List ℕ)) → (old new : Watched W) → Type 0
-WroteAs status known reader schedule gained old new =
-    IsWrittenAs (exit_status status) (known (watched_inner reader)) (asked schedule) (gained (watched_inner old)) (gained (watched_inner new))
-
--- the same, by the picks that workers made
-abbrev pub WroteAsByWorkers : {R W : Type 0} → ExitCode → (R → Option (List ℕ)) → Watched R → (W → Option (List ℕ)) → (old new : Watched W) → Type 0
-WroteAsByWorkers status known reader gained old new =
-    IsWrittenByWorkers (exit_status status) (known (watched_inner reader)) (gained (watched_inner old)) (gained (watched_inner new))
+-- the writer has gained what the exit status says
+abbrev pub WroteAs : {R W O F : Type 0} → JobView O F → ExitCode → (R → Option (List ℕ)) → Watched R → (W → Option (List ℕ)) → (old new : Watched W) → Type 0
+WroteAs job status known reader gained old new =
+    IsWrittenAs job (exit_status status) (known (watched_inner reader)) (gained (watched_inner old)) (gained (watched_inner new))
 
 -- with the status of a fault the writer is as it was, or has failed
 abbrev pub OnFaultUntouchedOrFailed : {W : Type 0} → ExitCode → (old new : Watched W) → Type 0

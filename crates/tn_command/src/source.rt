@@ -31,7 +31,7 @@ pub fn source_of<'a>(word: Option<&'a str>) -> Source<'a>
 }
 
 /// The file with this path, which is no folder.
-fn opened<R: Files>(rt: &R, path: &str) -> io::Result<R::File> {
+fn open_file<R: Files>(rt: &R, path: &str) -> io::Result<R::File> {
     let file = fs::open(rt, path)?;
     if file.metadata()?.is_dir() {
         return Err(io::Error::from(ErrorKind::IsADirectory));
@@ -60,7 +60,7 @@ fn is_mistaken(kind: ErrorKind) -> bool {
 pub fn open<R: Files + Eprint>(rt: &R, path: &str) -> Result<R::File, ExitCode>
     ensures { IfErr result (λ status. IsFailure (exit_status status)) }
 {
-    match opened(rt, path) {
+    match open_file(rt, path) {
         Ok(file) => Ok(file),
         Err(error) => {
             let _ = rt.eprintln(format_args!("error: {path}: {error}"));

@@ -1,11 +1,12 @@
 // The exit status.
 ghost use Rattle.std.specs.Prelude.{◌≡◌};
 ghost use Rattle.std.specs.Process.{exit_status};
-ghost use Rattle.tn_command.specs.Status.{status_of};
+ghost use Rattle.tn_command.specs.Status.{FAULT_STATUS, status_of};
 
+use std::alloc::Allocator;
 use std::fmt::Display;
 use std::process::ExitCode;
-use tn_run::Outcome;
+use tn_run::Job;
 
 /// The status of a refusal.
 pub const REFUSED: u8 = 2;
@@ -13,23 +14,38 @@ pub const REFUSED: u8 = 2;
 /// The status of a fault.
 pub const FAULT: u8 = 3;
 
-/// The exit status of a run's answer.
-pub fn status<F>(answer: &Result<Outcome, F>) -> ExitCode
-    ensures { exit_status result ≡ status_of answer.now }
+/// How something ended that a command does.
+#[derive(Drop)]
+pub struct JobEnd<O, F> {
+    /// Its exit status.
+    pub status: ExitCode,
+    /// The answer whose status that is.
+    pub answer: Result<O, F>,
+}
+
+/// The exit status of a job's answer.
+pub fn job_status<A: Allocator + Copy, J: Job<A>>(
+    job: &J,
+    answer: &Result<J::Outcome, J::Fault>,
+) -> ExitCode
+    ensures { exit_status result ≡ status_of (J.view job.now) answer.now }
 {
     match answer {
-        Ok(Outcome::Listed) => ExitCode::SUCCESS,
-        Ok(Outcome::Refused(_)) => ExitCode::from(REFUSED),
+        Ok(outcome) => {
+            if job.succeeds(outcome) {
+                ExitCode::SUCCESS
+            } else {
+                ExitCode::from(REFUSED)
+            }
+        }
         Err(_) => ExitCode::from(FAULT),
     }
 }
 
-/// The exit status of a run, after a fault's line on standard error.
-pub fn report<F: Display + Drop>(rt: &impl Eprint, answer: Result<Outcome, F>) -> ExitCode
-    ensures { exit_status result ≡ status_of answer }
+/// The exit status of a fault, after its line on standard error.
+pub fn report<F: Display + Drop>(rt: &impl Eprint, fault: F) -> ExitCode
+    ensures { exit_status result ≡ FAULT_STATUS }
 {
-    if let Err(fault) = &answer {
-        let _ = rt.eprintln(fault);
-    }
-    status(&answer)
+    let _ = rt.eprintln(&fault);
+    ExitCode::from(FAULT)
 }

@@ -54,6 +54,6 @@ pub fn arguments<R: Env + Eprint + AllocGlobal>(rt: &R) -> Result<Vec<String>, E
 {
     match words(rt, rt.alloc()) {
         Ok(words) => Ok(words),
-        Err(_) => Err(report(rt, Err(RunFault::OutOfMemory))),
+        Err(_) => Err(report(rt, RunFault::OutOfMemory)),
     }
 }

@@ -3,10 +3,10 @@ use Rattle.std.proofs.Common.{◌≡◌, List, [], ◌∷◌, ◌++◌, Option, 
 use Rattle.def_term.specs.Tree.{Tree, Trees, none, more, of_elements}
 use Rattle.def_spec.specs.Matching.{Pattern, Patterns, and_pattern, only_term}
 use Rattle.def_spec.specs.Laws.{trees_before}
-use Rattle.def_machine.specs.Folding.{constant_in, constants_in, term_before, folded, folded_each}
+use Rattle.def_machine.specs.HeadFolds.{constant_in, constants_in, term_before, fold_head, folded_each}
 use Rattle.tn_code.specs.declared.instr.Kind.{Kind}
 use Rattle.tn_code.specs.declared.instr.Kind.TheVariants as kinds
-use Rattle.tn_compile.specs.Folded.{pattern_of, term_of}
+use Rattle.tn_compile.specs.Folds.{shape_pattern, shape_term}
 
 -- ---- whether each is constant
 
@@ -65,10 +65,10 @@ some-of : (x : Option Trees) → is_some x ≡ false → x ≡ None
 some-of None e = refl
 some-of (Some ts) e = absurd (cc)
 
-pub folded-alone : (k : Kind) (ps : Patterns) (ts : Trees) → constants_in ps ≡ Some ts → folded (pattern_of k ps) ≡ only_term (term_of k ts)
+pub folded-alone : (k : Kind) (ps : Patterns) (ts : Trees) → constants_in ps ≡ Some ts → fold_head (shape_pattern k ps) ≡ only_term (shape_term k ts)
 folded-alone kinds.Tuple ps ts e = cc
 folded-alone kinds.List ps ts e = cc
 
-pub folded-parts : (k : Kind) (ps : Patterns) → is_some (constants_in ps) ≡ false → folded (pattern_of k ps) ≡ pattern_of k (folded_each ps)
+pub folded-parts : (k : Kind) (ps : Patterns) → is_some (constants_in ps) ≡ false → fold_head (shape_pattern k ps) ≡ shape_pattern k (folded_each ps)
 folded-parts kinds.Tuple ps e = let is : constants_in ps ≡ None = some-of (constants_in ps) e in cc
 folded-parts kinds.List ps e = let is : constants_in ps ≡ None = some-of (constants_in ps) e in cc

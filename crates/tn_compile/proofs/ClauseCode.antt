@@ -3,7 +3,7 @@ use Rattle.std.proofs.Common.{◌≡◌, ℕ, suc, ◌+◌, List, [], ◌∷◌,
 use Rattle.def_spec.specs.Expressions.{Dialect, in_condition, in_body}
 use Rattle.def_spec.specs.Outcome.{Clause}
 use Rattle.def_machine.specs.Instructions.{Instruction, load_list, end_with_match}
-use Rattle.def_machine.specs.Compiling.{VariableRegisters, registers_taken, variables_after, pattern_code, exprs_code, while_true_code, clause_code}
+use Rattle.def_machine.specs.Compilation.{VariableRegisters, registers_taken, variables_after, pattern_code, exprs_code, while_true_code, clause_code}
 use Rattle.tn_compile.specs.Heads.{pattern_steps, in_front}
 use Rattle.tn_compile.proofs.HeadCode.{pattern-front}
 

@@ -3,7 +3,7 @@ use Rattle.std.proofs.Common.{◌≡◌, ℕ, suc, ◌+◌, ◌-◌, List, [], �
 use Rattle.std.specs.FinMap.{find}
 use Rattle.def_spec.specs.Matching.{Pattern, Patterns, variable, anything, only_term, in_tuple, in_list, no_patterns, and_pattern}
 use Rattle.def_machine.specs.Instructions.{kind_tuple, kind_list, Instruction, take_element, test_kind}
-use Rattle.def_machine.specs.Compiling.{VariableRegisters, jumping, registers_taken, variables_after, variable_code, pattern_code, each_pattern_code}
+use Rattle.def_machine.specs.Compilation.{VariableRegisters, jump_by, registers_taken, variables_after, variable_code, pattern_code, each_pattern_code}
 use Rattle.tn_compile.specs.Heads.{variable_steps, pattern_steps, each_steps, with_jump, in_front}
 
 pub front-append : (f : ℕ) (a b k : List Instruction) → in_front f (a ++ b) k ≡ in_front f a (in_front f b k)
@@ -19,13 +19,13 @@ mutual
   pattern-front (variable n) v r d f k = variable-front (find nat_cmp n v) r f k
   pattern-front anything v r d f k = refl
   pattern-front (only_term t) v r d f k = refl
-  pattern-front (in_tuple ps) v r d f k = ap (jumping (test_kind r kind_tuple) f) (each-front ps v r 0 d f k)
-  pattern-front (in_list ps) v r d f k = ap (jumping (test_kind r kind_list) f) (each-front ps v r 0 d f k)
+  pattern-front (in_tuple ps) v r d f k = ap (jump_by (test_kind r kind_tuple) f) (each-front ps v r 0 d f k)
+  pattern-front (in_list ps) v r d f k = ap (jump_by (test_kind r kind_list) f) (each-front ps v r 0 d f k)
 
   pub each-front : (ps : Patterns) (v : VariableRegisters) (r i d f : ℕ) (k : List Instruction) → in_front f (each_steps ps v r i d) k ≡ each_pattern_code ps v r i d f k
   each-front no_patterns v r i d f k = refl
   each-front (and_pattern p ps) v r i d f k =
-      ap (jumping (take_element d r i) f)
+      ap (jump_by (take_element d r i) f)
       (front-append f (pattern_steps p v d (suc d)) (each_steps ps (variables_after p v d (suc d)) r (suc i) (suc d + registers_taken p)) k
       ∙ ap (in_front f (pattern_steps p v d (suc d))) (each-front ps (variables_after p v d (suc d)) r (suc i) (suc d + registers_taken p) f k)
       ∙ pattern-front p v d (suc d) f (each_pattern_code ps (variables_after p v d (suc d)) r (suc i) (suc d + registers_taken p) f k))

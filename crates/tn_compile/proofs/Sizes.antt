@@ -2,8 +2,8 @@
 use Rattle.std.proofs.Common.{◌≡◌, ℕ, zero, suc, ◌+◌, ◌*◌, ◌<◌, ◌≤◌, ◌^◌, List, [], ◌∷◌, length, map, get_or, Option, Some, None, ap, arith}
 use Rattle.def_term.specs.Tree.{Tree}
 use Rattle.def_spec.specs.Matching.{Pattern, Patterns, variable, anything, only_term, in_tuple, in_list, no_patterns, and_pattern}
-use Rattle.def_machine.specs.Compiling.{registers_taken, registers_taken_each}
-use Rattle.def_machine.specs.Folding.{constant_in, term_or, folded, folded_each}
+use Rattle.def_machine.specs.Compilation.{registers_taken, registers_taken_each}
+use Rattle.def_machine.specs.HeadFolds.{constant_in, term_or, fold_head, folded_each}
 use Rattle.tn_spec.specs.Sizes.{pattern_size, patterns_size, exprs_size, clause_size, clauses_size}
 use Rattle.tn_spec.specs.Views.{clause_seen, exprs_seen, head_seen}
 use Rattle.tn_spec.specs.declared.spec.Clause.{Clause}
@@ -14,7 +14,7 @@ few-or None q n some h = h
 few-or (Some t) q n some h = omega (arith, some)
 
 mutual
-  registers-few : (p : Pattern) → suc (registers_taken (folded p)) ≤ 2 * pattern_size p
+  registers-few : (p : Pattern) → suc (registers_taken (fold_head p)) ≤ 2 * pattern_size p
   registers-few (variable n) = omega arith
   registers-few anything = omega arith
   registers-few (only_term t) = omega arith
@@ -32,7 +32,7 @@ clause-within (x ∷ ks) (suc i) k l is = omega (arith, clause-within ks i k (om
 
 pub clause-room : {A : Type 0} (ks : List (Clause A)) (i : ℕ) (k : Clause A) → i < length ks → k ≡ get_or ks i k → clauses_size (map clause_seen ks) < 2 ^ 32 → HasRoomFor k
 clause-room ks i k l is small =
-    let few : suc (registers_taken (folded (head_seen k.head))) ≤ 2 * pattern_size (head_seen k.head) = registers-few (head_seen k.head) in
+    let few : suc (registers_taken (fold_head (head_seen k.head))) ≤ 2 * pattern_size (head_seen k.head) = registers-few (head_seen k.head) in
     let within : pattern_size (head_seen k.head) + (exprs_size (exprs_seen k.conditions.items) + exprs_size (exprs_seen k.body.items)) ≤ clauses_size (map clause_seen ks) = clause-within ks i k l is in
     record { conditions = omega (arith, few, within, small); body = omega (arith, few, within, small) }
 

@@ -8,17 +8,17 @@ use Rattle.def_spec.specs.Expressions as ex
 use Rattle.def_spec.specs.Expressions.{Exprs, no_exprs, and_expr}
 use Rattle.def_spec.specs.Functions.{Func}
 use Rattle.def_machine.specs.Instructions.{kind_tuple, kind_list, OnFault, Instruction, load_constant, load_own_pid, test_equal, jump, build, apply_function, perform_action, change_flags, gives_exit}
-use Rattle.def_machine.specs.Compiling.{VariableRegisters, register_of, registers_of, call_code, is_on_self, action_code}
+use Rattle.def_machine.specs.Compilation.{VariableRegisters, register_of, registers_of, call_code, is_on_self, action_code}
 use Rattle.tn_spec.specs.Sizes.{expr_size, exprs_size}
 use Rattle.tn_spec.specs.Views.{dialect_of, expr_seen, exprs_seen}
 use Rattle.tn_spec.specs.declared.expr.Expr.{Expr}
 use Rattle.tn_code.specs.Views.{instruction_of}
 use Rattle.tn_code.specs.declared.instr.Instr.{Instr}
 use Rattle.tn_compile.specs.Views.{code_left, variables_seen, part_of, fault_in, fault_emitted}
-use Rattle.tn_compile.specs.declared.scene.Part.{Part}
-use Rattle.tn_compile.specs.declared.scene.Part.TheVariants.{Condition, Body}
-use Rattle.tn_compile.specs.Emitted.{expr_emitted, exprs_emitted, while_emitted, until_emitted, is_trace}
-use Rattle.tn_compile.specs.declared.scene.Scene.{Scene}
+use Rattle.tn_compile.specs.declared.emit_context.Position.{Position}
+use Rattle.tn_compile.specs.declared.emit_context.Position.TheVariants.{Condition, Body}
+use Rattle.tn_compile.specs.Emissions.{expr_emitted, exprs_emitted, while_emitted, until_emitted, is_trace}
+use Rattle.tn_compile.specs.declared.emit_context.EmitContext.{EmitContext}
 
 pub exprs_here : {A : Type 0} (es : List (Expr A)) (i : ℕ) (e : Expr A) → i < length es → e ≡ get_or es i e → exprs_seen (drop i es) ≡ and_expr (expr_seen e) (exprs_seen (drop (i + 1) es))
 exprs_here es i e below is = ap exprs_seen (drop_more es i e below) ∙ ap (λ f. and_expr (expr_seen f) (exprs_seen (drop (i + 1) es))) (sym is)
@@ -60,7 +60,7 @@ registers-more v xs total es rest e free i r is at h =
 pub left-length : {A : Type 0} (c : Vec (Instr A) A) → length (code_left c) ≡ length c.items
 left-length c = length-map (reverse c.items) instruction_of ∙ length-reverse c.items
 
-call-is : (p : Part) (f : ℕ) (i : OnFault → Instruction) (k : List Instruction) → call_code (part_of p) f i k ≡ i (fault_in p f (length k)) ∷ k
+call-is : (p : Position) (f : ℕ) (i : OnFault → Instruction) (k : List Instruction) → call_code (part_of p) f i k ≡ i (fault_in p f (length k)) ∷ k
 call-is Condition f i k = refl
 call-is Body f i k = refl
 
@@ -124,7 +124,7 @@ trace-code d ex.trace to (q ∷ r ∷ u ∷ []) p off on e x y z =
 trace-code d ex.trace to (q ∷ r ∷ u ∷ v ∷ rs) p off on e x y z = absurd (cc (sym (ne_eqb (length (q ∷ r ∷ u ∷ v ∷ rs)) 3 (λ h. omega (arith, h))) ∙ e))
 trace-code d ex.caller to rs p off on e x y z = absurd (cc)
 
-module _ (s : Scene) where
+module _ (s : EmitContext) where
   -- the code of an expression that is seen as this one
   pub seen-emitted : (e f : ex.Expr) (free : ℕ) (k new : List Instruction) → e ≡ f → new ≡ expr_emitted s f free k → new ≡ expr_emitted s e free k
   seen-emitted e f free k new is h = h ∙ sym (ap (λ x. expr_emitted s x free k) is)

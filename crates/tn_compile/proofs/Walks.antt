@@ -8,12 +8,12 @@ use Rattle.std.specs.FinMap.Entries.{by_order}
 use Rattle.std.proofs.lemmas.List.{drop_more, drop_all}
 use Rattle.def_spec.specs.Matching.{Pattern, Patterns, no_patterns, and_pattern}
 use Rattle.def_machine.specs.Instructions.{Instruction, take_element, test_length}
-use Rattle.def_machine.specs.Compiling.{VariableRegisters, registers_taken, variables_after, variables_after_each}
+use Rattle.def_machine.specs.Compilation.{VariableRegisters, registers_taken, variables_after, variables_after_each}
 use Rattle.tn_spec.specs.Views.{pattern_seen, patterns_seen}
 use Rattle.tn_spec.specs.declared.pattern.Pattern as code
 use Rattle.tn_compile.specs.Heads.{pattern_steps, each_steps}
 use Rattle.tn_compile.specs.Views.{variable_seen, variables_seen}
-use Rattle.tn_compile.specs.declared.scene.VariableRegister.{VariableRegister}
+use Rattle.tn_compile.specs.declared.emit_context.VariableRegister.{VariableRegister}
 
 module _ (b : VariableRegister) where
   abbrev pub place_in : List VariableRegister → ℕ

@@ -8,17 +8,17 @@ use Rattle.def_spec.specs.Outcome as outcome
 use Rattle.def_spec.specs.Laws.{IsSound}
 use Rattle.def_machine.specs.Instructions.{goes_on_at, gives_exit, Instruction, load_constant, load_list, load_own_pid, load_caller, take_element, take_rest, test_kind, test_length, test_equal, jump, build, apply_function, perform_action, change_flags, end_with_match, end_without_match}
 use Rattle.def_machine.specs.Validity.{Each, ways, Valid}
-use Rattle.def_machine.specs.Compiling.{clause_code, clauses_code, code_of}
-use Rattle.def_machine.proofs.Compiled.{compiled_code_is_valid}
-use Rattle.def_machine.specs.Folding.{folded_clause}
+use Rattle.def_machine.specs.Compilation.{clause_code, clauses_code, code_of}
+use Rattle.def_machine.proofs.CompiledCode.{compiled_code_is_valid}
+use Rattle.def_machine.specs.HeadFolds.{folded_clause}
 use Rattle.def_machine.proofs.Fine.{sound-fine}
-use Rattle.def_machine.proofs.Folded.{folded-fine}
+use Rattle.def_machine.proofs.FoldedHeads.{folded-fine}
 use Rattle.def_machine.proofs.Inside.{StaysInside, clauses_inside}
 use Rattle.tn_code.specs.OneProof.{valid-prop}
 use Rattle.tn_spec.specs.Views.{clause_seen}
 use Rattle.tn_spec.specs.declared.spec.Clause.{Clause}
-use Rattle.tn_compile.specs.Emitted.{clauses_emitted}
-use Rattle.tn_compile.specs.Places.{passed, JumpsInside}
+use Rattle.tn_compile.specs.Emissions.{clauses_emitted}
+use Rattle.tn_compile.specs.Places.{jump_place, JumpsInside}
 
 pub clauses_here : {A : Type 0} (ks : List (Clause A)) (i : ℕ) (k : Clause A) → i < length ks → k ≡ get_or ks i k → map clause_seen (drop i ks) ≡ clause_seen k ∷ map clause_seen (drop (i + 1) ks)
 clauses_here ks i k below is = ap (map clause_seen) (drop_more ks i k below) ∙ ap (λ q. clause_seen q ∷ map clause_seen (drop (i + 1) ks)) (sym is)
@@ -33,7 +33,7 @@ clauses-are d (k ∷ ks) = ap (clause_code d (folded_clause k)) (clauses-are d k
 
 -- ---- jumps
 
-jump-inside : (i : Instruction) (n : ℕ) → Each (λ w. unwrap_or w.elsewhere 0 < n) (ways i) → passed i < suc n
+jump-inside : (i : Instruction) (n : ℕ) → Each (λ w. unwrap_or w.elsewhere 0 < n) (ways i) → jump_place i < suc n
 jump-inside (load_constant to t) n h = omega arith
 jump-inside (load_list to) n h = omega arith
 jump-inside (load_own_pid to) n h = omega arith

@@ -4,7 +4,7 @@ use Rattle.std.specs.Ordering.{nat_cmp}
 use Rattle.std.specs.FinMap.{find}
 use Rattle.def_spec.specs.Matching.{Pattern, Patterns, variable, anything, only_term, in_tuple, in_list, no_patterns, and_pattern}
 use Rattle.def_machine.specs.Instructions.{kind_tuple, kind_list, Instruction, load_constant, take_element, test_kind, test_length, test_equal}
-use Rattle.def_machine.specs.Compiling.{VariableRegisters, registers_taken, variables_after}
+use Rattle.def_machine.specs.Compilation.{VariableRegisters, registers_taken, variables_after}
 
 -- a variable that is met again is compared
 abbrev pub variable_steps : Option ℕ → (r : ℕ) → List Instruction

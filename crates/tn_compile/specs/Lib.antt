@@ -1,7 +1,7 @@
 pub mod Views
-pub mod Emitted
+pub mod Emissions
 pub mod Places
 pub mod Heads
-pub mod Folded
+pub mod Folds
 pub mod Rooms
-pub mod Walking
+pub mod Walks

@@ -9,18 +9,18 @@ fault_passed (goes_on_at n) = n
 fault_passed gives_exit = 0
 
 -- where it jumps; 0 where it never does
-abbrev pub passed : Instruction → ℕ
-passed (take_element to from i n) = n
-passed (take_rest to from n) = n
-passed (test_kind from k n) = n
-passed (test_length from l n) = n
-passed (test_equal left right n) = n
-passed (jump n) = n
-passed (apply_function f to rs fault) = fault_passed fault
-passed (change_flags to p off on fault) = fault_passed fault
-passed _ = 0
+abbrev pub jump_place : Instruction → ℕ
+jump_place (take_element to from i n) = n
+jump_place (take_rest to from n) = n
+jump_place (test_kind from k n) = n
+jump_place (test_length from l n) = n
+jump_place (test_equal left right n) = n
+jump_place (jump n) = n
+jump_place (apply_function f to rs fault) = fault_passed fault
+jump_place (change_flags to p off on fault) = fault_passed fault
+jump_place _ = 0
 
--- each passes fewer instructions than are left behind it, but for the one at the end
+-- each passes fewer instructions than are left after it, but for the one at the end
 abbrev pub JumpsInside : List Instruction → Type 0
 JumpsInside [] = ⊤
-JumpsInside (i ∷ rest) = (passed i < length (i ∷ rest)) × JumpsInside rest
+JumpsInside (i ∷ rest) = (jump_place i < length (i ∷ rest)) × JumpsInside rest

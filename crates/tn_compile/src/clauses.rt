@@ -1,18 +1,18 @@
 // The code of clauses.
 ghost use Rattle.std.specs.Prelude.{◌≡◌, ◌<◌, ◌≤◌, ◌^◌, OnOk, IfOk, length, map};
-ghost use Rattle.def_machine.specs.Compiling.{code_of};
+ghost use Rattle.def_machine.specs.Compilation.{code_of};
 ghost use Rattle.tn_code.specs.Codes.{code_seen};
 ghost use Rattle.tn_spec.specs.Sizes.{clauses_size};
 ghost use Rattle.tn_spec.specs.Views.{clause_seen, dialect_of};
 ghost use Rattle.tn_spec.specs.Wholes.{spec_seen};
-ghost use Rattle.tn_compile.specs.Emitted.{EmitsClause, EmitsClauses};
+ghost use Rattle.tn_compile.specs.Emissions.{EmitsClause, EmitsClauses};
 ghost use Rattle.tn_compile.specs.Rooms.{HasRoomFor};
 
+use crate::emit_context::{EmitContext, Position, emit};
 use crate::exprs::{emit_exprs, emit_while_true};
 use crate::fronts::put_in_front;
 use crate::heads::{HeadSteps, steps_of_head};
 use crate::places::in_places;
-use crate::scene::{Part, Scene, emit};
 use std::alloc::{AllocError, Allocator};
 use tn_code::{Code, Instr};
 use tn_spec::{Clause, Dialect, Spec};
@@ -35,15 +35,15 @@ fn emit_clause<P: Allocator, A: Allocator + Copy>(
         free,
     } = steps_of_head(alloc, &clause.head)?;
     emit(code, Instr::EndMatch)?;
-    let body = Scene {
+    let body = EmitContext {
         dialect,
-        part: Part::Body,
+        part: Position::Body,
         variables: variables.as_slice(),
         left,
     };
     emit_exprs(alloc, code, &clause.body, &body, free)?;
-    let conditions = Scene {
-        part: Part::Condition,
+    let conditions = EmitContext {
+        part: Position::Condition,
         ..body
     };
     emit_while_true(alloc, code, &clause.conditions, &conditions, free, left)?;

@@ -1,6 +1,6 @@
 // Patterns that one term alone matches, and that term.
 ghost use Rattle.std.specs.Prelude.{◌≡◌, true, Some, IfOk, is_some};
-ghost use Rattle.def_machine.specs.Folding.{constant_in, constants_in};
+ghost use Rattle.def_machine.specs.HeadFolds.{constant_in, constants_in};
 ghost use Rattle.tn_spec.specs.Views.{pattern_seen, patterns_seen};
 ghost use Rattle.tn_term.specs.Views.{tree_of, trees_of};
 

@@ -2,17 +2,19 @@
 ghost use Rattle.std.specs.Prelude.{◌≡◌, ◌∷◌, ◌+◌, ◌<◌, ◌≤◌, ◌^◌, OnOk, IfOk, length};
 ghost use Rattle.def_spec.specs.Functions.{truth};
 ghost use Rattle.def_spec.specs.Expressions.{all_bound, and_also, or_else};
-ghost use Rattle.def_machine.specs.Compiling.{register_of, registers_of, is_on_self, action_code};
+ghost use Rattle.def_machine.specs.Compilation.{register_of, registers_of, is_on_self, action_code};
 ghost use Rattle.def_machine.specs.Instructions.{load_constant};
 ghost use Rattle.tn_spec.specs.Sizes.{expr_size, exprs_size};
 ghost use Rattle.tn_spec.specs.Views.{dialect_of, action_of, expr_seen, exprs_seen};
 ghost use Rattle.tn_term.specs.Views.{tree_of};
-ghost use Rattle.tn_code.specs.Views.{instruction_of, fault_of};
+ghost use Rattle.tn_code.specs.Views.{instruction_of, on_fault_seen};
 ghost use Rattle.tn_compile.specs.Views.{code_left, variables_seen, fault_emitted};
-ghost use Rattle.tn_compile.specs.Emitted.{EmitsExpr, EmitsExprs, EmitsWhileTrue, EmitsUntilTrue};
-ghost use Rattle.tn_compile.specs.Emitted.{EmitsBuild, EmitsApply, EmitsPerform, EmitsOnSelf, EmitsAction, is_trace};
+ghost use Rattle.tn_compile.specs.Emissions.{EmitsExpr, EmitsExprs, EmitsWhileTrue, EmitsUntilTrue};
+ghost use Rattle.tn_compile.specs.Emissions.{EmitsBuild, EmitsApply, EmitsPerform, EmitsOnSelf, EmitsAction, is_trace};
 
-use crate::scene::{Part, Scene, VariableRegister, all_registers, emit, register_of_variable};
+use crate::emit_context::{
+    EmitContext, Position, VariableRegister, all_registers, emit, register_of_variable,
+};
 use std::alloc::{AllocError, Allocator};
 use tn_code::{Instr, Kind, OnFault};
 use tn_spec::{Action, Dialect, Expr, Func};
@@ -75,13 +77,13 @@ fn emit_truth<A: Allocator + Copy>(
 }
 
 /// What follows the fault of a function, in front of the code.
-fn on_fault<A: Allocator>(code: &Vec<Instr<A>, A>, scene: &Scene<'_>) -> OnFault
+fn on_fault<A: Allocator>(code: &Vec<Instr<A>, A>, scene: &EmitContext<'_>) -> OnFault
     requires { scene.now.left ≤ length code.now.items }
-    ensures { fault_of result ≡ fault_emitted scene.now (length code.now.items) }
+    ensures { on_fault_seen result ≡ fault_emitted scene.now (length code.now.items) }
 {
     match scene.part {
-        Part::Condition => OnFault::Place(code.len() - scene.left),
-        Part::Body => OnFault::Exit,
+        Position::Condition => OnFault::Place(code.len() - scene.left),
+        Position::Body => OnFault::Exit,
     }
 }
 
@@ -91,7 +93,7 @@ fn emit_build<P: Allocator, A: Allocator + Copy>(
     code: &mut Vec<Instr<A>, A>,
     kind: Kind,
     exprs: &Vec<Expr<P>, P>,
-    scene: &Scene<'_>,
+    scene: &EmitContext<'_>,
     to: usize,
 ) -> Result<(), AllocError>
     requires room { to + exprs_size (exprs_seen exprs.now.items) < 2 ^ 64 }
@@ -108,7 +110,7 @@ fn emit_apply<P: Allocator, A: Allocator + Copy>(
     code: &mut Vec<Instr<A>, A>,
     func: Func,
     exprs: &Vec<Expr<P>, P>,
-    scene: &Scene<'_>,
+    scene: &EmitContext<'_>,
     to: usize,
 ) -> Result<(), AllocError>
     requires room { to + exprs_size (exprs_seen exprs.now.items) < 2 ^ 64 }
@@ -184,7 +186,7 @@ fn emit_perform<P: Allocator, A: Allocator + Copy>(
     code: &mut Vec<Instr<A>, A>,
     action: Action,
     exprs: &Vec<Expr<P>, P>,
-    scene: &Scene<'_>,
+    scene: &EmitContext<'_>,
     to: usize,
 ) -> Result<(), AllocError>
     requires room { to + exprs_size (exprs_seen exprs.now.items) < 2 ^ 64 }
@@ -201,7 +203,7 @@ fn emit_on_self<P: Allocator, A: Allocator + Copy>(
     code: &mut Vec<Instr<A>, A>,
     action: Action,
     exprs: &Vec<Expr<P>, P>,
-    scene: &Scene<'_>,
+    scene: &EmitContext<'_>,
     to: usize,
 ) -> Result<(), AllocError>
     requires room { to + 1 + exprs_size (exprs_seen exprs.now.items) < 2 ^ 64 }
@@ -217,7 +219,7 @@ fn emit_on_self<P: Allocator, A: Allocator + Copy>(
 fn emit_all_bound<A: Allocator + Copy>(
     alloc: A,
     code: &mut Vec<Instr<A>, A>,
-    scene: &Scene<'_>,
+    scene: &EmitContext<'_>,
     to: usize,
 ) -> Result<(), AllocError>
     ensures emitted { OnOk result (EmitsExpr scene.now all_bound to code.old code.new) }
@@ -254,7 +256,7 @@ pub fn emit_expr<P: Allocator, A: Allocator + Copy>(
     alloc: A,
     code: &mut Vec<Instr<A>, A>,
     expr: &Expr<P>,
-    scene: &Scene<'_>,
+    scene: &EmitContext<'_>,
     free: usize,
 ) -> Result<(), AllocError>
     requires room { free + 1 + expr_size (expr_seen expr.now) < 2 ^ 64 }
@@ -292,7 +294,7 @@ fn emit_action<P: Allocator, A: Allocator + Copy>(
     code: &mut Vec<Instr<A>, A>,
     action: Action,
     exprs: &Vec<Expr<P>, P>,
-    scene: &Scene<'_>,
+    scene: &EmitContext<'_>,
     free: usize,
 ) -> Result<(), AllocError>
     requires room { free + 2 + exprs_size (exprs_seen exprs.now.items) < 2 ^ 64 }
@@ -316,7 +318,7 @@ fn emit_and_also<P: Allocator, A: Allocator + Copy>(
     alloc: A,
     code: &mut Vec<Instr<A>, A>,
     exprs: &Vec<Expr<P>, P>,
-    scene: &Scene<'_>,
+    scene: &EmitContext<'_>,
     free: usize,
 ) -> Result<(), AllocError>
     requires room { free + 2 + exprs_size (exprs_seen exprs.now.items) < 2 ^ 64 }
@@ -336,7 +338,7 @@ fn emit_or_else<P: Allocator, A: Allocator + Copy>(
     alloc: A,
     code: &mut Vec<Instr<A>, A>,
     exprs: &Vec<Expr<P>, P>,
-    scene: &Scene<'_>,
+    scene: &EmitContext<'_>,
     free: usize,
 ) -> Result<(), AllocError>
     requires room { free + 2 + exprs_size (exprs_seen exprs.now.items) < 2 ^ 64 }
@@ -356,7 +358,7 @@ pub fn emit_exprs<P: Allocator, A: Allocator + Copy>(
     alloc: A,
     code: &mut Vec<Instr<A>, A>,
     exprs: &Vec<Expr<P>, P>,
-    scene: &Scene<'_>,
+    scene: &EmitContext<'_>,
     free: usize,
 ) -> Result<(), AllocError>
     requires room { free + 1 + exprs_size (exprs_seen exprs.now.items) < 2 ^ 64 }
@@ -379,7 +381,7 @@ pub fn emit_while_true<P: Allocator, A: Allocator + Copy>(
     alloc: A,
     code: &mut Vec<Instr<A>, A>,
     exprs: &Vec<Expr<P>, P>,
-    scene: &Scene<'_>,
+    scene: &EmitContext<'_>,
     free: usize,
     end: usize,
 ) -> Result<(), AllocError>
@@ -415,7 +417,7 @@ pub fn emit_until_true<P: Allocator, A: Allocator + Copy>(
     alloc: A,
     code: &mut Vec<Instr<A>, A>,
     exprs: &Vec<Expr<P>, P>,
-    scene: &Scene<'_>,
+    scene: &EmitContext<'_>,
     free: usize,
     end: usize,
 ) -> Result<(), AllocError>

@@ -1,10 +1,10 @@
 // The steps of a head in front of the code that follows.
 ghost use Rattle.std.specs.Prelude.{◌≡◌, ◌≤◌, OnOk, length};
 ghost use Rattle.tn_code.specs.Views.{instruction_of};
-ghost use Rattle.tn_compile.specs.Emitted.{EmitsSteps};
+ghost use Rattle.tn_compile.specs.Emissions.{EmitsSteps};
 ghost use Rattle.tn_compile.specs.Heads.{with_jump};
 
-use crate::scene::emit;
+use crate::emit_context::emit;
 use std::alloc::{AllocError, Allocator};
 use tn_code::Instr;
 

@@ -4,18 +4,18 @@ ghost use Rattle.std.specs.FinMap.{find};
 ghost use Rattle.std.specs.List.{position_or_len};
 ghost use Rattle.std.specs.Ordering.{nat_cmp};
 ghost use Rattle.def_spec.specs.Matching.{only_term};
-ghost use Rattle.def_machine.specs.Compiling.{registers_taken, registers_taken_each, variables_after};
-ghost use Rattle.def_machine.specs.Folding.{folded};
+ghost use Rattle.def_machine.specs.Compilation.{registers_taken, registers_taken_each, variables_after};
+ghost use Rattle.def_machine.specs.HeadFolds.{fold_head};
 ghost use Rattle.tn_term.specs.Views.{tree_of, trees_of};
 ghost use Rattle.tn_spec.specs.Views.{head_seen, pattern_seen};
-ghost use Rattle.tn_compile.specs.Folded.{term_of, parts_folded, each_folded};
+ghost use Rattle.tn_compile.specs.Folds.{shape_term, parts_folded, each_folded};
 ghost use Rattle.tn_compile.specs.Heads.{pattern_steps};
 ghost use Rattle.tn_compile.specs.Views.{variables_seen};
-ghost use Rattle.tn_compile.specs.Walking.{steps_seen, found, AddsSteps, AddsVariables, AddsVariable};
-ghost use Rattle.tn_compile.specs.Walking.{TakesRegisters, AddsEachStep, AddsEachVariable, TakesRegistersEach};
+ghost use Rattle.tn_compile.specs.Walks.{steps_seen, walk_registers, AddsSteps, AddsVariables, AddsVariable};
+ghost use Rattle.tn_compile.specs.Walks.{TakesRegisters, AddsEachStep, AddsEachVariable, TakesRegistersEach};
 
 use crate::constants::{are_constant, constants_of};
-use crate::scene::{VariableRegister, register_of_variable};
+use crate::emit_context::{VariableRegister, register_of_variable};
 use std::alloc::{AllocError, Allocator};
 use tn_code::{Instr, Kind};
 use tn_spec::{Head, Pattern};
@@ -82,7 +82,7 @@ fn compare<A: Allocator>(
 
 /// A tuple or list of the terms.
 fn term_of<A: Allocator>(kind: Kind, terms: Vec<Term<A>, A>) -> Term<A>
-    ensures { tree_of result ≡ term_of kind (trees_of terms.items) }
+    ensures { tree_of result ≡ shape_term kind (trees_of terms.items) }
 {
     match kind {
         Kind::Tuple => Term::Tuple(terms),
@@ -98,10 +98,10 @@ pub fn walk<P: Allocator, A: Allocator + Copy>(
     pattern: &Pattern<P>,
     register: usize,
 ) -> Result<(), AllocError>
-    requires room { head.old.free + registers_taken (folded (pattern_seen pattern.now)) < 2 ^ 64 }
-    ensures steps { OnOk result (AddsSteps (folded (pattern_seen pattern.now)) register head.old head.new) }
-    ensures variables { OnOk result (AddsVariables (folded (pattern_seen pattern.now)) register head.old head.new) }
-    ensures free { OnOk result (TakesRegisters (folded (pattern_seen pattern.now)) head.old head.new) }
+    requires room { head.old.free + registers_taken (fold_head (pattern_seen pattern.now)) < 2 ^ 64 }
+    ensures steps { OnOk result (AddsSteps (fold_head (pattern_seen pattern.now)) register head.old head.new) }
+    ensures variables { OnOk result (AddsVariables (fold_head (pattern_seen pattern.now)) register head.old head.new) }
+    ensures free { OnOk result (TakesRegisters (fold_head (pattern_seen pattern.now)) head.old head.new) }
 {
     match pattern {
         Pattern::Variable(number) => {
@@ -189,10 +189,10 @@ pub fn steps_of_head<P: Allocator, A: Allocator + Copy>(
     alloc: A,
     head: &Head<P>,
 ) -> Result<HeadSteps<A>, AllocError>
-    requires room { 1 + registers_taken (folded (head_seen head.now)) < 2 ^ 64 }
-    ensures steps { IfOk result (λ h. steps_seen h ≡ pattern_steps (folded (head_seen head.now)) [] 0 1) }
-    ensures variables { IfOk result (λ h. found h ≡ variables_after (folded (head_seen head.now)) [] 0 1) }
-    ensures free { IfOk result (λ h. h.free ≡ 1 + registers_taken (folded (head_seen head.now))) }
+    requires room { 1 + registers_taken (fold_head (head_seen head.now)) < 2 ^ 64 }
+    ensures steps { IfOk result (λ h. steps_seen h ≡ pattern_steps (fold_head (head_seen head.now)) [] 0 1) }
+    ensures variables { IfOk result (λ h. walk_registers h ≡ variables_after (fold_head (head_seen head.now)) [] 0 1) }
+    ensures free { IfOk result (λ h. h.free ≡ 1 + registers_taken (fold_head (head_seen head.now))) }
 {
     let mut made = HeadSteps {
         steps: Vec::new(alloc),

@@ -1,17 +1,17 @@
 // The places of jumps, once all instructions are there.
 ghost use Rattle.std.specs.Prelude.{◌≡◌, ◌+◌, ◌<◌, ◌^◌, IfOk};
-ghost use Rattle.def_machine.specs.Compiling.{at_place, fault_at, placed};
-ghost use Rattle.tn_code.specs.Views.{fault_of, instruction_of, instructions_of};
-ghost use Rattle.tn_compile.specs.Places.{fault_passed, passed, JumpsInside};
+ghost use Rattle.def_machine.specs.Compilation.{at_place, fault_at, code_from};
+ghost use Rattle.tn_code.specs.Views.{on_fault_seen, instruction_of, instructions_of};
+ghost use Rattle.tn_compile.specs.Places.{fault_passed, jump_place, JumpsInside};
 ghost use Rattle.tn_compile.specs.Views.{code_left};
 
 use std::alloc::{AllocError, Allocator};
 use tn_code::{Instr, OnFault};
 
-/// The place that a fault goes on at, where `next` is the place behind the instruction.
+/// The place that a fault goes on at, where `next` is the place after the instruction.
 fn fault_at(on_fault: OnFault, next: usize) -> OnFault
-    requires { next + fault_passed (fault_of on_fault) < 2 ^ 64 }
-    ensures { fault_of result ≡ fault_at next (fault_of on_fault) }
+    requires { next + fault_passed (on_fault_seen on_fault) < 2 ^ 64 }
+    ensures { on_fault_seen result ≡ fault_at next (on_fault_seen on_fault) }
 {
     match on_fault {
         OnFault::Place(passed) => OnFault::Place(next + passed),
@@ -19,9 +19,9 @@ fn fault_at(on_fault: OnFault, next: usize) -> OnFault
     }
 }
 
-/// The instruction with its place to go on at, where `next` is the place behind it.
+/// The instruction with its place to go on at, where `next` is the place after it.
 fn at_place<A: Allocator>(instr: Instr<A>, next: usize) -> Instr<A>
-    requires { next + passed (instruction_of instr) < 2 ^ 64 }
+    requires { next + jump_place (instruction_of instr) < 2 ^ 64 }
     ensures { instruction_of result ≡ at_place next (instruction_of instr) }
 {
     match instr {
@@ -98,7 +98,7 @@ pub fn in_places<A: Allocator + Copy>(
     mut code: Vec<Instr<A>, A>,
 ) -> Result<Vec<Instr<A>, A>, AllocError>
     requires { JumpsInside (code_left code) }
-    ensures { IfOk result (λ v. instructions_of v.items ≡ placed 0 (code_left code)) }
+    ensures { IfOk result (λ v. instructions_of v.items ≡ code_from 0 (code_left code)) }
 {
     let mut items = Vec::with_capacity(alloc, code.len())?;
     while let Some(instr) = code.pop() {

@@ -1,3 +1,12 @@
-pub mod Starting
-pub mod Showing
-pub mod Refused
+pub mod EarlierLines
+pub mod ClauseLines
+pub mod LaterLines
+pub mod SessionLines
+pub mod LineTexts
+pub mod MoveTexts
+pub mod SideBySide
+pub mod OneSession
+pub mod MoveLines
+pub mod Picks
+pub mod ItemTexts
+pub mod BeforePicks

@@ -1,5 +1,10 @@
-pub mod Starts
-pub mod Words
-pub mod Marks
+pub mod Evaluations
+pub mod Events
 pub mod Lines
-pub mod Laws
+pub mod SessionLines
+pub mod LineParts
+pub mod Elements
+pub mod Filters
+pub mod NamedSessions
+pub mod Explainers
+pub mod Accounts

@@ -1,20 +1,25 @@
--- The line of a refusal (own).
--- Stands on where a refusal is, and on the words of its rule.
-use Rattle.std.specs.Prelude.{◌≡◌, ℕ, List, ◌++◌, ◌&&◌, nat_le, true, if◌then◌else◌}
-use Rattle.def_text.specs.Tokens.{all_are, is_printable}
-use Rattle.tn_explain.specs.declared.mark.Mark.{Mark}
-use Rattle.tn_explain.specs.declared.reason.Reason.{Reason}
-use Rattle.tn_explain.specs.Words.{words, refusal_of}
-use Rattle.tn_explain.specs.Marks.{mark_text, IsMarkOf}
+-- The text of what a session of a name makes of something.
+use Rattle.std.specs.Prelude.{◌≡◌, ℕ, List, ◌++◌, map, flat_map, codes}
+use Rattle.std.specs.declared.vec.Vec.{Vec}
+use Rattle.def_term.specs.Names.{Name}
+use Rattle.def_term.specs.Text.{atom_text}
+use Rattle.def_explain.specs.Accounts.{Line}
+use Rattle.def_explain.specs.Runs.{makes}
+use Rattle.def_explain.specs.RunTexts.{entry_text}
+use Rattle.tn_explain.specs.declared.line.Lines.{Lines}
 
--- a byte that isn't printable is shown as a question mark
-abbrev pub shown : ℕ → ℕ
-shown b = if nat_le 32 b && nat_le b 126 then b else 63
+-- a line each, indented, after the name
+unfoldable pub lines_text : Name → List Line → List ℕ
+lines_text n ls = flat_map entry_text (map (makes n) ls)
 
--- the name and where the refusal is, the words of its rule, and then printable characters
-pub record IsExplained (name bytes : List ℕ) (r : Reason) (line : List ℕ) : Type 0 where
-  pub mark : Mark
-  pub rest : List ℕ
-  pub place : IsMarkOf bytes r mark
-  pub text : line ≡ mark_text name mark ++ words (refusal_of r) ++ rest
-  pub printable : all_are is_printable rest ≡ true
+-- what each of them begins with
+abbrev pub line_start : Name → List ℕ
+line_start n = codes "  " ++ atom_text n ++ codes ": "
+
+-- these lines were appended
+abbrev pub PutsLines : Name → List Line → (old new : List ℕ) → Type 0
+PutsLines n ls old new = new ≡ old ++ lines_text n ls
+
+-- they were appended for the session whose lines are made
+abbrev pub Adds : {A : Type 0} → Lines A → List Line → (old new : Vec ℕ A) → Type 0
+Adds lines ls old new = PutsLines lines.name.now ls old.items new.items

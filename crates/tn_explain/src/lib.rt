@@ -1,38 +1,40 @@
-//! Why a script or a text of picks is refused, in one line that it can be mended by.
+//! A run that is explained: what each move shows and what each session makes of it, line by line; and the bytes of
+//! a script, a text of picks and a filter in, the bytes of an account out.
 //!
-//! Stands on tn_text and tn_script, and on the definitions of def_places and def_script. Promises that
-//! `place_of` is the line and the column of an offset, and `form_offset` where a form begins; and that the
-//! line of `explain` begins with the name, the place and the words of the refusal's rule. What follows these,
-//! which is what breaks the rule, is printable and is not promised to be right.
+//! Depends on tn_session and tn_trace (a run, which takes the picks, and its sessions, which are looked at before and
+//! after each step), tn_verdict (what becomes of a clause, and the texts of reasons and effects), tn_run
+//! (which reads, accepts and refuses scripts) and on the definitions of def_explain. Promises that `put_event_lines`
+//! appends the lines of the definition, each after the name of the session, and takes the session through the event;
+//! that `put_command_line` appends the line of a reply; that `put_account` appends the account of the program's run
+//! by some picks, as far as the filter asks for it, and nothing where memory is refused; and that `explain` writes
+//! exactly that account, or the line of the one refusal, or nothing where the session or the move that the filter
+//! names isn't there, and says which; and that a fault says which end failed, and how many bytes of it were taken.
 #![tactic(auto)]
 
-mod bytes;
-mod callee;
-mod commands;
-mod detail;
-mod forms;
-mod found;
-mod items;
-mod laws;
-mod limits;
+mod account;
+mod answers;
+mod calls;
+mod causes;
+mod clauses;
+mod creations;
+mod discard;
+mod ends;
+mod event;
+mod explainer;
+mod filter;
+mod inheritance;
+mod item_text;
+mod job;
 mod line;
-mod mark;
-mod parts;
-mod picks;
-mod place;
-mod put;
-mod reading;
-mod reason;
+mod messages;
+mod request;
 mod sessions;
-mod shape;
-mod starts;
-mod steps;
-mod syntax;
-mod unbound;
-mod words;
+mod slots;
+mod step;
 
-pub use laws::a_refused_text_has_its_place;
-pub use line::explain;
-pub use place::{Place, place_of};
-pub use reason::{FormRule, Reason, TextRule};
-pub use starts::form_offset;
+pub use account::put_account;
+pub use event::put_event_lines;
+pub use filter::Filter;
+pub use job::explain;
+pub use line::put_command_line;
+pub use request::{ExplainOutcome, ExplainRequest};

@@ -1,52 +1,88 @@
-// The whole line.
-ghost use Rattle.std.specs.Prelude.{◌≡◌, ◌++◌, IfOk, OnOk, map};
-ghost use Rattle.tn_explain.specs.Lines.{shown, IsExplained};
+// One line of a session.
+ghost use Rattle.std.specs.Prelude.{◌≡◌, ◌++◌, ◌∷◌, [], OnOk};
+ghost use Rattle.def_explain.specs.Accounts.{said, tells};
+ghost use Rattle.tn_term.specs.Views.{tree_of};
+ghost use Rattle.tn_session.specs.Messages.{message_seen};
+ghost use Rattle.tn_text.specs.Writes.{Grows};
+ghost use Rattle.tn_explain.specs.LineParts.{reply_lines};
+ghost use Rattle.tn_explain.specs.Lines.{PutsLines, Adds, line_start};
 
-use crate::detail::detail_of;
-use crate::mark::{front, mark_of};
-use crate::reason::Reason;
-use crate::words::words_of;
 use std::alloc::{AllocError, Allocator};
+use tn_session::Message;
+use tn_term::{Atom, Term};
+use tn_text::{write_atom, write_term};
 
-/// The byte, or a question mark where it isn't printable.
-fn shown_byte(b: u8) -> u8
-    ensures { result ≡ shown b }
-{
-    if 32 <= b && b <= 126 { b } else { b'?' }
+/// The lines of the session of a name.
+#[derive(Drop)]
+pub(crate) struct Lines<'a, A: Allocator> {
+    /// For what is evaluated, and for texts that are kept for a while.
+    pub alloc: A,
+    pub name: &'a Atom<A>,
 }
 
-/// Appends the bytes as they are shown; after an `Err` some may stand there.
-fn append_shown<A: Allocator>(line: &mut Vec<u8, A>, bytes: &[u8]) -> Result<(), AllocError>
-    ensures { OnOk result (line.new.items ≡ line.old.items ++ map shown bytes.now) }
+/// Appends a text.
+pub(crate) fn put_text<A: Allocator>(text: &[u8], out: &mut Vec<u8, A>) -> Result<(), AllocError>
+    ensures ok { OnOk result (out.new.items ≡ out.old.items ++ text.now) }
+    ensures grows { Grows out.old.items out.new.items }
 {
-    for b in bytes {
-        line.push(shown_byte(*b))?;
+    out.extend_from_slice(text)
+}
+
+/// Appends what a line begins with: two blanks, the name and a colon.
+pub(crate) fn begin<A: Allocator, B: Allocator>(
+    name: &Atom<A>,
+    out: &mut Vec<u8, B>,
+) -> Result<(), AllocError>
+    ensures ok { OnOk result (out.new.items ≡ out.old.items ++ line_start name.now) }
+    ensures grows { Grows out.old.items out.new.items }
+{
+    out.extend_from_slice(b"  ")?;
+    write_atom(name, out)?;
+    out.extend_from_slice(b": ")
+}
+
+impl<A: Allocator> Lines<'_, A> {
+    /// Appends the line of what is said.
+    pub(crate) fn say(&self, text: &[u8], out: &mut Vec<u8, A>) -> Result<(), AllocError>
+        ensures ok { OnOk result (Adds self.now (said text.now ∷ []) out.old out.new) }
+        ensures grows { Grows out.old.items out.new.items }
+    {
+        begin(self.name, out)?;
+        out.extend_from_slice(text)?;
+        out.push(b'\n')?;
+        Ok(())
     }
-    Ok(())
+
+    /// Appends the line of a message that is reported.
+    pub(crate) fn tell(
+        &self,
+        message: &Message<'_, A>,
+        out: &mut Vec<u8, A>,
+    ) -> Result<(), AllocError>
+        ensures ok { OnOk result (Adds self.now (tells (message_seen message.now) ∷ []) out.old out.new) }
+        ensures grows { Grows out.old.items out.new.items }
+    {
+        begin(self.name, out)?;
+        out.extend_from_slice(b"=> ")?;
+        message.append_text(out)?;
+        out.push(b'\n')?;
+        Ok(())
+    }
 }
 
-/// The line that a refused text can be mended by, without a line feed. It is the name, then `:LINE:COLUMN: `
-/// of the refused token, `:LINE: form N: ` of the refused form, or `: ` of the whole text, then the words of
-/// the rule, and then what breaks it, after `: `, where that can be found by looking through the text. For
-/// refusal 20 the text is that of the picks. Where the text isn't refused so, the line may say less.
-///
-/// The contract says nothing of what breaks the rule, but that all of it is printable.
-///
-/// # Errors
-///
-/// AllocError where memory was refused.
-pub fn explain<A: Allocator + Copy>(
-    alloc: A,
-    name: &str,
-    text: &[u8],
-    reason: Reason,
-) -> Result<Vec<u8, A>, AllocError>
-    ensures { IfOk result (λ v. IsExplained name.now text.now reason v.items) }
+/// Appends the line of the reply to a command of the session of this name. After an `Err`, which is refused memory,
+/// a part of it may stand there.
+pub fn put_command_line<A: Allocator, B: Allocator>(
+    name: &Atom<A>,
+    reply: &Term<A>,
+    out: &mut Vec<u8, B>,
+) -> Result<(), AllocError>
+    ensures ok { OnOk result (PutsLines name.now (reply_lines (tree_of reply.now)) out.old.items out.new.items) }
+    ensures grows { Grows out.old.items out.new.items }
 {
-    let mark = mark_of(alloc, text, reason)?;
-    let mut line = front(alloc, name, mark)?;
-    line.extend_from_slice(words_of(reason))?;
-    let found = detail_of(alloc, text, reason)?;
-    append_shown(&mut line, &found)?;
-    Ok(line)
+    begin(name, out)?;
+    out.extend_from_slice(b"replies ")?;
+    write_term(reply, out)?;
+    out.push(b'\n')?;
+    Ok(())
 }

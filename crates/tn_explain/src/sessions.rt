@@ -1,112 +1,105 @@
-// The sessions that commands create and name.
-use crate::put::Detail;
-use std::alloc::Allocator;
-use tn_flags::Command;
-use tn_script::Form;
-use tn_term::Atom;
+// The sessions of a run, and what they make of a move.
+use crate::discard::Discard;
+use crate::slots::{Order, obey_each, tell_each};
+use crate::step::Step;
+use std::alloc::{AllocError, Allocator};
+use tn_flags::{Command, Event};
+use tn_program::Program;
+use tn_script::Function;
+use tn_term::Alive;
+use tn_trace::{Slot, absent_sessions, living_after};
 
-/// What a creation names that no other creation may name.
-#[derive(Clone, Copy)]
-pub enum Role {
-    Session,
-    Tracer,
+/// The sessions of the control list, and who lives.
+#[derive(Drop)]
+pub(crate) struct Sessions<A: Allocator> {
+    pub alloc: A,
+    pub living: Alive,
+    pub slots: Vec<Slot<A, Discard>, A>,
 }
 
-/// What a creation names; none where the command creates no session.
-fn named_by<A: Allocator>(role: Role, command: &Command<A>) -> Option<&Atom<A>> {
-    match command {
-        Command::SessionCreate { session, tracer } => match role {
-            Role::Session => Some(session),
-            Role::Tracer => Some(tracer),
-        },
-        _ => None,
+impl<A: Allocator + Copy> Sessions<A> {
+    ghost use Rattle.std.specs.Prelude.{IfOk};
+    ghost use Rattle.tn_text.specs.Writes.{Grows};
+    ghost use Rattle.tn_explain.specs.NamedSessions.{AreUncreatedSessions, ExplainsEvent, ExplainsEvents};
+    ghost use Rattle.tn_explain.specs.NamedSessions.{ExplainsMove, ExplainsCommand};
+
+    /// The sessions of a program, before they are created.
+    pub fn new(alloc: A, program: &Program<A>) -> Result<Sessions<A>, AllocError>
+        ensures { IfOk result (λ s. AreUncreatedSessions program.now s) }
+    {
+        Ok(Sessions {
+            alloc,
+            living: Alive::first(program.entries().len()),
+            slots: absent_sessions(alloc, program)?,
+        })
     }
-}
 
-/// The session that one of the commands creates with this name in the role.
-fn created_in<'a, A: Allocator>(
-    role: Role,
-    commands: &'a [Command<A>],
-    name: &str,
-) -> Option<&'a Atom<A>> {
-    for command in commands {
-        if let Some(other) = named_by(role, command) {
-            if other.text() == name {
-                return Some(command.session());
-            }
+    /// The sessions see an event of a move. After an `Err` a part of it may be appended.
+    fn tell(
+        &mut self,
+        step: &Step<'_>,
+        event: &Event<A>,
+        out: &mut Vec<u8, A>,
+    ) -> Result<(), AllocError>
+        ensures ok { ExplainsEvent step.now event.now self.old self.new out.old out.new result }
+        ensures grows { Grows out.old.items out.new.items }
+    {
+        step.put_event(self.alloc, event, out)?;
+        tell_each(self.alloc, step, &mut self.slots, event, out)?;
+        self.living = living_after(self.living, event);
+        Ok(())
+    }
+
+    /// The sessions see several events of a move, in order. After an `Err` a part of it may be appended.
+    fn tell_all(
+        &mut self,
+        step: &Step<'_>,
+        events: &Vec<Event<A>, A>,
+        out: &mut Vec<u8, A>,
+    ) -> Result<(), AllocError>
+        ensures ok { ExplainsEvents step.now events.now.items self.old self.new out.old out.new result }
+        ensures grows { Grows out.old.items out.new.items }
+    {
+        for event in events {
+            self.tell(step, event, out)?;
+        }
+        Ok(())
+    }
+
+    /// The sessions see the events of a move of a process. After an `Err` a part of it may be appended.
+    pub fn see(
+        &mut self,
+        step: &Step<'_>,
+        events: &Vec<Event<A>, A>,
+        out: &mut Vec<u8, A>,
+    ) -> Result<(), AllocError>
+        ensures ok { ExplainsMove step.now events.now.items self.old self.new out.old out.new result }
+        ensures grows { Grows out.old.items out.new.items }
+    {
+        if events.is_empty() {
+            step.put_nothing(out)
+        } else {
+            self.tell_all(step, events, out)
         }
     }
-    None
-}
 
-/// The session that a command of one of the forms creates so.
-fn created_before<'a, A: Allocator>(
-    role: Role,
-    forms: &'a [Form<A>],
-    name: &str,
-) -> Option<&'a Atom<A>> {
-    for form in forms {
-        if let Form::Control(commands) = form {
-            let created = created_in(role, commands, name);
-            if created.is_some() {
-                return created;
-            }
-        }
-    }
-    None
-}
-
-/// The session that an earlier command creates so.
-fn created<'a, A: Allocator>(
-    role: Role,
-    earlier: &'a [Form<A>],
-    commands: &'a [Command<A>],
-    name: &str,
-) -> Option<&'a Atom<A>> {
-    match created_before(role, earlier, name) {
-        Some(session) => Some(session),
-        None => created_in(role, commands, name),
-    }
-}
-
-/// Appends the session that is created twice, or the tracer that a session has already.
-pub fn put_taken<A: Allocator>(
-    out: &mut Detail<A>,
-    role: Role,
-    earlier: &[Form<A>],
-    commands: &[Command<A>],
-) {
-    for i in 0..commands.len() {
-        if let Some(name) = named_by(role, &commands[i]) {
-            if let Some(session) = created(role, earlier, &commands[..i], name.text()) {
-                put_holder(out, role, name, session);
-                return;
-            }
-        }
-    }
-}
-
-/// Appends a session that is created twice, or a tracer and its session.
-fn put_holder<A: Allocator>(out: &mut Detail<A>, role: Role, name: &Atom<A>, session: &Atom<A>) {
-    match role {
-        Role::Session => out.atom(b": session ", name),
-        Role::Tracer => {
-            out.atom(b": ", name);
-            out.atom(b" is the tracer of session ", session);
-        }
-    }
-}
-
-/// Appends the session that a command other than a creation names and no earlier one creates.
-pub fn put_unmade<A: Allocator>(out: &mut Detail<A>, earlier: &[Form<A>], commands: &[Command<A>]) {
-    for i in 0..commands.len() {
-        let session = commands[i].session();
-        let is_made = matches!(commands[i], Command::SessionCreate { .. })
-            || created(Role::Session, earlier, &commands[..i], session.text()).is_some();
-        if !is_made {
-            out.atom(b": session ", session);
-            out.words(b", which no earlier command creates");
-            return;
-        }
+    /// The session that a command names does it. After an `Err` a part of it may be appended.
+    pub fn obey(
+        &mut self,
+        step: &Step<'_>,
+        functions: &[Function<A>],
+        command: &Command<A>,
+        out: &mut Vec<u8, A>,
+    ) -> Result<(), AllocError>
+        ensures ok { ExplainsCommand step.now functions.now command.now self.old self.new out.old out.new result }
+        ensures grows { Grows out.old.items out.new.items }
+    {
+        let order = Order {
+            functions,
+            living: self.living,
+            command,
+        };
+        step.put_command(command, out)?;
+        obey_each(self.alloc, step, &mut self.slots, &order, out)
     }
 }

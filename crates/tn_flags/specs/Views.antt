@@ -17,8 +17,8 @@ use Rattle.tn_flags.specs.declared.table.FlagTable.{FlagTable}
 use Rattle.tn_flags.specs.declared.command.Command.{Command}
 use Rattle.tn_flags.specs.declared.command.Command.TheVariants.{SessionCreate, SessionDestroy, Process, Function, Send, Recv}
 
-abbrev pub call_of : {A : Type 0} → Call A → event.Call
-call_of c = record { mfa = mfa_seen c.mfa; args = map tree_of c.args.items; named = c.named; exported = c.exported; caller = option_map mfa_seen c.caller; depth = c.depth }
+abbrev pub call_seen : {A : Type 0} → Call A → event.Call
+call_seen c = record { mfa = mfa_seen c.mfa; args = map tree_of c.args.items; named = c.named; exported = c.exported; caller = option_map mfa_seen c.caller; depth = c.depth }
 
 abbrev pub class_of : Class → program.Class
 class_of Error = program.error
@@ -28,7 +28,7 @@ class_of Exit = program.exit
 abbrev pub event_of : {A : Type 0} → Event A → event.Event
 event_of (Sent p t to alive) = event.sent p (tree_of t) to alive
 event_of (Received p sender t) = event.received p sender (tree_of t)
-event_of (Called p c) = event.called p (call_of c)
+event_of (Called p c) = event.called p (call_seen c)
 event_of (Returned p f t depth) = event.returned p (mfa_seen f) (tree_of t) depth
 event_of (Raised p f class t depth) = event.raised p (mfa_seen f) (class_of class) (tree_of t) depth
 event_of (Spawn p child f args) = event.spawning p child (mfa_seen f) (map tree_of args.items)

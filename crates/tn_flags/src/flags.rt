@@ -2,7 +2,8 @@
 ghost use Rattle.std.specs.Prelude.{◌≡◌, ◌||◌, ◌&&◌, not};
 ghost use Rattle.std.specs.Option.{option_map};
 ghost use Rattle.def_term.specs.Tree.{atom};
-ghost use Rattle.def_spec.specs.Flags.{no_flags, only, joined, without, has_all, same_flags, flag_named, after_spawn, after_link};
+ghost use Rattle.def_spec.specs.Flags.{no_flags, only, union, without, has_all};
+ghost use Rattle.def_spec.specs.Flags.{same_flags, flag_named, after_spawn, after_link};
 ghost use Rattle.tn_term.specs.Views.{tree_of};
 ghost use Rattle.tn_flags.specs.Inheritance.{GivesAndKeeps};
 ghost use Rattle.tn_flags.specs.Views.{flags_of};
@@ -84,7 +85,7 @@ impl Flags {
 
     /// The flags of either.
     pub fn join(self, other: Flags) -> Flags
-        ensures { flags_of result ≡ joined (flags_of self) (flags_of other) }
+        ensures { flags_of result ≡ union (flags_of self) (flags_of other) }
     {
         Flags {
             send: either(self.send, other.send),

@@ -1,7 +1,7 @@
 //! What passes between the node, the control list and the sessions: events with the classes of exceptions, and
 //! commands; and the flags of processes.
 //!
-//! Stands on tn_term and on the definitions. Promises that `Flags` is a set of ten, and that
+//! Depends on tn_term and on the definitions. Promises that `Flags` is a set of ten, and that
 //! `inherit_spawn` and `inherit_link` are the rules of inheritance.
 #![tactic(auto)]
 

@@ -1,7 +1,7 @@
 // The flags of all processes of a run.
 ghost use Rattle.std.specs.Prelude.{◌≡◌, ◌-◌, length};
 ghost use Rattle.def_spec.specs.Flags.{flags_in, with_flags_in};
-ghost use Rattle.def_spec.specs.Expressions.{flags_behind, changes, silences};
+ghost use Rattle.def_spec.specs.Expressions.{flags_by, changes, silences};
 ghost use Rattle.tn_flags.specs.Views.{flags_of, table_of, no_flags_of_any};
 
 use crate::flags::{Flags, SILENT};
@@ -59,7 +59,7 @@ impl FlagTable {
 
     /// Clears flags of the process with this pid, and then sets others.
     pub fn change(&mut self, pid: u32, off: Flags, on: Flags)
-        ensures { table_of self.new ≡ flags_behind pid (table_of self.old) (changes pid (flags_of off) (flags_of on)) }
+        ensures { table_of self.new ≡ flags_by pid (table_of self.old) (changes pid (flags_of off) (flags_of on)) }
     {
         let flags = self.of(pid).without(off).join(on);
         self.set(pid, flags);
@@ -67,7 +67,7 @@ impl FlagTable {
 
     /// Sets or clears the flag `silent` of the process with this pid.
     pub fn silence(&mut self, pid: u32, on: bool)
-        ensures { table_of self.new ≡ flags_behind pid (table_of self.old) (silences on) }
+        ensures { table_of self.new ≡ flags_by pid (table_of self.old) (silences on) }
     {
         let flags = self.of(pid);
         if on {

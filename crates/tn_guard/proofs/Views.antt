@@ -4,10 +4,10 @@ use Rattle.std.specs.Borrow.{Bor}
 use Rattle.def_term.specs.Tree.{int, atom, pid, tuple, list}
 use Rattle.tn_term.specs.Views.{tree_of, trees_of}
 use Rattle.tn_term.specs.declared.term.Term.{Term}
-use Rattle.tn_guard.specs.declared.value.Word.{Word}
+use Rattle.tn_guard.specs.declared.value.AtomConst.{AtomConst}
 use Rattle.tn_guard.specs.declared.value.Value as value
 use Rattle.tn_guard.specs.declared.value.Value.{Value}
-use Rattle.tn_guard.specs.Views.{word_seen, value_seen, values_seen}
+use Rattle.tn_guard.specs.Views.{atom_const_seen, value_seen, values_seen}
 
 pub value_seen_lent : {A : Type 0} (t : Bor (Term A)) → value_seen (value.Lent t) ≡ tree_of t.now
 value_seen_lent t = search (rules, value.the_lemmas)
@@ -24,7 +24,7 @@ value_seen_int A n = search (rules, value.the_lemmas)
 pub value_seen_pid : (A : Type 0) (n : ℕ) → value_seen {A = A} (value.Pid n) ≡ pid n
 value_seen_pid A n = search (rules, value.the_lemmas)
 
-pub value_seen_word : (A : Type 0) (w : Word) → value_seen {A = A} (value.Word w) ≡ word_seen w
+pub value_seen_word : (A : Type 0) (w : AtomConst) → value_seen {A = A} (value.AtomConst w) ≡ atom_const_seen w
 value_seen_word A w = search (rules, value.the_lemmas)
 
 pub value_seen_tuple : {A : Type 0} (vs : Bor (List (Value A))) → value_seen (value.Tuple vs) ≡ tuple (values_seen vs.now)

@@ -2,16 +2,16 @@
 ghost use Rattle.std.specs.Prelude.{◌≡◌, IfOk};
 ghost use Rattle.def_term.specs.Tree.{atom};
 ghost use Rattle.tn_term.specs.Views.{tree_of, trees_of};
-ghost use Rattle.tn_guard.specs.Views.{word_seen, value_seen, values_seen};
+ghost use Rattle.tn_guard.specs.Views.{atom_const_seen, value_seen, values_seen};
 
-use crate::value::{Value, Word};
+use crate::value::{AtomConst, Value};
 use std::alloc::{AllocError, Allocator};
 use tn_term::{Atom, Term, copy_terms};
 
-impl Word {
+impl AtomConst {
     /// The atom in another allocator.
     fn copy_into<B: Allocator>(self, alloc: B) -> Result<Atom<B>, AllocError>
-        ensures { IfOk result (λ a. atom a ≡ word_seen self) }
+        ensures { IfOk result (λ a. atom a ≡ atom_const_seen self) }
     {
         Atom::of(alloc, self.text())
     }
@@ -40,7 +40,7 @@ fn copy_value<A: Allocator, B: Allocator + Copy>(
         Value::Name(name) => Ok(Term::Atom(name.copy_into(alloc)?)),
         Value::Int(n) => Ok(Term::Int(n)),
         Value::Pid(n) => Ok(Term::Pid(n)),
-        Value::Word(word) => Ok(Term::Atom(word.copy_into(alloc)?)),
+        Value::AtomConst(word) => Ok(Term::Atom(word.copy_into(alloc)?)),
         Value::Tuple(items) => Ok(Term::Tuple(copy_values(items, alloc)?)),
         Value::List(items) => Ok(Term::List(copy_values(items, alloc)?)),
     }

@@ -2,10 +2,10 @@
 ghost use Rattle.std.specs.Prelude.{◌≡◌};
 ghost use Rattle.std.specs.Option.{option_map};
 ghost use Rattle.def_term.specs.Tree.{int, tuple};
-ghost use Rattle.def_spec.specs.Functions.{head_of, tail_of, length_of, tuple_size_of, element_of};
-ghost use Rattle.tn_guard.specs.Views.{value_seen, shape_seen, parts_seen};
+ghost use Rattle.def_spec.specs.Functions.{first_element, tail_of, length_of, tuple_size_of, element_of};
+ghost use Rattle.tn_guard.specs.Views.{value_seen, shape_seen, list_view_seen};
 
-use crate::parts::Parts;
+use crate::list_view::ListView;
 use crate::shape::Shape;
 use crate::value::Value;
 use std::alloc::Allocator;
@@ -13,7 +13,7 @@ use std::alloc::Allocator;
 impl<'a, A: Allocator> Shape<'a, A> {
     /// `hd`: the first element of a nonempty list.
     pub fn head(self) -> Option<Value<'a, A>>
-        ensures { option_map value_seen result ≡ head_of (shape_seen self.entry) }
+        ensures { option_map value_seen result ≡ first_element (shape_seen self.entry) }
     {
         match self {
             Shape::List(parts) => parts.first(),
@@ -21,12 +21,12 @@ impl<'a, A: Allocator> Shape<'a, A> {
         }
     }
 
-    /// `tl`: the elements of a nonempty list behind the first.
+    /// `tl`: the elements of a nonempty list after the first.
     pub fn tail(self) -> Option<Value<'a, A>>
         ensures { option_map value_seen result ≡ tail_of (shape_seen self.entry) }
     {
         match self {
-            Shape::List(parts) => parts.behind_first(),
+            Shape::List(parts) => parts.after_first(),
             _ => None,
         }
     }
@@ -63,8 +63,8 @@ impl<'a, A: Allocator> Shape<'a, A> {
 }
 
 /// The element that has this number, from 1.
-fn element_at<'a, A: Allocator>(number: i64, parts: Parts<'a, A>) -> Option<Value<'a, A>>
-    ensures { option_map value_seen result ≡ element_of (int number) (tuple (parts_seen parts.entry)) }
+fn element_at<'a, A: Allocator>(number: i64, parts: ListView<'a, A>) -> Option<Value<'a, A>>
+    ensures { option_map value_seen result ≡ element_of (int number) (tuple (list_view_seen parts.entry)) }
 {
     if number < 1 {
         return None;

@@ -14,17 +14,21 @@ use crate::arithmetic::{
 };
 use crate::logic::{all_true, some_true};
 use crate::shape::Shape;
-use crate::value::{Value, Word};
+use crate::value::{AtomConst, Value};
 use std::alloc::Allocator;
 use tn_spec::Func;
 
 /// The value of one function on values; None is a fault ("Match Specifications in Erlang", "Functions
 /// Allowed in All Types of Match Specifications").
-pub fn apply<'a, A: Allocator>(func: Func, args: &[Value<'a, A>], me: u32) -> Option<Value<'a, A>>
-    ensures { option_map value_seen result ≡ table.apply (func_of func) (map value_seen args.now) me }
+pub fn apply<'a, A: Allocator>(
+    func: Func,
+    args: &[Value<'a, A>],
+    self_pid: u32,
+) -> Option<Value<'a, A>>
+    ensures { option_map value_seen result ≡ table.apply (func_of func) (map value_seen args.now) self_pid }
 {
     match func {
-        Func::OwnPid => own_pid(args, me),
+        Func::OwnPid => own_pid(args, self_pid),
         Func::OwnNode => own_node(args),
         Func::AllOf => Some(Value::truth(all_true(args))),
         Func::OneOf => Some(Value::truth(some_true(args))),
@@ -33,11 +37,11 @@ pub fn apply<'a, A: Allocator>(func: Func, args: &[Value<'a, A>], me: u32) -> Op
 }
 
 /// `self`
-fn own_pid<'a, A: Allocator>(args: &[Value<'a, A>], me: u32) -> Option<Value<'a, A>>
-    ensures { option_map value_seen result ≡ table.apply table.own_pid (map value_seen args.now) me }
+fn own_pid<'a, A: Allocator>(args: &[Value<'a, A>], self_pid: u32) -> Option<Value<'a, A>>
+    ensures { option_map value_seen result ≡ table.apply table.own_pid (map value_seen args.now) self_pid }
 {
     if args.is_empty() {
-        Some(Value::Pid(me))
+        Some(Value::Pid(self_pid))
     } else {
         None
     }
@@ -48,7 +52,7 @@ fn own_node<'a, A: Allocator>(args: &[Value<'a, A>]) -> Option<Value<'a, A>>
     ensures { option_map value_seen result ≡ node_of (map value_seen args.now) }
 {
     if args.is_empty() || (args.len() == 1 && args[0].shape().is_pid()) {
-        Some(Value::Word(Word::Node))
+        Some(Value::AtomConst(AtomConst::Node))
     } else {
         None
     }

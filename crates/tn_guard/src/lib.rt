@@ -1,6 +1,6 @@
 //! The functions of conditions and bodies, on values.
 //!
-//! Stands on tn_term, on tn_spec and on the definitions of def_spec. Promises that `apply` answers the
+//! Depends on tn_term, on tn_spec and on the definitions of def_spec. Promises that `apply` answers the
 //! value of one function on values, and none exactly where that is a fault. A term that a function looks
 //! at is lent, and no function takes memory: only `copy_into` does.
 #![tactic(auto)]
@@ -10,11 +10,11 @@ mod copies;
 mod elements;
 mod functions;
 mod kind;
+mod list_view;
 mod logic;
-mod parts;
 mod shape;
 mod value;
 
 pub use functions::apply;
-pub use parts::Parts;
-pub use value::{Value, Word};
+pub use list_view::ListView;
+pub use value::{AtomConst, Value};

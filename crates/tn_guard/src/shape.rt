@@ -3,9 +3,9 @@ ghost use Rattle.std.specs.Prelude.{◌≡◌};
 ghost use Rattle.def_term.specs.Tree.{atom};
 ghost use Rattle.def_term.specs.Order.{rank, tree_cmp, trees_cmp, same};
 ghost use Rattle.tn_term.specs.Views.{tree_of};
-ghost use Rattle.tn_guard.specs.Views.{shape_seen, parts_seen};
+ghost use Rattle.tn_guard.specs.Views.{shape_seen, list_view_seen};
 
-use crate::parts::Parts;
+use crate::list_view::ListView;
 use std::alloc::Allocator;
 use std::cmp::Ordering;
 use tn_term::Term;
@@ -16,8 +16,8 @@ pub enum Shape<'a, A: Allocator> {
     Int(i64),
     Atom(&'a str),
     Pid(u32),
-    Tuple(Parts<'a, A>),
-    List(Parts<'a, A>),
+    Tuple(ListView<'a, A>),
+    List(ListView<'a, A>),
 }
 
 impl<'a, A: Allocator> Shape<'a, A> {
@@ -29,8 +29,8 @@ impl<'a, A: Allocator> Shape<'a, A> {
             Term::Int(n) => Shape::Int(*n),
             Term::Atom(name) => Shape::Atom(name.text()),
             Term::Pid(n) => Shape::Pid(*n),
-            Term::Tuple(items) => Shape::Tuple(Parts::Terms(items.as_slice())),
-            Term::List(items) => Shape::List(Parts::Terms(items.as_slice())),
+            Term::Tuple(items) => Shape::Tuple(ListView::Terms(items.as_slice())),
+            Term::List(items) => Shape::List(ListView::Terms(items.as_slice())),
         }
     }
 
@@ -85,8 +85,8 @@ fn order_shapes<A: Allocator, B: Allocator>(one: Shape<'_, A>, other: Shape<'_, 
 
 /// The order of two lists of elements, a beginning first.
 #[cycle(order)]
-fn order_parts<A: Allocator, B: Allocator>(v: Parts<'_, A>, w: Parts<'_, B>) -> Ordering
-    ensures { result ≡ trees_cmp (parts_seen v.entry) (parts_seen w.entry) }
+fn order_parts<A: Allocator, B: Allocator>(v: ListView<'_, A>, w: ListView<'_, B>) -> Ordering
+    ensures { result ≡ trees_cmp (list_view_seen v.entry) (list_view_seen w.entry) }
 {
     for i in 0..v.len().min(w.len()) {
         match order_shapes(v.at(i).shape(), w.at(i).shape()) {

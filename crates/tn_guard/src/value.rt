@@ -1,22 +1,22 @@
 // Values: terms that are lent, and what functions and expressions make.
 ghost use Rattle.std.specs.Prelude.{◌≡◌};
 ghost use Rattle.std.specs.Option.{option_map};
-ghost use Rattle.def_term.specs.Tree.{int, atom};
+ghost use Rattle.def_term.specs.Tree.{int, atom, pid_in};
 ghost use Rattle.def_term.specs.Atoms.{IsAtomText};
 ghost use Rattle.def_term.specs.Order.{same};
 ghost use Rattle.def_spec.specs.Functions.{truth};
 ghost use Rattle.tn_term.specs.Views.{tree_of};
-ghost use Rattle.tn_guard.specs.Views.{word_seen, value_seen, shape_seen, parts_seen};
-ghost use Rattle.tn_guard.specs.Views.{text_in, pid_in, tuple_in, list_in};
+ghost use Rattle.tn_guard.specs.Views.{atom_const_seen, value_seen, shape_seen, list_view_seen};
+ghost use Rattle.tn_guard.specs.Views.{text_in, tuple_trees, list_trees};
 
-use crate::parts::Parts;
+use crate::list_view::ListView;
 use crate::shape::Shape;
 use std::alloc::Allocator;
 use tn_term::{Atom, Term, same_terms};
 
 /// An atom that evaluation makes.
 #[derive(Clone, Copy)]
-pub enum Word {
+pub enum AtomConst {
     True,
     False,
     /// `nonode@nohost`
@@ -38,25 +38,25 @@ pub enum Value<'a, A: Allocator> {
     Name(&'a Atom<A>),
     Int(i64),
     Pid(u32),
-    Word(Word),
+    AtomConst(AtomConst),
     /// The tuple of these values.
     Tuple(&'a [Value<'a, A>]),
     /// The list of these values.
     List(&'a [Value<'a, A>]),
 }
 
-impl Word {
+impl AtomConst {
     /// The atom's text.
     pub fn text(self) -> &'static str
-        ensures seen { atom result.now ≡ word_seen self }
+        ensures seen { atom result.now ≡ atom_const_seen self }
         ensures valid { IsAtomText result.now }
     {
         match self {
-            Word::True => "true",
-            Word::False => "false",
-            Word::Node => "nonode@nohost",
-            Word::Exit => "EXIT",
-            Word::Undefined => "undefined",
+            AtomConst::True => "true",
+            AtomConst::False => "false",
+            AtomConst::Node => "nonode@nohost",
+            AtomConst::Exit => "EXIT",
+            AtomConst::Undefined => "undefined",
         }
     }
 }
@@ -64,7 +64,7 @@ impl Word {
 impl<'a, A: Allocator> Default for Value<'a, A> {
     /// `false`
     fn default() -> Value<'a, A> {
-        Value::Word(Word::False)
+        Value::AtomConst(AtomConst::False)
     }
 }
 
@@ -74,9 +74,9 @@ impl<'a, A: Allocator> Value<'a, A> {
         ensures { value_seen result ≡ truth holds }
     {
         if holds {
-            Value::Word(Word::True)
+            Value::AtomConst(AtomConst::True)
         } else {
-            Value::Word(Word::False)
+            Value::AtomConst(AtomConst::False)
         }
     }
 
@@ -132,8 +132,8 @@ impl<'a, A: Allocator> Value<'a, A> {
     }
 
     /// The elements of a tuple; None of any other term.
-    pub fn tuple_parts(self) -> Option<Parts<'a, A>>
-        ensures { option_map parts_seen result ≡ tuple_in (value_seen self.entry) }
+    pub fn tuple_parts(self) -> Option<ListView<'a, A>>
+        ensures { option_map list_view_seen result ≡ tuple_trees (value_seen self.entry) }
     {
         match self.shape() {
             Shape::Tuple(parts) => Some(parts),
@@ -142,8 +142,8 @@ impl<'a, A: Allocator> Value<'a, A> {
     }
 
     /// The elements of a list; None of any other term.
-    pub fn list_parts(self) -> Option<Parts<'a, A>>
-        ensures { option_map parts_seen result ≡ list_in (value_seen self.entry) }
+    pub fn list_parts(self) -> Option<ListView<'a, A>>
+        ensures { option_map list_view_seen result ≡ list_trees (value_seen self.entry) }
     {
         match self.shape() {
             Shape::List(parts) => Some(parts),
@@ -157,13 +157,13 @@ impl<'a, A: Allocator> Value<'a, A> {
     {
         match self {
             Value::Lent(term) => Shape::of(term),
-            Value::Rest(items) => Shape::List(Parts::Terms(items)),
+            Value::Rest(items) => Shape::List(ListView::Terms(items)),
             Value::Name(name) => Shape::Atom(name.text()),
             Value::Int(n) => Shape::Int(n),
             Value::Pid(n) => Shape::Pid(n),
-            Value::Word(word) => Shape::Atom(word.text()),
-            Value::Tuple(items) => Shape::Tuple(Parts::Values(items)),
-            Value::List(items) => Shape::List(Parts::Values(items)),
+            Value::AtomConst(word) => Shape::Atom(word.text()),
+            Value::Tuple(items) => Shape::Tuple(ListView::Values(items)),
+            Value::List(items) => Shape::List(ListView::Values(items)),
         }
     }
 }

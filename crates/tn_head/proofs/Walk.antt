@@ -11,7 +11,7 @@ use Rattle.std.proofs.lemmas.List.{drop_more, drop_all}
 use Rattle.def_term.specs.Tree.{Tree, int, atom, pid, tuple, list, Trees, none, more, count}
 use Rattle.def_term.specs.Order.{same}
 use Rattle.def_spec.specs.Functions.{nth}
-use Rattle.def_spec.specs.Matching.{Pattern, Patterns, variable, only_term, in_tuple, in_list, no_patterns, and_pattern, Bindings, value_bound, met, bind_on, bind_each, bindings_of}
+use Rattle.def_spec.specs.Matching.{Pattern, Patterns, variable, only_term, in_tuple, in_list, no_patterns, and_pattern, Bindings, value_bound, bind, bind_on, bind_each, bindings_of}
 use Rattle.def_spec.proofs.Binding.{bind-matches, matches-bind}
 use Rattle.tn_term.specs.Views.{tree_of}
 use Rattle.tn_term.specs.declared.term.Term.{Term}
@@ -19,21 +19,21 @@ use Rattle.tn_spec.specs.Views.{pattern_seen, patterns_seen}
 use Rattle.tn_spec.specs.declared.pattern.Head.{Head}
 use Rattle.tn_spec.specs.declared.pattern.Head.TheVariants as heads
 use Rattle.tn_spec.specs.declared.pattern.Pattern as code
-use Rattle.tn_guard.specs.Views.{value_seen, tuple_in, list_in}
+use Rattle.tn_guard.specs.Views.{value_seen, tuple_trees, list_trees}
 use Rattle.tn_guard.proofs.Places.{rest_from, rest_here, rest_past}
-use Rattle.tn_guard.specs.declared.parts.Parts.{Parts}
+use Rattle.tn_guard.specs.declared.list_view.ListView.{ListView}
 use Rattle.tn_head.specs.Answers.{bindings_in}
-use Rattle.tn_head.specs.Matching.{IsAnswer, bound_each, bound_if}
+use Rattle.tn_head.specs.Matching.{IsMatchAnswer, bound_each, bound_if}
 use Rattle.tn_head.specs.Views.{binding_seen}
 use Rattle.tn_head.specs.declared.bindings.Binding.{Binding}
 
 -- ---- variables
 
 pub met_again : (n : ℕ) (t u : Tree) (b : Bindings) (s : Bool) → Some u ≡ value_bound b n → s ≡ same u t → bind_on (variable n) t b ≡ (if s then Some b else None)
-met_again n t u b s e h = ap (met n t b) (sym e) ∙ ap (λ x. if x then Some b else None) (sym h)
+met_again n t u b s e h = ap (bind n t b) (sym e) ∙ ap (λ x. if x then Some b else None) (sym h)
 
 pub met_first : (n : ℕ) (t : Tree) (b c : Bindings) → None ≡ value_bound b n → c ≡ put nat_cmp n t b → bind_on (variable n) t b ≡ Some c
-met_first n t b c e h = ap (met n t b) (sym e) ∙ ap Some (sym h)
+met_first n t b c e h = ap (bind n t b) (sym e) ∙ ap Some (sym h)
 
 module _ {A : Type 0} (b : Binding A) where
   abbrev pub place_in : List (Binding A) → ℕ
@@ -84,7 +84,7 @@ of_two_lengths (p ∷ ps) none b h = refl
 of_two_lengths (p ∷ ps) (more t ts) b h = none_then _ (bind_on (pattern_seen p) t b) (λ c. of_two_lengths ps ts c (λ e. h (omega (arith, e))))
 
 -- a tuple or list of patterns, held against the elements of a term
-pub tuple_met : (q : Pattern) (ps : Patterns) (t : Tree) (ts : Trees) (b : Bindings) → q ≡ in_tuple ps → Some ts ≡ tuple_in t → bind_on q t b ≡ bind_each ps ts b
+pub tuple_met : (q : Pattern) (ps : Patterns) (t : Tree) (ts : Trees) (b : Bindings) → q ≡ in_tuple ps → Some ts ≡ tuple_trees t → bind_on q t b ≡ bind_each ps ts b
 tuple_met q ps (int z) ts b e h = cc
 tuple_met q ps (atom s) ts b e h = cc
 tuple_met q ps (pid n) ts b e h = cc
@@ -93,14 +93,14 @@ tuple_met q ps (tuple us) ts b e h =
     ap (λ r. bind_on r (tuple us) b) e ∙ ap (λ ws. bind_each ps ws b) same
 tuple_met q ps (list us) ts b e h = cc
 
-pub no_tuple : (q : Pattern) (ps : Patterns) (t : Tree) (b : Bindings) → q ≡ in_tuple ps → None ≡ tuple_in t → bind_on q t b ≡ None
+pub no_tuple : (q : Pattern) (ps : Patterns) (t : Tree) (b : Bindings) → q ≡ in_tuple ps → None ≡ tuple_trees t → bind_on q t b ≡ None
 no_tuple q ps (int z) b e h = ap (λ r. bind_on r (int z) b) e
 no_tuple q ps (atom s) b e h = ap (λ r. bind_on r (atom s) b) e
 no_tuple q ps (pid n) b e h = ap (λ r. bind_on r (pid n) b) e
 no_tuple q ps (tuple us) b e h = cc
 no_tuple q ps (list us) b e h = ap (λ r. bind_on r (list us) b) e
 
-pub list_met : (q : Pattern) (ps : Patterns) (t : Tree) (ts : Trees) (b : Bindings) → q ≡ in_list ps → Some ts ≡ list_in t → bind_on q t b ≡ bind_each ps ts b
+pub list_met : (q : Pattern) (ps : Patterns) (t : Tree) (ts : Trees) (b : Bindings) → q ≡ in_list ps → Some ts ≡ list_trees t → bind_on q t b ≡ bind_each ps ts b
 list_met q ps (int z) ts b e h = cc
 list_met q ps (atom s) ts b e h = cc
 list_met q ps (pid n) ts b e h = cc
@@ -109,7 +109,7 @@ list_met q ps (list us) ts b e h =
     let same : us ≡ ts = cc in
     ap (λ r. bind_on r (list us) b) e ∙ ap (λ ws. bind_each ps ws b) same
 
-pub no_list : (q : Pattern) (ps : Patterns) (t : Tree) (b : Bindings) → q ≡ in_list ps → None ≡ list_in t → bind_on q t b ≡ None
+pub no_list : (q : Pattern) (ps : Patterns) (t : Tree) (b : Bindings) → q ≡ in_list ps → None ≡ list_trees t → bind_on q t b ≡ None
 no_list q ps (int z) b e h = ap (λ r. bind_on r (int z) b) e
 no_list q ps (atom s) b e h = ap (λ r. bind_on r (atom s) b) e
 no_list q ps (pid n) b e h = ap (λ r. bind_on r (pid n) b) e
@@ -122,13 +122,13 @@ pattern_of_only t = search (rules, code.the_lemmas)
 -- ---- heads
 
 -- a list of patterns that each matched, with nothing bound before
-pub walked : {P A : Type 0} (h : Head P) (ps : Vec (code.Pattern P) P) (parts : Parts A) (start bs : List (Binding A)) (m : Bool) → h ≡ heads.List ps → start ≡ [] → m ≡ true
+pub walked : {P A : Type 0} (h : Head P) (ps : Vec (code.Pattern P) P) (parts : ListView A) (start bs : List (Binding A)) (m : Bool) → h ≡ heads.List ps → start ≡ [] → m ≡ true
     → bound_each ps parts start ≡ bound_if m bs → Some (map binding_seen bs) ≡ bindings_in h parts
 walked h ps parts start bs m is empty all bound =
     sym (ap (λ x. bindings_in x parts) is ∙ ap (bound_each ps parts) (sym empty) ∙ bound ∙ ap (λ b. bound_if b bs) all)
 
 -- ---- answers
 
-pub answered : (p : Pattern) (t : Tree) (o : Option Bindings) → o ≡ bindings_of p t → IsAnswer p t o
+pub answered : (p : Pattern) (t : Tree) (o : Option Bindings) → o ≡ bindings_of p t → IsMatchAnswer p t o
 answered p t None e = λ b m. let found : bindings_of p t ≡ Some b = matches-bind p t b m in cc
 answered p t (Some b) e = bind-matches p t b (sym e)

@@ -8,7 +8,7 @@ ghost use Rattle.tn_head.specs.Views.{binding_seen, bindings_seen};
 
 use smallvec::SmallVec;
 use std::alloc::Allocator;
-use tn_guard::{Parts, Value};
+use tn_guard::{ListView, Value};
 
 /// A variable, by its number, and the first value that it met.
 #[derive_where(Clone, Copy)]
@@ -34,7 +34,7 @@ pub type SomeBindings<'a, A, B> = SmallVec<Binding<'a, A>, 4, B>;
 #[derive(Drop)]
 pub enum Bindings<'a, A: Allocator, B: Allocator> {
     /// The head is this variable, which is bound to the whole list of these elements.
-    Whole(u16, Parts<'a, A>),
+    Whole(u16, ListView<'a, A>),
     /// Each variable of the head, by rising number.
     Each(SomeBindings<'a, A, B>),
 }

@@ -1,22 +1,22 @@
 // A head, held against the list that is matched ("Match Specifications in Erlang", "Grammar").
 ghost use Rattle.std.specs.Prelude.{◌≡◌, IfOk};
 ghost use Rattle.tn_spec.specs.Views.{head_seen};
-ghost use Rattle.tn_head.specs.Matching.{IsAnswer, bound_on, bound_each, bound_at, bound_if, list_seen};
+ghost use Rattle.tn_head.specs.Matching.{IsMatchAnswer, bound_on, bound_each, bound_at, bound_if, list_seen};
 ghost use Rattle.tn_head.specs.Answers.{found_seen, bindings_in};
 
 use crate::bindings::{Binding, Bindings, SomeBindings, place_of, value_of};
 use smallvec::SmallVec;
 use std::alloc::{AllocError, Allocator};
-use tn_guard::{Parts, Value};
+use tn_guard::{ListView, Value};
 use tn_spec::{Head, Pattern};
 
 /// The binding with which the head is the list of these elements; None where there is none.
 pub fn bind<'a, P: Allocator, A: Allocator, B: Allocator + Copy>(
     alloc: B,
     head: &Head<P>,
-    list: Parts<'a, A>,
+    list: ListView<'a, A>,
 ) -> Result<Option<Bindings<'a, A, B>>, AllocError>
-    ensures answer { IfOk result (λ o. IsAnswer (head_seen head.now) (list_seen list.entry) (found_seen o)) }
+    ensures answer { IfOk result (λ o. IsMatchAnswer (head_seen head.now) (list_seen list.entry) (found_seen o)) }
     ensures computed { IfOk result (λ o. found_seen o ≡ bindings_in head.now list.entry) }
 {
     Ok(walk(alloc, head, list)?)
@@ -26,7 +26,7 @@ pub fn bind<'a, P: Allocator, A: Allocator, B: Allocator + Copy>(
 fn walk<'a, P: Allocator, A: Allocator, B: Allocator + Copy>(
     alloc: B,
     head: &Head<P>,
-    list: Parts<'a, A>,
+    list: ListView<'a, A>,
 ) -> Result<Option<Bindings<'a, A, B>>, AllocError>
     ensures { IfOk result (λ o. found_seen o ≡ bindings_in head.now list.entry) }
 {
@@ -72,7 +72,7 @@ pub fn bind_on<'a, P: Allocator, A: Allocator, B: Allocator + Copy>(
 #[cycle(bind)]
 fn bind_each<'a, P: Allocator, A: Allocator, B: Allocator + Copy>(
     patterns: &Vec<Pattern<P>, P>,
-    parts: Parts<'a, A>,
+    parts: ListView<'a, A>,
     bound: &mut SomeBindings<'a, A, B>,
 ) -> Result<bool, AllocError>
     ensures { IfOk result (λ m. bound_each patterns.now parts.entry bound.old.items ≡ bound_if m bound.new.items) }

@@ -3,17 +3,13 @@ use Rattle.std.proofs.Common.{◌≡◌, ◌&&◌, Bool, true, false, eqb-true}
 use Rattle.std.specs.Cmp.{booleans_Decides}
 use Rattle.std.proofs.Math.Bool.{beq}
 use Rattle.std.proofs.lemmas.Slice.Eq.{bytes_eq-Decides}
+use Rattle.std.proofs.lemmas.Bool.{and_parts}
 use Rattle.def_term.specs.Names.{Mfa, same_mfa}
-
-both : (a b : Bool) → (a && b) ≡ true → (a ≡ true) × (b ≡ true)
-both true true e = (e, e)
-both true false e = absurd (let f : false ≡ true = e in cc)
-both false b e = absurd (let f : false ≡ true = e in cc)
 
 pub same_function : (f g : Mfa) → same_mfa f g ≡ true → f ≡ g
 same_function f g e =
-    let m = both _ _ e in
-    let n = both _ _ m.1 in
+    let m = and_parts _ _ e in
+    let n = and_parts _ _ m.1 in
     λ i. record {
       module_name = (bytes_eq-Decides f.module_name g.module_name).0 m.0 i;
       function_name = (bytes_eq-Decides f.function_name g.function_name).0 n.0 i;

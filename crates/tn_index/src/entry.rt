@@ -2,9 +2,9 @@
 ghost use Rattle.std.specs.Prelude.{◌≡◌, None, map, IfSome};
 ghost use Rattle.std.specs.List.{All, Contains};
 ghost use Rattle.tn_term.specs.Views.{mfa_seen};
-ghost use Rattle.tn_index.specs.Entries.{renewed, IsOf, IsUnset};
+ghost use Rattle.tn_index.specs.Entries.{renew, IsEntryOf, IsUnset};
 
-use crate::covering::Covering;
+use crate::function_setting::FunctionSetting;
 use indexmap::IndexMap;
 use std::alloc::{AllocError, Allocator};
 use std::hash::{BuildHasherDefault, DefaultHasher, FoldHasher, Hash, Hasher};
@@ -40,7 +40,7 @@ pub(crate) fn find<'a, A: Allocator>(
     exported: bool,
 ) -> Option<&'a Entry<A>>
     ensures among { IfSome result (λ e. Contains entries.now e.now) }
-    ensures its { IfSome result (λ e. IsOf (mfa_seen function.now) exported e.now) }
+    ensures its { IfSome result (λ e. IsEntryOf (mfa_seen function.now) exported e.now) }
 {
     let place = places.get(&hash_of(function))?;
     let entry = entries.get(*place)?;
@@ -78,12 +78,12 @@ pub(crate) fn enter<A: Allocator + Copy>(
 pub(crate) fn renew<S, A: Allocator>(
     entries: &mut Vec<Entry<A>, A>,
     place: usize,
-    covering: &Covering<S, A>,
+    function_setting: &FunctionSetting<S, A>,
 )
-    ensures { entries.new.items ≡ map (renewed covering.now place) entries.old.items }
+    ensures { entries.new.items ≡ map (renew function_setting.now place) entries.old.items }
 {
     for entry in entries.iter_mut() {
-        if covering.has_among(&entry.function, entry.exported) {
+        if function_setting.has_among(&entry.function, entry.exported) {
             entry.newest = Some(place);
         }
     }

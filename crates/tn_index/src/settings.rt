@@ -4,10 +4,10 @@ ghost use Rattle.std.specs.List.{All};
 ghost use Rattle.std.specs.Option.{option_map};
 ghost use Rattle.tn_term.specs.Views.{mfa_seen};
 ghost use Rattle.tn_index.specs.Entries.{IsRight};
-ghost use Rattle.tn_index.specs.Newest.{newest_of};
+ghost use Rattle.tn_index.specs.Newest.{newest_setting};
 
-use crate::covering::Covering;
 use crate::entry::{Entry, Places, enter, find, renew};
+use crate::function_setting::FunctionSetting;
 use indexmap::IndexMap;
 use std::alloc::{AllocError, Allocator};
 use std::marker::Model;
@@ -19,7 +19,7 @@ use tn_term::Mfa;
 pub struct Settings<S, A: Allocator> {
     alloc: A,
     /// The newest last.
-    accepted: Vec<Covering<S, A>, A>,
+    accepted: Vec<FunctionSetting<S, A>, A>,
     /// The functions of the program, from the first command on.
     entries: Vec<Entry<A>, A>,
     places: Places<A>,
@@ -28,10 +28,10 @@ pub struct Settings<S, A: Allocator> {
 impl<S, A: Allocator> Model for Settings<S, A> {
     ghost use Rattle.std.specs.Prelude.{List, reverse};
     ghost use Rattle.std.specs.List.{All};
-    ghost use Rattle.tn_index.specs.declared.covering.Covering.{Covering};
+    ghost use Rattle.tn_index.specs.declared.function_setting.FunctionSetting.{FunctionSetting};
     ghost use Rattle.tn_index.specs.Entries.{IsRight};
 
-    ghost Value = { List (Covering S A) };
+    ghost Value = { List (FunctionSetting S A) };
 
     ghost view = { λ s. reverse s.accepted.items };
 
@@ -40,18 +40,18 @@ impl<S, A: Allocator> Model for Settings<S, A> {
 
 /// The newest of these commands, of which the last is the newest, that has the function among its own.
 fn newest_in<'a, S, A: Allocator>(
-    accepted: &'a [Covering<S, A>],
+    accepted: &'a [FunctionSetting<S, A>],
     function: &Mfa<A>,
     exported: bool,
-) -> Option<&'a Covering<S, A>>
-    ensures { option_map (λ k. k.now) result ≡ newest_of (reverse accepted.now) (mfa_seen function.now) exported }
+) -> Option<&'a FunctionSetting<S, A>>
+    ensures { option_map (λ k. k.now) result ≡ newest_setting (reverse accepted.now) (mfa_seen function.now) exported }
 {
     let mut left = accepted.len();
     while left > 0 {
         left -= 1;
-        let covering = &accepted[left];
-        if covering.has_among(function, exported) {
-            return Some(covering);
+        let function_setting = &accepted[left];
+        if function_setting.has_among(function, exported) {
+            return Some(function_setting);
         }
     }
     None
@@ -61,7 +61,7 @@ fn newest_in<'a, S, A: Allocator>(
 fn begin<S, A: Allocator + Copy>(
     alloc: A,
     functions: &[(Mfa<A>, bool)],
-    accepted: &Vec<Covering<S, A>, A>,
+    accepted: &Vec<FunctionSetting<S, A>, A>,
     entries: &mut Vec<Entry<A>, A>,
     places: &mut Places<A>,
 ) -> Result<(), AllocError>
@@ -77,17 +77,17 @@ fn begin<S, A: Allocator + Copy>(
 /// Adds a command, which is the newest of the functions that it covers from now on. An error is refused
 /// memory.
 fn add<S: Drop, A: Allocator>(
-    covering: Covering<S, A>,
-    accepted: &mut Vec<Covering<S, A>, A>,
+    function_setting: FunctionSetting<S, A>,
+    accepted: &mut Vec<FunctionSetting<S, A>, A>,
     entries: &mut Vec<Entry<A>, A>,
 ) -> Result<(), AllocError>
     requires { All (IsRight accepted.old.items) entries.old.items }
     ensures right { All (IsRight accepted.new.items) entries.new.items }
-    ensures ok { OnOk result (accepted.new.items ≡ accepted.old.items ++ covering ∷ []) }
+    ensures ok { OnOk result (accepted.new.items ≡ accepted.old.items ++ function_setting ∷ []) }
     ensures err { OnErr result (accepted.new.items ≡ accepted.old.items) }
 {
     let place = accepted.len();
-    accepted.push(covering)?;
+    accepted.push(function_setting)?;
     renew(entries, place, &accepted[place]);
     Ok(())
 }
@@ -115,9 +115,9 @@ impl<S: Drop, A: Allocator + Copy> Settings<S, A> {
     pub fn set(
         &mut self,
         functions: &[(Mfa<A>, bool)],
-        covering: Covering<S, A>,
+        function_setting: FunctionSetting<S, A>,
     ) -> Result<(), AllocError>
-        ensures ok { OnOk result (self.new ≡ covering ∷ self.old) }
+        ensures ok { OnOk result (self.new ≡ function_setting ∷ self.old) }
         ensures err { OnErr result (self.new ≡ self.old) }
     {
         let accepted = &self.accepted;
@@ -128,13 +128,13 @@ impl<S: Drop, A: Allocator + Copy> Settings<S, A> {
             &mut self.entries,
             &mut self.places,
         )?;
-        add(covering, &mut self.accepted, &mut self.entries)?;
+        add(function_setting, &mut self.accepted, &mut self.entries)?;
         Ok(())
     }
 
     /// The newest command that has the function, exported or not, among its own, whichever kind it is.
-    pub fn get(&self, function: &Mfa<A>, exported: bool) -> Option<&Covering<S, A>>
-        ensures { option_map (λ k. k.now) result ≡ newest_of self.now (mfa_seen function.now) exported }
+    pub fn get(&self, function: &Mfa<A>, exported: bool) -> Option<&FunctionSetting<S, A>>
+        ensures { option_map (λ k. k.now) result ≡ newest_setting self.now (mfa_seen function.now) exported }
     {
         match find(&self.entries, &self.places, function, exported) {
             Some(entry) => self.accepted.get(entry.newest?),

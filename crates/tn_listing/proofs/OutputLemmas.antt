@@ -46,8 +46,8 @@ pub none_listed : (p : Program) (picks : List ℕ) (i : ℕ) (text : List ℕ) �
 none_listed p picks i text none =
     sym (append-nil text) ∙ ap (λ r. text ++ listings_text (λ s. messages s p picks) (option_to_list r)) (sym none)
 
-headed_lines : (before header told lines headed after : List ℕ) → headed ≡ before ++ header → after ≡ headed ++ lines → lines ≡ told → after ≡ before ++ (header ++ told)
-headed_lines before header told lines headed after head added own =
+headed_lines : (before header reported lines headed after : List ℕ) → headed ≡ before ++ header → after ≡ headed ++ lines → lines ≡ reported → after ≡ before ++ (header ++ reported)
+headed_lines before header reported lines headed after head added own =
     added ∙ ap (λ l. l ++ lines) head ∙ append_assoc before header lines ∙ ap (λ l. before ++ (header ++ l)) own
 
 pub listed_as : (ms : Name → List Tree) (ss : List (Name × Name)) (i : ℕ) (s : Name × Name) → Some s ≡ slice_get ss i → header_line s.0 s.1 ++ lines_of (ms s.0) ≡ listings_text ms (option_to_list (slice_get ss i))

@@ -10,9 +10,9 @@ use Rattle.tn_program.specs.Views.{program_of}
 use Rattle.tn_trace.specs.declared.transcript.Transcript.{Transcript}
 use Rattle.tn_trace.specs.Transcripts.{IsTranscript}
 
--- the new text is the old one with these bytes behind it
-abbrev pub Adds : {A : Type 0} → List ℕ → Vec ℕ A → Vec ℕ A → Type 0
-Adds bytes old new = new.items ≡ old.items ++ bytes
+-- the new text is the old one with these bytes after it
+abbrev pub AddsText : {A : Type 0} → List ℕ → Vec ℕ A → Vec ℕ A → Type 0
+AddsText bytes old new = new.items ≡ old.items ++ bytes
 
 -- the listing of the session with this number, from 0; nothing where there is none
 abbrev pub listing_numbered : Program → List ℕ → ℕ → List ℕ
@@ -31,5 +31,5 @@ abbrev pub OnItsPicks : {A : Type 0} → code.Program A → Transcript A → (Pr
 OnItsPicks p t IsSo = (picks : List ℕ) → IsTranscript (program_of p) picks t → IsSo (program_of p) picks
 
 -- a call that went well added this text of the program and of whichever picks of it the transcript is of
-abbrev pub Lists : {A X E : Type 0} → (Program → List ℕ → List ℕ) → code.Program A → Transcript A → Result X E → Vec ℕ A → Vec ℕ A → Type 0
-Lists bytes p t result old new = OnItsPicks p t (λ q picks. IfOk result (λ _. Adds (bytes q picks) old new))
+abbrev pub Outputs : {A X E : Type 0} → (Program → List ℕ → List ℕ) → code.Program A → Transcript A → Result X E → Vec ℕ A → Vec ℕ A → Type 0
+Outputs bytes p t result old new = OnItsPicks p t (λ q picks. IfOk result (λ _. AddsText (bytes q picks) old new))

@@ -1,9 +1,10 @@
 //! The text of an output: lines, listings and picks.
 //!
-//! Stands on tn_text (terms and atoms as text), tn_program and tn_trace, and on the definitions of
+//! Depends on tn_text (terms and atoms as text), tn_program and tn_trace, and on the definitions of
 //! def_run. Promises that a `Line` is its item's message as text with a line feed; that `listing_text`
-//! appends a session's header and its messages, a line each, and `lines_text` any terms so; that `read_picks` and `write_picks` are of
-//! the one text of a list of picks; and that `replay` and `round` give the defined output of a program.
+//! appends a session's header and its messages, a line each, and `lines_text` any terms so; that
+//! `read_picks` and `write_picks` are of the one text of a list of picks; and that `replay`
+//! and `round` give the defined output of a program.
 #![tactic(auto)]
 
 mod line;

@@ -2,7 +2,7 @@
 ghost use Rattle.std.specs.Prelude.{◌≡◌, IfOk};
 ghost use Rattle.def_run.specs.Listing.{program_output};
 ghost use Rattle.tn_program.specs.Views.{program_of};
-ghost use Rattle.tn_listing.specs.Outputs.{OnItsPicks, Lists, listing_numbered, all_listings, output_of_round};
+ghost use Rattle.tn_listing.specs.Outputs.{OnItsPicks, Outputs, listing_numbered, all_listings, output_of_round};
 
 use crate::listing::put_header;
 use crate::picks::write_picks;
@@ -17,7 +17,7 @@ fn append_listing<A: Allocator + Copy>(
     program: &Program<A>,
     number: usize,
 ) -> Result<(), AllocError>
-    ensures { Lists (λ p picks. listing_numbered p picks number) program.now transcript.now result text.old text.new }
+    ensures { Outputs (λ p picks. listing_numbered p picks number) program.now transcript.now result text.old text.new }
 {
     let Some((name, tracer)) = program.session_at(number) else {
         return Ok(());
@@ -36,7 +36,7 @@ fn append_listings<A: Allocator + Copy>(
     transcript: &Transcript<A>,
     program: &Program<A>,
 ) -> Result<(), AllocError>
-    ensures { Lists all_listings program.now transcript.now result text.old text.new }
+    ensures { Outputs all_listings program.now transcript.now result text.old text.new }
 {
     for number in 0..program.session_count() {
         append_listing(text, transcript, program, number)?;

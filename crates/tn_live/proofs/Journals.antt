@@ -7,8 +7,8 @@ use Rattle.std.proofs.lemmas.Bool.Decides.{Decides-eqb}
 use Rattle.tn_live.specs.declared.entry.Entry.{Entry}
 use Rattle.tn_live.specs.Journal.{entry, picks_of, made_by, last_from, last_by}
 use Rattle.std.specs.Prelude.{slice_get}
-use Rattle.tn_live.specs.States.{Begins, SeatState, seat_of, AreFresh}
-use Rattle.tn_live.specs.Closing.{Lacks, AreHanded}
+use Rattle.tn_live.specs.States.{HasPrefix, SeatState, seat_of, AreFresh}
+use Rattle.tn_live.specs.ClosedJournals.{LacksSeat, AreHanded}
 
 pub picks-append : (xs ys : List Entry) → picks_of (xs ++ ys) ≡ picks_of xs ++ picks_of ys
 picks-append [] ys = refl
@@ -66,10 +66,10 @@ last-none seat n (x ∷ xs) found none =
     last-none seat (suc n) xs _ (rest-none (nat_eq x.seat seat) (made_by seat xs) h) ∙ mine-none (nat_eq x.seat seat) n (made_by seat xs) found h
 
 -- entries of other seats change neither the count nor the latest entry
-pub made_over : (n : ℕ) (entries seen : List Entry) → Begins entries n seen → made_by n entries ≡ made_by n seen
+pub made_over : (n : ℕ) (entries seen : List Entry) → HasPrefix entries n seen → made_by n entries ≡ made_by n seen
 made_over n entries seen b = ap (made_by n) b.1 ∙ made-append n seen b.0 ∙ ap (made_by n seen +◌) b.2 ∙ omega arith
 
-pub last_over : (n : ℕ) (entries seen : List Entry) → Begins entries n seen → last_by n entries ≡ last_by n seen
+pub last_over : (n : ℕ) (entries seen : List Entry) → HasPrefix entries n seen → last_by n entries ≡ last_by n seen
 last_over n entries seen b = ap (last_by n) b.1 ∙ last-append n 0 seen b.0 None ∙ last-none n (0 + length seen) b.0 (last_by n seen) b.2
 
 -- an own entry is the latest
@@ -78,13 +78,13 @@ last_own n k xs =
     last-append n 0 xs (entry n k ∷ []) None ∙ same-cond n (Some (0 + length xs)) (last_by n xs) ∙ ap Some (omega arith)
 
 -- a beginning with as many entries of the seat as the whole has no later one
-pub begins_where : (entries seen rest : List Entry) (number made : ℕ) → entries ≡ seen ++ rest → made ≡ made_by number seen → made_by number entries ≡ made → Begins entries number seen
+pub begins_where : (entries seen rest : List Entry) (number made : ℕ) → entries ≡ seen ++ rest → made ≡ made_by number seen → made_by number entries ≡ made → HasPrefix entries number seen
 begins_where entries seen rest number made is counted same = (rest, is, omega (arith, made-append number seen rest, ap (made_by number) is))
 
-pub begins_counts : (entries seen : List Entry) (number made : ℕ) → made ≡ made_by number seen → Begins entries number seen → made_by number entries ≡ made
+pub begins_counts : (entries seen : List Entry) (number made : ℕ) → made ≡ made_by number seen → HasPrefix entries number seen → made_by number entries ≡ made
 begins_counts entries seen number made counted b = made_over number entries seen b ∙ sym counted
 
-pub begins_length : (entries seen : List Entry) (number : ℕ) → Begins entries number seen → length seen ≤ length entries
+pub begins_length : (entries seen : List Entry) (number : ℕ) → HasPrefix entries number seen → length seen ≤ length entries
 begins_length entries seen number b = omega (arith, ap length b.1, length-append seen b.0)
 
 -- one more entry of a seat is counted
@@ -110,10 +110,10 @@ counts_none entries empty seat d below = zeros-at 16 seat d below ∙ sym (ap (m
 
 -- ---- lists of seats
 
-pub handed_more : (seats : List SeatState) (k : ℕ) → AreHanded seats k → (Lacks seats k → ⊥) → AreHanded seats (k + 1)
+pub handed_more : (seats : List SeatState) (k : ℕ) → AreHanded seats k → (LacksSeat seats k → ⊥) → AreHanded seats (k + 1)
 handed_more seats k handed here n below lacks =
     elim (cases_eq n k) [
-      | inl same ↦ here (subst (Lacks seats) same lacks)
+      | inl same ↦ here (subst (LacksSeat seats) same lacks)
       | inr other ↦ handed n (omega arith) lacks
     ]
 

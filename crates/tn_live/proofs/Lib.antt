@@ -1,6 +1,6 @@
-pub mod Adding
+pub mod Prefixes
 pub mod Journals
-pub mod Answering
-pub mod Entering
-pub mod Booking
-pub mod Confirming
+pub mod Answers
+pub mod RecordTurns
+pub mod BookTurns
+pub mod Receipts

@@ -2,7 +2,7 @@ pub mod Log
 pub mod Journal
 pub mod States
 pub mod Places
-pub mod Keeping
-pub mod Stepping
-pub mod Turning
-pub mod Closing
+pub mod Records
+pub mod RecordTurns
+pub mod SeatTurns
+pub mod ClosedJournals

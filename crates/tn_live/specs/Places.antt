@@ -7,7 +7,7 @@ use Rattle.def_run.specs.Listing.{Item as DefinedItem, answer, messages}
 use Rattle.tn_trace.specs.Items.{item_seen}
 use Rattle.tn_trace.specs.Cores.{IsCore, creation_numbered}
 use Rattle.tn_trace.specs.declared.item.Item.{Item}
-use Rattle.tn_trace.specs.declared.recording.Core.{Core}
+use Rattle.tn_trace.specs.declared.run_core.Core.{Core}
 use Rattle.tn_term.specs.Views.{tree_of}
 use Rattle.tn_term.specs.declared.term.Term.{Term}
 use Rattle.std.specs.Option.{option_map}
@@ -15,34 +15,34 @@ use denote.Ref.{Bor}
 use Rattle.tn_live.specs.declared.entry.ItemPlace.{ItemPlace}
 
 -- where a message stands
-abbrev pub place_of : DefinedItem → ItemPlace
-place_of x = record { session = x.session; index = x.index }
+abbrev pub item_place : DefinedItem → ItemPlace
+item_place x = record { session = x.session; index = x.index }
 
 -- where the messages stand that each of the first n moves adds
-abbrev pub places_of : Program → List ℕ → ℕ → List (List ItemPlace)
-places_of program picks zero = []
-places_of program picks (suc n) = places_of program picks n ++ map place_of (answer program picks n) ∷ []
+abbrev pub item_places : Program → List ℕ → ℕ → List (List ItemPlace)
+item_places program picks zero = []
+item_places program picks (suc n) = item_places program picks n ++ map item_place (answer program picks n) ∷ []
 
 -- a message, if any, as the item of this place
-abbrev pub told_message : ItemPlace → Option Tree → Option DefinedItem
-told_message place None = None
-told_message place (Some m) = Some (record { session = place.session; index = place.index; message = m })
+abbrev pub reported_message : ItemPlace → Option Tree → Option DefinedItem
+reported_message place None = None
+reported_message place (Some m) = Some (record { session = place.session; index = place.index; message = m })
 
-abbrev pub message_in : Program → List ℕ → ℕ → Option (Name × Name) → Option Tree
-message_in program picks index None = None
-message_in program picks index (Some s) = slice_get (messages s.0 program picks) index
+abbrev pub message_of_place : Program → List ℕ → ℕ → Option (Name × Name) → Option Tree
+message_of_place program picks index None = None
+message_of_place program picks index (Some s) = slice_get (messages s.0 program picks) index
 
 -- the message at a place of the listings, where there is one
 abbrev pub message_at : Program → List ℕ → ItemPlace → Option Tree
-message_at program picks place = message_in program picks place.index (creation_numbered program place.session)
+message_at program picks place = message_of_place program picks place.index (creation_numbered program place.session)
 
 -- the item of the message at a place of the listings
-abbrev pub told_at : Program → List ℕ → ItemPlace → Option DefinedItem
-told_at program picks place = told_message place (message_at program picks place)
+abbrev pub reported_at : Program → List ℕ → ItemPlace → Option DefinedItem
+reported_at program picks place = reported_message place (message_at program picks place)
 
 -- the items are the messages at these places, in order
 abbrev pub AreTold : {A : Type 0} → Program → List ℕ → List ItemPlace → List (Item A) → Type 0
-AreTold program picks places items = map (told_at program picks) places ≡ map (λ x. Some (item_seen x)) items
+AreTold program picks places items = map (reported_at program picks) places ≡ map (λ x. Some (item_seen x)) items
 
 -- whatever journal the core is of, the test is true exactly where this holds of it
 abbrev pub TellsWhether : {A : Type 0} → Core A → Bool → (Program → List ℕ → Type 0) → Type 0

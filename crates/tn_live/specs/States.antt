@@ -42,12 +42,12 @@ abbrev pub MovesAfter : Program → List Entry → ℕ → Type 0
 MovesAfter program entries pick = moves program (picks_of entries ++ pick ∷ []) ≡ picks_of entries ++ pick ∷ []
 
 -- the seen list begins the journal, which has no later entry of the seat
-abbrev pub Begins : List Entry → ℕ → List Entry → Type 0
-Begins entries number seen = (rest : List Entry) × (entries ≡ seen ++ rest) × (made_by number rest ≡ 0)
+abbrev pub HasPrefix : List Entry → ℕ → List Entry → Type 0
+HasPrefix entries number seen = (rest : List Entry) × (entries ≡ seen ++ rest) × (made_by number rest ≡ 0)
 
 -- the book isn't spent, and what the seat has seen begins its journal with no later entry of that seat
-abbrev pub Fits : BookState → SeatState → Type 0
-Fits b s = (b.spent ≡ false) × Begins b.entries s.number s.seen
+abbrev pub SeatFits : BookState → SeatState → Type 0
+SeatFits b s = (b.spent ≡ false) × HasPrefix b.entries s.number s.seen
 
 -- so many seats, numbered from 0, have seen nothing
 pub record AreFresh (count : ℕ) (seats : List SeatState) : Type 0 where

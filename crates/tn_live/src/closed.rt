@@ -1,6 +1,6 @@
 // A journal to which nothing is added any more.
 use crate::entry::{Entry, Receipt};
-use crate::front::Naming;
+use crate::prefix::JournalName;
 use crate::record::Record;
 use std::alloc::Allocator;
 use std::marker::Model;
@@ -9,14 +9,14 @@ use tn_term::Term;
 
 /// A closed journal, with the listings and the replies of its picks.
 #[derive(Drop)]
-pub struct Closed<A: Allocator, J: Naming> {
+pub struct Closed<A: Allocator, J: JournalName> {
     pub(crate) record: Record<A, J>,
 }
 
-impl<A: Allocator, J: Naming> Model for Closed<A, J> {
+impl<A: Allocator, J: JournalName> Model for Closed<A, J> {
     ghost use Rattle.std.specs.Prelude.{List};
     ghost use Rattle.tn_live.specs.declared.entry.Entry.{Entry};
-    ghost use Rattle.tn_live.specs.Keeping.{IsRecord};
+    ghost use Rattle.tn_live.specs.Records.{IsRecord};
 
     ghost Value = { List Entry };
 
@@ -25,7 +25,7 @@ impl<A: Allocator, J: Naming> Model for Closed<A, J> {
     ghost invariant = { λ c. IsRecord J.program c.record };
 }
 
-impl<A: Allocator + Copy, J: Naming> Closed<A, J> {
+impl<A: Allocator + Copy, J: JournalName> Closed<A, J> {
     ghost use Rattle.std.specs.Prelude.{◌≡◌, IsTrue, ◌↔◌, map};
     ghost use Rattle.def_script.specs.Script.{creations};
     ghost use Rattle.def_run.specs.Listing.{replies};
@@ -34,7 +34,7 @@ impl<A: Allocator + Copy, J: Naming> Closed<A, J> {
     ghost use Rattle.tn_trace.specs.Cores.{Lists};
     ghost use Rattle.tn_live.specs.Journal.{picks_of};
     ghost use Rattle.tn_live.specs.States.{IsJournal};
-    ghost use Rattle.tn_live.specs.Closing.{Confirms};
+    ghost use Rattle.tn_live.specs.ClosedJournals.{Confirms};
 
     /// The entries, in order, each with its seat and pick. Each pick moved.
     pub fn journal(&self) -> &[Entry]

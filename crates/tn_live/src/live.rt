@@ -2,7 +2,7 @@
 use crate::book::Book;
 use crate::closed::Closed;
 use crate::entry::Turn;
-use crate::front::{Naming, Opened};
+use crate::prefix::{JournalName, NewLog};
 use crate::seat::{Seat, first_missing};
 use std::alloc::{AllocError, Allocator};
 use std::fmt;
@@ -14,12 +14,12 @@ use tn_trace::{Core, StepFault};
 /// A book under a lock, beside the number of its seats. Contracts see the number, and the log that names the
 /// lock; its program is that of its type.
 #[derive(Drop)]
-pub struct Live<A: Allocator, J: Naming> {
+pub struct Live<A: Allocator, J: JournalName> {
     seats: u32,
     lock: Mutex<Book<A, J>>,
 }
 
-impl<A: Allocator, J: Naming> Model for Live<A, J> {
+impl<A: Allocator, J: JournalName> Model for Live<A, J> {
     ghost use Rattle.tn_live.specs.States.{LiveState, live_of};
 
     ghost Value = { LiveState };
@@ -29,7 +29,7 @@ impl<A: Allocator, J: Naming> Model for Live<A, J> {
 
 /// Why a lock wasn't closed.
 #[derive(Drop, Error)]
-pub enum CloseFault<A: Allocator, J: Naming> {
+pub enum CloseFault<A: Allocator, J: JournalName> {
     /// 16: a step was refused memory, or the seats don't account for the journal.
     #[error("fault 16 spent")]
     Spent,
@@ -42,7 +42,7 @@ pub enum CloseFault<A: Allocator, J: Naming> {
     },
 }
 
-impl<A: Allocator, J: Naming> fmt::Debug for CloseFault<A, J> {
+impl<A: Allocator, J: JournalName> fmt::Debug for CloseFault<A, J> {
     fn fmt<W: fmt::Write>(&self, f: &mut fmt::Formatter<W>) -> fmt::Result {
         match self {
             CloseFault::Spent => write!(f, "Spent"),
@@ -51,12 +51,12 @@ impl<A: Allocator, J: Naming> fmt::Debug for CloseFault<A, J> {
     }
 }
 
-impl<A: Allocator + Copy, J: Naming> Live<A, J> {
+impl<A: Allocator + Copy, J: JournalName> Live<A, J> {
     ghost use Rattle.std.specs.Prelude.{◌≡◌, ◌≤◌, ◌<◌, [], IfOk};
     ghost use Rattle.tn_trace.specs.Cores.{IsCore};
     ghost use Rattle.tn_live.specs.States.{live_of, AreFresh};
-    ghost use Rattle.tn_live.specs.Turning.{SeatTurns, SeatCounts};
-    ghost use Rattle.tn_live.specs.Closing.{Closes};
+    ghost use Rattle.tn_live.specs.SeatTurns.{SeatTurns, SeatCounts};
+    ghost use Rattle.tn_live.specs.ClosedJournals.{Closes};
 
     /// Puts the book of a core, with an empty journal, under a lock, and makes its seats, `n` of them,
     /// numbered from 0. The journal's log and its program are those that J names.
@@ -67,16 +67,16 @@ impl<A: Allocator + Copy, J: Naming> Live<A, J> {
     pub fn begin(
         alloc: A,
         core: Core<A>,
-        opened: Opened,
+        new_log: NewLog,
         n: u32,
     ) -> Result<(Live<A, J>, Vec<Seat<A, J>, A>), AllocError>
         requires core { IsCore J.program [] core }
-        requires named { opened ≡ J.log }
+        requires named { new_log ≡ J.log }
         requires count { (0 < n) × (n ≤ 16) }
         ensures live { IfOk result (λ r. r.0 ≡ live_of n J.log) }
         ensures seats { IfOk result (λ r. AreFresh n r.1.items) }
     {
-        let (book, seats) = Book::begin(alloc, core, opened, n)?;
+        let (book, seats) = Book::begin(alloc, core, new_log, n)?;
         let live = Live {
             seats: n,
             lock: Mutex::new(book),
@@ -128,7 +128,7 @@ impl<A: Allocator + Copy, J: Naming> Live<A, J> {
             }),
             None => {
                 let Live { lock, .. } = self;
-                match lock.into_inner().ended(seats.as_slice()) {
+                match lock.into_inner().into_closed(seats.as_slice()) {
                     Some(closed) => Ok(closed),
                     None => Err(CloseFault::Spent),
                 }

@@ -1,7 +1,7 @@
 // Where messages stand in the listings, and receipts held against them.
 ghost use Rattle.std.specs.Prelude.{◌≡◌, IfOk, map, Some, slice_get};
 ghost use Rattle.tn_trace.specs.Items.{item_seen};
-ghost use Rattle.tn_live.specs.Places.{place_of, told_at, AreTold, TellsWhether, IsMessageAt};
+ghost use Rattle.tn_live.specs.Places.{item_place, reported_at, AreTold, TellsWhether, IsMessageAt};
 ghost use Rattle.std.specs.Option.{option_map};
 ghost use Rattle.tn_term.specs.Views.{tree_of};
 
@@ -15,7 +15,7 @@ pub(crate) fn find_places<A: Allocator + Copy>(
     alloc: A,
     items: &[Item<A>],
 ) -> Result<Vec<ItemPlace, A>, AllocError>
-    ensures { IfOk result (λ v. v.items ≡ map place_of (map item_seen items.now)) }
+    ensures { IfOk result (λ v. v.items ≡ map item_place (map item_seen items.now)) }
 {
     let mut places = Vec::with_capacity(alloc, items.len())?;
     for item in items {
@@ -50,7 +50,7 @@ fn find_message<A: Allocator + Copy>(core: &Core<A>, place: ItemPlace) -> Option
 
 /// Whether the item is the message at this place of the core's listings.
 fn is_told<A: Allocator + Copy>(core: &Core<A>, place: ItemPlace, item: &Item<A>) -> bool
-    ensures { TellsWhether core.now result (λ p picks. told_at p picks place ≡ Some (item_seen item.now)) }
+    ensures { TellsWhether core.now result (λ p picks. reported_at p picks place ≡ Some (item_seen item.now)) }
 {
     if place.session != item.session || place.index != item.index {
         return false;

@@ -1,7 +1,7 @@
 // What a book has while it isn't spent, and what a seat has.
 use crate::entry::{Entry, ItemPlace, Receipt, Turn};
-use crate::front::{Front, Head, Naming};
 use crate::places::{are_told, find_places};
+use crate::prefix::{Head, JournalName, Prefix};
 use std::alloc::{AllocError, Allocator};
 use tn_program::Program;
 use tn_trace::{Answer, Core, Item, StepFault};
@@ -9,8 +9,8 @@ use tn_trace::{Answer, Core, Item, StepFault};
 /// What a seat has seen: a beginning of the journal, with how many of its entries the seat made, and the
 /// number of the latest of them.
 #[derive(Drop)]
-pub(crate) struct Seen<A: Allocator, J: Naming> {
-    pub front: Front<J>,
+pub(crate) struct Seen<A: Allocator, J: JournalName> {
+    pub front: Prefix<J>,
     pub number: u32,
     pub entries: Vec<Entry, A>,
     pub made: u64,
@@ -20,26 +20,26 @@ pub(crate) struct Seen<A: Allocator, J: Naming> {
 /// A core with the journal whose core it is: for each entry where the messages stand that its move added,
 /// and for each seat how many entries it made.
 #[derive(Drop)]
-pub(crate) struct Record<A: Allocator, J: Naming> {
+pub(crate) struct Record<A: Allocator, J: JournalName> {
     pub alloc: A,
-    pub front: Front<J>,
+    pub front: Prefix<J>,
     pub core: Core<A>,
     pub entries: Vec<Entry, A>,
     pub places: Vec<Vec<ItemPlace, A>, A>,
     pub counts: [u64; 16],
 }
 
-impl<A: Allocator + Copy, J: Naming> Record<A, J> {
+impl<A: Allocator + Copy, J: JournalName> Record<A, J> {
     ghost use Rattle.std.specs.Prelude.{◌≡◌, ◌≤◌, ◌<◌, ◌++◌, List, IfOk, OnOk, IsTrue, ◌↔◌, length, map};
     ghost use Rattle.std.specs.Prelude.{vec_capacity};
     ghost use Rattle.tn_program.specs.Views.{program_of};
     ghost use Rattle.tn_trace.specs.Items.{item_seen};
     ghost use Rattle.tn_live.specs.declared.entry.Entry.{Entry};
-    ghost use Rattle.tn_live.specs.States.{Begins};
-    ghost use Rattle.tn_live.specs.Closing.{Confirms};
-    ghost use Rattle.tn_live.specs.Keeping.{IsSeen, IsRecord, CountsMade};
-    ghost use Rattle.tn_live.specs.Stepping.{SameRecord, SameSeen, HasRoom, HasMoved, AddsEntry, Shows};
-    ghost use Rattle.tn_live.specs.Stepping.{Turns, MoveEnters};
+    ghost use Rattle.tn_live.specs.States.{HasPrefix};
+    ghost use Rattle.tn_live.specs.ClosedJournals.{Confirms};
+    ghost use Rattle.tn_live.specs.Records.{IsSeen, IsRecord, CountsMade};
+    ghost use Rattle.tn_live.specs.RecordTurns.{SameRecord, SameSeen, SeatHasRoom, HasMoved, AddsEntry, ShowsTurn};
+    ghost use Rattle.tn_live.specs.RecordTurns.{IsTurnOf, MoveEnters};
 
     /// Whether it is of the program.
     pub fn is_of(&self, program: &Program<A>) -> bool
@@ -53,7 +53,7 @@ impl<A: Allocator + Copy, J: Naming> Record<A, J> {
     pub fn admits(&self, seen: &Seen<A, J>) -> bool
         requires record { IsRecord J.program self.now }
         requires seen { IsSeen J.program seen.now }
-        ensures { IsTrue result ↔ Begins self.now.entries.items seen.now.number seen.now.entries.items }
+        ensures { IsTrue result ↔ HasPrefix self.now.entries.items seen.now.number seen.now.entries.items }
     {
         if seen.entries.len() > self.entries.len() {
             return false;
@@ -67,7 +67,7 @@ impl<A: Allocator + Copy, J: Naming> Record<A, J> {
         requires { length seen.old.entries.items ≤ length self.old.entries.items }
         ensures record { SameRecord self.old self.new }
         ensures seen { SameSeen seen.old seen.new }
-        ensures room { OnOk result (HasRoom self.new seen.new) }
+        ensures room { OnOk result (SeatHasRoom self.new seen.new) }
     {
         let unseen = self.entries.len() - seen.entries.len() + 1;
         seen.entries.reserve(unseen)?;
@@ -80,7 +80,7 @@ impl<A: Allocator + Copy, J: Naming> Record<A, J> {
     fn show(&self, seen: &mut Seen<A, J>)
         requires begins { (rest : List Entry) × (self.now.entries.items ≡ seen.old.entries.items ++ rest) }
         requires room { length self.now.entries.items ≤ vec_capacity seen.old.entries }
-        ensures { Shows self.now seen.old seen.new }
+        ensures { ShowsTurn self.now seen.old seen.new }
     {
         let from = seen.entries.len();
         let _ = seen.entries.extend_from_slice(&self.entries[from..]);
@@ -125,8 +125,8 @@ impl<A: Allocator + Copy, J: Naming> Record<A, J> {
     ) -> Result<Turn<A>, StepFault>
         requires moved { HasMoved J.program pick self.old (map item_seen items.items) }
         requires seen { IsSeen J.program seen.old }
-        requires begins { Begins self.old.entries.items seen.old.number seen.old.entries.items }
-        requires room { HasRoom self.old seen.old }
+        requires begins { HasPrefix self.old.entries.items seen.old.number seen.old.entries.items }
+        requires room { SeatHasRoom self.old seen.old }
         ensures { MoveEnters J.program pick self.old seen.old result self.new seen.new }
     {
         let Ok(places) = find_places(self.alloc, &items) else {
@@ -155,8 +155,8 @@ impl<A: Allocator + Copy, J: Naming> Record<A, J> {
     ) -> Result<Turn<A>, StepFault>
         requires record { IsRecord J.program self.old }
         requires seen { IsSeen J.program seen.old }
-        requires begins { Begins self.old.entries.items seen.old.number seen.old.entries.items }
-        ensures { Turns J.program pick self.old seen.old result self.new seen.new }
+        requires begins { HasPrefix self.old.entries.items seen.old.number seen.old.entries.items }
+        ensures { IsTurnOf J.program pick self.old seen.old result self.new seen.new }
     {
         let Ok(()) = self.make_room(seen) else {
             return Err(StepFault::OutOfMemory);

@@ -1,23 +1,23 @@
 // The seats, each of which has seen a beginning of the journal.
 ghost use Rattle.std.specs.Prelude.{◌≡◌, ◌≤◌, ◌<◌, [], IfOk, IfSome, IfNone, IsTrue, IsFalse};
 ghost use Rattle.tn_live.specs.States.{seat_of, AreFresh};
-ghost use Rattle.tn_live.specs.Closing.{Lacks, AreHanded, AreEntered, IsMissing, made_in_all};
+ghost use Rattle.tn_live.specs.ClosedJournals.{LacksSeat, AreHanded, AreEntered, IsMissing, made_in_all};
 
 use crate::entry::Entry;
-use crate::front::{Front, Naming};
+use crate::prefix::{JournalName, Prefix};
 use crate::record::Seen;
 use std::alloc::{AllocError, Allocator};
 use std::marker::Model;
 
 /// One who steps the core, in turn with the others, and has seen a beginning of its journal.
 #[derive(Drop)]
-pub struct Seat<A: Allocator, J: Naming> {
+pub struct Seat<A: Allocator, J: JournalName> {
     pub(crate) seen: Seen<A, J>,
 }
 
-impl<A: Allocator, J: Naming> Model for Seat<A, J> {
+impl<A: Allocator, J: JournalName> Model for Seat<A, J> {
     ghost use Rattle.tn_live.specs.States.{SeatState, seat_of};
-    ghost use Rattle.tn_live.specs.Keeping.{IsSeen};
+    ghost use Rattle.tn_live.specs.Records.{IsSeen};
 
     ghost Value = { SeatState };
 
@@ -26,7 +26,7 @@ impl<A: Allocator, J: Naming> Model for Seat<A, J> {
     ghost invariant = { λ s. IsSeen J.program s.seen };
 }
 
-impl<A: Allocator, J: Naming> Seat<A, J> {
+impl<A: Allocator, J: JournalName> Seat<A, J> {
     ghost use Rattle.std.specs.Prelude.{◌≡◌};
     ghost use Rattle.tn_live.specs.Journal.{made_by, last_by};
     ghost use Rattle.tn_live.specs.States.{IsJournal};
@@ -55,7 +55,7 @@ impl<A: Allocator, J: Naming> Seat<A, J> {
 }
 
 /// A seat that has seen nothing.
-fn fresh_seat<A: Allocator, J: Naming>(alloc: A, front: &Front<J>, number: u32) -> Seat<A, J>
+fn fresh_seat<A: Allocator, J: JournalName>(alloc: A, front: &Prefix<J>, number: u32) -> Seat<A, J>
     requires front { front.now ≡ [] }
     requires few { number < 16 }
     ensures { result ≡ seat_of number [] }
@@ -72,9 +72,9 @@ fn fresh_seat<A: Allocator, J: Naming>(alloc: A, front: &Front<J>, number: u32) 
 }
 
 /// Seats that have seen nothing, `n` of them, numbered from 0.
-pub(crate) fn fresh_seats<A: Allocator + Copy, J: Naming>(
+pub(crate) fn fresh_seats<A: Allocator + Copy, J: JournalName>(
     alloc: A,
-    front: &Front<J>,
+    front: &Prefix<J>,
     n: u32,
 ) -> Result<Vec<Seat<A, J>, A>, AllocError>
     requires front { front.now ≡ [] }
@@ -89,9 +89,9 @@ pub(crate) fn fresh_seats<A: Allocator + Copy, J: Naming>(
 }
 
 /// Whether a seat has the number.
-fn has_seat<A: Allocator, J: Naming>(seats: &[Seat<A, J>], number: u32) -> bool
-    ensures has { IsTrue result → Lacks seats.now number → ⊥ }
-    ensures lacks { IsFalse result → Lacks seats.now number }
+fn has_seat<A: Allocator, J: JournalName>(seats: &[Seat<A, J>], number: u32) -> bool
+    ensures has { IsTrue result → LacksSeat seats.now number → ⊥ }
+    ensures lacks { IsFalse result → LacksSeat seats.now number }
 {
     for seat in seats {
         if seat.number() == number {
@@ -102,7 +102,7 @@ fn has_seat<A: Allocator, J: Naming>(seats: &[Seat<A, J>], number: u32) -> bool
 }
 
 /// The least number below `count` that no seat has.
-pub(crate) fn first_missing<A: Allocator, J: Naming>(
+pub(crate) fn first_missing<A: Allocator, J: JournalName>(
     seats: &[Seat<A, J>],
     count: u32,
 ) -> Option<u32>
@@ -118,7 +118,10 @@ pub(crate) fn first_missing<A: Allocator, J: Naming>(
 }
 
 /// Whether each entry is one of a seat.
-pub(crate) fn are_entered<A: Allocator, J: Naming>(seats: &[Seat<A, J>], entries: &[Entry]) -> bool
+pub(crate) fn are_entered<A: Allocator, J: JournalName>(
+    seats: &[Seat<A, J>],
+    entries: &[Entry],
+) -> bool
     ensures { IsTrue result → AreEntered seats.now entries.now }
 {
     for entry in entries {
@@ -130,7 +133,7 @@ pub(crate) fn are_entered<A: Allocator, J: Naming>(seats: &[Seat<A, J>], entries
 }
 
 /// How many entries the seats made; None for more than a `u64` counts.
-pub fn total_made<A: Allocator, J: Naming>(seats: &[Seat<A, J>]) -> Option<u64>
+pub fn total_made<A: Allocator, J: JournalName>(seats: &[Seat<A, J>]) -> Option<u64>
     ensures total { IfSome result (λ n. n ≡ made_in_all seats.now) }
     ensures none { IfNone result (u64.MAX < made_in_all seats.now) }
 {

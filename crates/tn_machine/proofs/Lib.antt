@@ -2,4 +2,4 @@ pub mod Sets
 pub mod Elements
 pub mod Goings
 pub mod Moves
-pub mod Compiled
+pub mod CompiledRuns

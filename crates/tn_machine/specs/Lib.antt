@@ -1,4 +1,4 @@
 pub mod Views
 pub mod Steps
 pub mod Runs
-pub mod Lent
+pub mod Types

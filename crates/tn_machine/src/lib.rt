@@ -1,13 +1,13 @@
 //! The machine that runs the code of a specification.
 //!
-//! Stands on tn_code, tn_guard and tn_action, and on the definitions of def_machine. Promises that
+//! Depends on tn_code, tn_guard and tn_action, and on the definitions of def_machine. Promises that
 //! `execute` answers the outcome that the code's run ends with, and takes no step that the code doesn't
 //! name. What is evaluated lies in the caller's arena; effects are copied out of it.
 #![tactic(auto)]
 
+mod execution;
 mod registers;
-mod running;
 mod steps;
 
-pub use running::execute;
+pub use execution::execute;
 pub use tn_action::{Context, Effect, Outcome};

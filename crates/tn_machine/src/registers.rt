@@ -5,15 +5,15 @@ ghost use Rattle.def_machine.specs.Machine.{has_kind, parts, terms_in, with_regi
 ghost use Rattle.def_machine.specs.Validity.{Each};
 ghost use Rattle.def_spec.specs.Functions.{nth};
 ghost use Rattle.def_term.specs.Tree.{count};
-ghost use Rattle.tn_code.specs.Views.{kind_of};
-ghost use Rattle.tn_guard.specs.Views.{value_seen, parts_seen};
-ghost use Rattle.tn_machine.specs.Views.{IsSetIn, parts_in, registers_of};
+ghost use Rattle.tn_code.specs.Views.{shape_kind_seen};
+ghost use Rattle.tn_guard.specs.Views.{value_seen, list_view_seen};
+ghost use Rattle.tn_machine.specs.Views.{IsSetIn, parts_in, registers_seen};
 
 use bumpalo::Bump;
 use smallvec::SmallVec;
 use std::alloc::{AllocError, Allocator};
 use tn_code::Kind;
-use tn_guard::{Parts, Value};
+use tn_guard::{ListView, Value};
 
 /// The registers of a run, each with its value where it is set, in an arena.
 pub type Registers<'a, A> = Vec<Option<Value<'a, A>>, &'a Bump<A>>;
@@ -27,7 +27,7 @@ pub fn value_in<'a, A: Allocator>(
     register: usize,
 ) -> Value<'a, A>
     requires { IsSetIn registers.now register }
-    ensures { registers_of registers.now register ≡ Some (value_seen result) }
+    ensures { registers_seen registers.now register ≡ Some (value_seen result) }
 {
     match registers[register] {
         Some(value) => value,
@@ -42,7 +42,7 @@ pub fn values_in<'a, A: Allocator + Copy>(
     from: &[usize],
 ) -> Result<SomeValues<'a, A>, AllocError>
     requires { Each (λ r. IsSetIn registers.now r) from.now }
-    ensures { IfOk result (λ vs. terms_in (registers_of registers.now) from.now ≡ Some (map value_seen vs.items)) }
+    ensures { IfOk result (λ vs. terms_in (registers_seen registers.now) from.now ≡ Some (map value_seen vs.items)) }
 {
     let mut values = SmallVec::with_capacity(arena, from.len())?;
     for register in from {
@@ -54,14 +54,14 @@ pub fn values_in<'a, A: Allocator + Copy>(
 /// Sets a register.
 pub fn put<'a, A: Allocator>(registers: &mut [Option<Value<'a, A>>], to: usize, value: Value<'a, A>)
     requires { to < length registers.old }
-    ensures { registers_of registers.new ≡ with_register to (value_seen value.entry) (registers_of registers.old) }
+    ensures { registers_seen registers.new ≡ with_register to (value_seen value.entry) (registers_seen registers.old) }
 {
     registers[to] = Some(value);
 }
 
 /// The elements of a tuple or list; None of any other term.
-fn parts_of<'a, A: Allocator>(value: Value<'a, A>) -> Option<Parts<'a, A>>
-    ensures { option_map parts_seen result ≡ parts_in (value_seen value.entry) }
+fn parts_of<'a, A: Allocator>(value: Value<'a, A>) -> Option<ListView<'a, A>>
+    ensures { option_map list_view_seen result ≡ parts_in (value_seen value.entry) }
 {
     match value.tuple_parts() {
         Some(parts) => Some(parts),
@@ -93,7 +93,7 @@ pub fn count<A: Allocator>(value: Value<'_, A>) -> usize
 
 /// Whether the term is of the kind.
 pub fn is_of_kind<A: Allocator>(value: Value<'_, A>, kind: Kind) -> bool
-    ensures { result ≡ has_kind (kind_of kind) (value_seen value.entry) }
+    ensures { result ≡ has_kind (shape_kind_seen kind) (value_seen value.entry) }
 {
     match kind {
         Kind::Tuple => value.tuple_parts().is_some(),

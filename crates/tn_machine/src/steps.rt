@@ -4,11 +4,11 @@ ghost use Rattle.std.specs.Option.{option_map};
 ghost use Rattle.def_spec.specs.Functions as table;
 ghost use Rattle.def_spec.specs.Functions.{tail};
 ghost use Rattle.def_machine.specs.Validity.{Each, reads};
-ghost use Rattle.tn_action.specs.Steps.{AreBehind};
+ghost use Rattle.tn_action.specs.Steps.{AreAfter};
 ghost use Rattle.tn_action.specs.Views.{effect_list};
-ghost use Rattle.tn_code.specs.Views.{instruction_of, kind_of};
+ghost use Rattle.tn_code.specs.Views.{instruction_of, shape_kind_seen};
 ghost use Rattle.tn_guard.specs.Views.{value_seen};
-ghost use Rattle.tn_machine.specs.Steps.{Acts, GoesOnIf, HasRoom, Sets, SetsOrFaults, SetsOrLeaves};
+ghost use Rattle.tn_machine.specs.Steps.{Acts, GoesOnIf, FrameHasRoom, Sets, SetsOrFaults, SetsOrLeaves};
 ghost use Rattle.tn_machine.specs.Steps.{IsApplied, IsBuilt, IsPerformed, IsPerformedOn, IsTraced};
 ghost use Rattle.tn_spec.specs.Views.{func_of};
 ghost use Rattle.tn_machine.specs.Views.{IsSetIn};
@@ -16,9 +16,9 @@ ghost use Rattle.tn_machine.specs.Views.{IsSetIn};
 use crate::registers::{SomeValues, count, element, is_of_kind, put, value_in, values_in};
 use bumpalo::Bump;
 use std::alloc::{AllocError, Allocator};
-use tn_action::{Effect, Scene, perform, trace_on};
+use tn_action::{Effect, EvalContext, perform, trace_on};
 use tn_code::{Instr, Kind, OnFault};
-use tn_guard::{Value, Word, apply};
+use tn_guard::{AtomConst, Value, apply};
 use tn_spec::{Action, Dialect, Func};
 
 /// Where a step leads.
@@ -32,24 +32,29 @@ pub enum Next {
     NoMatch,
 }
 
-/// What one instruction does: it sets a register at most, puts one effect behind the others at most, and
+/// What one instruction does: it sets a register at most, puts one effect after the others at most, and
 /// leads on or ends.
 pub fn step<'a, A: Allocator + Copy>(
     instr: &'a Instr<A>,
     place: usize,
     registers: &mut [Option<Value<'a, A>>],
     effects: &mut Vec<Effect<A>, A>,
-    scene: &Scene<'a, '_, A>,
+    scene: &EvalContext<'a, '_, A>,
 ) -> Result<Next, AllocError>
     requires set { Each (λ r. IsSetIn registers.old r) (reads (instruction_of instr.now)) }
-    requires room { HasRoom (length registers.old) (instruction_of instr.now) }
+    requires room { FrameHasRoom (length registers.old) (instruction_of instr.now) }
     requires next { place + 1 < 2 ^ 64 }
     ensures { IfOk result (λ n. Acts scene.now instr.now place registers.old effects.old n registers.new effects.new) }
 {
     match instr {
         Instr::LoadConstant { to, term } => Ok(set(registers, *to, Value::Lent(term), place)),
         Instr::LoadList { to } => Ok(set(registers, *to, scene.context.list.list(), place)),
-        Instr::LoadOwnPid { to } => Ok(set(registers, *to, Value::Pid(scene.context.me), place)),
+        Instr::LoadOwnPid { to } => Ok(set(
+            registers,
+            *to,
+            Value::Pid(scene.context.self_pid),
+            place,
+        )),
         Instr::LoadCaller { to } => {
             let caller = scene.caller()?;
             Ok(set(registers, *to, caller, place))
@@ -68,7 +73,7 @@ pub fn step<'a, A: Allocator + Copy>(
             from,
             place: away,
         } => {
-            let taken = rest(value_in(registers, *from), scene.context.me);
+            let taken = rest(value_in(registers, *from), scene.context.self_pid);
             Ok(set_or_leave(registers, *to, taken, place, *away))
         }
         Instr::TestKind {
@@ -100,7 +105,7 @@ pub fn step<'a, A: Allocator + Copy>(
             from,
             on_fault,
         } => {
-            let value = applied(*func, registers, from.as_slice(), scene)?;
+            let value = apply_function(*func, registers, from.as_slice(), scene)?;
             Ok(set_applied(registers, *to, value, *on_fault, place))
         }
         Instr::Perform {
@@ -109,11 +114,11 @@ pub fn step<'a, A: Allocator + Copy>(
             to,
             from,
         } => {
-            let asked = Asked {
+            let request = ActionRequest {
                 dialect: *dialect,
                 action: *action,
             };
-            let value = performed_on(asked, registers, from.as_slice(), effects, scene)?;
+            let value = performed_on(request, registers, from.as_slice(), effects, scene)?;
             Ok(set(registers, *to, value, place))
         }
         Instr::ChangeFlags {
@@ -182,7 +187,7 @@ fn set_applied<'a, A: Allocator>(
     match (value, on_fault) {
         (Some(value), _) => set(registers, to, value, place),
         (None, OnFault::Place(away)) => Next::Place(away),
-        (None, OnFault::Exit) => set(registers, to, Value::Word(Word::Exit), place),
+        (None, OnFault::Exit) => set(registers, to, Value::AtomConst(AtomConst::Exit), place),
     }
 }
 
@@ -198,11 +203,11 @@ fn go_on_if(holds: bool, place: usize, away: usize) -> Next
     }
 }
 
-/// The list of the elements behind the first, where there is one.
-fn rest<'a, A: Allocator>(value: Value<'a, A>, me: u32) -> Option<Value<'a, A>>
-    ensures { option_map value_seen result ≡ table.apply tail (value_seen value.entry ∷ []) me }
+/// The list of the elements after the first, where there is one.
+fn rest<'a, A: Allocator>(value: Value<'a, A>, self_pid: u32) -> Option<Value<'a, A>>
+    ensures { option_map value_seen result ≡ table.apply tail (value_seen value.entry ∷ []) self_pid }
 {
-    apply(Func::Tail, &[value], me)
+    apply(Func::Tail, &[value], self_pid)
 }
 
 /// The tuple or list of the values in some registers.
@@ -213,7 +218,7 @@ fn build<'a, A: Allocator + Copy>(
     from: &[usize],
 ) -> Result<Value<'a, A>, AllocError>
     requires { Each (λ r. IsSetIn registers.now r) from.now }
-    ensures { IfOk result (λ v. IsBuilt registers.now (kind_of kind) from.now v) }
+    ensures { IfOk result (λ v. IsBuilt registers.now (shape_kind_seen kind) from.now v) }
 {
     let values = values_in(arena, registers, from)?;
     let items = arena.try_alloc_slice_copy(values.as_slice())?;
@@ -224,77 +229,77 @@ fn build<'a, A: Allocator + Copy>(
 }
 
 /// The value of a function on the values in some registers.
-fn applied<'a, A: Allocator + Copy>(
+fn apply_function<'a, A: Allocator + Copy>(
     func: Func,
     registers: &[Option<Value<'a, A>>],
     from: &[usize],
-    scene: &Scene<'a, '_, A>,
+    scene: &EvalContext<'a, '_, A>,
 ) -> Result<Option<Value<'a, A>>, AllocError>
     requires { Each (λ r. IsSetIn registers.now r) from.now }
     ensures { IfOk result (λ v. IsApplied scene.now registers.now (func_of func) from.now v) }
 {
     let values = values_in(scene.arena, registers, from)?;
-    Ok(apply(func, values.as_slice(), scene.context.me))
+    Ok(apply(func, values.as_slice(), scene.context.self_pid))
 }
 
 /// An action, in a dialect.
 #[derive(Clone, Copy)]
-struct Asked {
+struct ActionRequest {
     dialect: Dialect,
     action: Action,
 }
 
-/// The value of an action on the values in some registers, `'EXIT'` where it faults; its effect goes behind
+/// The value of an action on the values in some registers, `'EXIT'` where it faults; its effect goes after
 /// the others.
 fn performed_on<'a, A: Allocator + Copy>(
-    asked: Asked,
+    request: ActionRequest,
     registers: &[Option<Value<'a, A>>],
     from: &[usize],
     effects: &mut Vec<Effect<A>, A>,
-    scene: &Scene<'a, '_, A>,
+    scene: &EvalContext<'a, '_, A>,
 ) -> Result<Value<'a, A>, AllocError>
     requires { Each (λ r. IsSetIn registers.now r) from.now }
-    ensures { IfOk result (λ v. IsPerformedOn scene.now asked registers.now from.now v effects.old effects.new) }
+    ensures { IfOk result (λ v. IsPerformedOn scene.now request registers.now from.now v effects.old effects.new) }
 {
     let values = values_in(scene.arena, registers, from)?;
-    let value = performed(asked, &values, effects, scene)?;
+    let value = perform_action(request, &values, effects, scene)?;
     Ok(value)
 }
 
-/// The value of an action on some values, `'EXIT'` where it faults; its effect goes behind the others.
-fn performed<'a, A: Allocator + Copy>(
-    asked: Asked,
+/// The value of an action on some values, `'EXIT'` where it faults; its effect goes after the others.
+fn perform_action<'a, A: Allocator + Copy>(
+    request: ActionRequest,
     values: &SomeValues<'a, A>,
     effects: &mut Vec<Effect<A>, A>,
-    scene: &Scene<'a, '_, A>,
+    scene: &EvalContext<'a, '_, A>,
 ) -> Result<Value<'a, A>, AllocError>
-    ensures { IfOk result (λ v. IsPerformed scene.now asked values.now.items v effects.old effects.new) }
+    ensures { IfOk result (λ v. IsPerformed scene.now request values.now.items v effects.old effects.new) }
 {
-    let of_dialect = Scene {
-        dialect: asked.dialect,
+    let of_dialect = EvalContext {
+        dialect: request.dialect,
         ..*scene
     };
     let acted = perform(
-        asked.action,
+        request.action,
         values.as_slice(),
         &of_dialect,
         effects.as_slice(),
     )?;
     let Some(acted) = acted else {
-        return Ok(Value::Word(Word::Exit));
+        return Ok(Value::AtomConst(AtomConst::Exit));
     };
     add(acted.effect, effects)?;
     Ok(acted.value)
 }
 
-/// Whether the flags of a process change by two lists of flags, with the change put behind the other effects;
+/// Whether the flags of a process change by two lists of flags, with the change put after the other effects;
 /// None is a fault.
 fn flags_changed<'a, A: Allocator + Copy>(
     process: Value<'a, A>,
     off: Value<'a, A>,
     on: Value<'a, A>,
     effects: &mut Vec<Effect<A>, A>,
-    scene: &Scene<'a, '_, A>,
+    scene: &EvalContext<'a, '_, A>,
 ) -> Result<Option<Value<'a, A>>, AllocError>
     ensures { IfOk result (λ v. IsTraced scene.now process.entry off.entry on.entry v effects.old effects.new) }
 {
@@ -305,12 +310,12 @@ fn flags_changed<'a, A: Allocator + Copy>(
     Ok(Some(acted.value))
 }
 
-/// Puts an effect behind the others, where there is one.
+/// Puts an effect after the others, where there is one.
 fn add<A: Allocator>(
     effect: Option<Effect<A>>,
     effects: &mut Vec<Effect<A>, A>,
 ) -> Result<(), AllocError>
-    ensures { IfOk result (λ _. AreBehind (effect_list effect) effects.old effects.new) }
+    ensures { IfOk result (λ _. AreAfter (effect_list effect) effects.old effects.new) }
 {
     match effect {
         Some(effect) => effects.push(effect)?,

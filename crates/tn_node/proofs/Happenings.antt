@@ -1,4 +1,4 @@
--- What is seen of events that are put behind others.
+-- What is seen of events that are put after others.
 use Rattle.std.proofs.Common.{◌≡◌, List, [], ◌∷◌, ◌++◌, map, ap, ◌∙◌}
 use mathlib.Core.List.{append_assoc}
 use Rattle.std.proofs.lemmas.List.{map-append}

@@ -1,6 +1,6 @@
 pub mod Slots
 pub mod Links
-pub mod Seen
+pub mod Acts
 pub mod Loops
 pub mod Room
 pub mod Picks

@@ -1,3 +1,3 @@
-pub mod Happened
+pub mod NodeEvents
 pub mod Worlds
 pub mod Nodes

@@ -4,7 +4,7 @@ use Rattle.std.specs.Option.{option_map}
 use Rattle.def_node.specs.Process as process
 use Rattle.def_node.specs.Process.{act}
 use Rattle.def_node.specs.Node as node
-use Rattle.def_node.specs.Node.{change_at, put_at, partners_told, ended, acted}
+use Rattle.def_node.specs.Node.{change_at, put_at, partners_told, exit_process, after_act}
 use Rattle.tn_flags.specs.Views.{event_of}
 use Rattle.tn_flags.specs.declared.event.Event.{Event}
 use Rattle.std.specs.declared.vec.Vec.{Vec}
@@ -12,14 +12,14 @@ use Rattle.tn_term.specs.Views.{tree_of}
 use Rattle.tn_term.specs.declared.term.Term.{Term}
 use Rattle.tn_script.specs.Views.{functions_of}
 use Rattle.tn_script.specs.declared.form.Function.{Function}
-use Rattle.tn_process.specs.Views.{process_of, act_seen}
+use Rattle.tn_process.specs.Views.{process_seen, act_seen}
 use Rattle.tn_process.specs.declared.process.Process.{Process}
 use Rattle.tn_process.specs.declared.act.Act.{Act}
 use Rattle.tn_process.specs.declared.act.Act.TheVariants.{Waits, Continues, Sends, LinksTo, UnlinksFrom, Spawns, Exits}
 use Rattle.tn_node.specs.declared.world.World.{World}
 
 abbrev pub slot_of : {A : Type 0} → Option (Process A) → Option process.Process
-slot_of s = option_map process_of s
+slot_of s = option_map process_seen s
 
 abbrev pub world_of : {A : Type 0} → World A → node.World
 world_of w = record { slots = map slot_of w.slots.items }
@@ -53,7 +53,7 @@ vacated_at w place pid partners reason = partners_told pid (tree_of reason) part
 
 -- the end of the process with this pid, at this place, after these events
 abbrev pub ends_at : {A : Type 0} → World A → ℕ → ℕ → List Bool → Term A → Vec (Event A) A → node.Move
-ends_at w place pid partners reason events = ended (world_of w) place pid partners (tree_of reason) (map event_of events.items)
+ends_at w place pid partners reason events = exit_process (world_of w) place pid partners (tree_of reason) (map event_of events.items)
 
 -- with the processes after it, the answer is this move
 abbrev pub Moves : {A E : Type 0} → World A → Result (Vec (Event A) A) E → node.Move → Type 0
@@ -73,4 +73,4 @@ ActsAt old new functions place pid child a =
 abbrev pub CarriesOut : {A E : Type 0} → World A → World A → ℕ → ℕ → Act A → Result (Option (Vec (Event A) A)) E → Type 0
 CarriesOut old new place pid a result =
     (before : node.World) → (q r : process.Process) → slice_get before.slots place ≡ Some (Some q) → world_of old ≡ put_at before place r
-    → IfOk result (λ o. move_of new o ≡ acted before place pid (act_seen r a))
+    → IfOk result (λ o. move_of new o ≡ after_act before place pid (act_seen r a))

@@ -4,7 +4,7 @@ ghost use Rattle.def_script.specs.Program.{entry_mfa};
 ghost use Rattle.tn_term.specs.Views.{mfa_seen};
 ghost use Rattle.tn_flags.specs.Views.{event_of};
 ghost use Rattle.tn_script.specs.Views.{entry_of};
-ghost use Rattle.tn_node.specs.Happened.{seen_events, events_of_spawn, partings, events_of_exit};
+ghost use Rattle.tn_node.specs.NodeEvents.{seen_events, events_of_spawn, partings, events_of_exit};
 
 use std::alloc::{AllocError, Allocator};
 use tn_flags::Event;

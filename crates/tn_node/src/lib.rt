@@ -1,15 +1,15 @@
 //! The node: all processes of a run, and one step of one of them.
 //!
-//! Stands on tn_process and on the definitions of def_node. Promises that `Node::new` is the state of
+//! Depends on tn_process and on the definitions of def_node. Promises that `Node::new` is the state of
 //! the program before any pick, and that `Node::step` answers what the definition's `next` gives for a
 //! pick, the events in order, the next command's number or nothing, and has the state after it. A node
 //! that was refused memory is spent: it answers the refusal from then on. It knows nothing of sessions.
 #![tactic(auto)]
 
 mod events;
-mod moved;
 mod node;
+mod step_outcome;
 mod world;
 
-pub use moved::Moved;
 pub use node::Node;
+pub use step_outcome::Moved;

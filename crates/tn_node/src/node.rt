@@ -1,5 +1,5 @@
 // The node and its picks.
-use crate::moved::Moved;
+use crate::step_outcome::Moved;
 use crate::world::World;
 use std::alloc::{AllocError, Allocator};
 use tn_program::Program;
@@ -26,11 +26,11 @@ impl<A: Allocator + Copy> State<A> {
     ghost use Rattle.def_script.specs.Program as program;
     ghost use Rattle.def_node.specs.Node as node;
     ghost use Rattle.tn_program.specs.Views.{program_of};
-    ghost use Rattle.tn_node.specs.Nodes.{Holds, StepsTo, StateGoesOn};
+    ghost use Rattle.tn_node.specs.Nodes.{IsNodeOf, StepsTo, StateGoesOn};
 
     /// The state before any pick.
     fn new(alloc: A, program: &Program<A>) -> Result<State<A>, AllocError>
-        ensures { IfOk result (λ s. Holds (program_of program.now) (node.opening_state (program_of program.now)) s) }
+        ensures { IfOk result (λ s. IsNodeOf (program_of program.now) (node.opening_state (program_of program.now)) s) }
     {
         let functions = copy_functions(alloc, program.functions())?;
         let world = World::new(alloc, program.entries())?;
@@ -45,7 +45,7 @@ impl<A: Allocator + Copy> State<A> {
 
     /// Takes the next command of the control list.
     fn step_control(&mut self) -> Moved<A>
-        ensures { (p : program.Program) (s : node.State) → Holds p s self.old → StepsTo p s self.new 0 result }
+        ensures { (p : program.Program) (s : node.NodeState) → IsNodeOf p s self.old → StepsTo p s self.new 0 result }
     {
         if self.taken < self.commands {
             self.taken += 1;
@@ -83,11 +83,11 @@ impl<A: Allocator + Copy> Node<A> {
     ghost use Rattle.def_script.specs.Program as program;
     ghost use Rattle.def_node.specs.Node as node;
     ghost use Rattle.tn_program.specs.Views.{program_of};
-    ghost use Rattle.tn_node.specs.Nodes.{IsAt, IsSpent, GoesOn};
+    ghost use Rattle.tn_node.specs.Nodes.{IsNodeAt, IsNodeSpent, GoesOn};
 
     /// The node of the program, before any pick.
     pub fn new(alloc: A, program: &Program<A>) -> Result<Node<A>, AllocError>
-        ensures { IfOk result (λ n. IsAt (program_of program.now) (node.opening_state (program_of program.now)) n) }
+        ensures { IfOk result (λ n. IsNodeAt (program_of program.now) (node.opening_state (program_of program.now)) n) }
     {
         Ok(Node {
             state: Some(State::new(alloc, program)?),
@@ -102,8 +102,8 @@ impl<A: Allocator + Copy> Node<A> {
     /// AllocError where memory was refused, in this step or an earlier one: the node is spent.
     pub fn step(&mut self, pick: u32) -> Result<Moved<A>, AllocError>
         ensures moved { GoesOn self.old self.new pick result }
-        ensures spent { IsSpent self.old → IsErr result }
-        ensures refused { OnErr result (IsSpent self.new) }
+        ensures spent { IsNodeSpent self.old → IsErr result }
+        ensures refused { OnErr result (IsNodeSpent self.new) }
     {
         match &mut self.state {
             None => Err(AllocError),

@@ -20,9 +20,9 @@ impl<A: Allocator + Copy> World<A> {
     ghost use Rattle.tn_term.specs.Views.{tree_of};
     ghost use Rattle.tn_script.specs.Views.{entry_of, functions_of};
     ghost use Rattle.def_node.specs.Process as process;
-    ghost use Rattle.def_node.specs.Node.{opening_world, living, next_pid, with_message, with_link, with_signal};
-    ghost use Rattle.def_node.specs.Node.{parted, linked_at, delivered, linked_to, link_made, unlinked_from};
-    ghost use Rattle.def_node.specs.Node.{link_removed, started, next_of};
+    ghost use Rattle.def_node.specs.Node.{opening_world, place_of_pid, next_pid, with_message, with_link, with_signal};
+    ghost use Rattle.def_node.specs.Node.{part, linked_at, deliver, linked_to, link_made, unlinked_from};
+    ghost use Rattle.def_node.specs.Node.{link_removed, start_process, next_of};
     ghost use Rattle.tn_node.specs.Worlds.{world_of, move_of, IsRoomFor, slots_of, tells_partners, vacated_at, ends_at};
     ghost use Rattle.tn_node.specs.Worlds.{Moves, ChangesAt, ActsAt, CarriesOut};
 
@@ -41,8 +41,8 @@ impl<A: Allocator + Copy> World<A> {
     }
 
     /// The place of the process with this pid; None where none with it lives.
-    fn living(&self, pid: u32) -> Option<usize>
-        ensures place { result ≡ living (world_of self.now) pid }
+    fn place_of_pid(&self, pid: u32) -> Option<usize>
+        ensures place { result ≡ place_of_pid (world_of self.now) pid }
         ensures within { IfSome result (λ i. (i < length self.now.slots.items) × (pid ≡ 100 + i)) }
     {
         if pid < FIRST_PID {
@@ -125,7 +125,7 @@ impl<A: Allocator + Copy> World<A> {
         requires place_within { place < length self.old.slots.items }
         requires low { 100 ≤ pid }
         requires high { pid ≤ 163 }
-        ensures change { IfOk result (λ _. ChangesAt self.old self.new place (parted pid (tree_of reason.now))) }
+        ensures change { IfOk result (λ _. ChangesAt self.old self.new place (part pid (tree_of reason.now))) }
         ensures size { length self.new.slots.items ≡ length self.old.slots.items }
     {
         match &mut self.slots[place] {
@@ -145,10 +145,10 @@ impl<A: Allocator + Copy> World<A> {
         to: u32,
         message: Term<A>,
     ) -> Result<Vec<Event<A>, A>, AllocError>
-        ensures { Moves self.new result (delivered (world_of self.old) pid to (tree_of message)) }
+        ensures { Moves self.new result (deliver (world_of self.old) pid to (tree_of message)) }
     {
         let mut events = Vec::new(alloc);
-        match self.living(to) {
+        match self.place_of_pid(to) {
             None => {
                 events.push(Event::Sent {
                     pid,
@@ -232,7 +232,7 @@ impl<A: Allocator + Copy> World<A> {
             events.push(Event::Linked { pid, other })?;
             return Ok(events);
         }
-        let partner = self.living(other);
+        let partner = self.place_of_pid(other);
         Ok(self.link_to(alloc, place, pid, other, partner)?)
     }
 
@@ -284,7 +284,7 @@ impl<A: Allocator + Copy> World<A> {
             return Ok(Vec::new(alloc));
         }
         if self.is_linked(place, other) {
-            let partner = self.living(other);
+            let partner = self.place_of_pid(other);
             return Ok(self.unlink_from(alloc, place, pid, other, partner)?);
         }
         let mut events = Vec::new(alloc);
@@ -358,7 +358,7 @@ impl<A: Allocator + Copy> World<A> {
         entry: Entry<A>,
     ) -> Result<Vec<Event<A>, A>, AllocError>
         requires { length self.old.slots.items < 64 }
-        ensures { Moves self.new result (started (world_of self.old) pid child (entry_of entry)) }
+        ensures { Moves self.new result (start_process (world_of self.old) pid child (entry_of entry)) }
     {
         let events = start_events(alloc, pid, child, &entry)?;
         let process = Process::new(alloc, entry);
@@ -432,7 +432,7 @@ impl<A: Allocator + Copy> World<A> {
     ) -> Result<Option<Vec<Event<A>, A>>, AllocError>
         ensures { IfOk result (λ o. move_of self.new o ≡ next_of (functions_of functions.now) (world_of self.old) pid) }
     {
-        let Some(place) = self.living(pid) else {
+        let Some(place) = self.place_of_pid(pid) else {
             return Ok(None);
         };
         let child = self.next_pid();

@@ -1,4 +1,4 @@
--- What a list of two or four words is behind its first.
+-- What a list of two or four words is after its first.
 use Rattle.std.proofs.Common.{◌≡◌, List, [], ◌∷◌, length, drop, map, slice_index_or, refl, arith}
 
 pub one_behind : {X Y : Type 0} (f : X → Y) (ws : List X) (x : X) → length ws ≡ 2 → x ≡ slice_index_or ws 1 x

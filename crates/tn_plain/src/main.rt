@@ -1,15 +1,15 @@
 //! The runs `replay --picks TEXT` and `round [--limit N]` of `tracenode`, in a program without `clap`.
 //!
 //! The start script runs it where the whole program isn't built yet: without `clap` it is compiled in little
-//! more than half the time. Stands on tn_command, which promises what is written and the status. Of other
+//! more than half the time. Depends on tn_command, which promises what is written and the status. Of other
 //! words it says which it takes, with status 2; the start script gives it no others.
 #![tactic(auto)]
 
 ghost use Rattle.std.specs.Prelude.{SomeIff, IfSome, IfNone, drop, map, string_bytes};
 ghost use Rattle.std.specs.Process.{exit_status};
 ghost use Rattle.tn_command.specs.Status.{IsStatus};
-ghost use Rattle.tn_run.specs.Out.{asked};
-ghost use Rattle.tn_plain.specs.Words.{IsLimit, number_of, AsksFor, AsksNothing};
+ghost use Rattle.tn_run.specs.Answers.{schedule_seen};
+ghost use Rattle.tn_plain.specs.Words.{IsLimit, spelled_number, AsksFor, AsksNothing};
 
 use std::process::ExitCode;
 use std::rt::{Env, Files};
@@ -25,7 +25,7 @@ const MOST: u32 = JOURNAL as u32;
 
 /// The limit that a word spells: a number from 1 to 65536.
 fn limit(word: &str) -> Option<u32>
-    ensures { SomeIff result (IsLimit word.now) (number_of word.now) }
+    ensures { SomeIff result (IsLimit word.now) (spelled_number word.now) }
 {
     match plain_number(word) {
         Some(limit) if limit >= 1 && limit <= MOST => Some(limit),
@@ -35,7 +35,7 @@ fn limit(word: &str) -> Option<u32>
 
 /// What the words after the program's name ask for; None where that isn't one of the two runs.
 fn schedule(words: &[String]) -> Option<Schedule<'_>>
-    ensures some { IfSome result (λ s. AsksFor (drop 1 (map string_bytes words.now)) (asked s)) }
+    ensures some { IfSome result (λ s. AsksFor (drop 1 (map string_bytes words.now)) (schedule_seen s)) }
     ensures none { IfNone result (AsksNothing (drop 1 (map string_bytes words.now))) }
 {
     if words.len() == 2 && words[1].as_str() == "round" {
@@ -61,7 +61,7 @@ fn start<R: Env + Input + Files + Print + Eprint + AllocGlobal>(rt: &R) -> ExitC
         Err(status) => return status,
     };
     match schedule(&words) {
-        Some(schedule) => perform(rt, Source::Input, schedule),
+        Some(schedule) => perform(rt, Source::Input, &schedule),
         None => {
             let _ = rt.eprintln("error: the words are replay --picks TEXT, or round [--limit N]");
             ExitCode::from(REFUSED)

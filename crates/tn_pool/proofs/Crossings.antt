@@ -40,21 +40,22 @@ use Rattle.tn_spec.specs.contracts.spec.Clause as clause
 use Rattle.tn_spec.specs.contracts.spec.Spec as spec
 use Rattle.tn_code.specs.contracts.instr.Instr as instruction
 use Rattle.tn_code.specs.contracts.code.Code as code
-use Rattle.tn_index.specs.contracts.covering.Setting as setting
-use Rattle.tn_index.specs.contracts.covering.Covered as covered
-use Rattle.tn_index.specs.contracts.covering.Covering as covering
+use Rattle.tn_index.specs.contracts.function_setting.Setting as setting
+use Rattle.tn_index.specs.contracts.function_setting.FunctionPattern as covered
+use Rattle.tn_index.specs.contracts.function_setting.FunctionSetting as function_setting
 use Rattle.tn_index.specs.contracts.entry.Entry as indexed
 use Rattle.tn_index.specs.contracts.settings.Settings as settings
 use Rattle.indexmap.specs.contracts.index_table.IndexTable as index_table
 use Rattle.indexmap.specs.contracts.columns.Columns as columns
 use Rattle.indexmap.specs.contracts.map.IndexMap as index_map
-use Rattle.tn_session.specs.contracts.compiled.Compiled as compiled
+use Rattle.tn_session.specs.contracts.compiled_spec.CompiledSpec as compiled
 use Rattle.tn_session.specs.contracts.state.State as state
 use Rattle.tn_session.specs.contracts.session.Session as session
-use Rattle.tn_trace.specs.contracts.keeping.Terms as terms
-use Rattle.tn_trace.specs.contracts.recording.Core as core
+use Rattle.tn_trace.specs.contracts.sinks.Terms as terms
+use Rattle.tn_trace.specs.contracts.run_core.Core as core
 use Rattle.tn_trace.specs.contracts.slot.Slot as slot
-use Rattle.tn_trace.specs.contracts.engine.Engine as engine
+use Rattle.tn_trace.specs.contracts.recorder.Recorder as recorder
+use Rattle.tn_trace.specs.contracts.run.Run as run
 use Rattle.tn_trace.specs.contracts.item.Item as item
 use Rattle.tn_listing.specs.contracts.line.Line as line
 use Rattle.once_cell.proofs.race.once_box.OnceBox.TheSendSync as once_box_sent
@@ -67,11 +68,11 @@ use Rattle.tn_flags.proofs.flags.Flags.TheSendSync as flags_sent
 use Rattle.tn_session.proofs.state.Phase.TheSendSync as phase_sent
 use Rattle.tn_session.proofs.state.Mark.TheSendSync as mark_sent
 use Rattle.tn_session.proofs.state.Kind.TheSendSync as mark_kind_sent
-use Rattle.tn_live.proofs.front.Head.TheSendSync as head_sent
-use Rattle.tn_live.proofs.front.Front.TheSendSync as front_sent
+use Rattle.tn_live.proofs.prefix.Head.TheSendSync as head_sent
+use Rattle.tn_live.proofs.prefix.Prefix.TheSendSync as front_sent
 use Rattle.tn_live.proofs.entry.ItemPlace.TheSendSync as place_sent
 use Rattle.tn_live.proofs.entry.Entry.TheSendSync as entry_sent
-use Rattle.tn_live.specs.declared.front.Naming as naming
+use Rattle.tn_live.specs.declared.prefix.JournalName as naming
 use Rattle.tn_spec.proofs.func.Func.TheSendSync as func_sent
 use Rattle.tn_spec.proofs.func.Action.TheSendSync as action_sent
 use Rattle.indexmap.proofs.index_table.Bucket.TheSendSync as bucket_sent
@@ -249,10 +250,10 @@ module _ (T : RattleType) (g : Ghosts T.Denot) (s : IsSend T) (f : Frees g g.dea
   covered_field_send : IsSend (covered.the_field T g).row
   covered_field_send = search (sendable, crosses, atom_send, atom_field_send, mfa_send, mfa_field_send, covered_send) depth 40 fits 3000 parts 0
 
-  covering_send : (S : RattleType) → IsSend S → IsSend (covering.the_row S T g)
+  covering_send : (S : RattleType) → IsSend S → IsSend (function_setting.the_row S T g)
   covering_send S k = search (sendable, crosses, covered_send, covered_field_send, setting_send, setting_field_send) depth 40 fits 3000 parts 0
 
-  covering_field_send : (S : RattleType) → IsSend S → IsSend (covering.the_field S T g).row
+  covering_field_send : (S : RattleType) → IsSend S → IsSend (function_setting.the_field S T g).row
   covering_field_send S k = search (sendable, crosses, covered_send, covered_field_send, setting_send, setting_field_send, covering_send) depth 40 fits 3000 parts 0
 
   indexed_send : IsSend (indexed.the_row T g)
@@ -316,17 +317,23 @@ module _ (T : RattleType) (g : Ghosts T.Denot) (s : IsSend T) (f : Frees g g.dea
   slot_field_send : (K : RattleType) → IsSend K → IsSend (slot.the_field T K g).row
   slot_field_send K k = search (sendable, crosses, atom_send, atom_field_send, session_send, session_field_send, slot_send) depth 40 fits 3000 parts 0
 
-  engine_send : (K : RattleType) → IsSend K → IsSend (engine.the_row T K g)
-  engine_send K k = search (sendable, crosses, node_send, node_field_send, slot_send, slot_field_send, alive_sent.the_send, alive_sent.the_field_send) depth 40 fits 3000 parts 0
+  recorder_send : (K : RattleType) → IsSend K → IsSend (recorder.the_row T K g)
+  recorder_send K k = search (sendable, crosses, slot_send, slot_field_send, alive_sent.the_send, alive_sent.the_field_send) depth 40 fits 3000 parts 0
 
-  engine_field_send : (K : RattleType) → IsSend K → IsSend (engine.the_field T K g).row
-  engine_field_send K k = search (sendable, crosses, node_send, node_field_send, slot_send, slot_field_send, alive_sent.the_send, alive_sent.the_field_send, engine_send) depth 40 fits 3000 parts 0
+  recorder_field_send : (K : RattleType) → IsSend K → IsSend (recorder.the_field T K g).row
+  recorder_field_send K k = search (sendable, crosses, slot_send, slot_field_send, alive_sent.the_send, alive_sent.the_field_send, recorder_send) depth 40 fits 3000 parts 0
+
+  run_send : (O : RattleType) → IsSend O → IsSend (run.the_row T O g)
+  run_send O o = search (sendable, crosses, node_send, node_field_send) depth 40 fits 3000 parts 0
+
+  run_field_send : (O : RattleType) → IsSend O → IsSend (run.the_field T O g).row
+  run_field_send O o = search (sendable, crosses, node_send, node_field_send, run_send) depth 40 fits 3000 parts 0
 
   pub core_send : IsSend (core.the_row T g)
-  core_send = search (sendable, crosses, program_send, program_field_send, engine_send, engine_field_send, terms_send, terms_field_send) depth 40 fits 3000 parts 0
+  core_send = search (sendable, crosses, program_send, program_field_send, run_send, run_field_send, recorder_send, recorder_field_send, terms_send, terms_field_send) depth 40 fits 3000 parts 0
 
   pub core_field_send : IsSend (core.the_field T g).row
-  core_field_send = search (sendable, crosses, program_send, program_field_send, engine_send, engine_field_send, terms_send, terms_field_send, core_send) depth 40 fits 3000 parts 0
+  core_field_send = search (sendable, crosses, program_send, program_field_send, run_send, run_field_send, recorder_send, recorder_field_send, terms_send, terms_field_send, core_send) depth 40 fits 3000 parts 0
 
   item_send : IsSend (item.the_row T g)
   item_send = search (sendable, crosses, term_send, term_field_send) depth 40 fits 3000 parts 0

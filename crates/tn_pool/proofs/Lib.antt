@@ -1,10 +1,10 @@
 pub mod Hands
 pub mod Moves
 pub mod Rows
-pub mod Filling
-pub mod Earned
-pub mod Ended
-pub mod Reported
-mod Listed
-mod Shown
+pub mod QueueSlots
+pub mod SeatReceipts
+pub mod WorkerEnds
+pub mod Reports
+mod Listings
+mod BoardPlaces
 mod Crossings

@@ -1,11 +1,11 @@
 -- The receipts that a worker's seat earns.
--- Stands on what a turn does to a seat.
+-- Depends on what a turn does to a seat.
 use Rattle.std.specs.Prelude.{◌≡◌, ◌+◌, ◌≤◌, ℕ, nat_eq, List, [], ◌∷◌, ◌++◌, vec_len, MatchBool}
 use Rattle.def_script.specs.Program.{Program}
 use Rattle.tn_live.specs.declared.entry.Entry.{Entry}
 use Rattle.tn_live.specs.declared.entry.Receipt.{Receipt}
 use Rattle.tn_live.specs.States.{SeatState, seat_of}
-use Rattle.tn_live.specs.Turning.{IsReceipt}
+use Rattle.tn_live.specs.SeatTurns.{IsReceipt}
 use Rattle.tn_pool.specs.declared.worker.Worker.{Worker}
 
 -- the receipts are one for each of these entries that is the seat's own, in their order; the entries before them are given first

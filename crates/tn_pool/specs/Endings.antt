@@ -1,5 +1,5 @@
 -- How a worker ends: which token it keeps, what its end of the run queue then holds, and by which fault.
--- Stands on what a worker has, and on what an end holds after it gave a token up.
+-- Depends on what a worker has, and on what an end holds after it gave a token up.
 use Rattle.std.specs.Prelude.{◌≡◌, ◌⊎◌, ℕ, Bool, true, false, List, [], length, Option, Some, None, IfSome, IsSome}
 use Rattle.std.specs.Option.{option_to_list}
 use Rattle.def_run.specs.Run.{JOURNAL}
@@ -45,9 +45,9 @@ abbrev pub HasCause : {A J : Type 0} → Worker A J → Type 0
 HasCause w = (length w.seat.seen ≡ JOURNAL) ⊎ IsSome w.fault
 
 -- after a step the worker goes on, with no fault more; or it ends, since the journal is full, or by this fault
-abbrev pub StepsOn : {A J : Type 0} → Bool → (old new : Worker A J) → Type 0
-StepsOn true old new = (new.kept ≡ old.kept) × (new.fault ≡ old.fault)
-StepsOn false old new =
+abbrev pub WorkerStepsOn : {A J : Type 0} → Bool → (old new : Worker A J) → Type 0
+WorkerStepsOn true old new = (new.kept ≡ old.kept) × (new.fault ≡ old.fault)
+WorkerStepsOn false old new =
     (new.kept ≡ old.kept)
     × (((length new.seat.seen ≡ JOURNAL) × (new.fault ≡ None)) ⊎ ((fault : PoolFault) × (new.fault ≡ Some fault) × IsNoFullJournal fault))
 

@@ -1,5 +1,5 @@
 -- What each pass of the run queue knows, and the rule over what they all know.
--- Stands on turns: the slots that a pass holds are an end's view.
+-- Depends on turns: the slots that a pass holds are an end's view.
 use Rattle.std.specs.Prelude.{◌≡◌, ℕ, true, false, List, [], ◌∷◌, ◌++◌, length, map, Some, slice_get}
 use Rattle.def_turns.specs.Slots.{all_slots}
 use Rattle.def_turns.specs.Turns.{Turns, IsExclusive}
@@ -37,9 +37,9 @@ GivesUp h [] k = ⊥
 GivesUp h (x ∷ xs) k = GivesTurn h.held x k.held × (k.alone ≡ h.alone) × (k.queue ≡ h.queue ++ x ∷ [])
 
 -- a steal gains the slot
-abbrev pub Gains : Hand → List ℕ → Hand → Type 0
-Gains h [] k = ⊥
-Gains h (x ∷ xs) k = TakesTurn h.held x k.held
+abbrev pub HandGains : Hand → List ℕ → Hand → Type 0
+HandGains h [] k = ⊥
+HandGains h (x ∷ xs) k = TakesTurn h.held x k.held
 
 -- or finds none
 abbrev pub FindsNone : Hand → Type 0

@@ -1,5 +1,5 @@
 -- What a run queue is, and what is in one that has no end yet.
--- Stands on what a pass knows.
+-- Depends on what a pass knows.
 use Rattle.std.specs.Prelude.{◌≡◌, ℕ, true, List, []}
 use Rattle.crossbeam_deque.specs.Injected.{injector_view, IsInjectorPassOf}
 use Rattle.tn_pool.specs.declared.turns.RunQueue.{RunQueue}

@@ -1,5 +1,5 @@
 -- What many workers do, and what is reported of it.
--- Stands on what one worker earns.
+-- Depends on what one worker earns.
 use Rattle.std.specs.Prelude.{◌≡◌, ◌≢◌, ◌+◌, ◌*◌, ◌≤◌, ◌<◌, ℕ, List, [], ◌∷◌, ◌++◌, length, map, slice_index_or, vec_len, vec_capacity, All, Option, Some, None, IfSome, IsSome}
 use Rattle.std.specs.Option.{option_to_list}
 use Rattle.def_script.specs.Program.{Program}
@@ -25,19 +25,19 @@ receipts_of [] = []
 receipts_of (m ∷ ms) = m.1.receipts.items ++ receipts_of ms
 
 -- how many receipts there are
-abbrev pub count_of : {A J : Type 0} → List (Member A J) → ℕ
-count_of [] = 0
-count_of (m ∷ ms) = vec_len m.1.receipts + count_of ms
+abbrev pub member_count : {A J : Type 0} → List (Member A J) → ℕ
+member_count [] = 0
+member_count (m ∷ ms) = vec_len m.1.receipts + member_count ms
 
 -- the tokens that workers keep, by the order of the workers
-abbrev pub tokens_of : {A J : Type 0} → List (Member A J) → List ℕ
-tokens_of [] = []
-tokens_of (m ∷ ms) = option_to_list m.1.kept ++ tokens_of ms
+abbrev pub member_tokens : {A J : Type 0} → List (Member A J) → List ℕ
+member_tokens [] = []
+member_tokens (m ∷ ms) = option_to_list m.1.kept ++ member_tokens ms
 
 -- the fault of the first worker that has one
-abbrev pub fault_of : {A J : Type 0} → List (Member A J) → Option PoolFault
-fault_of [] = None
-fault_of (m ∷ ms) = first_fault m.1.fault (fault_of ms)
+abbrev pub member_fault : {A J : Type 0} → List (Member A J) → Option PoolFault
+member_fault [] = None
+member_fault (m ∷ ms) = first_fault m.1.fault (member_fault ms)
 
 -- a worker that has no receipt yet, and no fault and no token
 abbrev pub IsNew : {A J : Type 0} → Member A J → Type 0
@@ -73,13 +73,13 @@ pub record IsNothingDone {A J : Type 0} (r : Report A J) : Type 0 where
   pub refused : r.fault ≡ Some Memory
 
 -- it has room for so many more seats and tokens, and so many more receipts
-pub record HasRoom {A J : Type 0} (workers earned : ℕ) (r : Report A J) : Type 0 where
+pub record ReportHasRoom {A J : Type 0} (workers earned : ℕ) (r : Report A J) : Type 0 where
   pub seats : vec_len r.seats + workers ≤ vec_capacity r.seats
   pub receipts : vec_len r.receipts + earned ≤ vec_capacity r.receipts
   pub tokens : vec_len r.tokens + workers ≤ vec_capacity r.tokens
 
 -- the report has the worker's seat, receipts and token too, in the room that there was, and its fault where it had none
-pub record Adds {A J : Type 0} (w : Worker A J) (old new : Report A J) : Type 0 where
+pub record AddsWorker {A J : Type 0} (w : Worker A J) (old new : Report A J) : Type 0 where
   pub seats : new.seats.items ≡ old.seats.items ++ w.seat ∷ []
   pub receipts : new.receipts.items ≡ old.receipts.items ++ w.receipts.items
   pub tokens : new.tokens.items ≡ old.tokens.items ++ option_to_list w.kept

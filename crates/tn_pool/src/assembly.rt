@@ -3,19 +3,19 @@ ghost use Rattle.std.specs.Prelude.{◌≡◌, IfOk, map};
 ghost use Rattle.def_run.specs.Run.{moves};
 ghost use Rattle.def_run.specs.Listing.{line_of, lines_of, program_output};
 ghost use Rattle.tn_term.specs.Views.{tree_of};
-ghost use Rattle.tn_listing.specs.Outputs.{Adds, listing_numbered, all_listings};
+ghost use Rattle.tn_listing.specs.Outputs.{AddsText, listing_numbered, all_listings};
 ghost use Rattle.tn_live.specs.Journal.{picks_of};
 
 use crate::board::Board;
 use std::alloc::{AllocError, Allocator};
 use tn_listing::{Line, lines_text, listing_text, write_picks};
-use tn_live::{Closed, Naming};
+use tn_live::{Closed, JournalName};
 use tn_term::Term;
 use tn_text::write_term;
 
 /// The output of a closed journal.
 #[derive(Drop)]
-pub struct Assembled<A: Allocator> {
+pub struct JournalOutput<A: Allocator> {
     /// Each session's listing, the replies and the journal.
     pub text: Vec<u8, A>,
     /// The picks of the journal, each of which moved.
@@ -25,7 +25,7 @@ pub struct Assembled<A: Allocator> {
 }
 
 /// The picks of a closed journal, each of which moved.
-fn journal_picks<A: Allocator + Copy, B: Allocator, J: Naming>(
+fn journal_picks<A: Allocator + Copy, B: Allocator, J: JournalName>(
     alloc: B,
     closed: &Closed<A, J>,
 ) -> Result<Vec<u32, B>, AllocError>
@@ -46,7 +46,7 @@ fn append_line<A: Allocator, B: Allocator>(
     line: Option<&Line<A>>,
     message: &Term<A>,
 ) -> Result<bool, AllocError>
-    ensures { IfOk result (λ _. Adds (line_of (tree_of message.now)) text.old text.new) }
+    ensures { IfOk result (λ _. AddsText (line_of (tree_of message.now)) text.old text.new) }
 {
     if let Some(line) = line {
         if line.item().message.same(message) {
@@ -66,7 +66,7 @@ fn append_lines<A: Allocator, B: Allocator>(
     session: u32,
     messages: &[Term<A>],
 ) -> Result<u64, AllocError>
-    ensures { IfOk result (λ _. Adds (lines_of (map tree_of messages.now)) text.old text.new) }
+    ensures { IfOk result (λ _. AddsText (lines_of (map tree_of messages.now)) text.old text.new) }
 {
     let mut taken = 0u64;
     for (index, message) in messages.iter().enumerate() {
@@ -80,13 +80,13 @@ fn append_lines<A: Allocator, B: Allocator>(
 
 /// Appends the header and the messages of the session with this number, from 0. How many lines came from
 /// the board.
-fn append_listing<A: Allocator + Copy, B: Allocator, J: Naming>(
+fn append_listing<A: Allocator + Copy, B: Allocator, J: JournalName>(
     text: &mut Vec<u8, B>,
     closed: &Closed<A, J>,
     board: &Board<A>,
     number: usize,
 ) -> Result<u64, AllocError>
-    ensures { IfOk result (λ _. Adds (listing_numbered J.program (picks_of closed.now) number) text.old text.new) }
+    ensures { IfOk result (λ _. AddsText (listing_numbered J.program (picks_of closed.now) number) text.old text.new) }
 {
     let Some((name, tracer)) = closed.program().session_at(number) else {
         return Ok(0);
@@ -105,12 +105,12 @@ fn append_listing<A: Allocator + Copy, B: Allocator, J: Naming>(
 }
 
 /// Appends each session's header and messages. How many lines came from the board.
-fn append_listings<A: Allocator + Copy, B: Allocator, J: Naming>(
+fn append_listings<A: Allocator + Copy, B: Allocator, J: JournalName>(
     text: &mut Vec<u8, B>,
     closed: &Closed<A, J>,
     board: &Board<A>,
 ) -> Result<u64, AllocError>
-    ensures { IfOk result (λ _. Adds (all_listings J.program (picks_of closed.now)) text.old text.new) }
+    ensures { IfOk result (λ _. AddsText (all_listings J.program (picks_of closed.now)) text.old text.new) }
 {
     let mut taken = 0u64;
     for number in 0..closed.program().session_count() {
@@ -126,11 +126,11 @@ fn append_listings<A: Allocator + Copy, B: Allocator, J: Naming>(
 /// # Errors
 ///
 /// AllocError where memory was refused.
-pub fn assemble<A: Allocator + Copy, B: Allocator + Copy, J: Naming>(
+pub fn assemble<A: Allocator + Copy, B: Allocator + Copy, J: JournalName>(
     alloc: B,
     closed: &Closed<A, J>,
     board: &Board<A>,
-) -> Result<Assembled<B>, AllocError>
+) -> Result<JournalOutput<B>, AllocError>
     ensures text { IfOk result (λ a. a.text.items ≡ program_output J.program (picks_of closed.now)) }
     ensures picks { IfOk result (λ a. a.picks.items ≡ picks_of closed.now) }
     ensures moved { IfOk result (λ a. moves J.program a.picks.items ≡ a.picks.items) }
@@ -143,5 +143,5 @@ pub fn assemble<A: Allocator + Copy, B: Allocator + Copy, J: Naming>(
     text.extend_from_slice(b"== journal\n")?;
     write_picks(&picks, &mut text)?;
     text.push(b'\n')?;
-    Ok(Assembled { text, picks, taken })
+    Ok(JournalOutput { text, picks, taken })
 }

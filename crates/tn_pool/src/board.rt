@@ -1,7 +1,7 @@
 // Lines at places of their own, each of which is put once.
 ghost use Rattle.std.specs.Prelude.{◌≡◌, IfOk, IfSome, IfErr, OnOk, OnSome, All, length, vec_len};
 ghost use Rattle.tn_trace.specs.Items.{item_seen};
-ghost use Rattle.tn_pool.specs.Boards.{HasPlace, IsAt};
+ghost use Rattle.tn_pool.specs.Boards.{HasPlace, IsLineAt};
 
 use once_cell::race::OnceBox;
 use std::alloc::{AllocError, Allocator, Global};
@@ -120,7 +120,7 @@ impl<A: Allocator> Board<A> {
 
     /// The line of that session and index, once it was put. It takes no memory, and waits for nobody.
     pub fn line(&self, session: u32, index: u64) -> Option<&Line<A>>
-        ensures line { IfSome result (λ line. IsAt session index line.now) }
+        ensures line { IfSome result (λ line. IsLineAt session index line.now) }
         ensures place { OnSome result (HasPlace self.now session index) }
     {
         let line = self.cell(session, index)?.get()?;

@@ -2,7 +2,7 @@
 //! and workers that step a core under its lock, each in a thread of its own; and a board, where workers put
 //! the lines of their messages, with the output that is made of it and of a closed journal.
 //!
-//! Stands on def_turns, on tn_live for the lock, the seats and the receipts, on tn_listing for lines, and on
+//! Depends on def_turns, on tn_live for the lock, the seats and the receipts, on tn_listing for lines, and on
 //! `once_cell` for the board's places. Promises that the queue is kept under the rule that no slot stands
 //! twice in it and in what the ends hold; that an end takes a token from the queue's front, or finds the
 //! queue empty; that it gives one up at the back, or the same token comes back; that all seats come back
@@ -21,7 +21,7 @@ mod turns;
 mod worker;
 mod workers;
 
-pub use assembly::{Assembled, assemble};
+pub use assembly::{JournalOutput, assemble};
 pub use board::Board;
 pub use gate::{Gate, Open};
 pub use report::{PoolFault, Report};

@@ -2,7 +2,7 @@
 use crate::token::Token;
 use std::alloc::Allocator;
 use thiserror::Error;
-use tn_live::{Naming, Receipt, Seat};
+use tn_live::{JournalName, Receipt, Seat};
 use tn_trace::StepFault;
 
 /// Why a worker ended before its turns were taken.
@@ -19,7 +19,7 @@ pub enum PoolFault {
 
 /// What workers hand back.
 #[derive(Drop)]
-pub struct Report<A: Allocator, J: Naming> {
+pub struct Report<A: Allocator, J: JournalName> {
     /// All seats, in the order in which they were handed in.
     pub seats: Vec<Seat<A, J>, A>,
     /// A receipt for each entry that the seats made: by the order of the seats, and for one seat by that of

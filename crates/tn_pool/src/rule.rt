@@ -37,9 +37,9 @@ impl Outcome<Token, Hand> for Gives {
 pub struct Takes;
 
 impl Outcome<Token, Hand> for Takes {
-    ghost use Rattle.tn_pool.specs.Hands.{Gains, FindsNone};
+    ghost use Rattle.tn_pool.specs.Hands.{HandGains, FindsNone};
 
-    ghost then = { Gains };
+    ghost then = { HandGains };
 
     ghost empty = { FindsNone };
 }

@@ -1,11 +1,12 @@
 // The run queue and its ends.
-ghost use Rattle.std.specs.Prelude.{◌≡◌, ◌<◌, [], ◌∷◌, false, true, IfOk, IfSome, IfNone, IfErr, OnOk, vec_len, All, replicate};
+ghost use Rattle.std.specs.Prelude.{◌≡◌, ◌<◌, [], ◌∷◌, false, true, IfOk};
+ghost use Rattle.std.specs.Prelude.{IfSome, IfNone, IfErr, OnOk, vec_len, All, replicate};
 ghost use Rattle.crossbeam_deque.specs.Injected.{injector_view, IsInjectorPassOf};
 ghost use Rattle.def_turns.specs.Slots.{is_slot, all_slots};
 ghost use Rattle.def_turns.specs.Turns.{times};
 ghost use Rattle.def_turns.specs.Moments.{TakesTurn, FindsNoTurn, GivesTurn, KeepsTurn};
-ghost use Rattle.tn_pool.specs.Hands.{GivesUp, Gains};
-ghost use Rattle.tn_pool.specs.Rows.{place_of};
+ghost use Rattle.tn_pool.specs.Hands.{GivesUp, HandGains};
+ghost use Rattle.tn_pool.specs.Rows.{row_place};
 ghost use Rattle.tn_pool.specs.Queues.{IsRunQueue, HoldsAlone};
 
 use crate::rule::{Cut, Exclusive, Gives, Hand, Takes};
@@ -22,7 +23,7 @@ const CONTROL: u32 = 0;
 /// The first pid.
 const FIRST_PID: u32 = 100;
 
-/// The number behind the last pid.
+/// The number after the last pid.
 const PIDS_END: u32 = 164;
 
 /// The queue that the tokens go through.
@@ -54,7 +55,7 @@ impl<'a, A: Allocator> Model for TurnEnd<'a, A> {
 /// The place of a slot in an end's row.
 fn place(slot: u32) -> usize
     requires { is_slot slot ≡ true }
-    ensures { (result ≡ place_of slot) × (result < 65) }
+    ensures { (result ≡ row_place slot) × (result < 65) }
 {
     if slot == CONTROL {
         0

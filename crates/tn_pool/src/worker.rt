@@ -1,7 +1,7 @@
 // One worker, and the turns that it takes.
 ghost use Rattle.std.specs.Prelude.{◌≡◌, ◌+◌, ◌<◌, ◌≤◌, [], vec_len, vec_capacity};
 ghost use Rattle.tn_pool.specs.Earnings.{Works, WorksOn, StaysSo};
-ghost use Rattle.tn_pool.specs.Endings.{ending_fault, IsReady, IsAccounted, StepsOn, GivesBack, TurnsOn};
+ghost use Rattle.tn_pool.specs.Endings.{ending_fault, IsReady, IsAccounted, WorkerStepsOn, GivesBack, TurnsOn};
 
 use crate::board::Board;
 use crate::gate::Gate;
@@ -10,13 +10,13 @@ use crate::token::Token;
 use crate::turns::TurnEnd;
 use std::alloc::Allocator;
 use std::sync::Wait;
-use tn_live::{Live, Naming, Receipt, Seat, Turn};
+use tn_live::{JournalName, Live, Receipt, Seat, Turn};
 use tn_trace::StepFault;
 
 /// What workers share beside the run queue: the lock, the board for their lines, and what is told of each
 /// turn.
 #[derive(Drop)]
-pub struct Shared<'s, A: Allocator, J: Naming, G: Gate> {
+pub struct WorkerContext<'s, A: Allocator, J: JournalName, G: Gate> {
     pub live: &'s Live<A, J>,
     pub board: &'s Board<A>,
     pub gate: &'s G,
@@ -24,7 +24,7 @@ pub struct Shared<'s, A: Allocator, J: Naming, G: Gate> {
 
 /// A worker: its number, its seat, and what came of its turns.
 #[derive(Drop)]
-pub struct Worker<A: Allocator, J: Naming> {
+pub struct Worker<A: Allocator, J: JournalName> {
     pub number: u32,
     pub seat: Seat<A, J>,
     pub receipts: Vec<Receipt<A>, A>,
@@ -33,7 +33,11 @@ pub struct Worker<A: Allocator, J: Naming> {
 }
 
 /// A worker that has taken no turn.
-pub fn new_worker<A: Allocator, J: Naming>(alloc: A, number: u32, seat: Seat<A, J>) -> Worker<A, J>
+pub fn new_worker<A: Allocator, J: JournalName>(
+    alloc: A,
+    number: u32,
+    seat: Seat<A, J>,
+) -> Worker<A, J>
     ensures seat { result.seat ≡ seat }
     ensures receipts { (result.receipts.items ≡ []) × (vec_len result.receipts ≡ 0) }
     ensures ready { IsReady [] result }
@@ -60,16 +64,16 @@ fn ending_fault(fault: StepFault) -> Option<PoolFault>
 
 /// Takes the step of a pick, for which there is room, and puts the lines of its messages on the board once
 /// the lock is free. Whether the worker goes on.
-fn step<A: Allocator + Copy, J: Naming, R: Wait, G: Gate>(
+fn step<A: Allocator + Copy, J: JournalName, R: Wait, G: Gate>(
     rt: &R,
-    shared: &Shared<'_, A, J, G>,
+    shared: &WorkerContext<'_, A, J, G>,
     worker: &mut Worker<A, J>,
     pick: u32,
 ) -> bool
     requires room { vec_len worker.old.receipts < vec_capacity worker.old.receipts }
     ensures works { WorksOn J.program worker.old worker.new }
     ensures few { vec_len worker.new.receipts ≤ vec_len worker.old.receipts + 1 }
-    ensures ends { StepsOn result worker.old worker.new }
+    ensures ends { WorkerStepsOn result worker.old worker.new }
 {
     match shared.live.step(rt, &mut worker.seat, pick) {
         Ok(Turn::Moved(receipt)) => {
@@ -86,7 +90,7 @@ fn step<A: Allocator + Copy, J: Naming, R: Wait, G: Gate>(
 }
 
 /// Gives the token of a turn back, or keeps it for the report. Whether it was given.
-fn give_back<A: Allocator, J: Naming, R: Wait>(
+fn give_back<A: Allocator, J: JournalName, R: Wait>(
     rt: &R,
     end: &mut TurnEnd<'_, A>,
     worker: &mut Worker<A, J>,
@@ -106,9 +110,9 @@ fn give_back<A: Allocator, J: Naming, R: Wait>(
 }
 
 /// Takes a turn, if there is a token. Whether the worker goes on.
-fn turn<A: Allocator + Copy, J: Naming, R: Wait, G: Gate>(
+fn turn<A: Allocator + Copy, J: JournalName, R: Wait, G: Gate>(
     rt: &R,
-    shared: &Shared<'_, A, J, G>,
+    shared: &WorkerContext<'_, A, J, G>,
     end: &mut TurnEnd<'_, A>,
     worker: &mut Worker<A, J>,
 ) -> bool
@@ -133,9 +137,9 @@ fn turn<A: Allocator + Copy, J: Naming, R: Wait, G: Gate>(
 }
 
 /// Takes at most so many turns.
-pub fn work<A: Allocator + Copy, J: Naming, R: Wait, G: Gate>(
+pub fn work<A: Allocator + Copy, J: JournalName, R: Wait, G: Gate>(
     rt: &R,
-    shared: &Shared<'_, A, J, G>,
+    shared: &WorkerContext<'_, A, J, G>,
     turns: u32,
     end: &mut TurnEnd<'_, A>,
     worker: &mut Worker<A, J>,

@@ -1,24 +1,26 @@
 // Workers, each in a thread of its own where one can be made.
-ghost use Rattle.std.specs.Prelude.{◌≡◌, ◌+◌, ◌≤◌, ◌<◌, ◌*◌, ℕ, [], ◌++◌, IfOk, All, length, option_to_list, vec_len, vec_capacity};
+ghost use Rattle.std.specs.Prelude.{◌≡◌, ◌+◌, ◌≤◌, ◌<◌, ◌*◌, ℕ, []};
+ghost use Rattle.std.specs.Prelude.{◌++◌, IfOk, All, length, option_to_list, vec_len, vec_capacity};
 ghost use Rattle.tn_pool.specs.Endings.{first_fault};
-ghost use Rattle.tn_pool.specs.Reports.{HasWorked, WorksAt, AreNew, IsEmptyReport, HasRoom, Adds, IsNothingDone, Reports, TellsEndings};
-ghost use Rattle.tn_pool.specs.Reports.{seats_of, receipts_of, tokens_of, fault_of, count_of};
+ghost use Rattle.tn_pool.specs.Reports.{HasWorked, WorksAt, AreNew, IsEmptyReport, ReportHasRoom};
+ghost use Rattle.tn_pool.specs.Reports.{AddsWorker, IsNothingDone, Reports, TellsEndings};
+ghost use Rattle.tn_pool.specs.Reports.{seats_of, receipts_of, member_tokens, member_fault, member_count};
 
 use crate::board::Board;
 use crate::gate::Gate;
 use crate::report::{PoolFault, Report};
 use crate::token::Token;
 use crate::turns::{RunQueue, TurnEnd};
-use crate::worker::{Shared, Worker, new_worker, work};
+use crate::worker::{Worker, WorkerContext, new_worker, work};
 use std::alloc::{AllocError, Allocator, Global};
 use std::marker::{Send, Sync};
 use std::sync::Wait;
 use std::thread;
 use std::thread::Threads;
-use tn_live::{Live, Naming, Seat};
+use tn_live::{JournalName, Live, Seat};
 
 /// Each worker takes its turns.
-fn run_all<J: Naming + Send + Sync, R: Threads + Wait + Sync, G: Gate>(
+fn run_all<J: JournalName + Send + Sync, R: Threads + Wait + Sync, G: Gate>(
     rt: &R,
     live: &Live<Global, J>,
     board: &Board<Global>,
@@ -40,14 +42,14 @@ fn run_all<J: Naming + Send + Sync, R: Threads + Wait + Sync, G: Gate>(
         &|_i: usize, member: &mut (TurnEnd<'_, Global>, Worker<Global, J>)|
             ensures { HasWorked J.program turns member.entry.now member.exit.now }
         {
-            let shared = Shared { live, board, gate };
+            let shared = WorkerContext { live, board, gate };
             work(rt, &shared, turns, &mut member.0, &mut member.1)
         },
     );
 }
 
 /// Gives each seat an end, and a number from 0.
-fn pack<'a, A: Allocator + Copy, J: Naming>(
+fn pack<'a, A: Allocator + Copy, J: JournalName>(
     alloc: A,
     seats: Vec<Seat<A, J>, A>,
     mut ends: Vec<TurnEnd<'a, A>, A>,
@@ -95,9 +97,9 @@ fn first_fault(first: Option<PoolFault>, later: Option<PoolFault>) -> Option<Poo
 }
 
 /// Adds what a worker has to a report that has room for it.
-fn add_worker<A: Allocator, J: Naming>(report: &mut Report<A, J>, worker: Worker<A, J>)
-    requires { HasRoom 1 (vec_len worker.receipts) report.old }
-    ensures { Adds worker report.old report.new }
+fn add_worker<A: Allocator, J: JournalName>(report: &mut Report<A, J>, worker: Worker<A, J>)
+    requires { ReportHasRoom 1 (vec_len worker.receipts) report.old }
+    ensures { AddsWorker worker report.old report.new }
 {
     let Worker {
         number: _,
@@ -113,16 +115,16 @@ fn add_worker<A: Allocator, J: Naming>(report: &mut Report<A, J>, worker: Worker
 }
 
 /// Takes the workers apart, into a report that has room for what they have.
-fn unpack<A: Allocator, J: Naming>(
+fn unpack<A: Allocator, J: JournalName>(
     members: Vec<(TurnEnd<'_, A>, Worker<A, J>), A>,
     report: &mut Report<A, J>,
 )
     requires empty { IsEmptyReport report.old }
-    requires room { HasRoom (vec_len members) (count_of members.items) report.old }
+    requires room { ReportHasRoom (vec_len members) (member_count members.items) report.old }
     ensures seats { report.new.seats.items ≡ seats_of members.entry.items }
     ensures receipts { report.new.receipts.items ≡ receipts_of members.entry.items }
-    ensures tokens { report.new.tokens.items ≡ tokens_of members.entry.items }
-    ensures fault { report.new.fault ≡ fault_of members.entry.items }
+    ensures tokens { report.new.tokens.items ≡ member_tokens members.entry.items }
+    ensures fault { report.new.fault ≡ member_fault members.entry.items }
 {
     for (_, worker) in members {
         add_worker(report, worker);
@@ -130,13 +132,13 @@ fn unpack<A: Allocator, J: Naming>(
 }
 
 /// A report with no seat yet, which has room for so many, and so many receipts for each.
-fn empty_report<A: Allocator + Copy, J: Naming>(
+fn empty_report<A: Allocator + Copy, J: JournalName>(
     alloc: A,
     seats: usize,
     turns: u32,
 ) -> Result<Report<A, J>, AllocError>
     ensures empty { IfOk result IsEmptyReport }
-    ensures room { IfOk result (λ r. HasRoom seats (seats * turns) r) }
+    ensures room { IfOk result (λ r. ReportHasRoom seats (seats * turns) r) }
 {
     let Some(receipts) = seats.checked_mul(turns as usize) else {
         return Err(AllocError);
@@ -150,7 +152,10 @@ fn empty_report<A: Allocator + Copy, J: Naming>(
 }
 
 /// The report where memory was refused before any turn was taken.
-fn refused<A: Allocator + Copy, J: Naming>(alloc: A, seats: Vec<Seat<A, J>, A>) -> Report<A, J>
+fn report_without_memory<A: Allocator + Copy, J: JournalName>(
+    alloc: A,
+    seats: Vec<Seat<A, J>, A>,
+) -> Report<A, J>
     ensures reports { Reports J.program seats.items result.seats.items result.receipts.items }
     ensures nothing { IsNothingDone result }
 {
@@ -173,8 +178,8 @@ fn refused<A: Allocator + Copy, J: Naming>(alloc: A, seats: Vec<Seat<A, J>, A>) 
 /// fault; and where memory is refused, for a receipt or for giving its token back. No turn is taken where
 /// memory is refused for what the workers need before they start, which is room for as many receipts as
 /// all seats may make.
-#[tactic(auto, using(crate::proofs::Reported::nothing_ends))]
-pub fn run_workers<J: Naming + Send + Sync, R: Threads + Wait + Sync, G: Gate>(
+#[tactic(auto, using(crate::proofs::Reports::nothing_ends))]
+pub fn run_workers<J: JournalName + Send + Sync, R: Threads + Wait + Sync, G: Gate>(
     rt: &R,
     live: &Live<Global, J>,
     board: &Board<Global>,
@@ -190,19 +195,19 @@ pub fn run_workers<J: Naming + Send + Sync, R: Threads + Wait + Sync, G: Gate>(
     let alloc = board.allocator();
     let count = seats.len();
     let Ok(ends_count) = u32::try_from(count) else {
-        return refused(alloc, seats);
+        return report_without_memory(alloc, seats);
     };
     let Ok(mut report) = empty_report(alloc, count, turns) else {
-        return refused(alloc, seats);
+        return report_without_memory(alloc, seats);
     };
     let Ok(mut queue) = RunQueue::full(rt, alloc) else {
-        return refused(alloc, seats);
+        return report_without_memory(alloc, seats);
     };
     let Ok(ends) = queue.ends(alloc, ends_count) else {
-        return refused(alloc, seats);
+        return report_without_memory(alloc, seats);
     };
     let Ok(mut members) = Vec::with_capacity(alloc, count) else {
-        return refused(alloc, seats);
+        return report_without_memory(alloc, seats);
     };
     pack(alloc, seats, ends, &mut members);
     run_all(rt, live, board, gate, turns, members.as_mut_slice());

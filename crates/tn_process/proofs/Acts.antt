@@ -5,15 +5,15 @@ use Rattle.std.proofs.lemmas.List.{length-reverse, length-map}
 use Rattle.std.proofs.lemmas.Bool.Decides.{nat_tests}
 use Rattle.std.specs.Prelude.{nat_le}
 use Rattle.std.specs.Option.{option_map}
-use Rattle.def_term.specs.Tree.{Tree}
+use Rattle.def_term.specs.Tree.{Tree, pid_in}
 use Rattle.def_term.specs.Names.{Name, Mfa, word}
 use Rattle.def_script.specs.Program.{Function, Entry}
 use Rattle.def_node.specs.Event.{Call}
-use Rattle.def_node.specs.Values.{Env, params_bound, pid_in}
+use Rattle.def_node.specs.Values.{Env, params_bound}
 use Rattle.def_node.specs.Process.{Process, Frame, Manner, Act, waits, exits, enters, enters_at, mfa_at, caller_of, within, with_frames, performs, runs, runs_in}
 use Rattle.tn_process.specs.declared.act.Act.{Act as Answer}
 use Rattle.tn_process.specs.declared.process.Process.{Process as State}
-use Rattle.tn_process.specs.Acting.{Does, Ends}
+use Rattle.tn_process.specs.StepAnswers.{Does, EndsIn}
 
 last_caller : {X : Type 0} (h : X → Frame) (ks : List Function) (xs : List X) (i : ℕ) (x : X) (acc : List Frame)
     → i + 1 ≡ length xs → slice_get xs i ≡ Some x → caller_of ks (reverse_aux (map h xs) acc) ≡ mfa_at ks (h x).function
@@ -59,7 +59,7 @@ enters_after ks n q e fs a args None = refl
 enters_after ks n q e fs a args (Some i) = enters_at_after ks n q e fs a args i (slice_get ks i)
 
 -- an answer that ends the process, by what it comes to
-pub ended : {A E : Type 0} (q : State A) (r : Result (Answer A) E) (f : List Bool → Act) (a : Act) → Ends r f → f q.links ≡ a → Does q r a
+pub ended : {A E : Type 0} (q : State A) (r : Result (Answer A) E) (f : List Bool → Act) (a : Act) → EndsIn r f → f q.links ≡ a → Does q r a
 ended q (Ok x) f a h e = h q ∙ e
 ended q (Err x) f a h e = h
 

@@ -1,4 +1,4 @@
 pub mod Lookup
-pub mod Building
+pub mod Templates
 pub mod Acts
-pub mod Unwinding
+pub mod Exceptions

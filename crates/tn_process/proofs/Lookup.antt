@@ -12,26 +12,26 @@ use Rattle.std.proofs.Common.{drop}
 use Rattle.std.proofs.lemmas.List.{drop_more}
 use Rattle.def_term.specs.Names.{Name, Mfa, same_mfa}
 use Rattle.def_script.specs.Program.{Function, mfa_of, number_from}
-use Rattle.def_node.specs.Values.{Env, found, rebound}
+use Rattle.def_node.specs.Values.{Env, binding_of, rebound}
 
 pub found_at : {X : Type 0} (f : X → Name × Tree) (xs : List X) (x : Name) (i : ℕ) (d : X)
     → i < length xs → bytes_eq (f (get_or xs i d)).0 x ≡ true → ((k : ℕ) → k < i → bytes_eq (f (get_or xs k d)).0 x ≡ false)
-    → found (map f xs) x ≡ Some (f (get_or xs i d)).1
+    → binding_of (map f xs) x ≡ Some (f (get_or xs i d)).1
 found_at f [] x i d below here before = absurd (omega arith)
-found_at f (y ∷ ys) x zero d below here before = ap (λ b. cond b (Some (f y).1) (found (map f ys) x)) here
+found_at f (y ∷ ys) x zero d below here before = ap (λ b. cond b (Some (f y).1) (binding_of (map f ys) x)) here
 found_at f (y ∷ ys) x (suc i) d below here before =
-    ap (λ b. cond b (Some (f y).1) (found (map f ys) x)) (before 0 (omega arith)) ∙ found_at f ys x i d (omega arith) here (λ k h. before (suc k) (omega arith))
+    ap (λ b. cond b (Some (f y).1) (binding_of (map f ys) x)) (before 0 (omega arith)) ∙ found_at f ys x i d (omega arith) here (λ k h. before (suc k) (omega arith))
 
 none_step : (b : Bool) (i : ℕ) (o : Option ℕ) (v : Tree) (r : Option Tree) → cond b (Some i) o ≡ None → (o ≡ None → r ≡ None) → cond b (Some v) r ≡ None
 none_step true i o v r e h = absurd (let k : Some i ≡ None = e in cc)
 none_step false i o v r e h = h e
 
 found_none_from : {X : Type 0} (f : X → Name × Tree) (xs : List X) (x : Name) (j : ℕ)
-    → position_from (λ y. bytes_eq (f y).0 x) j xs ≡ None → found (map f xs) x ≡ None
+    → position_from (λ y. bytes_eq (f y).0 x) j xs ≡ None → binding_of (map f xs) x ≡ None
 found_none_from f [] x j e = refl
-found_none_from f (y ∷ ys) x j e = none_step (bytes_eq (f y).0 x) j _ (f y).1 (found (map f ys) x) e (found_none_from f ys x (j + 1))
+found_none_from f (y ∷ ys) x j e = none_step (bytes_eq (f y).0 x) j _ (f y).1 (binding_of (map f ys) x) e (found_none_from f ys x (j + 1))
 
-pub found_none : {X : Type 0} (f : X → Name × Tree) (xs : List X) (x : Name) → position (λ y. bytes_eq (f y).0 x) xs ≡ None → found (map f xs) x ≡ None
+pub found_none : {X : Type 0} (f : X → Name × Tree) (xs : List X) (x : Name) → position (λ y. bytes_eq (f y).0 x) xs ≡ None → binding_of (map f xs) x ≡ None
 found_none f xs x e = found_none_from f xs x 0 (sym (position_from-zero (λ y. bytes_eq (f y).0 x) xs) ∙ e)
 
 pub bound_at : {X : Type 0} (f : X → Name × Tree) (xs : List X) (x : Name) (t : Tree) (i : ℕ) (d y : X)

@@ -3,7 +3,7 @@ use Rattle.std.specs.Prelude.{◌≡◌, List, [], ◌∷◌, ℕ, map, codes}
 use Rattle.def_term.specs.Tree.{Tree, pid}
 use Rattle.def_term.specs.Names.{Name}
 use Rattle.def_node.specs.Values as values
-use Rattle.def_node.specs.Values.{built, params_bound}
+use Rattle.def_node.specs.Values.{instance_of, params_bound}
 use Rattle.tn_term.specs.Views.{tree_of}
 use Rattle.tn_term.specs.declared.term.Term.{Term}
 use Rattle.tn_script.specs.declared.form.Arguments.{Arguments}
@@ -13,7 +13,7 @@ use Rattle.tn_process.specs.Views.{env_of}
 
 -- what templates stand for, by the values of variables
 abbrev pub all_built_by : {A : Type 0} → Env A → List (Term A) → List Tree
-all_built_by e ts = map (λ t. built (env_of e) (tree_of t)) ts
+all_built_by e ts = map (λ t. instance_of (env_of e) (tree_of t)) ts
 
 -- what arguments stand for, by the values of variables
 abbrev pub args_built_by : {A : Type 0} → Env A → Arguments A → List Tree
@@ -21,7 +21,7 @@ args_built_by e ts = all_built_by e ts.terms.items
 
 -- what a template stands for in a frame
 abbrev pub built_in : {A : Type 0} → Frame A → Term A → Tree
-built_in f t = built (env_of f.env) (tree_of t)
+built_in f t = instance_of (env_of f.env) (tree_of t)
 
 -- what templates stand for in a frame
 abbrev pub all_built_in : {A : Type 0} → Frame A → Arguments A → List Tree

@@ -19,17 +19,17 @@ use Rattle.tn_process.specs.declared.exception.Exception.{Exception}
 use Rattle.tn_process.specs.declared.process.Frame.{Frame}
 use Rattle.tn_process.specs.declared.process.Process.{Process}
 
-abbrev pub binding_of : {A : Type 0} → Binding A → Name × Tree
-binding_of b = (b.name, tree_of b.value)
+abbrev pub name_and_term : {A : Type 0} → Binding A → Name × Tree
+name_and_term b = (b.name, tree_of b.value)
 
 abbrev pub env_of : {A : Type 0} → Env A → values.Env
-env_of e = map binding_of e.values.items
+env_of e = map name_and_term e.values.items
 
 abbrev pub frame_of : {A : Type 0} → Frame A → process.Frame
 frame_of f = record { function = f.function; place = f.place; env = env_of f.env; target = f.target; by_catch = f.by_catch }
 
-abbrev pub process_of : {A : Type 0} → Process A → process.Process
-process_of p = record {
+abbrev pub process_seen : {A : Type 0} → Process A → process.Process
+process_seen p = record {
   entry = option_map entry_of p.entry;
   frames = reverse (map frame_of p.frames.items);
   mailbox = map tree_of p.mailbox.items;
@@ -37,8 +37,8 @@ process_of p = record {
   links = p.links;
 }
 
-abbrev pub exception_seen : {A : Type 0} → Exception A → process.Exception
-exception_seen e = record { class = class_of e.class; value = tree_of e.value }
+abbrev pub exception_view : {A : Type 0} → Exception A → process.Exception
+exception_view e = record { class = class_of e.class; value = tree_of e.value }
 
 abbrev pub events_of : {A : Type 0} → Vec (code.Event A) A → List Event
 events_of es = map event_of es.items
@@ -54,10 +54,10 @@ act_seen q (Spawns child e) = process.spawns q child (entry_of e)
 act_seen q (Exits r es) = process.exits q.links (tree_of r) (events_of es)
 
 abbrev pub act_of : {A : Type 0} → Process A → Act A → process.Act
-act_of p Waits = process.waits (process_of p)
-act_of p (Continues es) = process.continues (process_of p) (events_of es)
-act_of p (Sends to t) = process.sends (process_of p) to (tree_of t)
-act_of p (LinksTo n) = process.links_to (process_of p) n
-act_of p (UnlinksFrom n) = process.unlinks_from (process_of p) n
-act_of p (Spawns child e) = process.spawns (process_of p) child (entry_of e)
+act_of p Waits = process.waits (process_seen p)
+act_of p (Continues es) = process.continues (process_seen p) (events_of es)
+act_of p (Sends to t) = process.sends (process_seen p) to (tree_of t)
+act_of p (LinksTo n) = process.links_to (process_seen p) n
+act_of p (UnlinksFrom n) = process.unlinks_from (process_seen p) n
+act_of p (Spawns child e) = process.spawns (process_seen p) child (entry_of e)
 act_of p (Exits r es) = process.exits p.links (tree_of r) (events_of es)

@@ -30,7 +30,7 @@ pub struct Callee<'a, A: Allocator + Copy> {
 
 /// A call whose arguments are built.
 #[derive(Drop)]
-pub struct Calling<A: Allocator> {
+pub struct PendingCall<A: Allocator> {
     pub target: Option<Atom<A>>,
     /// Whether the call names the module.
     pub named: bool,

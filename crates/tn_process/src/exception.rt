@@ -2,13 +2,13 @@
 ghost use Rattle.std.specs.Prelude.{◌≡◌, ◌∷◌, [], IfOk};
 ghost use Rattle.std.specs.List.{list_any};
 ghost use Rattle.def_term.specs.Tree.{tuple, of_elements};
-ghost use Rattle.def_node.specs.Process.{reason_of, caught_as, catch_target};
+ghost use Rattle.def_node.specs.Process.{exit_reason, caught_as, catch_target};
 ghost use Rattle.tn_term.specs.Views.{tree_of};
 ghost use Rattle.tn_flags.specs.Views.{class_of};
-ghost use Rattle.tn_process.specs.Views.{events_of, exception_seen, process_of};
-ghost use Rattle.tn_process.specs.Acting.{Does};
-ghost use Rattle.tn_process.specs.Raising.{raised_event, Gains, exception_in, without_left, events_left};
-ghost use Rattle.tn_process.specs.Raising.{leaves_by_in, raises_in};
+ghost use Rattle.tn_process.specs.Views.{events_of, exception_view, process_seen};
+ghost use Rattle.tn_process.specs.StepAnswers.{Does};
+ghost use Rattle.tn_process.specs.Exceptions.{raised_event, Gains, exception_in, without_left, events_left};
+ghost use Rattle.tn_process.specs.Exceptions.{leaves_by_in, raises_in};
 
 use crate::act::Act;
 use crate::context::StepContext;
@@ -37,7 +37,7 @@ fn pair<A: Allocator>(alloc: A, one: Term<A>, other: Term<A>) -> Result<Term<A>,
 impl<A: Allocator + Copy> Exception<A> {
     /// The reason with which it ends a process: that of an error has a stack trace too, which is empty.
     fn into_reason(self, alloc: A) -> Result<Term<A>, AllocError>
-        ensures { IfOk result (λ t. tree_of t ≡ reason_of (class_of self.class) (tree_of self.value)) }
+        ensures { IfOk result (λ t. tree_of t ≡ exit_reason (class_of self.class) (tree_of self.value)) }
     {
         match self.class {
             Class::Error => pair(alloc, self.value, Term::List(Vec::new(alloc))),
@@ -59,7 +59,7 @@ impl<A: Allocator + Copy> Exception<A> {
     }
 }
 
-/// Puts the event of a frame that the exception leaves at this depth behind the events.
+/// Puts the event of a frame that the exception leaves at this depth after the events.
 fn put_raised<A: Allocator + Copy>(
     context: &StepContext<'_, A>,
     exception: &Exception<A>,
@@ -87,14 +87,14 @@ fn put_raised<A: Allocator + Copy>(
 impl<A: Allocator + Copy> Process<A> {
     /// Whether a catch step called one of the frames.
     fn is_caught(&self) -> bool
-        ensures { result ≡ list_any (λ f. f.by_catch) (process_of self.now).frames }
+        ensures { result ≡ list_any (λ f. f.by_catch) (process_seen self.now).frames }
     {
         self.frames.iter().rev().any(|frame| frame.by_catch)
     }
 
     /// What a raise in the newest frame raises: a throw is an error where no catch step called a frame.
     fn exception(&self, alloc: A, class: Class, value: Term<A>) -> Result<Exception<A>, AllocError>
-        ensures { IfOk result (λ e. exception_seen e ≡ exception_in self.now (class_of class) (tree_of value)) }
+        ensures { IfOk result (λ e. exception_view e ≡ exception_in self.now (class_of class) (tree_of value)) }
     {
         if class == Class::Throw && !self.is_caught() {
             let word = Term::word(alloc, "nocatch")?;
@@ -114,8 +114,8 @@ impl<A: Allocator + Copy> Process<A> {
         context: &StepContext<'_, A>,
         exception: &Exception<A>,
     ) -> Result<(Option<Atom<A>>, Vec<Event<A>, A>), AllocError>
-        ensures frames { IfOk result (λ _. process_of self.new ≡ without_left (process_of self.old)) }
-        ensures target { IfOk result (λ r. r.0 ≡ catch_target (process_of self.old).frames) }
+        ensures frames { IfOk result (λ _. process_seen self.new ≡ without_left (process_seen self.old)) }
+        ensures target { IfOk result (λ r. r.0 ≡ catch_target (process_seen self.old).frames) }
         ensures events { IfOk result (λ r. events_of r.1 ≡ events_left context.now exception.now self.old) }
     {
         let mut events = Vec::new(context.alloc);
@@ -161,7 +161,7 @@ impl<A: Allocator + Copy> Process<A> {
     ) -> Result<Act<A>, AllocError>
         ensures { Does self.new result (raises_in context.now self.old frame class template.now) }
     {
-        let Some(value) = frame.env.fitting(context.alloc, template)? else {
+        let Some(value) = frame.env.fit(context.alloc, template)? else {
             return over_limit(context.alloc);
         };
         self.push_frame(frame)?;

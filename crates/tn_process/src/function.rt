@@ -1,10 +1,9 @@
 // The functions of a program.
 ghost use Rattle.std.specs.Prelude.{◌≡◌, ◌<◌, ◌+◌, length, IfOk, IfSome};
 ghost use Rattle.def_script.specs.Program.{number_from, mfa_of};
-ghost use Rattle.def_term.specs.Names.{same_mfa};
+ghost use Rattle.def_term.specs.Names.{same_mfa, mfa_from};
 ghost use Rattle.tn_term.specs.Views.{mfa_seen};
 ghost use Rattle.tn_script.specs.Views.{function_of, functions_of};
-ghost use Rattle.tn_process.specs.Acting.{mfa_from};
 
 use std::alloc::{AllocError, Allocator};
 use tn_script::Function;

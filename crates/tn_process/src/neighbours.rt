@@ -2,8 +2,8 @@
 ghost use Rattle.std.specs.Prelude.{◌≡◌, ◌≤◌, IfOk, IsTrue};
 ghost use Rattle.tn_term.specs.Views.{tree_of};
 ghost use Rattle.tn_script.specs.Views.{entry_of};
-ghost use Rattle.def_node.specs.Node.{fresh, is_linked, with_link, with_message, with_signal, parted};
-ghost use Rattle.tn_process.specs.Views.{process_of};
+ghost use Rattle.def_node.specs.Node.{fresh, is_linked, with_link, with_message, with_signal, part};
+ghost use Rattle.tn_process.specs.Views.{process_seen};
 
 use crate::process::Process;
 use std::alloc::{AllocError, Allocator};
@@ -14,7 +14,7 @@ use tn_term::{FIRST_PID, Term};
 impl<A: Allocator + Copy> Process<A> {
     /// A process that has made no step yet.
     pub fn new(alloc: A, entry: Entry<A>) -> Process<A>
-        ensures { process_of result ≡ fresh (entry_of entry) }
+        ensures { process_seen result ≡ fresh (entry_of entry) }
     {
         Process {
             entry: Some(entry),
@@ -27,7 +27,7 @@ impl<A: Allocator + Copy> Process<A> {
 
     /// Whether it is linked to the process with this pid.
     pub fn is_linked(&self, pid: u32) -> bool
-        ensures linked { result ≡ is_linked (process_of self.now) pid }
+        ensures linked { result ≡ is_linked (process_seen self.now) pid }
         ensures within { IsTrue result → (100 ≤ pid) × (pid ≤ 163) }
     {
         if pid < FIRST_PID {
@@ -39,7 +39,7 @@ impl<A: Allocator + Copy> Process<A> {
 
     /// Whether it is linked to each of the pids from 100 on.
     pub fn links(&self) -> &[bool; 64]
-        ensures { result.now ≡ (process_of self.now).links }
+        ensures { result.now ≡ (process_seen self.now).links }
     {
         &self.links
     }
@@ -48,14 +48,14 @@ impl<A: Allocator + Copy> Process<A> {
     pub fn set_link(&mut self, pid: u32, linked: bool)
         requires low { 100 ≤ pid }
         requires high { pid ≤ 163 }
-        ensures { process_of self.new ≡ with_link pid linked (process_of self.old) }
+        ensures { process_seen self.new ≡ with_link pid linked (process_seen self.old) }
     {
         self.links[(pid - FIRST_PID) as usize] = linked;
     }
 
     /// Puts a message at the end of the mailbox.
     pub fn put_message(&mut self, message: Term<A>) -> Result<(), AllocError>
-        ensures { IfOk result (λ _. process_of self.new ≡ with_message (tree_of message) (process_of self.old)) }
+        ensures { IfOk result (λ _. process_seen self.new ≡ with_message (tree_of message) (process_seen self.old)) }
     {
         self.mailbox.push_back(message)?;
         Ok(())
@@ -63,7 +63,7 @@ impl<A: Allocator + Copy> Process<A> {
 
     /// Gives it an exit signal, which is dropped where one is pending.
     pub fn put_signal(&mut self, reason: Term<A>)
-        ensures { process_of self.new ≡ with_signal (tree_of reason) (process_of self.old) }
+        ensures { process_seen self.new ≡ with_signal (tree_of reason) (process_seen self.old) }
     {
         if self.signal.is_none() {
             self.signal = Some(reason);
@@ -74,7 +74,7 @@ impl<A: Allocator + Copy> Process<A> {
     pub fn part(&mut self, alloc: A, pid: u32, reason: &Term<A>) -> Result<(), AllocError>
         requires low { 100 ≤ pid }
         requires high { pid ≤ 163 }
-        ensures { IfOk result (λ _. process_of self.new ≡ parted pid (tree_of reason.now) (process_of self.old)) }
+        ensures { IfOk result (λ _. process_seen self.new ≡ part pid (tree_of reason.now) (process_seen self.old)) }
     {
         self.set_link(pid, false);
         if !reason.is_word("normal") {

@@ -1,25 +1,25 @@
 // One process, and its next step.
 ghost use Rattle.std.specs.Prelude.{◌≡◌, ◌+◌, ◌<◌, [], ◌∷◌, IfOk, codes, None, Some};
 ghost use Rattle.std.specs.Option.{option_map};
-ghost use Rattle.def_term.specs.Tree.{atom};
+ghost use Rattle.def_term.specs.Tree.{atom, pid_in};
 ghost use Rattle.def_term.specs.Atoms.{IsAtomText};
 ghost use Rattle.tn_term.specs.Views.{tree_of, mfa_seen};
-ghost use Rattle.tn_flags.specs.Views.{event_of, call_of};
+ghost use Rattle.tn_flags.specs.Views.{event_of, call_seen};
 ghost use Rattle.tn_script.specs.Views.{step_of, functions_of};
-ghost use Rattle.def_node.specs.Values.{fitting, pid_in};
+ghost use Rattle.def_node.specs.Values.{fit};
 ghost use Rattle.def_node.specs.Process as World;
-ghost use Rattle.def_node.specs.Process.{advanced, act, mfa_at};
-ghost use Rattle.tn_process.specs.Views.{frame_of, process_of, events_of, act_of};
+ghost use Rattle.def_node.specs.Process.{next_step, act, mfa_at};
+ghost use Rattle.tn_process.specs.Views.{frame_of, process_seen, events_of, act_of};
 ghost use Rattle.tn_process.specs.declared.process.Process.{Process};
 ghost use Rattle.tn_process.specs.Templates.{built_in};
-ghost use Rattle.tn_process.specs.Acting.{Does, Ends, Pops, with_target, with_newest, caller_in};
-ghost use Rattle.tn_process.specs.Acting.{returned_in, resumed_in, leaves_in, called_in, entered};
-ghost use Rattle.tn_process.specs.Acting.{enters_in, enters_function_in, calls_in, spawns_in};
-ghost use Rattle.tn_process.specs.Acting.{sends_in, receives_in, gives_back_in, relinks, relinks_in};
-ghost use Rattle.tn_process.specs.Acting.{performs_in, runs_frame_in, runs_in, begins_in};
+ghost use Rattle.tn_process.specs.StepAnswers.{Does, EndsIn, Pops, with_target, with_newest, caller_in};
+ghost use Rattle.tn_process.specs.StepAnswers.{returned_in, resumed_in, leaves_in, called_in, enter};
+ghost use Rattle.tn_process.specs.StepAnswers.{enters_in, enters_function_in, calls_in, spawns_in};
+ghost use Rattle.tn_process.specs.StepAnswers.{sends_in, receives_in, gives_back_in, relinks, relinks_in};
+ghost use Rattle.tn_process.specs.StepAnswers.{performs_in, runs_frame_in, run_act, begins_in};
 
 use crate::act::Act;
-use crate::context::{Callee, Calling, StepContext};
+use crate::context::{Callee, PendingCall, StepContext};
 use crate::function::{find_function, function_mfa};
 use crate::values::{Env, pid_in};
 use std::alloc::{AllocError, Allocator};
@@ -55,7 +55,7 @@ pub struct Process<A: Allocator> {
 /// The process ends with the atom of this text as its reason.
 fn ends_with<A: Allocator + Copy>(alloc: A, reason: &str) -> Result<Act<A>, AllocError>
     requires { IsAtomText reason.now }
-    ensures { Ends result (λ ls. World.exits ls (atom reason.now) []) }
+    ensures { EndsIn result (λ ls. World.exits ls (atom reason.now) []) }
 {
     Ok(Act::Exits {
         reason: Term::word(alloc, reason)?,
@@ -65,7 +65,7 @@ fn ends_with<A: Allocator + Copy>(alloc: A, reason: &str) -> Result<Act<A>, Allo
 
 /// The process ends, since the step goes past a limit.
 pub fn over_limit<A: Allocator + Copy>(alloc: A) -> Result<Act<A>, AllocError>
-    ensures { Ends result (λ ls. World.exits ls (atom (codes "system_limit")) []) }
+    ensures { EndsIn result (λ ls. World.exits ls (atom (codes "system_limit")) []) }
 {
     ends_with(alloc, "system_limit")
 }
@@ -94,7 +94,7 @@ fn only<A: Allocator>(alloc: A, event: Event<A>) -> Result<Vec<Event<A>, A>, All
 }
 
 /// The event of a return from a frame of this function at this depth.
-fn returned<A: Allocator + Copy>(
+fn return_event<A: Allocator + Copy>(
     context: &StepContext<'_, A>,
     function: &Function<A>,
     value: Term<A>,
@@ -112,8 +112,8 @@ fn returned<A: Allocator + Copy>(
 }
 
 /// The act of a link, or of an unlink.
-fn relinking<A: Allocator>(other: u32, linked: bool) -> Act<A>
-    ensures { (p : Process A) → act_of p result ≡ relinks linked (process_of p) other }
+fn link_act<A: Allocator>(other: u32, linked: bool) -> Act<A>
+    ensures { (p : Process A) → act_of p result ≡ relinks linked (process_seen p) other }
 {
     if linked {
         Act::LinksTo(other)
@@ -125,9 +125,9 @@ fn relinking<A: Allocator>(other: u32, linked: bool) -> Act<A>
 impl<A: Allocator + Copy> Frame<A> {
     /// What the template stands for, where that is within the limits: the pid that it is, if it is one.
     fn fitting_pid(&self, alloc: A, template: &Term<A>) -> Result<Option<Option<u32>>, AllocError>
-        ensures { IfOk result (λ o. o ≡ option_map pid_in (fitting (built_in self.now template.now))) }
+        ensures { IfOk result (λ o. o ≡ option_map pid_in (fit (built_in self.now template.now))) }
     {
-        match self.env.fitting(alloc, template)? {
+        match self.env.fit(alloc, template)? {
             Some(term) => Ok(Some(pid_in(&term))),
             None => Ok(None),
         }
@@ -136,7 +136,7 @@ impl<A: Allocator + Copy> Frame<A> {
     /// One step on.
     fn advance(&mut self)
         requires { self.old.place < usize.MAX }
-        ensures { frame_of self.new ≡ advanced (frame_of self.old) }
+        ensures { frame_of self.new ≡ next_step (frame_of self.old) }
     {
         self.place += 1;
     }
@@ -156,7 +156,7 @@ impl<A: Allocator + Copy> Frame<A> {
 impl<A: Allocator + Copy> Process<A> {
     /// The frame is the newest from now on.
     pub(crate) fn push_frame(&mut self, frame: Frame<A>) -> Result<(), AllocError>
-        ensures { IfOk result (λ _. process_of self.new ≡ with_newest (process_of self.old) (frame_of frame)) }
+        ensures { IfOk result (λ _. process_seen self.new ≡ with_newest (process_seen self.old) (frame_of frame)) }
     {
         self.frames.push(frame)?;
         Ok(())
@@ -207,7 +207,7 @@ impl<A: Allocator + Copy> Process<A> {
         let Some(to) = frame.fitting_pid(alloc, to)? else {
             return over_limit(alloc);
         };
-        let Some(message) = frame.env.fitting(alloc, message)? else {
+        let Some(message) = frame.env.fit(alloc, message)? else {
             return over_limit(alloc);
         };
         let Some(to) = to else {
@@ -226,7 +226,7 @@ impl<A: Allocator + Copy> Process<A> {
         target: &Option<Atom<A>>,
         value: Term<A>,
     ) -> Result<(), AllocError>
-        ensures { IfOk result (λ _. process_of self.new ≡ resumed_in self.old frame target.now (tree_of value)) }
+        ensures { IfOk result (λ _. process_seen self.new ≡ resumed_in self.old frame target.now (tree_of value)) }
     {
         frame.bind(alloc, target, value)?;
         self.push_frame(frame)?;
@@ -248,12 +248,12 @@ impl<A: Allocator + Copy> Process<A> {
             Some(caller) => {
                 let copy = value.copy_into(context.alloc)?;
                 self.resume(context.alloc, caller, target, copy)?;
-                let events = returned(context, function, value, depth)?;
+                let events = return_event(context, function, value, depth)?;
                 Ok(Act::Continues(events))
             }
             None => {
                 let reason = Term::word(context.alloc, "normal")?;
-                let events = returned(context, function, value, depth)?;
+                let events = return_event(context, function, value, depth)?;
                 Ok(Act::Exits { reason, events })
             }
         }
@@ -273,7 +273,7 @@ impl<A: Allocator + Copy> Process<A> {
     fn enter(
         &mut self,
         context: &StepContext<'_, A>,
-        calling: Calling<A>,
+        calling: PendingCall<A>,
         number: Option<usize>,
     ) -> Result<Act<A>, AllocError>
         ensures { Does self.new result (enters_in context.now self.old calling number) }
@@ -288,13 +288,13 @@ impl<A: Allocator + Copy> Process<A> {
     }
 
     /// What the event of a call over the frames that there are tells of it.
-    fn called(
+    fn call_event(
         &self,
         context: &StepContext<'_, A>,
-        calling: &Calling<A>,
+        calling: &PendingCall<A>,
         function: &Function<A>,
     ) -> Result<Call<A>, AllocError>
-        ensures { IfOk result (λ c. call_of c ≡ called_in context.now self.now calling.now function.now) }
+        ensures { IfOk result (λ c. call_seen c ≡ called_in context.now self.now calling.now function.now) }
     {
         Ok(Call {
             mfa: function_mfa(context.alloc, function)?,
@@ -310,11 +310,11 @@ impl<A: Allocator + Copy> Process<A> {
     fn push_callee(
         &mut self,
         context: &StepContext<'_, A>,
-        calling: Calling<A>,
+        calling: PendingCall<A>,
         number: usize,
         function: &Function<A>,
     ) -> Result<(), AllocError>
-        ensures { IfOk result (λ _. process_of self.new ≡ entered context.now self.old calling number function.now) }
+        ensures { IfOk result (λ _. process_seen self.new ≡ enter context.now self.old calling number function.now) }
     {
         let args = calling.args.terms;
         let env = Env::for_call(context.alloc, context.pid, &function.params, args)?;
@@ -335,7 +335,7 @@ impl<A: Allocator + Copy> Process<A> {
     fn enter_function(
         &mut self,
         context: &StepContext<'_, A>,
-        calling: Calling<A>,
+        calling: PendingCall<A>,
         number: usize,
         function: &Function<A>,
     ) -> Result<Act<A>, AllocError>
@@ -344,7 +344,7 @@ impl<A: Allocator + Copy> Process<A> {
         if self.frames.len() >= FRAMES {
             return over_limit(context.alloc);
         }
-        let call = self.called(context, &calling, function)?;
+        let call = self.call_event(context, &calling, function)?;
         self.push_callee(context, calling, number, function)?;
         let pid = context.pid;
         let events = only(context.alloc, Event::Called { pid, call })?;
@@ -373,7 +373,7 @@ impl<A: Allocator + Copy> Process<A> {
         let target = copy_target(context.alloc, callee.target)?;
         frame.advance();
         self.push_frame(frame)?;
-        let calling = Calling {
+        let calling = PendingCall {
             target,
             named: callee.named,
             by_catch: callee.by_catch,
@@ -392,7 +392,7 @@ impl<A: Allocator + Copy> Process<A> {
     ) -> Result<Act<A>, AllocError>
         ensures { Does self.new result (gives_back_in context.now self.old function.now frame template.now) }
     {
-        let Some(value) = frame.env.fitting(context.alloc, template)? else {
+        let Some(value) = frame.env.fit(context.alloc, template)? else {
             return over_limit(context.alloc);
         };
         self.leave(context, function, &frame.target, value)
@@ -417,7 +417,7 @@ impl<A: Allocator + Copy> Process<A> {
         };
         frame.advance();
         self.push_frame(frame)?;
-        Ok(relinking(other, linked))
+        Ok(link_act(other, linked))
     }
 
     /// The step of a spawn.
@@ -551,7 +551,7 @@ impl<A: Allocator + Copy> Process<A> {
 
     /// The next step of the newest frame.
     fn run(&mut self, context: &StepContext<'_, A>) -> Result<Act<A>, AllocError>
-        ensures { Does self.new result (runs_in context.now self.old) }
+        ensures { Does self.new result (run_act context.now self.old) }
     {
         let frame = match self.pop_frame() {
             Some(frame) => frame,
@@ -576,7 +576,7 @@ impl<A: Allocator + Copy> Process<A> {
             entry.name.text(),
             entry.args.terms.len(),
         );
-        let calling = Calling {
+        let calling = PendingCall {
             target: None,
             named: true,
             by_catch: false,
@@ -593,7 +593,7 @@ impl<A: Allocator + Copy> Process<A> {
         pid: u32,
         child: Option<u32>,
     ) -> Result<Act<A>, AllocError>
-        ensures { Does self.new result (act (functions_of functions.now) pid child (process_of self.old)) }
+        ensures { Does self.new result (act (functions_of functions.now) pid child (process_seen self.old)) }
     {
         if let Some(reason) = self.signal.take() {
             return Ok(Act::Exits {

@@ -4,10 +4,10 @@ ghost use Rattle.std.specs.List.{position};
 ghost use Rattle.std.specs.Option.{option_map};
 ghost use Rattle.std.specs.Str.{bytes_eq};
 ghost use Rattle.def_term.specs.Tree as Tree;
-ghost use Rattle.def_term.specs.Tree.{depth as nesting, greatest_depth, size as extent, sum_of_sizes};
+ghost use Rattle.def_term.specs.Tree.{depth as nesting, greatest_depth, size as extent, sum_of_sizes, pid_in};
 ghost use Rattle.tn_term.specs.Views.{tree_of, trees_of};
-ghost use Rattle.def_node.specs.Values.{found, value_of, rebound, built, all_built, fits, all_fit, fitting};
-ghost use Rattle.def_node.specs.Values.{fitting_all, pid_in, params_bound};
+ghost use Rattle.def_node.specs.Values.{binding_of, value_of, rebound, instance_of, all_built, fits, all_fit, fit};
+ghost use Rattle.def_node.specs.Values.{fitting_all, params_bound};
 ghost use Rattle.tn_script.specs.Views.{args_of};
 ghost use Rattle.tn_process.specs.Views.{env_of};
 ghost use Rattle.tn_process.specs.Templates.{all_built_by, args_built_by, env_for_call, BindsNext};
@@ -68,7 +68,7 @@ impl<A: Allocator + Copy> Env<A> {
 
     /// The value of the variable.
     pub fn get(&self, name: &str) -> Option<&Term<A>>
-        ensures { option_map (λ t. tree_of t.now) result ≡ found (env_of self.now) name.now }
+        ensures { option_map (λ t. tree_of t.now) result ≡ binding_of (env_of self.now) name.now }
     {
         match self.place(name) {
             Some(i) => Some(&self.values[i].value),
@@ -89,14 +89,14 @@ impl<A: Allocator + Copy> Env<A> {
 
     /// Whether what the template stands for is within the limits. Nothing is built.
     pub fn fits(&self, template: &Term<A>) -> bool
-        ensures { result ≡ fits (built (env_of self.now) (tree_of template.now)) }
+        ensures { result ≡ fits (instance_of (env_of self.now) (tree_of template.now)) }
     {
         built_size(template, self) <= GREATEST_SIZE && built_depth(template, self) <= GREATEST_DEPTH
     }
 
     /// What the template stands for.
     pub fn build(&self, alloc: A, template: &Term<A>) -> Result<Term<A>, AllocError>
-        ensures { IfOk result (λ t. tree_of t ≡ built (env_of self.now) (tree_of template.now)) }
+        ensures { IfOk result (λ t. tree_of t ≡ instance_of (env_of self.now) (tree_of template.now)) }
     {
         build_term(template, self, alloc)
     }
@@ -125,8 +125,8 @@ impl<A: Allocator + Copy> Env<A> {
     }
 
     /// What the template stands for, where that is within the limits.
-    pub fn fitting(&self, alloc: A, template: &Term<A>) -> Result<Option<Term<A>>, AllocError>
-        ensures { IfOk result (λ o. option_map tree_of o ≡ fitting (built (env_of self.now) (tree_of template.now))) }
+    pub fn fit(&self, alloc: A, template: &Term<A>) -> Result<Option<Term<A>>, AllocError>
+        ensures { IfOk result (λ o. option_map tree_of o ≡ fit (instance_of (env_of self.now) (tree_of template.now))) }
     {
         if self.fits(template) {
             Ok(Some(self.build(alloc, template)?))
@@ -207,7 +207,7 @@ impl<A: Allocator + Copy> Env<A> {
 /// The size of what the template stands for, at most `SIZE_END`.
 #[cycle(built_size)]
 fn built_size<A: Allocator + Copy>(template: &Term<A>, env: &Env<A>) -> u64
-    ensures { result ≡ min (extent (built (env_of env.now) (tree_of template.now))) SIZE_END }
+    ensures { result ≡ min (extent (instance_of (env_of env.now) (tree_of template.now))) SIZE_END }
 {
     match template {
         Term::Int(_) | Term::Pid(_) => 1,
@@ -237,7 +237,7 @@ fn built_sizes<A: Allocator + Copy>(templates: &Vec<Term<A>, A>, env: &Env<A>) -
 /// The depth of what the template stands for.
 #[cycle(built_depth)]
 fn built_depth<A: Allocator + Copy>(template: &Term<A>, env: &Env<A>) -> u64
-    ensures { result ≡ min (nesting (built (env_of env.now) (tree_of template.now))) u64.MAX }
+    ensures { result ≡ min (nesting (instance_of (env_of env.now) (tree_of template.now))) u64.MAX }
 {
     match template {
         Term::Int(_) | Term::Pid(_) => 0,
@@ -268,7 +268,7 @@ fn build_term<A: Allocator + Copy>(
     env: &Env<A>,
     alloc: A,
 ) -> Result<Term<A>, AllocError>
-    ensures { IfOk result (λ t. tree_of t ≡ built (env_of env.now) (tree_of template.now)) }
+    ensures { IfOk result (λ t. tree_of t ≡ instance_of (env_of env.now) (tree_of template.now)) }
 {
     match template {
         Term::Int(n) => Ok(Term::Int(*n)),

@@ -1,7 +1,7 @@
 pub mod Any
 pub mod First
-pub mod Gathered
-pub mod Made
-pub mod Seen
+pub mod FormParts
+pub mod CreatedSessions
+pub mod FunctionNames
 pub mod Totals
-pub mod Unbound
+pub mod BoundVariables

@@ -15,12 +15,12 @@ use Rattle.tn_program.specs.declared.session_rules.CommandRule.{CommandRule}
 use Rattle.tn_program.specs.declared.session_rules.CommandRule.TheVariants.{Again, Unmade, TracerTaken}
 
 -- the commands that the forms hold
-abbrev pub commands_in : {A : Type 0} → List (Form A) → List program.Command
-commands_in fs = commands_of (map form_of fs)
+abbrev pub form_commands : {A : Type 0} → List (Form A) → List program.Command
+form_commands fs = commands_of (map form_of fs)
 
 -- those, and then these
 abbrev pub commands_before : {A : Type 0} → List (Form A) → List (Command A) → List program.Command
-commands_before fs cs = commands_in fs ++ map command_of cs
+commands_before fs cs = form_commands fs ++ map command_of cs
 
 -- a creation with this name as its session or its tracer
 abbrev pub creates_with : NameOf → Name → program.Command → Bool
@@ -43,7 +43,7 @@ creation_count cs = count_by is_creation cs
 
 -- how many creations the forms hold
 abbrev pub creations_in : {A : Type 0} → List (Form A) → ℕ
-creations_in fs = creation_count (commands_in fs)
+creations_in fs = creation_count (form_commands fs)
 
 -- the total is this number, or the greatest that a total can be where the number is larger
 abbrev pub Counts : ℕ → ℕ → Type 0
@@ -51,7 +51,7 @@ Counts total n = total ≡ min n (2 ^ 64 - 1)
 
 -- one of the commands, which follow those of the forms, is past the greatest number of commands
 abbrev pub passes_commands : {A B : Type 0} → List (Form A) → List (Command B) → Bool
-passes_commands fs cs = holds_past COMMANDS (length (commands_in fs)) (length (map command_of cs))
+passes_commands fs cs = holds_past COMMANDS (length (form_commands fs)) (length (map command_of cs))
 
 -- one is a creation past the greatest number of sessions
 abbrev pub passes_sessions : {A B : Type 0} → List (Form A) → List (Command B) → Bool

@@ -20,14 +20,14 @@ rule_of named.TracerTaken = rules.tracer_taken
 rule_of named.Arity = rules.wrong_arity
 rule_of named.Limit = rules.past_limit
 
-abbrev pub fault_of : Rule → ℕ → RuleFault
-fault_of named.Duplicate n = Duplicate n
-fault_of named.Undeclared n = Undeclared n
-fault_of named.NotExported n = NotExported n
-fault_of named.Unbound n = Unbound n
-fault_of named.TracerTaken n = TracerTaken n
-fault_of named.Arity n = Arity n
-fault_of named.Limit n = Limit n
+abbrev pub rule_fault_of : Rule → ℕ → RuleFault
+rule_fault_of named.Duplicate n = Duplicate n
+rule_fault_of named.Undeclared n = Undeclared n
+rule_fault_of named.NotExported n = NotExported n
+rule_fault_of named.Unbound n = Unbound n
+rule_fault_of named.TracerTaken n = TracerTaken n
+rule_fault_of named.Arity n = Arity n
+rule_fault_of named.Limit n = Limit n
 
 -- the form and the rule that a fault tells; want of memory tells none
 abbrev pub broken_of : RuleFault → Option (ℕ × rules.Rule)
@@ -41,16 +41,16 @@ broken_of (Limit n) = Some (n, rules.past_limit)
 broken_of OutOfMemory = None
 
 -- want of memory, or the first rule that is broken
-abbrev pub IsFirstFault : List Form → Option (ℕ × rules.Rule) → Type 0
-IsFirstFault fs None = Unit {0}
-IsFirstFault fs (Some b) = first_broken fs ≡ Some b
+abbrev pub IsFirstRuleFault : List Form → Option (ℕ × rules.Rule) → Type 0
+IsFirstRuleFault fs None = Unit {0}
+IsFirstRuleFault fs (Some b) = first_broken fs ≡ Some b
 
 -- no form breaks a rule; or the fault tells which is the first
-abbrev pub IsKept : List Form → Result (Unit {0}) RuleFault → Type 0
-IsKept fs (Ok u) = first_broken fs ≡ None
-IsKept fs (Err fault) = IsFirstFault fs (broken_of fault)
+abbrev pub ObeysRules : List Form → Result (Unit {0}) RuleFault → Type 0
+ObeysRules fs (Ok u) = first_broken fs ≡ None
+ObeysRules fs (Err fault) = IsFirstRuleFault fs (broken_of fault)
 
 -- the program of forms that break no rule; or the fault tells which is the first that does
 abbrev pub IsProgramOf : {A : Type 0} → List Form → Result (Program A) RuleFault → Type 0
 IsProgramOf fs (Ok p) = (first_broken fs ≡ None) × (program_of p ≡ program_from fs)
-IsProgramOf fs (Err fault) = IsFirstFault fs (broken_of fault)
+IsProgramOf fs (Err fault) = IsFirstRuleFault fs (broken_of fault)

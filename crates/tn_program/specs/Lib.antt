@@ -1,8 +1,8 @@
-pub mod Bound
+pub mod Variables
 pub mod Commands
 pub mod Faults
-pub mod Gained
-pub mod Named
-pub mod Naming
+pub mod FormParts
+pub mod FunctionNames
+pub mod Declarations
 pub mod Lookups
 pub mod Views

@@ -4,7 +4,7 @@ ghost use Rattle.std.specs.Option.{option_map};
 ghost use Rattle.def_script.specs.Rules.{is_creation};
 ghost use Rattle.def_script.specs.Script.{creation_of, creations};
 ghost use Rattle.tn_flags.specs.Views.{command_of};
-ghost use Rattle.tn_program.specs.Bound.{lent};
+ghost use Rattle.tn_program.specs.Variables.{name_pair};
 
 use std::alloc::Allocator;
 use std::marker::Model;
@@ -31,11 +31,11 @@ impl<'a, A: Allocator> Model for Sessions<'a, A> {
 
 impl<'a, A: Allocator> Iterator for Sessions<'a, A> {
     ghost use Rattle.std.specs.Iterator.{YieldsFirstBy, item_count};
-    ghost use Rattle.tn_program.specs.Bound.{lent};
+    ghost use Rattle.tn_program.specs.Variables.{name_pair};
 
     type Item = (&'a Atom<A>, &'a Atom<A>);
 
-    ghost next_gives = { YieldsFirstBy lent (λ left. left) };
+    ghost next_gives = { YieldsFirstBy name_pair (λ left. left) };
 
     ghost remaining = { item_count (λ left. left) };
 
@@ -52,7 +52,7 @@ impl<'a, A: Allocator> Iterator for Sessions<'a, A> {
 
 /// The name and the tracer of the session that the command creates, if it creates one.
 fn creation<A: Allocator>(command: &Command<A>) -> Option<(&Atom<A>, &Atom<A>)>
-    ensures { option_map lent result ≡ creation_of (command_of command.now) }
+    ensures { option_map name_pair result ≡ creation_of (command_of command.now) }
 {
     match command {
         Command::SessionCreate { session, tracer } => Some((session, tracer)),
@@ -96,7 +96,7 @@ pub fn find_session<A: Allocator>(
     commands: &[Command<A>],
     number: usize,
 ) -> Option<(&Atom<A>, &Atom<A>)>
-    ensures { option_map lent result ≡ slice_get (creations (map command_of commands.now)) number }
+    ensures { option_map name_pair result ≡ slice_get (creations (map command_of commands.now)) number }
 {
     let mut left = number;
     for command in commands {

@@ -1,6 +1,6 @@
 // Why forms make no program.
 ghost use Rattle.std.specs.Prelude.{◌≡◌};
-ghost use Rattle.tn_program.specs.Faults.{fault_of};
+ghost use Rattle.tn_program.specs.Faults.{rule_fault_of};
 
 use thiserror::Error;
 
@@ -47,7 +47,7 @@ pub enum RuleFault {
 
 /// The fault of that rule in that form.
 pub fn fault_in(rule: Rule, form: usize) -> RuleFault
-    ensures { result ≡ fault_of rule form }
+    ensures { result ≡ rule_fault_of rule form }
 {
     match rule {
         Rule::Duplicate => RuleFault::Duplicate { form },

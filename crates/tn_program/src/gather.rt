@@ -4,7 +4,7 @@ ghost use Rattle.def_script.specs.Rules.{first_broken};
 ghost use Rattle.def_script.specs.Script.{program_from};
 ghost use Rattle.tn_script.specs.Views.{form_of};
 ghost use Rattle.tn_program.specs.Views.{program_of};
-ghost use Rattle.tn_program.specs.Gained.{GainsFunction, GainsEntry, GainsCommands};
+ghost use Rattle.tn_program.specs.FormParts.{GainsFunction, GainsEntry, GainsCommands};
 ghost use Rattle.tn_program.specs.Faults.{IsProgramOf};
 
 use crate::fault::RuleFault;

@@ -1,6 +1,6 @@
 //! Programs: forms that keep all static rules.
 //!
-//! Stands on tn_script and on the definitions of def_script. Promises that `program` answers exactly
+//! Depends on tn_script and on the definitions of def_script. Promises that `program` answers exactly
 //! the program of forms that break no rule, or the first that does and the least rule that it breaks;
 //! that a copy is an equal program, and that `same` is equality; its sessions are the creations of the
 //! control list in their order.

@@ -1,10 +1,11 @@
 // The functions that forms declare.
 ghost use Rattle.std.specs.Prelude.{◌≡◌, map};
 ghost use Rattle.std.specs.List.{list_any};
+ghost use Rattle.def_term.specs.Names.{mfa_from};
 ghost use Rattle.def_script.specs.Rules.{declares_one, is_declared as is_declared_in};
 ghost use Rattle.def_script.specs.Rules.{is_declared_at_all as is_declared_at_all_in, is_internal as is_internal_in};
 ghost use Rattle.tn_script.specs.Views.{function_of, form_of};
-ghost use Rattle.tn_program.specs.Named.{mfa_from, is_it, is_named_so};
+ghost use Rattle.tn_program.specs.FunctionNames.{is_it, is_named_so};
 ghost use Rattle.tn_program.specs.Lookups.{wanted_mfa, passes_as};
 
 use std::alloc::Allocator;
@@ -12,7 +13,7 @@ use tn_script::{Form, Function};
 
 /// The function that is looked for.
 #[derive(Clone, Copy)]
-struct Wanted<'a> {
+struct FunctionKey<'a> {
     home: &'a str,
     name: &'a str,
     arity: usize,
@@ -21,7 +22,7 @@ struct Wanted<'a> {
 /// Which functions pass for it: those with that number of parameters, all of its module and name, or
 /// those with that number of parameters that aren't exported.
 #[derive(Clone, Copy)]
-enum Sought {
+enum NameMatch {
     Exact,
     Named,
     Internal,
@@ -44,19 +45,23 @@ fn is_named<A: Allocator>(function: &Function<A>, of_module: &str, name: &str) -
 }
 
 /// Whether it is a function that is looked for.
-fn is_sought<A: Allocator>(function: &Function<A>, sought: Sought, wanted: &Wanted<'_>) -> bool
+fn is_sought<A: Allocator>(
+    function: &Function<A>,
+    sought: NameMatch,
+    wanted: &FunctionKey<'_>,
+) -> bool
     ensures { result ≡ passes_as sought (wanted_mfa wanted.now) (function_of function.now) }
 {
     match sought {
-        Sought::Exact => is_same(function, wanted.home, wanted.name, wanted.arity),
-        Sought::Named => is_named(function, wanted.home, wanted.name),
-        Sought::Internal => is_same(function, wanted.home, wanted.name, wanted.arity)
+        NameMatch::Exact => is_same(function, wanted.home, wanted.name, wanted.arity),
+        NameMatch::Named => is_named(function, wanted.home, wanted.name),
+        NameMatch::Internal => is_same(function, wanted.home, wanted.name, wanted.arity)
             && !function.exported,
     }
 }
 
 /// Whether the form declares a function that is looked for.
-fn declares<A: Allocator>(form: &Form<A>, sought: Sought, wanted: &Wanted<'_>) -> bool
+fn declares<A: Allocator>(form: &Form<A>, sought: NameMatch, wanted: &FunctionKey<'_>) -> bool
     ensures { result ≡ declares_one (passes_as sought (wanted_mfa wanted.now)) (form_of form.now) }
 {
     match form {
@@ -66,7 +71,11 @@ fn declares<A: Allocator>(form: &Form<A>, sought: Sought, wanted: &Wanted<'_>) -
 }
 
 /// Whether one of the forms declares a function that is looked for.
-fn any_declares<A: Allocator>(forms: &[Form<A>], sought: Sought, wanted: &Wanted<'_>) -> bool
+fn any_declares<A: Allocator>(
+    forms: &[Form<A>],
+    sought: NameMatch,
+    wanted: &FunctionKey<'_>,
+) -> bool
     ensures { result ≡ list_any (declares_one (passes_as sought (wanted_mfa wanted.now))) (map form_of forms.now) }
 {
     for form in forms {
@@ -88,8 +97,8 @@ pub fn is_declared<A: Allocator>(
 {
     any_declares(
         forms,
-        Sought::Exact,
-        &Wanted {
+        NameMatch::Exact,
+        &FunctionKey {
             home: of_module,
             name,
             arity,
@@ -108,8 +117,8 @@ pub fn is_declared_at_all<A: Allocator>(
 {
     any_declares(
         forms,
-        Sought::Named,
-        &Wanted {
+        NameMatch::Named,
+        &FunctionKey {
             home: of_module,
             name,
             arity,
@@ -128,8 +137,8 @@ pub fn is_internal<A: Allocator>(
 {
     any_declares(
         forms,
-        Sought::Internal,
-        &Wanted {
+        NameMatch::Internal,
+        &FunctionKey {
             home: of_module,
             name,
             arity,

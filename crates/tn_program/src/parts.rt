@@ -24,7 +24,7 @@ impl<A: Allocator> Program<A> {
     ghost use Rattle.tn_script.specs.Views.{functions_of, entry_of};
     ghost use Rattle.std.specs.Option.{option_map};
     ghost use Rattle.def_script.specs.Script.{creations};
-    ghost use Rattle.tn_program.specs.Bound.{lent};
+    ghost use Rattle.tn_program.specs.Variables.{name_pair};
     ghost use Rattle.tn_program.specs.Views.{program_of};
 
     /// The functions, in the order of their forms.
@@ -58,7 +58,7 @@ impl<A: Allocator> Program<A> {
 
     /// The name and the tracer of the session with this number, from 0, in the control list's order.
     pub fn session_at(&self, number: usize) -> Option<(&Atom<A>, &Atom<A>)>
-        ensures { option_map lent result ≡ slice_get (creations (program_of self.now).commands) number }
+        ensures { option_map name_pair result ≡ slice_get (creations (program_of self.now).commands) number }
     {
         find_session(&self.commands, number)
     }

@@ -2,18 +2,18 @@
 ghost use Rattle.std.specs.Prelude.{◌≡◌, IfOk, map, length, nat_le, nat_lt};
 ghost use Rattle.std.specs.List.{list_any, count_by};
 ghost use Rattle.std.specs.Option.{option_map};
+ghost use Rattle.def_term.specs.Names.{mfa_from};
 ghost use Rattle.def_script.specs.Limits.{FUNCTIONS as function_limit, STEPS as step_limit};
 ghost use Rattle.def_script.specs.Limits.{INITIAL_PROCESSES as process_limit};
 ghost use Rattle.def_script.specs.Rules.{is_function, is_process};
-ghost use Rattle.def_script.specs.Rules.{passes, named_by, named_with_module, is_misnamed as is_misnamed_in};
+ghost use Rattle.def_script.specs.Rules.{on_some, named_by, named_with_module, is_misnamed as is_misnamed_in};
 ghost use Rattle.def_script.specs.Rules.{is_internal as is_internal_in, breaks_duplicate, breaks_undeclared};
 ghost use Rattle.def_script.specs.Rules.{breaks_not_exported, breaks_unbound, breaks_tracer_taken, breaks_arity};
 ghost use Rattle.def_script.specs.Rules.{breaks_limit};
 ghost use Rattle.tn_script.specs.Views.{step_of, form_of};
-ghost use Rattle.tn_program.specs.Named.{mfa_from};
-ghost use Rattle.tn_program.specs.Naming.{is_unnamed, step_breaks, rule_broken_in};
+ghost use Rattle.tn_program.specs.Declarations.{is_unnamed, step_breaks, rule_broken_in};
 ghost use Rattle.tn_program.specs.Commands.{passes_commands, passes_sessions};
-ghost use Rattle.tn_program.specs.Faults.{rule_of, IsKept};
+ghost use Rattle.tn_program.specs.Faults.{rule_of, ObeysRules};
 
 use crate::counts::{
     all_commands, all_creations, creation_total, function_total, holds_past, process_total,
@@ -48,7 +48,7 @@ enum StepRule {
 
 /// Whether the step names a function that no form declares with any number of parameters.
 fn step_undeclared<A: Allocator>(forms: &[Form<A>], of_module: &str, step: &Step<A>) -> bool
-    ensures { result ≡ passes (is_unnamed (map form_of forms.now)) (named_by of_module.now (step_of step.now)) }
+    ensures { result ≡ on_some (is_unnamed (map form_of forms.now)) (named_by of_module.now (step_of step.now)) }
 {
     match step {
         Step::CallRemote {
@@ -81,7 +81,7 @@ fn step_undeclared<A: Allocator>(forms: &[Form<A>], of_module: &str, step: &Step
 
 /// Whether the step spawns an internal function, or calls one with the module.
 fn step_internal<A: Allocator>(forms: &[Form<A>], step: &Step<A>) -> bool
-    ensures { result ≡ passes (is_internal_in (map form_of forms.now)) (named_with_module (step_of step.now)) }
+    ensures { result ≡ on_some (is_internal_in (map form_of forms.now)) (named_with_module (step_of step.now)) }
 {
     match step {
         Step::CallRemote {
@@ -115,7 +115,7 @@ fn is_misnamed<A: Allocator>(forms: &[Form<A>], of_module: &str, name: &str, ari
 
 /// Whether the step names a function that is declared, but not with that number of arguments.
 fn step_misnamed<A: Allocator>(forms: &[Form<A>], of_module: &str, step: &Step<A>) -> bool
-    ensures { result ≡ passes (is_misnamed_in (map form_of forms.now)) (named_by of_module.now (step_of step.now)) }
+    ensures { result ≡ on_some (is_misnamed_in (map form_of forms.now)) (named_by of_module.now (step_of step.now)) }
 {
     match step {
         Step::CallRemote {
@@ -367,7 +367,7 @@ fn broken_rule<A: Allocator + Copy>(
 
 /// Whether all forms keep all rules; else the lowest-numbered form that breaks one, and the least that it breaks.
 pub fn check_rules<A: Allocator + Copy>(alloc: A, forms: &[Form<A>]) -> Result<(), RuleFault>
-    ensures { IsKept (map form_of forms.now) result }
+    ensures { ObeysRules (map form_of forms.now) result }
 {
     for i in 0..forms.len() {
         let Ok(broken) = broken_rule(alloc, forms, &forms[..i], &forms[i]) else {

@@ -6,7 +6,7 @@ ghost use Rattle.def_script.specs.Rules.{creates_again, commands_unmade, takes_t
 ghost use Rattle.tn_flags.specs.Views.{command_of};
 ghost use Rattle.tn_script.specs.Views.{form_of};
 ghost use Rattle.tn_program.specs.Commands.{creates_with, any_creates, command_breaks};
-ghost use Rattle.tn_program.specs.Commands.{commands_in, commands_before};
+ghost use Rattle.tn_program.specs.Commands.{form_commands, commands_before};
 
 use std::alloc::Allocator;
 use tn_flags::Command;
@@ -174,7 +174,7 @@ pub fn any_breaks<A: Allocator>(
     forms: &[Form<A>],
     commands: &[Command<A>],
 ) -> bool
-    ensures { result ≡ any_with_earlier (command_breaks rule) (commands_in forms.now) (map command_of commands.now) }
+    ensures { result ≡ any_with_earlier (command_breaks rule) (form_commands forms.now) (map command_of commands.now) }
 {
     for i in 0..commands.len() {
         if breaks(rule, forms, &commands[..i], &commands[i]) {

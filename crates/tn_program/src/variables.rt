@@ -7,7 +7,7 @@ ghost use Rattle.def_script.specs.Rules.{has_other_variable, have_other_variable
 ghost use Rattle.def_script.specs.Rules.{terms_of, target_of_step};
 ghost use Rattle.tn_term.specs.Views.{tree_of, trees_of};
 ghost use Rattle.tn_script.specs.Views.{step_of, function_of};
-ghost use Rattle.tn_program.specs.Bound.{names_in, HaveSame, Adds, target_names, has_unbound_step};
+ghost use Rattle.tn_program.specs.Variables.{names_in, HaveSame, AddsNames, target_names, has_unbound_step};
 
 use std::alloc::{AllocError, Allocator};
 use std::collections::BTreeMap;
@@ -94,7 +94,7 @@ fn target_of<A: Allocator>(step: &Step<A>) -> Option<&Atom<A>>
 }
 
 /// 'Self' and the parameters.
-fn opening<A: Allocator + Copy>(
+fn first_variables<A: Allocator + Copy>(
     alloc: A,
     function: &Function<A>,
 ) -> Result<BTreeMap<&str, (), A>, AllocError>
@@ -108,12 +108,12 @@ fn opening<A: Allocator + Copy>(
     Ok(bound)
 }
 
-/// The step's target is bound behind it.
+/// The step's target is bound after it.
 fn bind<'a, A: Allocator + Copy>(
     bound: &mut BTreeMap<&'a str, (), A>,
     step: &'a Step<A>,
 ) -> Result<(), AllocError>
-    ensures { OnOk result (Adds bound.old bound.new (target_names (step_of step.now))) }
+    ensures { OnOk result (AddsNames bound.old bound.new (target_names (step_of step.now))) }
 {
     match target_of(step) {
         Some(target) => {
@@ -129,7 +129,7 @@ fn bind<'a, A: Allocator + Copy>(
 pub fn is_unbound<A: Allocator + Copy>(alloc: A, function: &Function<A>) -> Result<bool, AllocError>
     ensures { IfOk result (λ b. b ≡ has_unbound_step (function_of function.now)) }
 {
-    let mut bound = opening(alloc, function)?;
+    let mut bound = first_variables(alloc, function)?;
     for step in &function.steps {
         if step_unbound(&bound, step) {
             return Ok(true);

@@ -13,11 +13,12 @@ use Rattle.tn_program.specs.declared.parts.Program.{Program}
 use Rattle.tn_program.specs.declared.fault.RuleFault.{RuleFault}
 use Rattle.tn_program.specs.declared.fault.RuleFault.TheVariants as rule
 use Rattle.tn_program.specs.Faults.{IsProgramOf}
-use Rattle.tn_run.specs.Scripts.{IsAccepted, of_forms, of_rules}
+use Rattle.tn_refusal.specs.Refusals.{denial_of_script, denial_of_rules}
+use Rattle.tn_run.specs.Scripts.{IsAccepted}
 use Rattle.def_script.specs.Rules as rules
-use Rattle.tn_run.proofs.RuleLemmas.{kept_of, first_of}
+use Rattle.def_script.proofs.FirstBroken.{first_is, none_broken}
 
-pub denied_by_forms : (A : Type 0) (bytes : List ℕ) (fault : ScriptFault) → AreForms {A = A} bytes (Err fault) → IsAccepted {A = A} bytes (Err (of_forms fault))
+pub denied_by_forms : (A : Type 0) (bytes : List ℕ) (fault : ScriptFault) → AreForms {A = A} bytes (Err fault) → IsAccepted {A = A} bytes (Err (denial_of_script fault))
 denied_by_forms A bytes read.TooLong h = h
 denied_by_forms A bytes (read.Token at) h = h
 denied_by_forms A bytes (read.TooDeep at) h = h
@@ -34,14 +35,14 @@ module _ {A : Type 0} (bytes : List ℕ) (vs : List (code.Form A)) (h : SpellsFo
   fs = map form_of vs
 
   pub accepted : (p : Program A) → IsProgramOf fs (Ok p) → IsAccepted bytes (Ok p)
-  accepted p made = record { forms = fs; spelled = h.0; few = few_forms vs h.1; kept = kept_of fs made.0; made = made.1 }
+  accepted p made = record { forms = fs; spelled = h.0; few = few_forms vs h.1; kept = none_broken fs made.0; made = made.1 }
 
-  pub denied_by_rules : (fault : RuleFault) → IsProgramOf {A = A} fs (Err fault) → IsAccepted {A = A} bytes (Err (of_rules fault))
-  denied_by_rules (rule.Duplicate n) b = record { forms = fs; spelled = h.0; few = few_forms vs h.1; first = first_of fs n rules.duplicate b }
-  denied_by_rules (rule.Undeclared n) b = record { forms = fs; spelled = h.0; few = few_forms vs h.1; first = first_of fs n rules.undeclared b }
-  denied_by_rules (rule.NotExported n) b = record { forms = fs; spelled = h.0; few = few_forms vs h.1; first = first_of fs n rules.not_exported b }
-  denied_by_rules (rule.Unbound n) b = record { forms = fs; spelled = h.0; few = few_forms vs h.1; first = first_of fs n rules.unbound b }
-  denied_by_rules (rule.TracerTaken n) b = record { forms = fs; spelled = h.0; few = few_forms vs h.1; first = first_of fs n rules.tracer_taken b }
-  denied_by_rules (rule.Arity n) b = record { forms = fs; spelled = h.0; few = few_forms vs h.1; first = first_of fs n rules.wrong_arity b }
-  denied_by_rules (rule.Limit n) b = record { forms = fs; spelled = h.0; few = few_forms vs h.1; first = first_of fs n rules.past_limit b }
+  pub denied_by_rules : (fault : RuleFault) → IsProgramOf {A = A} fs (Err fault) → IsAccepted {A = A} bytes (Err (denial_of_rules fault))
+  denied_by_rules (rule.Duplicate n) b = record { forms = fs; spelled = h.0; few = few_forms vs h.1; first = first_is fs n rules.duplicate b }
+  denied_by_rules (rule.Undeclared n) b = record { forms = fs; spelled = h.0; few = few_forms vs h.1; first = first_is fs n rules.undeclared b }
+  denied_by_rules (rule.NotExported n) b = record { forms = fs; spelled = h.0; few = few_forms vs h.1; first = first_is fs n rules.not_exported b }
+  denied_by_rules (rule.Unbound n) b = record { forms = fs; spelled = h.0; few = few_forms vs h.1; first = first_is fs n rules.unbound b }
+  denied_by_rules (rule.TracerTaken n) b = record { forms = fs; spelled = h.0; few = few_forms vs h.1; first = first_is fs n rules.tracer_taken b }
+  denied_by_rules (rule.Arity n) b = record { forms = fs; spelled = h.0; few = few_forms vs h.1; first = first_is fs n rules.wrong_arity b }
+  denied_by_rules (rule.Limit n) b = record { forms = fs; spelled = h.0; few = few_forms vs h.1; first = first_is fs n rules.past_limit b }
   denied_by_rules rule.OutOfMemory b = tt

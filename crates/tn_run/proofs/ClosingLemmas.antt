@@ -11,9 +11,9 @@ use Rattle.def_run.proofs.Replay.{moves_bounded}
 use Rattle.def_run.proofs.Picks.{full_journal_stays}
 use Rattle.tn_live.specs.declared.entry.Entry.{Entry}
 use Rattle.tn_live.specs.Journal.{picks_of}
-use Rattle.tn_live.specs.States.{SeatState, Begins, seat_of, IsJournal}
-use Rattle.tn_live.specs.Closing.{Ends, made_in_all}
-use Rattle.tn_run.specs.Settled.{IdlesAt, IsStill, HasSettled, IsSettled, IsAtRest, IsClosedOutput, RunsToRest}
+use Rattle.tn_live.specs.States.{SeatState, HasPrefix, seat_of, IsJournal}
+use Rattle.tn_live.specs.ClosedJournals.{EndsJournal, made_in_all}
+use Rattle.tn_run.specs.RestingSeats.{IdlesAt, SeatIsStill, HasSettled, IsSettled, IsAtRest, IsClosedOutput, RunsToRest}
 
 pub if_ok_of : {T E : Type 0} (P Q : T → Type 0) (r : Result T E) → ((x : T) → P x → Q x) → IfOk r P → IfOk r Q
 if_ok_of P Q (Ok x) f h = f x h
@@ -47,11 +47,11 @@ one_of : (P : ℕ → Type 0) (x : ℕ) → P x → All P (x ∷ [])
 one_of P x h = All-from_get_or P (x ∷ []) 0 (at_zero P x h)
 
 -- the first pick of a pass was idle
-pub first_still : (p : Program) (pick : ℕ) (s t : SeatState) (front : ℕ) → IdlesAt p pick s t front → IsStill p front (pick ∷ []) t
+pub first_still : (p : Program) (pick : ℕ) (s t : SeatState) (front : ℕ) → IdlesAt p pick s t front → SeatIsStill p front (pick ∷ []) t
 first_still p pick s t front i = record { length_seen = sym i.length_told; idle = one_of (IsIdleAfter p (picks_of t.seen)) pick i.idle }
 
 -- and one more, after a journal of the same length
-pub still_more : (p : Program) (front : ℕ) (tried : List ℕ) (pick : ℕ) (s t : SeatState) (now : ℕ) → IsStill p front tried s → IdlesAt p pick s t now → now ≡ front → IsStill p front (tried ++ pick ∷ []) t
+pub still_more : (p : Program) (front : ℕ) (tried : List ℕ) (pick : ℕ) (s t : SeatState) (now : ℕ) → SeatIsStill p front tried s → IdlesAt p pick s t now → now ≡ front → SeatIsStill p front (tried ++ pick ∷ []) t
 still_more p front tried pick s t now was i same =
     let size : length t.seen ≡ length s.seen = sym i.length_told ∙ same ∙ sym was.length_seen in
     let seen : t.seen ≡ s.seen = same_length s.seen t.seen i.follows.between i.follows.after (omega (arith, size)) in
@@ -81,13 +81,13 @@ rests_by p seats s entries rest (inr full) begun all_made moved =
     full_rests p (picks_of entries) moved (size ∙ ap length same ∙ full)
 
 -- once a seat has settled, nothing of a pass moves after the journal that all seats made
-pub at_rest : (p : Program) (seats : List SeatState) (entries : List Entry) → IsSettled p seats → Ends seats entries → IsJournal p entries → IsAtRest p (picks_of entries)
+pub at_rest : (p : Program) (seats : List SeatState) (entries : List Entry) → IsSettled p seats → EndsJournal seats entries → IsJournal p entries → IsAtRest p (picks_of entries)
 at_rest p seats entries settled ends moved =
     let d : SeatState = seat_of 0 [] in
-    let begins : Begins entries (slice_index_or seats 0 d).number (slice_index_or seats 0 d).seen = All-get_or (λ s. Begins entries s.number s.seen) seats 0 d settled.some ends.begins in
+    let begins : HasPrefix entries (slice_index_or seats 0 d).number (slice_index_or seats 0 d).seen = All-get_or (λ s. HasPrefix entries s.number s.seen) seats 0 d settled.some ends.begins in
     record { moved = moved; rests = rests_by p seats (slice_index_or seats 0 d) entries begins.0 (settled.first d) begins.1 ends.all_made moved }
 
-pub closed_rests : (p : Program) (seats : List SeatState) (entries : List Entry) (picks output : List ℕ) → IsSettled p seats → Ends seats entries → IsClosedOutput p entries picks output → RunsToRest p picks output
+pub closed_rests : (p : Program) (seats : List SeatState) (entries : List Entry) (picks output : List ℕ) → IsSettled p seats → EndsJournal seats entries → IsClosedOutput p entries picks output → RunsToRest p picks output
 closed_rests p seats entries picks output settled ends out =
     let moved : IsJournal p entries = subst (λ ks. moves p ks ≡ ks) out.picked out.moved in
     record { at_rest = subst (IsAtRest p) (sym out.picked) (at_rest p seats entries settled ends moved); written = out.written }

@@ -22,8 +22,8 @@ failed_write-took E false new n [] some e = e
 failed_write-took E false new n (b ∷ buf) some e = search rules
 
 -- a read takes some bytes more
-pub taken_behind : (a b c : Option (List ℕ)) (text more : List ℕ) (n : ℕ) → Consumes a b text → Consumes b c (take n more) → length text + n ≤ full → TakesFront a c
-taken_behind a b c text more n h k short = record {
+pub taken_after : (a b c : Option (List ℕ)) (text more : List ℕ) (n : ℕ) → Consumes a b text → Consumes b c (take n more) → length text + n ≤ full → TakesFront a c
+taken_after a b c text more n h k short = record {
   bytes = text ++ take n more;
   consumed = Consumes-trans a b c text (take n more) h k;
   within = omega (arith, short, length-append text (take n more), length-take n more, min-le_left n (length more));

@@ -1,8 +1,7 @@
 mod EndsLemmas
 mod AcceptLemmas
-pub mod RunLemmas
-mod LineLemmas
-mod RuleLemmas
-mod Defined
+pub mod JobLemmas
+mod ReadLemmas
+mod Answers
 mod RestLemmas
 mod ClosingLemmas

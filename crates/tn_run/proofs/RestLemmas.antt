@@ -5,7 +5,7 @@ use Rattle.std.proofs.lemmas.List.Elements.{All-get_or}
 use Rattle.std.proofs.lemmas.Bool.Decides.{nat_tests}
 use Rattle.std.proofs.lemmas.Option.{slice_get_past}
 use Rattle.def_script.specs.Program.{Function, Command}
-use Rattle.def_node.specs.Node.{World, Move, moved, idle, next_of, living, place_in}
+use Rattle.def_node.specs.Node.{World, Move, moved, idle, next_of, place_of_pid, place_in}
 use Rattle.def_node.specs.Limits.{IsWithin, world_after}
 use Rattle.def_node.proofs.Limits.{next_keeps, opening_within}
 use Rattle.def_node.proofs.Steps.{living_nowhere}
@@ -42,18 +42,18 @@ low_if w n true e = absurd (let h : true ≡ false = e in cc)
 not_below : (n : ℕ) → n < 100 → nat_le 100 n ≡ false
 not_below n h = grind (arith, nat_tests, h)
 
-low_lives_not : (w : World) (n : ℕ) → n < 100 → living w n ≡ None
+low_lives_not : (w : World) (n : ℕ) → n < 100 → place_of_pid w n ≡ None
 low_lives_not w n h = low_if w n (nat_le 100 n) (not_below n h)
 
 high_if : (w : World) (n : ℕ) (b : Bool) → slice_get w.slots (n - 100) ≡ None → cond b (place_in (slice_get w.slots (n - 100)) (n - 100)) None ≡ None
 high_if w n false e = refl
 high_if w n true e = ap (λ s. place_in s (n - 100)) e
 
-high_lives_not : (w : World) (n : ℕ) → length w.slots ≤ 64 → 164 ≤ n → living w n ≡ None
+high_lives_not : (w : World) (n : ℕ) → length w.slots ≤ 64 → 164 ≤ n → place_of_pid w n ≡ None
 high_lives_not w n few h = high_if w n (nat_le 100 n) (slice_get_past w.slots (n - 100) (omega arith))
 
 -- so its picks are idle
-idle_turn : (ks : List Function) (q : RunState) (room n : ℕ) → living q.world (suc n) ≡ None → (pick_step_with ks q room (suc n)).moved ≡ false
+idle_turn : (ks : List Function) (q : RunState) (room n : ℕ) → place_of_pid q.world (suc n) ≡ None → (pick_step_with ks q room (suc n)).moved ≡ false
 idle_turn ks q zero n h = refl
 idle_turn ks q (suc room) n h = ap (λ m. (goes_to q room m).moved) (sym (living_nowhere ks q.world (suc n) h))
 
@@ -79,7 +79,7 @@ rest_is_of_all_picks p picks few rests zero = All-get_or (IsIdleAfter p picks) (
 rest_is_of_all_picks p picks few rests (suc n) =
     let q : RunState = run_state_after p.functions (start p) picks in
     let within : IsWithin q.world = place_within p.functions (start p) picks (opening_within p.entries few) in
-    let other : living q.world (suc n) ≡ None → IsIdleAfter p picks (suc n) = idle_turn p.functions q q.room n in
+    let other : place_of_pid q.world (suc n) ≡ None → IsIdleAfter p picks (suc n) = idle_turn p.functions q q.room n in
     elim (nat_lt n 99) as (λ b. nat_lt n 99 ≡ b → IsIdleAfter p picks (suc n)) [
       | true ↦ λ e. other (low_lives_not q.world (suc n) (grind (arith, nat_tests, e)))
       | false ↦ λ low. elim (nat_lt n 163) as (λ b. nat_lt n 163 ≡ b → IsIdleAfter p picks (suc n)) [

@@ -1,7 +1,7 @@
 pub mod Ends
 pub mod Scripts
-pub mod Settled
-pub mod Out
-pub mod Plans
+pub mod RestingSeats
+pub mod Jobs
+pub mod Answers
 pub mod Workers
 pub mod Laws

@@ -1,4 +1,4 @@
--- A name that is not among those behind it, seen as the end of a list.
+-- A name that is not among those after it, seen as the end of a list.
 use Rattle.std.proofs.Common.{◌≡◌, ℕ, ◌+◌, ◌-◌, ◌<◌, ◌&&◌, Bool, not, List, length, get_or, take, drop, sym, ap, ◌∙◌, length-drop, arith}
 use Rattle.std.proofs.lemmas.List.{take_all}
 use Rattle.def_term.specs.Names.{Name}

@@ -1,7 +1,7 @@
-pub mod Created
-pub mod Declared
+pub mod Creations
+pub mod Functions
 pub mod Distinct
 pub mod Each
 pub mod Equal
 pub mod OfTerms
-pub mod Spelled
+pub mod FormTexts

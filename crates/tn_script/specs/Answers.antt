@@ -21,14 +21,14 @@ of_text (text.TooLarge at) = TooLarge at
 of_text text.OutOfMemory = OutOfMemory
 
 -- the refusal that a fault tells; want of memory is none
-abbrev pub refusal_of : ScriptFault → Option Refusal
-refusal_of TooLong = Some script.too_long
-refusal_of (Token at) = Some (script.token at)
-refusal_of (TooDeep at) = Some (script.too_deep at)
-refusal_of (TooLarge at) = Some (script.too_large at)
-refusal_of (Shapeless n) = Some (script.form n)
-refusal_of TooManyForms = Some script.too_many_forms
-refusal_of OutOfMemory = None
+abbrev pub refusal_seen : ScriptFault → Option Refusal
+refusal_seen TooLong = Some script.too_long
+refusal_seen (Token at) = Some (script.token at)
+refusal_seen (TooDeep at) = Some (script.too_deep at)
+refusal_seen (TooLarge at) = Some (script.too_large at)
+refusal_seen (Shapeless n) = Some (script.form n)
+refusal_seen TooManyForms = Some script.too_many_forms
+refusal_seen OutOfMemory = None
 
 -- the text is refused so, if at all
 abbrev pub IsRefusedIfAtAll : List ℕ → Option Refusal → Type 0
@@ -38,7 +38,7 @@ IsRefusedIfAtAll bytes (Some r) = IsRefused bytes r
 -- the forms that the text spells, at most 256; or its refusal
 abbrev pub AreForms : {A : Type 0} → List ℕ → Result (Vec (Form A) A) ScriptFault → Type 0
 AreForms bytes (Ok v) = SpellsForms bytes (map form_of v.items) × (length v.items ≤ FORMS)
-AreForms bytes (Err fault) = IsRefusedIfAtAll bytes (refusal_of fault)
+AreForms bytes (Err fault) = IsRefusedIfAtAll bytes (refusal_seen fault)
 
 -- the forms that the terms stand for, at most 256; or the first term that has no shape, or that there are too many
 abbrev pub AreFormsOf : {A : Type 0} → List Tree → Result (Vec (Form A) A) ScriptFault → Type 0

@@ -18,7 +18,7 @@ use tn_term::{Atom, Term};
 fn create_command<A: Allocator>(fields: Vec<Term<A>, A>) -> Option<Command<A>>
     ensures { option_map command_of result ≡ create_in (map tree_of fields.items) }
 {
-    let (session, tracer) = specified(fields)?;
+    let (session, tracer) = session_and_spec(fields)?;
     let tracer = name(tracer)?;
     Some(Command::SessionCreate { session, tracer })
 }
@@ -68,7 +68,7 @@ fn function_command<A: Allocator>(fields: Vec<Term<A>, A>) -> Option<Command<A>>
 }
 
 /// The session and the specification of `{Tag,S,Spec,[]}`.
-fn specified<A: Allocator>(fields: Vec<Term<A>, A>) -> Option<(Atom<A>, Term<A>)>
+fn session_and_spec<A: Allocator>(fields: Vec<Term<A>, A>) -> Option<(Atom<A>, Term<A>)>
     ensures { (f : _) → option_map (λ p. f p.0 (tree_of p.1)) result ≡ specified_in f (map tree_of fields.items) }
 {
     let (_, session, specification, options) = four(fields)?;
@@ -82,7 +82,7 @@ fn specified<A: Allocator>(fields: Vec<Term<A>, A>) -> Option<(Atom<A>, Term<A>)
 fn send_command<A: Allocator>(fields: Vec<Term<A>, A>) -> Option<Command<A>>
     ensures { option_map command_of result ≡ specified_in set_send (map tree_of fields.items) }
 {
-    let (session, specification) = specified(fields)?;
+    let (session, specification) = session_and_spec(fields)?;
     Some(Command::Send {
         session,
         specification,
@@ -93,7 +93,7 @@ fn send_command<A: Allocator>(fields: Vec<Term<A>, A>) -> Option<Command<A>>
 fn recv_command<A: Allocator>(fields: Vec<Term<A>, A>) -> Option<Command<A>>
     ensures { option_map command_of result ≡ specified_in set_receive (map tree_of fields.items) }
 {
-    let (session, specification) = specified(fields)?;
+    let (session, specification) = session_and_spec(fields)?;
     Some(Command::Recv {
         session,
         specification,

@@ -1,6 +1,6 @@
 //! The forms of a script, read from its text: functions, initial processes, commands of the control list.
 //!
-//! Stands on tn_text and tn_flags, and on the definitions of def_script. Promises that `forms` answers
+//! Depends on tn_text and tn_flags, and on the definitions of def_script. Promises that `forms` answers
 //! exactly the forms that a text spells, or its refusal: of the text (1 to 4), more than 256 forms (6),
 //! or the first form that has no shape (5); and that copies of the parts of forms stand for the same, and
 //! comparisons tell whether they do.

@@ -103,7 +103,7 @@ fn named_visibility(text: &str) -> Option<bool>
 }
 
 /// True for `exported`, false for `internal`.
-pub fn exported<A: Allocator>(term: Term<A>) -> Option<bool>
+pub fn visibility_of<A: Allocator>(term: Term<A>) -> Option<bool>
     ensures { result ≡ exported_in (tree_of term) }
 {
     match term {

@@ -12,7 +12,7 @@ ghost use Rattle.tn_script.specs.Bodies.{body_of};
 use crate::commands::commands;
 use crate::fields::{four, six, two};
 use crate::form::{Entry, Form, Function, Step};
-use crate::names::{exported, two_names};
+use crate::names::{two_names, visibility_of};
 use crate::params::params;
 use crate::parts::{arguments, is_tagged, tuple};
 use crate::steps::steps;
@@ -29,7 +29,7 @@ fn function_head<A: Allocator>(
         (exported_in (tree_of visibility)) }
 {
     let (module, name) = two_names(home, function)?;
-    Some((module, name, exported(visibility)?))
+    Some((module, name, visibility_of(visibility)?))
 }
 
 /// The parameters and the steps of a function, where both have their shape.

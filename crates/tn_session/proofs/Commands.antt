@@ -13,18 +13,18 @@ use Rattle.def_term.specs.Names.{word}
 use Rattle.std.specs.Prelude.{Ok}
 use Rattle.def_node.specs.Event.{Call}
 use Rattle.def_spec.specs.Expressions.{for_calls}
-use Rattle.def_session.specs.Settings.{Setting, off, Covered, covered_by, covered_of, options_of, Covering as Accepted, has_among, setting_for, setting_of}
-use Rattle.def_script.specs.Opening.{Opening}
+use Rattle.def_session.specs.Settings.{Setting, off, FunctionPattern, pattern_by, trace_pattern_of, options_of, FunctionSetting as Accepted, has_among, setting_for, setting_of}
+use Rattle.def_script.specs.Exports.{Exports}
 use Rattle.def_session.specs.State.{Session}
-use Rattle.def_session.specs.Commands.{refused, function_set, function_set_if}
+use Rattle.def_session.specs.Commands.{refuse, function_set, function_set_if}
 use Rattle.std.specs.Option.{option_map}
 use Rattle.def_term.specs.Names.{Mfa}
-use Rattle.tn_session.specs.declared.compiled.Compiled.{Compiled}
-use Rattle.tn_index.specs.declared.covering.Covering.{Covering}
+use Rattle.tn_session.specs.declared.compiled_spec.CompiledSpec.{CompiledSpec}
+use Rattle.tn_index.specs.declared.function_setting.FunctionSetting.{FunctionSetting}
 use Rattle.tn_index.specs.Views.{covers}
-use Rattle.tn_index.specs.Newest.{newest_of}
-use Rattle.tn_session.specs.Views.{covering_seen, settings_seen}
-use Rattle.tn_session.specs.Newest.{newest_with, concerning}
+use Rattle.tn_index.specs.Newest.{newest_setting}
+use Rattle.tn_session.specs.Views.{function_setting_seen, settings_seen}
+use Rattle.tn_session.specs.Newest.{newest_with, setting_of_command}
 use Rattle.tn_session.specs.Replies.{covered_so}
 use Rattle.tn_term.specs.Views.{tree_of, trees_of}
 use Rattle.tn_term.specs.declared.term.Term.{Term}
@@ -39,7 +39,7 @@ pub empty_list : {A : Type 0} (xs : List (Term A)) (n : ℕ) (r : Bool) → n �
 empty_list [] n r e h = h ∙ ap (λ k. k == 0) e
 empty_list (x ∷ xs) n r e h = h ∙ ap (λ k. k == 0) e ∙ sym (not_empty (length xs))
 
-pub not_three : {A : Type 0} (xs : List (Term A)) → length xs ≢ 3 → None ≡ covered_of (tuple (trees_of xs))
+pub not_three : {A : Type 0} (xs : List (Term A)) → length xs ≢ 3 → None ≡ trace_pattern_of (tuple (trees_of xs))
 not_three [] other = refl
 not_three (x ∷ []) other = refl
 not_three (x ∷ y ∷ []) other = refl
@@ -47,11 +47,11 @@ not_three (x ∷ y ∷ z ∷ []) other = absurd (other refl)
 not_three (x ∷ y ∷ z ∷ w ∷ ws) other = refl
 
 pub of_three : {A : Type 0} (xs : List (Term A)) (x y z : Term A) → length xs ≡ 3 → x ≡ get_or xs 0 x → y ≡ get_or xs 1 y → z ≡ get_or xs 2 z
-    → covered_by (tree_of x) (tree_of y) (tree_of z) ≡ covered_of (tuple (trees_of xs))
+    → pattern_by (tree_of x) (tree_of y) (tree_of z) ≡ trace_pattern_of (tuple (trees_of xs))
 of_three [] x y z three a b c = absurd (omega arith)
 of_three (p ∷ []) x y z three a b c = absurd (omega arith)
 of_three (p ∷ q ∷ []) x y z three a b c = absurd (omega arith)
-of_three (p ∷ q ∷ r ∷ []) x y z three a b c = λ i. covered_by (tree_of (a i)) (tree_of (b i)) (tree_of (c i))
+of_three (p ∷ q ∷ r ∷ []) x y z three a b c = λ i. pattern_by (tree_of (a i)) (tree_of (b i)) (tree_of (c i))
 of_three (p ∷ q ∷ r ∷ s ∷ ss) x y z three a b c = absurd (omega arith)
 
 -- ---- options
@@ -93,13 +93,13 @@ no_options (x ∷ xs) e = absurd (omega arith)
 
 -- ---- from the newest
 
-newest_by : {A : Type 0} (b : Bool) (k : Covering (Compiled A) A) (ks : List (Covering (Compiled A) A)) (f : Mfa) (x : Bool) → newest_with (settings_seen ks) f x ≡ option_map covering_seen (newest_of ks f x)
-    → (if b then Some (covering_seen k) else newest_with (settings_seen ks) f x) ≡ option_map covering_seen (if b then Some k else newest_of ks f x)
+newest_by : {A : Type 0} (b : Bool) (k : FunctionSetting (CompiledSpec A) A) (ks : List (FunctionSetting (CompiledSpec A) A)) (f : Mfa) (x : Bool) → newest_with (settings_seen ks) f x ≡ option_map function_setting_seen (newest_setting ks f x)
+    → (if b then Some (function_setting_seen k) else newest_with (settings_seen ks) f x) ≡ option_map function_setting_seen (if b then Some k else newest_setting ks f x)
 newest_by true k ks f x older = refl
 newest_by false k ks f x older = older
 
 -- the newest of the code's is the definition's
-pub newest_seen : {A : Type 0} (ks : List (Covering (Compiled A) A)) (f : Mfa) (x : Bool) → newest_with (settings_seen ks) f x ≡ option_map covering_seen (newest_of ks f x)
+pub newest_seen : {A : Type 0} (ks : List (FunctionSetting (CompiledSpec A) A)) (f : Mfa) (x : Bool) → newest_with (settings_seen ks) f x ≡ option_map function_setting_seen (newest_setting ks f x)
 newest_seen [] f x = refl
 newest_seen (k ∷ ks) f x = newest_by (covers k f x) k ks f x (newest_seen ks f x)
 
@@ -126,21 +126,21 @@ one_more p f xs i x b below is e =
 
 -- ---- settings of functions
 
-newest_or : (b : Bool) (k : Accepted) (ks : List Accepted) (c : Call) → setting_for ks c ≡ concerning (newest_with ks c.mfa c.exported) c.named
-    → (if b then (if k.local || c.named then k.setting else off) else setting_for ks c) ≡ concerning (if b then Some k else newest_with ks c.mfa c.exported) c.named
+newest_or : (b : Bool) (k : Accepted) (ks : List Accepted) (c : Call) → setting_for ks c ≡ setting_of_command (newest_with ks c.mfa c.exported) c.named
+    → (if b then (if k.local || c.named then k.setting else off) else setting_for ks c) ≡ setting_of_command (if b then Some k else newest_with ks c.mfa c.exported) c.named
 newest_or true k ks c older = refl
 newest_or false k ks c older = older
 
-pub by_newest : (ks : List Accepted) (c : Call) → setting_for ks c ≡ concerning (newest_with ks c.mfa c.exported) c.named
+pub by_newest : (ks : List Accepted) (c : Call) → setting_for ks c ≡ setting_of_command (newest_with ks c.mfa c.exported) c.named
 by_newest [] c = refl
 by_newest (k ∷ ks) c = newest_or (has_among k c.mfa c.exported) k ks c (by_newest ks c)
 
 -- arguments that are no good are refused, whatever the others are
-pub options_refused : (o : Opening) (s : Session) (x : Option Covered) (spec : Tree) → function_set_if o s x None spec ≡ refused s
+pub options_refused : (o : Exports) (s : Session) (x : Option FunctionPattern) (spec : Tree) → function_set_if o s x None spec ≡ refuse s
 options_refused o s None spec = refl
 options_refused o s (Some covered) spec = refl
 
-pub accepted : (o : Opening) (s : Session) (x : Option Covered) (y : Option Bool) (spec : Tree) (covered : Covered) (local : Bool) (setting : Setting)
+pub accepted : (o : Exports) (s : Session) (x : Option FunctionPattern) (y : Option Bool) (spec : Tree) (covered : FunctionPattern) (local : Bool) (setting : Setting)
     → Some covered ≡ x → Some local ≡ y → setting_of for_calls spec ≡ Ok setting
     → function_set_if o s x y spec ≡ covered_so o s (record { covered = covered; setting = setting; local = local })
 accepted o s x y spec covered local setting a b d =

@@ -3,13 +3,13 @@ use Rattle.std.proofs.Common.{◌≡◌, ◌∙◌, Bool, if◌then◌else◌, L
 use Rattle.std.proofs.lemmas.List.{map-append}
 use Rattle.def_term.specs.Tree.{Tree}
 use Rattle.def_spec.specs.Expressions.{Effect, gives_message, traces_return, traces_exception, silences, changes}
-use Rattle.def_session.specs.State.{Kind}
+use Rattle.def_session.specs.State.{MarkKind}
 use Rattle.def_session.specs.Messages.{later, last_message, followed_by}
 use Rattle.def_session.specs.Session.{or_for_returns}
 use Rattle.tn_term.specs.declared.term.Term.{Term}
-use Rattle.tn_machine.specs.Lent.{effect_seen}
-use Rattle.tn_machine.specs.Lent as code
-use Rattle.tn_machine.specs.Lent.{Message, ReturnTrace, ExceptionTrace, Silent, Change}
+use Rattle.tn_machine.specs.Types.{effect_seen}
+use Rattle.tn_machine.specs.Types as code
+use Rattle.tn_machine.specs.Types.{Message, ReturnTrace, ExceptionTrace, Silent, Change}
 
 later_none : (o : Option Tree) → later None o ≡ o
 later_none None = refl
@@ -20,26 +20,26 @@ later_twice a b None = refl
 later_twice a b (Some t) = refl
 
 -- one more effect at the end
-pub last_behind : (es : List Effect) (e : Effect) → last_message (es ++ e ∷ []) ≡ later (last_message es) (last_message (e ∷ []))
-last_behind [] e = sym (later_none (last_message (e ∷ [])))
-last_behind (gives_message t ∷ es) e = ap (later (Some t)) (last_behind es e) ∙ later_twice (Some t) (last_message es) (last_message (e ∷ []))
-last_behind (traces_return ∷ es) e = last_behind es e
-last_behind (traces_exception ∷ es) e = last_behind es e
-last_behind (silences b ∷ es) e = last_behind es e
-last_behind (changes n off on ∷ es) e = last_behind es e
+pub last_after : (es : List Effect) (e : Effect) → last_message (es ++ e ∷ []) ≡ later (last_message es) (last_message (e ∷ []))
+last_after [] e = sym (later_none (last_message (e ∷ [])))
+last_after (gives_message t ∷ es) e = ap (later (Some t)) (last_after es e) ∙ later_twice (Some t) (last_message es) (last_message (e ∷ []))
+last_after (traces_return ∷ es) e = last_after es e
+last_after (traces_exception ∷ es) e = last_after es e
+last_after (silences b ∷ es) e = last_after es e
+last_after (changes n off on ∷ es) e = last_after es e
 
 pub at_the_end : (ts : List Tree) (t : Tree) → followed_by ts t ≡ ts ++ t ∷ []
 at_the_end [] t = refl
 at_the_end (u ∷ us) t = ap (λ vs. u ∷ vs) (at_the_end us t)
 
 -- the mark that effects ask for, where those before them have return_trace or not
-abbrev pub mark_so_far : Bool → Option Kind → Option Kind
+abbrev pub mark_so_far : Bool → Option MarkKind → Option MarkKind
 mark_so_far returns o = if returns then or_for_returns o else o
 
 -- the same of the code's effects
 pub popped : {A : Type 0} (xs ys : List (code.Effect A)) (e : code.Effect A) → xs ≡ ys ++ e ∷ [] → last_message (map effect_seen xs) ≡ later (last_message (map effect_seen ys)) (last_message (effect_seen e ∷ []))
 popped xs ys e is =
-    ap (λ zs. last_message (map effect_seen zs)) is ∙ ap last_message (map-append effect_seen ys (e ∷ [])) ∙ last_behind (map effect_seen ys) (effect_seen e)
+    ap (λ zs. last_message (map effect_seen zs)) is ∙ ap last_message (map-append effect_seen ys (e ∷ [])) ∙ last_after (map effect_seen ys) (effect_seen e)
 
 pub no_message : {A : Type 0} (e : code.Effect A) → ((t : Term A) → e ≡ Message t → ⊥) → last_message (effect_seen e ∷ []) ≡ None
 no_message (Message t) h = absurd (h t refl)

@@ -2,12 +2,12 @@
 use Rattle.std.proofs.Common.{◌≡◌, ◌∙◌, ◌+◌, ◌<◌, ℕ, zero, suc, List, [], ◌∷◌, length, get_or, drop, Option, Some, None, refl, sym, ap}
 use Rattle.std.specs.Option.{option_map}
 use Rattle.def_term.specs.Tree.{Tree}
-use Rattle.def_spec.specs.Flags.{Flag, Flags, only, joined, flag_named, flags_named, and_flag}
+use Rattle.def_spec.specs.Flags.{Flag, Flags, only, union, flag_named, flags_named, and_flag}
 use Rattle.tn_term.proofs.Trees.{seen, here}
 
-flag_more : (o : Option Flag) (p : Option Flags) (f g : Flags) → option_map only o ≡ Some f → p ≡ Some g → and_flag o p ≡ Some (joined f g)
+flag_more : (o : Option Flag) (p : Option Flags) (f g : Flags) → option_map only o ≡ Some f → p ≡ Some g → and_flag o p ≡ Some (union f g)
 flag_more None p f g e h = cc
-flag_more (Some x) p f g e h = ap (λ q. option_map (joined (only x)) q) h ∙ ap (λ o. option_map (λ y. joined y g) o) e
+flag_more (Some x) p f g e h = ap (λ q. option_map (union (only x)) q) h ∙ ap (λ o. option_map (λ y. union y g) o) e
 
 flag_none : (o : Option Flag) (p : Option Flags) → option_map only o ≡ None → and_flag o p ≡ None
 flag_none None p e = refl
@@ -15,10 +15,10 @@ flag_none (Some x) p e = cc
 
 rest_none : (o : Option Flag) (p : Option Flags) → p ≡ None → and_flag o p ≡ None
 rest_none None p e = refl
-rest_none (Some x) p e = ap (λ q. option_map (joined (only x)) q) e
+rest_none (Some x) p e = ap (λ q. option_map (union (only x)) q) e
 
 pub named_more : {X : Type 0} (f : X → Tree) (xs : List X) (i : ℕ) (x : X) (a b r : Flags) → i < length xs → x ≡ get_or xs i x → option_map only (flag_named (f x)) ≡ Some a
-    → flags_named (seen f (drop (i + 1) xs)) ≡ Some b → r ≡ joined a b → flags_named (seen f (drop i xs)) ≡ Some r
+    → flags_named (seen f (drop (i + 1) xs)) ≡ Some b → r ≡ union a b → flags_named (seen f (drop i xs)) ≡ Some r
 named_more f xs i x a b r below is named rest joins =
     ap flags_named (here f xs i x below is) ∙ flag_more (flag_named (f x)) (flags_named (seen f (drop (i + 1) xs))) a b named rest ∙ ap Some (sym joins)
 

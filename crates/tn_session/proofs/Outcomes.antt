@@ -12,7 +12,7 @@ use Rattle.def_spec.specs.Expressions.{Context}
 use Rattle.def_spec.specs.Laws.{IsSound}
 use Rattle.def_spec.specs.Outcome.{Spec, Outcome, IsOutcome, outcome_of}
 use Rattle.def_spec.proofs.Outcomes.{outcome_is_unique}
-use Rattle.def_machine.specs.Compiling.{code_of}
+use Rattle.def_machine.specs.Compilation.{code_of}
 use Rattle.def_machine.specs.Instructions.{Instruction}
 
 -- ---- two outcomes are equal in one way at most

@@ -6,15 +6,15 @@ use Rattle.def_term.specs.Names.{Mfa, word}
 use Rattle.tn_term.specs.declared.term.Term.{Term}
 use Rattle.tn_term.specs.Views.{tree_of, trees_of}
 use Rattle.tn_text.specs.Writes.{Grows}
-use Rattle.tn_text.proofs.Writing.{one_more}
-use Rattle.def_term.specs.Text.{w, is_written_bare, atom_text, joined, each_after_comma}
+use Rattle.tn_text.proofs.Growth.{one_more}
+use Rattle.def_term.specs.Text.{w, is_written_bare, atom_text, comma_list, each_after_comma}
 use Rattle.def_node.specs.Event.{Event, sent, received, called, returned, raised, spawning, spawned, exited, linked, unlinked, getting_linked, getting_unlinked}
 use Rattle.def_script.specs.Program.{Class}
 use Rattle.def_session.specs.Messages.{class_term, exception_term, elements_of, process_of}
-use Rattle.tn_session.specs.Messages.{kind_of, details_of, front_text, names_text}
+use Rattle.tn_session.specs.Messages.{event_name, details_of, front_text, names_text}
 
 -- the elements by their parts
-pub parts_are : (short : Bool) (e : Event) → elements_of short e ≡ word "trace" ∷ pid (process_of e) ∷ atom (kind_of e) ∷ details_of short e
+pub parts_are : (short : Bool) (e : Event) → elements_of short e ≡ word "trace" ∷ pid (process_of e) ∷ atom (event_name e) ∷ details_of short e
 parts_are short (sent p t to true) = refl
 parts_are short (sent p t to false) = refl
 parts_are short (received p sender t) = refl
@@ -33,7 +33,7 @@ after_more : (ts us : List Tree) → each_after_comma (of_elements (ts ++ us)) �
 after_more [] us = refl
 after_more (t ∷ ts) us = ap (λ s. 44 ∷ (w t ++ s)) (after_more ts us) ∙ ap (λ s. 44 ∷ s) (sym (append_assoc (w t) (each_after_comma (of_elements ts)) (each_after_comma (of_elements us))))
 
-joined_more : (t : Tree) (ts us : List Tree) → joined (of_elements (t ∷ ts ++ us)) ≡ joined (of_elements (t ∷ ts)) ++ each_after_comma (of_elements us)
+joined_more : (t : Tree) (ts us : List Tree) → comma_list (of_elements (t ∷ ts ++ us)) ≡ comma_list (of_elements (t ∷ ts)) ++ each_after_comma (of_elements us)
 joined_more t ts us = ap (λ s. w t ++ s) (after_more ts us) ∙ sym (append_assoc (w t) (each_after_comma (of_elements ts)) (each_after_comma (of_elements us)))
 
 trace_text : atom_text (codes "trace") ≡ codes "trace"
@@ -43,16 +43,16 @@ trace_text = refl
 after_a_comma : (s t : List ℕ) → (s ++ 44 ∷ []) ++ t ≡ s ++ 44 ∷ (t ++ [])
 after_a_comma s t = append_assoc s (44 ∷ []) t ∙ ap (λ u. s ++ 44 ∷ u) (sym (append-nil t))
 
-front_is : (e : Event) → front_text e ≡ 123 ∷ joined (of_elements (word "trace" ∷ pid (process_of e) ∷ atom (kind_of e) ∷ []))
+front_is : (e : Event) → front_text e ≡ 123 ∷ comma_list (of_elements (word "trace" ∷ pid (process_of e) ∷ atom (event_name e) ∷ []))
 front_is e =
     let p = w (pid (process_of e)) in
-    let k = atom_text (kind_of e) in
+    let k = atom_text (event_name e) in
     ap (λ s. codes "{trace," ++ s) (after_a_comma p k) ∙ ap (λ s. 123 ∷ (s ++ 44 ∷ (p ++ 44 ∷ (k ++ [])))) (sym trace_text)
 
 -- the front, and then the rest
-pub front_and_details : (short : Bool) (e : Event) → 123 ∷ joined (of_elements (elements_of short e)) ≡ front_text e ++ each_after_comma (of_elements (details_of short e))
+pub front_and_details : (short : Bool) (e : Event) → 123 ∷ comma_list (of_elements (elements_of short e)) ≡ front_text e ++ each_after_comma (of_elements (details_of short e))
 front_and_details short e =
-    ap (λ s. 123 ∷ s) (ap (λ ts. joined (of_elements ts)) (parts_are short e) ∙ joined_more (word "trace") (pid (process_of e) ∷ atom (kind_of e) ∷ []) (details_of short e))
+    ap (λ s. 123 ∷ s) (ap (λ ts. comma_list (of_elements ts)) (parts_are short e) ∙ joined_more (word "trace") (pid (process_of e) ∷ atom (event_name e) ∷ []) (details_of short e))
     ∙ ap (λ s. s ++ each_after_comma (of_elements (details_of short e))) (sym (front_is e))
 
 pub details_of_send : (short : Bool) (p : ℕ) (t : Tree) (to : ℕ) (alive : Bool) → details_of short (sent p t to alive) ≡ t ∷ pid to ∷ []
@@ -82,20 +82,20 @@ pub four_times : (o x y z u v b c d e : List ℕ) → b ≡ o ++ x → c ≡ b +
 four_times o x y z u v b c d e first second third fourth whole = twice o ((x ++ y) ++ z) u v d e (thrice o x y z ((x ++ y) ++ z) b c d first second third refl) fourth whole
 
 -- more elements at the end
-pub more_at_the_end : (short : Bool) (e : Event) (us : List Tree) → joined (of_elements (elements_of short e)) ++ each_after_comma (of_elements us) ≡ joined (of_elements (elements_of short e ++ us))
+pub more_at_the_end : (short : Bool) (e : Event) (us : List Tree) → comma_list (of_elements (elements_of short e)) ++ each_after_comma (of_elements us) ≡ comma_list (of_elements (elements_of short e ++ us))
 more_at_the_end short e us =
-    ap (λ ts. joined (of_elements ts) ++ each_after_comma (of_elements us)) (parts_are short e)
-    ∙ sym (joined_more (word "trace") (pid (process_of e) ∷ atom (kind_of e) ∷ details_of short e) us)
-    ∙ ap (λ ts. joined (of_elements (ts ++ us))) (sym (parts_are short e))
+    ap (λ ts. comma_list (of_elements ts) ++ each_after_comma (of_elements us)) (parts_are short e)
+    ∙ sym (joined_more (word "trace") (pid (process_of e) ∷ atom (event_name e) ∷ details_of short e) us)
+    ∙ ap (λ ts. comma_list (of_elements (ts ++ us))) (sym (parts_are short e))
 
 -- what a refused call leaves as it was
 pub grows_same : {a b : List ℕ} → b ≡ a → Grows a b
 grows_same {a} e = record { added = []; whole = e ∙ sym (append-nil a) }
 
 -- a comma and the text are written at once
-pub one_more_behind : {A : Type 0} (items : List (Term A)) (i : ℕ) (x : Term A) (a d z : List ℕ) → i < length items → x ≡ get_or items i x
+pub one_more_after : {A : Type 0} (items : List (Term A)) (i : ℕ) (x : Term A) (a d z : List ℕ) → i < length items → x ≡ get_or items i x
     → a ++ each_after_comma (trees_of (drop i items)) ≡ z → d ≡ a ++ 44 ∷ w (tree_of x) → d ++ each_after_comma (trees_of (drop (i + 1) items)) ≡ z
-one_more_behind items i x a d z below is so_far text =
+one_more_after items i x a d z below is so_far text =
     one_more items i x a (a ++ 44 ∷ []) d z below is so_far refl (text ∙ sym (append_assoc a (44 ∷ []) (w (tree_of x))))
 
 -- what was written grows by it

@@ -7,4 +7,4 @@ pub mod Procs
 pub mod Readings
 pub mod Replies
 pub mod Sessions
-pub mod Telling
+pub mod EventSteps

@@ -8,22 +8,22 @@ use Rattle.def_session.specs.Settings as settings
 use Rattle.def_session.specs.State as definition
 use Rattle.tn_spec.specs.Wholes.{spec_seen}
 use Rattle.tn_spec.specs.declared.spec.Spec.{Spec}
-use Rattle.tn_index.specs.declared.covering.Setting.{Setting}
-use Rattle.tn_index.specs.declared.covering.Setting.TheVariants.{Off, Plain, By}
+use Rattle.tn_index.specs.declared.function_setting.Setting.{Setting}
+use Rattle.tn_index.specs.declared.function_setting.Setting.TheVariants.{Disabled, Always, Specification}
 use Rattle.tn_session.specs.Newest.{newest_with}
 use Rattle.tn_session.specs.Sessions.{IsAt}
 use Rattle.tn_session.specs.Views.{state_seen}
 use Rattle.tn_session.specs.declared.session.Session.{Session}
 use Rattle.tn_session.specs.declared.look.Look.{Look}
-use Rattle.tn_session.specs.declared.look.Newest.{Newest}
+use Rattle.tn_session.specs.declared.look.NewestSetting.{NewestSetting}
 
 -- the session's state
 abbrev pub look_seen : {A : Type 0} → Look A → definition.Session
 look_seen l = state_seen l.state.now
 
 -- whatever state the session is in, it is the one that is seen
-abbrev pub Shows : {A : Type 0} → Session A → Option (Look A) → Type 0
-Shows c result = (fs : List (names.Mfa × Bool)) (s : definition.Session) → IsAt fs s c → IsSomeAnd result (λ l. look_seen l ≡ s)
+abbrev pub LendsLook : {A : Type 0} → Session A → Option (Look A) → Type 0
+LendsLook c result = (fs : List (names.Mfa × Bool)) (s : definition.Session) → IsAt fs s c → IsSomeAnd result (λ l. look_seen l ≡ s)
 
 -- it was created, and not destroyed
 abbrev pub is_live : definition.Phase → Bool
@@ -33,15 +33,15 @@ is_live definition.destroyed = false
 
 -- a setting that lends its specification
 abbrev pub lent_seen : {A : Type 0} → Setting (Bor (Spec A)) → settings.Setting
-lent_seen Off = settings.off
-lent_seen Plain = settings.plain
-lent_seen (By s) = settings.by (spec_seen s.now)
+lent_seen Disabled = settings.off
+lent_seen Always = settings.plain
+lent_seen (Specification s) = settings.by (spec_seen s.now)
 
 -- what a command sets, and whether it is local
-abbrev pub parts_of : settings.Covering → settings.Setting × Bool
+abbrev pub parts_of : settings.FunctionSetting → settings.Setting × Bool
 parts_of k = (k.setting, k.local)
 
-abbrev pub newest_seen : {A : Type 0} → Newest A → settings.Setting × Bool
+abbrev pub newest_seen : {A : Type 0} → NewestSetting A → settings.Setting × Bool
 newest_seen k = (lent_seen k.setting, k.local)
 
 -- those of the newest command that has the called function among its own

@@ -4,7 +4,7 @@ use Rattle.std.specs.Option.{option_map}
 use Rattle.std.specs.declared.vec.Vec.{Vec}
 use Rattle.def_term.specs.Tree.{Tree, atom, pid, tuple, of_elements}
 use Rattle.def_term.specs.Names.{Name, Mfa, word}
-use Rattle.def_term.specs.Text.{w, joined, each_after_comma, atom_text}
+use Rattle.def_term.specs.Text.{w, comma_list, each_after_comma, atom_text}
 use Rattle.def_node.specs.Event.{Event, sent, received, called, returned, raised, spawning, spawned, exited, linked, unlinked, getting_linked, getting_unlinked}
 use Rattle.def_session.specs.Messages.{call_term, exception_term, elements_of, process_of}
 use Rattle.tn_term.specs.Views.{tree_of, mfa_seen}
@@ -19,12 +19,12 @@ abbrev pub trees : {A : Type 0} → Vec (Term A) A → List Tree
 trees v = map tree_of v.items
 
 -- `{M,F,Args}`
-abbrev pub call_seen : {A : Type 0} → mfas.Mfa A → Vec (Term A) A → Tree
-call_seen f args = call_term (mfa_seen f) (trees args)
+abbrev pub call_tree : {A : Type 0} → mfas.Mfa A → Vec (Term A) A → Tree
+call_tree f args = call_term (mfa_seen f) (trees args)
 
 -- `{Class,Value}`
-abbrev pub exception_seen : {A : Type 0} → Class → Term A → Tree
-exception_seen c t = exception_term (class_of c) (tree_of t)
+abbrev pub exception_tree : {A : Type 0} → Class → Term A → Tree
+exception_tree c t = exception_term (class_of c) (tree_of t)
 
 -- the last term, where there is one
 abbrev pub last_seen : {A : Type 0} → Option (Term A) → List Tree
@@ -44,49 +44,45 @@ first_three p kind = word "trace" ∷ pid p ∷ atom kind ∷ []
 
 -- the elements of a message that ends with a pid and `{M,F,Args}`
 abbrev pub elements_with_call : {A : Type 0} → ℕ → Name → ℕ → mfas.Mfa A → Vec (Term A) A → List Tree
-elements_with_call p kind to f args = first_three p kind ++ pid to ∷ call_seen f args ∷ []
+elements_with_call p kind to f args = first_three p kind ++ pid to ∷ call_tree f args ∷ []
 
 -- a tuple of two
 abbrev pub pair : Tree → Tree → Tree
 pair s t = tuple (of_elements (s ∷ t ∷ []))
-
--- a tuple of three
-abbrev pub triple : Tree → Tree → Tree → Tree
-triple s t u = tuple (of_elements (s ∷ t ∷ u ∷ []))
 
 -- the event's elements, and the last term where there is one
 abbrev pub message_seen : {A : Type 0} → Message A → Tree
 message_seen m = tuple (of_elements (elements_of m.short (event_of m.event.now) ++ last_seen m.last))
 
 -- the third element of an event's message
-abbrev pub kind_of : Event → Name
-kind_of (sent p t to true) = codes "send"
-kind_of (sent p t to false) = codes "send_to_non_existing_process"
-kind_of (received p sender t) = codes "receive"
-kind_of (called p c) = codes "call"
-kind_of (returned p f t depth) = codes "return_from"
-kind_of (raised p f c t depth) = codes "exception_from"
-kind_of (spawning p child f args) = codes "spawn"
-kind_of (spawned p parent f args) = codes "spawned"
-kind_of (exited p r) = codes "exit"
-kind_of (linked p q) = codes "link"
-kind_of (unlinked p q) = codes "unlink"
-kind_of (getting_linked p q) = codes "getting_linked"
-kind_of (getting_unlinked p q) = codes "getting_unlinked"
+abbrev pub event_name : Event → Name
+event_name (sent p t to true) = codes "send"
+event_name (sent p t to false) = codes "send_to_non_existing_process"
+event_name (received p sender t) = codes "receive"
+event_name (called p c) = codes "call"
+event_name (returned p f t depth) = codes "return_from"
+event_name (raised p f c t depth) = codes "exception_from"
+event_name (spawning p child f args) = codes "spawn"
+event_name (spawned p parent f args) = codes "spawned"
+event_name (exited p r) = codes "exit"
+event_name (linked p q) = codes "link"
+event_name (unlinked p q) = codes "unlink"
+event_name (getting_linked p q) = codes "getting_linked"
+event_name (getting_unlinked p q) = codes "getting_unlinked"
 
--- the elements behind it
+-- the elements after it
 abbrev pub details_of : Bool → Event → List Tree
 details_of short e = drop 3 (elements_of short e)
 
 -- `{trace,<0.N.0>,` and the third element
 abbrev pub front_text : Event → List ℕ
-front_text e = codes "{trace," ++ w (pid (process_of e)) ++ codes "," ++ atom_text (kind_of e)
+front_text e = codes "{trace," ++ w (pid (process_of e)) ++ codes "," ++ atom_text (event_name e)
 
 -- a brace and the elements with a comma between any two
 abbrev pub elements_text : Bool → Event → List ℕ
-elements_text short e = 123 ∷ joined (of_elements (elements_of short e))
+elements_text short e = 123 ∷ comma_list (of_elements (elements_of short e))
 
--- the elements behind the kind, each with a comma before it
+-- the elements after the kind, each with a comma before it
 abbrev pub details_text : Bool → Event → List ℕ
 details_text short e = each_after_comma (of_elements (details_of short e))
 

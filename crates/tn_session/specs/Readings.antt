@@ -9,16 +9,16 @@ use Rattle.tn_spec.specs.declared.func.Dialect.{Dialect}
 use Rattle.tn_spec.specs.Views.{dialect_of}
 use Rattle.tn_spec.specs.Readings.{TOO_LARGE}
 use Rattle.tn_session.specs.Views.{setting_seen}
-use Rattle.tn_index.specs.declared.covering.Setting.{Setting}
-use Rattle.tn_session.specs.declared.compiled.Compiled.{Compiled}
+use Rattle.tn_index.specs.declared.function_setting.Setting.{Setting}
+use Rattle.tn_session.specs.declared.compiled_spec.CompiledSpec.{CompiledSpec}
 
--- a fault of a term that is read as a setting: its first, or that it is too large; want of memory tells nothing of it
-abbrev pub IsFaultIn : {A : Type 0} → Dialect → Tree → SpecFault A → Type 0
-IsFaultIn d t Badarg = setting_of (dialect_of d) t ≡ Err reading.badarg
-IsFaultIn d t (Unsupported s) = setting_of (dialect_of d) t ≡ Err (reading.unsupported s)
-IsFaultIn d t TooLarge = TOO_LARGE ≤ size t
-IsFaultIn d t OutOfMemory = Unit {0}
+-- a fault of a term that is read as a setting: its first, or that it is too large; want of memory reports nothing of it
+abbrev pub IsSettingFaultIn : {A : Type 0} → Dialect → Tree → SpecFault A → Type 0
+IsSettingFaultIn d t Badarg = setting_of (dialect_of d) t ≡ Err reading.badarg
+IsSettingFaultIn d t (Unsupported s) = setting_of (dialect_of d) t ≡ Err (reading.unsupported s)
+IsSettingFaultIn d t TooLarge = TOO_LARGE ≤ size t
+IsSettingFaultIn d t OutOfMemory = Unit {0}
 
 -- the setting that the term spells, or its fault
-abbrev pub IsSettingRead : {A : Type 0} → Dialect → Tree → Result (Setting (Compiled A)) (SpecFault A) → Type 0
-IsSettingRead d t result = MatchResult result (λ s. setting_of (dialect_of d) t ≡ Ok (setting_seen s)) (λ fault. IsFaultIn d t fault)
+abbrev pub IsSettingRead : {A : Type 0} → Dialect → Tree → Result (Setting (CompiledSpec A)) (SpecFault A) → Type 0
+IsSettingRead d t result = MatchResult result (λ s. setting_of (dialect_of d) t ≡ Ok (setting_seen s)) (λ fault. IsSettingFaultIn d t fault)

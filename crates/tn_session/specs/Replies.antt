@@ -4,11 +4,11 @@ use Rattle.def_term.specs.Tree.{Tree, int}
 use Rattle.def_term.specs.Names.{word}
 use Rattle.def_spec.specs.Reading as reading
 use Rattle.def_session.specs.State as definition
-use Rattle.def_script.specs.Opening.{Opening}
+use Rattle.def_script.specs.Exports.{Exports}
 use Rattle.def_session.specs.Commands as commands
-use Rattle.def_session.specs.Commands.{fault_term, number, matching_count, procs_of, how_of, flags_set, flags_set_if, function_set_if, send_set, receive_set, done_live, command_done}
+use Rattle.def_session.specs.Commands.{fault_term, number_term, matching_count, procs_of, how_of, flags_set, flags_set_if, function_set_if, send_set, receive_set, done_live, command_done}
 use Rattle.def_session.specs.Settings as settings
-use Rattle.def_session.specs.Settings.{covered_of, options_of, setting_of}
+use Rattle.def_session.specs.Settings.{trace_pattern_of, options_of, setting_of}
 use Rattle.def_script.specs.Program.{Command}
 use Rattle.def_spec.specs.Flags.{Flags, flags_listed}
 use Rattle.def_spec.specs.Expressions.{for_sends, for_receives}
@@ -34,16 +34,16 @@ IsReplyTo faults.TooLarge t = ⊥
 IsReplyTo faults.OutOfMemory t = ⊥
 
 -- what the session knows of the program
-abbrev pub opening_in : {A : Type 0} → State A → ℕ → Opening
+abbrev pub opening_in : {A : Type 0} → State A → ℕ → Exports
 opening_in s n = record { functions = map function_seen s.functions.items; processes = n }
 
 -- a command was done: the definition's answer is this state with this reply
-abbrev pub IsDone : {A : Type 0} → State A → Tree → commands.Done → Type 0
+abbrev pub IsDone : {A : Type 0} → State A → Tree → commands.CommandResult → Type 0
 IsDone new reply done = done ≡ (state_seen new, reply)
 
 -- an accepted function command is the newest, and replies the number of its functions
-abbrev pub covered_so : Opening → definition.Session → settings.Covering → commands.Done
-covered_so o s k = (record s { functions = k ∷ s.functions }, number (matching_count o k))
+abbrev pub covered_so : Exports → definition.Session → settings.FunctionSetting → commands.CommandResult
+covered_so o s k = (record s { functions = k ∷ s.functions }, number_term (matching_count o k))
 
 -- flags of processes were set or cleared
 abbrev pub AreFlagsSet : {A : Type 0} → State A → commands.Procs → Bool → Flags → State A → Tree → Type 0
@@ -54,13 +54,13 @@ abbrev pub IsProcessDone : {A : Type 0} → State A → (procs how flags : Tree)
 IsProcessDone old procs how flags new reply = IsDone new reply (flags_set_if (state_seen old) (procs_of procs) (how_of how) (flags_listed flags))
 
 -- a function command was accepted
-abbrev pub IsCovered : {A : Type 0} → State A → settings.Covering → State A → Tree → Type 0
-IsCovered old k new reply = (n : ℕ) → IsDone new reply (covered_so (opening_in old n) (state_seen old) k)
+abbrev pub AddsSetting : {A : Type 0} → State A → settings.FunctionSetting → State A → Tree → Type 0
+AddsSetting old k new reply = (n : ℕ) → IsDone new reply (covered_so (opening_in old n) (state_seen old) k)
 
 -- a function command was done
 abbrev pub IsFunctionDone : {A : Type 0} → State A → (mfa spec options : Tree) → State A → Tree → Type 0
 IsFunctionDone old mfa spec options new reply =
-    (n : ℕ) → IsDone new reply (function_set_if (opening_in old n) (state_seen old) (covered_of mfa) (options_of options) spec)
+    (n : ℕ) → IsDone new reply (function_set_if (opening_in old n) (state_seen old) (trace_pattern_of mfa) (options_of options) spec)
 
 -- a send setting was set
 abbrev pub IsSendDone : {A : Type 0} → State A → Tree → State A → Tree → Type 0

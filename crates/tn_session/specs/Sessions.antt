@@ -6,8 +6,8 @@ use Rattle.def_term.specs.Names as names
 use Rattle.def_script.specs.Program.{Command}
 use Rattle.def_node.specs.Event.{Event}
 use Rattle.def_session.specs.State as definition
-use Rattle.def_script.specs.Opening.{Opening}
-use Rattle.def_session.specs.Session.{event_told}
+use Rattle.def_script.specs.Exports.{Exports}
+use Rattle.def_session.specs.Session.{event_reported}
 use Rattle.def_session.specs.Commands.{command_done}
 use Rattle.tn_term.specs.Views.{tree_of}
 use Rattle.tn_term.specs.declared.term.Term.{Term}
@@ -35,7 +35,7 @@ abbrev pub IsSpent : {A : Type 0} → Session A → Type 0
 IsSpent c = c.state ≡ None
 
 -- what the definition needs of the program for a command
-abbrev pub over : List (names.Mfa × Bool) → ℕ → Opening
+abbrev pub over : List (names.Mfa × Bool) → ℕ → Exports
 over fs n = record { functions = fs; processes = n }
 
 -- the command's reply, and the session afterwards
@@ -48,10 +48,10 @@ pub record Replies {A : Type 0} (fs : List (names.Mfa × Bool)) (s : definition.
 pub record Tells {A B : Type 0} (fs : List (names.Mfa × Bool)) (s : definition.Session) (e : Event) (new : Session A) (m : Option (Term B)) : Type 0 where
   pub after : definition.Session
   pub state : IsAt fs after new
-  pub told : event_told s e ≡ (after, option_map tree_of m)
+  pub reported : event_reported s e ≡ (after, option_map tree_of m)
 
 -- the event's message, and the session afterwards
 pub record Says {A B : Type 0} (fs : List (names.Mfa × Bool)) (s : definition.Session) (e : Event) (new : Session A) (m : Option (Message B)) : Type 0 where
   pub after : definition.Session
   pub state : IsAt fs after new
-  pub told : event_told s e ≡ (after, option_map message_seen m)
+  pub reported : event_reported s e ≡ (after, option_map message_seen m)

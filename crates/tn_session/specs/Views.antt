@@ -10,12 +10,12 @@ use Rattle.tn_term.specs.Views.{mfa_seen, alive_of}
 use Rattle.tn_flags.specs.Views.{flags_of, table_of}
 use Rattle.tn_session.specs.Compilations.{compiled_seen}
 use Rattle.tn_term.specs.declared.mfa.Mfa.{Mfa}
-use Rattle.tn_session.specs.declared.compiled.Compiled.{Compiled}
-use Rattle.tn_index.specs.Views.{covered_seen}
-use Rattle.tn_index.specs.declared.covering.Setting.{Setting}
-use Rattle.tn_index.specs.declared.covering.Setting.TheVariants.{Off, Plain, By}
-use Rattle.tn_index.specs.declared.covering.Covered.{Covered}
-use Rattle.tn_index.specs.declared.covering.Covering.{Covering}
+use Rattle.tn_session.specs.declared.compiled_spec.CompiledSpec.{CompiledSpec}
+use Rattle.tn_index.specs.Views.{function_pattern_seen}
+use Rattle.tn_index.specs.declared.function_setting.Setting.{Setting}
+use Rattle.tn_index.specs.declared.function_setting.Setting.TheVariants.{Disabled, Always, Specification}
+use Rattle.tn_index.specs.declared.function_setting.FunctionPattern.{FunctionPattern}
+use Rattle.tn_index.specs.declared.function_setting.FunctionSetting.{FunctionSetting}
 use Rattle.tn_session.specs.declared.state.Phase.{Phase}
 use Rattle.tn_session.specs.declared.state.Phase.TheVariants.{Live, Destroyed}
 use Rattle.tn_session.specs.declared.state.Kind.{Kind}
@@ -23,28 +23,28 @@ use Rattle.tn_session.specs.declared.state.Kind.TheVariants.{Returns, Exceptions
 use Rattle.tn_session.specs.declared.state.Mark.{Mark}
 use Rattle.tn_session.specs.declared.state.State.{State}
 
-abbrev pub setting_seen : {A : Type 0} → Setting (Compiled A) → settings.Setting
-setting_seen Off = settings.off
-setting_seen Plain = settings.plain
-setting_seen (By s) = settings.by (compiled_seen s)
+abbrev pub setting_seen : {A : Type 0} → Setting (CompiledSpec A) → settings.Setting
+setting_seen Disabled = settings.off
+setting_seen Always = settings.plain
+setting_seen (Specification s) = settings.by (compiled_seen s)
 
-abbrev pub covering_seen : {A : Type 0} → Covering (Compiled A) A → settings.Covering
-covering_seen k = record { covered = covered_seen k.covered; setting = setting_seen k.setting; local = k.local }
+abbrev pub function_setting_seen : {A : Type 0} → FunctionSetting (CompiledSpec A) A → settings.FunctionSetting
+function_setting_seen k = record { covered = function_pattern_seen k.covered; setting = setting_seen k.setting; local = k.local }
 
 -- the newest first
-abbrev pub settings_seen : {A : Type 0} → List (Covering (Compiled A) A) → List settings.Covering
-settings_seen ks = map covering_seen ks
+abbrev pub settings_seen : {A : Type 0} → List (FunctionSetting (CompiledSpec A) A) → List settings.FunctionSetting
+settings_seen ks = map function_setting_seen ks
 
 abbrev pub phase_seen : Phase → definition.Phase
 phase_seen Live = definition.live
 phase_seen Destroyed = definition.destroyed
 
-abbrev pub kind_seen : Kind → definition.Kind
-kind_seen Returns = definition.for_returns
-kind_seen Exceptions = definition.for_exceptions
+abbrev pub mark_kind_seen : Kind → definition.MarkKind
+mark_kind_seen Returns = definition.for_returns
+mark_kind_seen Exceptions = definition.for_exceptions
 
 abbrev pub mark_seen : Mark → definition.Mark
-mark_seen m = record { depth = m.depth; kind = kind_seen m.kind }
+mark_seen m = record { depth = m.depth; kind = mark_kind_seen m.kind }
 
 -- marks whose newest is the last, seen newest first
 abbrev pub newest_first : List Mark → List definition.Mark
@@ -67,7 +67,7 @@ state_seen s = record {
   phase = phase_seen s.phase;
   alive = alive_of s.alive;
   flags = table_of s.flags;
-  for_new = flags_of s.for_new;
+  new_process_flags = flags_of s.new_process_flags;
   functions = settings_seen s.settings;
   sending = setting_seen s.sending;
   receiving = setting_seen s.receiving;
@@ -75,5 +75,5 @@ state_seen s = record {
 }
 
 -- the functions that are read, or none
-abbrev pub Covers : {A : Type 0} → Option settings.Covered → Option (Covered A) → Type 0
-Covers read found = option_map covered_seen found ≡ read
+abbrev pub Covers : {A : Type 0} → Option settings.FunctionPattern → Option (FunctionPattern A) → Type 0
+Covers read found = option_map function_pattern_seen found ≡ read

@@ -4,23 +4,23 @@ ghost use Rattle.def_term.specs.Alive.{living_count};
 ghost use Rattle.std.specs.Option.{option_map};
 ghost use Rattle.def_spec.specs.Flags.{flags_named, flags_listed};
 ghost use Rattle.def_session.specs.State as definition;
-ghost use Rattle.def_session.specs.State.{destroyed, unset};
+ghost use Rattle.def_session.specs.State.{destroyed, new_session};
 ghost use Rattle.def_session.specs.Commands.{procs_of, how_of, all_changed, existing_changed};
-ghost use Rattle.def_session.specs.Commands.{one_process, changed_flags, matching_count, number, done_destroyed};
+ghost use Rattle.def_session.specs.Commands.{one_process, changed_flags, matching_count, number_term, done_destroyed};
 ghost use Rattle.tn_term.specs.Views.{tree_of, trees_of, alive_of};
 ghost use Rattle.tn_flags.specs.Views.{flags_of as flags_view, table_of, command_of};
-ghost use Rattle.tn_session.specs.Views.{covering_seen, state_seen};
+ghost use Rattle.tn_session.specs.Views.{function_setting_seen, state_seen};
 ghost use Rattle.tn_session.specs.Procs.{procs_seen, only_pid};
-ghost use Rattle.tn_session.specs.Replies.{reply_seen, opening_in, AreFlagsSet, IsProcessDone, IsCovered};
+ghost use Rattle.tn_session.specs.Replies.{reply_seen, opening_in, AreFlagsSet, IsProcessDone, AddsSetting};
 ghost use Rattle.tn_session.specs.Replies.{IsFunctionDone, IsSendDone, IsReceiveDone, IsLiveDone, IsCommandDone};
 
-use crate::compiled::Compiled;
-use crate::covered::{covered_of, options_of, setting_of};
-use crate::reply::{Reply, counted, reply_to};
+use crate::arguments::{options_of, pattern_of, setting_of};
+use crate::compiled_spec::CompiledSpec;
+use crate::reply::{Reply, count_reply, reply_to};
 use crate::state::{Phase, State};
 use std::alloc::{AllocError, Allocator};
 use tn_flags::{Command, FlagTable, Flags, flag_of};
-use tn_index::{Covering, Setting, Settings};
+use tn_index::{FunctionSetting, Setting, Settings};
 use tn_spec::Dialect;
 use tn_term::{Alive, FIRST_PID, Term};
 
@@ -98,7 +98,7 @@ fn flags_of<A: Allocator>(term: &Term<A>) -> Option<Flags>
 }
 
 /// These flags set or cleared.
-fn changed(on: bool, flags: Flags, old: Flags) -> Flags
+fn change_flags(on: bool, flags: Flags, old: Flags) -> Flags
     ensures { flags_view result ≡ changed_flags on (flags_view flags) (flags_view old) }
 {
     if on {
@@ -115,7 +115,7 @@ fn change_living(table: &mut FlagTable, alive: Alive, on: bool, flags: Flags)
     for place in 0..table.len() {
         if alive.has_place(place) {
             let pid = FIRST_PID + place as u32;
-            table.set(pid, changed(on, flags, table.of(pid)));
+            table.set(pid, change_flags(on, flags, table.of(pid)));
         }
     }
 }
@@ -131,10 +131,10 @@ impl<A: Allocator + Copy> State<A> {
     }
 
     /// How many processes live, as a reply.
-    fn living(&self) -> Reply<A>
-        ensures { reply_seen result ≡ number (living_count (alive_of self.now.alive)) }
+    fn living_count(&self) -> Reply<A>
+        ensures { reply_seen result ≡ number_term (living_count (alive_of self.now.alive)) }
     {
-        counted(usize::from(self.alive.count()))
+        count_reply(usize::from(self.alive.count()))
     }
 
     /// Changes the flags of one process, where it lives.
@@ -145,8 +145,8 @@ impl<A: Allocator + Copy> State<A> {
         if !self.alive.has(pid) {
             return Reply::Badarg;
         }
-        self.set_flags(pid, changed(on, flags, self.flags_at(pid)));
-        counted(1)
+        self.set_flags(pid, change_flags(on, flags, self.flags_at(pid)));
+        count_reply(1)
     }
 
     /// Changes flags, and counts the processes.
@@ -157,17 +157,17 @@ impl<A: Allocator + Copy> State<A> {
         match procs {
             Procs::One(pid) => self.change_one(pid, on, flags),
             Procs::Existing => {
-                let count = self.living();
+                let count = self.living_count();
                 self.change_existing(on, flags);
                 count
             }
             Procs::New => {
-                self.for_new = changed(on, flags, self.for_new);
-                counted(0)
+                self.new_process_flags = change_flags(on, flags, self.new_process_flags);
+                count_reply(0)
             }
             Procs::All => {
-                let count = self.living();
-                self.for_new = changed(on, flags, self.for_new);
+                let count = self.living_count();
+                self.new_process_flags = change_flags(on, flags, self.new_process_flags);
                 self.change_existing(on, flags);
                 count
             }
@@ -187,13 +187,13 @@ impl<A: Allocator + Copy> State<A> {
     }
 
     /// How many functions the command matches.
-    fn matching(&self, covering: &Covering<Compiled<A>, A>) -> usize
-        ensures value { (n : ℕ) → result ≡ matching_count (opening_in self.now n) (covering_seen covering.now) }
+    fn match_count(&self, setting: &FunctionSetting<CompiledSpec<A>, A>) -> usize
+        ensures value { (n : ℕ) → result ≡ matching_count (opening_in self.now n) (function_setting_seen setting.now) }
         ensures small { result < 2 ^ 63 }
     {
         let mut count = 0;
         for function in &self.functions {
-            if covering.has_among(&function.0, function.1) {
+            if setting.has_among(&function.0, function.1) {
                 count += 1;
             }
         }
@@ -201,13 +201,16 @@ impl<A: Allocator + Copy> State<A> {
     }
 
     /// An accepted function command is the newest.
-    fn cover(&mut self, covering: Covering<Compiled<A>, A>) -> Result<Reply<A>, AllocError>
-        ensures done { IfOk result (λ r. IsCovered self.old (covering_seen covering) self.new (reply_seen r)) }
+    fn cover(
+        &mut self,
+        setting: FunctionSetting<CompiledSpec<A>, A>,
+    ) -> Result<Reply<A>, AllocError>
+        ensures done { IfOk result (λ r. AddsSetting self.old (function_setting_seen setting) self.new (reply_seen r)) }
         ensures kept { self.new.functions ≡ self.old.functions }
     {
-        let count = self.matching(&covering);
-        self.settings.set(&self.functions, covering)?;
-        Ok(counted(count))
+        let count = self.match_count(&setting);
+        self.settings.set(&self.functions, setting)?;
+        Ok(count_reply(count))
     }
 
     /// `{function,Name,MFA,Spec,Opts}` (`trace:function/4`)
@@ -224,11 +227,11 @@ impl<A: Allocator + Copy> State<A> {
         let Some(local) = options_of(options) else {
             return Ok(Reply::Badarg);
         };
-        let Some(covered) = covered_of(self.alloc, functions)? else {
+        let Some(covered) = pattern_of(self.alloc, functions)? else {
             return Ok(Reply::Badarg);
         };
         match setting_of(self.alloc, specification, Dialect::Call) {
-            Ok(setting) => Ok(self.cover(Covering {
+            Ok(setting) => Ok(self.cover(FunctionSetting {
                 covered,
                 setting,
                 local,
@@ -245,7 +248,7 @@ impl<A: Allocator + Copy> State<A> {
         match setting_of(self.alloc, specification, Dialect::Send) {
             Ok(setting) => {
                 self.sending = setting;
-                Ok(counted(1))
+                Ok(count_reply(1))
             }
             Err(fault) => Ok(reply_to(fault)?),
         }
@@ -259,7 +262,7 @@ impl<A: Allocator + Copy> State<A> {
         match setting_of(self.alloc, specification, Dialect::Recv) {
             Ok(setting) => {
                 self.receiving = setting;
-                Ok(counted(1))
+                Ok(count_reply(1))
             }
             Err(fault) => Ok(reply_to(fault)?),
         }
@@ -267,16 +270,16 @@ impl<A: Allocator + Copy> State<A> {
 
     /// Takes all settings, flags and marks away (`trace:session_destroy/1`).
     fn destroy(&mut self)
-        ensures done { state_seen self.new ≡ unset destroyed (alive_of self.old.alive) }
+        ensures done { state_seen self.new ≡ new_session destroyed (alive_of self.old.alive) }
         ensures kept { self.new.functions ≡ self.old.functions }
     {
         let none = Flags::none();
         self.phase = Phase::Destroyed;
         self.flags = FlagTable::none();
-        self.for_new = none;
+        self.new_process_flags = none;
         self.settings = Settings::new(self.alloc);
-        self.sending = Setting::Plain;
-        self.receiving = Setting::Plain;
+        self.sending = Setting::Always;
+        self.receiving = Setting::Always;
         self.marks = Vec::new(self.alloc);
     }
 
@@ -309,7 +312,7 @@ impl<A: Allocator + Copy> State<A> {
     }
 
     /// What a command does to the session, and its reply.
-    fn done(&mut self, command: &Command<A>) -> Result<Reply<A>, AllocError>
+    fn perform_command(&mut self, command: &Command<A>) -> Result<Reply<A>, AllocError>
         ensures done { IfOk result (λ r. IsCommandDone self.old (command_of command.now) self.new (reply_seen r)) }
         ensures kept { OnOk result (self.new.functions ≡ self.old.functions) }
     {
@@ -324,7 +327,7 @@ impl<A: Allocator + Copy> State<A> {
         ensures done { IfOk result (λ t. IsCommandDone self.old (command_of command.now) self.new (tree_of t)) }
         ensures kept { OnOk result (self.new.functions ≡ self.old.functions) }
     {
-        let reply = self.done(command)?;
+        let reply = self.perform_command(command)?;
         Ok(reply.term(self.alloc)?)
     }
 }

@@ -1,13 +1,13 @@
 // The elements of the message of an event, as terms.
 ghost use Rattle.std.specs.Prelude.{◌≡◌, ◌++◌, [], ◌∷◌, Bool, IfOk};
-ghost use Rattle.def_term.specs.Tree.{tuple, list, of_elements};
+ghost use Rattle.def_term.specs.Tree.{tuple, list, of_elements, triple};
 ghost use Rattle.def_term.specs.Atoms.{IsAtomText};
 ghost use Rattle.def_term.specs.Names.{mfa_term};
 ghost use Rattle.def_node.specs.Event.{sent as send, called as call_event};
 ghost use Rattle.def_session.specs.Messages.{class_term, elements_of};
 ghost use Rattle.tn_term.specs.Views.{tree_of, mfa_seen};
-ghost use Rattle.tn_flags.specs.Views.{event_of, call_of, class_of};
-ghost use Rattle.tn_session.specs.Messages.{first_three, trees, call_seen, exception_seen, last_seen, pair, triple};
+ghost use Rattle.tn_flags.specs.Views.{event_of, call_seen, class_of};
+ghost use Rattle.tn_session.specs.Messages.{first_three, trees, call_tree, exception_tree, last_seen, pair};
 ghost use Rattle.tn_session.specs.Messages.{elements_of_return, elements_of_raise, elements_with_call};
 
 use std::alloc::{AllocError, Allocator};
@@ -29,22 +29,22 @@ pub(crate) fn elements<A: Allocator, B: Allocator + Copy>(
             message,
             to,
             alive,
-        } => sent(alloc, *pid, message, *to, *alive),
+        } => send_elements(alloc, *pid, message, *to, *alive),
         Event::Received { pid, message, .. } => with_copy(alloc, *pid, "receive", message),
-        Event::Called { pid, call } => called(alloc, *pid, call, short),
+        Event::Called { pid, call } => call_elements(alloc, *pid, call, short),
         Event::Returned {
             pid,
             mfa,
             value,
             ..
-        } => returned(alloc, *pid, mfa, value),
+        } => return_elements(alloc, *pid, mfa, value),
         Event::Raised {
             pid,
             mfa,
             class,
             value,
             ..
-        } => raised(alloc, *pid, mfa, *class, value),
+        } => raise_elements(alloc, *pid, mfa, *class, value),
         Event::Spawn {
             pid,
             child,
@@ -152,7 +152,7 @@ fn with_call<A: Allocator, B: Allocator + Copy>(
 }
 
 /// The elements of the message of a send.
-fn sent<A: Allocator, B: Allocator + Copy>(
+fn send_elements<A: Allocator, B: Allocator + Copy>(
     alloc: B,
     pid: u32,
     message: &Term<A>,
@@ -176,13 +176,13 @@ fn sent<A: Allocator, B: Allocator + Copy>(
 }
 
 /// The elements of the message of a call.
-fn called<A: Allocator, B: Allocator + Copy>(
+fn call_elements<A: Allocator, B: Allocator + Copy>(
     alloc: B,
     pid: u32,
     call: &Call<A>,
     short: bool,
 ) -> Result<Vec<Term<B>, B>, AllocError>
-    ensures { IfOk result (λ v. trees v ≡ elements_of short (call_event pid (call_of call.now))) }
+    ensures { IfOk result (λ v. trees v ≡ elements_of short (call_event pid (call_seen call.now))) }
 {
     if short {
         let name = name_with_arity(alloc, &call.mfa)?;
@@ -194,7 +194,7 @@ fn called<A: Allocator, B: Allocator + Copy>(
 }
 
 /// The elements of the message of a return.
-fn returned<A: Allocator, B: Allocator + Copy>(
+fn return_elements<A: Allocator, B: Allocator + Copy>(
     alloc: B,
     pid: u32,
     mfa: &Mfa<A>,
@@ -208,7 +208,7 @@ fn returned<A: Allocator, B: Allocator + Copy>(
 }
 
 /// The elements of the message of an exception that leaves a frame.
-fn raised<A: Allocator, B: Allocator + Copy>(
+fn raise_elements<A: Allocator, B: Allocator + Copy>(
     alloc: B,
     pid: u32,
     mfa: &Mfa<A>,
@@ -228,7 +228,7 @@ fn class_with_value<A: Allocator, B: Allocator + Copy>(
     class: Class,
     value: &Term<A>,
 ) -> Result<Term<B>, AllocError>
-    ensures { IfOk result (λ t. tree_of t ≡ exception_seen class value.now) }
+    ensures { IfOk result (λ t. tree_of t ≡ exception_tree class value.now) }
 {
     let class = class_word(alloc, class)?;
     let value = value.copy_into(alloc)?;
@@ -305,7 +305,7 @@ fn call_with_args<A: Allocator, B: Allocator + Copy>(
     mfa: &Mfa<A>,
     args: &Vec<Term<A>, A>,
 ) -> Result<Term<B>, AllocError>
-    ensures { IfOk result (λ t. tree_of t ≡ call_seen mfa.now args.now) }
+    ensures { IfOk result (λ t. tree_of t ≡ call_tree mfa.now args.now) }
 {
     let module = Term::Atom(mfa.module.copy_into(alloc)?);
     let name = Term::Atom(mfa.name.copy_into(alloc)?);
@@ -313,7 +313,7 @@ fn call_with_args<A: Allocator, B: Allocator + Copy>(
     tuple_of_three(alloc, module, name, args)
 }
 
-/// Puts a copy of the last term behind the others, where there is one.
+/// Puts a copy of the last term after the others, where there is one.
 pub(crate) fn push_last<A: Allocator, B: Allocator + Copy>(
     alloc: B,
     last: &Option<Term<A>>,

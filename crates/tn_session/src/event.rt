@@ -1,30 +1,32 @@
 // What a session makes of an event.
 ghost use Rattle.std.specs.Prelude.{◌≡◌, Bool, if◌then◌else◌, List, [], IfOk};
 ghost use Rattle.std.specs.Option.{option_map};
-ghost use Rattle.def_term.specs.Names as names;
+ghost use Rattle.def_term.specs.Names.{Mfa};
 ghost use Rattle.def_term.specs.Tree.{Tree};
 ghost use Rattle.def_script.specs.Program.{Class};
-ghost use Rattle.def_spec.specs.Expressions.{Effect as Asked};
+ghost use Rattle.def_spec.specs.Expressions.{Effect as DefinedEffect};
 ghost use Rattle.def_node.specs.Event.{received, called, returned, raised, exited};
 ghost use Rattle.def_session.specs.Messages as messages;
 ghost use Rattle.def_session.specs.Session as session;
 ghost use Rattle.def_session.specs.Session.{message_after};
 ghost use Rattle.tn_term.specs.Views.{tree_of};
-ghost use Rattle.tn_flags.specs.Views.{event_of, call_of};
-ghost use Rattle.tn_machine.specs.Lent.{context_seen};
-ghost use Rattle.tn_session.specs.Views.{kind_seen, state_seen};
-ghost use Rattle.tn_session.specs.Telling.{told, told_as_term, telling, telling_live, telling_by, following, finishing};
-ghost use Rattle.tn_session.specs.Telling.{asked, given, evaluating, evaluating_by, evaluating_send, on_values};
-ghost use Rattle.tn_session.specs.Telling.{message_in, deciding};
+ghost use Rattle.tn_flags.specs.Views.{event_of, call_seen};
+ghost use Rattle.tn_machine.specs.Types.{context_seen};
+ghost use Rattle.tn_session.specs.Views.{mark_kind_seen, state_seen};
+ghost use Rattle.tn_session.specs.EventSteps.{event_result, reported_as_term, event_step, live_event_step};
+ghost use Rattle.tn_session.specs.EventSteps.{event_step_by, alive_step, plain_finish};
+ghost use Rattle.tn_session.specs.EventSteps.{asks, effects_in, evaluation};
+ghost use Rattle.tn_session.specs.EventSteps.{evaluation_by, send_evaluation, on_values};
+ghost use Rattle.tn_session.specs.EventSteps.{message_in, decision};
 
-use crate::compiled::Compiled;
+use crate::compiled_spec::CompiledSpec;
 use crate::marks::mark_for;
 use crate::message::Message;
 use crate::setting::setting_for;
 use crate::state::{Kind, Phase, State};
 use std::alloc::{AllocError, Allocator};
 use tn_flags::{Call, Event, Flags, inherit_link, inherit_spawn};
-use tn_guard::{Parts, Value, Word};
+use tn_guard::{AtomConst, ListView, Value};
 use tn_index::Setting;
 use tn_machine::{Context, Effect, Outcome};
 use tn_term::Term;
@@ -33,12 +35,12 @@ use tn_term::Term;
 
 impl<A: Allocator + Copy> State<A> {
     /// What the session makes of an event: the state afterwards, and at most one message. A destroyed
-    /// session follows who lives, and tells nothing.
+    /// session follows who lives, and reports nothing.
     pub(crate) fn tell<'a>(
         &mut self,
         event: &'a Event<A>,
     ) -> Result<Option<Message<'a, A>>, AllocError>
-        ensures told { IfOk result (λ m. telling self.old event.now ≡ told self.new m) }
+        ensures reported { IfOk result (λ m. event_step self.old event.now ≡ event_result self.new m) }
         ensures functions { self.new.functions ≡ self.old.functions }
     {
         match self.phase {
@@ -52,7 +54,7 @@ impl<A: Allocator + Copy> State<A> {
 
     /// What the session makes of an event, with the message as a term.
     pub(crate) fn event(&mut self, event: &Event<A>) -> Result<Option<Term<A>>, AllocError>
-        ensures told { IfOk result (λ m. telling self.old event.now ≡ told_as_term self.new m) }
+        ensures reported { IfOk result (λ m. event_step self.old event.now ≡ reported_as_term self.new m) }
         ensures functions { self.new.functions ≡ self.old.functions }
     {
         let alloc = self.alloc;
@@ -64,11 +66,11 @@ impl<A: Allocator + Copy> State<A> {
 
     /// What a live session makes of an event.
     fn tell_live<'a>(&mut self, event: &'a Event<A>) -> Result<Option<Message<'a, A>>, AllocError>
-        ensures told { IfOk result (λ m. telling_live self.old event.now ≡ told self.new m) }
+        ensures reported { IfOk result (λ m. live_event_step self.old event.now ≡ event_result self.new m) }
         ensures functions { self.new.functions ≡ self.old.functions }
     {
         self.inherit(event);
-        match self.evaluated(event)? {
+        match self.effects_of(event)? {
             Some(effects) => Ok(self.tell_by(event, effects)?),
             None => {
                 self.finish(event, None)?;
@@ -83,7 +85,7 @@ impl<A: Allocator + Copy> State<A> {
         event: &'a Event<A>,
         effects: Vec<Effect<A>, A>,
     ) -> Result<Option<Message<'a, A>>, AllocError>
-        ensures told { IfOk result (λ m. telling_by effects.items self.old event.now ≡ told self.new m) }
+        ensures reported { IfOk result (λ m. event_step_by effects.items self.old event.now ≡ event_result self.new m) }
         ensures functions { self.new.functions ≡ self.old.functions }
     {
         self.affect_all(process_of(event), &effects);
@@ -95,7 +97,7 @@ impl<A: Allocator + Copy> State<A> {
 
     /// A session that was destroyed follows who lives, and nothing else.
     fn follow(&mut self, event: &Event<A>)
-        ensures state { state_seen self.new ≡ following (state_seen self.old) (event_of event.now) }
+        ensures state { state_seen self.new ≡ alive_step (state_seen self.old) (event_of event.now) }
         ensures functions { self.new.functions ≡ self.old.functions }
     {
         match event {
@@ -107,13 +109,13 @@ impl<A: Allocator + Copy> State<A> {
 
     /// What the child or the partner inherits, before the events `spawned` and `getting_linked`.
     fn inherit(&mut self, event: &Event<A>)
-        ensures state { state_seen self.new ≡ session.inherited (state_seen self.old) (event_of event.now) }
+        ensures state { state_seen self.new ≡ session.inherit (state_seen self.old) (event_of event.now) }
         ensures functions { self.new.functions ≡ self.old.functions }
     {
         match event {
             Event::Spawned { pid, parent, .. } => {
                 self.alive.add(*pid);
-                let (kept, child) = inherit_spawn(self.flags_at(*parent), self.for_new);
+                let (kept, child) = inherit_spawn(self.flags_at(*parent), self.new_process_flags);
                 self.set_flags(*parent, kept);
                 self.set_flags(*pid, child);
             }
@@ -151,8 +153,8 @@ pub(crate) fn process_of<A: Allocator>(event: &Event<A>) -> u32
 
 impl<A: Allocator + Copy> State<A> {
     /// The effects of an event; None where it gives no message.
-    fn evaluated(&self, event: &Event<A>) -> Result<Option<Vec<Effect<A>, A>>, AllocError>
-        ensures { IfOk result (λ r. given r ≡ evaluating self.now (event_of event.now)) }
+    fn effects_of(&self, event: &Event<A>) -> Result<Option<Vec<Effect<A>, A>>, AllocError>
+        ensures { IfOk result (λ r. effects_in r ≡ evaluation self.now (event_of event.now)) }
     {
         match event {
             Event::Sent {
@@ -179,11 +181,11 @@ impl<A: Allocator + Copy> State<A> {
         }
     }
 
-    /// No effects, where the message is told.
-    fn plainly(&self, told: bool) -> Option<Vec<Effect<A>, A>>
-        ensures { given result ≡ (if told then Some [] else None) }
+    /// No effects, where the message is reported.
+    fn plainly(&self, reported: bool) -> Option<Vec<Effect<A>, A>>
+        ensures { effects_in result ≡ (if reported then Some [] else None) }
     {
-        if told {
+        if reported {
             Some(Vec::new(self.alloc))
         } else {
             None
@@ -197,7 +199,7 @@ impl<A: Allocator + Copy> State<A> {
         message: &Term<A>,
         to: u32,
     ) -> Result<Option<Vec<Effect<A>, A>>, AllocError>
-        ensures { (b : Bool) → IfOk result (λ r. given r ≡ evaluating_send self.now pid message.now to b) }
+        ensures { (b : Bool) → IfOk result (λ r. effects_in r ≡ send_evaluation self.now pid message.now to b) }
     {
         if !self.flags_at(pid).send {
             return Ok(None);
@@ -213,13 +215,13 @@ impl<A: Allocator + Copy> State<A> {
         sender: u32,
         message: &Term<A>,
     ) -> Result<Option<Vec<Effect<A>, A>>, AllocError>
-        ensures { IfOk result (λ r. given r ≡ evaluating self.now (received pid sender (tree_of message.now))) }
+        ensures { IfOk result (λ r. effects_in r ≡ evaluation self.now (received pid sender (tree_of message.now))) }
     {
         if !self.flags_at(pid).receive {
             return Ok(None);
         }
         let list = [
-            Value::Word(Word::Node),
+            Value::AtomConst(AtomConst::Node),
             Value::Pid(sender),
             Value::Lent(message),
         ];
@@ -229,15 +231,15 @@ impl<A: Allocator + Copy> State<A> {
     /// The effects by a setting, on these values.
     fn evaluated_values<'a>(
         &'a self,
-        setting: &Setting<Compiled<A>>,
-        me: u32,
+        setting: &Setting<CompiledSpec<A>>,
+        self_pid: u32,
         list: &'a [Value<'a, A>],
     ) -> Result<Option<Vec<Effect<A>, A>>, AllocError>
-        ensures { IfOk result (λ r. given r ≡ evaluating_by setting.now (on_values self.now me list.now)) }
+        ensures { IfOk result (λ r. effects_in r ≡ evaluation_by setting.now (on_values self.now self_pid list.now)) }
     {
         let context = Context {
-            list: Parts::Values(list),
-            me,
+            list: ListView::Values(list),
+            self_pid,
             caller: None,
             alive: &self.alive,
             flags: &self.flags,
@@ -251,7 +253,7 @@ impl<A: Allocator + Copy> State<A> {
         pid: u32,
         call: &Call<A>,
     ) -> Result<Option<Vec<Effect<A>, A>>, AllocError>
-        ensures { IfOk result (λ r. given r ≡ evaluating self.now (called pid (call_of call.now))) }
+        ensures { IfOk result (λ r. effects_in r ≡ evaluation self.now (called pid (call_seen call.now))) }
     {
         if !self.flags_at(pid).call {
             return Ok(None);
@@ -259,8 +261,8 @@ impl<A: Allocator + Copy> State<A> {
         match setting_for(&self.settings, call) {
             Some(setting) => {
                 let context = Context {
-                    list: Parts::Terms(call.args.as_slice()),
-                    me: pid,
+                    list: ListView::Terms(call.args.as_slice()),
+                    self_pid: pid,
                     caller: call.caller.as_ref(),
                     alive: &self.alive,
                     flags: &self.flags,
@@ -273,15 +275,15 @@ impl<A: Allocator + Copy> State<A> {
 
     /// The effects of a return, where its frame is marked: none.
     fn evaluated_return(&self, pid: u32, depth: usize) -> Option<Vec<Effect<A>, A>>
-        ensures { (f : names.Mfa) (t : Tree) → given result ≡ evaluating self.now (returned pid f t depth) }
+        ensures { (f : Mfa) (t : Tree) → effects_in result ≡ evaluation self.now (returned pid f t depth) }
     {
-        let told = self.flags_at(pid).call && self.is_marked(pid, depth);
-        self.plainly(told)
+        let reported = self.flags_at(pid).call && self.is_marked(pid, depth);
+        self.plainly(reported)
     }
 
     /// The effects of an exception, where the frame that it leaves is marked for exceptions: none.
     fn evaluated_raise(&self, pid: u32, depth: usize) -> Option<Vec<Effect<A>, A>>
-        ensures { (f : names.Mfa) (c : Class) (t : Tree) → given result ≡ evaluating self.now (raised pid f c t depth) }
+        ensures { (f : Mfa) (c : Class) (t : Tree) → effects_in result ≡ evaluation self.now (raised pid f c t depth) }
     {
         match self.mark_of(pid, depth) {
             Some(Kind::Exceptions) => self.plainly(self.flags_at(pid).call),
@@ -294,15 +296,15 @@ impl<A: Allocator + Copy> State<A> {
 /// The effects by a setting; None where it is off, or where no clause of its specification fires.
 fn evaluated_by<A: Allocator + Copy>(
     alloc: A,
-    setting: &Setting<Compiled<A>>,
+    setting: &Setting<CompiledSpec<A>>,
     context: &Context<'_, A>,
 ) -> Result<Option<Vec<Effect<A>, A>>, AllocError>
-    ensures { IfOk result (λ r. given r ≡ evaluating_by setting.now (context_seen context.now)) }
+    ensures { IfOk result (λ r. effects_in r ≡ evaluation_by setting.now (context_seen context.now)) }
 {
     match setting {
-        Setting::Off => Ok(None),
-        Setting::Plain => Ok(Some(Vec::new(alloc))),
-        Setting::By(compiled) => match compiled.outcome(alloc, context)? {
+        Setting::Disabled => Ok(None),
+        Setting::Always => Ok(Some(Vec::new(alloc))),
+        Setting::Specification(compiled) => match compiled.outcome(alloc, context)? {
             Outcome::Matched(effects) => Ok(Some(effects)),
             Outcome::NoMatch => Ok(None),
         },
@@ -313,12 +315,12 @@ fn evaluated_by<A: Allocator + Copy>(
 
 impl<A: Allocator> State<A> {
     /// The effects, in order, of an event of this process.
-    fn affect_all(&mut self, me: u32, effects: &[Effect<A>])
-        ensures state { state_seen self.new ≡ session.all_affected me (state_seen self.old) (asked effects.now) }
+    fn affect_all(&mut self, self_pid: u32, effects: &[Effect<A>])
+        ensures state { state_seen self.new ≡ session.all_affected self_pid (state_seen self.old) (asks effects.now) }
         ensures functions { self.new.functions ≡ self.old.functions }
     {
         for effect in effects {
-            effect.apply_to(&mut self.flags, me);
+            effect.apply_to(&mut self.flags, self_pid);
         }
     }
 }
@@ -332,13 +334,13 @@ impl<A: Allocator> State<A> {
         event: &'a Event<A>,
         effects: Vec<Effect<A>, A>,
     ) -> Option<Message<'a, A>>
-        ensures { message_in result ≡ message_after (state_seen self.now) (event_of event.now) (asked effects.items) }
+        ensures { message_in result ≡ message_after (state_seen self.now) (event_of event.now) (asks effects.items) }
     {
         if self.is_silenced(event) {
             return None;
         }
         let short = self.flags_at(process_of(event)).arity;
-        decided(event, short, last_message(effects))
+        message_by(event, short, last_message(effects))
     }
 
     /// Whether `silent` inhibits the event's message: that of a call, a return or an exception.
@@ -355,7 +357,7 @@ impl<A: Allocator> State<A> {
 
 /// The term of the last `message`, where there is one.
 fn last_message<A: Allocator>(mut effects: Vec<Effect<A>, A>) -> Option<Term<A>>
-    ensures { option_map tree_of result ≡ messages.last_message (asked effects.items) }
+    ensures { option_map tree_of result ≡ messages.last_message (asks effects.items) }
 {
     while let Some(effect) = effects.pop() {
         if let Effect::Message(term) = effect {
@@ -365,14 +367,14 @@ fn last_message<A: Allocator>(mut effects: Vec<Effect<A>, A>) -> Option<Term<A>>
     None
 }
 
-/// The message by the last term that an effect gives: `false` suppresses it, `true` or none tells it
+/// The message by the last term that an effect gives: `false` suppresses it, `true` or none reports it
 /// plain, any other is its last element.
-fn decided<'a, A: Allocator>(
+fn message_by<'a, A: Allocator>(
     event: &'a Event<A>,
     short: bool,
     last: Option<Term<A>>,
 ) -> Option<Message<'a, A>>
-    ensures { message_in result ≡ deciding short event.now last }
+    ensures { message_in result ≡ decision short event.now last }
 {
     match last {
         Some(term) => {
@@ -406,8 +408,8 @@ impl<A: Allocator + Copy> State<A> {
     /// A call gets its mark, a frame that a return or an exception leaves loses its own; after an exit the
     /// process's flags and marks are gone.
     fn finish(&mut self, event: &Event<A>, mark: Option<Kind>) -> Result<(), AllocError>
-        ensures state { (es : List Asked) → session.mark_asked es ≡ option_map kind_seen mark →
-            IfOk result (λ _. state_seen self.new ≡ session.finished (state_seen self.old) (event_of event.now) es) }
+        ensures state { (es : List DefinedEffect) → session.mark_asked es ≡ option_map mark_kind_seen mark →
+            IfOk result (λ _. state_seen self.new ≡ session.finish (state_seen self.old) (event_of event.now) es) }
         ensures functions { self.new.functions ≡ self.old.functions }
     {
         match event {
@@ -427,7 +429,7 @@ impl<A: Allocator + Copy> State<A> {
 
     /// The flags and marks of a process that ended are gone.
     fn forget(&mut self, pid: u32)
-        ensures state { (t : Tree) → state_seen self.new ≡ finishing self.old (exited pid t) }
+        ensures state { (t : Tree) → state_seen self.new ≡ plain_finish self.old (exited pid t) }
         ensures functions { self.new.functions ≡ self.old.functions }
     {
         self.alive.remove(pid);

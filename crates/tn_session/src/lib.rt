@@ -1,16 +1,16 @@
 //! One trace session: what it makes of each event of the node, and what its commands do and reply.
 //!
-//! Stands on tn_flags, tn_spec, tn_compile, tn_machine, tn_index and tn_text, and on the definitions of
+//! Depends on tn_flags, tn_spec, tn_compile, tn_machine, tn_index and tn_text, and on the definitions of
 //! def_session. Promises that `created` is the session at its creation, that `command` and `event` are
 //! one step of the definition of a session, reply and message included, and that a session that was
 //! refused memory is spent. A specification is kept with its code, by which it is evaluated. What a session
-//! tells of an event is a `Message` that lends the event; a term or a text is made of it. A `Look` shows the
+//! reports of an event is a `Message` that lends the event; a term or a text is made of it. A `Look` shows the
 //! session between two steps, and `mark_for` is the mark that the effects of a call ask for.
 #![tactic(auto)]
 
+mod arguments;
 mod command;
-mod compiled;
-mod covered;
+mod compiled_spec;
 mod elements;
 mod event;
 mod look;
@@ -22,7 +22,7 @@ mod setting;
 mod state;
 mod text;
 
-pub use look::{Look, Newest};
+pub use look::{Look, NewestSetting};
 pub use marks::mark_for;
 pub use message::Message;
 pub use session::Session;

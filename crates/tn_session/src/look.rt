@@ -3,7 +3,7 @@ ghost use Rattle.std.specs.Prelude.{◌≡◌};
 ghost use Rattle.tn_session.specs.Looks.{lent_seen};
 ghost use Rattle.tn_session.specs.Views.{setting_seen};
 
-use crate::compiled::Compiled;
+use crate::compiled_spec::CompiledSpec;
 use crate::state::{Kind, Phase, State};
 use std::alloc::Allocator;
 use tn_flags::{Call, FlagTable, Flags};
@@ -20,19 +20,19 @@ pub struct Look<'a, A: Allocator> {
 
 /// What the newest function command that covers a function sets, and whether it is local.
 #[derive(Drop)]
-pub struct Newest<'a, A: Allocator> {
+pub struct NewestSetting<'a, A: Allocator> {
     pub setting: Setting<&'a Spec<A>>,
     pub local: bool,
 }
 
 /// The setting, which lends its specification.
-fn lent<A: Allocator + Copy>(setting: &Setting<Compiled<A>>) -> Setting<&Spec<A>>
+fn lend_setting<A: Allocator + Copy>(setting: &Setting<CompiledSpec<A>>) -> Setting<&Spec<A>>
     ensures { lent_seen result ≡ setting_seen setting.now }
 {
     match setting {
-        Setting::Off => Setting::Off,
-        Setting::Plain => Setting::Plain,
-        Setting::By(compiled) => Setting::By(compiled.specification()),
+        Setting::Disabled => Setting::Disabled,
+        Setting::Always => Setting::Always,
+        Setting::Specification(compiled) => Setting::Specification(compiled.specification()),
     }
 }
 
@@ -42,9 +42,9 @@ impl<'a, A: Allocator + Copy> Look<'a, A> {
     ghost use Rattle.def_session.specs.Session as session;
     ghost use Rattle.def_session.specs.State as definition;
     ghost use Rattle.tn_term.specs.Views.{alive_of};
-    ghost use Rattle.tn_flags.specs.Views.{call_of, flags_of, table_of};
+    ghost use Rattle.tn_flags.specs.Views.{call_seen, flags_of, table_of};
     ghost use Rattle.tn_session.specs.Looks.{look_seen, lent_seen, is_live, newest_seen, newest_for};
-    ghost use Rattle.tn_session.specs.Views.{kind_seen};
+    ghost use Rattle.tn_session.specs.Views.{mark_kind_seen};
 
     /// Whether it was not destroyed.
     pub fn is_live(&self) -> bool
@@ -77,45 +77,45 @@ impl<'a, A: Allocator + Copy> Look<'a, A> {
         self.state.flags_at(pid)
     }
 
-    /// Whether the frame of this depth is marked: its return is told.
+    /// Whether the frame of this depth is marked: its return is reported.
     pub fn is_marked(&self, pid: u32, depth: usize) -> bool
         ensures { result ≡ session.is_marked (look_seen self.now) pid depth }
     {
         self.state.is_marked(pid, depth)
     }
 
-    /// The kind of the mark that the frame of this depth has, if it has one: whether its return is told alone,
+    /// The kind of the mark that the frame of this depth has, if it has one: whether its return is reported alone,
     /// or an exception that leaves it too.
     pub fn mark_of(&self, pid: u32, depth: usize) -> Option<Kind>
-        ensures { option_map kind_seen result ≡ definition.mark_of (look_seen self.now) pid depth }
+        ensures { option_map mark_kind_seen result ≡ definition.mark_of (look_seen self.now) pid depth }
     {
         self.state.mark_of(pid, depth)
     }
 
     /// The setting of sends (`trace:send/3`).
-    pub fn sending(&self) -> Setting<&'a Spec<A>>
+    pub fn send_setting(&self) -> Setting<&'a Spec<A>>
         ensures { lent_seen result ≡ (look_seen self.now).sending }
     {
-        lent(&self.state.sending)
+        lend_setting(&self.state.sending)
     }
 
     /// The setting of receives (`trace:recv/3`).
-    pub fn receiving(&self) -> Setting<&'a Spec<A>>
+    pub fn receive_setting(&self) -> Setting<&'a Spec<A>>
         ensures { lent_seen result ≡ (look_seen self.now).receiving }
     {
-        lent(&self.state.receiving)
+        lend_setting(&self.state.receiving)
     }
 
     /// What the newest function command that has the called function among its own sets
     /// (`trace:function/4`); None where there is none.
-    pub fn newest(&self, call: &Call<A>) -> Option<Newest<'a, A>>
-        ensures { option_map newest_seen result ≡ newest_for self.now (call_of call.now) }
+    pub fn newest(&self, call: &Call<A>) -> Option<NewestSetting<'a, A>>
+        ensures { option_map newest_seen result ≡ newest_for self.now (call_seen call.now) }
     {
         match self.state.settings.get(&call.mfa, call.exported) {
             None => None,
-            Some(covering) => Some(Newest {
-                setting: lent(&covering.setting),
-                local: covering.local,
+            Some(function_setting) => Some(NewestSetting {
+                setting: lend_setting(&function_setting.setting),
+                local: function_setting.local,
             }),
         }
     }

@@ -5,8 +5,9 @@ ghost use Rattle.std.specs.Option.{option_map};
 ghost use Rattle.def_session.specs.State as definition;
 ghost use Rattle.def_session.specs.State.{with_marks};
 ghost use Rattle.def_session.specs.Session as session;
-ghost use Rattle.tn_session.specs.Telling.{asked};
-ghost use Rattle.tn_session.specs.Views.{kind_seen, newest_first, marks_seen, state_seen};
+ghost use Rattle.def_session.specs.Session.{mark_frame};
+ghost use Rattle.tn_session.specs.EventSteps.{asks};
+ghost use Rattle.tn_session.specs.Views.{mark_kind_seen, newest_first, marks_seen, state_seen};
 
 use crate::state::{Kind, Mark, State, place_of};
 use std::alloc::{AllocError, Allocator};
@@ -16,7 +17,7 @@ use tn_term::PROCESSES;
 /// The mark that the effects of a call ask for: `exception_trace` one for exceptions, whatever the other effects are,
 /// and `return_trace` without it one for returns.
 pub fn mark_for<A: Allocator>(effects: &[Effect<A>]) -> Option<Kind>
-    ensures { option_map kind_seen result ≡ session.mark_asked (asked effects.now) }
+    ensures { option_map mark_kind_seen result ≡ session.mark_asked (asks effects.now) }
 {
     let mut returns = false;
     for effect in effects {
@@ -32,7 +33,7 @@ pub fn mark_for<A: Allocator>(effects: &[Effect<A>]) -> Option<Kind>
 impl<A: Allocator + Copy> State<A> {
     /// The kind of the mark that the frame of this depth has, if it has one.
     pub(crate) fn mark_of(&self, pid: u32, depth: usize) -> Option<Kind>
-        ensures { option_map kind_seen result ≡ definition.mark_of (state_seen self.now) pid depth }
+        ensures { option_map mark_kind_seen result ≡ definition.mark_of (state_seen self.now) pid depth }
     {
         match self.marks.get(place_of(pid)) {
             Some(marks) => kind_among(marks, depth),
@@ -50,7 +51,7 @@ impl<A: Allocator + Copy> State<A> {
     /// Marks the frame of this depth. An error is refused memory.
     pub(crate) fn mark(&mut self, pid: u32, depth: usize, kind: Kind) -> Result<(), AllocError>
         ensures state { IfOk result
-            (λ _. state_seen self.new ≡ session.marked (state_seen self.old) pid depth (Some (kind_seen kind))) }
+            (λ _. state_seen self.new ≡ mark_frame (state_seen self.old) pid depth (Some (mark_kind_seen kind))) }
         ensures functions { self.new.functions ≡ self.old.functions }
     {
         let place = place_of(pid);
@@ -63,7 +64,7 @@ impl<A: Allocator + Copy> State<A> {
 
     /// Removes the mark of the frame of this depth, whatever it is for.
     pub(crate) fn unmark(&mut self, pid: u32, depth: usize)
-        ensures state { state_seen self.new ≡ session.unmarked (state_seen self.old) pid depth }
+        ensures state { state_seen self.new ≡ session.unmark_frame (state_seen self.old) pid depth }
         ensures functions { self.new.functions ≡ self.old.functions }
     {
         let place = place_of(pid);
@@ -102,7 +103,7 @@ fn reach<A: Allocator + Copy>(
 
 /// The kind of the newest of these marks that is of this depth; the newest is the last.
 fn kind_among(marks: &[Mark], depth: usize) -> Option<Kind>
-    ensures { option_map kind_seen result ≡ definition.kind_among (newest_first marks.now) depth }
+    ensures { option_map mark_kind_seen result ≡ definition.kind_among (newest_first marks.now) depth }
 {
     let newest = marks.iter().rev().find(|mark| mark.depth == depth)?;
     Some(newest.kind)

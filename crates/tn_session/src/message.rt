@@ -1,4 +1,4 @@
-// What a session tells of an event.
+// What a session reports of an event.
 ghost use Rattle.std.specs.Prelude.{◌≡◌, ◌++◌, IfOk, OnOk, OnErr};
 ghost use Rattle.def_term.specs.Text.{w};
 ghost use Rattle.tn_term.specs.Views.{tree_of};
@@ -12,7 +12,7 @@ use tn_flags::Event;
 use tn_term::Term;
 
 /// The message of an event (module `trace`, "trace messages"): it lends the event, and says whether a call
-/// is told by its arity alone, and which term stands at the end, if any.
+/// is reported by its arity alone, and which term stands at the end, if any.
 #[derive(Drop)]
 pub struct Message<'a, A: Allocator> {
     pub event: &'a Event<A>,

@@ -1,7 +1,7 @@
 // Replies to commands.
 ghost use Rattle.std.specs.Prelude.{◌≡◌, ◌<◌, ◌^◌, IfOk};
 ghost use Rattle.def_spec.specs.Reading as reading;
-ghost use Rattle.def_session.specs.Commands.{fault_term, number};
+ghost use Rattle.def_session.specs.Commands.{fault_term, number_term};
 ghost use Rattle.tn_term.specs.Views.{tree_of};
 ghost use Rattle.tn_session.specs.Replies.{reply_seen, IsReplyTo};
 
@@ -22,7 +22,7 @@ pub(crate) enum Reply<A: Allocator> {
 }
 
 /// {unsupported,Name}
-fn unsupported<A: Allocator + Copy>(alloc: A, name: Atom<A>) -> Result<Term<A>, AllocError>
+fn unsupported_term<A: Allocator + Copy>(alloc: A, name: Atom<A>) -> Result<Term<A>, AllocError>
     ensures { IfOk result (λ t. tree_of t ≡ fault_term (reading.unsupported name)) }
 {
     let kind = Term::word(alloc, "unsupported")?;
@@ -41,16 +41,16 @@ impl<A: Allocator + Copy> Reply<A> {
             Reply::True => Ok(Term::word(alloc, "true")?),
             Reply::False => Ok(Term::word(alloc, "false")?),
             Reply::Badarg => Ok(Term::word(alloc, "badarg")?),
-            Reply::Unsupported(name) => unsupported(alloc, name),
+            Reply::Unsupported(name) => unsupported_term(alloc, name),
             Reply::Count(count) => Ok(Term::Int(count)),
         }
     }
 }
 
 /// The reply that counts so many.
-pub(crate) fn counted<A: Allocator>(count: usize) -> Reply<A>
+pub(crate) fn count_reply<A: Allocator>(count: usize) -> Reply<A>
     requires { count < 2 ^ 63 }
-    ensures { reply_seen result ≡ number count }
+    ensures { reply_seen result ≡ number_term count }
 {
     Reply::Count(count as i64)
 }

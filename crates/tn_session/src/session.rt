@@ -18,17 +18,18 @@ impl<A: Allocator + Copy> Session<A> {
     ghost use Rattle.std.specs.Prelude.{◌≡◌, List, Bool, IsErr, IsNone, IfOk, OnErr, map};
     ghost use Rattle.def_term.specs.Names as names;
     ghost use Rattle.def_session.specs.State as definition;
+    ghost use Rattle.def_session.specs.State.{live, new_session};
     ghost use Rattle.tn_term.specs.Views.{tree_of, alive_of};
     ghost use Rattle.tn_flags.specs.Views.{event_of, command_of};
     ghost use Rattle.tn_session.specs.Views.{function_seen};
-    ghost use Rattle.tn_session.specs.Looks.{Shows};
+    ghost use Rattle.tn_session.specs.Looks.{LendsLook};
     ghost use Rattle.tn_session.specs.Sessions.{IsAt, IsSpent, Replies, Tells, Says};
 
     /// The session at its creation: live, without flags and settings of functions, with send and receive
     /// `true`, where these processes live. The functions are those of the program, each once, with whether
     /// it is exported (`trace:session_create/3`). It takes no memory.
     pub fn created(alloc: A, functions: Vec<(Mfa<A>, bool), A>, alive: Alive) -> Session<A>
-        ensures { IsAt (map function_seen functions.items) (definition.unset definition.live (alive_of alive)) result }
+        ensures { IsAt (map function_seen functions.items) (new_session live (alive_of alive)) result }
     {
         let none = Flags::none();
         Session {
@@ -38,10 +39,10 @@ impl<A: Allocator + Copy> Session<A> {
                 functions,
                 alive,
                 flags: FlagTable::none(),
-                for_new: none,
+                new_process_flags: none,
                 settings: Settings::new(alloc),
-                sending: Setting::Plain,
-                receiving: Setting::Plain,
+                sending: Setting::Always,
+                receiving: Setting::Always,
                 marks: Vec::new(alloc),
             }),
         }
@@ -49,7 +50,7 @@ impl<A: Allocator + Copy> Session<A> {
 
     /// What is seen of it. None once it was refused memory: it is spent.
     pub fn look(&self) -> Option<Look<'_, A>>
-        ensures state { Shows self.now result }
+        ensures state { LendsLook self.now result }
         ensures spent { IsSpent self.now → IsNone result }
     {
         match &self.state {
@@ -88,7 +89,7 @@ impl<A: Allocator + Copy> Session<A> {
     ///
     /// AllocError where memory was refused, in this call or an earlier one: the session is spent.
     pub fn event(&mut self, event: &Event<A>) -> Result<Option<Term<A>>, AllocError>
-        ensures told { (fs : List (names.Mfa × Bool)) → (s : definition.Session) → IsAt fs s self.old →
+        ensures reported { (fs : List (names.Mfa × Bool)) → (s : definition.Session) → IsAt fs s self.old →
             IfOk result (λ m. Tells fs s (event_of event.now) self.new m) }
         ensures spent { IsSpent self.old → IsErr result }
         ensures refused { OnErr result (IsSpent self.new) }
@@ -111,7 +112,7 @@ impl<A: Allocator + Copy> Session<A> {
     ///
     /// AllocError where memory was refused, in this call or an earlier one: the session is spent.
     pub fn tell<'a>(&mut self, event: &'a Event<A>) -> Result<Option<Message<'a, A>>, AllocError>
-        ensures told { (fs : List (names.Mfa × Bool)) → (s : definition.Session) → IsAt fs s self.old →
+        ensures reported { (fs : List (names.Mfa × Bool)) → (s : definition.Session) → IsAt fs s self.old →
             IfOk result (λ m. Says fs s (event_of event.now) self.new m) }
         ensures spent { IsSpent self.old → IsErr result }
         ensures refused { OnErr result (IsSpent self.new) }

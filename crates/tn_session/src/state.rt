@@ -4,7 +4,7 @@ ghost use Rattle.def_session.specs.State as definition;
 ghost use Rattle.tn_flags.specs.Views.{flags_of};
 ghost use Rattle.tn_session.specs.Views.{state_seen};
 
-use crate::compiled::Compiled;
+use crate::compiled_spec::CompiledSpec;
 use std::alloc::Allocator;
 use tn_flags::{FlagTable, Flags};
 use tn_index::{Setting, Settings};
@@ -31,7 +31,7 @@ pub(crate) struct Mark {
     pub kind: Kind,
 }
 
-/// What a session knows and was told to show.
+/// What a session knows and was reported to show.
 #[derive(Drop)]
 pub(crate) struct State<A: Allocator> {
     pub alloc: A,
@@ -41,10 +41,10 @@ pub(crate) struct State<A: Allocator> {
     pub alive: Alive,
     pub flags: FlagTable,
     /// Of new processes.
-    pub for_new: Flags,
-    pub settings: Settings<Compiled<A>, A>,
-    pub sending: Setting<Compiled<A>>,
-    pub receiving: Setting<Compiled<A>>,
+    pub new_process_flags: Flags,
+    pub settings: Settings<CompiledSpec<A>, A>,
+    pub sending: Setting<CompiledSpec<A>>,
+    pub receiving: Setting<CompiledSpec<A>>,
     /// Of the processes from 100 on, the marks of frames, the newest last; those past the end have none.
     pub marks: Vec<Vec<Mark, A>, A>,
 }

@@ -2,13 +2,13 @@
 ghost use Rattle.std.specs.Prelude.{◌≡◌, ◌++◌, ◌∷◌, pos, OnOk};
 ghost use Rattle.def_term.specs.Tree.{of_elements, int, pid as pid_tree, list};
 ghost use Rattle.def_term.specs.Names.{mfa_term};
-ghost use Rattle.def_term.specs.Text.{w, joined, atom_text, each_after_comma};
+ghost use Rattle.def_term.specs.Text.{w, comma_list, atom_text, each_after_comma};
 ghost use Rattle.tn_term.specs.Views.{tree_of, trees_of, mfa_seen};
 ghost use Rattle.def_session.specs.Messages.{class_term};
 ghost use Rattle.tn_flags.specs.Views.{class_of, event_of};
 ghost use Rattle.tn_text.specs.Writes.{Grows};
-ghost use Rattle.tn_session.specs.Messages.{kind_of, front_text, details_text, elements_text};
-ghost use Rattle.tn_session.specs.Messages.{names_text, call_seen, exception_seen, last_seen};
+ghost use Rattle.tn_session.specs.Messages.{event_name, front_text, details_text, elements_text};
+ghost use Rattle.tn_session.specs.Messages.{names_text, call_tree, exception_tree, last_seen};
 
 use crate::event::process_of;
 use std::alloc::{AllocError, Allocator};
@@ -16,7 +16,7 @@ use tn_flags::{Class, Event};
 use tn_term::{Mfa, Term};
 use tn_text::{write_atom, write_term};
 
-/// Appends the text of an event's elements, behind a brace and with a comma between any two; a call's
+/// Appends the text of an event's elements, after a brace and with a comma between any two; a call's
 /// names the arity alone where `short`.
 pub(crate) fn put_elements<A: Allocator, B: Allocator>(
     event: &Event<A>,
@@ -49,7 +49,7 @@ fn put_front<A: Allocator, B: Allocator>(
 /// The written text of the kind of an event.
 #[tactic(auto, unfolding(def_term::specs::Text::is_written_bare))]
 fn kind_text<A: Allocator>(event: &Event<A>) -> &'static [u8]
-    ensures { result.now ≡ atom_text (kind_of (event_of event.now)) }
+    ensures { result.now ≡ atom_text (event_name (event_of event.now)) }
 {
     match event {
         Event::Sent { alive, .. } => {
@@ -73,7 +73,7 @@ fn kind_text<A: Allocator>(event: &Event<A>) -> &'static [u8]
     }
 }
 
-/// Appends what stands behind the kind, each with a comma before it.
+/// Appends what stands after the kind, each with a comma before it.
 fn put_details<A: Allocator, B: Allocator>(
     event: &Event<A>,
     short: bool,
@@ -240,7 +240,7 @@ fn put_args<A: Allocator, B: Allocator>(
     args: &Vec<Term<A>, A>,
     out: &mut Vec<u8, B>,
 ) -> Result<(), AllocError>
-    ensures ok { OnOk result (out.new.items ≡ out.old.items ++ 44 ∷ w (call_seen mfa.now args.now)) }
+    ensures ok { OnOk result (out.new.items ≡ out.old.items ++ 44 ∷ w (call_tree mfa.now args.now)) }
     ensures grows { Grows out.old.items out.new.items }
 {
     put_names(mfa, out)?;
@@ -255,7 +255,7 @@ fn put_exception<A: Allocator, B: Allocator>(
     value: &Term<A>,
     out: &mut Vec<u8, B>,
 ) -> Result<(), AllocError>
-    ensures ok { OnOk result (out.new.items ≡ out.old.items ++ 44 ∷ w (exception_seen class value.now)) }
+    ensures ok { OnOk result (out.new.items ≡ out.old.items ++ 44 ∷ w (exception_tree class value.now)) }
     ensures grows { Grows out.old.items out.new.items }
 {
     out.extend_from_slice(b",{")?;
@@ -282,7 +282,7 @@ fn put_joined<A: Allocator, B: Allocator>(
     items: &Vec<Term<A>, A>,
     out: &mut Vec<u8, B>,
 ) -> Result<(), AllocError>
-    ensures ok { OnOk result (out.new.items ≡ out.old.items ++ joined (trees_of items.now.items)) }
+    ensures ok { OnOk result (out.new.items ≡ out.old.items ++ comma_list (trees_of items.now.items)) }
     ensures grows { Grows out.old.items out.new.items }
 {
     if items.is_empty() {

@@ -46,7 +46,7 @@ module _ {A : Type 0} (t : Term A) where
 
   -- ---- expressions
 
-  module _ (d : ex.Dialect) (part : ex.Part) (head : matching.Pattern) where
+  module _ (d : ex.Dialect) (part : ex.Position) (head : matching.Pattern) where
     pub atom_expr_read : (s : List ℕ) (r : Result (Expr A) (SpecFault A)) → t ≡ Atom s → IsRead expr_seen (atom_expr_of_kind head s (atom_kind s)) r → IsRead expr_seen (expr_of d part head (tree_of t)) r
     atom_expr_read s r e read = subst (λ u. IsRead expr_seen (expr_of d part head u) r) (sym (ap tree_of e ∙ tree_of_atom A s)) read
 

@@ -4,7 +4,7 @@ use Rattle.std.specs.Prelude.{Ok, Err}
 use Rattle.std.proofs.lemmas.List.{drop_more, drop_all, append-nil, map-append}
 use Rattle.def_term.specs.Tree.{Tree, of_elements}
 use Rattle.def_spec.specs.Matching.{Pattern, and_pattern}
-use Rattle.def_spec.specs.Expressions.{Dialect, Part, Expr, and_expr}
+use Rattle.def_spec.specs.Expressions.{Dialect, Position, Expr, and_expr}
 use Rattle.def_spec.specs.Reading.{Reads, then_read, pattern_of, patterns_of, expr_of, exprs_of, clause_of, clauses_of}
 use Rattle.tn_spec.specs.declared.fault.SpecFault.{SpecFault}
 use Rattle.tn_spec.specs.declared.fault.SpecFault.TheVariants.{Badarg, Unsupported, TooLarge, OutOfMemory}
@@ -82,7 +82,7 @@ patterns_read ts ps e = patterns_each ts ∙ ok_then _ _ ps e
 pub patterns_fail : {A : Type 0} (ts : List Tree) (e : SpecFault A) → IsFaultOf (each_read pattern_of ts) e → IsFaultOf (patterns_of (of_elements ts)) e
 patterns_fail ts e h = subst (λ r. IsFaultOf r e) (sym (patterns_each ts)) (fault_then _ _ e h)
 
-module _ (d : Dialect) (part : Part) (head : Pattern) where
+module _ (d : Dialect) (part : Position) (head : Pattern) where
   exprs_each : (ts : List Tree) → exprs_of d part head (of_elements ts) ≡ then_read (each_read (expr_of d part head) ts) (λ es. Ok (exprs_from es))
   exprs_each [] = refl
   exprs_each (t ∷ ts) =

@@ -1,7 +1,7 @@
 pub mod Arms
 pub mod Calls
 pub mod Each
-pub mod Marked
+pub mod VariableTable
 pub mod Parts
 pub mod Sizes
 pub mod Tables

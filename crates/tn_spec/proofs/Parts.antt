@@ -9,7 +9,7 @@ use Rattle.def_spec.specs.Reading.{badarg, head_of, exprs_of, clause_of_parts, c
 use Rattle.tn_term.specs.Views.{tree_of, trees_of}
 use Rattle.tn_term.specs.declared.term.Term.{Term}
 use Rattle.tn_spec.specs.declared.fault.SpecFault.{SpecFault}
-use Rattle.tn_spec.specs.Answers.{IsFaultOf, elements_in}
+use Rattle.tn_spec.specs.Answers.{IsFaultOf, list_elements}
 use Rattle.tn_spec.proofs.Each.{fault_then, ok_then}
 
 module _ (d : Dialect) where
@@ -45,39 +45,39 @@ module _ (d : Dialect) where
 
   -- ---- fields that are no lists
 
-  conditions_none : (h t u : Tree) → None ≡ elements_in t → clause_of d (tuple (more h (more t (more u none)))) ≡ Err badarg
+  conditions_none : (h t u : Tree) → None ≡ list_elements t → clause_of d (tuple (more h (more t (more u none)))) ≡ Err badarg
   conditions_none h (int n) u e = refl
   conditions_none h (atom s) u e = refl
   conditions_none h (pid n) u e = refl
   conditions_none h (tuple ts) u e = refl
   conditions_none h (list cs) u e = absurd (cc)
 
-  body_none_after : (h u : Tree) (cs : Trees) → None ≡ elements_in u → clause_of d (tuple (more h (more (list cs) (more u none)))) ≡ Err badarg
+  body_none_after : (h u : Tree) (cs : Trees) → None ≡ list_elements u → clause_of d (tuple (more h (more (list cs) (more u none)))) ≡ Err badarg
   body_none_after h (int n) cs e = refl
   body_none_after h (atom s) cs e = refl
   body_none_after h (pid n) cs e = refl
   body_none_after h (tuple ts) cs e = refl
   body_none_after h (list bs) cs e = absurd (cc)
 
-  body_none : (h t u : Tree) → None ≡ elements_in u → clause_of d (tuple (more h (more t (more u none)))) ≡ Err badarg
+  body_none : (h t u : Tree) → None ≡ list_elements u → clause_of d (tuple (more h (more t (more u none)))) ≡ Err badarg
   body_none h (int n) u e = refl
   body_none h (atom s) u e = refl
   body_none h (pid n) u e = refl
   body_none h (tuple ts) u e = refl
   body_none h (list cs) u e = body_none_after h u cs e
 
-  pub no_conditions : {A : Type 0} (xs : List (Term A)) (y : Term A) → length xs ≡ 3 → y ≡ get_or xs 1 y → None ≡ elements_in (tree_of y) → clause_of d (tuple (trees_of xs)) ≡ Err badarg
+  pub no_conditions : {A : Type 0} (xs : List (Term A)) (y : Term A) → length xs ≡ 3 → y ≡ get_or xs 1 y → None ≡ list_elements (tree_of y) → clause_of d (tuple (trees_of xs)) ≡ Err badarg
   no_conditions [] y three second other = absurd (omega (arith, three))
   no_conditions (a ∷ []) y three second other = absurd (omega (arith, three))
   no_conditions (a ∷ b ∷ []) y three second other = absurd (omega (arith, three))
-  no_conditions (a ∷ b ∷ e ∷ []) y three second other = conditions_none (tree_of a) (tree_of b) (tree_of e) (other ∙ ap (λ t. elements_in (tree_of t)) second)
+  no_conditions (a ∷ b ∷ e ∷ []) y three second other = conditions_none (tree_of a) (tree_of b) (tree_of e) (other ∙ ap (λ t. list_elements (tree_of t)) second)
   no_conditions (a ∷ b ∷ e ∷ f ∷ fs) y three second other = absurd (omega (arith, three))
 
-  pub no_body : {A : Type 0} (xs : List (Term A)) (z : Term A) → length xs ≡ 3 → z ≡ get_or xs 2 z → None ≡ elements_in (tree_of z) → clause_of d (tuple (trees_of xs)) ≡ Err badarg
+  pub no_body : {A : Type 0} (xs : List (Term A)) (z : Term A) → length xs ≡ 3 → z ≡ get_or xs 2 z → None ≡ list_elements (tree_of z) → clause_of d (tuple (trees_of xs)) ≡ Err badarg
   no_body [] z three third other = absurd (omega (arith, three))
   no_body (a ∷ []) z three third other = absurd (omega (arith, three))
   no_body (a ∷ b ∷ []) z three third other = absurd (omega (arith, three))
-  no_body (a ∷ b ∷ e ∷ []) z three third other = body_none (tree_of a) (tree_of b) (tree_of e) (other ∙ ap (λ t. elements_in (tree_of t)) third)
+  no_body (a ∷ b ∷ e ∷ []) z three third other = body_none (tree_of a) (tree_of b) (tree_of e) (other ∙ ap (λ t. list_elements (tree_of t)) third)
   no_body (a ∷ b ∷ e ∷ f ∷ fs) z three third other = absurd (omega (arith, three))
 
   -- ---- the three parts of a clause, read in order
@@ -100,14 +100,14 @@ module _ (d : Dialect) where
 
   -- ---- specifications
 
-  list_is : (t : Tree) (ts : Trees) → Some ts ≡ elements_in t → t ≡ list ts
+  list_is : (t : Tree) (ts : Trees) → Some ts ≡ list_elements t → t ≡ list ts
   list_is (int n) ts e = cc
   list_is (atom s) ts e = cc
   list_is (pid n) ts e = cc
   list_is (tuple us) ts e = cc
   list_is (list us) ts e = cc
 
-  pub spec_read : {A : Type 0} (t : Tree) (xs : List (Term A)) (ks : List Clause) → length xs ≢ 0 → Some (trees_of xs) ≡ elements_in t → clauses_of d (trees_of xs) ≡ Ok ks
+  pub spec_read : {A : Type 0} (t : Tree) (xs : List (Term A)) (ks : List Clause) → length xs ≢ 0 → Some (trees_of xs) ≡ list_elements t → clauses_of d (trees_of xs) ≡ Ok ks
       → spec_of d t ≡ Ok (record { dialect = d; clauses = ks })
   spec_read t [] ks some e read = absurd (some refl)
   spec_read t (x ∷ xs) ks some e read = ap (spec_of d) (list_is t (trees_of (x ∷ xs)) e) ∙ ok_then _ _ ks read

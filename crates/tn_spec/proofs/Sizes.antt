@@ -5,9 +5,9 @@ use Rattle.std.specs.Str.{bytes_eq}
 use Rattle.def_term.specs.Tree.{Tree, int, atom, pid, tuple, list, Trees, none, more, count, size, sum_of_sizes}
 use Rattle.def_term.specs.Names.{Name}
 use Rattle.def_spec.specs.Matching.{Pattern, variable, anything, only_term, in_tuple, in_list, Patterns, no_patterns, and_pattern, occurs}
-use Rattle.def_spec.specs.Expressions.{Dialect, Expr, bound_to, whole_list, all_bound, constant, tuple_of, list_of, Exprs, no_exprs, and_expr, Part, in_condition, in_body}
+use Rattle.def_spec.specs.Expressions.{Dialect, Expr, bound_to, whole_list, all_bound, constant, tuple_of, list_of, Exprs, no_exprs, and_expr, Position, in_condition, in_body}
 use Rattle.def_spec.specs.Outcome.{Clause, Spec}
-use Rattle.def_spec.specs.Reading.{badarg, then_read, AtomKind, a_variable, a_wrong_variable, a_plain_atom, atom_kind, Called, a_function, an_and_also, an_or_else, an_action, named_call, call_of, atom_expr_of_kind, is_constant, only_element, expr_of, exprs_of, pattern_of_kind, pattern_of, patterns_of, head_of_kind, head_of, is_wildcard, clause_of_parts, clause_of, clauses_of, spec_of}
+use Rattle.def_spec.specs.Reading.{badarg, then_read, AtomKind, a_variable, a_wrong_variable, a_plain_atom, atom_kind, Callee, a_function, an_and_also, an_or_else, an_action, named_call, call_of, atom_expr_of_kind, is_constant, only_element, expr_of, exprs_of, pattern_of_kind, pattern_of, patterns_of, head_of_kind, head_of, is_wildcard, clause_of_parts, clause_of, clauses_of, spec_of}
 use Rattle.def_spec.proofs.Reading.{then_ok, read, ok_is}
 use Rattle.tn_spec.specs.Sizes.{pattern_size, patterns_size, expr_size, exprs_size, clause_size, clauses_size, spec_size}
 
@@ -63,13 +63,13 @@ head_small (tuple ts) p h = cc
 
 -- ---- expressions
 
-call_size : (f : Called) (es : Exprs) → expr_size (call_of f es) ≡ 1 + exprs_size es
+call_size : (f : Callee) (es : Exprs) → expr_size (call_of f es) ≡ 1 + exprs_size es
 call_size (a_function f) es = refl
 call_size an_and_also es = refl
 call_size an_or_else es = refl
 call_size (an_action a) es = refl
 
-module _ (d : Dialect) (part : Part) (head : Pattern) where
+module _ (d : Dialect) (part : Position) (head : Pattern) where
   variable_small : (n : ℕ) (e : Expr) (b : Bool) → (if b then Ok (bound_to n) else Err badarg) ≡ Ok e → expr_size e ≤ 1
   variable_small n e true h = subst (λ x. expr_size x ≤ 1) (ok_is (bound_to n) e h) (omega arith)
   variable_small n e false h = cc
@@ -88,7 +88,7 @@ module _ (d : Dialect) (part : Part) (head : Pattern) where
       → (if b then Ok (constant (only_element ts)) else then_read (named_call d part s (count ts)) (λ f. then_read (exprs_of d part head ts) (λ es. Ok (call_of f es)))) ≡ Ok e → expr_size e ≤ 1 + (1 + sum_of_sizes ts)
   tuple_small s ts e true ih h = subst (λ x. expr_size x ≤ 1 + (1 + sum_of_sizes ts)) (ok_is (constant (only_element ts)) e h) (omega arith)
   tuple_small s ts e false ih h =
-      let r : (f : Called) × (named_call d part s (count ts) ≡ Ok f) × (then_read (exprs_of d part head ts) (λ es. Ok (call_of f es)) ≡ Ok e) = then_ok _ _ e h in
+      let r : (f : Callee) × (named_call d part s (count ts) ≡ Ok f) × (then_read (exprs_of d part head ts) (λ es. Ok (call_of f es)) ≡ Ok e) = then_ok _ _ e h in
       let q : (es : Exprs) × (exprs_of d part head ts ≡ Ok es) × (read (call_of r.0 es) ≡ Ok e) = then_ok _ _ e r.2 in
       let within : exprs_size q.0 ≤ sum_of_sizes ts = ih q.0 q.1 in
       let counted : expr_size (call_of r.0 q.0) ≡ 1 + exprs_size q.0 = call_size r.0 q.0 in

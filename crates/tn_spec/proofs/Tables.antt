@@ -5,8 +5,8 @@ use Rattle.std.specs.Str.{bytes_eq}
 use Rattle.std.proofs.lemmas.Slice.Eq.{bytes_eq-Decides}
 use Rattle.std.proofs.lemmas.Bool.Decides.{same_from_decides}
 use Rattle.def_term.specs.Names.{Name}
-use Rattle.def_spec.specs.Reading.{Called, Row, table, found_in}
-use Rattle.tn_spec.specs.Names.{row_of, row_in, tests, of_lists, of_integers, comparisons, others, actions}
+use Rattle.def_spec.specs.Reading.{Callee, Row, table, found_in}
+use Rattle.tn_spec.specs.Names.{row_of, row_in, test_rows, of_lists, integer_rows, comparisons, others, actions}
 
 bytes_eq_sym : (a b : List ℕ) → bytes_eq a b ≡ bytes_eq b a
 bytes_eq_sym a b = same_from_decides (bytes_eq a b) (bytes_eq b a) (bytes_eq-Decides a b) ((λ e. sym ((bytes_eq-Decides b a).0 e)), (λ e. (bytes_eq-Decides b a).1 (sym e)))
@@ -31,7 +31,7 @@ found_is (r ∷ rs) s = ap (λ b. option_map row_of (if b then Some r else found
     go true e = refl
     go false e = e
 
-split : (rs qs : List Row) (s : Name) (os : List (Option (Called × ℕ × Option ℕ))) → row_in qs s ≡ first_of os → row_in (rs ++ qs) s ≡ first_of (row_in rs s ∷ os)
+split : (rs qs : List Row) (s : Name) (os : List (Option (Callee × ℕ × Option ℕ))) → row_in qs s ≡ first_of os → row_in (rs ++ qs) s ≡ first_of (row_in rs s ∷ os)
 split [] qs s os e = e
 split (r ∷ rs) qs s os e = go (bytes_eq s r.name) (split rs qs s os e)
   where
@@ -43,11 +43,11 @@ pub last : {X : Type 0} (o : Option X) → first_of (o ∷ []) ≡ o
 last None = refl
 last (Some x) = refl
 
-pub found_in_parts : (s : Name) → option_map row_of (found_in table s) ≡ first_of (row_in tests s ∷ row_in of_lists s ∷ row_in of_integers s ∷ row_in comparisons s ∷ row_in others s ∷ row_in actions s ∷ [])
+pub found_in_parts : (s : Name) → option_map row_of (found_in table s) ≡ first_of (row_in test_rows s ∷ row_in of_lists s ∷ row_in integer_rows s ∷ row_in comparisons s ∷ row_in others s ∷ row_in actions s ∷ [])
 found_in_parts s =
     found_is table s
-    ∙ split tests (of_lists ++ (of_integers ++ (comparisons ++ (others ++ actions)))) s _
-    (split of_lists (of_integers ++ (comparisons ++ (others ++ actions))) s _
-    (split of_integers (comparisons ++ (others ++ actions)) s _
+    ∙ split test_rows (of_lists ++ (integer_rows ++ (comparisons ++ (others ++ actions)))) s _
+    (split of_lists (integer_rows ++ (comparisons ++ (others ++ actions))) s _
+    (split integer_rows (comparisons ++ (others ++ actions)) s _
     (split comparisons (others ++ actions) s _
     (split others actions s _ (sym (last (row_in actions s)))))))

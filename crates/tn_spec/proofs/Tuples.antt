@@ -6,8 +6,8 @@ use Rattle.std.proofs.lemmas.List.{drop_all, length-drop}
 use Rattle.def_term.specs.Tree.{Tree, atom, tuple, Trees, none, more, count}
 use Rattle.def_term.specs.Names.{Name}
 use Rattle.def_spec.specs.Matching.{Pattern}
-use Rattle.def_spec.specs.Expressions.{Dialect, Part, Expr, constant, tuple_of, Exprs}
-use Rattle.def_spec.specs.Reading.{Reads, then_read, badarg, Called, named_call, call_of, is_constant, only_element, expr_of, exprs_of}
+use Rattle.def_spec.specs.Expressions.{Dialect, Position, Expr, constant, tuple_of, Exprs}
+use Rattle.def_spec.specs.Reading.{Reads, then_read, badarg, Callee, named_call, call_of, is_constant, only_element, expr_of, exprs_of}
 use Rattle.tn_term.specs.Views.{tree_of, trees_of}
 use Rattle.tn_term.specs.declared.term.Term.{Term}
 use Rattle.tn_term.proofs.Trees.{here, count_seen}
@@ -40,7 +40,7 @@ pub one_further : (a b : Bool) (n : ℕ) → b ≡ (a && n == 1) → b ≡ true 
 one_further true b n e so = eqb-true n 1 (sym e ∙ so)
 one_further false b n e so = absurd (cc)
 
-module _ (d : Dialect) (part : Part) (head : Pattern) where
+module _ (d : Dialect) (part : Position) (head : Pattern) where
   pub nested_read : {A : Type 0} (xs ys : List (Term A)) (x : Term A) (es : Exprs) (e : Expr) → length xs ≡ 1 → x ≡ get_or xs 0 x → tree_of x ≡ tuple (trees_of ys)
       → exprs_of d part head (trees_of ys) ≡ Ok es → e ≡ tuple_of es → expr_of d part head (tuple (trees_of xs)) ≡ Ok e
   nested_read xs ys x es e one is same read whole =
@@ -75,14 +75,14 @@ module _ (d : Dialect) (part : Part) (head : Pattern) where
   unnamed s ts n e not_so counted fault =
       subst (λ r. IsFaultOf r e) (sym (call_is s ts not_so)) (fault_then _ _ e (subst (λ m. IsFaultOf (named_call d part s m) e) counted fault))
 
-  named : (s : Name) (ts : Trees) (n : ℕ) (f : Called) → is_constant s ts ≡ false → n ≡ count ts → named_call d part s n ≡ Ok f → expr_of d part head (tuple (more (atom s) ts)) ≡ then_read (exprs_of d part head ts) (λ es. Ok (call_of f es))
+  named : (s : Name) (ts : Trees) (n : ℕ) (f : Callee) → is_constant s ts ≡ false → n ≡ count ts → named_call d part s n ≡ Ok f → expr_of d part head (tuple (more (atom s) ts)) ≡ then_read (exprs_of d part head ts) (λ es. Ok (call_of f es))
   named s ts n f not_so counted found = call_is s ts not_so ∙ ok_then _ _ f (ap (named_call d part s) (sym counted) ∙ found)
 
-  pub call_fails : {A : Type 0} (s : Name) (ts : Trees) (n : ℕ) (f : Called) (e : SpecFault A) → is_constant s ts ≡ false → n ≡ count ts → named_call d part s n ≡ Ok f → IsFaultOf (exprs_of d part head ts) e
+  pub call_fails : {A : Type 0} (s : Name) (ts : Trees) (n : ℕ) (f : Callee) (e : SpecFault A) → is_constant s ts ≡ false → n ≡ count ts → named_call d part s n ≡ Ok f → IsFaultOf (exprs_of d part head ts) e
       → IsFaultOf (expr_of d part head (tuple (more (atom s) ts))) e
   call_fails s ts n f e not_so counted found fault = subst (λ r. IsFaultOf r e) (sym (named s ts n f not_so counted found)) (fault_then _ _ e fault)
 
-  pub call_read : (s : Name) (ts : Trees) (n : ℕ) (f : Called) (es : Exprs) (e : Expr) → is_constant s ts ≡ false → n ≡ count ts → named_call d part s n ≡ Ok f → exprs_of d part head ts ≡ Ok es → e ≡ call_of f es
+  pub call_read : (s : Name) (ts : Trees) (n : ℕ) (f : Callee) (es : Exprs) (e : Expr) → is_constant s ts ≡ false → n ≡ count ts → named_call d part s n ≡ Ok f → exprs_of d part head ts ≡ Ok es → e ≡ call_of f es
       → expr_of d part head (tuple (more (atom s) ts)) ≡ Ok e
   call_read s ts n f es e not_so counted found read is = named s ts n f not_so counted found ∙ ok_then _ _ es read ∙ ap Ok (sym is)
 

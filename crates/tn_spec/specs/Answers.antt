@@ -23,6 +23,6 @@ each_read f [] = Ok []
 each_read f (t ∷ ts) = then_read (f t) (λ z. then_read (each_read f ts) (λ zs. Ok (z ∷ zs)))
 
 -- the elements of a list
-abbrev pub elements_in : Tree → Option Trees
-elements_in (list ts) = Some ts
-elements_in _ = None
+abbrev pub list_elements : Tree → Option Trees
+list_elements (list ts) = Some ts
+list_elements _ = None

@@ -10,14 +10,14 @@ use Rattle.def_spec.specs.Reading as reading
 use Rattle.def_spec.specs.Reading.{Reads, expr_of, exprs_of, clause_of_parts, spec_of}
 use Rattle.tn_term.specs.declared.term.Term.{Term}
 use Rattle.tn_term.specs.Views.{tree_of, trees_of}
-use Rattle.tn_spec.specs.declared.called.Part.{Part}
+use Rattle.tn_spec.specs.declared.callee.Position.{Position}
 use Rattle.tn_spec.specs.declared.fault.SpecFault.{SpecFault}
 use Rattle.tn_spec.specs.declared.fault.SpecFault.TheVariants.{Badarg, Unsupported, TooLarge, OutOfMemory}
 use Rattle.tn_spec.specs.declared.func.Dialect.{Dialect}
 use Rattle.tn_spec.specs.declared.pattern.Head.{Head}
 use Rattle.tn_spec.specs.declared.spec.Spec.{Spec}
 use Rattle.tn_spec.specs.declared.variables.Variables.{Variables}
-use Rattle.tn_spec.specs.Names.{part_seen}
+use Rattle.tn_spec.specs.Names.{position_seen}
 use Rattle.tn_spec.specs.Views.{dialect_of, head_seen}
 use Rattle.tn_spec.specs.Wholes.{spec_seen}
 
@@ -26,20 +26,20 @@ abbrev pub head_in : {A : Type 0} → Variables A → Pattern
 head_in v = head_seen v.head.now
 
 -- the expression that a tree is in that part of a clause with this head
-abbrev pub expr_in : {A : Type 0} → Dialect → Part → Variables A → Tree → Reads Expr
-expr_in d part head t = expr_of (dialect_of d) (part_seen part) (head_in head) t
+abbrev pub expr_in : {A : Type 0} → Dialect → Position → Variables A → Tree → Reads Expr
+expr_in d part head t = expr_of (dialect_of d) (position_seen part) (head_in head) t
 
--- that of a tuple of this name and the terms behind the first
-abbrev pub call_in : {A : Type 0} → Dialect → Part → Variables A → Name → Vec (Term A) A → Reads Expr
-call_in d part head name v = expr_in d part head (tuple (more (atom name) (trees_of (drop 1 v.items))))
+-- that of a tuple of this name and the terms after the first
+abbrev pub call_reads : {A : Type 0} → Dialect → Position → Variables A → Name → Vec (Term A) A → Reads Expr
+call_reads d part head name v = expr_in d part head (tuple (more (atom name) (trees_of (drop 1 v.items))))
 
 -- those of the terms from that place on
-abbrev pub exprs_in : {A : Type 0} → Dialect → Part → Variables A → Vec (Term A) A → ℕ → Reads Exprs
-exprs_in d part head v from = exprs_of (dialect_of d) (part_seen part) (head_in head) (trees_of (drop from v.items))
+abbrev pub exprs_in : {A : Type 0} → Dialect → Position → Variables A → Vec (Term A) A → ℕ → Reads Exprs
+exprs_in d part head v from = exprs_of (dialect_of d) (position_seen part) (head_in head) (trees_of (drop from v.items))
 
 -- those of the terms in that part of a clause with this head
-abbrev pub part_in : {A : Type 0} → Dialect → Part → Head A → Vec (Term A) A → Reads Exprs
-part_in d part head v = exprs_of (dialect_of d) (part_seen part) (head_seen head) (trees_of v.items)
+abbrev pub part_in : {A : Type 0} → Dialect → Position → Head A → Vec (Term A) A → Reads Exprs
+part_in d part head v = exprs_of (dialect_of d) (position_seen part) (head_seen head) (trees_of v.items)
 
 -- the clause of a head, conditions and a body
 abbrev pub clause_in : {A : Type 0} → Dialect → Term A → Vec (Term A) A → Vec (Term A) A → Reads outcome.Clause

@@ -8,14 +8,14 @@ IsTableOf p table = (n : ℕ) → n ≤ 999 → get_or table n false ≡ occurs 
 
 -- the table with the places of the pattern's variables true
 abbrev mutual
-  pub marked : Pattern → List Bool → List Bool
-  marked (variable n) bs = set bs n true
-  marked anything bs = bs
-  marked (only_term t) bs = bs
-  marked (in_tuple ps) bs = marked_all ps bs
-  marked (in_list ps) bs = marked_all ps bs
+  pub mark_variables : Pattern → List Bool → List Bool
+  mark_variables (variable n) bs = set bs n true
+  mark_variables anything bs = bs
+  mark_variables (only_term t) bs = bs
+  mark_variables (in_tuple ps) bs = marked_all ps bs
+  mark_variables (in_list ps) bs = marked_all ps bs
 
   -- those of several patterns
   pub marked_all : Patterns → List Bool → List Bool
   marked_all no_patterns bs = bs
-  marked_all (and_pattern p ps) bs = marked_all ps (marked p bs)
+  marked_all (and_pattern p ps) bs = marked_all ps (mark_variables p bs)

@@ -4,11 +4,11 @@ ghost use Rattle.std.specs.Option.{option_map};
 ghost use Rattle.def_term.specs.Tree.{tuple};
 ghost use Rattle.def_spec.specs.Reading.{clause_of, clauses_of};
 ghost use Rattle.tn_term.specs.Views.{tree_of, trees_of};
-ghost use Rattle.tn_spec.specs.Answers.{IsRead, elements_in};
+ghost use Rattle.tn_spec.specs.Answers.{IsRead, list_elements};
 ghost use Rattle.tn_spec.specs.Readings.{IsSpecRead, AgreesWithSize, clause_in};
 ghost use Rattle.tn_spec.specs.Views.{dialect_of, clause_seen, clause_list};
 
-use crate::called::Part;
+use crate::callee::Position;
 use crate::exprs::exprs_of;
 use crate::fault::SpecFault;
 use crate::func::Dialect;
@@ -22,7 +22,7 @@ const LARGEST: u64 = 4_294_967_295;
 
 /// The elements, where the term is a list.
 fn elements<A: Allocator>(term: &Term<A>) -> Option<&Vec<Term<A>, A>>
-    ensures { option_map (λ v. trees_of v.now.items) result ≡ elements_in (tree_of term.now) }
+    ensures { option_map (λ v. trees_of v.now.items) result ≡ list_elements (tree_of term.now) }
 {
     match term {
         Term::List(v) => Some(v),
@@ -41,8 +41,8 @@ fn clause_of_three<A: Allocator + Copy>(
     ensures { IsRead clause_seen (clause_in dialect term.now conditions.now body.now) result }
 {
     let head = head(alloc, term)?;
-    let conditions = exprs_of(alloc, conditions, dialect, Part::Condition, &head)?;
-    let body = exprs_of(alloc, body, dialect, Part::Body, &head)?;
+    let conditions = exprs_of(alloc, conditions, dialect, Position::Condition, &head)?;
+    let body = exprs_of(alloc, body, dialect, Position::Body, &head)?;
     Ok(Clause {
         head,
         conditions,

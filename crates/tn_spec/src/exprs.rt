@@ -7,16 +7,16 @@ ghost use Rattle.def_spec.specs.Matching.{Pattern};
 ghost use Rattle.tn_term.specs.Views.{tree_of, trees_of};
 ghost use Rattle.tn_spec.specs.Answers.{IsRead};
 ghost use Rattle.tn_spec.specs.Names.{called_seen};
-ghost use Rattle.tn_spec.specs.Readings.{head_in, expr_in, call_in, exprs_in, part_in};
+ghost use Rattle.tn_spec.specs.Readings.{head_in, expr_in, call_reads, exprs_in, part_in};
 ghost use Rattle.tn_spec.specs.Views.{expr_seen, expr_list};
 
-use crate::called::{Part, called};
+use crate::callee::{Position, callee_of};
 use crate::expr::Expr;
 use crate::fault::SpecFault;
 use crate::func::Dialect;
 use crate::names::{AtomKind, kind_of};
 use crate::pattern::Head;
-use crate::table::Called;
+use crate::table::Callee;
 use crate::variables::Variables;
 use std::alloc::Allocator;
 use tn_term::{Atom, Term};
@@ -54,14 +54,14 @@ fn atom_expr<A: Allocator>(
 }
 
 /// The call with these arguments.
-fn call<A: Allocator>(called: Called, args: Vec<Expr<A>, A>) -> Expr<A>
+fn call<A: Allocator>(called: Callee, args: Vec<Expr<A>, A>) -> Expr<A>
     ensures { expr_seen result ≡ call_of (called_seen called) (expr_list args) }
 {
     match called {
-        Called::Func(func) => Expr::Call(func, args),
-        Called::AndAlso => Expr::AndAlso(args),
-        Called::OrElse => Expr::OrElse(args),
-        Called::Action(action) => Expr::Perform(action, args),
+        Callee::Func(func) => Expr::Call(func, args),
+        Callee::AndAlso => Expr::AndAlso(args),
+        Callee::OrElse => Expr::OrElse(args),
+        Callee::Action(action) => Expr::Perform(action, args),
     }
 }
 
@@ -78,7 +78,7 @@ fn expr<A: Allocator + Copy>(
     alloc: A,
     term: &Term<A>,
     dialect: Dialect,
-    part: Part,
+    part: Position,
     head: &Variables<'_, A>,
 ) -> Result<Expr<A>, SpecFault<A>>
     ensures { IsRead expr_seen (expr_in dialect part head.now (tree_of term.now)) result }
@@ -98,7 +98,7 @@ fn tuple_expr<A: Allocator + Copy>(
     alloc: A,
     terms: &Vec<Term<A>, A>,
     dialect: Dialect,
-    part: Part,
+    part: Position,
     head: &Variables<'_, A>,
 ) -> Result<Expr<A>, SpecFault<A>>
     ensures { IsRead expr_seen (expr_in dialect part head.now (tuple (trees_of terms.now.items))) result }
@@ -126,17 +126,17 @@ fn call_expr<A: Allocator + Copy>(
     terms: &Vec<Term<A>, A>,
     name: &Atom<A>,
     dialect: Dialect,
-    part: Part,
+    part: Position,
     head: &Variables<'_, A>,
 ) -> Result<Expr<A>, SpecFault<A>>
     requires { 0 < length terms.now.items }
-    ensures { IsRead expr_seen (call_in dialect part head.now name.now terms.now) result }
+    ensures { IsRead expr_seen (call_reads dialect part head.now name.now terms.now) result }
 {
     let args = terms.len() - 1;
     if is_const(name.text(), args) {
         return Ok(Expr::Constant(terms[1].copy_into(alloc)?));
     }
-    let called = called(alloc, dialect, part, name, args)?;
+    let called = callee_of(alloc, dialect, part, name, args)?;
     let args = exprs(alloc, terms, 1, dialect, part, head)?;
     Ok(call(called, args))
 }
@@ -146,7 +146,7 @@ pub fn exprs_of<A: Allocator + Copy>(
     alloc: A,
     terms: &Vec<Term<A>, A>,
     dialect: Dialect,
-    part: Part,
+    part: Position,
     head: &Head<A>,
 ) -> Result<Vec<Expr<A>, A>, SpecFault<A>>
     ensures { IsRead expr_list (part_in dialect part head.now terms.now) result }
@@ -162,7 +162,7 @@ fn exprs<A: Allocator + Copy>(
     terms: &Vec<Term<A>, A>,
     from: usize,
     dialect: Dialect,
-    part: Part,
+    part: Position,
     head: &Variables<'_, A>,
 ) -> Result<Vec<Expr<A>, A>, SpecFault<A>>
     ensures { IsRead expr_list (exprs_in dialect part head.now terms.now from) result }

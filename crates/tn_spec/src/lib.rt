@@ -1,10 +1,10 @@
 //! Match specifications, read from terms.
 //!
-//! Stands on tn_term and on the definitions of def_spec. Promises that `spec_of` answers exactly the
+//! Depends on tn_term and on the definitions of def_spec. Promises that `spec_of` answers exactly the
 //! specification that a term spells in a dialect, or its first fault.
 #![tactic(auto)]
 
-mod called;
+mod callee;
 mod clauses;
 mod expr;
 mod exprs;

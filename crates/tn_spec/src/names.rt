@@ -4,7 +4,7 @@ ghost use Rattle.std.specs.Str.{bytes_eq};
 ghost use Rattle.def_term.specs.Text.{number_after};
 ghost use Rattle.def_spec.specs.Reading.{all_digits, is_dollar_number, is_plain_number};
 ghost use Rattle.def_spec.specs.Reading.{atom_kind, is_wildcard};
-ghost use Rattle.tn_spec.specs.Names.{IsNumbered, kind_seen};
+ghost use Rattle.tn_spec.specs.Names.{IsNumbered, atom_kind_seen};
 
 /// What an atom is in a head or an expression.
 #[derive(Clone, Copy)]
@@ -64,7 +64,7 @@ fn number(digits: &[u8]) -> u16
 
 /// What an atom of this text is.
 pub fn kind_of(text: &str) -> AtomKind
-    ensures seen { kind_seen result ≡ atom_kind text.now }
+    ensures seen { atom_kind_seen result ≡ atom_kind text.now }
     ensures numbered { IsNumbered result }
 {
     let bytes = text.as_bytes();

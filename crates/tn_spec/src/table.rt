@@ -4,13 +4,13 @@ ghost use Rattle.std.specs.Option.{option_map};
 ghost use Rattle.def_term.specs.Text.{is_among};
 ghost use Rattle.def_spec.specs.Reading.{table, unsupported_names, found_in};
 ghost use Rattle.tn_spec.specs.Names.{row_seen, row_of, row_in};
-ghost use Rattle.tn_spec.specs.Names.{tests, of_lists, of_integers, comparisons, others, actions};
+ghost use Rattle.tn_spec.specs.Names.{test_rows, of_lists, integer_rows, comparisons, others, actions};
 
 use crate::func::{Action, Func};
 
 /// What a name calls.
 #[derive(Clone, Copy)]
-pub enum Called {
+pub enum Callee {
     Func(Func),
     AndAlso,
     OrElse,
@@ -20,13 +20,13 @@ pub enum Called {
 /// What a name calls, and the least and the greatest number of its arguments, where there is a greatest.
 #[derive(Clone, Copy)]
 pub struct Row {
-    pub called: Called,
+    pub called: Callee,
     pub least: usize,
     pub most: Option<usize>,
 }
 
 /// What is called with so many arguments.
-fn taking(called: Called, least: usize, most: Option<usize>) -> Option<Row>
+fn row_of(called: Callee, least: usize, most: Option<usize>) -> Option<Row>
     ensures { result ≡ Some (record { called = called; least = least; most = most }) }
 {
     Some(Row {
@@ -38,14 +38,14 @@ fn taking(called: Called, least: usize, most: Option<usize>) -> Option<Row>
 
 /// A function of so many arguments.
 fn function(func: Func, args: usize) -> Option<Row>
-    ensures { result ≡ Some (record { called = Called.Func func; least = args; most = Some args }) }
+    ensures { result ≡ Some (record { called = Callee.Func func; least = args; most = Some args }) }
 {
-    taking(Called::Func(func), args, Some(args))
+    row_of(Callee::Func(func), args, Some(args))
 }
 
 /// A test of the kind of a term.
 fn test(text: &str) -> Option<Row>
-    ensures { option_map row_seen result ≡ row_in tests text.now }
+    ensures { option_map row_seen result ≡ row_in test_rows text.now }
 {
     match text {
         "is_atom" => function(Func::IsAtom, 1),
@@ -83,7 +83,7 @@ fn of_list(text: &str) -> Option<Row>
 
 /// A function of integers.
 fn of_integer(text: &str) -> Option<Row>
-    ensures { option_map row_seen result ≡ row_in of_integers text.now }
+    ensures { option_map row_seen result ≡ row_in integer_rows text.now }
 {
     match text {
         "abs" => function(Func::Absolute, 1),
@@ -123,11 +123,11 @@ fn other(text: &str) -> Option<Row>
 {
     match text {
         "self" => function(Func::OwnPid, 0),
-        "node" => taking(Called::Func(Func::OwnNode), 0, Some(1)),
-        "and" => taking(Called::Func(Func::AllOf), 1, None),
-        "or" => taking(Called::Func(Func::OneOf), 1, None),
-        "andalso" => taking(Called::AndAlso, 1, None),
-        "orelse" => taking(Called::OrElse, 1, None),
+        "node" => row_of(Callee::Func(Func::OwnNode), 0, Some(1)),
+        "and" => row_of(Callee::Func(Func::AllOf), 1, None),
+        "or" => row_of(Callee::Func(Func::OneOf), 1, None),
+        "andalso" => row_of(Callee::AndAlso, 1, None),
+        "orelse" => row_of(Callee::OrElse, 1, None),
         "xor" => function(Func::JustOneOf, 2),
         "not" => function(Func::IsFalse, 1),
         _ => None,
@@ -139,14 +139,14 @@ fn action(text: &str) -> Option<Row>
     ensures { option_map row_seen result ≡ row_in actions text.now }
 {
     match text {
-        "message" => taking(Called::Action(Action::Message), 1, Some(1)),
-        "return_trace" => taking(Called::Action(Action::ReturnTrace), 0, Some(0)),
-        "exception_trace" => taking(Called::Action(Action::ExceptionTrace), 0, Some(0)),
-        "silent" => taking(Called::Action(Action::Silent), 1, Some(1)),
-        "enable_trace" => taking(Called::Action(Action::EnableTrace), 1, Some(2)),
-        "disable_trace" => taking(Called::Action(Action::DisableTrace), 1, Some(2)),
-        "trace" => taking(Called::Action(Action::Trace), 2, Some(3)),
-        "caller" => taking(Called::Action(Action::Caller), 0, Some(0)),
+        "message" => row_of(Callee::Action(Action::Message), 1, Some(1)),
+        "return_trace" => row_of(Callee::Action(Action::ReturnTrace), 0, Some(0)),
+        "exception_trace" => row_of(Callee::Action(Action::ExceptionTrace), 0, Some(0)),
+        "silent" => row_of(Callee::Action(Action::Silent), 1, Some(1)),
+        "enable_trace" => row_of(Callee::Action(Action::EnableTrace), 1, Some(2)),
+        "disable_trace" => row_of(Callee::Action(Action::DisableTrace), 1, Some(2)),
+        "trace" => row_of(Callee::Action(Action::Trace), 2, Some(3)),
+        "caller" => row_of(Callee::Action(Action::Caller), 0, Some(0)),
         _ => None,
     }
 }

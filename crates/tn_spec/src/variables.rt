@@ -2,7 +2,7 @@
 ghost use Rattle.std.specs.Prelude.{◌≡◌, ◌≤◌};
 ghost use Rattle.def_spec.specs.Matching.{occurs};
 ghost use Rattle.def_spec.specs.Matching as matching;
-ghost use Rattle.tn_spec.specs.Variables.{IsTableOf, marked, marked_all};
+ghost use Rattle.tn_spec.specs.Variables.{IsTableOf, mark_variables, marked_all};
 ghost use Rattle.tn_spec.specs.Views.{pattern_seen, pattern_list, head_seen};
 
 use crate::pattern::{Head, Pattern};
@@ -41,7 +41,7 @@ impl<'a, A: Allocator> Variables<'a, A> {
 
 /// Marks one variable; no variable has a number past the table.
 fn mark_one(n: u16, table: &mut [bool; 1000])
-    ensures { table.new ≡ marked (matching.variable n) table.old }
+    ensures { table.new ≡ mark_variables (matching.variable n) table.old }
 {
     let place = usize::from(n);
     if place < table.len() {
@@ -52,7 +52,7 @@ fn mark_one(n: u16, table: &mut [bool; 1000])
 /// Marks the variables of a pattern.
 #[cycle(mark)]
 fn mark<A: Allocator>(pattern: &Pattern<A>, table: &mut [bool; 1000])
-    ensures { table.new ≡ marked (pattern_seen pattern.now) table.old }
+    ensures { table.new ≡ mark_variables (pattern_seen pattern.now) table.old }
 {
     match pattern {
         Pattern::Variable(n) => mark_one(*n, table),

@@ -18,7 +18,7 @@ count_seen f (x ∷ xs) = omega (arith, count_seen f xs)
 pub same_length : {X Y : Type 0} (f : X → Tree) (h : Y → Tree) (xs : List X) (ys : List Y) → seen f xs ≡ seen h ys → length xs ≡ length ys
 same_length f h xs ys e = sym (count_seen f xs) ∙ ap count e ∙ count_seen h ys
 
--- the element at i, and those behind it
+-- the element at i, and those after it
 pub here : {X : Type 0} (f : X → Tree) (xs : List X) (i : ℕ) (x : X) → i < length xs → x ≡ get_or xs i x → seen f (drop i xs) ≡ more (f x) (seen f (drop (i + 1) xs))
 here f xs i x below is = ap (seen f) (drop_more xs i x below) ∙ ap (λ z. more (f z) (seen f (drop (i + 1) xs))) (sym is)
 

@@ -1,15 +1,15 @@
 //! Terms: integers, atoms, pids, tuples and lists, in any allocator; their order, depth and size; the
 //! names of functions; the set of living pids.
 //!
-//! Stands on def_term. Promises that a term is its tree: a copy in any allocator has the same tree,
+//! Depends on def_term. Promises that a term is its tree: a copy in any allocator has the same tree,
 //! `same` is equality of trees and `order` their order, across allocators, and `depth` and `size` are
 //! theirs; an atom is at most 255 characters 32 to 126.
 #![tactic(auto)]
 
 mod alive;
 mod atom;
+mod atom_const;
 mod compare;
-mod known;
 mod measure;
 mod mfa;
 mod term;

@@ -11,24 +11,24 @@ use Rattle.def_text.specs.Reading.{inside, first, next, put, most, open_at, clos
 use Rattle.tn_text.specs.declared.stack.Bracket.{Bracket}
 use Rattle.tn_text.specs.declared.stack.Bracket.TheVariants.{Brace, Square}
 use Rattle.tn_text.specs.declared.stack.Frame.{Frame}
-use Rattle.tn_text.specs.Stack.{bracket_of, frame_of, frames_onto, frames_of}
+use Rattle.tn_text.specs.Stack.{bracket_of, open_frame_of, frames_onto, frames_of}
 
-frames_onto_push : {A : Type 0} (vs : List (Frame A)) (v : Frame A) (stack : List reading.Frame) → frames_onto (vs ++ v ∷ []) stack ≡ frame_of v ∷ frames_onto vs stack
+frames_onto_push : {A : Type 0} (vs : List (Frame A)) (v : Frame A) (stack : List reading.OpenFrame) → frames_onto (vs ++ v ∷ []) stack ≡ open_frame_of v ∷ frames_onto vs stack
 frames_onto_push [] v stack = refl
-frames_onto_push (x ∷ vs) v stack = frames_onto_push vs v (frame_of x ∷ stack)
+frames_onto_push (x ∷ vs) v stack = frames_onto_push vs v (open_frame_of x ∷ stack)
 
 -- of a vector that is another with one more at its end
-pub frames_push : {A : Type 0} (all vs : List (Frame A)) (v : Frame A) → all ≡ vs ++ v ∷ [] → frames_of all ≡ frame_of v ∷ frames_of vs
+pub frames_push : {A : Type 0} (all vs : List (Frame A)) (v : Frame A) → all ≡ vs ++ v ∷ [] → frames_of all ≡ open_frame_of v ∷ frames_of vs
 frames_push all vs v e = ap frames_of e ∙ frames_onto_push vs v []
 
-frames_onto_length : {A : Type 0} (vs : List (Frame A)) (stack : List reading.Frame) → length (frames_onto vs stack) ≡ length vs + length stack
+frames_onto_length : {A : Type 0} (vs : List (Frame A)) (stack : List reading.OpenFrame) → length (frames_onto vs stack) ≡ length vs + length stack
 frames_onto_length [] stack = omega arith
-frames_onto_length (v ∷ vs) stack = omega (arith, frames_onto_length vs (frame_of v ∷ stack))
+frames_onto_length (v ∷ vs) stack = omega (arith, frames_onto_length vs (open_frame_of v ∷ stack))
 
 pub frames_length : {A : Type 0} (vs : List (Frame A)) → length (frames_of vs) ≡ length vs
 frames_length vs = omega (arith, frames_onto_length vs [])
 
-pub shut : (limit : ℕ) (b : reading.Bracket) (fs : List reading.Frame) → limit ≤ length fs → open_at limit b fs ≡ Err too_deep
+pub shut : (limit : ℕ) (b : reading.Bracket) (fs : List reading.OpenFrame) → limit ≤ length fs → open_at limit b fs ≡ Err too_deep
 shut limit b fs h = ap (λ c. cond c (Ok (inside first (reading.frame b [] ∷ fs))) (Err too_deep)) (le-ltb (length fs) limit h)
 
 -- the innermost, of that bracket

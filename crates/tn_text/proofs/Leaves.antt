@@ -12,28 +12,28 @@ use Rattle.def_term.specs.Atoms.{IsAtomText}
 use Rattle.tn_term.specs.declared.term.Term.{Term, List as ListOf}
 use Rattle.tn_term.specs.Views.{tree_of}
 use Rattle.tn_term.proofs.Views.{tree_of_list}
-use Rattle.def_text.specs.Tokens.{all_are, is_printable, quoted, escaped_in, IsQuoted}
+use Rattle.def_text.specs.Tokens.{all_are, is_printable, in_quotes, escaped_in, IsQuoted}
 use Rattle.def_text.specs.Grammar.{of_codes}
 use Rattle.def_text.specs.Limits.{sizes_fit, all_sizes_fit}
 use Rattle.def_text.specs.Faults.{too_deep, too_large}
-use Rattle.def_text.specs.Reading.{Frame, put, leaf_at}
-use Rattle.def_text.specs.Scan.{unescaped}
+use Rattle.def_text.specs.Reading.{OpenFrame, put, leaf_at}
+use Rattle.def_text.specs.Scan.{unescape}
 use Rattle.def_text.proofs.Steps.{stands}
 use Rattle.def_text.proofs.Unique.{unescaped_is}
 use Rattle.tn_text.specs.declared.stack.Progress.{Progress}
 use Rattle.tn_text.specs.declared.stack.StepError.{StepError}
-use Rattle.tn_text.specs.Stack.{Steps}
+use Rattle.tn_text.specs.Stack.{StepsReading}
 use Rattle.tn_text.specs.Values.{inner}
 
 -- the term stands, or is refused
-pub fits_here : {A : Type 0} (r : Result (Progress A) StepError) (t : Tree) (fs : List Frame) → length fs + depth t ≤ 32 → sizes_fit t ≡ true → Steps r (Ok (put t fs)) → Steps r (leaf_at 32 true t fs)
-fits_here r t fs nests sizes h = subst (Steps r) (sym (stands 32 true t fs nests sizes)) h
+pub fits_here : {A : Type 0} (r : Result (Progress A) StepError) (t : Tree) (fs : List OpenFrame) → length fs + depth t ≤ 32 → sizes_fit t ≡ true → StepsReading r (Ok (put t fs)) → StepsReading r (leaf_at 32 true t fs)
+fits_here r t fs nests sizes h = subst (StepsReading r) (sym (stands 32 true t fs nests sizes)) h
 
-pub large_here : (t : Tree) (fs : List Frame) → length fs + depth t ≤ 32 → sizes_fit t ≡ false → leaf_at 32 true t fs ≡ Err too_large
+pub large_here : (t : Tree) (fs : List OpenFrame) → length fs + depth t ≤ 32 → sizes_fit t ≡ false → leaf_at 32 true t fs ≡ Err too_large
 large_here t fs nests sizes =
     ap (λ c. cond c (cond (sizes_fit t) (Ok (put t fs)) (Err too_large)) (Err too_deep)) (le-leb (length fs + depth t) 32 nests) ∙ ap (λ c. cond c (Ok (put t fs)) (Err too_large)) sizes
 
-pub deep_here : (t : Tree) (fs : List Frame) → 32 < length fs + depth t → leaf_at 32 true t fs ≡ Err too_deep
+pub deep_here : (t : Tree) (fs : List OpenFrame) → 32 < length fs + depth t → leaf_at 32 true t fs ≡ Err too_deep
 deep_here t fs deep = ap (λ c. cond c (cond (sizes_fit t) (Ok (put t fs)) (Err too_large)) (Err too_deep)) (lt-leb (length fs + depth t) 32 deep)
 
 -- printable characters are text
@@ -74,14 +74,14 @@ codes_seen [] = refl
 codes_seen (c ∷ s) = ap (more (int (pos c))) (codes_seen s)
 
 -- the characters between the quotes
-pub content_is : (q : ℕ) (u s : List ℕ) → IsQuoted q u s → unescaped false (inner u) ≡ s
+pub content_is : (q : ℕ) (u s : List ℕ) → IsQuoted q u s → unescape false (inner u) ≡ s
 content_is q u s h =
     let body = flat_map (escaped_in q) s in
     let e = h.text in
-    let size : length u ≡ length (quoted q s) = ap length e in
+    let size : length u ≡ length (in_quotes q s) = ap length e in
     let few : length body ≡ length u - 2 = omega (arith, size, length-append body (q ∷ [])) in
     let between : inner u ≡ body = ap (λ x. take (length u - 2) (drop 1 x)) e ∙ take_at body (q ∷ []) (length u - 2) few in
-    ap (unescaped false) (between ∙ sym (append-nil body)) ∙ unescaped_is q s [] ∙ append-nil s
+    ap (unescape false) (between ∙ sym (append-nil body)) ∙ unescaped_is q s [] ∙ append-nil s
 
 -- one more code
 pub code_more : {A : Type 0} (xs : List ℕ) (i : ℕ) (made new : List (Term A)) (y : Term A) → i < length xs → new ≡ made ++ y ∷ [] → tree_of y ≡ int (pos (get_or xs i 0))
@@ -101,12 +101,12 @@ printable_all (b ∷ s) h =
     let q = and_parts (nat_le 32 b) (nat_le b 126) p.0 in
     All-cons (λ x. (32 ≤ x) × (x ≤ 126)) b s (leb-true 32 b q.0, leb-true b 126 q.1) (printable_all s p.1)
 
-pub atom_large : (s : List ℕ) (fs : List Frame) → length fs ≤ 32 → all_are is_printable s ≡ true → (IsAtomText s → ⊥) → leaf_at 32 true (atom s) fs ≡ Err too_large
+pub atom_large : (s : List ℕ) (fs : List OpenFrame) → length fs ≤ 32 → all_are is_printable s ≡ true → (IsAtomText s → ⊥) → leaf_at 32 true (atom s) fs ≡ Err too_large
 atom_large s fs short printable h = large_here (atom s) fs (omega (arith, short)) (false_from_ne_true (nat_le (length s) 255) (λ e. h (printable_all s printable, leb-true (length s) 255 e)))
 
 -- of the characters between the quotes, whether they are taken as they stand or copied
-pub quoted_here : {A : Type 0} (q : ℕ) (r : Result (Progress A) StepError) (u s codes : List ℕ) (t : List ℕ → Tree) (fs : List Frame) → IsQuoted q u s → codes ≡ unescaped false (inner u)
-    → (all_are is_printable codes ≡ true → Steps r (leaf_at 32 true (t codes) fs)) → Steps r (leaf_at 32 true (t s) fs)
+pub quoted_here : {A : Type 0} (q : ℕ) (r : Result (Progress A) StepError) (u s codes : List ℕ) (t : List ℕ → Tree) (fs : List OpenFrame) → IsQuoted q u s → codes ≡ unescape false (inner u)
+    → (all_are is_printable codes ≡ true → StepsReading r (leaf_at 32 true (t codes) fs)) → StepsReading r (leaf_at 32 true (t s) fs)
 quoted_here q r u s codes t fs h is go =
     let same : codes ≡ s = is ∙ content_is q u s h in
-    subst (λ x. Steps r (leaf_at 32 true (t x) fs)) same (go (subst (λ x. all_are is_printable x ≡ true) (sym same) h.printable))
+    subst (λ x. StepsReading r (leaf_at 32 true (t x) fs)) same (go (subst (λ x. all_are is_printable x ≡ true) (sym same) h.printable))

@@ -1,10 +1,10 @@
 pub mod AsciiWords
 pub mod Listing
 pub mod Numbers
-pub mod Content
+pub mod ContentSteps
 pub mod Frames
 pub mod Leaves
-pub mod Entering
-pub mod Reading
+pub mod TokenKinds
+pub mod TokenReads
 pub mod Scripts
-pub mod Writing
+pub mod Growth

@@ -6,17 +6,17 @@ use Rattle.tn_term.specs.Views.{tree_of}
 use Rattle.tn_text.specs.declared.lexer.Token.{Token}
 use Rattle.tn_text.specs.declared.fault.TextFault.{TextFault}
 use Rattle.tn_text.specs.declared.fault.TextFault.TheVariants.{TooLong, Token as NoToken, TooDeep, TooLarge, OutOfMemory}
-use Rattle.tn_text.specs.Lexing.{AllShown, AllGood}
+use Rattle.tn_text.specs.Lexer.{AllShown, AllGood}
 use Rattle.def_text.specs.Tokens as text
-use Rattle.def_text.specs.Tokens.{Spanned, Tokens}
+use Rattle.def_text.specs.Tokens.{TokenSpan, Tokens}
 use Rattle.def_text.specs.Faults.{misplaced, too_deep, too_large}
 use Rattle.def_text.specs.Scripts.{SpellsTerms, ScriptRefused}
-use Rattle.def_text.specs.Spelling.{LENGTH, Spells, Refused}
+use Rattle.def_text.specs.Spelling.{LENGTH, Spells, IsRefusedAt}
 
 -- the tokens, none of which is bad
-pub record Listed (bytes : List ℕ) (vs : List Token) : Type 0 where
+pub record AreTokens (bytes : List ℕ) (vs : List Token) : Type 0 where
   pub short : length bytes ≤ LENGTH
-  pub tokens : List Spanned
+  pub tokens : List TokenSpan
   pub are : Tokens bytes tokens
   pub good : AllGood tokens
   pub shown : AllShown bytes vs tokens
@@ -24,34 +24,34 @@ pub record Listed (bytes : List ℕ) (vs : List Token) : Type 0 where
 -- the last token is the only bad one, and stands there
 pub record NoTokenAt (bytes : List ℕ) (at : ℕ) : Type 0 where
   pub short : length bytes ≤ LENGTH
-  pub front : List Spanned
-  pub last : Spanned
+  pub front : List TokenSpan
+  pub last : TokenSpan
   pub are : Tokens bytes (front ++ last ∷ [])
   pub good : AllGood front
   pub bad : last.token ≡ text.bad
   pub place : last.from ≡ at
 
 -- the tokens of the text, or the first place where none stands
-abbrev pub IsListed : {A : Type 0} → List ℕ → Result (Vec Token A) TextFault → Type 0
-IsListed bytes (Ok v) = Listed bytes v.items
-IsListed bytes (Err TooLong) = LENGTH < length bytes
-IsListed bytes (Err (NoToken at)) = NoTokenAt bytes at
-IsListed bytes (Err (TooDeep at)) = ⊥
-IsListed bytes (Err (TooLarge at)) = ⊥
-IsListed bytes (Err OutOfMemory) = Unit {0}
+abbrev pub IsTokenList : {A : Type 0} → List ℕ → Result (Vec Token A) TextFault → Type 0
+IsTokenList bytes (Ok v) = AreTokens bytes v.items
+IsTokenList bytes (Err TooLong) = LENGTH < length bytes
+IsTokenList bytes (Err (NoToken at)) = NoTokenAt bytes at
+IsTokenList bytes (Err (TooDeep at)) = ⊥
+IsTokenList bytes (Err (TooLarge at)) = ⊥
+IsTokenList bytes (Err OutOfMemory) = Unit {0}
 
 -- the refusal of a text that is to be one term
-abbrev pub IsRefusal : List ℕ → TextFault → Type 0
-IsRefusal bytes TooLong = LENGTH < length bytes
-IsRefusal bytes (NoToken at) = Refused bytes misplaced at
-IsRefusal bytes (TooDeep at) = Refused bytes too_deep at
-IsRefusal bytes (TooLarge at) = Refused bytes too_large at
-IsRefusal bytes OutOfMemory = Unit {0}
+abbrev pub IsTextRefusal : List ℕ → TextFault → Type 0
+IsTextRefusal bytes TooLong = LENGTH < length bytes
+IsTextRefusal bytes (NoToken at) = IsRefusedAt bytes misplaced at
+IsTextRefusal bytes (TooDeep at) = IsRefusedAt bytes too_deep at
+IsTextRefusal bytes (TooLarge at) = IsRefusedAt bytes too_large at
+IsTextRefusal bytes OutOfMemory = Unit {0}
 
 -- the term that the text spells, or the refusal of the text
-abbrev pub IsRead : {A : Type 0} → List ℕ → Result (Term A) TextFault → Type 0
-IsRead bytes (Ok t) = Spells bytes (tree_of t)
-IsRead bytes (Err fault) = IsRefusal bytes fault
+abbrev pub IsTermRead : {A : Type 0} → List ℕ → Result (Term A) TextFault → Type 0
+IsTermRead bytes (Ok t) = Spells bytes (tree_of t)
+IsTermRead bytes (Err fault) = IsTextRefusal bytes fault
 
 -- the refusal of a text that is to be a script
 abbrev pub IsScriptRefusal : List ℕ → TextFault → Type 0

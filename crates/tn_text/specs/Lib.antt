@@ -1,5 +1,5 @@
 pub mod Kinds
-pub mod Lexing
+pub mod Lexer
 pub mod Values
 pub mod Stack
 pub mod Answers

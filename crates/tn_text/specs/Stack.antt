@@ -5,11 +5,11 @@ use Rattle.def_term.specs.Tree.{Tree}
 use Rattle.tn_term.specs.Views.{tree_of}
 use Rattle.tn_term.specs.declared.term.Term.{Term}
 use Rattle.def_text.specs.Limits.{DEPTH}
-use Rattle.def_text.specs.Faults.{Kind, misplaced, too_deep, too_large, Fault}
+use Rattle.def_text.specs.Faults.{FaultKind, misplaced, too_deep, too_large, Fault}
 use Rattle.def_text.specs.Reading as folds
-use Rattle.def_text.specs.Reading.{State, inside, done}
+use Rattle.def_text.specs.Reading.{ReadState, inside, done}
 use Rattle.def_text.specs.ScriptReading.{ScriptState, reading}
-use Rattle.tn_text.specs.Lexing.{Stood}
+use Rattle.tn_text.specs.Lexer.{StandsAt}
 use Rattle.tn_text.specs.declared.lexer.Token.{Token}
 use Rattle.tn_text.specs.declared.stack.Bracket.{Bracket}
 use Rattle.tn_text.specs.declared.stack.Bracket.TheVariants as brackets
@@ -27,73 +27,73 @@ abbrev pub bracket_of : Bracket → folds.Bracket
 bracket_of brackets.Brace = folds.brace
 bracket_of brackets.Square = folds.bracket
 
-abbrev pub position_of : Position → folds.Position
+abbrev pub position_of : Position → folds.ReadPosition
 position_of positions.First = folds.first
 position_of positions.Next = folds.next
 position_of positions.Behind = folds.behind
 
-abbrev pub frame_of : {A : Type 0} → Frame A → folds.Frame
-frame_of f = folds.frame (bracket_of f.bracket) (map tree_of f.items.items)
+abbrev pub open_frame_of : {A : Type 0} → Frame A → folds.OpenFrame
+open_frame_of f = folds.frame (bracket_of f.bracket) (map tree_of f.items.items)
 
 -- the innermost is the last of the vector, and the first of the stack
-abbrev pub frames_onto : {A : Type 0} → List (Frame A) → List folds.Frame → List folds.Frame
+abbrev pub frames_onto : {A : Type 0} → List (Frame A) → List folds.OpenFrame → List folds.OpenFrame
 frames_onto [] stack = stack
-frames_onto (v ∷ vs) stack = frames_onto vs (frame_of v ∷ stack)
+frames_onto (v ∷ vs) stack = frames_onto vs (open_frame_of v ∷ stack)
 
-abbrev pub frames_of : {A : Type 0} → List (Frame A) → List folds.Frame
+abbrev pub frames_of : {A : Type 0} → List (Frame A) → List folds.OpenFrame
 frames_of vs = frames_onto vs []
 
-abbrev pub state_of : {A : Type 0} → Progress A → State
-state_of (progress.Inside p v) = inside (position_of p) (frames_of v.items)
-state_of (progress.Done t) = done (tree_of t)
+abbrev pub read_state_of : {A : Type 0} → Progress A → ReadState
+read_state_of (progress.Inside p v) = inside (position_of p) (frames_of v.items)
+read_state_of (progress.Done t) = done (tree_of t)
 
 -- no more tuples and lists are open than may nest
-abbrev pub IsShallow : State → Type 0
+abbrev pub IsShallow : ReadState → Type 0
 IsShallow (inside p fs) = length fs ≤ DEPTH
 IsShallow (done t) = Unit {0}
 
 -- the refusal of a step; where memory ran out nothing is said
-abbrev pub IsErrorOf : {S : Type 0} → StepError → Result S Kind → Type 0
+abbrev pub IsErrorOf : {S : Type 0} → StepError → Result S FaultKind → Type 0
 IsErrorOf step_error.OutOfMemory r = Unit {0}
 IsErrorOf step_error.Misplaced r = r ≡ Err misplaced
 IsErrorOf step_error.TooDeep r = r ≡ Err too_deep
 IsErrorOf step_error.TooLarge r = r ≡ Err too_large
 
 -- the step that the definition takes
-abbrev pub Steps : {A : Type 0} → Result (Progress A) StepError → Result State Kind → Type 0
-Steps (Ok p) r = r ≡ Ok (state_of p)
-Steps (Err e) r = IsErrorOf e r
+abbrev pub StepsReading : {A : Type 0} → Result (Progress A) StepError → Result ReadState FaultKind → Type 0
+StepsReading (Ok p) r = r ≡ Ok (read_state_of p)
+StepsReading (Err e) r = IsErrorOf e r
 
 -- the step puts this tree, which one token spells, onto the frames
 abbrev pub Puts : {A : Type 0} → Result (Progress A) StepError → Tree → List (Frame A) → Type 0
-Puts r t vs = Steps r (folds.leaf_at DEPTH true t (frames_of vs))
+Puts r t vs = StepsReading r (folds.leaf_at DEPTH true t (frames_of vs))
 
-abbrev pub fault_of : StepError → ℕ → TextFault
-fault_of step_error.OutOfMemory at = faults.OutOfMemory
-fault_of step_error.Misplaced at = faults.Token at
-fault_of step_error.TooDeep at = faults.TooDeep at
-fault_of step_error.TooLarge at = faults.TooLarge at
+abbrev pub text_fault_of : StepError → ℕ → TextFault
+text_fault_of step_error.OutOfMemory at = faults.OutOfMemory
+text_fault_of step_error.Misplaced at = faults.Token at
+text_fault_of step_error.TooDeep at = faults.TooDeep at
+text_fault_of step_error.TooLarge at = faults.TooLarge at
 
 -- the refusal of the token at that place
-abbrev pub IsFaultOf : {S : Type 0} → TextFault → ℕ → Result S Kind → Type 0
-IsFaultOf faults.TooLong from r = ⊥
-IsFaultOf (faults.Token at) from r = (at ≡ from) × (r ≡ Err misplaced)
-IsFaultOf (faults.TooDeep at) from r = (at ≡ from) × (r ≡ Err too_deep)
-IsFaultOf (faults.TooLarge at) from r = (at ≡ from) × (r ≡ Err too_large)
-IsFaultOf faults.OutOfMemory from r = Unit {0}
+abbrev pub IsStepFaultOf : {S : Type 0} → TextFault → ℕ → Result S FaultKind → Type 0
+IsStepFaultOf faults.TooLong from r = ⊥
+IsStepFaultOf (faults.Token at) from r = (at ≡ from) × (r ≡ Err misplaced)
+IsStepFaultOf (faults.TooDeep at) from r = (at ≡ from) × (r ≡ Err too_deep)
+IsStepFaultOf (faults.TooLarge at) from r = (at ≡ from) × (r ≡ Err too_large)
+IsStepFaultOf faults.OutOfMemory from r = Unit {0}
 
-abbrev pub StepsAt : {A : Type 0} → Result (Progress A) TextFault → ℕ → Result State Kind → Type 0
-StepsAt (Ok p) from r = r ≡ Ok (state_of p)
-StepsAt (Err f) from r = IsFaultOf f from r
+abbrev pub StepsAt : {A : Type 0} → Result (Progress A) TextFault → ℕ → Result ReadState FaultKind → Type 0
+StepsAt (Ok p) from r = r ≡ Ok (read_state_of p)
+StepsAt (Err f) from r = IsStepFaultOf f from r
 
 -- the step that the definition takes with the token that stands there
 abbrev pub TakesToken : {A : Type 0} → Result (Progress A) TextFault → List ℕ → Token → Progress A → Type 0
-TakesToken r bytes v p = (at : ℕ) (s : Stood bytes at v) → StepsAt r v.from (folds.step DEPTH true (state_of p) s.spanned.token)
+TakesToken r bytes v p = (at : ℕ) (s : StandsAt bytes at v) → StepsAt r v.from (folds.step DEPTH true (read_state_of p) s.spanned.token)
 
 -- the same within a script, of which these terms are read
-abbrev pub ScriptStepsAt : {A : Type 0} → Result (Progress A) TextFault → List (Term A) → ℕ → Result ScriptState Kind → Type 0
-ScriptStepsAt (Ok p) terms from r = r ≡ Ok (reading (map tree_of terms) (state_of p))
-ScriptStepsAt (Err f) terms from r = IsFaultOf f from r
+abbrev pub ScriptStepsAt : {A : Type 0} → Result (Progress A) TextFault → List (Term A) → ℕ → Result ScriptState FaultKind → Type 0
+ScriptStepsAt (Ok p) terms from r = r ≡ Ok (reading (map tree_of terms) (read_state_of p))
+ScriptStepsAt (Err f) terms from r = IsStepFaultOf f from r
 
 -- at the end of the text it is only a beginning
 abbrev pub IsBeginning : {S : Type 0} → TextFault → ℕ → Result S Fault → Type 0

@@ -1,7 +1,7 @@
 // All tokens of a text.
 ghost use Rattle.std.specs.Prelude.{◌≤◌, length};
-ghost use Rattle.tn_text.specs.Lexing.{IsNextAt};
-ghost use Rattle.tn_text.specs.Answers.{IsListed};
+ghost use Rattle.tn_text.specs.Lexer.{IsNextAt};
+ghost use Rattle.tn_text.specs.Answers.{IsTokenList};
 
 use crate::fault::TextFault;
 use crate::scan::{Kind, gap_len, next_token};
@@ -11,7 +11,7 @@ use std::alloc::Allocator;
 pub const MAX_TEXT: usize = 1_048_576;
 
 /// A token of a text (own): what it is, and the offsets in bytes of its first byte and of the byte
-/// behind it.
+/// after it.
 #[derive(Clone, Copy, Debug, PartialEq, Eq)]
 pub struct Token {
     pub kind: Kind,
@@ -21,29 +21,29 @@ pub struct Token {
 
 /// What stands next in a text: nothing more, bytes that form no token, or a token.
 #[derive(Clone, Copy)]
-pub enum Found {
+pub enum NextToken {
     End,
     Bad(usize),
     Token(Token),
 }
 
-/// What stands behind the blanks and comments at an offset.
-pub fn next_at(bytes: &[u8], at: usize) -> Found
+/// What stands after the blanks and comments at an offset.
+pub fn next_at(bytes: &[u8], at: usize) -> NextToken
     requires { at ≤ length bytes.now }
     ensures { IsNextAt bytes.now at result }
 {
     let from = at + gap_len(&bytes[at..]);
     let rest = &bytes[from..];
     if rest.is_empty() {
-        return Found::End;
+        return NextToken::End;
     }
     match next_token(rest) {
-        Some((kind, len)) => Found::Token(Token {
+        Some((kind, len)) => NextToken::Token(Token {
             kind,
             from,
             to: from + len,
         }),
-        None => Found::Bad(from),
+        None => NextToken::Bad(from),
     }
 }
 
@@ -51,7 +51,7 @@ pub fn next_at(bytes: &[u8], at: usize) -> Found
 /// with bytes that form no token `Token`, at the first place where none stands; never `TooDeep` or
 /// `TooLarge`. Memory that runs out is `OutOfMemory` and says nothing of the text.
 pub fn tokens<A: Allocator>(alloc: A, bytes: &[u8]) -> Result<Vec<Token, A>, TextFault>
-    ensures { IsListed bytes.now result }
+    ensures { IsTokenList bytes.now result }
 {
     if bytes.len() > MAX_TEXT {
         return Err(TextFault::TooLong);
@@ -60,9 +60,9 @@ pub fn tokens<A: Allocator>(alloc: A, bytes: &[u8]) -> Result<Vec<Token, A>, Tex
     let mut at = 0;
     while at < bytes.len() {
         match next_at(bytes, at) {
-            Found::End => return Ok(found),
-            Found::Bad(at) => return Err(TextFault::Token { at }),
-            Found::Token(token) => {
+            NextToken::End => return Ok(found),
+            NextToken::Bad(at) => return Err(TextFault::Token { at }),
+            NextToken::Token(token) => {
                 if found.push(token).is_err() {
                     return Err(TextFault::OutOfMemory);
                 }

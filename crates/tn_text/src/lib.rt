@@ -1,6 +1,6 @@
 //! The text of terms, read and written.
 //!
-//! Stands on `def_text` (tokens, grammar, limits, refusals) and `tn_term`. Promises: `tokens` gives
+//! Depends on `def_text` (tokens, grammar, limits, refusals) and `tn_term`. Promises: `tokens` gives
 //! exactly the tokens of a text; `read_term` and `read_terms` answer what the text spells, or its
 //! refusal with its place; `write_term` and `write_atom` append the one written text of a term and of an
 //! atom; a `Watched` reader or writer remembers whether a call of it failed.
@@ -11,7 +11,7 @@ mod leaf;
 mod lexer;
 mod name;
 mod reader;
-mod reserved;
+mod reserved_words;
 mod scan;
 mod stack;
 mod value;

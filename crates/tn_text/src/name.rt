@@ -3,7 +3,7 @@ ghost use Rattle.std.specs.Prelude.{◌≡◌, codes, ◌∷◌};
 ghost use Rattle.def_term.specs.Text.{is_among, reserved_words, is_name, is_name_byte};
 ghost use Rattle.def_term.specs.Text.{are_name_bytes, is_written_bare};
 
-use crate::reserved::is_reserved;
+use crate::reserved_words::is_reserved;
 
 /// Whether the byte may follow the first letter of a bare atom.
 pub fn is_name_byte_of(b: u8) -> bool

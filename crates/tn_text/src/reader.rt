@@ -2,19 +2,20 @@
 ghost use Rattle.std.specs.Prelude.{◌≡◌, ℕ, ◌≤◌, List, length, map, Ok, true};
 ghost use Rattle.def_text.specs.Limits.{DEPTH};
 ghost use Rattle.def_text.specs.Tokens.{Token as TextToken, IsToken};
-ghost use Rattle.def_text.specs.Scan.{IsOf};
-ghost use Rattle.def_text.specs.Reading.{inside, next, start, step, finish};
+ghost use Rattle.def_text.specs.Scan.{IsTokenOf};
+ghost use Rattle.def_text.specs.Reading.{inside, next, read_start, step, end_reading};
 ghost use Rattle.def_text.specs.ScriptReading.{reading, script_step, script_end};
 ghost use Rattle.tn_term.specs.Views.{tree_of};
 ghost use Rattle.tn_text.specs.Kinds.{kind_of};
-ghost use Rattle.tn_text.specs.Lexing.{Stood};
-ghost use Rattle.tn_text.specs.Stack.{frames_of, state_of, IsShallow, Steps, fault_of, TakesToken, Finishes};
+ghost use Rattle.tn_text.specs.Lexer.{StandsAt};
+ghost use Rattle.tn_text.specs.Stack.{frames_of, read_state_of, IsShallow, StepsReading};
+ghost use Rattle.tn_text.specs.Stack.{text_fault_of, TakesToken, Finishes};
 ghost use Rattle.tn_text.specs.Stack.{ScriptStepsAt, ScriptFinishes};
-ghost use Rattle.tn_text.specs.Answers.{IsRead, IsReadScript};
+ghost use Rattle.tn_text.specs.Answers.{IsTermRead, IsReadScript};
 
 use crate::fault::TextFault;
 use crate::leaf::{put_atom, put_integer, put_pid, put_quoted, put_string};
-use crate::lexer::{Found, MAX_TEXT, Token, next_at};
+use crate::lexer::{MAX_TEXT, NextToken, Token, next_at};
 use crate::scan::Kind;
 use crate::stack::{Bracket, Frame, Position, Progress, StepError, close, comma, open};
 use std::alloc::Allocator;
@@ -22,7 +23,7 @@ use tn_term::Term;
 
 /// Before the first token of a term.
 fn at_start<A: Allocator>(alloc: A) -> Progress<A>
-    ensures { state_of result ≡ start }
+    ensures { read_state_of result ≡ read_start }
 {
     Progress::Inside(Position::Next, Vec::new(alloc))
 }
@@ -35,8 +36,8 @@ fn enter<A: Allocator + Copy>(
     frames: Vec<Frame<A>, A>,
 ) -> Result<Progress<A>, StepError>
     requires { length (frames_of frames.items) ≤ DEPTH }
-    ensures { (rest : List ℕ) (t : TextToken) → IsToken bytes.now rest t → IsOf (kind_of kind) bytes.now rest t
-        → Steps result (step DEPTH true (inside next (frames_of frames.items)) t) }
+    ensures { (rest : List ℕ) (t : TextToken) → IsToken bytes.now rest t → IsTokenOf (kind_of kind) bytes.now rest t
+        → StepsReading result (step DEPTH true (inside next (frames_of frames.items)) t) }
 {
     match kind {
         Kind::Integer => put_integer(bytes, frames),
@@ -59,9 +60,9 @@ fn step_on<A: Allocator + Copy>(
     bytes: &[u8],
     progress: Progress<A>,
 ) -> Result<Progress<A>, StepError>
-    requires { IsShallow (state_of progress) }
-    ensures { (rest : List ℕ) (t : TextToken) → IsToken bytes.now rest t → IsOf (kind_of kind) bytes.now rest t
-        → Steps result (step DEPTH true (state_of progress) t) }
+    requires { IsShallow (read_state_of progress) }
+    ensures { (rest : List ℕ) (t : TextToken) → IsToken bytes.now rest t → IsTokenOf (kind_of kind) bytes.now rest t
+        → StepsReading result (step DEPTH true (read_state_of progress) t) }
 {
     match progress {
         Progress::Done(_) => Err(StepError::Misplaced),
@@ -82,7 +83,7 @@ fn step_on<A: Allocator + Copy>(
 
 /// The refusal of the token at that place.
 fn fault_at(error: StepError, at: usize) -> TextFault
-    ensures { result ≡ fault_of error at }
+    ensures { result ≡ text_fault_of error at }
 {
     match error {
         StepError::OutOfMemory => TextFault::OutOfMemory,
@@ -101,7 +102,7 @@ fn step_at<A: Allocator + Copy>(
 ) -> Result<Progress<A>, TextFault>
     requires start { token.from ≤ token.to }
     requires end { token.to ≤ length bytes.now }
-    requires shallow { IsShallow (state_of progress) }
+    requires shallow { IsShallow (read_state_of progress) }
     ensures { TakesToken result bytes.now token progress }
 {
     match step_on(alloc, token.kind, &bytes[token.from..token.to], progress) {
@@ -111,8 +112,8 @@ fn step_at<A: Allocator + Copy>(
 }
 
 /// The term, where the tokens end with it.
-fn finished<A: Allocator>(progress: Progress<A>, end: usize) -> Result<Term<A>, TextFault>
-    ensures { Finishes result end (finish (Ok (state_of progress))) }
+fn finish<A: Allocator>(progress: Progress<A>, end: usize) -> Result<Term<A>, TextFault>
+    ensures { Finishes result end (end_reading (Ok (read_state_of progress))) }
 {
     match progress {
         Progress::Done(term) => Ok(term),
@@ -126,7 +127,7 @@ fn finished<A: Allocator>(progress: Progress<A>, end: usize) -> Result<Term<A>, 
 /// answers refusal 1 to 4, with the offset of the refused token or the text's length; memory that
 /// runs out is `OutOfMemory` and says nothing of the text.
 pub fn read_term<A: Allocator + Copy>(alloc: A, bytes: &[u8]) -> Result<Term<A>, TextFault>
-    ensures { IsRead bytes.now result }
+    ensures { IsTermRead bytes.now result }
 {
     if bytes.len() > MAX_TEXT {
         return Err(TextFault::TooLong);
@@ -135,18 +136,18 @@ pub fn read_term<A: Allocator + Copy>(alloc: A, bytes: &[u8]) -> Result<Term<A>,
     let mut at = 0;
     while at < bytes.len() {
         match next_at(bytes, at) {
-            Found::End => return finished(progress, bytes.len()),
-            Found::Bad(from) => return Err(TextFault::Token { at: from }),
-            Found::Token(token) => {
+            NextToken::End => return finish(progress, bytes.len()),
+            NextToken::Bad(from) => return Err(TextFault::Token { at: from }),
+            NextToken::Token(token) => {
                 progress = step_at(alloc, bytes, token, progress)?;
                 at = token.to;
             }
         }
     }
-    finished(progress, bytes.len())
+    finish(progress, bytes.len())
 }
 
-/// One token of a script further: a full stop behind a term ends it.
+/// One token of a script further: a full stop after a term ends it.
 fn script_step_at<A: Allocator + Copy>(
     alloc: A,
     bytes: &[u8],
@@ -156,9 +157,9 @@ fn script_step_at<A: Allocator + Copy>(
 ) -> Result<Progress<A>, TextFault>
     requires start { token.from ≤ token.to }
     requires end { token.to ≤ length bytes.now }
-    requires shallow { IsShallow (state_of progress) }
-    ensures { (at : ℕ) (s : Stood bytes.now at token) → ScriptStepsAt result terms.new.items token.from
-        (script_step DEPTH true (reading (map tree_of terms.old.items) (state_of progress)) s.spanned.token) }
+    requires shallow { IsShallow (read_state_of progress) }
+    ensures { (at : ℕ) (s : StandsAt bytes.now at token) → ScriptStepsAt result terms.new.items token.from
+        (script_step DEPTH true (reading (map tree_of terms.old.items) (read_state_of progress)) s.spanned.token) }
 {
     match progress {
         Progress::Inside(place, frames) => step_at(
@@ -177,13 +178,13 @@ fn script_step_at<A: Allocator + Copy>(
     }
 }
 
-/// The terms, where the tokens end behind a full stop.
+/// The terms, where the tokens end after a full stop.
 fn all_finished<A: Allocator>(
     progress: Progress<A>,
     terms: Vec<Term<A>, A>,
     end: usize,
 ) -> Result<Vec<Term<A>, A>, TextFault>
-    ensures { ScriptFinishes result end (script_end (reading (map tree_of terms.items) (state_of progress))) }
+    ensures { ScriptFinishes result end (script_end (reading (map tree_of terms.items) (read_state_of progress))) }
 {
     match progress {
         Progress::Inside(Position::Next, frames) => {
@@ -199,7 +200,7 @@ fn all_finished<A: Allocator>(
     }
 }
 
-/// All terms of the script that the text spells, each with a full stop behind it. Memory is as for
+/// All terms of the script that the text spells, each with a full stop after it. Memory is as for
 /// `read_term`, and the list of terms. Refusals are as those of `read_term`, with scripts for terms: a
 /// term without its full stop is only a beginning.
 pub fn read_terms<A: Allocator + Copy>(alloc: A, bytes: &[u8]) -> Result<Vec<Term<A>, A>, TextFault>
@@ -213,9 +214,9 @@ pub fn read_terms<A: Allocator + Copy>(alloc: A, bytes: &[u8]) -> Result<Vec<Ter
     let mut at = 0;
     while at < bytes.len() {
         match next_at(bytes, at) {
-            Found::End => return all_finished(progress, terms, bytes.len()),
-            Found::Bad(from) => return Err(TextFault::Token { at: from }),
-            Found::Token(token) => {
+            NextToken::End => return all_finished(progress, terms, bytes.len()),
+            NextToken::Bad(from) => return Err(TextFault::Token { at: from }),
+            NextToken::Token(token) => {
                 progress = script_step_at(alloc, bytes, token, progress, &mut terms)?;
                 at = token.to;
             }

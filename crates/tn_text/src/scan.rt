@@ -6,7 +6,7 @@ ghost use Rattle.def_text.specs.Scan.{run_len, quoted_end, pid_end, token_at};
 ghost use Rattle.tn_text.specs.Kinds.{found_of, longer_at, enclosed_at, StandsAtFront};
 
 use crate::name::is_name_byte_of;
-use crate::reserved::is_reserved;
+use crate::reserved_words::is_reserved;
 
 /// What a token is (own). Its bytes say which integer, atom, string or pid.
 #[derive(Clone, Copy, Debug, PartialEq, Eq)]
@@ -108,7 +108,7 @@ fn quoted_len(bytes: &[u8], quote: u8) -> Option<usize>
     None
 }
 
-// The length of the pid behind its `<`.
+// The length of the pid after its `<`.
 fn pid_len(bytes: &[u8]) -> Option<usize>
     ensures value { result ≡ pid_end bytes.now }
     ensures fits { IfSome result (λ n. n ≤ length bytes.now) }
@@ -139,7 +139,7 @@ fn ends(bytes: &[u8]) -> bool
 }
 
 /// The atom in quotes, the string or the pid at the front, and its length.
-fn enclosed(bytes: &[u8]) -> Option<(Kind, usize)>
+fn delimited_token(bytes: &[u8]) -> Option<(Kind, usize)>
     ensures value { found_of result ≡ enclosed_at bytes.now }
     ensures fits { IfSome result (λ p. p.1 ≤ length bytes.now) }
 {
@@ -203,11 +203,11 @@ fn longer(bytes: &[u8]) -> Option<(Kind, usize)>
             Some((Kind::Bare, n))
         };
     }
-    enclosed(bytes)
+    delimited_token(bytes)
 }
 
 /// The token at the front, and its length.
-fn found(bytes: &[u8]) -> Option<(Kind, usize)>
+fn front_token(bytes: &[u8]) -> Option<(Kind, usize)>
     ensures value { found_of result ≡ token_at bytes.now }
     ensures fits { IfSome result (λ p. p.1 ≤ length bytes.now) }
 {
@@ -229,5 +229,5 @@ pub fn next_token(bytes: &[u8]) -> Option<(Kind, usize)>
     ensures found { IfSome result (StandsAtFront bytes.now) }
     ensures none { IfNone result (HasNoToken bytes.now) }
 {
-    found(bytes)
+    front_token(bytes)
 }

@@ -3,7 +3,7 @@ ghost use Rattle.std.specs.Prelude.{◌≡◌, Ok, true};
 ghost use Rattle.tn_term.specs.Views.{tree_of};
 ghost use Rattle.def_text.specs.Limits.{DEPTH};
 ghost use Rattle.def_text.specs.Reading.{put, most, open_at, close_top, comma_at};
-ghost use Rattle.tn_text.specs.Stack.{bracket_of, frames_of, Steps};
+ghost use Rattle.tn_text.specs.Stack.{bracket_of, frames_of, StepsReading};
 
 use std::alloc::Allocator;
 use tn_term::Term;
@@ -28,7 +28,7 @@ pub struct Frame<A: Allocator> {
     items: Vec<Term<A>, A>,
 }
 
-/// What may stand next in the innermost frame: its first element or its end, an element behind a
+/// What may stand next in the innermost frame: its first element or its end, an element after a
 /// comma, or what follows an element.
 #[derive(Clone, Copy)]
 pub enum Position {
@@ -58,7 +58,7 @@ pub fn put_term<A: Allocator>(
     term: Term<A>,
     frames: Vec<Frame<A>, A>,
 ) -> Result<Progress<A>, StepError>
-    ensures { Steps result (Ok (put (tree_of term) (frames_of frames.items))) }
+    ensures { StepsReading result (Ok (put (tree_of term) (frames_of frames.items))) }
 {
     let mut frames = frames;
     match frames.pop() {
@@ -82,7 +82,7 @@ pub fn open<A: Allocator>(
     bracket: Bracket,
     frames: Vec<Frame<A>, A>,
 ) -> Result<Progress<A>, StepError>
-    ensures { Steps result (open_at DEPTH (bracket_of bracket) (frames_of frames.items)) }
+    ensures { StepsReading result (open_at DEPTH (bracket_of bracket) (frames_of frames.items)) }
 {
     if frames.len() >= MAX_DEPTH {
         return Err(StepError::TooDeep);
@@ -102,7 +102,7 @@ pub fn close<A: Allocator>(
     bracket: Bracket,
     frames: Vec<Frame<A>, A>,
 ) -> Result<Progress<A>, StepError>
-    ensures { Steps result (close_top (bracket_of bracket) (frames_of frames.items)) }
+    ensures { StepsReading result (close_top (bracket_of bracket) (frames_of frames.items)) }
 {
     let mut frames = frames;
     match frames.pop() {
@@ -128,7 +128,7 @@ fn most_of(bracket: Bracket) -> usize
 
 /// One more element is to come in the innermost tuple or list.
 pub fn comma<A: Allocator>(frames: Vec<Frame<A>, A>) -> Result<Progress<A>, StepError>
-    ensures { Steps result (comma_at true (frames_of frames.items)) }
+    ensures { StepsReading result (comma_at true (frames_of frames.items)) }
 {
     let mut frames = frames;
     match frames.pop() {

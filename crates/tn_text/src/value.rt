@@ -1,6 +1,6 @@
 // The values of tokens.
 ghost use Rattle.std.specs.Prelude.{◌≡◌, IfOk, IfSome, false};
-ghost use Rattle.def_text.specs.Scan.{unescaped};
+ghost use Rattle.def_text.specs.Scan.{unescape};
 ghost use Rattle.tn_text.specs.Values.{IsIntegerRead, IsPidRead, inner};
 
 use std::alloc::{AllocError, Allocator};
@@ -36,7 +36,7 @@ pub fn pid_value(bytes: &[u8]) -> Option<u32>
 
 /// The characters between the quotes, where they hold no backslash.
 pub fn plain_content(bytes: &[u8]) -> Option<&[u8]>
-    ensures { IfSome result (λ s. s.now ≡ unescaped false (inner bytes.now)) }
+    ensures { IfSome result (λ s. s.now ≡ unescape false (inner bytes.now)) }
 {
     let [_, text @ .., _] = bytes else {
         return None;
@@ -51,7 +51,7 @@ pub fn plain_content(bytes: &[u8]) -> Option<&[u8]>
 
 /// The characters between the quotes, without the backslashes before them.
 pub fn content<A: Allocator>(alloc: A, bytes: &[u8]) -> Result<Vec<u8, A>, AllocError>
-    ensures { IfOk result (λ v. v.items ≡ unescaped false (inner bytes.now)) }
+    ensures { IfOk result (λ v. v.items ≡ unescape false (inner bytes.now)) }
 {
     let [_, text @ .., _] = bytes else {
         return Ok(Vec::new(alloc));

@@ -1,9 +1,9 @@
 // Writing terms.
 ghost use Rattle.std.specs.Prelude.{◌≡◌, ◌++◌, ◌∷◌, [], OnOk, OnErr, flat_map, codes, decimal};
 ghost use Rattle.std.specs.Fmt.{signed_decimal};
-ghost use Rattle.def_term.specs.Text.{w, joined, atom_text, pid_text, escaped};
+ghost use Rattle.def_term.specs.Text.{w, comma_list, atom_text, pid_text, escape};
 ghost use Rattle.tn_term.specs.Views.{tree_of, trees_of};
-ghost use Rattle.tn_text.specs.Writes.{Grows, enclosed};
+ghost use Rattle.tn_text.specs.Writes.{Grows, enclose};
 
 use crate::name::is_bare;
 use itoa::Buffer;
@@ -68,7 +68,7 @@ fn put_enclosed<A: Allocator, B: Allocator>(
     right: u8,
     out: &mut Vec<u8, B>,
 ) -> Result<(), AllocError>
-    ensures ok { OnOk result (out.new.items ≡ out.old.items ++ enclosed left (trees_of items.now.items) right) }
+    ensures ok { OnOk result (out.new.items ≡ out.old.items ++ enclose left (trees_of items.now.items) right) }
     ensures grows { Grows out.old.items out.new.items }
 {
     put_one(left, out)?;
@@ -82,7 +82,7 @@ fn put_all<A: Allocator, B: Allocator>(
     items: &Vec<Term<A>, A>,
     out: &mut Vec<u8, B>,
 ) -> Result<(), AllocError>
-    ensures ok { OnOk result (out.new.items ≡ out.old.items ++ joined (trees_of items.now.items)) }
+    ensures ok { OnOk result (out.new.items ≡ out.old.items ++ comma_list (trees_of items.now.items)) }
     ensures grows { Grows out.old.items out.new.items }
 {
     if items.is_empty() {
@@ -131,7 +131,7 @@ fn put_atom<B: Allocator>(text: &str, out: &mut Vec<u8, B>) -> Result<(), AllocE
 
 /// Appends the bytes, with a backslash before each quote and backslash.
 fn put_escaped<B: Allocator>(bytes: &[u8], out: &mut Vec<u8, B>) -> Result<(), AllocError>
-    ensures ok { OnOk result (out.new.items ≡ out.old.items ++ flat_map escaped bytes.now) }
+    ensures ok { OnOk result (out.new.items ≡ out.old.items ++ flat_map escape bytes.now) }
     ensures grows { Grows out.old.items out.new.items }
 {
     for b in bytes {
@@ -142,7 +142,7 @@ fn put_escaped<B: Allocator>(bytes: &[u8], out: &mut Vec<u8, B>) -> Result<(), A
 
 /// Appends a byte, with a backslash before it where it is a quote or a backslash.
 fn put_byte<B: Allocator>(b: u8, out: &mut Vec<u8, B>) -> Result<(), AllocError>
-    ensures ok { OnOk result (out.new.items ≡ out.old.items ++ escaped b) }
+    ensures ok { OnOk result (out.new.items ≡ out.old.items ++ escape b) }
     ensures grows { Grows out.old.items out.new.items }
 {
     if b == b'\'' || b == b'\\' {

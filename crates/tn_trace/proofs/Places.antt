@@ -8,18 +8,18 @@ use Rattle.std.specs.Str.{bytes_eq}
 use Rattle.std.proofs.lemmas.List.{drop_more, drop_all}
 use Rattle.def_term.specs.Tree.{Tree}
 use Rattle.def_script.specs.Program.{Command, session_of}
-use Rattle.def_script.specs.Opening.{Opening}
+use Rattle.def_script.specs.Exports.{Exports}
 use Rattle.def_session.specs.Commands.{command_done}
-use Rattle.tn_trace.specs.Tracks.{Track, with_event, with_events, told_to, told_by, reply_from, newer_of, AreMore}
-use Rattle.tn_trace.specs.Slots.{Each, EachUpTo}
+use Rattle.tn_trace.specs.Tracks.{Track, with_event, with_events, reported_to, items_of_tracks, reply_from, newer_of, AreMore}
+use Rattle.tn_trace.specs.Slots.{EachPair, EachUpTo}
 
-pub up_to_none : {T S : Type 0} (P Q : T → S → Type 0) (ts : List T) (ss : List S) → Each Q ts ss → EachUpTo P Q 0 ts ss
+pub up_to_none : {T S : Type 0} (P Q : T → S → Type 0) (ts : List T) (ss : List S) → EachPair Q ts ss → EachUpTo P Q 0 ts ss
 up_to_none P Q [] [] h = tt
 up_to_none P Q [] (s ∷ ss) h = absurd h
 up_to_none P Q (t ∷ ts) [] h = absurd h
 up_to_none P Q (t ∷ ts) (s ∷ ss) h = (h.0, up_to_none P Q ts ss h.1)
 
-pub up_to_all : {T S : Type 0} (P Q : T → S → Type 0) (n : ℕ) (ts : List T) (ss : List S) → length ss ≤ n → EachUpTo P Q n ts ss → Each P ts ss
+pub up_to_all : {T S : Type 0} (P Q : T → S → Type 0) (n : ℕ) (ts : List T) (ss : List S) → length ss ≤ n → EachUpTo P Q n ts ss → EachPair P ts ss
 up_to_all P Q n [] [] h e = tt
 up_to_all P Q n [] (s ∷ ss) h e = absurd e
 up_to_all P Q n (t ∷ ts) [] h e = absurd e
@@ -42,7 +42,7 @@ all_dropped P Q n (t ∷ ts) [] h e = absurd e
 all_dropped P Q zero (t ∷ ts) (s ∷ ss) h e = absurd (omega arith)
 all_dropped P Q (suc n) (t ∷ ts) (s ∷ ss) h e = all_dropped P Q n ts ss (omega arith) e.1
 
-pub each_mapped : {T S : Type 0} (P : T → S → Type 0) (f : T → T) (ts : List T) (ss : List S) → Each (λ t s. P (f t) s) ts ss → Each P (map f ts) ss
+pub each_mapped : {T S : Type 0} (P : T → S → Type 0) (f : T → T) (ts : List T) (ss : List S) → EachPair (λ t s. P (f t) s) ts ss → EachPair P (map f ts) ss
 each_mapped P f [] [] h = tt
 each_mapped P f [] (s ∷ ss) h = absurd h
 each_mapped P f (t ∷ ts) [] h = absurd h
@@ -93,32 +93,32 @@ none_more Gives g = λ xs h. subst (Gives g) (sym (append-nil xs)) h
 pub more_then : {G X : Type 0} (Gives : G → List X → Type 0) (fs bs : List X) (first now next : G) → AreMore Gives fs first now → AreMore Gives bs now next → AreMore Gives (fs ++ bs) first next
 more_then Gives fs bs first now next a b = λ xs h. subst (Gives next) (append_assoc xs fs bs) (b (xs ++ fs) (a xs h))
 
--- some events are told; what the others add follows
+-- some events are reported; what the others add follows
 pub record GoesOn {G E : Type 0} (Gives : G → List DefinedItem → Type 0) (v : E → Event) (ts us : List Track) (es : List E) (i : ℕ) (first now : G) : Type 0 where
   pub sessions : with_events (map v es) ts ≡ with_events (map v (drop i es)) us
   pub added : List DefinedItem
   pub given : AreMore Gives added first now
-  pub all : told_by (map v es) ts ≡ added ++ told_by (map v (drop i es)) us
+  pub all : items_of_tracks (map v es) ts ≡ added ++ items_of_tracks (map v (drop i es)) us
 
 pub goes_on_init : {G E : Type 0} (Gives : G → List DefinedItem → Type 0) (v : E → Event) (ts : List Track) (es : List E) (g : G) → GoesOn Gives v ts ts es 0 g g
 goes_on_init Gives v ts es g = record { sessions = refl; added = []; given = none_more Gives g; all = refl }
 
-pub goes_on_more : {G E : Type 0} (Gives : G → List DefinedItem → Type 0) (v : E → Event) (ts us : List Track) (es : List E) (i : ℕ) (x : E) (first now next : G) → i < length es → x ≡ get_or es i x → AreMore Gives (flat_map (told_to (v x)) us) now next
+pub goes_on_more : {G E : Type 0} (Gives : G → List DefinedItem → Type 0) (v : E → Event) (ts us : List Track) (es : List E) (i : ℕ) (x : E) (first now next : G) → i < length es → x ≡ get_or es i x → AreMore Gives (flat_map (reported_to (v x)) us) now next
     → GoesOn Gives v ts us es i first now → GoesOn Gives v ts (map (with_event (v x)) us) es (i + 1) first next
 goes_on_more Gives v ts us es i x first now next below is more so_far =
     let left : drop i es ≡ x ∷ drop (i + 1) es = drop_more es i x below ∙ ap (λ y. y ∷ drop (i + 1) es) (sym is) in
     record {
       sessions = so_far.sessions ∙ ap (λ l. with_events (map v l) us) left;
-      added = so_far.added ++ flat_map (told_to (v x)) us;
-      given = more_then Gives so_far.added (flat_map (told_to (v x)) us) first now next so_far.given more;
-      all = so_far.all ∙ ap (λ l. so_far.added ++ told_by (map v l) us) left ∙ sym (append_assoc so_far.added (flat_map (told_to (v x)) us) (told_by (map v (drop (i + 1) es)) (map (with_event (v x)) us)));
+      added = so_far.added ++ flat_map (reported_to (v x)) us;
+      given = more_then Gives so_far.added (flat_map (reported_to (v x)) us) first now next so_far.given more;
+      all = so_far.all ∙ ap (λ l. so_far.added ++ items_of_tracks (map v l) us) left ∙ sym (append_assoc so_far.added (flat_map (reported_to (v x)) us) (items_of_tracks (map v (drop (i + 1) es)) (map (with_event (v x)) us)));
     }
 
 pub all_sessions : {G E : Type 0} (Gives : G → List DefinedItem → Type 0) (v : E → Event) (ts us : List Track) (es : List E) (i : ℕ) (first now : G) → length es ≤ i → GoesOn Gives v ts us es i first now → us ≡ with_events (map v es) ts
 all_sessions Gives v ts us es i first now past h = sym (h.sessions ∙ ap (λ l. with_events (map v l) us) (drop_all i es past))
 
-pub all_given : {G E : Type 0} (Gives : G → List DefinedItem → Type 0) (v : E → Event) (ts us : List Track) (es : List E) (i : ℕ) (first now : G) → length es ≤ i → GoesOn Gives v ts us es i first now → AreMore Gives (told_by (map v es) ts) first now
-all_given Gives v ts us es i first now past h = subst (λ xs. AreMore Gives xs first now) (sym (h.all ∙ ap (λ l. h.added ++ told_by (map v l) us) (drop_all i es past) ∙ append-nil h.added)) h.given
+pub all_given : {G E : Type 0} (Gives : G → List DefinedItem → Type 0) (v : E → Event) (ts us : List Track) (es : List E) (i : ℕ) (first now : G) → length es ≤ i → GoesOn Gives v ts us es i first now → AreMore Gives (items_of_tracks (map v es) ts) first now
+all_given Gives v ts us es i first now past h = subst (λ xs. AreMore Gives xs first now) (sym (h.all ∙ ap (λ l. h.added ++ items_of_tracks (map v l) us) (drop_all i es past) ∙ append-nil h.added)) h.given
 
 -- ---- replies
 
@@ -126,6 +126,6 @@ pub newer_is : (r : Option Tree) (b : Bool) (reply : Tree) (q : Option Tree) →
 newer_is None b reply q h = sym (ap (λ x. if x then Some reply else q) h)
 newer_is (Some t) b reply q h = ap Some h.1 ∙ sym (ap (λ x. if x then Some reply else q) h.0)
 
-pub reply_here : (o : Opening) (c : Command) (n : ℕ) (ts : List Track) (here : Track) (q q' all : Option Tree) → drop n ts ≡ here ∷ drop (n + 1) ts
+pub reply_here : (o : Exports) (c : Command) (n : ℕ) (ts : List Track) (here : Track) (q q' all : Option Tree) → drop n ts ≡ here ∷ drop (n + 1) ts
     → q' ≡ (if bytes_eq here.name (session_of c) then Some (command_done o here.session c).1 else q) → reply_from o c q (drop n ts) ≡ all → reply_from o c q' (drop (n + 1) ts) ≡ all
 reply_here o c n ts here q q' all back made so_far = ap (λ r. reply_from o c r (drop (n + 1) ts)) made ∙ sym (ap (reply_from o c q) back) ∙ so_far

@@ -1,30 +1,30 @@
 -- What is promised of a core.
-use Rattle.std.specs.Prelude.{◌≡◌, ℕ, zero, suc, ◌<◌, List, [], ◌∷◌, ◌++◌, false, length, map, slice_get, Option, Some, None, Result, Ok, Err, MatchResult}
-use Rattle.std.specs.Str.{bytes_eq}
+use Rattle.std.specs.Prelude.{◌≡◌, ℕ, zero, suc, ◌<◌, List, [], ◌∷◌, ◌++◌, length, map, slice_get, Option, Some, None, Result, Ok, Err, MatchResult}
 use Rattle.def_term.specs.Names.{Name}
 use Rattle.def_script.specs.Program.{Program}
 use Rattle.def_run.specs.Run.{JOURNAL, moves}
-use Rattle.def_run.specs.View.{view, strike_program, strike_picks}
 use Rattle.def_run.specs.Listing.{Item as DefinedItem, answer, messages, replies}
 use Rattle.def_script.specs.Script.{creations}
-use Rattle.def_run.specs.Laws.{IsIdleAfter, IsDestroyedAfter}
+use Rattle.def_run.specs.Laws.{IsIdleAfter}
 use Rattle.tn_term.specs.Views.{tree_of}
 use Rattle.tn_term.specs.declared.term.Term.{Term}
 use Rattle.tn_program.specs.Views.{program_of}
-use Rattle.tn_trace.specs.Items.{item_seen, AreTerms}
-use Rattle.tn_trace.specs.Runs.{IsRun}
-use Rattle.tn_trace.specs.declared.engine.Engine.{Engine}
-use Rattle.tn_trace.specs.declared.keeping.Terms.{Terms}
-use Rattle.tn_trace.specs.declared.recording.Core.{Core}
+use Rattle.tn_trace.specs.Items.{item_seen}
+use Rattle.tn_trace.specs.Advances.{IsTermRun}
+use Rattle.tn_trace.specs.declared.run.Run.{Run}
+use Rattle.tn_trace.specs.declared.recorder.Recorder.{Recorder}
+use Rattle.tn_trace.specs.declared.sinks.Terms.{Terms}
+use Rattle.tn_trace.specs.declared.run_core.Core.{Core}
 use Rattle.tn_trace.specs.declared.item.Answer.{Answer}
 use Rattle.tn_trace.specs.declared.item.Answer.TheVariants.{Moved, Idle}
 use Rattle.tn_trace.specs.declared.item.StepFault.{StepFault}
 use Rattle.tn_trace.specs.declared.item.StepFault.TheVariants.{LimitReached, Spent, OutOfMemory}
 use denote.Ref.{Bor}
 
-abbrev pub HoldsIn : {A : Type 0} → Program → List ℕ → Option (Engine A (Terms A)) → Type 0
-HoldsIn p picks None = ⊥
-HoldsIn p picks (Some e) = IsRun AreTerms p picks e
+-- there is a run, and it is that of these picks
+abbrev pub HasTermRun : {A : Type 0} → Program → List ℕ → Option (Run A (Recorder A (Terms A))) → Type 0
+HasTermRun p picks None = ⊥
+HasTermRun p picks (Some r) = IsTermRun p picks r
 
 -- the core's program, also where it is spent
 abbrev pub program_in : {A : Type 0} → Core A → Program
@@ -33,11 +33,11 @@ program_in c = program_of c.program
 -- the core is that of the program and of this journal, each pick of which moved
 pub record IsCore {A : Type 0} (p : Program) (picks : List ℕ) (c : Core A) : Type 0 where
   pub program : program_in c ≡ p
-  pub engine : HoldsIn p picks c.engine
+  pub ran : HasTermRun p picks c.run
 
 -- the core was refused memory
-abbrev pub IsSpent : {A : Type 0} → Core A → Type 0
-IsSpent c = c.engine ≡ None
+abbrev pub IsCoreSpent : {A : Type 0} → Core A → Type 0
+IsCoreSpent c = c.run ≡ None
 
 -- the pick moved: the journal has it at its end, and the items are the answer of its move
 pub record MovesOn {A : Type 0} (p : Program) (picks : List ℕ) (pick : ℕ) (new : Core A) (items : List DefinedItem) : Type 0 where
@@ -53,26 +53,20 @@ pub record RestsOn {A : Type 0} (p : Program) (picks : List ℕ) (pick : ℕ) (n
   pub idle : IsIdleAfter p picks pick
 
 -- what a step answers, and the core afterwards
-abbrev pub Stepped : {A : Type 0} → Program → List ℕ → ℕ → Core A → Core A → Result (Answer A) StepFault → Type 0
-Stepped p picks pick old new (Ok (Moved items)) = MovesOn p picks pick new (map item_seen items.items)
-Stepped p picks pick old new (Ok Idle) = RestsOn p picks pick new
-Stepped p picks pick old new (Err LimitReached) = (length picks ≡ JOURNAL) × (new ≡ old)
-Stepped p picks pick old new (Err Spent) = ⊥
-Stepped p picks pick old new (Err OutOfMemory) = (length picks < JOURNAL) × IsSpent new
+abbrev pub IsStepOf : {A : Type 0} → Program → List ℕ → ℕ → Core A → Core A → Result (Answer A) StepFault → Type 0
+IsStepOf p picks pick old new (Ok (Moved items)) = MovesOn p picks pick new (map item_seen items.items)
+IsStepOf p picks pick old new (Ok Idle) = RestsOn p picks pick new
+IsStepOf p picks pick old new (Err LimitReached) = (length picks ≡ JOURNAL) × (new ≡ old)
+IsStepOf p picks pick old new (Err Spent) = ⊥
+IsStepOf p picks pick old new (Err OutOfMemory) = (length picks < JOURNAL) × IsCoreSpent new
 
 -- whatever journal the core is of, this is what a step of it answers
-abbrev pub StepsOn : {A : Type 0} → ℕ → Core A → Core A → Result (Answer A) StepFault → Type 0
-StepsOn pick old new result = (p : Program) (picks : List ℕ) → IsCore p picks old → Stepped p picks pick old new result
-
--- the listing of a destroyed session is the same before and after the pick
-abbrev pub DestroyedStay : ℕ → Type 0
-DestroyedStay pick =
-    (p : Program) (picks : List ℕ) (s : Name) → IsDestroyedAfter s p picks
-    → messages s p (picks ++ pick ∷ []) ≡ messages s p picks
+abbrev pub CoreStepsOn : {A : Type 0} → ℕ → Core A → Core A → Result (Answer A) StepFault → Type 0
+CoreStepsOn pick old new result = (p : Program) (picks : List ℕ) → IsCore p picks old → IsStepOf p picks pick old new result
 
 -- whatever journal the core is of, this is it
-abbrev pub IsJournal : {A : Type 0} → Core A → Result (Bor (List ℕ)) StepFault → Type 0
-IsJournal core result =
+abbrev pub AnswersJournal : {A : Type 0} → Core A → Result (Bor (List ℕ)) StepFault → Type 0
+AnswersJournal core result =
     (p : Program) (picks : List ℕ) → IsCore p picks core → MatchResult result (λ v. v.now ≡ picks) (λ _. ⊥)
 
 -- the creation of this number, counted from 1
@@ -89,18 +83,6 @@ Lists p picks n (Some v) = (s : Name × Name) × (creation_numbered p n ≡ Some
 abbrev pub IsListing : {A : Type 0} → ℕ → Core A → Result (Option (Bor (List (Term A)))) StepFault → Type 0
 IsListing n core result =
     (p : Program) (picks : List ℕ) → IsCore p picks core → MatchResult result (Lists p picks n) (λ _. ⊥)
-
--- runs with equal views of a session have the same messages of it
-abbrev pub ListsByView : Type 0
-ListsByView =
-    (p : Program) (picks : List ℕ) (s : Name) (q : Program) (others : List ℕ) → view s p picks ≡ view s q others
-    → messages s p picks ≡ messages s q others
-
--- without another session's commands, and the picks that took them, the view is the same, where the run did not meet the limit
-abbrev pub StruckLeave : Type 0
-StruckLeave =
-    (p : Program) (picks : List ℕ) (s r : Name) → bytes_eq r s ≡ false → length (moves p picks) < JOURNAL
-    → view s (strike_program r p) (strike_picks r picks p.commands) ≡ view s p picks
 
 -- whatever journal the core is of, the terms are its replies
 abbrev pub AreReplies : {A : Type 0} → Core A → Result (Bor (List (Term A))) StepFault → Type 0

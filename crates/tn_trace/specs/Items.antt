@@ -4,8 +4,8 @@ use Rattle.def_term.specs.Tree.{Tree}
 use Rattle.def_run.specs.Listing.{Item as DefinedItem, lines_of}
 use Rattle.tn_term.specs.Views.{tree_of}
 use Rattle.tn_trace.specs.declared.item.Item.{Item}
-use Rattle.tn_trace.specs.declared.keeping.Terms.{Terms}
-use Rattle.tn_trace.specs.declared.keeping.Lines.{Lines}
+use Rattle.tn_trace.specs.declared.sinks.Terms.{Terms}
+use Rattle.tn_trace.specs.declared.sinks.Lines.{Lines}
 
 abbrev pub item_seen : {A : Type 0} → Item A → DefinedItem
 item_seen i = record { session = i.session; index = i.index; message = tree_of i.message }
@@ -15,5 +15,5 @@ abbrev pub AreTerms : {A : Type 0} → Terms A → List Tree → Type 0
 AreTerms k ts = map tree_of k.terms.items ≡ ts
 
 -- messages kept as text, each with a line feed
-abbrev pub AreLines : {A : Type 0} → Lines A → List Tree → Type 0
-AreLines k ts = k.text.items ≡ lines_of ts
+abbrev pub AreTexts : {A : Type 0} → Lines A → List Tree → Type 0
+AreTexts k ts = k.text.items ≡ lines_of ts

@@ -2,8 +2,10 @@ pub mod Tracks
 pub mod Starts
 pub mod Slots
 pub mod Runs
-pub mod Telling
-pub mod Obeying
+pub mod Observers
+pub mod Recorders
+pub mod Events
+pub mod Commands
 pub mod Items
 pub mod Advances
 pub mod Cores

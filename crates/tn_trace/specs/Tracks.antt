@@ -5,13 +5,14 @@ use Rattle.std.specs.Option.{unwrap_or}
 use Rattle.std.specs.Str.{bytes_eq}
 use Rattle.def_term.specs.Tree.{Tree}
 use Rattle.def_term.specs.Names.{Name, Mfa, word}
-use Rattle.def_script.specs.Program.{Function, mfa_of, Command, session_of}
+use Rattle.def_script.specs.Program.{Function, mfa_of, Command, session_of, Program}
 use Rattle.def_node.specs.Event.{Event}
-use Rattle.def_script.specs.Opening.{Opening}
+use Rattle.def_script.specs.Exports.{Exports, exports_of}
+use Rattle.def_script.specs.Script.{creations}
 use Rattle.def_session.specs.State.{Session, absent_session}
-use Rattle.def_session.specs.Session.{event_told}
+use Rattle.def_session.specs.Session.{event_reported}
 use Rattle.def_session.specs.Commands.{command_done}
-use Rattle.def_run.specs.Run.{Shown}
+use Rattle.def_run.specs.Run.{HistoryItem, events}
 use Rattle.def_run.specs.View.{is_own}
 use Rattle.def_run.specs.Listing.{Item as DefinedItem, messages_from, session_after}
 
@@ -23,7 +24,7 @@ pub record Track : Type 0 where
   pub messages : List Tree
 
 -- what the session of this number and name is after these items
-abbrev pub track_after : Opening → List Shown → ℕ → Name → Track
+abbrev pub track_after : Exports → List HistoryItem → ℕ → Name → Track
 track_after o items n s = record {
   number = n;
   name = s;
@@ -32,9 +33,13 @@ track_after o items n s = record {
 }
 
 -- those of the control list, numbered from n
-abbrev pub tracks_from : Opening → List Shown → ℕ → List (Name × Name) → List Track
+abbrev pub tracks_from : Exports → List HistoryItem → ℕ → List (Name × Name) → List Track
 tracks_from o items n [] = []
 tracks_from o items n (s ∷ ss) = track_after o items n s.0 ∷ tracks_from o items (suc n) ss
+
+-- those of the program after these picks
+abbrev pub tracks_of : Program → List ℕ → List Track
+tracks_of p picks = tracks_from (exports_of p) (events p picks) 1 (creations p.commands)
 
 -- a message of the session of this number, at this index
 abbrev pub item_at : ℕ → ℕ → Tree → DefinedItem
@@ -42,23 +47,23 @@ item_at n i m = record { session = n; index = i; message = m }
 
 -- after one more event
 abbrev pub with_event : Event → Track → Track
-with_event e t = record t { session = (event_told t.session e).0; messages = t.messages ++ option_to_list (event_told t.session e).1 }
+with_event e t = record t { session = (event_reported t.session e).0; messages = t.messages ++ option_to_list (event_reported t.session e).1 }
 
 -- what the event adds to the session's messages
-abbrev pub told_to : Event → Track → List DefinedItem
-told_to e t = map (item_at t.number (length t.messages)) (option_to_list (event_told t.session e).1)
+abbrev pub reported_to : Event → Track → List DefinedItem
+reported_to e t = map (item_at t.number (length t.messages)) (option_to_list (event_reported t.session e).1)
 
 -- after one more command, where it is the session's own
-abbrev pub with_command : Opening → Command → Track → Track
+abbrev pub with_command : Exports → Command → Track → Track
 with_command o c t = if bytes_eq t.name (session_of c) then record t { session = (command_done o t.session c).0 } else t
 
 -- the reply of the session that a command names: of the last of that name
-abbrev pub reply_from : Opening → Command → Option Tree → List Track → Option Tree
+abbrev pub reply_from : Exports → Command → Option Tree → List Track → Option Tree
 reply_from o c r [] = r
 reply_from o c r (t ∷ ts) = reply_from o c (if bytes_eq t.name (session_of c) then Some (command_done o t.session c).1 else r) ts
 
 -- the reply to a command
-abbrev pub reply_in : Opening → Command → List Track → Tree
+abbrev pub reply_in : Exports → Command → List Track → Tree
 reply_in o c ts = unwrap_or (reply_from o c None ts) (word "badarg")
 
 -- the later of two replies
@@ -72,9 +77,9 @@ with_events [] ts = ts
 with_events (e ∷ es) ts = with_events es (map (with_event e) ts)
 
 -- what the events add, by their order, and for one event by rising session number
-abbrev pub told_by : List Event → List Track → List DefinedItem
-told_by [] ts = []
-told_by (e ∷ es) ts = flat_map (told_to e) ts ++ told_by es (map (with_event e) ts)
+abbrev pub items_of_tracks : List Event → List Track → List DefinedItem
+items_of_tracks [] ts = []
+items_of_tracks (e ∷ es) ts = flat_map (reported_to e) ts ++ items_of_tracks es (map (with_event e) ts)
 
 -- the list of the value is that of the value before with one more
 abbrev pub IsOneMore : {K X : Type 0} → (K → List X → Type 0) → X → K → K → Type 0
@@ -84,7 +89,7 @@ IsOneMore {K} {X} Of x old new = (xs : List X) → Of old xs → Of new (xs ++ x
 abbrev pub AreMore : {K X : Type 0} → (K → List X → Type 0) → List X → K → K → Type 0
 AreMore {K} {X} Of more old new = (xs : List X) → Of old xs → Of new (xs ++ more)
 
--- a message of the session of this number is handed out, at the index behind what was kept
+-- a message of the session of this number is handed out, at the index after what was kept
 abbrev pub IsHandedOut : {K G : Type 0} → (K → List Tree → Type 0) → (G → List DefinedItem → Type 0) → ℕ → Tree → K → G → G → Result (Unit {0}) AllocError → Type 0
 IsHandedOut Keeps Gives n m kept given given' result =
     (ts : List Tree) → Keeps kept ts → IfOk result (λ _. IsOneMore Gives (item_at n (length ts) m) given given')

@@ -6,14 +6,15 @@ use Rattle.def_script.specs.Script.{creations}
 use Rattle.def_run.specs.Run.{moves}
 use Rattle.def_run.specs.Round.{round}
 use Rattle.def_run.specs.Listing.{messages, replies, lines_of}
-use Rattle.tn_trace.specs.Items.{AreLines}
-use Rattle.tn_trace.specs.Runs.{IsRun}
+use Rattle.tn_trace.specs.Items.{AreTexts}
+use Rattle.tn_trace.specs.Recorders.{HasRecorded}
 use Rattle.tn_trace.specs.declared.transcript.Transcript.{Transcript}
 use denote.Ref.{Bor}
 
 -- the transcript is that of the program's run by these picks
-abbrev pub IsTranscript : {A : Type 0} → Program → List ℕ → Transcript A → Type 0
-IsTranscript p picks t = IsRun AreLines p (moves p picks) t.engine
+pub record IsTranscript {A : Type 0} (p : Program) (picks : List ℕ) (t : Transcript A) : Type 0 where
+  pub recorded : HasRecorded AreTexts t.recorder p (moves p picks)
+  pub journaled : t.journal.items ≡ moves p picks
 
 -- it is that of the program's round with this limit
 abbrev pub IsTranscriptOfRound : {A : Type 0} → Program → ℕ → Transcript A → Type 0

@@ -5,7 +5,7 @@ ghost use Rattle.tn_flags.specs.Views.{command_of};
 ghost use Rattle.tn_program.specs.Views.{program_of};
 ghost use Rattle.tn_script.specs.Views.{functions_of};
 ghost use Rattle.tn_session.specs.Views.{function_seen};
-ghost use Rattle.def_script.specs.Opening.{visible};
+ghost use Rattle.def_script.specs.Exports.{visible};
 ghost use Rattle.tn_trace.specs.Tracks.{command_numbered};
 
 use std::alloc::{AllocError, Allocator};

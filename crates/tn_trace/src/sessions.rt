@@ -7,11 +7,11 @@ ghost use Rattle.tn_flags.specs.Views.{event_of};
 ghost use Rattle.tn_program.specs.Views.{program_of};
 ghost use Rattle.tn_trace.specs.Tracks.{newer_of};
 ghost use Rattle.tn_trace.specs.Starts.{AreAtStart};
-ghost use Rattle.tn_trace.specs.Telling.{EachSees, EachHandsOut};
-ghost use Rattle.tn_trace.specs.Obeying.{OneObeys, OneReplies};
+ghost use Rattle.tn_trace.specs.Events.{EachSees, EachHandsOut};
+ghost use Rattle.tn_trace.specs.Commands.{OneObeys, OneReplies};
 
 use crate::item::Item;
-use crate::kept::Kept;
+use crate::sink::MessageSink;
 use crate::slot::Slot;
 use std::alloc::{AllocError, Allocator};
 use tn_flags::{Command, Event};
@@ -30,7 +30,7 @@ fn next_number(count: usize) -> Result<u32, AllocError>
 }
 
 /// The sessions of the control list, before any of them is created.
-pub fn absent_sessions<A: Allocator + Copy, K: Kept<A> + Drop>(
+pub fn absent_sessions<A: Allocator + Copy, K: MessageSink<A> + Drop>(
     alloc: A,
     program: &Program<A>,
 ) -> Result<Vec<Slot<A, K>, A>, AllocError>
@@ -64,7 +64,7 @@ pub fn living_after<A: Allocator>(living: Alive, event: &Event<A>) -> Alive
 }
 
 /// Each session sees an event.
-pub(crate) fn tell_each<A: Allocator + Copy, K: Kept<A> + Drop>(
+pub(crate) fn tell_each<A: Allocator + Copy, K: MessageSink<A> + Drop>(
     slots: &mut Vec<Slot<A, K>, A>,
     alloc: A,
     event: &Event<A>,
@@ -80,7 +80,7 @@ pub(crate) fn tell_each<A: Allocator + Copy, K: Kept<A> + Drop>(
 }
 
 /// The session that the command names does it. None where there is no such session.
-pub(crate) fn obey_each<A: Allocator + Copy, K: Kept<A> + Drop>(
+pub(crate) fn obey_each<A: Allocator + Copy, K: MessageSink<A> + Drop>(
     slots: &mut Vec<Slot<A, K>, A>,
     alloc: A,
     functions: &[Function<A>],

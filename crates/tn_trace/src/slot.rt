@@ -1,8 +1,8 @@
 // A session of the control list.
 use crate::functions::visible_functions;
 use crate::item::Item;
-use crate::kept::Kept;
 use crate::reply::{badarg, created_reply};
+use crate::sink::MessageSink;
 use std::alloc::{AllocError, Allocator};
 use tn_flags::{Command, Event};
 use tn_script::Function;
@@ -19,9 +19,9 @@ pub struct Slot<A: Allocator, K> {
     pub kept: K,
 }
 
-impl<A: Allocator + Copy, K: Kept<A> + Drop> Slot<A, K> {
-    ghost use Rattle.tn_trace.specs.Telling.{Sees, HandsOut};
-    ghost use Rattle.tn_trace.specs.Obeying.{Replies, RepliesToOwn};
+impl<A: Allocator + Copy, K: MessageSink<A> + Drop> Slot<A, K> {
+    ghost use Rattle.tn_trace.specs.Events.{Sees, HandsOut};
+    ghost use Rattle.tn_trace.specs.Commands.{SlotReplies, RepliesToOwn};
 
     /// The session sees an event.
     pub fn tell(
@@ -53,7 +53,7 @@ impl<A: Allocator + Copy, K: Kept<A> + Drop> Slot<A, K> {
         living: Alive,
         command: &Command<A>,
     ) -> Result<Term<A>, AllocError>
-        ensures { Replies K.keeps functions.now living command.now self.old self.new result }
+        ensures { SlotReplies K.keeps functions.now living command.now self.old self.new result }
     {
         if let Some(session) = &mut self.session {
             return Ok(session.command(command)?);

@@ -1,7 +1,7 @@
 // A run that kept text alone.
-use crate::engine::Engine;
-use crate::keeping::Lines;
-use crate::texts::{followed_picks, followed_round};
+use crate::recorder::Recorder;
+use crate::sinks::Lines;
+use crate::texts::{run_of_picks, run_of_round};
 use std::alloc::{AllocError, Allocator};
 use tn_program::Program;
 
@@ -9,7 +9,8 @@ use tn_program::Program;
 /// a line feed, and the picks that moved.
 #[derive(Drop)]
 pub struct Transcript<A: Allocator> {
-    engine: Engine<A, Lines<A>>,
+    recorder: Recorder<A, Lines<A>>,
+    journal: Vec<u32, A>,
 }
 
 impl<A: Allocator + Copy> Transcript<A> {
@@ -30,8 +31,11 @@ impl<A: Allocator + Copy> Transcript<A> {
     ) -> Result<Transcript<A>, AllocError>
         ensures { IfOk result (λ t. IsTranscript (program_of program.now) picks.now t) }
     {
-        let engine = followed_picks(alloc, program, picks)?;
-        Ok(Transcript { engine })
+        let run = run_of_picks(alloc, program, picks)?;
+        Ok(Transcript {
+            recorder: run.observer,
+            journal: run.journal,
+        })
     }
 
     /// The transcript of the round with this limit on the number of moves.
@@ -42,8 +46,11 @@ impl<A: Allocator + Copy> Transcript<A> {
     pub fn of_round(alloc: A, program: &Program<A>, limit: u32) -> Result<Transcript<A>, AllocError>
         ensures { IfOk result (λ t. IsTranscriptOfRound (program_of program.now) limit t) }
     {
-        let engine = followed_round(alloc, program, limit)?;
-        Ok(Transcript { engine })
+        let run = run_of_round(alloc, program, limit)?;
+        Ok(Transcript {
+            recorder: run.observer,
+            journal: run.journal,
+        })
     }
 
     /// The lines of the session at this place among the creations of the control list, from 0, in order;
@@ -51,7 +58,7 @@ impl<A: Allocator + Copy> Transcript<A> {
     pub fn lines(&self, place: usize) -> Option<&[u8]>
         ensures { LendsLines place self.now result }
     {
-        match self.engine.slots.get(place) {
+        match self.recorder.slots.get(place) {
             Some(slot) => Some(&slot.kept.text),
             None => None,
         }
@@ -61,13 +68,13 @@ impl<A: Allocator + Copy> Transcript<A> {
     pub fn replies(&self) -> &[u8]
         ensures { LendsReplies self.now result.now }
     {
-        &self.engine.replies.text
+        &self.recorder.replies.text
     }
 
     /// The picks that moved, in order.
     pub fn journal(&self) -> &[u32]
         ensures { LendsJournal self.now result.now }
     {
-        &self.engine.journal
+        &self.journal
     }
 }

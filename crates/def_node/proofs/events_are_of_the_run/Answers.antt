@@ -1,4 +1,4 @@
-use Rattle.def_node.proofs.Known.{next_known}
+use Rattle.def_node.proofs.KnownPids.{next_known}
 use Rattle.def_node.proofs.events_are_of_the_run.Goals as goal
 
 pub returns : goal.returns

@@ -1,4 +1,4 @@
-use Rattle.def_run.proofs.Striking.{struck_view}
+use Rattle.def_run.proofs.StruckCommands.{struck_view}
 use Rattle.def_run.proofs.Runs.{by_the_view, isolated}
 use Rattle.def_run.proofs.sessions_are_isolated.Goals as goal
 

@@ -1,4 +1,4 @@
-use Rattle.def_session.proofs.Destroyed.{destruction, event_after, command_after, destroyed_again}
+use Rattle.def_session.proofs.DestroyedSessions.{destruction, event_after, command_after, destroyed_again}
 use Rattle.def_session.proofs.nothing_follows_destruction.Goals as goal
 
 pub returns : goal.returns

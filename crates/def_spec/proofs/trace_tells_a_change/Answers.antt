@@ -1,4 +1,4 @@
-use Rattle.def_spec.proofs.Tracing.{trace_tells_a_change, trace_faults, clears_before_it_sets}
+use Rattle.def_spec.proofs.TraceFlags.{trace_tells_a_change, trace_faults, clears_before_it_sets}
 use Rattle.def_spec.proofs.trace_tells_a_change.Goals as goal
 
 pub returns : goal.returns

@@ -1,4 +1,4 @@
-use Rattle.def_machine.specs.Checking.{is_checked}
+use Rattle.def_machine.specs.Acceptance.{is_checked}
 use Rattle.tn_code.specs.Codes.{code_seen}
 use Rattle.complete_code.proofs.Alike.{tested_alike}
 use Rattle.complete_code.proofs.code.check.Goals as goal

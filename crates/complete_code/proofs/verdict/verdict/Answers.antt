@@ -1,7 +1,7 @@
 use Rattle.std.proofs.Common.{ap}
 use Rattle.def_explain.specs.Verdicts.{verdict_of}
 use Rattle.tn_action.specs.Views.{context_seen}
-use Rattle.tn_reason.specs.Views.{verdict_seen}
+use Rattle.tn_verdict.specs.Views.{verdict_seen}
 use Rattle.tn_spec.specs.Views.{dialect_of}
 use Rattle.complete_code.proofs.Alike.{ok_alike}
 use Rattle.complete_code.proofs.verdict.verdict.Goals as goal

@@ -3,4 +3,4 @@ use Rattle.complete_live.proofs.book.fits.Goals as goal
 
 pub returns : goal.returns
 returns g c =
-    same_fits g.J.Naming.program g.K.Naming.program _ _ _ _ _ _ _ _ c.requires.named c.requires.books c.requires.programs c.requires.seats c.fits-first.ensures c.fits-second.ensures
+    same_fits g.J.JournalName.program g.K.JournalName.program _ _ _ _ _ _ _ _ c.requires.named c.requires.books c.requires.programs c.requires.seats c.fits-first.ensures c.fits-second.ensures

@@ -3,4 +3,4 @@ use Rattle.complete_live.proofs.closed.confirm.Goals as goal
 
 pub returns : goal.returns
 returns g c =
-    same_confirms g.J.Naming.program g.K.Naming.program _ _ _ _ _ _ c.requires.named c.requires.entries c.requires.receipts c.confirm.ensures c.confirm-2.ensures
+    same_confirms g.J.JournalName.program g.K.JournalName.program _ _ _ _ _ _ c.requires.named c.requires.entries c.requires.receipts c.confirm.ensures c.confirm-2.ensures

@@ -7,7 +7,7 @@ use Rattle.complete_live.proofs.live.begin.Goals as goal
 pub returns-clause-lives : goal.returns-clause-lives
 returns-clause-lives g c =
     let same = ap (live_of c.args.n) c.requires.logs in
-    both_if_ok (λ r. r.0 ≡ live_of c.args.n g.J.Naming.log) (λ r. r.0 ≡ live_of c.args.n g.K.Naming.log)
+    both_if_ok (λ r. r.0 ≡ live_of c.args.n g.J.JournalName.log) (λ r. r.0 ≡ live_of c.args.n g.K.JournalName.log)
     (λ r q. r.0 ≡ q.0) (λ r q h i. h ∙ same ∙ sym i) _ _ c.begin-first.ensures.live c.begin-second.ensures.live
 
 pub returns-clause-seats : goal.returns-clause-seats

@@ -4,8 +4,8 @@ use Rattle.tn_session.specs.Sessions.{Says}
 use Rattle.complete_session.proofs.Same.{same_message}
 use Rattle.complete_session.proofs.session.tell.Goals as goal
 
-pub returns-clause-message : goal.returns-clause-message
-returns-clause-message g c =
+pub returns-clause-ok : goal.returns-clause-ok
+returns-clause-ok g c =
     let P = c.requires.1 in
-    same_message _ _ g.at.0 g.at.1 (event_of c.args.event.now) _ _ (c.tell-first.ensures.told g.at.0 g.at.1 P.0)
-    (subst (λ e. IfOk c.tell-second.result (λ m. Says g.at.0 g.at.1 e c.tell-second.new.self m)) (sym P.1.1) (c.tell-second.ensures.told g.at.0 g.at.1 P.1.0))
+    same_message _ _ g.at.0 g.at.1 (event_of c.args.event.now) _ _ (c.tell-first.ensures.reported g.at.0 g.at.1 P.0)
+    (subst (λ e. IfOk c.tell-second.result (λ m. Says g.at.0 g.at.1 e c.tell-second.new.self m)) (sym P.1.1) (c.tell-second.ensures.reported g.at.0 g.at.1 P.1.0))

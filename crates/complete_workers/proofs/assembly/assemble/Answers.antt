@@ -6,7 +6,7 @@ use Rattle.complete_workers.proofs.assembly.assemble.Goals as goal
 
 pub returns-clause-text : goal.returns-clause-text
 returns-clause-text g c =
-    both_if_ok (λ a. a.text.items ≡ program_output g.J.Naming.program (picks_of c.args.one.now)) (λ b. b.text.items ≡ program_output g.K.Naming.program (picks_of c.args.other.now)) (λ a b. a.text.items ≡ b.text.items)
+    both_if_ok (λ a. a.text.items ≡ program_output g.J.JournalName.program (picks_of c.args.one.now)) (λ b. b.text.items ≡ program_output g.K.JournalName.program (picks_of c.args.other.now)) (λ a b. a.text.items ≡ b.text.items)
     (λ a b k l. k ∙ ap₂ program_output c.requires.programs c.requires.picks ∙ sym l)
     c.assemble-first.result c.assemble-second.result c.assemble-first.ensures.text c.assemble-second.ensures.text
 

@@ -2,10 +2,10 @@ use Rattle.complete_workers.proofs.SameEnds.{same_left, same_read_failed, same_t
 use Rattle.complete_workers.proofs.ends.read_text.Goals as goal
 
 pub returns-clause-text : goal.returns-clause-text
-returns-clause-text g c = same_text _ _ _ _ c.read_text-first.result c.read_text-second.result c.requires.told c.read_text-first.ensures.text c.read_text-second.ensures.text
+returns-clause-text g c = same_text _ _ _ _ c.read_text-first.result c.read_text-second.result c.requires.reported c.read_text-first.ensures.text c.read_text-second.ensures.text
 
 pub returns-clause-left : goal.returns-clause-left
-returns-clause-left g c = same_left _ _ _ _ c.read_text-first.result c.read_text-second.result c.requires.told c.read_text-first.ensures.text c.read_text-second.ensures.text
+returns-clause-left g c = same_left _ _ _ _ c.read_text-first.result c.read_text-second.result c.requires.reported c.read_text-first.ensures.text c.read_text-second.ensures.text
 
 pub returns-clause-failed : goal.returns-clause-failed
 returns-clause-failed g c =

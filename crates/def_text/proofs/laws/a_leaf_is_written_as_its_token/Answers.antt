@@ -1,4 +1,4 @@
-use Rattle.def_text.proofs.Written.{integers, pids, atoms}
+use Rattle.def_text.proofs.WrittenText.{integers, pids, atoms}
 use Rattle.def_text.proofs.laws.a_leaf_is_written_as_its_token.Goals as goal
 
 pub returns : goal.returns

@@ -3,4 +3,4 @@ use Rattle.test_pool.proofs.workers.one_worker.Given as goal
 
 -- the log that was just opened, and the core's program
 abbrev pub ghosts-lone_worker : goal.ghosts-lone_worker
-ghosts-lone_worker g a = record { log = a.opened; program = program_of a.core.program }
+ghosts-lone_worker g a = record { log = a.new_log; program = program_of a.core.program }

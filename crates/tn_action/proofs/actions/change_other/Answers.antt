@@ -5,4 +5,4 @@ use Rattle.tn_guard.specs.Views.{value_seen}
 use Rattle.tn_action.proofs.actions.change_other.Goals as goal
 
 pub returns : goal.returns
-returns g c = c.change_flag.ensures ∙ ap (λ p. ex.change c.args.on p (flag_named (value_seen c.args.flag))) (c.living.ensures (value_seen c.args.process) c.pid.ensures)
+returns g c = c.change_flag.ensures ∙ ap (λ p. ex.change c.args.on p (flag_named (value_seen c.args.flag))) (c.living_pid.ensures (value_seen c.args.process) c.pid.ensures)

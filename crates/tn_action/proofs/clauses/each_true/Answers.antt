@@ -3,7 +3,7 @@ use Rattle.std.specs.Option.{option_map}
 use Rattle.tn_guard.specs.Views.{value_seen}
 use Rattle.tn_head.specs.Views.{bindings_seen}
 use Rattle.tn_spec.specs.Views.{dialect_of, expr_seen, exprs_seen}
-use Rattle.tn_action.specs.Steps.{asked}
+use Rattle.tn_action.specs.Steps.{effect_list_seen}
 use Rattle.tn_action.specs.Views.{context_seen}
 use Rattle.tn_action.proofs.Steps.{exprs_here, condition_value, each_stops, each_goes_on}
 use Rattle.tn_action.proofs.clauses.each_true.Goals as goal
@@ -15,7 +15,7 @@ returns-then-not-is_true g c =
     let size = c.len-i-end.ensures ∙ c.args.conditions.now.ok.0 in
     let here = exprs_here es c.loop-i.i c.index.result.now (omega (arith, size)) c.index.ensures in
     each_stops (dialect_of s.dialect) (bindings_seen s.bindings.now) (context_seen s.context.now) _ _ (exprs_seen (drop (c.loop-i.i + 1) es)) (Some (value_seen c.in-Some.part)) here
-    (condition_value (dialect_of s.dialect) (bindings_seen s.bindings.now) (context_seen s.context.now) (expr_seen c.index.result.now) (option_map value_seen c.in_ok-part.field-0) (asked c.loop-i.effects) (asked c.value.new.effects) c.in_ok-part.ensures ∙ ap (option_map value_seen) c.in-Some.is) (sym c.is_true.ensures ∙ c.if-not-is_true.true)
+    (condition_value (dialect_of s.dialect) (bindings_seen s.bindings.now) (context_seen s.context.now) (expr_seen c.index.result.now) (option_map value_seen c.in_ok-part.field-0) (effect_list_seen c.loop-i.effects) (effect_list_seen c.value.new.effects) c.in_ok-part.ensures ∙ ap (option_map value_seen) c.in-Some.is) (sym c.is_true.ensures ∙ c.if-not-is_true.true)
     ∙ c.loop-i.invariant
 
 pub returns-in-None : goal.returns-in-None
@@ -25,7 +25,7 @@ returns-in-None g c =
     let size = c.len-i-end.ensures ∙ c.args.conditions.now.ok.0 in
     let here = exprs_here es c.loop-i.i c.index.result.now (omega (arith, size)) c.index.ensures in
     each_stops (dialect_of s.dialect) (bindings_seen s.bindings.now) (context_seen s.context.now) _ _ (exprs_seen (drop (c.loop-i.i + 1) es)) None here
-    (condition_value (dialect_of s.dialect) (bindings_seen s.bindings.now) (context_seen s.context.now) (expr_seen c.index.result.now) (option_map value_seen c.in_ok-part.field-0) (asked c.loop-i.effects) (asked c.value.new.effects) c.in_ok-part.ensures ∙ ap (option_map value_seen) c.in-None.is) refl
+    (condition_value (dialect_of s.dialect) (bindings_seen s.bindings.now) (context_seen s.context.now) (expr_seen c.index.result.now) (option_map value_seen c.in_ok-part.field-0) (effect_list_seen c.loop-i.effects) (effect_list_seen c.value.new.effects) c.in_ok-part.ensures ∙ ap (option_map value_seen) c.in-None.is) refl
     ∙ c.loop-i.invariant
 
 pub loop-i-preserved : goal.loop-i-preserved
@@ -35,5 +35,5 @@ loop-i-preserved g c =
     let size = c.len-i-end.ensures ∙ c.args.conditions.now.ok.0 in
     let here = exprs_here es c.loop-i.i c.index.result.now (omega (arith, size)) c.index.ensures in
     each_goes_on (dialect_of s.dialect) (bindings_seen s.bindings.now) (context_seen s.context.now) _ _ (exprs_seen (drop (c.loop-i.i + 1) es)) (value_seen c.in-Some.part) here
-    (condition_value (dialect_of s.dialect) (bindings_seen s.bindings.now) (context_seen s.context.now) (expr_seen c.index.result.now) (option_map value_seen c.in_ok-part.field-0) (asked c.loop-i.effects) (asked c.value.new.effects) c.in_ok-part.ensures ∙ ap (option_map value_seen) c.in-Some.is) (sym c.is_true.ensures ∙ c.if-not-is_true.false)
+    (condition_value (dialect_of s.dialect) (bindings_seen s.bindings.now) (context_seen s.context.now) (expr_seen c.index.result.now) (option_map value_seen c.in_ok-part.field-0) (effect_list_seen c.loop-i.effects) (effect_list_seen c.value.new.effects) c.in_ok-part.ensures ∙ ap (option_map value_seen) c.in-Some.is) (sym c.is_true.ensures ∙ c.if-not-is_true.false)
     ∙ c.loop-i.invariant

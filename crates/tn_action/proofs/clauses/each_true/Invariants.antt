@@ -1,6 +1,6 @@
 use Rattle.std.proofs.Common.{◌≡◌, drop}
 use Rattle.tn_spec.specs.Views.{exprs_seen}
-use Rattle.tn_action.specs.Scenes.{each_true_in}
+use Rattle.tn_action.specs.EvalContexts.{each_true_in}
 use Rattle.tn_action.proofs.clauses.each_true.Given as goal
 
 abbrev pub invariant-loop-i : goal.invariant-loop-i

@@ -1,5 +1,5 @@
 use Rattle.std.proofs.Common.{◌≡◌, ◌∙◌, Ok, Err, OnErr}
-use Rattle.tn_code.proofs.Growing.{cut-back}
+use Rattle.tn_code.proofs.Growth.{cut-back}
 use Rattle.tn_code.proofs.text.dump.Goals as goal
 
 pub returns-then-is_err-clause-err : goal.returns-then-is_err-clause-err

@@ -1,4 +1,4 @@
-use Rattle.tn_code.proofs.Growing.{grows-on}
+use Rattle.tn_code.proofs.Growth.{grows-on}
 use Rattle.tn_code.proofs.text.put_code.Goals as goal
 
 pub returns-in_err-put_number : goal.returns-in_err-put_number

@@ -1,6 +1,6 @@
 use Rattle.std.proofs.Common.{rules, ◌≡◌, ◌+◌, ◌≤◌, ◌∙◌, [], length, refl, ap, sym}
-use Rattle.def_machine.specs.Compiling.{registers_taken, variables_after}
-use Rattle.def_machine.specs.Folding.{folded, folded_clause}
+use Rattle.def_machine.specs.Compilation.{registers_taken, variables_after}
+use Rattle.def_machine.specs.HeadFolds.{fold_head, folded_clause}
 use Rattle.tn_code.specs.Views.{instructions_of}
 use Rattle.tn_spec.specs.Views.{clause_seen, dialect_of, head_seen}
 use Rattle.tn_compile.specs.Heads.{pattern_steps}
@@ -14,9 +14,9 @@ pub returns-clause-emitted : goal.returns-clause-emitted
 returns-clause-emitted g c =
     let k = folded_clause (clause_seen c.args.clause.now) in
     let d = dialect_of c.args.dialect in
-    let made : instructions_of c.in_ok-steps.field-0.steps.items ≡ pattern_steps (folded (head_seen c.args.clause.now.head)) [] 0 1 = search rules in
-    let known : variables_seen c.in_ok-steps.field-0.variables.items ≡ variables_after (folded (head_seen c.args.clause.now.head)) [] 0 1 = search rules in
-    let free : c.in_ok-steps.field-0.free ≡ 1 + registers_taken (folded (head_seen c.args.clause.now.head)) = search rules in
+    let made : instructions_of c.in_ok-steps.field-0.steps.items ≡ pattern_steps (fold_head (head_seen c.args.clause.now.head)) [] 0 1 = search rules in
+    let known : variables_seen c.in_ok-steps.field-0.variables.items ≡ variables_after (fold_head (head_seen c.args.clause.now.head)) [] 0 1 = search rules in
+    let free : c.in_ok-steps.field-0.free ≡ 1 + registers_taken (fold_head (head_seen c.args.clause.now.head)) = search rules in
     clause-is d k c.len-left.result c.in_ok-steps.field-0.free (variables_seen c.as_slice.result.now) (instructions_of c.in_ok-steps.field-0.steps.items) (code_left c.args.code.now) (code_left c.emit.new.code) (code_left c.emit_exprs.new.code) (code_left c.emit_while_true.new.code) (code_left c.put_in_front.new.code) (code_left c.emit-2.new.code)
     (c.len-left.ensures ∙ c.args.code.now.ok.0 ∙ sym (left-length c.args.code.now)) free (ap variables_seen c.as_slice.ensures.value ∙ known) made
     c.in_ok-emit.ensures.emitted c.in_ok-emit_exprs.ensures.emitted c.in_ok-emit_while_true.ensures.emitted c.in_ok-put_in_front.ensures.emitted c.in_ok-emit-2.ensures.emitted

@@ -1,6 +1,6 @@
 use Rattle.std.proofs.Common.{◌≡◌, ◌≤◌, length, map, drop}
 use Rattle.tn_spec.specs.Views.{clause_seen, dialect_of}
-use Rattle.tn_compile.specs.Emitted.{clauses_emitted}
+use Rattle.tn_compile.specs.Emissions.{clauses_emitted}
 use Rattle.tn_compile.specs.Views.{code_left}
 use Rattle.tn_compile.proofs.clauses.emit_clauses.Given as goal
 

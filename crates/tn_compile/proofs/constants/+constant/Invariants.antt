@@ -1,5 +1,5 @@
 use Rattle.std.proofs.Common.{◌≡◌, drop, is_some}
-use Rattle.def_machine.specs.Folding.{constants_in}
+use Rattle.def_machine.specs.HeadFolds.{constants_in}
 use Rattle.tn_spec.specs.Views.{patterns_seen}
 use Rattle.tn_compile.proofs.constants.+constant.Given as goal
 

@@ -1,7 +1,7 @@
 use Rattle.std.proofs.Common.{rules, ◌≡◌, true, is_some, ◌+◌, ◌∷◌, [], ◌∙◌, Some, ap, sym, arith, drop, map, option_map}
 use Rattle.std.proofs.lemmas.List.{map-append, drop_all}
 use Rattle.def_spec.specs.Laws.{trees_before}
-use Rattle.def_machine.specs.Folding.{constant_in, constants_in}
+use Rattle.def_machine.specs.HeadFolds.{constant_in, constants_in}
 use Rattle.tn_term.specs.Views.{tree_of}
 use Rattle.tn_spec.specs.declared.pattern.Pattern as pattern
 use Rattle.tn_spec.specs.Views.{pattern_seen, patterns_seen}

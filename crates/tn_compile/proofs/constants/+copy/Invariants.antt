@@ -1,6 +1,6 @@
 use Rattle.std.proofs.Common.{◌≡◌, drop, map, option_map}
 use Rattle.def_spec.specs.Laws.{trees_before}
-use Rattle.def_machine.specs.Folding.{constants_in}
+use Rattle.def_machine.specs.HeadFolds.{constants_in}
 use Rattle.tn_term.specs.Views.{tree_of}
 use Rattle.tn_spec.specs.Views.{patterns_seen}
 use Rattle.tn_compile.proofs.constants.+copy.Given as goal

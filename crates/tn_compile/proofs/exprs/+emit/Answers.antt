@@ -1,6 +1,6 @@
 use Rattle.std.proofs.Common.{rules, ◌≡◌, ◌+◌, ◌-◌, ◌<◌, ◌≤◌, ◌^◌, ◌∙◌, sym, ap, arith, length, drop}
 use Rattle.def_spec.specs.Expressions.{and_expr}
-use Rattle.def_machine.specs.Compiling.{is_on_self}
+use Rattle.def_machine.specs.Compilation.{is_on_self}
 use Rattle.tn_spec.specs.Sizes.{expr_size}
 use Rattle.std.proofs.lemmas.Result.{on_ok_weaker}
 use Rattle.tn_spec.specs.Views.{func_of, action_of, expr_seen, exprs_seen}

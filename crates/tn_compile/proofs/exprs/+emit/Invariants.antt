@@ -1,7 +1,7 @@
 use Rattle.std.proofs.Common.{◌≡◌, ◌+◌, ◌≤◌, length, drop}
 use Rattle.tn_spec.specs.Views.{exprs_seen}
 use Rattle.tn_compile.specs.Views.{code_left}
-use Rattle.tn_compile.specs.Emitted.{exprs_emitted, while_emitted, until_emitted}
+use Rattle.tn_compile.specs.Emissions.{exprs_emitted, while_emitted, until_emitted}
 use Rattle.tn_compile.proofs.exprs.+emit.Given as goal
 
 abbrev pub invariant-emit_exprs-loop-i : goal.invariant-emit_exprs-loop-i

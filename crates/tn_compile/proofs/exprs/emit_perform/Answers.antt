@@ -1,6 +1,6 @@
 use Rattle.std.proofs.Common.{◌∙◌, ◌∷◌, ap}
 use Rattle.std.proofs.lemmas.Result.{on_ok_weaker}
-use Rattle.def_machine.specs.Compiling.{registers_of, action_code}
+use Rattle.def_machine.specs.Compilation.{registers_of, action_code}
 use Rattle.tn_spec.specs.Views.{dialect_of, action_of, exprs_seen}
 use Rattle.tn_compile.specs.Views.{code_left, variables_seen}
 use Rattle.tn_compile.proofs.exprs.emit_perform.Goals as goal

@@ -1,5 +1,5 @@
 use Rattle.std.proofs.Common.{◌≡◌, ◌+◌, ◌++◌, drop}
-use Rattle.def_machine.specs.Compiling.{registers_of}
+use Rattle.def_machine.specs.Compilation.{registers_of}
 use Rattle.tn_spec.specs.Views.{exprs_seen}
 use Rattle.tn_compile.specs.Views.{variables_seen}
 use Rattle.tn_compile.proofs.exprs.registers_of.Given as goal

@@ -1,8 +1,8 @@
 use Rattle.std.proofs.Common.{◌≡◌, suc, ◌+◌, ◌≤◌, ◌∷◌, [], length, ◌++◌, ◌∙◌, sym, ap, arith, drop}
 use Rattle.std.proofs.lemmas.List.{map-append}
-use Rattle.def_machine.specs.Compiling.{registers_taken, registers_taken_each}
+use Rattle.def_machine.specs.Compilation.{registers_taken, registers_taken_each}
 use Rattle.def_machine.specs.Instructions.{take_element, test_length}
-use Rattle.def_machine.specs.Folding.{folded, folded_each}
+use Rattle.def_machine.specs.HeadFolds.{fold_head, folded_each}
 use Rattle.tn_code.specs.Views.{instruction_of, instructions_of}
 use Rattle.tn_spec.specs.Views.{pattern_seen, patterns_seen}
 use Rattle.tn_compile.specs.Views.{variables_seen}
@@ -13,16 +13,16 @@ pub walk_each-overflow_add-head : goal.walk_each-overflow_add-head
 walk_each-overflow_add-head g t c =
     let size = c.len-index-end.ensures ∙ c.args.patterns.now.ok.0 in
     let here = ap folded_each (patterns_here c.args.patterns.now.items c.loop-index.index c.index-pattern.result.now (omega (arith, size)) c.index-pattern.ensures) in
-    let taken : registers_taken_each (folded_each (patterns_seen (drop c.loop-index.index c.args.patterns.now.items))) ≡ suc (registers_taken (folded (pattern_seen c.index-pattern.result.now))) + registers_taken_each (folded_each (patterns_seen (drop (c.loop-index.index + 1) c.args.patterns.now.items))) = ap registers_taken_each here in
+    let taken : registers_taken_each (folded_each (patterns_seen (drop c.loop-index.index c.args.patterns.now.items))) ≡ suc (registers_taken (fold_head (pattern_seen c.index-pattern.result.now))) + registers_taken_each (folded_each (patterns_seen (drop (c.loop-index.index + 1) c.args.patterns.now.items))) = ap registers_taken_each here in
     omega (arith, taken, c.requires.room, c.loop-index.invariant.free)
 
 pub walk_each-loop-index-preserved : goal.walk_each-loop-index-preserved
 walk_each-loop-index-preserved g t c =
     let size = c.len-index-end.ensures ∙ c.args.patterns.now.ok.0 in
     let ps = c.args.patterns.now.items in
-    let p = folded (pattern_seen c.index-pattern.result.now) in
+    let p = fold_head (pattern_seen c.index-pattern.result.now) in
     let here = ap folded_each (patterns_here ps c.loop-index.index c.index-pattern.result.now (omega (arith, size)) c.index-pattern.ensures) in
-    let taken : registers_taken_each (folded_each (patterns_seen (drop c.loop-index.index c.args.patterns.now.items))) ≡ suc (registers_taken (folded (pattern_seen c.index-pattern.result.now))) + registers_taken_each (folded_each (patterns_seen (drop (c.loop-index.index + 1) c.args.patterns.now.items))) = ap registers_taken_each here in
+    let taken : registers_taken_each (folded_each (patterns_seen (drop c.loop-index.index c.args.patterns.now.items))) ≡ suc (registers_taken (fold_head (pattern_seen c.index-pattern.result.now))) + registers_taken_each (folded_each (patterns_seen (drop (c.loop-index.index + 1) c.args.patterns.now.items))) = ap registers_taken_each here in
     let pushed : instructions_of c.push.new.self.items ≡ instructions_of c.loop-index.head.steps.items ++ take_element c.loop-index.head.free c.args.register c.loop-index.index 0 ∷ [] =
     ap instructions_of c.in_ok-push.ensures.items ∙ map-append instruction_of c.loop-index.head.steps.items (_ ∷ []) in
     record {

@@ -1,6 +1,6 @@
 use Rattle.std.proofs.Common.{◌≡◌, ◌+◌, ◌++◌, drop}
-use Rattle.def_machine.specs.Compiling.{registers_taken_each, variables_after_each}
-use Rattle.def_machine.specs.Folding.{folded_each}
+use Rattle.def_machine.specs.Compilation.{registers_taken_each, variables_after_each}
+use Rattle.def_machine.specs.HeadFolds.{folded_each}
 use Rattle.tn_code.specs.Views.{instructions_of}
 use Rattle.tn_spec.specs.Views.{patterns_seen}
 use Rattle.tn_compile.specs.Heads.{each_steps}

@@ -1,7 +1,7 @@
 use Rattle.std.proofs.Common.{ap, ◌∙◌}
 use Rattle.std.specs.List.{insert}
 use Rattle.tn_compile.specs.Views.{variables_seen}
-use Rattle.tn_compile.specs.declared.scene.VariableRegister.{VariableRegister}
+use Rattle.tn_compile.specs.declared.emit_context.VariableRegister.{VariableRegister}
 use Rattle.tn_compile.proofs.Walks.{inserted, place_in}
 use Rattle.tn_compile.proofs.heads.add_variable.Goals as goal
 

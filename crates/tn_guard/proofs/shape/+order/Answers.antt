@@ -3,7 +3,7 @@ use Rattle.std.specs.Ordering.{nat_cmp, ordering_then}
 use Rattle.std.specs.declared.cmp.Ordering.TheVariants.{Equal}
 use Rattle.def_term.specs.Order.{tree_cmp, trees_cmp}
 use Rattle.tn_term.proofs.Trees.{then_unequal}
-use Rattle.tn_guard.specs.Views.{shape_seen, parts_seen}
+use Rattle.tn_guard.specs.Views.{shape_seen, list_view_seen}
 use Rattle.tn_guard.proofs.Places.{rest_from, rest_here, rest_end, nth_depth}
 use Rattle.tn_guard.proofs.shape.+order.Goals as goal
 
@@ -13,13 +13,13 @@ order_parts-loop-i-init g t c = refl
 
 pub order_parts-order_shapes-requires : goal.order_parts-order_shapes-requires
 order_parts-order_shapes-requires g t c =
-    let shallow = nth_depth (parts_seen c.args.v) c.loop-i.i (shape_seen c.shape.result) (ap Some c.shape.ensures ∙ c.at.ensures) in
+    let shallow = nth_depth (list_view_seen c.args.v) c.loop-i.i (shape_seen c.shape.result) (ap Some c.shape.ensures ∙ c.at.ensures) in
     λ κs within. (omega (arith, c.decreases), within)
 
 pub order_parts-returns-in_default : goal.order_parts-returns-in_default
 order_parts-returns-in_default g t c =
-    let ts = parts_seen c.args.v in
-    let us = parts_seen c.args.w in
+    let ts = list_view_seen c.args.v in
+    let us = list_view_seen c.args.w in
     let one = shape_seen c.shape.result in
     let other = shape_seen c.shape-in-loop-i.result in
     let rest = trees_cmp (rest_from (c.loop-i.i + 1) ts) (rest_from (c.loop-i.i + 1) us) in
@@ -28,8 +28,8 @@ order_parts-returns-in_default g t c =
 
 pub order_parts-loop-i-preserved : goal.order_parts-loop-i-preserved
 order_parts-loop-i-preserved g t c =
-    let ts = parts_seen c.args.v in
-    let us = parts_seen c.args.w in
+    let ts = list_view_seen c.args.v in
+    let us = list_view_seen c.args.w in
     let one = shape_seen c.shape.result in
     let other = shape_seen c.shape-in-loop-i.result in
     let rest = trees_cmp (rest_from (c.loop-i.i + 1) ts) (rest_from (c.loop-i.i + 1) us) in
@@ -39,7 +39,7 @@ order_parts-loop-i-preserved g t c =
 
 pub order_parts-returns : goal.order_parts-returns
 order_parts-returns g t c =
-    let ts = parts_seen c.args.v in
-    let us = parts_seen c.args.w in
+    let ts = list_view_seen c.args.v in
+    let us = list_view_seen c.args.w in
     let ended = rest_end ts us c.loop-i.i (omega (arith, c.len.ensures.counted, c.len-2.ensures.counted)) in
     c.cmp.ensures ∙ ap₂ nat_cmp c.len-3.ensures.counted c.len-4.ensures.counted ∙ sym ended ∙ c.loop-i.invariant

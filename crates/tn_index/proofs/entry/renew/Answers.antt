@@ -11,6 +11,6 @@ loop-entry-preserved g c =
     let x = get_or l.entry-items l.entry-index c.entry-item.result in
     let at : x ≡ get_or l.entry-items l.entry-index x = ap (get_or l.entry-items l.entry-index) c.entry-item.is in
     elim c.if-has_among.branch [
-      | then-has_among w ↦ one_more_renewed c.args.covering.now c.args.place xs l.entry-items _ l.entry-index x true below l.invariant at (sym w.if-has_among.true ∙ c.has_among.ensures) w.entry-items-is
-      | else-has_among w ↦ one_more_renewed c.args.covering.now c.args.place xs l.entry-items _ l.entry-index x false below l.invariant at (sym w.if-has_among.false ∙ c.has_among.ensures) w.entry-items-is
+      | then-has_among w ↦ one_more_renewed c.args.function_setting.now c.args.place xs l.entry-items _ l.entry-index x true below l.invariant at (sym w.if-has_among.true ∙ c.has_among.ensures) w.entry-items-is
+      | else-has_among w ↦ one_more_renewed c.args.function_setting.now c.args.place xs l.entry-items _ l.entry-index x false below l.invariant at (sym w.if-has_among.false ∙ c.has_among.ensures) w.entry-items-is
     ]

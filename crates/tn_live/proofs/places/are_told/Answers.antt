@@ -2,8 +2,8 @@ use Rattle.std.proofs.Common.{◌∙◌, sym, ap, refl, arith, rules, map, Some}
 use Rattle.std.proofs.lemmas.List.{take_all}
 use Rattle.std.proofs.lemmas.Bool.{false≢true}
 use Rattle.tn_trace.specs.Items.{item_seen}
-use Rattle.tn_live.specs.Places.{told_at}
-use Rattle.tn_live.proofs.Answering.{told_one, told_next}
+use Rattle.tn_live.specs.Places.{reported_at}
+use Rattle.tn_live.proofs.Answers.{told_one, told_next}
 use Rattle.tn_live.proofs.places.are_told.Goals as goal
 
 pub returns-then-not-is_told : goal.returns-then-not-is_told
@@ -12,18 +12,18 @@ returns-then-not-is_told g c = λ p picks core. (
   λ all.
       absurd (false≢true
       ((c.if-not-is_told.ensures p picks core).1
-      (told_one (told_at p picks) (λ x. Some (item_seen x)) c.args.places.now c.args.items.now c.loop-at.at _ c.index-items-at.result (omega arith) (omega arith) c.index-items-at.is all))),
+      (told_one (reported_at p picks) (λ x. Some (item_seen x)) c.args.places.now c.args.items.now c.loop-at.at _ c.index-items-at.result (omega arith) (omega arith) c.index-items-at.is all))),
 )
 
 pub loop-at-preserved : goal.loop-at-preserved
 loop-at-preserved g c = λ p picks core.
-    told_next (told_at p picks) (λ x. Some (item_seen x)) c.args.places.now c.args.items.now c.loop-at.at _ c.index-items-at.result (omega arith) (omega arith) c.index-items-at.is (c.loop-at.invariant p picks core)
+    told_next (reported_at p picks) (λ x. Some (item_seen x)) c.args.places.now c.args.items.now c.loop-at.at _ c.index-items-at.result (omega arith) (omega arith) c.index-items-at.is (c.loop-at.invariant p picks core)
     ((c.is_told.ensures p picks core).0 (search rules))
 
 pub returns : goal.returns
 returns g c = λ p picks core. (
   λ _.
-      ap (map (told_at p picks)) (sym (take_all c.loop-at.at c.args.places.now (omega arith))) ∙ c.loop-at.invariant p picks core
+      ap (map (reported_at p picks)) (sym (take_all c.loop-at.at c.args.places.now (omega arith))) ∙ c.loop-at.invariant p picks core
       ∙ ap (map (λ x. Some (item_seen x))) (take_all c.loop-at.at c.args.items.now (omega arith)),
   λ _. refl,
 )

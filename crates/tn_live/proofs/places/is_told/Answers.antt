@@ -1,7 +1,7 @@
 use Rattle.std.proofs.Common.{rules}
 use Rattle.tn_trace.specs.Items.{item_seen}
 use Rattle.tn_live.specs.Places.{message_at}
-use Rattle.tn_live.proofs.Answering.{told_same, told_none}
+use Rattle.tn_live.proofs.Answers.{told_same, told_none}
 use Rattle.tn_live.proofs.places.is_told.Goals as goal
 
 pub returns-in-Some : goal.returns-in-Some

@@ -1,5 +1,5 @@
 use Rattle.tn_term.specs.Views.{tree_of}
-use Rattle.tn_live.proofs.Answering.{nth_is, nth_none}
+use Rattle.tn_live.proofs.Answers.{nth_is, nth_none}
 use Rattle.tn_live.proofs.places.nth_message.Goals as goal
 
 pub returns-in-Some : goal.returns-in-Some

@@ -1,5 +1,5 @@
 use Rattle.std.proofs.Common.{take}
-use Rattle.tn_live.specs.Closing.{AreEntered}
+use Rattle.tn_live.specs.ClosedJournals.{AreEntered}
 use Rattle.tn_live.proofs.seat.are_entered.Given as goal
 
 abbrev pub invariant-loop-entry : goal.invariant-loop-entry

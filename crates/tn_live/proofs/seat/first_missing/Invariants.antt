@@ -1,4 +1,4 @@
-use Rattle.tn_live.specs.Closing.{AreHanded}
+use Rattle.tn_live.specs.ClosedJournals.{AreHanded}
 use Rattle.tn_live.proofs.seat.first_missing.Given as goal
 
 abbrev pub invariant-loop-number : goal.invariant-loop-number

@@ -1,5 +1,5 @@
 use Rattle.std.proofs.Common.{◌≡◌, take}
-use Rattle.tn_live.specs.Closing.{made_in_all}
+use Rattle.tn_live.specs.ClosedJournals.{made_in_all}
 use Rattle.tn_live.proofs.seat.total_made.Given as goal
 
 abbrev pub invariant-loop-seat : goal.invariant-loop-seat

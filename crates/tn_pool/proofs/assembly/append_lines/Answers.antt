@@ -1,6 +1,6 @@
 use Rattle.std.proofs.Common.{◌<◌, length, rules}
 use Rattle.tn_term.specs.Views.{tree_of}
-use Rattle.tn_pool.proofs.Listed.{next_line}
+use Rattle.tn_pool.proofs.Listings.{next_line}
 use Rattle.tn_pool.proofs.assembly.append_lines.Goals as goal
 
 pub loop-index-preserved : goal.loop-index-preserved

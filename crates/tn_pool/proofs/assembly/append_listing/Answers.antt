@@ -4,12 +4,12 @@ use Rattle.def_script.specs.Program.{Program}
 use Rattle.def_script.specs.Script.{creations}
 use Rattle.tn_trace.specs.Cores.{Lists}
 use Rattle.tn_live.specs.Journal.{picks_of}
-use Rattle.tn_pool.proofs.Listed.{terms_listed, if_ok_of}
+use Rattle.tn_pool.proofs.Listings.{terms_listed, if_ok_of}
 use Rattle.tn_pool.proofs.assembly.append_listing.Goals as goal
 
 pub returns : goal.returns
 returns g c =
-    let p = g.J.Naming.program in
+    let p = g.J.JournalName.program in
     let picks = picks_of c.args.closed.now in
     let named : Some (c.in-Some.name.now, c.in-Some.tracer.now) ≡ slice_get (creations p.commands) c.args.number =
     c.in-Some.ensures ∙ ap (λ (q : Program). slice_get (creations q.commands) c.args.number) c.program.ensures in

@@ -6,4 +6,4 @@ use Rattle.tn_pool.proofs.assembly.append_listings.Given as goal
 
 abbrev pub invariant-loop-number : goal.invariant-loop-number
 invariant-loop-number g l =
-    l.text.items ≡ l.initial.text.items ++ listings_text (λ s. messages s g.J.Naming.program (picks_of l.closed)) (take l.number (creations g.J.Naming.program.commands))
+    l.text.items ≡ l.initial.text.items ++ listings_text (λ s. messages s g.J.JournalName.program (picks_of l.closed)) (take l.number (creations g.J.JournalName.program.commands))

@@ -8,7 +8,7 @@ use Rattle.tn_pool.proofs.assembly.assemble.Goals as goal
 
 pub returns-clause-text : goal.returns-clause-text
 returns-clause-text g c =
-    let p = g.J.Naming.program in
+    let p = g.J.JournalName.program in
     let entered = picks_of c.args.closed.now in
     let picked : c.in_ok-picks.picks.items ≡ entered = c.in_ok-picks.ensures.picks in
     let moved : moves p entered ≡ entered = subst (λ ks. moves p ks ≡ ks) picked c.in_ok-picks.ensures.moved in

@@ -1,6 +1,6 @@
 use Rattle.std.proofs.Common.{refl, rules}
-use Rattle.tn_pool.proofs.Earned.{on_still}
-use Rattle.tn_pool.proofs.Ended.{turned_without_room, turned_without_token, turned_given, turned_kept}
+use Rattle.tn_pool.proofs.SeatReceipts.{on_still}
+use Rattle.tn_pool.proofs.WorkerEnds.{turned_without_room, turned_without_token, turned_given, turned_kept}
 use Rattle.tn_pool.proofs.worker.turn.Goals as goal
 
 pub returns-then-is_err-clause-works : goal.returns-then-is_err-clause-works

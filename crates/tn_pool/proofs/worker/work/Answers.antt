@@ -1,6 +1,6 @@
 use Rattle.std.proofs.Common.{arith, refl}
-use Rattle.tn_pool.proofs.Earned.{on_still, on_both}
-use Rattle.tn_pool.proofs.Ended.{still_accounted}
+use Rattle.tn_pool.proofs.SeatReceipts.{on_still, on_both}
+use Rattle.tn_pool.proofs.WorkerEnds.{still_accounted}
 use Rattle.tn_pool.proofs.worker.work.Goals as goal
 
 pub loop-init : goal.loop-init

@@ -1,5 +1,5 @@
 use Rattle.std.proofs.Common.{arith}
-use Rattle.tn_pool.proofs.Reported.{packed, all_new, ready_at, unused_last, unused_still}
+use Rattle.tn_pool.proofs.Reports.{packed, all_new, ready_at, unused_last, unused_still}
 use Rattle.tn_pool.proofs.workers.pack.Goals as goal
 
 pub loop-seat-preserved : goal.loop-seat-preserved

@@ -1,5 +1,5 @@
 use Rattle.std.proofs.Common.{rules, arith, ◌≡◌, length, ap, ◌*◌}
-use Rattle.tn_pool.proofs.Reported.{run_reports, run_count, run_endings}
+use Rattle.tn_pool.proofs.Reports.{run_reports, run_count, run_endings}
 use Rattle.tn_pool.proofs.workers.run_workers.Goals as goal
 
 pub unpack-requires-clause-room : goal.unpack-requires-clause-room

@@ -1,7 +1,7 @@
 use Rattle.std.proofs.Common.{arith, ap, ◌≡◌, []}
 use Rattle.std.specs.Vec.Iter.{into_iter_items}
-use Rattle.tn_pool.specs.Reports.{count_of}
-use Rattle.tn_pool.proofs.Reported.{seats_on, receipts_on, tokens_on, fault_on, seats_all, receipts_all, tokens_all, fault_all, nothing_left}
+use Rattle.tn_pool.specs.Reports.{member_count}
+use Rattle.tn_pool.proofs.Reports.{seats_on, receipts_on, tokens_on, fault_on, seats_all, receipts_all, tokens_all, fault_all, nothing_left}
 use Rattle.tn_pool.proofs.workers.unpack.Goals as goal
 
 pub loop-worker-preserved : goal.loop-worker-preserved
@@ -14,7 +14,7 @@ loop-worker-preserved g c =
       seats_on _ _ _ _ _ _ i.2 st.0 a.seats,
       receipts_on _ _ _ _ _ _ i.3 st.0 a.receipts,
       omega (arith, i.4, st.1, a.seats_room.0, a.seats_room.1),
-      omega (arith, i.5, ap count_of st.0, a.receipts_room.0, a.receipts_room.1),
+      omega (arith, i.5, ap member_count st.0, a.receipts_room.0, a.receipts_room.1),
       omega (arith, i.6, st.1, a.tokens_room.0, a.tokens_room.1),
       tokens_on _ _ _ _ _ _ i.7 st.0 a.tokens,
       fault_on _ _ _ _ _ _ i.8 st.0 a.fault,

@@ -3,7 +3,7 @@ use Rattle.std.proofs.lemmas.List.{drop_all}
 use Rattle.def_script.specs.Rules.{is_creation}
 use Rattle.def_script.specs.Script.{creations}
 use Rattle.tn_flags.specs.Views.{command_of}
-use Rattle.tn_program.proofs.Made.{creations_at, one_counted, weighs_little}
+use Rattle.tn_program.proofs.CreatedSessions.{creations_at, one_counted, weighs_little}
 use Rattle.tn_program.proofs.creations.count_sessions.Goals as goal
 
 pub overflow_add-count : goal.overflow_add-count

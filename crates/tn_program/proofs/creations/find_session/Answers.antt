@@ -2,7 +2,7 @@ use Rattle.std.proofs.Common.{◌+◌, map, drop, slice_get, sym, ap, ◌∙◌,
 use Rattle.std.proofs.lemmas.List.{drop_all}
 use Rattle.def_script.specs.Script.{creations}
 use Rattle.tn_flags.specs.Views.{command_of}
-use Rattle.tn_program.proofs.Made.{creations_at, found_here, passed_over}
+use Rattle.tn_program.proofs.CreatedSessions.{creations_at, found_here, passed_over}
 use Rattle.tn_program.proofs.creations.find_session.Goals as goal
 
 pub returns-then-is_found : goal.returns-then-is_found

@@ -2,7 +2,7 @@ use Rattle.std.specs.Vec.Iter.{into_iter_items}
 use Rattle.def_script.specs.Rules.{function_of_form, entry_of_form, commands_of_form}
 use Rattle.tn_flags.specs.Views.{command_of}
 use Rattle.tn_script.specs.Views.{function_of, entry_of, form_of}
-use Rattle.tn_program.proofs.Gathered.{GatheredSo}
+use Rattle.tn_program.proofs.FormParts.{GatheredSo}
 use Rattle.tn_program.proofs.gather.gather.Given as goal
 
 abbrev pub invariant-loop-form : goal.invariant-loop-form

@@ -1,5 +1,5 @@
 use Rattle.std.proofs.Common.{map, refl, sym, ◌∙◌}
-use Rattle.tn_program.specs.Naming.{step_breaks}
+use Rattle.tn_program.specs.Declarations.{step_breaks}
 use Rattle.tn_script.specs.Views.{step_of, form_of}
 use Rattle.tn_program.proofs.Any.{any_found, any_next, any_none}
 use Rattle.tn_program.proofs.rules.any_against.Goals as goal

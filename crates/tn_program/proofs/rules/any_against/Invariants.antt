@@ -1,6 +1,6 @@
 use Rattle.std.proofs.Common.{◌≡◌, map, drop}
 use Rattle.std.specs.List.{list_any}
-use Rattle.tn_program.specs.Naming.{step_breaks}
+use Rattle.tn_program.specs.Declarations.{step_breaks}
 use Rattle.tn_script.specs.Views.{step_of, form_of}
 use Rattle.tn_program.proofs.rules.any_against.Given as goal
 

@@ -1,7 +1,7 @@
 use Rattle.std.proofs.Common.{map, ◌∙◌}
 use Rattle.tn_term.specs.Views.{tree_of}
-use Rattle.tn_program.specs.Bound.{names_in}
-use Rattle.tn_program.proofs.Unbound.{all_of}
+use Rattle.tn_program.specs.Variables.{names_in}
+use Rattle.tn_program.proofs.BoundVariables.{all_of}
 use Rattle.tn_program.proofs.variables.args_unbound.Goals as goal
 
 pub returns : goal.returns

@@ -2,8 +2,8 @@ use Rattle.std.proofs.Common.{◌≡◌, [], ◌∷◌, ◌++◌, ap, sym, ◌�
 use Rattle.std.specs.Option.{option_map}
 use Rattle.def_term.specs.Text.{is_among}
 use Rattle.tn_script.specs.Views.{step_of}
-use Rattle.tn_program.specs.Bound.{target_names}
-use Rattle.tn_program.proofs.Unbound.{adds_one}
+use Rattle.tn_program.specs.Variables.{target_names}
+use Rattle.tn_program.proofs.BoundVariables.{adds_one}
 use Rattle.tn_program.proofs.variables.bind.Goals as goal
 
 pub returns-in_ok-insert-in-Some : goal.returns-in_ok-insert-in-Some

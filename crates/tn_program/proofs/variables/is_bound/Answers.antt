@@ -1,5 +1,5 @@
 use Rattle.std.proofs.Common.{◌∙◌}
-use Rattle.tn_program.proofs.Unbound.{known_among}
+use Rattle.tn_program.proofs.BoundVariables.{known_among}
 use Rattle.tn_program.proofs.variables.is_bound.Goals as goal
 
 pub returns : goal.returns

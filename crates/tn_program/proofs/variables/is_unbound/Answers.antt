@@ -3,9 +3,9 @@ use Rattle.std.proofs.lemmas.List.{append-nil}
 use Rattle.def_script.specs.Shapes.{self_name}
 use Rattle.def_script.specs.Rules.{any_has_other, bound_before, terms_of, any_with_earlier}
 use Rattle.tn_script.specs.Views.{step_of, function_of}
-use Rattle.tn_program.specs.Bound.{names_in, target_names}
+use Rattle.tn_program.specs.Variables.{names_in, target_names}
 use Rattle.tn_program.proofs.Any.{earlier_begins, earlier_found, earlier_next, earlier_none}
-use Rattle.tn_program.proofs.Unbound.{bound_more, any_same, same_as}
+use Rattle.tn_program.proofs.BoundVariables.{bound_more, any_same, same_as}
 use Rattle.tn_program.proofs.variables.is_unbound.Goals as goal
 
 pub loop-step-init : goal.loop-step-init

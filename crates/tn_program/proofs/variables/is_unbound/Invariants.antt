@@ -1,7 +1,7 @@
 use Rattle.std.proofs.Common.{[], map, take}
 use Rattle.def_script.specs.Rules.{any_has_other, bound_before, terms_of}
 use Rattle.tn_script.specs.Views.{step_of, function_of}
-use Rattle.tn_program.specs.Bound.{names_in, HaveSame}
+use Rattle.tn_program.specs.Variables.{names_in, HaveSame}
 use Rattle.tn_program.proofs.Any.{EarlierSo}
 use Rattle.tn_program.proofs.variables.is_unbound.Given as goal
 

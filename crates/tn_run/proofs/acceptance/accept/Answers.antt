@@ -8,5 +8,5 @@ returns-in-Ok-program g c = accepted {A = g.row.A.Denot} c.args.bytes.now c.in-O
 
 pub returns-in-Err-program : goal.returns-in-Err-program
 returns-in-Err-program g c =
-    subst (λ d. IsAccepted {A = g.row.A.Denot} c.args.bytes.now (Err d)) (sym c.of_rule_fault.ensures)
+    subst (λ d. IsAccepted {A = g.row.A.Denot} c.args.bytes.now (Err d)) (sym c.denial_of_rules.ensures)
     (denied_by_rules {A = g.row.A.Denot} c.args.bytes.now c.in-Ok.forms.items c.in-Ok.ensures c.in-Err-program.fault c.in-Err-program.ensures)

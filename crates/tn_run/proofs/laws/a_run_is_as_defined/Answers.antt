@@ -1,4 +1,4 @@
-use Rattle.tn_run.proofs.Defined.{run_is_as_defined, round_is_as_defined, workers_run_as_defined}
+use Rattle.tn_run.proofs.Answers.{run_is_as_defined, round_is_as_defined, workers_run_as_defined}
 use Rattle.tn_run.proofs.laws.a_run_is_as_defined.Goals as goal
 
 pub returns : goal.returns

@@ -3,7 +3,7 @@ use Rattle.std.specs.Option.{option_map}
 use Rattle.def_script.specs.Program.{create, set_send}
 use Rattle.tn_term.specs.Views.{tree_of}
 use Rattle.tn_flags.specs.Views.{command_of}
-use Rattle.tn_script.proofs.Created.{created, not_created}
+use Rattle.tn_script.proofs.Creations.{created, not_created}
 use Rattle.tn_script.proofs.commands.create_command.Goals as goal
 
 pub returns-in_err-session : goal.returns-in_err-session

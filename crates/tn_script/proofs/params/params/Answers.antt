@@ -6,7 +6,7 @@ use Rattle.def_term.specs.Names.{Name}
 use Rattle.def_script.specs.Shapes.{variable_in}
 use Rattle.tn_term.specs.Views.{tree_of}
 use Rattle.tn_script.proofs.Each.{each_length}
-use Rattle.tn_script.proofs.Declared.{few_still}
+use Rattle.tn_script.proofs.Functions.{few_still}
 use Rattle.tn_script.proofs.params.params.Goals as goal
 
 pub returns-in-Some-2-clause-few : goal.returns-in-Some-2-clause-few

@@ -1,6 +1,6 @@
 use Rattle.std.proofs.Common.{map}
 use Rattle.tn_term.specs.Views.{tree_of}
-use Rattle.tn_script.proofs.Spelled.{spelled_forms}
+use Rattle.tn_script.proofs.FormTexts.{spelled_forms}
 use Rattle.tn_script.proofs.script.forms.Goals as goal
 
 pub returns-in-Ok : goal.returns-in-Ok

@@ -5,7 +5,7 @@ use Rattle.tn_term.specs.Views.{tree_of}
 use Rattle.tn_script.specs.Views.{step_of}
 use Rattle.tn_script.specs.Bodies.{body_of}
 use Rattle.tn_script.proofs.OfTerms.{no_function}
-use Rattle.tn_script.proofs.Declared.{declared, headless, not_declared}
+use Rattle.tn_script.proofs.Functions.{declared, headless, not_declared}
 use Rattle.tn_script.proofs.shapes.function_form.Goals as goal
 
 pub returns-in_default : goal.returns-in_default

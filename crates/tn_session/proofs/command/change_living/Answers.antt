@@ -1,7 +1,7 @@
 use Rattle.std.proofs.Common.{◌<◌, ◌∙◌, length, sym, refl, ap, arith}
 use Rattle.tn_term.specs.Views.{alive_of}
 use Rattle.tn_flags.specs.Views.{flags_of, table_of}
-use Rattle.tn_session.proofs.Existing.{nothing_changed, living_case, other_case, all_places}
+use Rattle.tn_session.proofs.LivingFlags.{nothing_changed, living_case, other_case, all_places}
 use Rattle.tn_session.proofs.command.change_living.Goals as goal
 use Rattle.tn_session.proofs.command.change_living.Goals.{then-has_place, else-has_place}
 
@@ -14,7 +14,7 @@ loop-place-preserved c =
     let start = table_of c.args.table.now in
     let below : l.place < length start = omega (arith, c.loop-place-test.true, c.len-place-end.ensures.counted) in
     elim c.if-has_place.branch [
-      | then-has_place w ↦ living_case c.args.on (flags_of c.args.flags) (alive_of c.args.alive) start (table_of l.table) l.place below l.invariant _ _ _ _ refl w.of.ensures w.changed.ensures (ap table_of w.table-is ∙ w.set.ensures) (sym w.if-has_place.true ∙ c.has_place.ensures)
+      | then-has_place w ↦ living_case c.args.on (flags_of c.args.flags) (alive_of c.args.alive) start (table_of l.table) l.place below l.invariant _ _ _ _ refl w.of.ensures w.change_flags.ensures (ap table_of w.table-is ∙ w.set.ensures) (sym w.if-has_place.true ∙ c.has_place.ensures)
       | else-has_place w ↦ other_case c.args.on (flags_of c.args.flags) (alive_of c.args.alive) start (table_of l.table) l.place below l.invariant _ (ap table_of w.table-is) (sym w.if-has_place.false ∙ c.has_place.ensures)
     ]
 

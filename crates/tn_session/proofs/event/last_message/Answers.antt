@@ -1,6 +1,6 @@
 use Rattle.std.proofs.Common.{◌∙◌, ◌∷◌, [], sym, ap, map}
 use Rattle.def_session.specs.Messages.{last_message, later}
-use Rattle.tn_machine.specs.Lent.{effect_seen}
+use Rattle.tn_machine.specs.Types.{effect_seen}
 use Rattle.tn_session.proofs.Effects.{popped, no_message}
 use Rattle.tn_session.proofs.event.last_message.Goals as goal
 

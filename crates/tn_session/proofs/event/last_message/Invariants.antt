@@ -1,6 +1,6 @@
 use Rattle.std.proofs.Common.{◌≡◌, map, vec_len}
 use Rattle.def_session.specs.Messages.{last_message}
-use Rattle.tn_machine.specs.Lent.{effect_seen}
+use Rattle.tn_machine.specs.Types.{effect_seen}
 use Rattle.tn_session.proofs.event.last_message.Given as goal
 
 abbrev pub invariant-loop-effect : goal.invariant-loop-effect

@@ -1,6 +1,6 @@
 use Rattle.std.proofs.Common.{◌≡◌, map, drop}
 use Rattle.def_session.specs.Session.{mark_asked}
-use Rattle.tn_machine.specs.Lent.{effect_seen}
+use Rattle.tn_machine.specs.Types.{effect_seen}
 use Rattle.tn_session.proofs.Effects.{mark_so_far}
 use Rattle.tn_session.proofs.marks.mark_for.Given as goal
 

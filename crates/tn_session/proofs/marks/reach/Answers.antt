@@ -1,6 +1,6 @@
 use Rattle.std.proofs.Common.{◌∙◌, ◌<◌, length, ap, arith}
 use Rattle.tn_session.specs.Views.{newest_first, marks_seen}
-use Rattle.tn_session.proofs.Marking.{one_more_empty}
+use Rattle.tn_session.proofs.MarkLemmas.{one_more_empty}
 use Rattle.tn_session.proofs.marks.reach.Goals as goal
 
 pub loop-marks-preserved : goal.loop-marks-preserved

@@ -1,5 +1,5 @@
 use Rattle.tn_term.specs.Views.{mfa_seen}
-use Rattle.tn_text.proofs.Writing.{grows_on, on_failed}
+use Rattle.tn_text.proofs.Growth.{grows_on, on_failed}
 use Rattle.tn_session.proofs.Texts.{thrice, names_closed, grows_by}
 use Rattle.tn_session.proofs.text.put_args.Goals as goal
 

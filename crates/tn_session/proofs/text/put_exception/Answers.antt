@@ -1,7 +1,7 @@
 use Rattle.std.proofs.Common.{◌∙◌, ◌++◌, ap}
 use Rattle.tn_flags.specs.Views.{class_of}
 use Rattle.tn_term.specs.Views.{tree_of}
-use Rattle.tn_text.proofs.Writing.{grows_on, on_failed}
+use Rattle.tn_text.proofs.Growth.{grows_on, on_failed}
 use Rattle.tn_session.proofs.Texts.{four_times, exception_closed, grows_by}
 use Rattle.tn_session.proofs.text.put_exception.Goals as goal
 

@@ -1,4 +1,4 @@
-use Rattle.tn_text.proofs.Writing.{grows_on, on_failed}
+use Rattle.tn_text.proofs.Growth.{grows_on, on_failed}
 use Rattle.tn_session.proofs.Texts.{grows_by}
 use Rattle.tn_session.proofs.text.put_front.Goals as goal
 

@@ -1,6 +1,6 @@
 use Rattle.std.proofs.Common.{◌≡◌, ◌∙◌, ◌<◌, ◌≤◌, length, get_or, subst, rules}
-use Rattle.tn_text.proofs.Writing.{grows_none, grows_on, on_failed, some_there, first_written, all_written}
-use Rattle.tn_session.proofs.Texts.{grows_same, one_more_behind}
+use Rattle.tn_text.proofs.Growth.{grows_none, grows_on, on_failed, some_there, first_written, all_written}
+use Rattle.tn_session.proofs.Texts.{grows_same, one_more_after}
 use Rattle.tn_session.proofs.text.put_joined.Goals as goal
 
 pub returns-then-is_empty-clause-grows : goal.returns-then-is_empty-clause-grows
@@ -35,7 +35,7 @@ loop-i-preserved g c =
     let below : i < length items = subst (λ n. i < n) (c.len-i-end.ensures ∙ c.args.items.now.ok.0) c.loop-i-test.true in
     let is : x ≡ get_or items i x = search rules in
     record {
-      written = one_more_behind items i x c.loop-i.out.items c.put_more.new.out.items _ below is c.loop-i.invariant.written c.in_ok-put_more.ensures.ok;
+      written = one_more_after items i x c.loop-i.out.items c.put_more.new.out.items _ below is c.loop-i.invariant.written c.in_ok-put_more.ensures.ok;
       grows = grows_on c.loop-i.invariant.grows c.put_more.ensures.grows;
     }
 

@@ -1,5 +1,5 @@
 use Rattle.tn_term.specs.Views.{trees_of}
-use Rattle.tn_text.proofs.Writing.{grows_on, on_failed, enclosed_written}
+use Rattle.tn_text.proofs.Growth.{grows_on, on_failed, enclosed_written}
 use Rattle.tn_session.proofs.Texts.{grows_by}
 use Rattle.tn_session.proofs.text.write_list.Goals as goal
 

@@ -6,7 +6,7 @@ use Rattle.def_spec.specs.Reading.{is_constant, expr_of}
 use Rattle.tn_term.specs.Views.{tree_of, trees_of}
 use Rattle.tn_term.proofs.Views.{tree_of_int, tree_of_pid, tree_of_list, tree_of_atom, tree_of_tuple}
 use Rattle.tn_spec.specs.Answers.{IsRead, each_read}
-use Rattle.tn_spec.specs.Names.{called_seen, part_seen}
+use Rattle.tn_spec.specs.Names.{called_seen, position_seen}
 use Rattle.tn_spec.specs.Readings.{head_in}
 use Rattle.tn_spec.specs.Views.{dialect_of, expr_seen, expr_list}
 use Rattle.tn_spec.proofs.Arms.{atom_expr_read, pid_expr, tuple_expr_read}
@@ -22,7 +22,7 @@ call_expr-returns-then-is_const g t c =
     let counted = further_counted xs (c.len-args.result - 1) (omega arith) in
     let const : is_constant c.args.name.now (trees_of (drop 1 xs)) ≡ true = const_is c.args.name.now c.text.result.now (c.len-args.result - 1) _ c.is_const.result true c.is_const.ensures c.text.ensures.text counted c.if-is_const.true in
     let one : c.len-args.result - 1 ≡ 1 = one_further _ c.is_const.result (c.len-args.result - 1) c.is_const.ensures c.if-is_const.true in
-    constant_read (dialect_of c.args.dialect) (part_seen c.args.part) (head_in c.args.head.now) c.args.name.now (trees_of (drop 1 xs)) _ const
+    constant_read (dialect_of c.args.dialect) (position_seen c.args.part) (head_in c.args.head.now) c.args.name.now (trees_of (drop 1 xs)) _ const
     (expr_seen_constant c.in_ok-copy_into.field-0 ∙ ap constant (c.in_ok-copy_into.ensures ∙ sym (second_seen xs c.index.result.now (omega arith) c.index.ensures)))
 
 pub call_expr-returns-in_err-called : goal.call_expr-returns-in_err-called
@@ -32,7 +32,7 @@ call_expr-returns-in_err-called g t c =
     let counted = further_counted xs (c.len-args.result - 1) (omega arith) in
     let p = err_from_is_err_and c.from_residual-in_err-called.result c.from_residual-in_err-called.ensures.1 in
     rw (p.1, p.2)
-    (unnamed (dialect_of c.args.dialect) (part_seen c.args.part) (head_in c.args.head.now) c.args.name.now (trees_of (drop 1 xs)) (c.len-args.result - 1) c.in_err-called.field-0.0
+    (unnamed (dialect_of c.args.dialect) (position_seen c.args.part) (head_in c.args.head.now) c.args.name.now (trees_of (drop 1 xs)) (c.len-args.result - 1) c.in_err-called.field-0.0
     (const_is c.args.name.now c.text.result.now (c.len-args.result - 1) _ c.is_const.result false c.is_const.ensures c.text.ensures.text counted c.if-is_const.false) counted c.in_err-called.ensures)
 
 pub call_expr-returns-in_err-args : goal.call_expr-returns-in_err-args
@@ -42,7 +42,7 @@ call_expr-returns-in_err-args g t c =
     let counted = further_counted xs (c.len-args.result - 1) (omega arith) in
     let p = err_from_is_err_and c.from_residual-in_err-args.result c.from_residual-in_err-args.ensures.1 in
     rw (p.1, p.2)
-    (call_fails (dialect_of c.args.dialect) (part_seen c.args.part) (head_in c.args.head.now) c.args.name.now (trees_of (drop 1 xs)) (c.len-args.result - 1) (called_seen c.in_ok-called.called) c.in_err-args.field-0.0
+    (call_fails (dialect_of c.args.dialect) (position_seen c.args.part) (head_in c.args.head.now) c.args.name.now (trees_of (drop 1 xs)) (c.len-args.result - 1) (called_seen c.in_ok-called.called) c.in_err-args.field-0.0
     (const_is c.args.name.now c.text.result.now (c.len-args.result - 1) _ c.is_const.result false c.is_const.ensures c.text.ensures.text counted c.if-is_const.false) counted c.in_ok-called.ensures c.in_err-args.ensures)
 
 pub call_expr-returns : goal.call_expr-returns
@@ -50,31 +50,31 @@ call_expr-returns g t c =
     let xs = c.args.terms.now.items in
     let stored = c.args.terms.now.ok.0 in
     let counted = further_counted xs (c.len-args.result - 1) (omega arith) in
-    call_read (dialect_of c.args.dialect) (part_seen c.args.part) (head_in c.args.head.now) c.args.name.now (trees_of (drop 1 xs)) (c.len-args.result - 1) (called_seen c.in_ok-called.called) (expr_list c.in_ok-args.args) _
+    call_read (dialect_of c.args.dialect) (position_seen c.args.part) (head_in c.args.head.now) c.args.name.now (trees_of (drop 1 xs)) (c.len-args.result - 1) (called_seen c.in_ok-called.called) (expr_list c.in_ok-args.args) _
     (const_is c.args.name.now c.text.result.now (c.len-args.result - 1) _ c.is_const.result false c.is_const.ensures c.text.ensures.text counted c.if-is_const.false) counted c.in_ok-called.ensures c.in_ok-args.ensures c.call.ensures
 
 pub exprs-returns-in_err-expr : goal.exprs-returns-in_err-expr
 exprs-returns-in_err-expr g t c =
-    let f = expr_of (dialect_of c.args.dialect) (part_seen c.args.part) (head_in c.args.head.now) in
+    let f = expr_of (dialect_of c.args.dialect) (position_seen c.args.part) (head_in c.args.head.now) in
     let stored = c.args.terms.now.ok.0 in
     let p = err_from_is_err_and c.from_residual.result c.from_residual.ensures.1 in
     rw (p.1, p.2)
-    (exprs_fail (dialect_of c.args.dialect) (part_seen c.args.part) (head_in c.args.head.now) (map tree_of (drop c.args.from c.args.terms.now.items)) c.in_err-expr.field-0.0
+    (exprs_fail (dialect_of c.args.dialect) (position_seen c.args.part) (head_in c.args.head.now) (map tree_of (drop c.args.from c.args.terms.now.items)) c.in_err-expr.field-0.0
     (read_fails f tree_of expr_seen (each_read f (map tree_of (drop c.args.from c.args.terms.now.items))) c.args.terms.now.items c.loop-i.i c.loop-i.exprs.items c.index.result.now c.in_err-expr.field-0.0
     (omega arith) c.index.ensures c.in_err-expr.ensures c.loop-i.invariant))
 
 pub exprs-loop-i-preserved : goal.exprs-loop-i-preserved
 exprs-loop-i-preserved g t c =
-    let f = expr_of (dialect_of c.args.dialect) (part_seen c.args.part) (head_in c.args.head.now) in
+    let f = expr_of (dialect_of c.args.dialect) (position_seen c.args.part) (head_in c.args.head.now) in
     let stored = c.args.terms.now.ok.0 in
     read_next f tree_of expr_seen (each_read f (map tree_of (drop c.args.from c.args.terms.now.items))) c.args.terms.now.items c.loop-i.i c.index.result.now c.loop-i.exprs.items c.push.new.self.items c.in_ok-expr.field-0
     (omega arith) c.index.ensures c.in_ok-expr.ensures c.in_ok-push.ensures.items c.loop-i.invariant
 
 pub exprs-returns : goal.exprs-returns
 exprs-returns g t c =
-    let f = expr_of (dialect_of c.args.dialect) (part_seen c.args.part) (head_in c.args.head.now) in
+    let f = expr_of (dialect_of c.args.dialect) (position_seen c.args.part) (head_in c.args.head.now) in
     let stored = c.args.terms.now.ok.0 in
-    exprs_read (dialect_of c.args.dialect) (part_seen c.args.part) (head_in c.args.head.now) (map tree_of (drop c.args.from c.args.terms.now.items)) (map expr_seen c.loop-i.exprs.items)
+    exprs_read (dialect_of c.args.dialect) (position_seen c.args.part) (head_in c.args.head.now) (map tree_of (drop c.args.from c.args.terms.now.items)) (map expr_seen c.loop-i.exprs.items)
     (read_ends f tree_of expr_seen (each_read f (map tree_of (drop c.args.from c.args.terms.now.items))) c.args.terms.now.items c.loop-i.i c.loop-i.exprs.items (omega arith) c.loop-i.invariant)
 
 pub tuple_expr-returns-in_err-exprs-in-Tuple : goal.tuple_expr-returns-in_err-exprs-in-Tuple
@@ -82,24 +82,24 @@ tuple_expr-returns-in_err-exprs-in-Tuple g t c =
     let stored = c.args.terms.now.ok.0 in
     let p = err_from_is_err_and c.from_residual.result c.from_residual.ensures.1 in
     rw (p.1, p.2)
-    (nested_fails (dialect_of c.args.dialect) (part_seen c.args.part) (head_in c.args.head.now) c.args.terms.now.items c.in-Tuple.v.items c.index.result.now c.in_err-exprs-in-Tuple.field-0.0
+    (nested_fails (dialect_of c.args.dialect) (position_seen c.args.part) (head_in c.args.head.now) c.args.terms.now.items c.in-Tuple.v.items c.index.result.now c.in_err-exprs-in-Tuple.field-0.0
     (omega arith) c.index.ensures (ap tree_of c.in-Tuple.is ∙ tree_of_tuple c.in-Tuple.v) c.in_err-exprs-in-Tuple.ensures)
 
 pub tuple_expr-returns-in_ok-exprs-in-Tuple : goal.tuple_expr-returns-in_ok-exprs-in-Tuple
 tuple_expr-returns-in_ok-exprs-in-Tuple g t c =
     let stored = c.args.terms.now.ok.0 in
-    nested_read (dialect_of c.args.dialect) (part_seen c.args.part) (head_in c.args.head.now) c.args.terms.now.items c.in-Tuple.v.items c.index.result.now (expr_list c.in_ok-exprs-in-Tuple.field-0) _
+    nested_read (dialect_of c.args.dialect) (position_seen c.args.part) (head_in c.args.head.now) c.args.terms.now.items c.in-Tuple.v.items c.index.result.now (expr_list c.in_ok-exprs-in-Tuple.field-0) _
     (omega arith) c.index.ensures (ap tree_of c.in-Tuple.is ∙ tree_of_tuple c.in-Tuple.v) c.in_ok-exprs-in-Tuple.ensures (expr_seen_tuple c.in_ok-exprs-in-Tuple.field-0)
 
 pub tuple_expr-returns-else-len-eq1 : goal.tuple_expr-returns-else-len-eq1
 tuple_expr-returns-else-len-eq1 g t c =
     let stored = c.args.terms.now.ok.0 in
-    crowded (dialect_of c.args.dialect) (part_seen c.args.part) (head_in c.args.head.now) c.args.terms.now.items c.in-Tuple.v.items c.index.result.now (omega arith) c.index.ensures (ap tree_of c.in-Tuple.is ∙ tree_of_tuple c.in-Tuple.v)
+    crowded (dialect_of c.args.dialect) (position_seen c.args.part) (head_in c.args.head.now) c.args.terms.now.items c.in-Tuple.v.items c.index.result.now (omega arith) c.index.ensures (ap tree_of c.in-Tuple.is ∙ tree_of_tuple c.in-Tuple.v)
 
 pub tuple_expr-returns-in-Atom : goal.tuple_expr-returns-in-Atom
 tuple_expr-returns-in-Atom g t c =
     let stored = c.args.terms.now.ok.0 in
-    subst (λ ts. IsRead expr_seen (expr_of (dialect_of c.args.dialect) (part_seen c.args.part) (head_in c.args.head.now) (tuple ts)) c.call_expr.result)
+    subst (λ ts. IsRead expr_seen (expr_of (dialect_of c.args.dialect) (position_seen c.args.part) (head_in c.args.head.now) (tuple ts)) c.call_expr.result)
     (sym (first_is c.args.terms.now.items c.index.result.now (atom c.in-Atom.name) (omega arith) c.index.ensures (ap tree_of c.in-Atom.is ∙ tree_of_atom _ c.in-Atom.name))) c.call_expr.ensures
 
 pub tuple_expr-returns-in-Int : goal.tuple_expr-returns-in-Int
@@ -108,7 +108,7 @@ tuple_expr-returns-in-Int g t c =
     let xs = c.args.terms.now.items in
     let x = c.index.result.now in
     let some : 0 < length xs = omega arith in
-    let read = λ (ts : Trees). expr_of (dialect_of c.args.dialect) (part_seen c.args.part) (head_in c.args.head.now) (tuple ts) in
+    let read = λ (ts : Trees). expr_of (dialect_of c.args.dialect) (position_seen c.args.part) (head_in c.args.head.now) (tuple ts) in
     elim c.in-Int.is [
       | inl p ↦ ap read (first_is xs x (int p.0) some c.index.ensures (ap tree_of p.1 ∙ tree_of_int _ p.0))
       | inr q ↦ elim q [
@@ -119,11 +119,11 @@ tuple_expr-returns-in-Int g t c =
 
 pub expr-returns-in-Atom : goal.expr-returns-in-Atom
 expr-returns-in-Atom g t c =
-    atom_expr_read c.args.term.now (dialect_of c.args.dialect) (part_seen c.args.part) (head_in c.args.head.now) c.in-Atom.name c.atom_expr.result c.in-Atom.is c.atom_expr.ensures
+    atom_expr_read c.args.term.now (dialect_of c.args.dialect) (position_seen c.args.part) (head_in c.args.head.now) c.in-Atom.name c.atom_expr.result c.in-Atom.is c.atom_expr.ensures
 
 pub expr-returns-in-Pid : goal.expr-returns-in-Pid
-expr-returns-in-Pid g t c = pid_expr c.args.term.now (dialect_of c.args.dialect) (part_seen c.args.part) (head_in c.args.head.now) c.in-Pid.n c.in-Pid.is
+expr-returns-in-Pid g t c = pid_expr c.args.term.now (dialect_of c.args.dialect) (position_seen c.args.part) (head_in c.args.head.now) c.in-Pid.n c.in-Pid.is
 
 pub expr-returns-in-Tuple : goal.expr-returns-in-Tuple
 expr-returns-in-Tuple g t c =
-    tuple_expr_read c.args.term.now (dialect_of c.args.dialect) (part_seen c.args.part) (head_in c.args.head.now) c.in-Tuple.v c.tuple_expr.result c.in-Tuple.is c.tuple_expr.ensures
+    tuple_expr_read c.args.term.now (dialect_of c.args.dialect) (position_seen c.args.part) (head_in c.args.head.now) c.in-Tuple.v c.tuple_expr.result c.in-Tuple.is c.tuple_expr.ensures

@@ -2,7 +2,7 @@ use Rattle.std.proofs.Common.{Ok, subst, arith}
 use Rattle.def_term.specs.Tree.{list}
 use Rattle.def_text.specs.Grammar.{of_codes}
 use Rattle.def_text.specs.Reading.{put}
-use Rattle.tn_text.specs.Stack.{frames_of, Steps}
+use Rattle.tn_text.specs.Stack.{frames_of, StepsReading}
 use Rattle.tn_text.proofs.Frames.{frames_length}
 use Rattle.tn_text.proofs.Leaves.{fits_here, large_here, deep_here, codes_flat, string_fits, string_large}
 use Rattle.tn_text.proofs.leaf.put_codes.Goals as goal
@@ -25,4 +25,4 @@ returns-in-Ok g c = λ printable.
     let fs = frames_of c.args.frames.items in
     let size = c.args.frames.ok.0 in
     fits_here c.put_term.result (list (of_codes s)) fs (omega (arith, size, frames_length c.args.frames.items, codes_flat s)) (string_fits s (omega arith) printable)
-    (subst (λ t. Steps c.put_term.result (Ok (put t fs))) c.in-Ok.ensures c.put_term.ensures)
+    (subst (λ t. StepsReading c.put_term.result (Ok (put t fs))) c.in-Ok.ensures c.put_term.ensures)

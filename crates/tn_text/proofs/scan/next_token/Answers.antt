@@ -16,7 +16,7 @@ none_of bytes None e = none_there bytes (sym e)
 none_of bytes (Some p) e = tt
 
 pub returns-clause-found : goal.returns-clause-found
-returns-clause-found c = let bytes = c.args.bytes.now in stands_there bytes c.found.result (subst (SoundAt bytes) (sym c.found.ensures.value) (sound bytes)) c.found.ensures.fits
+returns-clause-found c = let bytes = c.args.bytes.now in stands_there bytes c.front_token.result (subst (SoundAt bytes) (sym c.front_token.ensures.value) (sound bytes)) c.front_token.ensures.fits
 
 pub returns-clause-none : goal.returns-clause-none
-returns-clause-none c = none_of c.args.bytes.now c.found.result c.found.ensures.value
+returns-clause-none c = none_of c.args.bytes.now c.front_token.result c.front_token.ensures.value

@@ -1,6 +1,6 @@
 use Rattle.std.proofs.Common.{◌≡◌, ◌<◌, ◌-◌, ◌+◌, [], ◌∷◌, ◌++◌, length, get_or, take, drop, true, false, arith, rules, ap, subst, sym, ◌∙◌}
-use Rattle.def_text.specs.Scan.{unescaped}
-use Rattle.tn_text.proofs.Content.{behind_one, plain_one, marked}
+use Rattle.def_text.specs.Scan.{unescape}
+use Rattle.tn_text.proofs.ContentSteps.{after_one, plain_one, marked}
 use Rattle.tn_text.proofs.value.content.Goals as goal
 use Rattle.tn_text.proofs.value.content.Goals.{then-escaped+in_ok-push, else-escaped+then-b-eq92, else-escaped+else-b-eq92+in_ok-push-2}
 
@@ -17,19 +17,19 @@ loop-b-preserved g c =
           let esc : c.loop-b.escaped ≡ true = w.if-escaped.true in
           let inv = rw esc at c.loop-b.invariant in
           let e : c.if-escaped.escaped ≡ false = w.escaped-is in
-          subst (λ b. c.if-escaped.out.items ++ unescaped b (drop (i + 1) text) ≡ unescaped false text) (sym e) (behind_one text out c.if-escaped.out.items (unescaped false text) i below inv grown)
+          subst (λ b. c.if-escaped.out.items ++ unescape b (drop (i + 1) text) ≡ unescape false text) (sym e) (after_one text out c.if-escaped.out.items (unescape false text) i below inv grown)
       | else-escaped+then-b-eq92 w ↦
           let same : c.if-escaped.out.items ≡ out = ap (λ v. v.items) w.out-is in
           let esc : c.loop-b.escaped ≡ false = w.if-escaped.false in
           let inv = rw esc at c.loop-b.invariant in
           let e : c.if-escaped.escaped ≡ true = w.escaped-is in
           let is : get_or text i 0 ≡ 92 = w.if-b-eq92.true in
-          subst (λ b. c.if-escaped.out.items ++ unescaped b (drop (i + 1) text) ≡ unescaped false text) (sym e)
-          (subst (λ o. o ++ unescaped true (drop (i + 1) text) ≡ unescaped false text) (sym same) (marked text out (unescaped false text) i below inv is))
+          subst (λ b. c.if-escaped.out.items ++ unescape b (drop (i + 1) text) ≡ unescape false text) (sym e)
+          (subst (λ o. o ++ unescape true (drop (i + 1) text) ≡ unescape false text) (sym same) (marked text out (unescape false text) i below inv is))
       | else-escaped+else-b-eq92+in_ok-push-2 w ↦
           let grown : c.if-escaped.out.items ≡ out ++ get_or text i 0 ∷ [] = search rules in
           let esc : c.loop-b.escaped ≡ false = w.if-escaped.false in
           let inv = rw esc at c.loop-b.invariant in
           let e : c.if-escaped.escaped ≡ false = w.escaped-is ∙ esc in
-          subst (λ b. c.if-escaped.out.items ++ unescaped b (drop (i + 1) text) ≡ unescaped false text) (sym e) (plain_one text out c.if-escaped.out.items (unescaped false text) i below inv grown w.if-b-eq92.false)
+          subst (λ b. c.if-escaped.out.items ++ unescape b (drop (i + 1) text) ≡ unescape false text) (sym e) (plain_one text out c.if-escaped.out.items (unescape false text) i below inv grown w.if-b-eq92.false)
     ]

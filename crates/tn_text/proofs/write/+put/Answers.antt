@@ -2,7 +2,7 @@ use Rattle.std.proofs.Common.{◌≡◌, ◌<◌, ◌≤◌, length, get_or, ap,
 use Rattle.def_term.specs.Text.{w}
 use Rattle.tn_term.specs.Views.{tree_of, trees_of}
 use Rattle.tn_term.proofs.Views.{tree_of_tuple, tree_of_list}
-use Rattle.tn_text.proofs.Writing.{grows_none, grows_on, on_failed, on_done, written_as, some_there, first_written, one_more, all_written, enclosed_written}
+use Rattle.tn_text.proofs.Growth.{grows_none, grows_on, on_failed, on_done, written_as, some_there, first_written, one_more, all_written, enclosed_written}
 use Rattle.tn_text.proofs.write.+put.Goals as goal
 
 pub put-returns-in-Tuple-clause-ok : goal.put-returns-in-Tuple-clause-ok

@@ -1,4 +1,4 @@
-use Rattle.tn_text.proofs.Writing.{grows_on, on_failed}
+use Rattle.tn_text.proofs.Growth.{grows_on, on_failed}
 use Rattle.tn_text.proofs.write.put_atom.Goals as goal
 
 pub returns-in_err-put_one-clause-ok : goal.returns-in_err-put_one-clause-ok

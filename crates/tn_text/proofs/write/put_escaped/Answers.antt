@@ -1,4 +1,4 @@
-use Rattle.tn_text.proofs.Writing.{grows_on, on_failed, escaped_more, all_escaped}
+use Rattle.tn_text.proofs.Growth.{grows_on, on_failed, escaped_more, all_escaped}
 use Rattle.tn_text.proofs.write.put_escaped.Goals as goal
 
 pub loop-b-preserved : goal.loop-b-preserved

@@ -1,6 +1,6 @@
 use Rattle.tn_flags.specs.Views.{command_of}
 use Rattle.tn_program.specs.Views.{program_of}
-use Rattle.tn_trace.proofs.Creating.{number_found, number_missing}
+use Rattle.tn_trace.proofs.Starts.{number_found, number_missing}
 use Rattle.tn_trace.proofs.functions.command_at.Goals as goal
 
 pub returns-in-Some : goal.returns-in-Some

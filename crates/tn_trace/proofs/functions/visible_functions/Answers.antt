@@ -1,4 +1,4 @@
-use Rattle.tn_trace.proofs.Creating.{visible_more}
+use Rattle.tn_trace.proofs.Starts.{visible_more}
 use Rattle.tn_trace.proofs.functions.visible_functions.Goals as goal
 
 pub loop-function-preserved : goal.loop-function-preserved

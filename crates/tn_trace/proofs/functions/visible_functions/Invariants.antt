@@ -1,7 +1,7 @@
 use Rattle.std.proofs.Common.{◌≡◌, map, take}
 use Rattle.tn_script.specs.Views.{functions_of}
 use Rattle.tn_session.specs.Views.{function_seen}
-use Rattle.def_script.specs.Opening.{visible}
+use Rattle.def_script.specs.Exports.{visible}
 use Rattle.tn_trace.proofs.functions.visible_functions.Given as goal
 
 abbrev pub invariant-loop-function : goal.invariant-loop-function

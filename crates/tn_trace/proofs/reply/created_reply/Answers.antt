@@ -1,7 +1,7 @@
 use Rattle.std.proofs.Common.{◌∙◌, ap}
 use Rattle.def_term.specs.Tree.{atom}
 use Rattle.tn_term.proofs.Views.{tree_of_atom}
-use Rattle.tn_trace.proofs.Creating.{pair_tree}
+use Rattle.tn_trace.proofs.Starts.{pair_tree}
 use Rattle.tn_trace.proofs.reply.created_reply.Goals as goal
 
 pub returns : goal.returns

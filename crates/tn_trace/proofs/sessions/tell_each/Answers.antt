@@ -2,7 +2,7 @@ use Rattle.std.proofs.Common.{◌<◌, ◌≤◌, ◌∙◌, flat_map, length, r
 use Rattle.std.proofs.Math.ListN.{length-set}
 use Rattle.def_session.specs.State.{alive_after}
 use Rattle.tn_flags.specs.Views.{event_of}
-use Rattle.tn_trace.specs.Tracks.{with_event, told_to, AreMore}
+use Rattle.tn_trace.specs.Tracks.{with_event, reported_to, AreMore}
 use Rattle.tn_trace.specs.Slots.{IsTracked}
 use Rattle.tn_trace.proofs.Places.{up_to_none, up_to_all, all_taken, each_mapped, place_here, more_here, none_more}
 use Rattle.tn_trace.proofs.sessions.tell_each.Goals as goal
@@ -11,8 +11,8 @@ pub loop-place-init : goal.loop-place-init
 loop-place-init g c = (
   refl,
   λ o living ts h. (
-    up_to_none (λ t s. IsTracked g.K.Kept.keeps o (alive_after living (event_of c.args.event.now)) (with_event (event_of c.args.event.now) t) s) (IsTracked g.K.Kept.keeps o living) ts c.args.slots.now.items h,
-    none_more g.K.Kept.gives c.args.given.now,
+    up_to_none (λ t s. IsTracked g.K.MessageSink.keeps o (alive_after living (event_of c.args.event.now)) (with_event (event_of c.args.event.now) t) s) (IsTracked g.K.MessageSink.keeps o living) ts c.args.slots.now.items h,
+    none_more g.K.MessageSink.gives c.args.given.now,
   ),
 )
 
@@ -26,9 +26,9 @@ loop-place-preserved g c =
       length-set l.slots.items l.place c.tell.new.self ∙ l.invariant.0,
       λ o living ts h.
           let inv = l.invariant.1 o living ts h in
-          let here = place_here (λ t s. IsTracked g.K.Kept.keeps o (alive_after living e) (with_event e t) s) (IsTracked g.K.Kept.keeps o living) l.place ts l.slots.items c.index_mut.result.now c.tell.new.self below c.index_mut.ensures.value inv.0 in (
+          let here = place_here (λ t s. IsTracked g.K.MessageSink.keeps o (alive_after living e) (with_event e t) s) (IsTracked g.K.MessageSink.keeps o living) l.place ts l.slots.items c.index_mut.result.now c.tell.new.self below c.index_mut.ensures.value inv.0 in (
             here.after (c.in_ok-tell.ensures.tracked o living here.here here.before),
-            more_here g.K.Kept.gives (told_to e) l.place ts here.here c.args.given.now l.given c.tell.new.given here.front inv.1 (c.in_ok-tell.ensures.given o living here.here here.before),
+            more_here g.K.MessageSink.gives (reported_to e) l.place ts here.here c.args.given.now l.given c.tell.new.given here.front inv.1 (c.in_ok-tell.ensures.given o living here.here here.before),
           ),
     )
 
@@ -40,8 +40,8 @@ returns-clause-sessions g c = λ o living ts h.
     let last = c.len-place-end.ensures in
     let past = c.loop-place-test.false in
     let all : length l.slots.items ≤ l.place = omega (arith, v_len, last, l.invariant.0) in
-    each_mapped (IsTracked g.K.Kept.keeps o (alive_after living e)) (with_event e) ts l.slots.items
-    (up_to_all (λ t s. IsTracked g.K.Kept.keeps o (alive_after living e) (with_event e t) s) (IsTracked g.K.Kept.keeps o living) l.place ts l.slots.items all (l.invariant.1 o living ts h).0)
+    each_mapped (IsTracked g.K.MessageSink.keeps o (alive_after living e)) (with_event e) ts l.slots.items
+    (up_to_all (λ t s. IsTracked g.K.MessageSink.keeps o (alive_after living e) (with_event e t) s) (IsTracked g.K.MessageSink.keeps o living) l.place ts l.slots.items all (l.invariant.1 o living ts h).0)
 
 pub returns-clause-given : goal.returns-clause-given
 returns-clause-given g c = λ o living ts h.
@@ -51,6 +51,6 @@ returns-clause-given g c = λ o living ts h.
     let last = c.len-place-end.ensures in
     let past = c.loop-place-test.false in
     let all : length l.slots.items ≤ l.place = omega (arith, v_len, last, l.invariant.0) in
-    subst (λ us. AreMore g.K.Kept.gives (flat_map (told_to e) us) c.args.given.now l.given)
-    (all_taken (λ t s. IsTracked g.K.Kept.keeps o (alive_after living e) (with_event e t) s) (IsTracked g.K.Kept.keeps o living) l.place ts l.slots.items all (l.invariant.1 o living ts h).0)
+    subst (λ us. AreMore g.K.MessageSink.gives (flat_map (reported_to e) us) c.args.given.now l.given)
+    (all_taken (λ t s. IsTracked g.K.MessageSink.keeps o (alive_after living e) (with_event e t) s) (IsTracked g.K.MessageSink.keeps o living) l.place ts l.slots.items all (l.invariant.1 o living ts h).0)
     (l.invariant.1 o living ts h).1

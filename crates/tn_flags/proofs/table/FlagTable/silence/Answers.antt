@@ -1,5 +1,5 @@
 use Rattle.std.proofs.Common.{◌∙◌, sym, ap, if◌then◌else◌}
-use Rattle.def_spec.specs.Flags.{joined, without, only, silent_flag, flags_in, with_flags_in}
+use Rattle.def_spec.specs.Flags.{union, without, only, silent_flag, flags_in, with_flags_in}
 use Rattle.tn_flags.specs.Views.{flags_of, table_of}
 use Rattle.tn_flags.specs.declared.flags.TheConstants.{SILENT}
 use Rattle.tn_flags.proofs.Silence.{silent_only}
@@ -10,8 +10,8 @@ returns-then-on c =
     let t = table_of c.args.self.now in
     let f = flags_in t c.args.pid in
     c.set.ensures
-    ∙ ap (with_flags_in t c.args.pid) (c.join.ensures ∙ ap (λ h. joined h (flags_of SILENT)) c.of-flags.ensures ∙ ap (joined f) silent_only
-    ∙ ap (λ b. if b then joined f (only silent_flag) else without f (only silent_flag)) (sym c.if-on.true))
+    ∙ ap (with_flags_in t c.args.pid) (c.join.ensures ∙ ap (λ h. union h (flags_of SILENT)) c.of-flags.ensures ∙ ap (union f) silent_only
+    ∙ ap (λ b. if b then union f (only silent_flag) else without f (only silent_flag)) (sym c.if-on.true))
 
 pub returns-else-on : goal.returns-else-on
 returns-else-on c =
@@ -19,4 +19,4 @@ returns-else-on c =
     let f = flags_in t c.args.pid in
     c.set-else-on.ensures
     ∙ ap (with_flags_in t c.args.pid) (c.without.ensures ∙ ap (λ h. without h (flags_of SILENT)) c.of-flags.ensures ∙ ap (without f) silent_only
-    ∙ ap (λ b. if b then joined f (only silent_flag) else without f (only silent_flag)) (sym c.if-on.false))
+    ∙ ap (λ b. if b then union f (only silent_flag) else without f (only silent_flag)) (sym c.if-on.false))

@@ -1,18 +1,18 @@
 use Rattle.std.proofs.Common.{◌≡◌, ◌<◌, ◌+◌, ◌-◌, suc, length, arith}
 use Rattle.tn_live.specs.Journal.{picks_of}
-use Rattle.tn_live.proofs.Entering.{core_moves}
-use Rattle.tn_live.proofs.Confirming.{confirms_where, placed_at, placed-length}
+use Rattle.tn_trace.proofs.CoreLemmas.{core_moves}
+use Rattle.tn_live.proofs.Receipts.{confirms_where, placed_at, placed-length}
 use Rattle.tn_live.proofs.record.Record.confirms.Goals as goal
 
 pub index-requires : goal.index-requires
 index-requires g c =
     let es = c.args.self.now.entries.items in
-    let l : length c.args.self.now.places.items ≡ length es = placed-length g.J.Naming.program (picks_of es) (length es) (λ v. v.items) c.args.self.now.places.items c.requires.placed in
+    let l : length c.args.self.now.places.items ≡ length es = placed-length g.J.JournalName.program (picks_of es) (length es) (λ v. v.items) c.args.self.now.places.items c.requires.placed in
     omega (arith, l, c.args.self.now.places.ok.0, c.args.self.now.entries.ok.0, c.len.ensures, c.if-number-len.false)
 
 pub returns : goal.returns
 returns g c =
-    let p = g.J.Naming.program in
+    let p = g.J.JournalName.program in
     let es = c.args.self.now.entries.items in
     let n = c.args.receipt.now.number in
     let l : length c.args.self.now.places.items ≡ length es = placed-length p (picks_of es) (length es) (λ v. v.items) c.args.self.now.places.items c.requires.placed in

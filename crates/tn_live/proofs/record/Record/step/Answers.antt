@@ -3,12 +3,13 @@ use Rattle.def_run.specs.Laws.{IsIdleAfter}
 use Rattle.tn_trace.specs.Cores.{IsCore}
 use Rattle.tn_live.specs.declared.entry.Entry.{Entry}
 use Rattle.tn_live.specs.Journal.{picks_of}
-use Rattle.tn_live.proofs.Entering.{core_moves, record_as, record_same, seen_same, rests, turns_from, begins_as, length_as}
+use Rattle.tn_trace.proofs.CoreLemmas.{core_moves}
+use Rattle.tn_live.proofs.RecordTurns.{record_as, record_same, seen_same, rests, turns_from, begins_as, length_as}
 use Rattle.tn_live.proofs.record.Record.step.Goals as goal
 
 pub enter-requires-clause-moved : goal.enter-requires-clause-moved
 enter-requires-clause-moved g c =
-    let p = g.J.Naming.program in
+    let p = g.J.JournalName.program in
     let r = c.make_room.new.self in
     let is = record_same p c.args.self.now r c.requires.record c.make_room.ensures.record in record {
       reached = is.reached;
@@ -19,7 +20,7 @@ enter-requires-clause-moved g c =
     }
 
 pub enter-requires-clause-seen : goal.enter-requires-clause-seen
-enter-requires-clause-seen g c = seen_same g.J.Naming.program c.args.seen.now c.make_room.new.seen c.requires.seen c.make_room.ensures.seen
+enter-requires-clause-seen g c = seen_same g.J.JournalName.program c.args.seen.now c.make_room.new.seen c.requires.seen c.make_room.ensures.seen
 
 pub enter-requires-clause-begins : goal.enter-requires-clause-begins
 enter-requires-clause-begins g c =
@@ -32,11 +33,11 @@ enter-requires-clause-room g c =
 
 pub returns-in-Ok-Moved : goal.returns-in-Ok-Moved
 returns-in-Ok-Moved g c =
-    turns_from g.J.Naming.program c.args.self.now _ c.enter.new.self c.args.seen.now c.make_room.new.seen c.enter.new.seen c.args.pick c.enter.result c.make_room.ensures.record.entries c.make_room.ensures.seen c.enter.ensures
+    turns_from g.J.JournalName.program c.args.self.now _ c.enter.new.self c.args.seen.now c.make_room.new.seen c.enter.new.seen c.args.pick c.enter.result c.make_room.ensures.record.entries c.make_room.ensures.seen c.enter.ensures
 
 pub returns-in-Ok-Idle : goal.returns-in-Ok-Idle
 returns-in-Ok-Idle g c =
-    let p = g.J.Naming.program in
+    let p = g.J.JournalName.program in
     let r = c.make_room.new.self in
     let same = c.make_room.ensures.record in
     let seen = c.make_room.ensures.seen in
@@ -52,7 +53,7 @@ returns-in-Ok-Idle g c =
 
 pub returns-in-Err-LimitReached : goal.returns-in-Err-LimitReached
 returns-in-Err-LimitReached g c =
-    let p = g.J.Naming.program in
+    let p = g.J.JournalName.program in
     let r = c.make_room.new.self in
     let same = c.make_room.ensures.record in
     let seen = c.make_room.ensures.seen in
@@ -67,7 +68,7 @@ returns-in-Err-LimitReached g c =
 
 pub returns-in-Err-Spent : goal.returns-in-Err-Spent
 returns-in-Err-Spent g c =
-    let p = g.J.Naming.program in
+    let p = g.J.JournalName.program in
     let r = c.make_room.new.self in
     let is = record_same p c.args.self.now r c.requires.record c.make_room.ensures.record in
     absurd (rw c.in-Err-Spent.field-0-is at (c.in-Err-Spent.ensures.step p (picks_of r.entries.items) is.core))

@@ -20,5 +20,5 @@ returns-then-is_linked g c =
 pub returns : goal.returns
 returns g c =
     let w = world_of c.args.self.now in
-    c.in_ok-link_to.ensures ∙ ap (linked_to w c.args.place c.args.pid c.args.other) c.living-partner.ensures.place
+    c.in_ok-link_to.ensures ∙ ap (linked_to w c.args.place c.args.pid c.args.other) c.place_of_pid-partner.ensures.place
     ∙ link_new w c.args.place c.args.pid c.args.other c.if-pid-other.false (sym c.is_linked.ensures.linked ∙ c.if-is_linked.false)

@@ -5,7 +5,7 @@ use Rattle.def_node.specs.Node.{World, fresh}
 use Rattle.tn_script.specs.Views.{entry_of}
 use Rattle.tn_script.specs.declared.form.Entry.{Entry}
 use Rattle.tn_term.proofs.Steps.{made_more}
-use Rattle.tn_process.proofs.Building.{all_taken, map_twice}
+use Rattle.tn_process.proofs.Templates.{all_taken, map_twice}
 use Rattle.tn_node.specs.Worlds.{slot_of}
 use Rattle.tn_node.proofs.world.World.new.Goals as goal
 

@@ -1,6 +1,6 @@
 use Rattle.std.proofs.Common.{ap, sym, ◌∙◌, Some}
 use Rattle.std.specs.Option.{option_map}
-use Rattle.def_node.specs.Node.{parted}
+use Rattle.def_node.specs.Node.{part}
 use Rattle.def_node.specs.Process.{Process}
 use Rattle.tn_term.specs.Views.{tree_of}
 use Rattle.tn_node.specs.Worlds.{slot_of, world_of}
@@ -11,7 +11,7 @@ pub returns-in_ok-part-in-Some-clause-change : goal.returns-in_ok-part-in-Some-c
 returns-in_ok-part-in-Some-clause-change g c =
     let w = world_of c.args.self.now in
     let x = c.index_mut.result.now in
-    let F : Process → Process = parted c.args.pid (tree_of c.args.reason.now) in
+    let F : Process → Process = part c.args.pid (tree_of c.args.reason.now) in
     ap (λ ss. record w { slots = ss })
     (changed_set slot_of c.args.self.now.slots.items c.args.place x _ F c.requires.place_within c.index_mut.ensures.value
     (ap Some c.in_ok-part-in-Some.ensures ∙ sym (ap (λ s. option_map F (slot_of s)) c.in-Some.is)))
@@ -20,7 +20,7 @@ pub returns-in-None-clause-change : goal.returns-in-None-clause-change
 returns-in-None-clause-change g c =
     let w = world_of c.args.self.now in
     let x = c.index_mut.result.now in
-    let F : Process → Process = parted c.args.pid (tree_of c.args.reason.now) in
+    let F : Process → Process = part c.args.pid (tree_of c.args.reason.now) in
     ap (λ ss. record w { slots = ss })
     (changed_set slot_of c.args.self.now.slots.items c.args.place x x F c.requires.place_within c.index_mut.ensures.value
     (ap slot_of c.in-None.is ∙ sym (ap (λ s. option_map F (slot_of s)) c.in-None.is)))

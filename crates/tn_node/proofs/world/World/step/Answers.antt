@@ -1,6 +1,6 @@
 use Rattle.std.proofs.Common.{ap, sym, ◌∙◌, Option, arith}
 use Rattle.def_node.specs.Process.{act}
-use Rattle.def_node.specs.Node.{acted}
+use Rattle.def_node.specs.Node.{after_act}
 use Rattle.def_node.proofs.Steps.{living_here}
 use Rattle.tn_script.specs.Views.{functions_of}
 use Rattle.tn_node.specs.Worlds.{world_of}
@@ -12,7 +12,7 @@ carry_out-requires g c =
     let w = world_of c.args.self.now in
     let ks = functions_of c.args.functions.now in
     let i = c.in-Some.place in
-    let here = living_here w c.args.pid i (sym c.living.ensures.place ∙ c.in-Some.is) in
+    let here = living_here w c.args.pid i (sym c.place_of_pid.ensures.place ∙ c.in-Some.is) in
     let done = c.in_ok-act.ensures.acts here.0 here.1.0 in
     let size = c.in_ok-act.ensures.size in
     record {
@@ -27,7 +27,7 @@ returns g c =
     let ks = functions_of c.args.functions.now in
     let i = c.in-Some.place in
     let n = c.args.pid in
-    let here = living_here w n i (sym c.living.ensures.place ∙ c.in-Some.is) in
+    let here = living_here w n i (sym c.place_of_pid.ensures.place ∙ c.in-Some.is) in
     let done = c.in_ok-act.ensures.acts here.0 here.1.0 in
     c.in_ok-carry_out.ensures w here.0 done.0 here.1.0 done.1
-    ∙ ap (acted w i n) (done.2 ∙ ap (λ (child : Option _). act ks n child here.0) c.next_pid-child.ensures) ∙ here.1.1.1 ks
+    ∙ ap (after_act w i n) (done.2 ∙ ap (λ (child : Option _). act ks n child here.0) c.next_pid-child.ensures) ∙ here.1.1.1 ks

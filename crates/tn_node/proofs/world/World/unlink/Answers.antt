@@ -14,7 +14,7 @@ returns-then-pid-other g c =
 pub returns-then-is_linked : goal.returns-then-is_linked
 returns-then-is_linked g c =
     let w = world_of c.args.self.now in
-    c.in_ok-unlink_from.ensures ∙ ap (unlinked_from w c.args.place c.args.pid c.args.other) c.living-partner.ensures.place
+    c.in_ok-unlink_from.ensures ∙ ap (unlinked_from w c.args.place c.args.pid c.args.other) c.place_of_pid-partner.ensures.place
     ∙ unlink_known w c.args.place c.args.pid c.args.other c.if-pid-other.false (sym c.is_linked.ensures.linked ∙ c.if-is_linked.true)
 
 pub returns : goal.returns

@@ -1,7 +1,7 @@
 use Rattle.std.proofs.Common.{◌≡◌, ◌∙◌, ◌<◌, suc, length, map, vec_len, sym, ap, subst, arith}
 use Rattle.std.proofs.lemmas.Bool.{ltb-true}
 use Rattle.tn_pool.specs.Boards.{HasPlace}
-use Rattle.tn_pool.proofs.Shown.{if_some, placed}
+use Rattle.tn_pool.proofs.BoardPlaces.{if_some, placed}
 use Rattle.tn_pool.proofs.board.Board.cell.Goals as goal
 
 pub returns : goal.returns

@@ -1,5 +1,5 @@
 use Rattle.std.proofs.Common.{vec_len}
-use Rattle.tn_pool.proofs.Shown.{all_rows}
+use Rattle.tn_pool.proofs.BoardPlaces.{all_rows}
 use Rattle.tn_pool.proofs.board.Board.new.Goals as goal
 
 pub returns-clause-lines : goal.returns-clause-lines

@@ -2,7 +2,7 @@ use Rattle.std.proofs.Common.{arith, ◌≡◌, ◌-◌, ◌<◌, ◌≤◌, tru
 use Rattle.std.proofs.lemmas.Bool.Decides.{nat_tests}
 use Rattle.def_turns.specs.Slots.{is_slot}
 use Rattle.tn_pool.proofs.Moves.{begins}
-use Rattle.tn_pool.proofs.Filling.{control_first, unfilled, holds_next, filled_on, numbers_at}
+use Rattle.tn_pool.proofs.QueueSlots.{control_first, unfilled, holds_next, filled_on, numbers_at}
 use Rattle.tn_pool.proofs.turns.RunQueue.full.Goals as goal
 
 pub new_as-requires : goal.new_as-requires

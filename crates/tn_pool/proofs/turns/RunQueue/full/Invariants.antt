@@ -1,7 +1,7 @@
 use Rattle.std.proofs.Common.{◌≡◌, ℕ, ◌+◌}
 use Rattle.crossbeam_deque.specs.Injected.{injector_view, IsInjectorPassOf}
 use Rattle.def_turns.specs.Slots.{numbers_from}
-use Rattle.tn_pool.proofs.Filling.{IsFilled}
+use Rattle.tn_pool.proofs.QueueSlots.{IsFilled}
 use Rattle.tn_pool.proofs.turns.RunQueue.full.Given as goal
 
 abbrev pub invariant-loop-pid : goal.invariant-loop-pid

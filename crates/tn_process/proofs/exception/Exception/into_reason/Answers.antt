@@ -1,6 +1,6 @@
 use Rattle.std.proofs.Common.{◌≡◌, IfOk, sym, ap, ◌∙◌, subst}
 use Rattle.def_term.specs.Tree.{Tree, tuple, list, more, none}
-use Rattle.def_node.specs.Process.{reason_of}
+use Rattle.def_node.specs.Process.{exit_reason}
 use Rattle.tn_term.specs.Views.{tree_of, trees_of}
 use Rattle.tn_term.proofs.Views.{tree_of_list}
 use Rattle.tn_flags.specs.Views.{class_of}
@@ -12,5 +12,5 @@ returns-in-Error g c =
     let P : Tree → Type 0 = λ u. IfOk c.pair.result (λ r. tree_of {A = g.row.A.Denot} r ≡ u) in
     subst P
     (ap (λ u. tuple (more t (more u none))) (tree_of_list c.new.result ∙ ap (λ xs. list (trees_of xs)) c.new.ensures.items)
-    ∙ sym (ap (λ k. reason_of (class_of k) t) c.in-Error.is))
+    ∙ sym (ap (λ k. exit_reason (class_of k) t) c.in-Error.is))
     c.pair.ensures

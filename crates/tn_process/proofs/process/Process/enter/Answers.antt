@@ -1,8 +1,8 @@
 use Rattle.std.proofs.Common.{ap, sym, ◌∙◌}
 use Rattle.def_node.specs.Process.{enters_at}
 use Rattle.tn_script.specs.Views.{args_of, function_of, functions_of}
-use Rattle.tn_process.specs.Acting.{enters_in, manner_of}
-use Rattle.tn_process.specs.Views.{process_of}
+use Rattle.tn_process.specs.StepAnswers.{enters_in, manner_of}
+use Rattle.tn_process.specs.Views.{process_seen}
 use Rattle.tn_process.proofs.Lookup.{seen_at, none_at}
 use Rattle.tn_process.proofs.Acts.{ended, done}
 use Rattle.tn_process.proofs.process.Process.enter.Goals as goal
@@ -14,7 +14,7 @@ returns-in_default g c =
 pub returns-in_default-get : goal.returns-in_default-get
 returns-in_default-get g c =
     let ks = c.args.context.now.functions.now in
-    let q = process_of c.args.self.now in
+    let q = process_seen c.args.self.now in
     let k = c.args.calling in
     let i = c.in-Some.number in
     ended c.args.self.now _ _ _ c.ends_with-in_default-get.ensures
@@ -24,7 +24,7 @@ returns-in_default-get g c =
 pub returns : goal.returns
 returns g c =
     let ks = c.args.context.now.functions.now in
-    let q = process_of c.args.self.now in
+    let q = process_seen c.args.self.now in
     let k = c.args.calling in
     let i = c.in-Some.number in
     let at = c.in-Some-get.ensures.lookup in

@@ -3,8 +3,8 @@ use Rattle.def_term.specs.Tree.{tuple, of_elements}
 use Rattle.tn_flags.specs.declared.class.Class.TheVariants.{Throw}
 use Rattle.tn_flags.specs.Views.{class_of}
 use Rattle.tn_term.specs.Views.{tree_of}
-use Rattle.tn_process.specs.Views.{process_of}
-use Rattle.tn_process.proofs.Unwinding.{uncaught}
+use Rattle.tn_process.specs.Views.{process_seen}
+use Rattle.tn_process.proofs.Exceptions.{uncaught}
 use Rattle.tn_process.proofs.process.Process.exception.Goals as goal
 
 pub returns-then-not-is_caught : goal.returns-then-not-is_caught
@@ -12,5 +12,5 @@ returns-then-not-is_caught g c =
     let throw : c.args.class ≡ Throw = search rules in
     let none : c.is_caught.result ≡ false = search rules in
     let t = tree_of {A = g.row.A.Denot} c.args.value in
-    uncaught (process_of c.args.self.now).frames (class_of c.args.class) t (tree_of {A = g.row.A.Denot} c.in_ok-value.value) (ap class_of throw) (sym c.is_caught.ensures ∙ none)
+    uncaught (process_seen c.args.self.now).frames (class_of c.args.class) t (tree_of {A = g.row.A.Denot} c.in_ok-value.value) (ap class_of throw) (sym c.is_caught.ensures ∙ none)
     (c.in_ok-value.ensures ∙ ap (λ w. tuple (of_elements (w ∷ t ∷ []))) c.in_ok-word.ensures)

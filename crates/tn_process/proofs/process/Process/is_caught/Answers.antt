@@ -2,7 +2,7 @@ use Rattle.std.proofs.Common.{◌∙◌, rules, tests}
 use Rattle.std.proofs.lemmas.Iterator.Adapters.{YieldsList-from_rev_slice}
 use Rattle.std.proofs.lemmas.Iterator.Search.{any_from_yields_List}
 use Rattle.tn_process.specs.Views.{frame_of}
-use Rattle.tn_process.proofs.Unwinding.{any_caught}
+use Rattle.tn_process.proofs.Exceptions.{any_caught}
 use Rattle.tn_process.proofs.process.Process.is_caught.Goals as goal
 
 pub returns : goal.returns

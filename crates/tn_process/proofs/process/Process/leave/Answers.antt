@@ -6,14 +6,14 @@ use Rattle.def_node.specs.Event.{Event, returned}
 use Rattle.def_node.specs.Process.{Process, continues, exits, leaves_to}
 use Rattle.tn_term.specs.Views.{tree_of}
 use Rattle.tn_script.specs.Views.{function_of}
-use Rattle.tn_process.specs.Acting.{resumed_in}
-use Rattle.tn_process.specs.Views.{frame_of, process_of}
+use Rattle.tn_process.specs.StepAnswers.{resumed_in}
+use Rattle.tn_process.specs.Views.{frame_of, process_seen}
 use Rattle.tn_process.proofs.Acts.{depth_seen}
 use Rattle.tn_process.proofs.process.Process.leave.Goals as goal
 
 pub returns-in_ok-events-in-Some : goal.returns-in_ok-events-in-Some
 returns-in_ok-events-in-Some g c =
-    let q = process_of c.args.self.now in
+    let q = process_seen c.args.self.now in
     let x = c.args.target.now in
     let t = tree_of c.args.value in
     let event : ℕ → Event = λ d. returned c.args.context.now.pid (mfa_of (function_of c.args.function.now)) t (d + 1) in
@@ -25,7 +25,7 @@ returns-in_ok-events-in-Some g c =
 
 pub returns-in_ok-events-in-None : goal.returns-in_ok-events-in-None
 returns-in_ok-events-in-None g c =
-    let q = process_of c.args.self.now in
+    let q = process_seen c.args.self.now in
     let x = c.args.target.now in
     let t = tree_of c.args.value in
     let event : ℕ → Event = λ d. returned c.args.context.now.pid (mfa_of (function_of c.args.function.now)) t (d + 1) in

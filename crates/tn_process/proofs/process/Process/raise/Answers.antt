@@ -4,9 +4,9 @@ use Rattle.def_node.specs.Process.{Process, Exception, exception_of, leaves_by}
 use Rattle.tn_term.specs.Views.{tree_of}
 use Rattle.tn_flags.specs.Views.{class_of}
 use Rattle.tn_script.specs.Views.{functions_of}
-use Rattle.tn_process.specs.Views.{frame_of, process_of}
+use Rattle.tn_process.specs.Views.{frame_of, process_seen}
 use Rattle.tn_process.proofs.Acts.{done, ended, within_none, within_some}
-use Rattle.tn_process.proofs.Unwinding.{over_frames}
+use Rattle.tn_process.proofs.Exceptions.{over_frames}
 use Rattle.tn_process.proofs.process.Process.raise.Goals as goal
 
 pub returns-in_default : goal.returns-in_default
@@ -18,8 +18,8 @@ pub returns : goal.returns
 returns g c =
     let ks = functions_of c.args.context.now.functions.now in
     let n = c.args.context.now.pid in
-    let q = process_of c.args.self.now in
-    let p = process_of c.push_frame.new.self in
+    let q = process_seen c.args.self.now in
+    let p = process_seen c.push_frame.new.self in
     let fs = frame_of c.args.frame ∷ q.frames in
     let class = class_of c.args.class in
     let t = tree_of c.in-Some.value in

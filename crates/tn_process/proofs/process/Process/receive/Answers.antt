@@ -3,13 +3,13 @@ use Rattle.def_node.specs.Event.{Event}
 use Rattle.def_node.specs.Process.{Process, Frame, continues, receives, with_frames}
 use Rattle.tn_term.specs.Views.{tree_of}
 use Rattle.tn_flags.specs.Views.{event_of}
-use Rattle.tn_process.specs.Acting.{with_target}
-use Rattle.tn_process.specs.Views.{frame_of, process_of}
+use Rattle.tn_process.specs.StepAnswers.{with_target}
+use Rattle.tn_process.specs.Views.{frame_of, process_seen}
 use Rattle.tn_process.proofs.process.Process.receive.Goals as goal
 
 pub returns-in_ok-push_frame-in-Some : goal.returns-in_ok-push_frame-in-Some
 returns-in_ok-push_frame-in-Some g c =
-    let q = process_of c.args.self.now in
+    let q = process_seen c.args.self.now in
     let f = frame_of c.args.frame in
     let x = c.args.target.now in
     let t = tree_of c.in-Some.message in

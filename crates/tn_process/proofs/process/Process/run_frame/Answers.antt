@@ -2,14 +2,14 @@ use Rattle.std.proofs.Common.{◌≡◌, ap, sym, ◌∙◌, Some, None, slice_g
 use Rattle.def_term.specs.Tree.{Tree}
 use Rattle.def_node.specs.Process.{performs, leaves}
 use Rattle.tn_script.specs.Views.{functions_of, function_of, step_of}
-use Rattle.tn_process.specs.Views.{process_of, frame_of}
+use Rattle.tn_process.specs.Views.{process_seen, frame_of}
 use Rattle.tn_process.proofs.Acts.{done}
 use Rattle.tn_process.proofs.Lookup.{seen_at, none_at}
 use Rattle.tn_process.proofs.process.Process.run_frame.Goals as goal
 
 pub returns-in_ok-value-in-None : goal.returns-in_ok-value-in-None
 returns-in_ok-value-in-None g c =
-    let q = process_of c.args.self.now in
+    let q = process_seen c.args.self.now in
     let f = frame_of c.args.frame in
     let k = function_of c.args.function.now in
     let ok = c.in_ok-value-in-None.ensures in
@@ -20,7 +20,7 @@ returns-in_ok-value-in-None g c =
 
 pub returns-in-Some : goal.returns-in-Some
 returns-in-Some g c =
-    let q = process_of c.args.self.now in
+    let q = process_seen c.args.self.now in
     let f = frame_of c.args.frame in
     let k = function_of c.args.function.now in
     let step = c.in-Some.step.now in

@@ -3,23 +3,23 @@ use Rattle.std.specs.Option.{option_map}
 use Rattle.def_term.specs.Tree as Tree
 use Rattle.def_script.specs.Program.{Entry}
 use Rattle.def_node.specs.Values.{rebound_target}
-use Rattle.def_node.specs.Process.{Process, Frame, spawns, spawns_at, advanced, with_env, with_frames}
+use Rattle.def_node.specs.Process.{Process, Frame, spawns, spawns_at, next_step, with_env, with_frames}
 use Rattle.tn_term.specs.Views.{tree_of}
 use Rattle.tn_term.specs.declared.term.Term.{Pid}
 use Rattle.tn_term.proofs.Views.{tree_of_pid}
 use Rattle.tn_script.specs.Views.{args_of}
-use Rattle.tn_process.specs.Views.{process_of, frame_of}
+use Rattle.tn_process.specs.Views.{process_seen, frame_of}
 use Rattle.tn_process.proofs.Acts.{ended, within_none, within_some}
 use Rattle.tn_process.proofs.process.Process.spawn.Goals as goal
 
 pub returns-in_default : goal.returns-in_default
 returns-in_default g c =
     ended c.args.self.now _ _ _ c.over_limit.ensures
-    (within_none (process_of c.args.self.now).links _ _ (ap (option_map args_of) (sym c.in_default.is) ∙ c.in_ok-args.ensures))
+    (within_none (process_seen c.args.self.now).links _ _ (ap (option_map args_of) (sym c.in_default.is) ∙ c.in_ok-args.ensures))
 
 pub returns-in_default-child : goal.returns-in_default-child
 returns-in_default-child g c =
-    let q = process_of c.args.self.now in
+    let q = process_seen c.args.self.now in
     let k = c.args.callee.now in
     let args = args_of c.in-Some.args in
     ended c.args.self.now _ _ _ c.over_limit-in_default-child.ensures
@@ -28,14 +28,14 @@ returns-in_default-child g c =
 
 pub returns : goal.returns
 returns g c =
-    let q = process_of c.args.self.now in
+    let q = process_seen c.args.self.now in
     let f = frame_of c.args.frame in
     let x = c.args.callee.now.target.now in
     let child = c.in-Some-child.child in
     let args = c.in-Some.args in
     let framed = c.in_ok-bind.ensures
     ∙ ap (λ (fr : Frame). with_env fr (rebound_target x (tree_of {A = g.row.A.Denot} (Pid child)) fr.env)) c.advance.ensures
-    ∙ ap (λ (t : Tree.Tree). with_env (advanced f) (rebound_target x t f.env)) (tree_of_pid g.row.A.Denot child) in
+    ∙ ap (λ (t : Tree.Tree). with_env (next_step f) (rebound_target x t f.env)) (tree_of_pid g.row.A.Denot child) in
     let process = c.in_ok-push_frame.ensures ∙ ap (λ (fr : Frame). with_frames q (fr ∷ q.frames)) framed in
     let E : List ℕ → List ℕ → Entry = λ m n. record { module_name = m; function_name = n; args = map tree_of args.terms.items } in
     within_some q.links _ _ (map tree_of args.terms.items) _

@@ -1,6 +1,6 @@
 use Rattle.std.proofs.Common.{◌∙◌, length, sym, ap, rules}
 use Rattle.tn_flags.specs.Views.{command_of}
-use Rattle.tn_program.proofs.Made.{first_made, none_made}
+use Rattle.tn_program.proofs.CreatedSessions.{first_made, none_made}
 use Rattle.tn_program.proofs.creations.SessionsIterator.next.Goals as goal
 
 pub returns-in-Some-creation-clause-steps : goal.returns-in-Some-creation-clause-steps

@@ -2,7 +2,7 @@ use Rattle.std.proofs.Common.{map}
 use Rattle.tn_flags.specs.Views.{command_of}
 use Rattle.tn_script.specs.Views.{function_of, entry_of}
 use Rattle.tn_script.proofs.Equal.{seen_equal}
-use Rattle.tn_program.proofs.Gathered.{program_equal}
+use Rattle.tn_program.proofs.FormParts.{program_equal}
 use Rattle.tn_program.proofs.parts.Program.same.Goals as goal
 
 pub returns : goal.returns

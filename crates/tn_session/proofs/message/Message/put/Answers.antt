@@ -3,7 +3,7 @@ use Rattle.std.specs.Prelude.{option_to_list}
 use Rattle.std.specs.Option.{option_map}
 use Rattle.tn_term.specs.Views.{tree_of}
 use Rattle.tn_flags.specs.Views.{event_of}
-use Rattle.tn_text.proofs.Writing.{grows_on, on_failed}
+use Rattle.tn_text.proofs.Growth.{grows_on, on_failed}
 use Rattle.tn_session.proofs.Texts.{twice, more_at_the_end, grows_by}
 use Rattle.tn_session.proofs.message.Message.put.Goals as goal
 

@@ -2,7 +2,7 @@ use Rattle.std.proofs.Common.{map, refl}
 use Rattle.def_session.specs.State.{live}
 use Rattle.def_session.specs.Settings.{plain}
 use Rattle.tn_term.specs.Views.{alive_of}
-use Rattle.tn_session.specs.Views.{covering_seen, marks_seen}
+use Rattle.tn_session.specs.Views.{function_setting_seen, marks_seen}
 use Rattle.tn_session.proofs.session.Session.created.Goals as goal
 
 pub returns : goal.returns
@@ -12,8 +12,8 @@ returns g c = record {
     phase = live;
     alive = alive_of c.args.alive;
     flags = c.none.ensures i;
-    for_new = c.none-none.ensures i;
-    functions = map covering_seen (c.new.ensures i);
+    new_process_flags = c.none-none.ensures i;
+    functions = map function_setting_seen (c.new.ensures i);
     sending = plain;
     receiving = plain;
     marks = marks_seen (c.new-2.ensures.items i);

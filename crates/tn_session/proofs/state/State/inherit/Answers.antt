@@ -12,7 +12,7 @@ returns-in-Spawned-clause-state g c =
     let s = c.args.self.now in
     rw c.in-Spawned.is (spawn_case (state_seen s) (state_seen (record s { alive = c.add.new.self })) (state_seen c.set_flags.new.self) (state_seen c.set_flags-in-Spawned.new.self) c.in-Spawned.parent c.in-Spawned.pid _ _ (mfa_seen c.in-Spawned.mfa) (map tree_of c.in-Spawned.args.items)
     (ap (λ a. record (state_seen s) { alive = a }) c.add.ensures) c.set_flags.ensures.state c.set_flags-in-Spawned.ensures.state
-    (c.inherit_spawn.ensures ∙ ap (λ f. after_spawn f (flags_of s.for_new)) c.flags_at.ensures))
+    (c.inherit_spawn.ensures ∙ ap (λ f. after_spawn f (flags_of s.new_process_flags)) c.flags_at.ensures))
 
 pub returns-in-GettingLinked-clause-state : goal.returns-in-GettingLinked-clause-state
 returns-in-GettingLinked-clause-state g c =

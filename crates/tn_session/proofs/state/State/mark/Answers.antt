@@ -1,8 +1,8 @@
 use Rattle.std.proofs.Common.{◌≤◌, ◌∙◌, ◌-◌, ◌<◌, [], ◌∷◌, List, length, unwrap_or, vec_len, ap, arith}
 use Rattle.std.specs.Prelude.{slice_get}
 use Rattle.def_session.specs.State.{Mark, marks_at, with_marks}
-use Rattle.tn_session.specs.Views.{kind_seen, newest_first, marks_seen, state_seen}
-use Rattle.tn_session.proofs.Marking.{changed_at, newest, is_beyond, unchanged_beyond}
+use Rattle.tn_session.specs.Views.{mark_kind_seen, newest_first, marks_seen, state_seen}
+use Rattle.tn_session.proofs.MarkLemmas.{changed_at, newest, is_beyond, unchanged_beyond}
 use Rattle.tn_session.proofs.state.State.mark.Goals as goal
 
 pub returns-in_ok-push-clause-state : goal.returns-in_ok-push-clause-state
@@ -12,7 +12,7 @@ returns-in_ok-push-clause-state g c =
     let old = c.index_mut.result.now in
     let whole = reached.ok.0 in
     let below : c.place_of-place.result < length reached.items = omega (arith, whole, c.len.ensures, c.if-place-len.true) in
-    let m : Mark = record { depth = c.args.depth; kind = kind_seen c.args.kind } in
+    let m : Mark = record { depth = c.args.depth; kind = mark_kind_seen c.args.kind } in
     let f : List Mark → List Mark = λ ms. m ∷ ms in
     ap (λ ms. record (state_seen s) { marks = ms })
     (changed_at f reached.items c.place_of-place.result (c.args.pid - 100) old c.push.new.self below c.index_mut.ensures.value c.place_of-place.ensures
@@ -25,7 +25,7 @@ returns-else-place-len-clause-state g c =
     let reached = c.reach.new.marks in
     let place = c.place_of-place.result in
     let whole = reached.ok.0 in
-    let m : Mark = record { depth = c.args.depth; kind = kind_seen c.args.kind } in
+    let m : Mark = record { depth = c.args.depth; kind = mark_kind_seen c.args.kind } in
     let f : List Mark → List Mark = λ ms. m ∷ ms in
     let past : length reached.items ≤ place = omega (arith, whole, c.len.ensures, c.if-place-len.false) in
     let outside : vec_len reached ≤ place = omega (arith, c.len.ensures, c.if-place-len.false) in

@@ -1,7 +1,7 @@
 use Rattle.std.proofs.Common.{◌∙◌, ◌-◌, ◌<◌, ◌≤◌, ◌≡◌, length, get_or, sym, ap, arith}
 use Rattle.def_session.specs.State.{kind_among}
 use Rattle.tn_session.specs.Views.{newest_first}
-use Rattle.tn_session.proofs.Marking.{marks_there, none_there}
+use Rattle.tn_session.proofs.MarkLemmas.{marks_there, none_there}
 use Rattle.tn_session.proofs.state.State.mark_of.Goals as goal
 
 pub returns-in-Some : goal.returns-in-Some

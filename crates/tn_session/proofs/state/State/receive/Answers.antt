@@ -6,4 +6,4 @@ use Rattle.tn_session.proofs.state.State.receive.Goals as goal
 pub returns-in-Ok-clause-done : goal.returns-in-Ok-clause-done
 returns-in-Ok-clause-done g c =
     let s = state_seen c.args.self.now in
-    ap (receive_set s) c.in-Ok.ensures ∙ ap (λ r. (record s { receiving = setting_seen c.in-Ok.setting }, r)) (sym c.counted.ensures)
+    ap (receive_set s) c.in-Ok.ensures ∙ ap (λ r. (record s { receiving = setting_seen c.in-Ok.setting }, r)) (sym c.count_reply.ensures)

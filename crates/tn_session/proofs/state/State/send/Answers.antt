@@ -6,4 +6,4 @@ use Rattle.tn_session.proofs.state.State.send.Goals as goal
 pub returns-in-Ok-clause-done : goal.returns-in-Ok-clause-done
 returns-in-Ok-clause-done g c =
     let s = state_seen c.args.self.now in
-    ap (send_set s) c.in-Ok.ensures ∙ ap (λ r. (record s { sending = setting_seen c.in-Ok.setting }, r)) (sym c.counted.ensures)
+    ap (send_set s) c.in-Ok.ensures ∙ ap (λ r. (record s { sending = setting_seen c.in-Ok.setting }, r)) (sym c.count_reply.ensures)

@@ -1,7 +1,7 @@
 use Rattle.std.proofs.Common.{◌≤◌, ◌<◌, ◌∙◌, ◌-◌, ◌==◌, Bool, not, filter, length, refl, ap, arith}
 use Rattle.def_session.specs.State.{Mark}
 use Rattle.tn_session.specs.Views.{newest_first, state_seen}
-use Rattle.tn_session.proofs.Marking.{changed_at, filter_newest, unchanged_past}
+use Rattle.tn_session.proofs.MarkLemmas.{changed_at, filter_newest, unchanged_past}
 use Rattle.tn_session.proofs.state.State.unmark.Goals as goal
 
 pub returns-then-place-len-clause-state : goal.returns-then-place-len-clause-state

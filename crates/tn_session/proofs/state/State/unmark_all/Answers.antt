@@ -1,6 +1,6 @@
 use Rattle.std.proofs.Common.{◌≤◌, ◌<◌, ◌-◌, [], length, refl, ap, arith}
 use Rattle.tn_session.specs.Views.{newest_first, state_seen}
-use Rattle.tn_session.proofs.Marking.{changed_at, unchanged_past}
+use Rattle.tn_session.proofs.MarkLemmas.{changed_at, unchanged_past}
 use Rattle.tn_session.proofs.state.State.unmark_all.Goals as goal
 
 pub returns-then-place-len-clause-state : goal.returns-then-place-len-clause-state

@@ -1,7 +1,13 @@
-use Rattle.def_run.specs.Round as definition
+use Rattle.std.proofs.Common.{min}
+use Rattle.def_run.specs.Round.{round}
 use Rattle.tn_program.specs.Views.{program_of}
-use Rattle.tn_trace.proofs.TranscriptLemmas.{round_moved}
+use Rattle.tn_trace.specs.Items.{AreTexts}
+use Rattle.tn_trace.specs.Recorders.{HasRecorded}
+use Rattle.tn_trace.proofs.TranscriptLemmas.{moved_run}
 use Rattle.tn_trace.proofs.transcript.Transcript.of_round.Goals as goal
 
 pub returns : goal.returns
-returns g c = round_moved (program_of c.args.program.now) (definition.round (program_of c.args.program.now) c.args.limit) c.in_ok-engine.engine c.in_ok-engine.ensures
+returns g c =
+    let p = program_of c.args.program.now in
+    let run = moved_run (HasRecorded AreTexts) p (min c.args.limit 65536) (round p c.args.limit) c.in_ok-run.run' c.in_ok-run.ensures in
+    record { recorded = run.seen; journaled = run.journaled }

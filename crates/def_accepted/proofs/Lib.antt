@@ -1,6 +1,0 @@
-pub mod Tests
-pub mod Places
-pub mod Variables
-pub mod Heads
-pub mod Expressions
-pub mod Accepted

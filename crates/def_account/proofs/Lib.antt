@@ -1,3 +1,0 @@
-mod Commands
-mod Rows
-mod Tellings

@@ -1,5 +1,0 @@
-use Rattle.def_account.proofs.Commands.{command_term_is_read}
-use Rattle.def_account.proofs.a_command_is_written_as_it_is_read.Goals as goal
-
-pub returns : goal.returns
-returns c = command_term_is_read

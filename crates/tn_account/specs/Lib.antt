@@ -1,4 +1,0 @@
-pub mod Elements
-pub mod Asks
-pub mod Standings
-pub mod Runs

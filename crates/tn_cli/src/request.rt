@@ -1,0 +1,213 @@
+// What the command line asks for: a command, made of what was read of its words.
+ghost use Rattle.std.specs.Prelude.{◌≡◌, OkIff, IfOk, IfErr, IfSome, IfNone, codes};
+ghost use Rattle.tn_cli.specs.Requests.{argument, dialect_named, IsBetween, number_given, IsNumberOrNone};
+ghost use Rattle.tn_cli.specs.Requests.{ArePicksOf, IsSourceNamed, Asks, IsAskedBy};
+ghost use Rattle.tn_cli.specs.Requests.{LacksNumber, IsWithoutNumber, NamesNoCommand};
+
+use clap::ArgMatches;
+use tn_command::{Source, plain_number, source_of};
+use tn_explain::Filter;
+use tn_spec::Dialect;
+
+/// Where the text of picks is.
+#[derive(Clone, Copy)]
+pub enum PicksSource<'a> {
+    /// The text is given.
+    Text(&'a str),
+    /// It is in a file, or is standard input.
+    In(Source<'a>),
+}
+
+/// What a trial is of, in the words of `spec`.
+#[derive(Clone, Copy)]
+pub struct SpecTestArgs<'a> {
+    pub dialect: Dialect,
+    pub list: &'a str,
+    pub self_pid: u32,
+    pub caller: Option<&'a str>,
+    /// The specification, where it isn't standard input.
+    pub specification: Option<&'a str>,
+}
+
+/// What the command line asks for.
+#[derive(Clone, Copy)]
+pub enum Request<'a> {
+    /// A run by picks.
+    Replay {
+        script: Source<'a>,
+        picks: PicksSource<'a>,
+    },
+    /// An explanation of a run by picks.
+    Explain {
+        script: Source<'a>,
+        picks: PicksSource<'a>,
+        filter: Filter<'a>,
+    },
+    /// A round, in which so many picks may move.
+    Round {
+        script: Source<'a>,
+        limit: u32,
+    },
+    /// A run by so many workers, of so many turns each.
+    Workers {
+        script: Source<'a>,
+        count: u32,
+        turns: u32,
+    },
+    /// A trial of a match specification.
+    Spec(SpecTestArgs<'a>),
+}
+
+/// A value that isn't a number that the option takes.
+#[derive(Clone, Copy)]
+pub struct BadNumber<'a> {
+    /// The option, with the name of its value.
+    pub option: &'static str,
+    pub text: &'a str,
+}
+
+/// The number of an option, within its bounds.
+fn number<'a>(
+    args: &ArgMatches<'a>,
+    id: &str,
+    option: &'static str,
+    least: u32,
+    most: u32,
+) -> Result<u32, BadNumber<'a>>
+    ensures { OkIff result (IsBetween least most (argument args.now id.now)) (number_given (argument args.now id.now)) }
+{
+    let Some(text) = args.get_str(id) else {
+        return Err(BadNumber { option, text: "" });
+    };
+    match plain_number(text) {
+        Some(number) if number >= least && number <= most => Ok(number),
+        _ => Err(BadNumber { option, text }),
+    }
+}
+
+/// The move that `explain` is asked for, where there is one.
+fn move_number<'a>(matches: &ArgMatches<'a>) -> Result<Option<u64>, BadNumber<'a>>
+    ensures { IsNumberOrNone (argument matches.now (codes "move")) result }
+{
+    let Some(text) = matches.get_str("move") else {
+        return Ok(None);
+    };
+    match plain_number(text) {
+        Some(number) => Ok(Some(number as u64)),
+        None => Err(BadNumber {
+            option: "--move <N>",
+            text,
+        }),
+    }
+}
+
+/// Where the script of a subcommand is read from.
+fn script<'a>(matches: &ArgMatches<'a>) -> Source<'a>
+    ensures { IsSourceNamed (argument matches.now (codes "script")) result }
+{
+    source_of(matches.get_str("script"))
+}
+
+/// Where the picks of a subcommand are: in a file, where one is named, else in the words.
+fn picks<'a>(matches: &ArgMatches<'a>) -> PicksSource<'a>
+    ensures { ArePicksOf matches.now result }
+{
+    match matches.get_str("picks-file") {
+        Some(file) => PicksSource::In(source_of(Some(file))),
+        None => PicksSource::Text(matches.get_str("picks").unwrap_or("")),
+    }
+}
+
+/// What the specification of this event is for.
+fn dialect_of(event: &str) -> Dialect
+    ensures { result ≡ dialect_named event.now }
+{
+    match event {
+        "send" => Dialect::Send,
+        "receive" => Dialect::Recv,
+        _ => Dialect::Call,
+    }
+}
+
+/// What `replay` asks for.
+fn replay<'a>(matches: &ArgMatches<'a>) -> Request<'a>
+    ensures { Asks (codes "replay") matches.now result }
+{
+    Request::Replay {
+        script: script(matches),
+        picks: picks(matches),
+    }
+}
+
+/// What `explain` asks for.
+fn explain<'a>(matches: &ArgMatches<'a>) -> Result<Request<'a>, BadNumber<'a>>
+    ensures asks { IfOk result (Asks (codes "explain") matches.now) }
+    ensures refused { IfErr result (λ e. LacksNumber (codes "explain") matches.now) }
+{
+    let move_number = move_number(matches)?;
+    Ok(Request::Explain {
+        script: script(matches),
+        picks: picks(matches),
+        filter: Filter {
+            session: matches.get_str("session"),
+            move_number,
+        },
+    })
+}
+
+/// What `round` asks for.
+fn round<'a>(matches: &ArgMatches<'a>) -> Result<Request<'a>, BadNumber<'a>>
+    ensures asks { IfOk result (Asks (codes "round") matches.now) }
+    ensures refused { IfErr result (λ e. LacksNumber (codes "round") matches.now) }
+{
+    let limit = number(matches, "limit", "--limit <N>", 1, 65536)?;
+    Ok(Request::Round {
+        script: script(matches),
+        limit,
+    })
+}
+
+/// What `workers` asks for.
+fn workers<'a>(matches: &ArgMatches<'a>) -> Result<Request<'a>, BadNumber<'a>>
+    ensures asks { IfOk result (Asks (codes "workers") matches.now) }
+    ensures refused { IfErr result (λ e. LacksNumber (codes "workers") matches.now) }
+{
+    let count = number(matches, "n", "--n <N>", 1, 16)?;
+    let turns = number(matches, "turns", "--turns <T>", 1, 65536)?;
+    Ok(Request::Workers {
+        script: script(matches),
+        count,
+        turns,
+    })
+}
+
+/// What `spec` asks for.
+fn spec<'a>(matches: &ArgMatches<'a>) -> Result<Request<'a>, BadNumber<'a>>
+    ensures asks { IfOk result (Asks (codes "spec") matches.now) }
+    ensures refused { IfErr result (λ e. LacksNumber (codes "spec") matches.now) }
+{
+    let self_pid = number(matches, "me", "--me <N>", 0, u32::MAX)?;
+    Ok(Request::Spec(SpecTestArgs {
+        dialect: dialect_of(matches.get_str("for").unwrap_or("call")),
+        list: matches.get_str("list").unwrap_or(""),
+        self_pid,
+        caller: matches.get_str("caller"),
+        specification: matches.get_str("specification"),
+    }))
+}
+
+/// What the command line asks for, by the subcommand that it names; None where it names none.
+pub fn request_of<'a>(matches: &ArgMatches<'a>) -> Result<Option<Request<'a>>, BadNumber<'a>>
+    ensures asks { IfOk result (λ o. IfSome o (IsAskedBy matches.now)) }
+    ensures none { IfOk result (λ o. IfNone o (NamesNoCommand matches.now)) }
+    ensures refused { IfErr result (λ e. IsWithoutNumber matches.now) }
+{
+    match matches.subcommand() {
+        Some(("replay", given)) => Ok(Some(replay(given))),
+        Some(("explain", given)) => Ok(Some(explain(given)?)),
+        Some(("round", given)) => Ok(Some(round(given)?)),
+        Some(("workers", given)) => Ok(Some(workers(given)?)),
+        Some(("spec", given)) => Ok(Some(spec(given)?)),
+        _ => Ok(None),
+    }
+}

@@ -1,0 +1,104 @@
+// What a command does with a script.
+ghost use Rattle.std.specs.Prelude.{◌≡◌};
+ghost use Rattle.std.specs.Process.{exit_status};
+ghost use Rattle.tn_command.specs.Status.{IsStatus, OnFaultUntouchedOrFailed, WroteAs, status_of};
+
+use crate::command::Command;
+use crate::last_error::LastError;
+use crate::source::{Source, open};
+use crate::status::{JobEnd, job_status};
+use crate::stderr::{NamedText, tell_fault};
+use crate::tee::Tee;
+use std::alloc::{Allocator, Global};
+use std::io;
+use std::io::{Read, Write};
+use std::process::ExitCode;
+use std::rt::Files;
+use tn_run::{DirectJob, transact};
+use tn_text::Watched;
+
+/// What the script of standard input is called.
+pub(crate) const INPUT: &str = "script";
+
+/// Does a job with the script that a reader holds: what the writer gained is what the status says.
+pub fn perform_over<A: Allocator + Copy, J: DirectJob<A>, R: Read, W: Write>(
+    alloc: A,
+    job: &J,
+    reader: &mut Watched<R>,
+    writer: &mut Watched<W>,
+) -> JobEnd<J::Outcome, J::Fault>
+    ensures written { WroteAs (J.view job.now) result.status R.remaining reader.old W.contents writer.old writer.new }
+    ensures failed { OnFaultUntouchedOrFailed result.status writer.old writer.new }
+    ensures status { IsStatus (exit_status result.status) }
+    ensures answer { exit_status result.status ≡ status_of (J.view job.now) result.answer }
+{
+    let answer = transact(alloc, job, reader, writer);
+    let status = job_status(job, &answer);
+    JobEnd { status, answer }
+}
+
+/// A reader of a script that keeps its text, and why it failed.
+pub(crate) type Script<R> = Watched<LastError<Tee<R, Global>>>;
+
+/// A reader of a script, of which nothing was read yet.
+pub(crate) fn script_of<R>(alloc: Global, reader: R) -> Script<R> {
+    Watched::of(LastError::of(Tee::of(alloc, reader)))
+}
+
+/// The status of a job, after a line on standard error where its answer isn't what was asked for.
+pub(crate) fn print_end<R: Eprint + AllocGlobal, J: Command, S: Drop, W: Drop>(
+    rt: &R,
+    job: &J,
+    end: JobEnd<J::Outcome, J::Fault>,
+    name: &str,
+    script: Script<S>,
+    writer: Watched<LastError<W>>,
+) -> ExitCode
+    ensures { exit_status result ≡ exit_status end.status }
+{
+    let JobEnd { status, answer } = end;
+    let (script, unread) = script.into_inner().into_parts();
+    let (_, unwritten) = writer.into_inner().into_parts();
+    let (_, bytes) = script.into_parts();
+    let text = NamedText {
+        name,
+        bytes: &bytes,
+    };
+    match answer {
+        Ok(outcome) => job.tell_outcome(rt, outcome, text),
+        Err(fault) => tell_fault(rt, &fault, unread.or(unwritten)),
+    }
+    status
+}
+
+/// Does a job with the script that a reader with this name holds, and writes to standard output.
+fn print_job<R: Print + Eprint + AllocGlobal, S: Read + Drop, J: Command + DirectJob<Global>>(
+    rt: &R,
+    name: &str,
+    reader: S,
+    job: &J,
+) -> ExitCode
+    ensures { IsStatus (exit_status result) }
+{
+    let mut script = script_of(rt.alloc(), reader);
+    let mut writer = Watched::of(LastError::of(io::writer(rt)));
+    let end = perform_over(rt.alloc(), job, &mut script, &mut writer);
+    print_end(rt, job, end, name, script, writer)
+}
+
+/// Does a job with the script of a source, and writes to standard output.
+pub fn perform<R: Input + Files + Print + Eprint + AllocGlobal, J: Command + DirectJob<Global>>(
+    rt: &R,
+    script: Source<'_>,
+    job: &J,
+) -> ExitCode
+    ensures { IsStatus (exit_status result) }
+{
+    match script {
+        Source::Input => print_job(rt, INPUT, rt.reader(), job),
+        Source::File(path) => match open(rt, path) {
+            Ok(file) => print_job(rt, path, file, job),
+            Err(status) => status,
+        },
+    }
+}

@@ -1,0 +1,126 @@
+// The trial of one specification.
+ghost use Rattle.std.specs.Prelude.{◌≡◌};
+ghost use Rattle.std.specs.Process.{exit_status};
+ghost use Rattle.tn_command.specs.Status.{IsStatus, OnFaultUntouchedOrFailed};
+ghost use Rattle.tn_command.specs.SpecTests.{spec_test_status_of, TriedAs};
+
+use crate::last_error::LastError;
+use crate::status::{FAULT, JobEnd, REFUSED};
+use crate::stderr::tell_fault;
+use std::alloc::Allocator;
+use std::io;
+use std::io::Write;
+use std::process::ExitCode;
+use tn_refusal::line_column_of;
+use tn_run::{RunFault, write_output};
+use tn_text::{MAX_TEXT, TextFault, Watched};
+use tn_verdict::{SpecTestFault, SpecTestInput, answer};
+
+/// Why a trial ended before its answer was written and flushed.
+#[derive(Drop)]
+pub enum SpecTestRunFault<A: Allocator> {
+    /// The question has no answer. Nothing was written.
+    SpecTestInput(SpecTestFault<A>),
+    /// The writer failed.
+    Run(RunFault),
+}
+
+/// How a trial with this answer ended.
+fn spec_test_end<A: Allocator>(
+    answer: Result<(), SpecTestRunFault<A>>,
+) -> JobEnd<(), SpecTestRunFault<A>>
+    ensures status { exit_status result.status ≡ spec_test_status_of answer }
+    ensures answer { result.answer ≡ answer }
+{
+    let status = match &answer {
+        Ok(()) => ExitCode::SUCCESS,
+        Err(SpecTestRunFault::SpecTestInput(SpecTestFault::OutOfMemory)) => ExitCode::from(FAULT),
+        Err(SpecTestRunFault::SpecTestInput(_)) => ExitCode::from(REFUSED),
+        Err(SpecTestRunFault::Run(_)) => ExitCode::from(FAULT),
+    };
+    JobEnd { status, answer }
+}
+
+/// Answers the question: what the writer gained is what the status says.
+pub fn test_spec_over<A: Allocator + Copy, W: Write>(
+    alloc: A,
+    writer: &mut Watched<W>,
+    question: &SpecTestInput<'_>,
+) -> JobEnd<(), SpecTestRunFault<A>>
+    ensures written { TriedAs result.status question.now W.contents writer.old writer.new result.answer }
+    ensures failed { OnFaultUntouchedOrFailed result.status writer.old writer.new }
+    ensures status { IsStatus (exit_status result.status) }
+    ensures answer { exit_status result.status ≡ spec_test_status_of result.answer }
+{
+    let text = match answer(alloc, question) {
+        Ok(text) => text,
+        Err(fault) => return spec_test_end(Err(SpecTestRunFault::SpecTestInput(fault))),
+    };
+    match write_output(writer, &text) {
+        Ok(()) => spec_test_end(Ok(())),
+        Err(fault) => spec_test_end(Err(SpecTestRunFault::Run(fault))),
+    }
+}
+
+/// What a text's fault is, and the offset of its token, where it has one.
+fn words_of(fault: TextFault) -> (&'static str, Option<usize>) {
+    match fault {
+        TextFault::TooLong => ("the text is too long", None),
+        TextFault::Token { at } => ("no term goes on so", Some(at)),
+        TextFault::TooDeep { at } => ("too deep", Some(at)),
+        TextFault::TooLarge { at } => ("too large", Some(at)),
+        TextFault::OutOfMemory => ("fault memory", None),
+    }
+}
+
+/// Says on standard error where the text of this name can be fixed, and why.
+fn tell_text(rt: &impl Eprint, name: &str, bytes: &[u8], fault: TextFault) {
+    let (words, at) = words_of(fault);
+    let _ = match at {
+        Some(at) if bytes.len() <= MAX_TEXT => {
+            let place = line_column_of(bytes, at);
+            rt.eprintln(format_args!("{name}:{}:{}: {words}", place.line, place.column))
+        }
+        _ => rt.eprintln(format_args!("{name}: {words}")),
+    };
+}
+
+/// Says on standard error why the question has no answer, in one line.
+fn tell_question<A: Allocator>(
+    rt: &impl Eprint,
+    question: &SpecTestInput<'_>,
+    fault: &SpecTestFault<A>,
+) {
+    match fault {
+        SpecTestFault::List(fault) => tell_text(rt, "list", question.list, *fault),
+        SpecTestFault::Caller(fault) => {
+            tell_text(rt, "caller", question.caller.unwrap_or(b""), *fault);
+        }
+        SpecTestFault::Text(fault) => tell_text(rt, "specification", question.spec, *fault),
+        SpecTestFault::Spec {
+            clause: Some(before),
+            fault,
+        } => {
+            let number = *before as u128 + 1;
+            let _ = rt.eprintln(format_args!("specification: clause {number}: {fault}"));
+        }
+        _ => {
+            let _ = rt.eprintln(fault);
+        }
+    }
+}
+
+/// Answers the question on standard output.
+pub fn test_spec<R: Print + Eprint + AllocGlobal>(rt: &R, question: &SpecTestInput<'_>) -> ExitCode
+    ensures { IsStatus (exit_status result) }
+{
+    let mut writer = Watched::of(LastError::of(io::writer(rt)));
+    let JobEnd { status, answer } = test_spec_over(rt.alloc(), &mut writer, question);
+    let (_, reason) = writer.into_inner().into_parts();
+    match answer {
+        Ok(()) => {}
+        Err(SpecTestRunFault::SpecTestInput(fault)) => tell_question(rt, question, &fault),
+        Err(SpecTestRunFault::Run(fault)) => tell_fault(rt, &fault, reason),
+    }
+    status
+}

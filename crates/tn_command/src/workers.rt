@@ -1,0 +1,74 @@
+// What a command does with a script and workers.
+ghost use Rattle.std.specs.Prelude.{◌≡◌};
+ghost use Rattle.std.specs.Process.{exit_status};
+ghost use Rattle.tn_run.specs.Answers.{live_run};
+ghost use Rattle.tn_run.specs.Workers.{IsWorkerCount};
+ghost use Rattle.tn_command.specs.Status.{IsStatus, OnFaultUntouchedOrFailed, WroteAs, status_of};
+
+use crate::jobs::{INPUT, print_end, script_of};
+use crate::last_error::LastError;
+use crate::source::{Source, open};
+use crate::status::{JobEnd, job_status};
+use std::alloc::Global;
+use std::io;
+use std::io::{Read, Write};
+use std::marker::Sync;
+use std::process::ExitCode;
+use std::rt::Files;
+use std::sync::Wait;
+use std::thread::Threads;
+use tn_pool::Gate;
+use tn_run::{LiveFault, LiveRun, Ran, Workers, run_live};
+use tn_text::Watched;
+
+/// Runs the script that a reader holds by workers: what the writer gained is what the status says.
+pub fn run_workers_over<T: Threads + Wait + Sync, R: Read, W: Write, G: Gate>(
+    rt: &T,
+    alloc: Global,
+    reader: &mut Watched<R>,
+    writer: &mut Watched<W>,
+    workers: &Workers<'_, G>,
+) -> JobEnd<Ran, LiveFault>
+    requires count { IsWorkerCount workers.now.count }
+    ensures written { WroteAs live_run result.status R.remaining reader.old W.contents writer.old writer.new }
+    ensures failed { OnFaultUntouchedOrFailed result.status writer.old writer.new }
+    ensures status { IsStatus (exit_status result.status) }
+    ensures answer { exit_status result.status ≡ status_of live_run result.answer }
+{
+    let answer = run_live(rt, alloc, reader, writer, workers);
+    let status = job_status::<Global, LiveRun>(&LiveRun, &answer);
+    JobEnd { status, answer }
+}
+
+/// Runs the script that a reader with this name holds by workers, and writes to standard output.
+fn print_run<R: Print + Eprint + AllocGlobal + Threads + Wait + Sync, S: Read + Drop, G: Gate>(
+    rt: &R,
+    name: &str,
+    reader: S,
+    workers: &Workers<'_, G>,
+) -> ExitCode
+    requires { IsWorkerCount workers.now.count }
+    ensures { IsStatus (exit_status result) }
+{
+    let mut script = script_of(rt.alloc(), reader);
+    let mut writer = Watched::of(LastError::of(io::writer(rt)));
+    let end = run_workers_over(rt, rt.alloc(), &mut script, &mut writer, workers);
+    print_end(rt, &LiveRun, end, name, script, writer)
+}
+
+/// Runs the script of a source by workers, and writes to standard output.
+pub fn run_workers<
+    R: Input + Files + Print + Eprint + AllocGlobal + Threads + Wait + Sync,
+    G: Gate,
+>(rt: &R, script: Source<'_>, workers: &Workers<'_, G>) -> ExitCode
+    requires { IsWorkerCount workers.now.count }
+    ensures { IsStatus (exit_status result) }
+{
+    match script {
+        Source::Input => print_run(rt, INPUT, rt.reader(), workers),
+        Source::File(path) => match open(rt, path) {
+            Ok(file) => print_run(rt, path, file, workers),
+            Err(status) => status,
+        },
+    }
+}

@@ -1,0 +1,111 @@
+-- One session: an event, and a command.
+use Rattle.std.proofs.Common.{◌≡◌, ◌∙◌, ℕ, Bool, true, false, if◌then◌else◌, List, [], ◌∷◌, ◌++◌, map, Option, Some, None, refl, sym, ap, subst, append-nil, codes}
+use Rattle.std.specs.Str.{bytes_eq}
+use Rattle.def_term.specs.Alive.{Alive}
+use Rattle.def_term.specs.Tree.{Tree}
+use Rattle.def_term.specs.Text.{w}
+use Rattle.def_script.specs.Program.{Command, session_of}
+use Rattle.def_script.specs.Exports.{Exports}
+use Rattle.def_node.specs.Event.{Event}
+use Rattle.def_session.specs.State as definition
+use Rattle.def_session.specs.State.{absent, new_session, alive_after}
+use Rattle.def_session.specs.Session.{event_reported}
+use Rattle.def_session.specs.Commands.{command_done}
+use Rattle.def_run.specs.Run.{event_item, command_item}
+use Rattle.def_run.specs.History.{NamedSession, after}
+use Rattle.def_explain.specs.Accounts.{said, event_lines, command_lines}
+use Rattle.def_explain.specs.Runs.{session_lines, makes}
+use Rattle.tn_session.specs.Sessions.{IsAt, Says}
+use Rattle.tn_session.specs.declared.message.Message.{Message}
+use Rattle.tn_session.specs.declared.session.Session.{Session}
+use Rattle.tn_explain.specs.Lines.{lines_text}
+use Rattle.tn_trace.specs.Slots.{IsSession, IsTracked, ObeysOwn}
+use Rattle.tn_trace.specs.Tracks.{Track}
+use Rattle.tn_trace.specs.declared.slot.Slot.{Slot}
+use Rattle.tn_explain.specs.Filters.{filter_seen, is_asked, text_by}
+use Rattle.tn_explain.specs.NamedSessions.{HasState}
+use Rattle.tn_explain.specs.declared.step.Step.{Step}
+use Rattle.tn_explain.specs.declared.discard.Discard.{Discard}
+use Rattle.tn_explain.proofs.MoveTexts.{lines_wanted, lines_not_wanted}
+
+module _ {A : Type 0} (step : Step) (o : Exports) (living : Alive) (s : NamedSession) (old : Slot A Discard) (h : HasState o living s old) where
+  asked_of : (b : Bool) → is_asked step old.name ≡ b → is_asked step s.0 ≡ b
+  asked_of b is = ap (is_asked step) (sym h.name) ∙ is
+
+  -- the session is there
+  pub is_at : (session : Session A) → old.session ≡ Some session → IsAt o.functions s.1 session
+  is_at session is = subst (IsSession o.functions living s.1) is h.session
+
+  absent_is : old.session ≡ None → s.1 ≡ new_session absent living
+  absent_is is = subst (IsSession o.functions living s.1) is h.session
+
+  module _ (e : Event) (text : List ℕ) where
+    -- the session makes of the event what stands between two texts
+    abbrev pub HasMade : Slot A Discard → List ℕ → Type 0
+    HasMade new text' = HasState o (alive_after living e) (after o s (event_item e)) new × (text' ≡ text ++ text_by step (map (makes s.0) (session_lines o s (event_item e))))
+
+    pub tells_absent : old.session ≡ None → HasMade old text
+    tells_absent is = (
+      record { name = h.name; session = subst (IsSession o.functions (alive_after living e) (event_reported s.1 e).0) (sym is) (ap (λ q. (event_reported q e).0) (absent_is is)) },
+      sym (ap (λ q. text ++ text_by step (map (makes s.0) (event_lines q e))) (absent_is is) ∙ append-nil text),
+    )
+
+    pub tells_asked : (session : Session A) (text' : List ℕ) → is_asked step old.name ≡ true → IsAt o.functions (event_reported s.1 e).0 session → text' ≡ text ++ lines_text old.name (event_lines s.1 e) → HasMade (record old { session = Some session }) text'
+    tells_asked session text' filter at written = (
+      record { name = h.name; session = at },
+      written ∙ ap (λ n. text ++ lines_text n (event_lines s.1 e)) h.name ∙ ap (λ l. text ++ l) (sym (lines_wanted (filter_seen step.filter.now) step.number s.0 (event_lines s.1 e) (asked_of true filter))),
+    )
+
+    pub tells_only : (session : Session A) (m : Option (Message A)) → is_asked step old.name ≡ false → Says o.functions s.1 e session m → HasMade (record old { session = Some session }) text
+    tells_only session m filter says = (
+      record { name = h.name; session = subst (λ q. IsAt o.functions q session) (sym (ap (λ (p : definition.Session × Option Tree). p.0) says.reported)) says.state },
+      sym (ap (λ l. text ++ l) (lines_not_wanted (filter_seen step.filter.now) step.number s.0 (event_lines s.1 e) (asked_of false filter)) ∙ append-nil text),
+    )
+
+  -- ---- a command
+
+  abbrev pub track : Track
+  track = record { number = old.number; name = s.0; session = s.1; messages = [] }
+
+  pub tracked : IsTracked (λ (k : Discard) (ts : List Tree). Unit {0}) o living track old
+  tracked = record { number = refl; name = h.name; session = h.session; kept = tt }
+
+  module _ (c : Command) (text : List ℕ) where
+    abbrev pub HasReplied : Slot A Discard → List ℕ → Type 0
+    HasReplied new text' = HasState o living (after o s (command_item c)) new × (text' ≡ text ++ text_by step (map (makes s.0) (session_lines o s (command_item c))))
+
+    abbrev pub Obeyed : Slot A Discard → Option Tree → Type 0
+    Obeyed new r = ObeysOwn (λ (k : Discard) (ts : List Tree). Unit {0}) o living track c new r
+
+    stands_so : (new : Slot A Discard) (b : Bool) → bytes_eq s.0 (session_of c) ≡ b → IsTracked (λ (k : Discard) (ts : List Tree). Unit {0}) o living (if b then record track { session = (command_done o s.1 c).0 } else track) new
+        → HasState o living (s.0, if b then (command_done o s.1 c).0 else s.1) new
+    stands_so new true e k = record { name = k.name; session = k.session }
+    stands_so new false e k = record { name = k.name; session = k.session }
+
+    pub stands_after : (new : Slot A Discard) (r : Option Tree) → Obeyed new r → HasState o living (after o s (command_item c)) new
+    stands_after new r h = stands_so new (bytes_eq s.0 (session_of c)) refl h.0
+
+    -- a command of another session
+    pub obeys_none : (new : Slot A Discard) → Obeyed new None → HasReplied new text
+    obeys_none new d = (
+      stands_after new None d,
+      sym (ap (λ b. text ++ text_by step (map (makes s.0) (if b then command_lines o s.1 c else []))) d.1 ∙ append-nil text),
+    )
+
+    own_lines : (r : Tree) (new : Slot A Discard) → Obeyed new (Some r) → session_lines o s (command_item c) ≡ said (codes "replies " ++ w r) ∷ []
+    own_lines r new d = ap (λ b. if b then command_lines o s.1 c else []) d.1.0 ∙ ap (λ t. said (codes "replies " ++ w t) ∷ []) (sym d.1.1)
+
+    pub obeys_asked : (r : Tree) (new : Slot A Discard) (text' : List ℕ) → is_asked step new.name ≡ true → Obeyed new (Some r) → text' ≡ text ++ lines_text new.name (said (codes "replies " ++ w r) ∷ []) → HasReplied new text'
+    obeys_asked r new text' filter d written =
+        let t = stands_after new (Some r) d in (
+          t,
+          written ∙ ap (λ n. text ++ lines_text n (said (codes "replies " ++ w r) ∷ [])) t.name ∙ ap (λ ls. text ++ lines_text s.0 ls) (sym (own_lines r new d))
+              ∙ ap (λ l. text ++ l) (sym (lines_wanted (filter_seen step.filter.now) step.number s.0 (session_lines o s (command_item c)) (ap (is_asked step) (sym t.name) ∙ filter))),
+        )
+
+    pub obeys_only : (r : Tree) (new : Slot A Discard) → is_asked step new.name ≡ false → Obeyed new (Some r) → HasReplied new text
+    obeys_only r new filter d =
+        let t = stands_after new (Some r) d in (
+          t,
+          sym (ap (λ l. text ++ l) (lines_not_wanted (filter_seen step.filter.now) step.number s.0 (session_lines o s (command_item c)) (ap (is_asked step) (sym t.name) ∙ filter)) ∙ append-nil text),
+        )

@@ -1,0 +1,34 @@
+-- What the code's explainer stands for, and what it adds of one more pick.
+use Rattle.std.specs.Prelude.{◌≡◌, ℕ, suc, if◌then◌else◌, List, [], ◌++◌, length}
+use Rattle.std.specs.declared.vec.Vec.{Vec}
+use Rattle.def_script.specs.Program.{Program}
+use Rattle.def_script.specs.Exports.{exports_of}
+use Rattle.def_run.specs.Run.{PickStep, events, moves}
+use Rattle.def_run.specs.History.{NamedSession, all_after_items, named_sessions}
+use Rattle.def_explain.specs.Runs.{AccountEntry, entries_of_move}
+use Rattle.def_explain.specs.RunTexts.{Filter}
+use Rattle.tn_trace.specs.Runs.{turn_after}
+use Rattle.tn_explain.specs.Filters.{filter_seen, filtered_text}
+use Rattle.tn_explain.specs.NamedSessions.{AreNamedSessions}
+use Rattle.tn_explain.specs.declared.explainer.Explainer.{Explainer}
+
+-- the program's sessions after these picks
+abbrev pub sessions_after : Program → List ℕ → List NamedSession
+sessions_after p picks = all_after_items (exports_of p) (named_sessions p) (events p picks)
+
+-- the explainer's sessions are those of the program after these picks
+abbrev pub HasExplained : {A : Type 0} → Explainer A → Program → List ℕ → Type 0
+HasExplained e p picks = AreNamedSessions (exports_of p) (sessions_after p picks) e.sessions
+
+-- what is written of one more pick, after so many moves
+abbrev pub entries_of_turn : Program → ℕ → ℕ → List NamedSession → PickStep → List AccountEntry
+entries_of_turn p k pick ss t = if t.moved then entries_of_move (exports_of p) (suc k) pick ss t.shown else []
+
+-- its text, as far as it is asked for
+abbrev pub text_of_pick : Filter → Program → List ℕ → ℕ → List ℕ
+text_of_pick a p picks pick = let k : ℕ = length (moves p picks) in filtered_text a (suc k) (entries_of_turn p k pick (sessions_after p picks) (turn_after p picks pick))
+
+-- it was appended, and the same is asked for as before
+pub record AddsExplanation {A : Type 0} (p : Program) (picks : List ℕ) (pick : ℕ) (old new : Explainer A) (text text' : Vec ℕ A) : Type 0 where
+  pub filter : new.filter ≡ old.filter
+  pub written : text'.items ≡ text.items ++ text_of_pick (filter_seen old.filter) p picks pick

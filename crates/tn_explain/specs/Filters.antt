@@ -1,0 +1,45 @@
+-- What the code's question for an account stands for, and the text that it gets.
+use Rattle.std.specs.Prelude.{ℕ, Bool, ◌&&◌, List, [], ◌∷◌, flat_map}
+use Rattle.std.specs.Option.{option_map}
+use Rattle.def_run.specs.Run.{event_item, command_item}
+use Rattle.def_explain.specs.Runs.{AccountEntry, shows, shows_nothing}
+use Rattle.def_explain.specs.RunTexts as definition
+use Rattle.def_explain.specs.RunTexts.{is_move, is_session, entry_text, filter_entries, account_text}
+use Rattle.tn_flags.specs.Views.{event_of, command_of}
+use Rattle.tn_flags.specs.declared.event.Event.{Event}
+use Rattle.tn_flags.specs.declared.command.Command.{Command}
+use Rattle.tn_program.specs.Views.{program_of}
+use Rattle.tn_program.specs.declared.parts.Program.{Program}
+use Rattle.tn_explain.specs.declared.filter.Filter.{Filter}
+use Rattle.tn_explain.specs.declared.step.Step.{Step}
+
+abbrev pub filter_seen : Filter → definition.Filter
+filter_seen a = record { session = option_map (λ s. s.now) a.session; move = a.move_number }
+
+-- the text of those of the entries that are asked for, after the move of this number
+abbrev pub filtered_text : definition.Filter → ℕ → List AccountEntry → List ℕ
+filtered_text a k es = flat_map entry_text (filter_entries a k es)
+
+-- the same, after the move that is written of
+abbrev pub text_by : Step → List AccountEntry → List ℕ
+text_by step es = filtered_text (filter_seen step.filter.now) step.number es
+
+-- the line of the move that shows this event, where the move is asked for
+abbrev pub text_of_event : {A : Type 0} → Step → Event A → List ℕ
+text_of_event step event = text_by step (shows step.number step.pick (event_item (event_of event)) ∷ [])
+
+-- the line of the move that shows this command, where the move is asked for
+abbrev pub text_of_command : {A : Type 0} → Step → Command A → List ℕ
+text_of_command step command = text_by step (shows step.number step.pick (command_item (command_of command)) ∷ [])
+
+-- the line of the move that shows nothing, where the move is asked for
+abbrev pub text_of_nothing : Step → List ℕ
+text_of_nothing step = text_by step (shows_nothing step.number step.pick ∷ [])
+
+-- it is asked for what the session of this name makes of the move
+abbrev pub is_asked : Step → List ℕ → Bool
+is_asked step name = is_move (filter_seen step.filter.now).move step.number && is_session (filter_seen step.filter.now).session name
+
+-- the account of the program's run by these picks, as far as it is asked for
+abbrev pub account_of : {A : Type 0} → Filter → Program A → List ℕ → List ℕ
+account_of filter program picks = account_text (filter_seen filter) (program_of program) picks

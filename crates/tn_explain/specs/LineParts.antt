@@ -1,0 +1,72 @@
+-- The lines of an event by when they are known: before the session sees the event, and afterwards.
+use Rattle.std.specs.Prelude.{ℕ, Bool, true, false, if◌then◌else◌, List, [], ◌∷◌, ◌++◌, Option, Some, None, codes}
+use Rattle.def_term.specs.Tree.{Tree}
+use Rattle.def_term.specs.Names.{Mfa}
+use Rattle.def_term.specs.Text.{w}
+use Rattle.def_spec.specs.Flags.{Flags, flags_by_name}
+use Rattle.def_spec.specs.Expressions.{Effect}
+use Rattle.def_node.specs.Event.{Event, spawned, getting_linked}
+use Rattle.def_session.specs.State.{Session}
+use Rattle.def_session.specs.Session.{effects_of}
+use Rattle.def_explain.specs.Reasons.{Reason}
+use Rattle.def_explain.specs.Causes.{cause_of}
+use Rattle.def_explain.specs.Texts.{clause_text, reason_text, effects_text, said_of_each}
+use Rattle.def_explain.specs.Accounts.{Line, said, tells, line_where, changed_text, mfa_text, message_lines, evaluation_lines, mark_lines, end_lines}
+
+-- the process that gives flags and the one that inherits them, where the event is of that
+abbrev pub both_of : Event → Option (ℕ × ℕ)
+both_of (spawned child parent f args) = Some (parent, child)
+both_of (getting_linked p linker) = Some (linker, p)
+both_of e = None
+
+-- a clause that doesn't fire
+abbrev pub failing_lines : ℕ → Reason → List Line
+failing_lines n r = said (clause_text n (codes ": " ++ reason_text r)) ∷ []
+
+-- one that fires
+abbrev pub firing_lines : ℕ → List Effect → List Line
+firing_lines n es = said (clause_text n (codes " fires" ++ effects_text es)) ∷ []
+
+-- why the event isn't evaluated, or its evaluation
+abbrev pub lines_by_effects : Session → Event → Option (List Effect) → List Line
+lines_by_effects s e None = message_lines s e (cause_of s e) None
+lines_by_effects s e (Some es) = evaluation_lines s e
+
+abbrev pub lines_before : Session → Event → List Line
+lines_before s e = lines_by_effects s e (effects_of s e)
+
+-- what an event that is evaluated or not is reported by, where the message is silenced or not
+abbrev pub reported_lines : Bool → Bool → Option Tree → List Line
+reported_lines false silent m = []
+reported_lines true silent (Some m) = tells m ∷ []
+reported_lines true true None = said (codes "silent") ∷ []
+reported_lines true false None = said (codes "message false") ∷ []
+
+-- the lines at the end
+abbrev pub lines_after : Session → Event → List Line
+lines_after s e = mark_lines s e ++ end_lines s e
+
+-- of a process that inherits flags there is a message, or it has no flag for it
+abbrev pub reported_or_no_flag : Option Tree → List Line
+reported_or_no_flag (Some m) = tells m ∷ []
+reported_or_no_flag None = said (codes "no flag procs") ∷ []
+
+-- what becomes of the flags of a process
+abbrev pub changed_lines : ℕ → (old new : Flags) → List Line
+changed_lines p old new = line_where p (changed_text p old new)
+
+-- the flags that a process loses at its end
+abbrev pub lost_lines : ℕ → Flags → List Line
+lost_lines p f = line_where p (said_of_each (codes " loses ") f flags_by_name)
+
+-- no command covers the function
+abbrev pub uncovered_lines : Mfa → List Line
+uncovered_lines f = said (codes "no setting for " ++ mfa_text f) ∷ []
+
+-- the reply to a command
+abbrev pub reply_lines : Tree → List Line
+reply_lines t = said (codes "replies " ++ w t) ∷ []
+
+-- the line of what is said, where it is
+abbrev pub said_where : Bool → List ℕ → List Line
+said_where holds text = if holds then said text ∷ [] else []

@@ -1,0 +1,51 @@
+// The account of a run.
+ghost use Rattle.std.specs.Prelude.{◌≡◌, ◌++◌, OnOk, OnErr};
+ghost use Rattle.tn_text.specs.Writes.{Grows};
+ghost use Rattle.tn_explain.specs.Filters.{account_of};
+
+use crate::explainer::Explainer;
+use crate::filter::Filter;
+use std::alloc::{AllocError, Allocator};
+use tn_program::Program;
+use tn_trace::{JOURNAL, Run};
+
+/// Appends the account; after an `Err` a part of it may stand there.
+fn put_moves<A: Allocator + Copy>(
+    alloc: A,
+    program: &Program<A>,
+    picks: &[u32],
+    filter: &Filter<'_>,
+    out: &mut Vec<u8, A>,
+) -> Result<(), AllocError>
+    ensures ok { OnOk result (out.new.items ≡ out.old.items ++ account_of filter.now program.now picks.now) }
+    ensures grows { Grows out.old.items out.new.items }
+{
+    let explainer = Explainer::new(alloc, program, filter)?;
+    let mut run = Run::new(alloc, program, explainer, JOURNAL)?;
+    run.take_all(program, picks, out)?;
+    Ok(())
+}
+
+/// Appends the account of the program's run by these picks. After an `Err`, which is refused memory, the vector is
+/// as it was.
+///
+/// # Errors
+///
+/// AllocError where memory was refused.
+pub fn put_account<A: Allocator + Copy>(
+    alloc: A,
+    program: &Program<A>,
+    picks: &[u32],
+    filter: &Filter<'_>,
+    out: &mut Vec<u8, A>,
+) -> Result<(), AllocError>
+    ensures ok { OnOk result (out.new.items ≡ out.old.items ++ account_of filter.now program.now picks.now) }
+    ensures err { OnErr result (out.new.items ≡ out.old.items) }
+{
+    let len = out.len();
+    let done = put_moves(alloc, program, picks, filter, out);
+    if done.is_err() {
+        out.truncate(len);
+    }
+    done
+}

@@ -1,0 +1,34 @@
+// What is written of a run, where the session and the move that are asked for are there.
+ghost use Rattle.std.specs.Prelude.{IfOk};
+ghost use Rattle.tn_program.specs.Views.{program_of};
+ghost use Rattle.tn_explain.specs.Filters.{filter_seen};
+ghost use Rattle.tn_explain.specs.Accounts.{IsAnswer};
+
+use crate::account::put_account;
+use crate::creations::has_session;
+use crate::filter::Filter;
+use crate::request::ExplainOutcome;
+use std::alloc::{AllocError, Allocator};
+use tn_program::Program;
+
+/// The account of a run by these picks, where the session and the move that are asked for are there.
+pub fn account_of<A: Allocator + Copy>(
+    alloc: A,
+    program: &Program<A>,
+    picks: &[u32],
+    filter: &Filter<'_>,
+) -> Result<(ExplainOutcome, Vec<u8, A>), AllocError>
+    ensures { IfOk result (λ r. IsAnswer (program_of program.now) picks.now (filter_seen filter.now) r.0 r.1.items) }
+{
+    let mut out = Vec::new(alloc);
+    if let Some(name) = filter.session {
+        if !has_session(program, name) {
+            return Ok((ExplainOutcome::NoSession, out));
+        }
+    }
+    put_account(alloc, program, picks, filter, &mut out)?;
+    if filter.move_number.is_some() && out.is_empty() {
+        return Ok((ExplainOutcome::NoMove, out));
+    }
+    Ok((ExplainOutcome::Account, out))
+}

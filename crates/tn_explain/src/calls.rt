@@ -1,0 +1,83 @@
+// What is known of a call before the session sees it.
+ghost use Rattle.std.specs.Prelude.{◌≡◌, ◌||◌, ◌++◌, IfOk, OnOk};
+ghost use Rattle.def_node.specs.Event.{called};
+ghost use Rattle.def_explain.specs.Accounts.{mfa_text};
+ghost use Rattle.tn_term.specs.Views.{mfa_seen};
+ghost use Rattle.tn_flags.specs.Views.{call_seen};
+ghost use Rattle.tn_text.specs.Writes.{Grows};
+ghost use Rattle.tn_explain.specs.Evaluations.{Evaluates, Refuses};
+ghost use Rattle.tn_explain.specs.LineParts.{uncovered_lines};
+
+use crate::clauses::Evaluation;
+use crate::line::{Lines, begin};
+use std::alloc::{AllocError, Allocator};
+use tn_action::Context;
+use tn_flags::Call;
+use tn_guard::ListView;
+use tn_session::{Look, NewestSetting};
+use tn_term::{Mfa, Term};
+use tn_text::{write_atom, write_term};
+
+/// Whether a command is about a call: every call, or those that name the module.
+fn concerns<A: Allocator + Copy>(newest: &NewestSetting<'_, A>, call: &Call<A>) -> bool
+    ensures { result ≡ (newest.now.local || call.now.named) }
+{
+    newest.local || call.named
+}
+
+/// Appends `M:F/A`.
+fn put_function<A: Allocator>(mfa: &Mfa<A>, out: &mut Vec<u8, A>) -> Result<(), AllocError>
+    ensures ok { OnOk result (out.new.items ≡ out.old.items ++ mfa_text (mfa_seen mfa.now)) }
+    ensures grows { Grows out.old.items out.new.items }
+{
+    write_atom(&mfa.module, out)?;
+    out.push(b':')?;
+    write_atom(&mfa.name, out)?;
+    out.push(b'/')?;
+    write_term(&Term::<A>::Int(i64::from(mfa.arity)), out)
+}
+
+impl<A: Allocator + Copy> Lines<'_, A> {
+    /// Appends what the setting of its function makes of a call, or why none does.
+    pub(crate) fn put_call<'a>(
+        &self,
+        look: &Look<'a, A>,
+        pid: u32,
+        call: &'a Call<A>,
+        out: &mut Vec<u8, A>,
+    ) -> Result<Evaluation, AllocError>
+        ensures ok { IfOk result (Evaluates self.now look.now (called pid (call_seen call.now)) out.old out.new) }
+        ensures grows { Grows out.old.items out.new.items }
+    {
+        if !look.flags_at(pid).call {
+            return self.put_where(false, b"no flag call", out);
+        }
+        let Some(newest) = look.newest(call) else {
+            return self.put_uncovered(&call.mfa, out);
+        };
+        if !concerns(&newest, call) {
+            let why = b"the setting is global, and the call doesn't name the module";
+            return self.put_where(false, why, out);
+        }
+        let context = Context {
+            list: ListView::Terms(call.args.as_slice()),
+            self_pid: pid,
+            caller: call.caller.as_ref(),
+            alive: look.alive(),
+            flags: look.flags(),
+        };
+        self.put_setting(newest.setting, &context, out)
+    }
+
+    /// Appends that no command covers a function.
+    fn put_uncovered(&self, mfa: &Mfa<A>, out: &mut Vec<u8, A>) -> Result<Evaluation, AllocError>
+        ensures ok { IfOk result (Refuses self.now (uncovered_lines (mfa_seen mfa.now)) out.old out.new) }
+        ensures grows { Grows out.old.items out.new.items }
+    {
+        begin(self.name, out)?;
+        out.extend_from_slice(b"no setting for ")?;
+        put_function(mfa, out)?;
+        out.push(b'\n')?;
+        Ok(Evaluation::Refused)
+    }
+}

@@ -1,0 +1,87 @@
+// What explains a run as it takes its picks.
+use crate::filter::Filter;
+use crate::sessions::Sessions;
+use crate::step::Step;
+use std::alloc::{AllocError, Allocator};
+use tn_flags::{Command, Event};
+use tn_program::Program;
+use tn_trace::{JournalEntry, Observer};
+
+/// The sessions of a run that is explained, and what is asked for.
+#[derive(Drop)]
+pub(crate) struct Explainer<'a, A: Allocator> {
+    pub filter: Filter<'a>,
+    pub sessions: Sessions<A>,
+}
+
+impl<'a, A: Allocator + Copy> Explainer<'a, A> {
+    ghost use Rattle.std.specs.Prelude.{◌≡◌, [], IfOk};
+    ghost use Rattle.tn_program.specs.Views.{program_of};
+    ghost use Rattle.tn_explain.specs.Explainers.{HasExplained};
+
+    /// The explainer of a program's run before any pick.
+    pub fn new(
+        alloc: A,
+        program: &Program<A>,
+        filter: &Filter<'a>,
+    ) -> Result<Explainer<'a, A>, AllocError>
+        ensures explained { IfOk result (λ e. HasExplained e (program_of program.now) []) }
+        ensures filter { IfOk result (λ e. e.filter ≡ filter.now) }
+    {
+        Ok(Explainer {
+            filter: *filter,
+            sessions: Sessions::new(alloc, program)?,
+        })
+    }
+}
+
+impl<'a, A: Allocator + Copy> Observer<A> for Explainer<'a, A> {
+    ghost use Rattle.tn_text.specs.Writes.{Grows};
+    ghost use Rattle.tn_text.proofs.Growth.{grows_none, grows_on};
+    ghost use Rattle.tn_explain.specs.Explainers.{HasExplained, AddsExplanation};
+
+    type Output = Vec<u8, A>;
+
+    ghost sees = { HasExplained };
+
+    ghost adds = { AddsExplanation };
+
+    ghost reaches = { λ out out'. Grows out.items out'.items };
+
+    fn obey(
+        &mut self,
+        program: &Program<A>,
+        entry: JournalEntry,
+        command: &Command<A>,
+        out: &mut Vec<u8, A>,
+    ) -> Result<(), AllocError> {
+        let step = Step {
+            filter: &self.filter,
+            number: entry.number,
+            pick: entry.pick,
+        };
+        self.sessions
+            .obey(&step, program.functions(), command, out)?;
+        Ok(())
+    }
+
+    fn see(
+        &mut self,
+        program: &Program<A>,
+        entry: JournalEntry,
+        events: &Vec<Event<A>, A>,
+        out: &mut Vec<u8, A>,
+    ) -> Result<(), AllocError> {
+        let step = Step {
+            filter: &self.filter,
+            number: entry.number,
+            pick: entry.pick,
+        };
+        self.sessions.see(&step, events, out)?;
+        Ok(())
+    }
+
+    ghost stays = { λ out. grows_none out.items };
+
+    ghost reaches_on = { λ first now next a b. grows_on a b };
+}

@@ -1,0 +1,25 @@
+// What is asked of a run, and what is written of it.
+use crate::filter::Filter;
+use tn_run::Refusal;
+
+/// What is asked of a run.
+#[derive(Clone, Copy)]
+pub struct ExplainRequest<'a> {
+    /// The text of its picks.
+    pub picks: &'a [u8],
+    /// The session and the move that are asked for.
+    pub filter: Filter<'a>,
+}
+
+/// What was written.
+#[derive(Clone, Copy, Debug, PartialEq, Eq, Drop)]
+pub enum ExplainOutcome {
+    /// The account of an accepted script.
+    Account,
+    /// The refusal's line.
+    Refused(Refusal),
+    /// Nothing: the control list creates no session of the name that is asked for.
+    NoSession,
+    /// Nothing: the run has no move of the number that is asked for.
+    NoMove,
+}

@@ -1,0 +1,100 @@
+// The sessions of the control list side by side, each seeing what a move shows.
+ghost use Rattle.tn_text.specs.Writes.{Grows};
+ghost use Rattle.tn_explain.specs.NamedSessions.{SlotSeesEvent, SlotsSeeEvent, SlotSeesCommand, SlotsSeeCommand};
+
+use crate::discard::Discard;
+use crate::event::put_event_lines;
+use crate::line::put_command_line;
+use crate::step::Step;
+use std::alloc::{AllocError, Allocator};
+use tn_flags::{Command, Event};
+use tn_script::Function;
+use tn_term::Alive;
+use tn_trace::Slot;
+
+/// A command with what its session needs to know: the functions of the program, and who lives.
+#[derive(Drop)]
+pub(crate) struct Order<'a, A: Allocator> {
+    pub functions: &'a [Function<A>],
+    pub living: Alive,
+    pub command: &'a Command<A>,
+}
+
+/// A session sees an event, and what it makes of it is appended, where it is asked for.
+fn tell_one<A: Allocator + Copy>(
+    alloc: A,
+    step: &Step<'_>,
+    slot: &mut Slot<A, Discard>,
+    event: &Event<A>,
+    out: &mut Vec<u8, A>,
+) -> Result<(), AllocError>
+    ensures ok { SlotSeesEvent step.now event.now slot.old slot.new out.old.items out.new.items result }
+    ensures grows { Grows out.old.items out.new.items }
+{
+    let is_asked = step.is_asked_of(&slot.name);
+    let Some(session) = &mut slot.session else {
+        return Ok(());
+    };
+    if is_asked {
+        put_event_lines(alloc, &slot.name, session, event, out)
+    } else {
+        session.tell(event)?;
+        Ok(())
+    }
+}
+
+/// Each session sees an event, and what it makes of it is appended, as far as it is asked for.
+pub(crate) fn tell_each<A: Allocator + Copy>(
+    alloc: A,
+    step: &Step<'_>,
+    slots: &mut Vec<Slot<A, Discard>, A>,
+    event: &Event<A>,
+    out: &mut Vec<u8, A>,
+) -> Result<(), AllocError>
+    ensures ok { SlotsSeeEvent step.now event.now slots.old.items slots.new.items out.old.items out.new.items result }
+    ensures grows { Grows out.old.items out.new.items }
+{
+    for place in 0..slots.len() {
+        tell_one(alloc, step, &mut slots[place], event, out)?;
+    }
+    Ok(())
+}
+
+/// A session does a command that is its own, and its reply is appended, where it is asked for.
+fn obey_one<A: Allocator + Copy>(
+    alloc: A,
+    step: &Step<'_>,
+    slot: &mut Slot<A, Discard>,
+    order: &Order<'_, A>,
+    out: &mut Vec<u8, A>,
+) -> Result<(), AllocError>
+    ensures ok { SlotSeesCommand step.now order.now slot.old slot.new out.old.items out.new.items result }
+    ensures grows { Grows out.old.items out.new.items }
+{
+    let reply = slot.obey(alloc, order.functions, order.living, order.command)?;
+    let Some(reply) = reply else {
+        return Ok(());
+    };
+    if step.is_asked_of(&slot.name) {
+        put_command_line(&slot.name, &reply, out)
+    } else {
+        Ok(())
+    }
+}
+
+/// The session that a command names does it, and its reply is appended, where it is asked for.
+pub(crate) fn obey_each<A: Allocator + Copy>(
+    alloc: A,
+    step: &Step<'_>,
+    slots: &mut Vec<Slot<A, Discard>, A>,
+    order: &Order<'_, A>,
+    out: &mut Vec<u8, A>,
+) -> Result<(), AllocError>
+    ensures ok { SlotsSeeCommand step.now order.now slots.old.items slots.new.items out.old.items out.new.items result }
+    ensures grows { Grows out.old.items out.new.items }
+{
+    for place in 0..slots.len() {
+        obey_one(alloc, step, &mut slots[place], order, out)?;
+    }
+    Ok(())
+}

@@ -1,0 +1,15 @@
+use Rattle.std.proofs.Common.{sym, ◌∙◌, ap}
+use Rattle.tn_live.proofs.Prefixes.{adds_moves}
+use Rattle.tn_live.proofs.prefix.Prefix.add.Goals as goal
+
+pub compare_exchange-found-requires : goal.compare_exchange-found-requires
+compare_exchange-found-requires g c =
+    let h = c.head.invariant in
+    let offer = c.plain-offer.ensures in
+    let pen = c.no_pen-pen.ensures in (
+      ap (λ w. w.tracked) h,
+      c.self.invariant ∙ sym (ap (λ w. w.book) h),
+      pen.0 ∙ (c.self.invariant ∙ sym (ap (λ w. w.book) h)),
+      offer.0,
+      rw (ap (λ w. w.key) h, pen.1, offer.1, offer.3) (adds_moves c.self.inside.seen.log c.args.entry.now c.args.len (sym (rw (← c.self.view_is) at c.requires.count))),
+    )

@@ -1,7 +1,0 @@
-use Rattle.std.proofs.Common.{◌∷◌, take}
-use Rattle.def_script.specs.Shapes.{self_name}
-use Rattle.tn_program.specs.Bound.{names_in, HaveSame}
-use Rattle.tn_program.proofs.variables.opening.Given as goal
-
-abbrev pub invariant-loop-param : goal.invariant-loop-param
-invariant-loop-param g l = HaveSame (names_in l.bound) (self_name ∷ take l.param-index l.param-items)

@@ -1,7 +1,0 @@
-use Rattle.std.proofs.Common.{◌≡◌, drop}
-use Rattle.tn_spec.specs.Views.{exprs_seen}
-use Rattle.tn_reason.specs.Reasoned.{untrue_of}
-use Rattle.tn_reason.proofs.clauses.first_untrue.Given as goal
-
-abbrev pub invariant-loop-index : goal.invariant-loop-index
-invariant-loop-index g l = untrue_of l.scene l.index (exprs_seen (drop l.index l.conditions.items)) ≡ untrue_of l.scene 0 (exprs_seen l.conditions.items)

@@ -1,0 +1,4 @@
+pub mod FormStarts
+mod NumberedLines
+pub mod Printables
+pub mod Refusals

@@ -1,0 +1,16 @@
+use Rattle.std.proofs.Common.{◌≡◌, ◌++◌, map, rules}
+use Rattle.tn_refusal.specs.Lines.{printable_byte}
+use Rattle.tn_refusal.proofs.Printables.{all_shown}
+use Rattle.tn_refusal.proofs.line.explain.Goals as goal
+
+pub returns : goal.returns
+returns g c =
+    let named : c.extend_from_slice.new.self.items ≡ c.in_ok-line.line.items ++ c.words_of.result.now = search rules in
+    let found : c.append_shown.new.line.items ≡ c.extend_from_slice.new.self.items ++ map printable_byte c.in_ok-found.found.items = search rules in
+    record {
+      mark = c.in_ok-mark.mark;
+      rest = map printable_byte c.in_ok-found.found.items;
+      place = c.in_ok-mark.ensures;
+      text = cc (named, found, c.in_ok-line.ensures, c.words_of.ensures);
+      printable = all_shown c.in_ok-found.found.items;
+    }

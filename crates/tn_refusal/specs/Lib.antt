@@ -1,0 +1,6 @@
+pub mod Starts
+pub mod Refusals
+pub mod Words
+pub mod Locations
+pub mod Lines
+pub mod Laws

@@ -1,0 +1,206 @@
+// The functions that forms declare and name.
+use crate::put::Detail;
+use crate::refusal::Refusal;
+use std::alloc::Allocator;
+use tn_script::{Entry, Form, Function, Step};
+use tn_term::Atom;
+
+/// A function: its module, its name and the number of arguments.
+#[derive(Drop)]
+pub struct Callee<'a, A: Allocator> {
+    home: &'a Atom<A>,
+    name: &'a Atom<A>,
+    arity: usize,
+}
+
+/// How a form may declare a function that is named.
+#[derive(Clone, Copy)]
+enum DeclarationMatch {
+    /// With any number of parameters.
+    Named,
+    /// With that number of parameters.
+    Exact,
+    /// With that number of parameters, as internal.
+    Internal,
+}
+
+/// The function that is declared.
+pub fn declared_by<A: Allocator>(function: &Function<A>) -> Callee<'_, A> {
+    Callee {
+        home: &function.module,
+        name: &function.name,
+        arity: function.params.len(),
+    }
+}
+
+/// Appends words, and a function as `M:F/N`.
+pub fn put_callee<A: Allocator>(out: &mut Detail<A>, words: &[u8], callee: &Callee<'_, A>) {
+    out.atom(words, callee.home);
+    out.atom(b":", callee.name);
+    out.number(b"/", callee.arity);
+}
+
+/// Whether this declares it so.
+fn declares<A: Allocator>(
+    function: &Function<A>,
+    how: DeclarationMatch,
+    callee: &Callee<'_, A>,
+) -> bool {
+    if function.module.text() != callee.home.text() || function.name.text() != callee.name.text() {
+        return false;
+    }
+    match how {
+        DeclarationMatch::Named => true,
+        DeclarationMatch::Exact => function.params.len() == callee.arity,
+        DeclarationMatch::Internal => function.params.len() == callee.arity && !function.exported,
+    }
+}
+
+/// Whether one of the forms declares it so.
+fn is_declared<A: Allocator>(
+    forms: &[Form<A>],
+    how: DeclarationMatch,
+    callee: &Callee<'_, A>,
+) -> bool {
+    for form in forms {
+        if let Form::Function(function) = form {
+            if declares(function, how, callee) {
+                return true;
+            }
+        }
+    }
+    false
+}
+
+/// Whether naming it breaks the rule.
+fn breaks<A: Allocator>(refusal: Refusal, forms: &[Form<A>], callee: &Callee<'_, A>) -> bool {
+    match refusal {
+        Refusal::Undeclared { .. } => !is_declared(forms, DeclarationMatch::Named, callee),
+        Refusal::NotExported { .. } => is_declared(forms, DeclarationMatch::Internal, callee),
+        Refusal::Arity { .. } => {
+            is_declared(forms, DeclarationMatch::Named, callee)
+                && !is_declared(forms, DeclarationMatch::Exact, callee)
+        }
+        _ => false,
+    }
+}
+
+/// Whether the rule is broken by calls without the module too.
+fn names_local(refusal: Refusal) -> bool {
+    !matches!(refusal, Refusal::NotExported { .. })
+}
+
+/// What a step names; of a call without the module nothing, where only names with the module count.
+fn callee_of<'a, A: Allocator>(
+    refusal: Refusal,
+    function: &'a Function<A>,
+    step: &'a Step<A>,
+) -> Option<Callee<'a, A>> {
+    match step {
+        Step::CallRemote {
+            module,
+            name,
+            args,
+            ..
+        }
+        | Step::Catch {
+            module,
+            name,
+            args,
+            ..
+        }
+        | Step::Spawn {
+            module,
+            name,
+            args,
+            ..
+        } => Some(Callee {
+            home: module,
+            name,
+            arity: args.terms.len(),
+        }),
+        Step::CallLocal { name, args, .. } if names_local(refusal) => Some(Callee {
+            home: &function.module,
+            name,
+            arity: args.terms.len(),
+        }),
+        _ => None,
+    }
+}
+
+/// Appends the numbers of parameters with which the forms declare it, with `or` between them.
+fn put_arities<A: Allocator>(out: &mut Detail<A>, forms: &[Form<A>], callee: &Callee<'_, A>) {
+    let mut between: &[u8] = b" is declared with ";
+    for form in forms {
+        if let Form::Function(function) = form {
+            if declares(function, DeclarationMatch::Named, callee) {
+                out.number(between, function.params.len());
+                between = b" or ";
+            }
+        }
+    }
+    out.words(b" arguments");
+}
+
+/// Appends a function that is named, and why that breaks the rule.
+fn put_wrong<A: Allocator>(
+    out: &mut Detail<A>,
+    refusal: Refusal,
+    forms: &[Form<A>],
+    callee: &Callee<'_, A>,
+) {
+    put_callee(out, b": function ", callee);
+    match refusal {
+        Refusal::NotExported { .. } => out.words(b" is internal"),
+        Refusal::Arity { .. } => put_arities(out, forms, callee),
+        _ => {}
+    }
+}
+
+/// Appends the first function that a step names and that breaks the rule, and in which step.
+pub fn put_named<A: Allocator>(
+    out: &mut Detail<A>,
+    refusal: Refusal,
+    forms: &[Form<A>],
+    function: &Function<A>,
+) {
+    for (i, step) in function.steps.iter().enumerate() {
+        if let Some(callee) = callee_of(refusal, function, step) {
+            if breaks(refusal, forms, &callee) {
+                put_wrong(out, refusal, forms, &callee);
+                out.number(b", in step ", i + 1);
+                return;
+            }
+        }
+    }
+}
+
+/// Appends the function that a process starts with, and why that breaks the rule.
+pub fn put_started<A: Allocator>(
+    out: &mut Detail<A>,
+    refusal: Refusal,
+    forms: &[Form<A>],
+    entry: &Entry<A>,
+) {
+    let callee = Callee {
+        home: &entry.module,
+        name: &entry.name,
+        arity: entry.args.terms.len(),
+    };
+    put_wrong(out, refusal, forms, &callee);
+}
+
+/// Appends the function, where an earlier form declares it too.
+pub fn put_again<A: Allocator>(out: &mut Detail<A>, earlier: &[Form<A>], function: &Function<A>) {
+    let callee = declared_by(function);
+    for (i, form) in earlier.iter().enumerate() {
+        if let Form::Function(other) = form {
+            if declares(other, DeclarationMatch::Exact, &callee) {
+                put_callee(out, b": function ", &callee);
+                out.number(b", in form ", i + 1);
+                out.words(b" too");
+                return;
+            }
+        }
+    }
+}

@@ -1,0 +1,36 @@
+// What breaks a rule, found by looking through the text. No clause speaks of it.
+use crate::forms::{put_form, put_form_count};
+use crate::picks::put_picks;
+use crate::put::Detail;
+use crate::refusal::{Refusal, RefusedPart, refusal_part};
+use crate::syntax::put_token;
+use std::alloc::{AllocError, Allocator};
+
+/// Appends what breaks a rule on the whole text.
+fn put_whole<A: Allocator + Copy>(alloc: A, out: &mut Detail<A>, text: &[u8], refusal: Refusal) {
+    match refusal {
+        Refusal::BadPicks => put_picks(out, text),
+        Refusal::TooLong => out.number(b": there are ", text.len()),
+        _ => put_form_count(alloc, out, text),
+    }
+}
+
+/// Appends what breaks the rule, after `: `; nothing where it isn't found.
+fn put_detail<A: Allocator + Copy>(alloc: A, out: &mut Detail<A>, text: &[u8], refusal: Refusal) {
+    match refusal_part(refusal) {
+        RefusedPart::Token { at } => put_token(alloc, out, text, refusal, at),
+        RefusedPart::Form { form } => put_form(alloc, out, text, refusal, form),
+        RefusedPart::Whole => put_whole(alloc, out, text, refusal),
+    }
+}
+
+/// What breaks the rule, after `: `; nothing where it isn't found.
+pub fn detail_of<A: Allocator + Copy>(
+    alloc: A,
+    text: &[u8],
+    refusal: Refusal,
+) -> Result<Vec<u8, A>, AllocError> {
+    let mut out = Detail::new(alloc);
+    put_detail(alloc, &mut out, text, refusal);
+    out.into_text()
+}

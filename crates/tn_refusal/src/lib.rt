@@ -1,0 +1,42 @@
+//! Why a script or a text of picks is refused: the refusal, its numbered line, and one line that the text can be
+//! fixed by.
+//!
+//! Depends on tn_text, tn_script and tn_program, whose faults become refusals, and on the definitions of def_text,
+//! def_script and def_run. Promises that `refusal_bytes` is the line that is defined for the refusal; that
+//! `line_column_of` is the line and the column of an offset, and `form_offset` where a form begins; and that the
+//! line of `explain` begins with the name, the place and the words of the refusal's rule. What follows these,
+//! which is what breaks the rule, is printable and is not promised to be right.
+#![tactic(auto)]
+
+mod bytes;
+mod callee;
+mod commands;
+mod detail;
+mod forms;
+mod item;
+mod items;
+mod laws;
+mod limits;
+mod line;
+mod line_column;
+mod location;
+mod parts;
+mod picks;
+mod position;
+mod put;
+mod refusal;
+mod refusal_line;
+mod sessions;
+mod shape;
+mod starts;
+mod steps;
+mod syntax;
+mod variables;
+mod words;
+
+pub use laws::a_refused_text_has_its_place;
+pub use line::explain;
+pub use line_column::{LineColumn, line_column_of};
+pub use refusal::{Denial, Refusal, denial_of_rules, denial_of_script};
+pub use refusal_line::refusal_bytes;
+pub use starts::form_offset;

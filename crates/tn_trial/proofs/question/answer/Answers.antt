@@ -1,9 +1,0 @@
-use Rattle.tn_term.specs.Views.{alive_of}
-use Rattle.tn_flags.specs.Views.{table_of}
-use Rattle.tn_trial.proofs.Answers.{answered}
-use Rattle.tn_trial.proofs.question.answer.Goals as goal
-
-pub returns-in-Ok : goal.returns-in-Ok
-returns-in-Ok g c =
-    answered c.args.question.now c.in_ok-list.list c.in_ok-caller.caller c.in_ok-spec.spec c.deref.result.now c.as_ref.result (alive_of c.first-alive.result) (table_of c.trial_flags-flags.result) c.new-text.result.items c.put_trial.new.out.items
-    c.in_ok-list.ensures c.in_ok-caller.ensures c.in_ok-spec.ensures c.deref.ensures.value c.as_ref.ensures.value c.first-alive.ensures c.trial_flags-flags.ensures c.new-text.ensures.items c.in-Ok.ensures.ok

@@ -1,8 +1,0 @@
-use Rattle.std.proofs.Common.{◌≡◌, drop, map}
-use Rattle.def_session.specs.Messages.{last_message}
-use Rattle.tn_action.specs.Views.{effect_seen}
-use Rattle.tn_trial.specs.Trials.{lent_tree, message_behind}
-use Rattle.tn_trial.proofs.trial.last_message.Given as goal
-
-abbrev pub invariant-loop-effect : goal.invariant-loop-effect
-invariant-loop-effect g l = message_behind (lent_tree l.last) (map effect_seen (drop l.effect-index l.effects)) ≡ last_message (map effect_seen l.effects)

@@ -1,4 +1,0 @@
-pub mod Effects
-pub mod Questions
-pub mod Spelled
-pub mod Trials

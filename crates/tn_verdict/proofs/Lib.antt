@@ -1,0 +1,10 @@
+pub mod Steps
+pub mod Answers
+pub mod ClauseTexts
+pub mod Digits
+pub mod EffectTexts
+pub mod Functions
+pub mod Pieces
+pub mod ExpressionTexts
+pub mod Stops
+pub mod SpecTestFlags

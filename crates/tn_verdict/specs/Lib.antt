@@ -1,0 +1,6 @@
+pub mod Views
+pub mod Reasons
+pub mod Effects
+pub mod SpecTestInputs
+pub mod ExpressionTexts
+pub mod SpecTests

@@ -1,0 +1,183 @@
+// The texts of effects.
+ghost use Rattle.std.specs.Prelude.{◌≡◌, ◌++◌, ℕ, List, OnOk, false, map};
+ghost use Rattle.def_term.specs.Text.{pid_text};
+ghost use Rattle.def_spec.specs.Expressions.{changes};
+ghost use Rattle.def_spec.specs.Flags.{flags_by_name};
+ghost use Rattle.def_explain.specs.Texts.{silent_text, effect_text, effects_text, said_of_each, later_silent};
+ghost use Rattle.tn_flags.specs.Views.{flags_of};
+ghost use Rattle.tn_action.specs.Views.{effect_seen};
+ghost use Rattle.tn_text.specs.Writes.{Grows};
+ghost use Rattle.tn_verdict.specs.Effects.{text_where, said_of, next_effect_text, FoldsTo};
+
+use std::alloc::{AllocError, Allocator};
+use tn_action::Effect;
+use tn_flags::Flags;
+use tn_term::Term;
+use tn_text::write_term;
+
+/// Appends the text of a pid. After an `Err` a part of it may stand there.
+pub fn put_pid<B: Allocator>(pid: u32, out: &mut Vec<u8, B>) -> Result<(), AllocError>
+    ensures ok { OnOk result (out.new.items ≡ out.old.items ++ pid_text pid) }
+    ensures grows { Grows out.old.items out.new.items }
+{
+    write_term(&Term::<B>::Pid(pid), out)
+}
+
+/// The written names of the flags, and whether each is in the set.
+#[tactic(auto, unfolding(def_term::specs::Text::is_written_bare))]
+fn flag_names(flags: Flags) -> [(&'static [u8], bool); 10]
+    ensures { (verb : List ℕ) → said_of verb result ≡ said_of_each verb (flags_of flags) flags_by_name }
+{
+    [
+        (b"send", flags.send),
+        (b"'receive'", flags.receive),
+        (b"call", flags.call),
+        (b"procs", flags.procs),
+        (b"silent", flags.silent),
+        (b"arity", flags.arity),
+        (b"set_on_spawn", flags.set_on_spawn),
+        (b"set_on_first_spawn", flags.set_on_first_spawn),
+        (b"set_on_link", flags.set_on_link),
+        (b"set_on_first_link", flags.set_on_first_link),
+    ]
+}
+
+/// Appends a flag after a verb, where it holds.
+fn put_flag<B: Allocator>(
+    verb: &[u8],
+    name: &[u8],
+    holds: bool,
+    out: &mut Vec<u8, B>,
+) -> Result<(), AllocError>
+    ensures ok { OnOk result (out.new.items ≡ out.old.items ++ text_where holds verb.now name.now) }
+    ensures grows { Grows out.old.items out.new.items }
+{
+    if !holds {
+        return Ok(());
+    }
+    out.extend_from_slice(verb)?;
+    out.extend_from_slice(name)
+}
+
+/// Appends each flag of a set after a verb. After an `Err` a part of them may stand there.
+pub fn put_flags<B: Allocator>(
+    verb: &'static [u8],
+    flags: Flags,
+    out: &mut Vec<u8, B>,
+) -> Result<(), AllocError>
+    ensures ok { OnOk result (out.new.items ≡ out.old.items ++ said_of_each verb.now (flags_of flags) flags_by_name) }
+    ensures grows { Grows out.old.items out.new.items }
+{
+    let flags = flag_names(flags);
+    for (name, holds) in &flags {
+        put_flag(verb, name, *holds, out)?;
+    }
+    Ok(())
+}
+
+/// Appends `silent true` or `silent false`.
+fn silent(on: bool) -> &'static [u8]
+    ensures { result.now ≡ silent_text on }
+{
+    if on { b"silent true" } else { b"silent false" }
+}
+
+/// Appends the flags that a process loses and gets. After an `Err` a part of it may stand there.
+fn put_change<B: Allocator>(
+    pid: u32,
+    off: Flags,
+    on: Flags,
+    out: &mut Vec<u8, B>,
+) -> Result<(), AllocError>
+    ensures ok { OnOk result (out.new.items ≡ out.old.items ++ effect_text (changes pid (flags_of off) (flags_of on))) }
+    ensures grows { Grows out.old.items out.new.items }
+{
+    put_pid(pid, out)?;
+    let len = out.len();
+    put_flags(b" loses ", off, out)?;
+    put_flags(b" gets ", on, out)?;
+    if out.len() == len {
+        out.extend_from_slice(b" keeps its flags")?;
+    }
+    Ok(())
+}
+
+/// Appends what an effect is.
+fn put_effect<A: Allocator, B: Allocator>(
+    effect: &Effect<A>,
+    out: &mut Vec<u8, B>,
+) -> Result<(), AllocError>
+    ensures ok { OnOk result (out.new.items ≡ out.old.items ++ effect_text (effect_seen effect.now)) }
+    ensures grows { Grows out.old.items out.new.items }
+{
+    match effect {
+        Effect::Message(term) => {
+            out.extend_from_slice(b"message ")?;
+            write_term(term, out)
+        }
+        Effect::ReturnTrace => out.extend_from_slice(b"return_trace"),
+        Effect::ExceptionTrace => out.extend_from_slice(b"exception_trace"),
+        Effect::Silent(on) => out.extend_from_slice(silent(*on)),
+        Effect::Change { pid, off, on } => Ok(put_change(*pid, *off, *on, out)?),
+    }
+}
+
+/// Appends a comma and what an effect is.
+fn put_next_effect<A: Allocator, B: Allocator>(
+    effect: &Effect<A>,
+    out: &mut Vec<u8, B>,
+) -> Result<(), AllocError>
+    ensures ok { OnOk result (out.new.items ≡ out.old.items ++ next_effect_text (effect_seen effect.now)) }
+    ensures grows { Grows out.old.items out.new.items }
+{
+    out.extend_from_slice(b", ")?;
+    put_effect(effect, out)
+}
+
+/// Appends several effects, with a comma between any two, after a colon. After an `Err` a part of it may
+/// stand there.
+pub fn put_effects<A: Allocator, B: Allocator>(
+    effects: &[Effect<A>],
+    out: &mut Vec<u8, B>,
+) -> Result<(), AllocError>
+    ensures ok { OnOk result (out.new.items ≡ out.old.items ++ effects_text (map effect_seen effects.now)) }
+    ensures grows { Grows out.old.items out.new.items }
+{
+    if effects.is_empty() {
+        return Ok(());
+    }
+    out.extend_from_slice(b": ")?;
+    put_effect(&effects[0], out)?;
+    for i in 1..effects.len() {
+        put_next_effect(&effects[i], out)?;
+    }
+    Ok(())
+}
+
+/// Whether the process has the flag `silent` once these effects are done, where it didn't have it before.
+pub fn is_silent<A: Allocator>(self_pid: u32, effects: &[Effect<A>]) -> bool
+    ensures { result ≡ later_silent self_pid false (map effect_seen effects.now) }
+{
+    let mut silent = false;
+    for effect in effects {
+        silent = silent_after(self_pid, silent, effect);
+    }
+    silent
+}
+
+/// The same after one effect.
+fn silent_after<A: Allocator>(self_pid: u32, silent: bool, effect: &Effect<A>) -> bool
+    ensures { FoldsTo (later_silent self_pid) silent (effect_seen effect.now) result }
+{
+    match effect {
+        Effect::Silent(on) => *on,
+        Effect::Change { pid, off, on } => {
+            if *pid == self_pid {
+                on.silent || (silent && !off.silent)
+            } else {
+                silent
+            }
+        }
+        Effect::Message(_) | Effect::ReturnTrace | Effect::ExceptionTrace => silent,
+    }
+}

@@ -1,0 +1,93 @@
+// The texts of reasons.
+ghost use Rattle.std.specs.Prelude.{◌≡◌, ◌++◌, OnOk, suc, decimal};
+ghost use Rattle.def_term.specs.Text.{w};
+ghost use Rattle.def_explain.specs.Texts.{head_reason_text, condition_reason_text, reason_text};
+ghost use Rattle.tn_guard.specs.Views.{value_seen};
+ghost use Rattle.tn_verdict.specs.Views.{head_reason_seen, condition_seen, reason_seen};
+ghost use Rattle.tn_text.specs.Writes.{Grows};
+
+use crate::expression_text::put_expr;
+use crate::reason::{ConditionReason, HeadReason, Reason};
+use itoa::Buffer;
+use std::alloc::{AllocError, Allocator};
+use tn_guard::Value;
+use tn_text::write_term;
+
+/// Appends the number of what stands after so many.
+pub fn put_number<B: Allocator>(before: usize, out: &mut Vec<u8, B>) -> Result<(), AllocError>
+    ensures ok { OnOk result (out.new.items ≡ out.old.items ++ decimal (suc before)) }
+    ensures grows { Grows out.old.items out.new.items }
+{
+    let mut buffer = Buffer::new();
+    out.extend_from_slice(buffer.format(before as u128 + 1).as_bytes())
+}
+
+/// Appends the text of a value.
+pub fn put_value<A: Allocator, C: Allocator + Copy, B: Allocator>(
+    alloc: C,
+    value: Value<'_, A>,
+    out: &mut Vec<u8, B>,
+) -> Result<(), AllocError>
+    ensures ok { OnOk result (out.new.items ≡ out.old.items ++ w (value_seen value.entry)) }
+    ensures grows { Grows out.old.items out.new.items }
+{
+    let term = value.copy_into(alloc)?;
+    write_term(&term, out)
+}
+
+/// Appends why a head doesn't match.
+fn put_head_reason<B: Allocator>(why: HeadReason, out: &mut Vec<u8, B>) -> Result<(), AllocError>
+    ensures ok { OnOk result (out.new.items ≡ out.old.items ++ head_reason_text (head_reason_seen why)) }
+    ensures grows { Grows out.old.items out.new.items }
+{
+    match why {
+        HeadReason::NoList => out.extend_from_slice(b"the head doesn't match"),
+        HeadReason::OtherLength => {
+            out.extend_from_slice(b"the head has another number of elements")
+        }
+        HeadReason::AfterMatching(count) => {
+            out.extend_from_slice(b"the head doesn't match at element ")?;
+            put_number(count, out)
+        }
+    }
+}
+
+/// Appends why a condition isn't `true`.
+fn put_condition_reason<A: Allocator, C: Allocator + Copy, B: Allocator>(
+    alloc: C,
+    why: ConditionReason<'_, A>,
+    out: &mut Vec<u8, B>,
+) -> Result<(), AllocError>
+    ensures ok { OnOk result (out.new.items ≡ out.old.items ++ condition_reason_text (condition_seen why.entry)) }
+    ensures grows { Grows out.old.items out.new.items }
+{
+    match why {
+        ConditionReason::HasValue(value) => {
+            out.extend_from_slice(b" is ")?;
+            put_value(alloc, value, out)
+        }
+        ConditionReason::FaultsAt(expr) => {
+            out.extend_from_slice(b" faults at ")?;
+            put_expr(expr, out)
+        }
+    }
+}
+
+/// Appends why a clause doesn't fire. After an `Err` a part of it may stand there.
+pub fn put_reason<A: Allocator, C: Allocator + Copy, B: Allocator>(
+    alloc: C,
+    reason: Reason<'_, A>,
+    out: &mut Vec<u8, B>,
+) -> Result<(), AllocError>
+    ensures ok { OnOk result (out.new.items ≡ out.old.items ++ reason_text (reason_seen reason.entry)) }
+    ensures grows { Grows out.old.items out.new.items }
+{
+    match reason {
+        Reason::ByHead(why) => put_head_reason(why, out),
+        Reason::ByCondition { index, why } => {
+            out.extend_from_slice(b"condition ")?;
+            put_number(index, out)?;
+            put_condition_reason(alloc, why, out)
+        }
+    }
+}

@@ -1,0 +1,277 @@
+// What becomes of the clauses of a specification.
+ghost use Rattle.std.specs.Prelude.{◌≡◌, ◌++◌, [], OnOk, OnErr, flat_map, map};
+ghost use Rattle.def_session.specs.Messages as messages;
+ghost use Rattle.def_explain.specs.Texts.{binding_line, ending_text, end_text, clause_text};
+ghost use Rattle.tn_guard.specs.Views.{value_seen};
+ghost use Rattle.tn_head.specs.Views.{binding_seen, bindings_seen};
+ghost use Rattle.tn_spec.specs.Views.{dialect_of};
+ghost use Rattle.tn_action.specs.Views.{effect_seen};
+ghost use Rattle.tn_verdict.specs.Views.{reason_seen};
+ghost use Rattle.tn_text.specs.Writes.{Grows};
+ghost use Rattle.tn_verdict.specs.SpecTests.{lent_tree, later_message, spec_test_of};
+ghost use Rattle.tn_verdict.specs.SpecTests.{spec_test_in, failed_text, fired_text};
+ghost use Rattle.tn_verdict.specs.SpecTests.{fires_line, message_line, Appends};
+ghost use Rattle.tn_verdict.specs.Effects.{FoldsTo};
+
+use crate::clauses::verdict;
+use crate::effects::{is_silent, put_effects};
+use crate::expression_text::put_variable;
+use crate::reason::{Reason, Verdict};
+use crate::reason_text::{put_number, put_reason, put_value};
+use bumpalo::Bump;
+use std::alloc::{AllocError, Allocator};
+use tn_action::{Context, Effect};
+use tn_guard::Value;
+use tn_head::{Binding, Bindings};
+use tn_spec::{Dialect, Spec};
+use tn_term::Term;
+use tn_text::write_term;
+
+/// Appends the line of a binding.
+fn put_binding<A: Allocator, C: Allocator + Copy, B: Allocator>(
+    alloc: C,
+    number: u16,
+    value: Value<'_, A>,
+    out: &mut Vec<u8, B>,
+) -> Result<(), AllocError>
+    ensures ok { OnOk result (out.new.items ≡ out.old.items ++ binding_line (number, value_seen value.entry)) }
+    ensures grows { Grows out.old.items out.new.items }
+{
+    out.extend_from_slice(b"  ")?;
+    put_variable(number, out)?;
+    out.extend_from_slice(b" is ")?;
+    put_value(alloc, value, out)?;
+    out.push(b'\n')?;
+    Ok(())
+}
+
+/// Appends the line of each of the bindings.
+fn put_each<A: Allocator, C: Allocator + Copy, B: Allocator>(
+    alloc: C,
+    bindings: &[Binding<'_, A>],
+    out: &mut Vec<u8, B>,
+) -> Result<(), AllocError>
+    ensures ok { OnOk result (out.new.items ≡ out.old.items ++ flat_map binding_line (map binding_seen bindings.now)) }
+    ensures grows { Grows out.old.items out.new.items }
+{
+    for binding in bindings {
+        put_binding(alloc, binding.number, binding.value, out)?;
+    }
+    Ok(())
+}
+
+/// Appends the line of each binding, by rising number.
+fn put_bindings<'a, A: Allocator, D: Allocator, C: Allocator + Copy, B: Allocator>(
+    alloc: C,
+    bindings: &Bindings<'a, A, D>,
+    out: &mut Vec<u8, B>,
+) -> Result<(), AllocError>
+    ensures ok { OnOk result (out.new.items ≡ out.old.items ++ flat_map binding_line (bindings_seen bindings.now)) }
+    ensures grows { Grows out.old.items out.new.items }
+{
+    match bindings {
+        Bindings::Whole(number, list) => put_binding(alloc, *number, list.list(), out),
+        Bindings::Each(bindings) => put_each(alloc, bindings.as_slice(), out),
+    }
+}
+
+/// The message that an effect gives, else the one before it.
+fn message_or<'e, A: Allocator>(
+    before: Option<&'e Term<A>>,
+    effect: &'e Effect<A>,
+) -> Option<&'e Term<A>>
+    ensures { FoldsTo later_message (lent_tree before.entry) (effect_seen effect.now) (lent_tree result) }
+{
+    match effect {
+        Effect::Message(term) => Some(term),
+        Effect::ReturnTrace | Effect::ExceptionTrace | Effect::Silent(_) | Effect::Change { .. } =>
+            before,
+    }
+}
+
+/// The last message that the effects give.
+fn last_message<A: Allocator>(effects: &[Effect<A>]) -> Option<&Term<A>>
+    ensures { lent_tree result ≡ messages.last_message (map effect_seen effects.now) }
+{
+    let mut last = None;
+    for effect in effects {
+        last = message_or(last, effect);
+    }
+    last
+}
+
+/// Appends what the last message makes of the message's end.
+fn put_ending<A: Allocator, B: Allocator>(
+    last: Option<&Term<A>>,
+    out: &mut Vec<u8, B>,
+) -> Result<(), AllocError>
+    ensures ok { OnOk result (out.new.items ≡ out.old.items ++ ending_text (lent_tree last.entry)) }
+    ensures grows { Grows out.old.items out.new.items }
+{
+    let Some(term) = last else {
+        return out.extend_from_slice(b"a message");
+    };
+    if term.is_word("true") {
+        return out.extend_from_slice(b"a message");
+    }
+    if term.is_word("false") {
+        return out.extend_from_slice(b"no message: it is false");
+    }
+    out.extend_from_slice(b"a message that ends in ")?;
+    Ok(write_term(term, out)?)
+}
+
+/// Appends what the effects of a clause that fires in this process make of the message.
+fn put_end<A: Allocator, B: Allocator>(
+    dialect: Dialect,
+    self_pid: u32,
+    effects: &[Effect<A>],
+    out: &mut Vec<u8, B>,
+) -> Result<(), AllocError>
+    ensures ok { Appends (end_text (dialect_of dialect) self_pid (map effect_seen effects.now)) result out.old out.new }
+    ensures grows { Grows out.old.items out.new.items }
+{
+    if let Dialect::Call = dialect {
+        if is_silent(self_pid, effects) {
+            return out.extend_from_slice(b"no message: silent");
+        }
+    }
+    put_ending(last_message(effects), out)
+}
+
+/// Appends a clause's number, after so many clauses. After an `Err` a part of it may stand there.
+pub fn put_clause<B: Allocator>(before: usize, out: &mut Vec<u8, B>) -> Result<(), AllocError>
+    ensures ok { OnOk result (out.new.items ≡ out.old.items ++ clause_text before []) }
+    ensures grows { Grows out.old.items out.new.items }
+{
+    out.extend_from_slice(b"clause ")?;
+    put_number(before, out)
+}
+
+/// Appends that the clause fires, and what its body asks for.
+fn put_fires<A: Allocator, B: Allocator>(
+    before: usize,
+    effects: &[Effect<A>],
+    out: &mut Vec<u8, B>,
+) -> Result<(), AllocError>
+    ensures ok { OnOk result (out.new.items ≡ out.old.items ++ fires_line before (map effect_seen effects.now)) }
+    ensures grows { Grows out.old.items out.new.items }
+{
+    put_clause(before, out)?;
+    out.extend_from_slice(b" fires")?;
+    put_effects(effects, out)?;
+    out.push(b'\n')?;
+    Ok(())
+}
+
+/// Appends the line of the message that the effects of a clause that fires in this process make.
+fn put_message<A: Allocator, B: Allocator>(
+    dialect: Dialect,
+    pid: u32,
+    effects: &[Effect<A>],
+    out: &mut Vec<u8, B>,
+) -> Result<(), AllocError>
+    ensures ok { Appends (message_line (dialect_of dialect) pid (map effect_seen effects.now)) result out.old out.new }
+    ensures grows { Grows out.old.items out.new.items }
+{
+    out.extend_from_slice(b"=> ")?;
+    put_end(dialect, pid, effects, out)?;
+    out.push(b'\n')?;
+    Ok(())
+}
+
+/// A specification that is held against a list.
+#[derive_where(Clone, Copy)]
+struct SpecTest<'a, 'c, A: Allocator + Copy> {
+    /// For the effects, and for the terms that values are written as.
+    alloc: A,
+    /// For what is evaluated.
+    arena: &'a Bump<A>,
+    spec: &'a Spec<A>,
+    context: &'c Context<'a, A>,
+}
+
+impl<'a, 'c, A: Allocator + Copy> SpecTest<'a, 'c, A> {
+    /// Appends the line of a clause that doesn't fire.
+    fn put_failed<B: Allocator>(
+        &self,
+        before: usize,
+        reason: Reason<'_, A>,
+        out: &mut Vec<u8, B>,
+    ) -> Result<(), AllocError>
+        ensures ok { OnOk result (out.new.items ≡ out.old.items ++ failed_text before (reason_seen reason.entry)) }
+        ensures grows { Grows out.old.items out.new.items }
+    {
+        put_clause(before, out)?;
+        out.extend_from_slice(b": ")?;
+        put_reason(self.alloc, reason, out)?;
+        out.push(b'\n')?;
+        Ok(())
+    }
+
+    /// Appends the lines of a clause that fires.
+    fn put_fired<B: Allocator>(
+        &self,
+        before: usize,
+        bindings: &Bindings<'a, A, &'a Bump<A>>,
+        effects: &[Effect<A>],
+        out: &mut Vec<u8, B>,
+    ) -> Result<(), AllocError>
+        ensures ok { Appends (fired_text self.now before bindings.now effects.now) result out.old out.new }
+        ensures grows { Grows out.old.items out.new.items }
+    {
+        put_fires(before, effects, out)?;
+        put_bindings(self.alloc, bindings, out)?;
+        put_message(self.spec.dialect, self.context.self_pid, effects, out)
+    }
+
+    /// Appends what becomes of the clauses, up to the first that fires.
+    fn put<B: Allocator>(&self, out: &mut Vec<u8, B>) -> Result<(), AllocError>
+        ensures ok { OnOk result (out.new.items ≡ out.old.items ++ spec_test_in self.now) }
+        ensures grows { Grows out.old.items out.new.items }
+    {
+        let clauses = &self.spec.clauses;
+        for i in 0..clauses.len() {
+            match verdict(
+                self.alloc,
+                self.arena,
+                self.spec.dialect,
+                &clauses[i],
+                self.context,
+            )? {
+                Verdict::Fails(reason) => self.put_failed(i, reason, out)?,
+                Verdict::Fires { bindings, effects } => {
+                    return self.put_fired(i, bindings, &effects, out);
+                }
+            }
+        }
+        out.extend_from_slice(b"=> no message: no clause fires\n")
+    }
+}
+
+/// Appends what becomes of the clauses of a specification in a context, up to the first that fires, with why
+/// each before it doesn't, what its variables are bound to, what its body asks for, and what that makes of the
+/// message. After an `Err`, which is refused memory, the vector is as it was.
+pub fn put_spec_test<A: Allocator + Copy, B: Allocator>(
+    alloc: A,
+    spec: &Spec<A>,
+    context: &Context<'_, A>,
+    out: &mut Vec<u8, B>,
+) -> Result<(), AllocError>
+    ensures ok { OnOk result (out.new.items ≡ out.old.items ++ spec_test_of spec.now context.now) }
+    ensures err { OnErr result (out.new.items ≡ out.old.items) }
+{
+    let arena = Bump::new(alloc);
+    let len = out.len();
+    let trial = SpecTest {
+        alloc,
+        arena: &arena,
+        spec,
+        context,
+    };
+    let done = trial.put(out);
+    if done.is_err() {
+        out.truncate(len);
+    }
+    done
+}
