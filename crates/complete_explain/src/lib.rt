@@ -2,10 +2,12 @@
 //! calls one of theirs twice on equal values. It knows no more than the contract, so its proof shows that
 //! the contract leaves one answer.
 //!
-//! Depends on the three crates. Promises nothing to other crates.
+//! Depends on these crates, and on complete_workers for when two runs of one text agree. Promises nothing to
+//! other crates.
 #![tactic(auto)]
 
 mod account;
+mod job;
 mod lines;
 mod places;
 mod refusals;
