@@ -11,8 +11,8 @@ DOCS = TOP / "docs"
 README = TOP / "README.md"
 DOCUMENTS = (README, TOP / "CHANGELOG.md", *sorted(DOCS.glob("*.md")))
 
-# Crates without a table of complete contracts: programs, and one whose contracts are not shown complete yet.
-WITHOUT_TABLES = {"tn_cli", "tn_plain", "tn_command"}
+# Crates without a table of complete contracts: programs, which have no public functions.
+WITHOUT_TABLES = {"tn_cli", "tn_plain"}
 
 # What a path of a document begins with.
 FOLDERS = "bench|completions|crates|docs|examples|tests"
@@ -95,6 +95,10 @@ def claims():
         there = TOP / path
         good = there.exists() and re.search(rf"\bpub fn {name}\b", there.read_text())
         yield f"the claim of {name} in {path}", good, path
+    says = [row[1] for rows in tables().values() for row in rows]
+    one = sum(text.startswith("determined") for text in says)
+    counts = f"| {one} of {len(says)} contracts leave one answer; the rest is named |"
+    yield "the counts of contracts with one answer", counts in text, counts
     sources = " ".join(
         " ".join((CRATES / path).read_text().split())
         for path in ("tn_run/src/runs.rt", "tn_run/specs/Laws.antt", "def_run/specs/Listing.antt")

@@ -1,3 +1,3 @@
 pub mod Alike
-pub mod Questions
+pub mod SpecTestAnswers
 pub mod Runs

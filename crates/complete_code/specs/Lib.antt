@@ -1,1 +1,1 @@
-pub mod Questions
+pub mod SpecTestAnswers

@@ -1,5 +1,5 @@
 -- The bytes of a script, the picks and the filter have one explanation.
-use Rattle.std.proofs.Common.{◌≡◌, ◌∙◌, ◌⊎◌, ℕ, List, [], Option, Some, None, refl, sym, ap, subst}
+use Rattle.std.proofs.Common.{◌≡◌, ◌∙◌, ◌⊎◌, ℕ, List, Option, Some, None, refl, sym, ap, subst}
 use Rattle.def_term.specs.Names.{Name}
 use Rattle.def_script.specs.Program.{Program}
 use Rattle.def_script.proofs.OneScript.{one_program}
@@ -8,7 +8,6 @@ use Rattle.def_run.proofs.Outputs.{picks_are_one}
 use Rattle.def_explain.specs.RunTexts.{Filter, account_text}
 use Rattle.tn_run.specs.Answers.{by_picks, HasPicks, run_for}
 use Rattle.tn_run.specs.Jobs.{Gives, OfScript}
-use Rattle.tn_run.specs.declared.outcome.Outcome.{Outcome}
 use Rattle.tn_run.specs.declared.outcome.Outcome.TheVariants as run
 use Rattle.tn_refusal.specs.declared.refusal.Refusal.{Refusal}
 use Rattle.tn_explain.specs.Accounts.{HasAskedSession, LacksAskedSession, HasAskedMove, LacksAskedMove, IsAnswer, IsSpelledAnswer, explain_by}

@@ -1,11 +1,7 @@
 // What a session makes of an event, and the reply to a command, in lines.
-ghost use Rattle.std.specs.Prelude.{◌≡◌, List, Bool, OnOk};
-ghost use Rattle.def_term.specs.Names as names;
-ghost use Rattle.def_session.specs.State as definition;
-ghost use Rattle.def_session.specs.Session.{event_reported};
+ghost use Rattle.std.specs.Prelude.{◌≡◌, OnOk};
 ghost use Rattle.tn_term.specs.Views.{tree_of};
-ghost use Rattle.tn_flags.specs.Views.{event_of};
-ghost use Rattle.tn_session.specs.Sessions.{IsAt};
+ghost use Rattle.tn_session.specs.Sessions.{value_in};
 
 use std::alloc::{AllocError, Allocator};
 use tn_explain::{put_command_line, put_event_lines};
@@ -30,13 +26,10 @@ pub fn event<A: Allocator + Copy>(
     first: &mut Vec<u8, A>,
     second: &mut Vec<u8, A>,
 ) -> (Result<(), AllocError>, Result<(), AllocError>)
-    ghost at: { List (names.Mfa × Bool) × definition.Session }
-    requires one { IsAt at.0 at.1 one.old }
-    requires other { IsAt at.0 at.1 other.old }
+    requires sessions { value_in one.old ≡ value_in other.old }
     requires texts { first.old.items ≡ second.old.items }
     ensures text { OnOk result.0 (OnOk result.1 (first.new.items ≡ second.new.items)) }
-    ensures one { OnOk result.0 (IsAt at.0 (event_reported at.1 (event_of seen.entry.event.now)).0 one.new) }
-    ensures other { OnOk result.1 (IsAt at.0 (event_reported at.1 (event_of seen.entry.event.now)).0 other.new) }
+    ensures after { OnOk result.0 (OnOk result.1 (value_in one.new ≡ value_in other.new)) }
 {
     (
         put_event_lines(alloc, seen.name, one, seen.event, first),

@@ -1,7 +1,7 @@
 // The book of a run.
 ghost use Rattle.std.specs.Prelude.{◌≡◌, ◌≤◌, ◌<◌, [], IfOk};
 ghost use Rattle.tn_program.specs.Views.{program_of};
-ghost use Rattle.tn_trace.specs.Cores.{IsCore};
+ghost use Rattle.tn_trace.specs.Cores.{core_of};
 ghost use Rattle.tn_live.specs.States.{SeatFits};
 ghost use Rattle.complete_live.specs.Alike.{TurnAlike};
 
@@ -22,8 +22,8 @@ pub fn begin<A: Allocator + Copy, J: JournalName, K: JournalName>(
     Result<(Book<A, J>, Vec<Seat<A, J>, A>), AllocError>,
     Result<(Book<A, K>, Vec<Seat<A, K>, A>), AllocError>,
 )
-    requires first { IsCore J.program [] one }
-    requires second { IsCore K.program [] other }
+    requires first { one ≡ core_of J.program [] }
+    requires second { other ≡ core_of K.program [] }
     requires named { new_log ≡ J.log }
     requires same_named { same_opened ≡ K.log }
     requires count { (0 < n) × (n ≤ 16) }

@@ -1,6 +1,6 @@
 // The lock of a run.
 ghost use Rattle.std.specs.Prelude.{◌≡◌, ◌≤◌, ◌<◌, [], IfOk};
-ghost use Rattle.tn_trace.specs.Cores.{IsCore};
+ghost use Rattle.tn_trace.specs.Cores.{core_of};
 ghost use Rattle.complete_live.specs.Alike.{TakesAlike, CloseAlike};
 
 use std::alloc::{AllocError, Allocator};
@@ -20,8 +20,8 @@ pub fn begin<A: Allocator + Copy, J: JournalName, K: JournalName>(
     Result<(Live<A, J>, Vec<Seat<A, J>, A>), AllocError>,
     Result<(Live<A, K>, Vec<Seat<A, K>, A>), AllocError>,
 )
-    requires first { IsCore J.program [] one }
-    requires second { IsCore K.program [] other }
+    requires first { one ≡ core_of J.program [] }
+    requires second { other ≡ core_of K.program [] }
     requires named { new_log ≡ J.log }
     requires same_named { same_opened ≡ K.log }
     requires logs { J.log ≡ K.log }

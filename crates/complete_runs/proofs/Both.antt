@@ -1,6 +1,5 @@
 -- What two answers have in common, where of each something is known.
-use Rattle.std.proofs.Common.{◌≡◌, Option, Some, None, IfSome, MatchResult, Result, Ok, Err, IfOk}
-use Rattle.std.specs.Result.{IsOkAnd}
+use Rattle.std.proofs.Common.{◌≡◌, Option, Some, None, IfSome, Result, Ok, Err, IfOk}
 use Rattle.complete_scripts.specs.Agreement.{Agree, WhereBoth}
 
 pub both_if_ok : {X E : Type 0} (P Q : X → Type 0) (G : X → X → Type 0) → ((x y : X) → P x → Q y → G x y)
@@ -8,12 +7,6 @@ pub both_if_ok : {X E : Type 0} (P Q : X → Type 0) (G : X → X → Type 0) �
 both_if_ok P Q G by (Ok x) (Ok y) h i = by x y h i
 both_if_ok P Q G by (Ok x) (Err e) h i = tt
 both_if_ok P Q G by (Err e) q h i = tt
-
-pub both_ok : {X E : Type 0} (P : X → Type 0) (G : X → X → Type 0) → ((x y : X) → P x → P y → G x y)
-    → (r q : Result X E) → MatchResult r P (λ _. ⊥) → MatchResult q P (λ _. ⊥) → IsOkAnd r (λ x. IsOkAnd q (λ y. G x y))
-both_ok P G by (Ok x) (Ok y) h i = by x y h i
-both_ok P G by (Ok x) (Err e) h i = absurd i
-both_ok P G by (Err e) q h i = absurd h
 
 -- where both say something, it is the same, and so this holds
 pub where_both : {T G : Type 0} (P Q : T → Type 0) → ((x y : T) → x ≡ y → P x → Q y → G)

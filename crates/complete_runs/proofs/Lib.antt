@@ -1,4 +1,3 @@
 pub mod Both
 pub mod SameSteps
 pub mod SameSlots
-pub mod SameTranscripts

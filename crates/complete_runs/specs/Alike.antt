@@ -1,5 +1,5 @@
--- When two cores, slots or transcripts are the same after a call, and so are its answers.
-use Rattle.std.specs.Prelude.{ℕ, List, Option, Some, None, map, Result, IsErrOf}
+-- When two cores or slots are the same after a call, and so are its answers.
+use Rattle.std.specs.Prelude.{◌≡◌, List, Option, Some, None, map, Result, Ok, Err, IsErrOf}
 use Rattle.std.specs.Borrow.{Bor}
 use Rattle.std.specs.Option.{option_map}
 use Rattle.def_term.specs.Alive.{Alive}
@@ -9,21 +9,18 @@ use Rattle.def_script.specs.Exports.{Exports}
 use Rattle.def_run.specs.Listing.{Item as DefinedItem}
 use Rattle.tn_term.specs.Views.{tree_of}
 use Rattle.tn_term.specs.declared.term.Term.{Term}
-use Rattle.tn_trace.specs.Cores.{IsCore, IsCoreSpent}
+use Rattle.tn_trace.specs.Cores.{CoreValue, spent_core}
 use Rattle.tn_trace.specs.Items.{item_seen}
 use Rattle.tn_listing.specs.declared.picks.PicksFault.{PicksFault}
 use Rattle.tn_listing.specs.declared.picks.PicksFault.TheVariants as picks
 use Rattle.tn_trace.specs.Slots.{IsTracked}
 use Rattle.tn_trace.specs.Starts.{AreAtStart}
 use Rattle.tn_trace.specs.Tracks.{Track}
-use Rattle.tn_trace.specs.Transcripts.{IsTranscript}
 use Rattle.tn_trace.specs.declared.item.Answer.{Answer}
 use Rattle.tn_trace.specs.declared.item.Answer.TheVariants.{Moved, Idle}
 use Rattle.tn_trace.specs.declared.item.StepFault.{StepFault}
 use Rattle.tn_trace.specs.declared.item.StepFault.TheVariants.{LimitReached, Spent, OutOfMemory}
-use Rattle.tn_trace.specs.declared.run_core.Core.{Core}
 use Rattle.tn_trace.specs.declared.slot.Slot.{Slot}
-use Rattle.tn_trace.specs.declared.transcript.Transcript.{Transcript}
 use Rattle.complete_scripts.specs.Agreement.{Agree, WhereBoth, answer_of}
 
 -- ---- cores
@@ -43,21 +40,20 @@ fault_seen OutOfMemory = None
 abbrev pub listing_seen : {A : Type 0} → Option (Bor (List (Term A))) → Option (List Tree)
 listing_seen v = option_map (λ ts. map tree_of ts.now) v
 
--- both cores are those of one journal
-pub record AreOfOne {A : Type 0} (p : Program) (one other : Core A) : Type 0 where
-  pub picks : List ℕ
-  pub first : IsCore p picks one
-  pub second : IsCore p picks other
-
 -- what a step answers; nothing where memory was refused
 abbrev pub step_seen : {A : Type 0} → Result (Answer A) StepFault → Option (Result (Option (List DefinedItem)) StepFault)
 step_seen r = answer_of answer_seen fault_seen r
 
--- the answers of two steps are the same, and so are the cores afterwards; one that was refused memory is spent
-pub record StepAlike {A : Type 0} (p : Program) (r : Result (Answer A) StepFault) (one : Core A) (q : Result (Answer A) StepFault) (other : Core A) : Type 0 where
+-- the answers of two steps of one core are the same, and so are the cores afterwards; one that was refused memory has its program alone
+pub record StepAlike {A : Type 0} (p : Program) (r : Result (Answer A) StepFault) (one : CoreValue) (q : Result (Answer A) StepFault) (other : CoreValue) : Type 0 where
   pub answers : Agree (step_seen r) (step_seen q)
-  pub after : WhereBoth (step_seen r) (step_seen q) (AreOfOne p one other)
-  pub refused : IsErrOf r OutOfMemory → IsCoreSpent one
+  pub after : WhereBoth (step_seen r) (step_seen q) (one ≡ other)
+  pub refused : IsErrOf r OutOfMemory → one ≡ spent_core p
+
+-- what a call of a core answers, of what is seen of it
+abbrev pub seen_by : {X Y E : Type 0} → (X → Y) → Result X E → Result Y E
+seen_by see (Ok x) = Ok (see x)
+seen_by see (Err e) = Err e
 
 -- ---- picks
 
@@ -85,11 +81,3 @@ pub record AreKept {K X : Type 0} (Keeps : K → List X → Type 0) (one other :
   pub kept : List X
   pub first : Keeps one kept
   pub second : Keeps other kept
-
--- ---- transcripts
-
--- both transcripts are those of one run of the program
-pub record AreOfRun {A : Type 0} (p : Program) (one other : Transcript A) : Type 0 where
-  pub picks : List ℕ
-  pub first : IsTranscript p picks one
-  pub second : IsTranscript p picks other

@@ -1,12 +1,10 @@
 // The core of a run.
-ghost use Rattle.std.specs.Prelude.{◌≡◌, ℕ, List, length, map, Err, IfOk};
-ghost use Rattle.std.specs.Result.{IsOkAnd};
-ghost use Rattle.def_script.specs.Program as program;
+ghost use Rattle.std.specs.Prelude.{◌≡◌, length, map, Err, IfOk};
+ghost use Rattle.std.specs.Option.{IsSomeAnd};
 ghost use Rattle.def_run.specs.Run.{JOURNAL};
 ghost use Rattle.tn_term.specs.Views.{tree_of};
 ghost use Rattle.tn_program.specs.Views.{program_of};
-ghost use Rattle.tn_trace.specs.Cores.{IsCore, IsCoreSpent, program_in};
-ghost use Rattle.complete_runs.specs.Alike.{AreOfOne, StepAlike, listing_seen};
+ghost use Rattle.complete_runs.specs.Alike.{StepAlike, listing_seen, seen_by};
 
 use std::alloc::{AllocError, Allocator};
 use tn_program::{Program, Sessions};
@@ -20,7 +18,7 @@ pub fn new<A: Allocator + Copy>(
     other: Program<A>,
 ) -> (Result<Core<A>, AllocError>, Result<Core<A>, AllocError>)
     requires { program_of one ≡ program_of other }
-    ensures { IfOk result.0 (λ c. IfOk result.1 (λ d. AreOfOne (program_of one) c d)) }
+    ensures { IfOk result.0 (λ c. IfOk result.1 (λ d. c ≡ d)) }
 {
     let first = Core::new(alloc, one);
     let second = Core::new(alloc, other);
@@ -32,7 +30,7 @@ pub fn program<'a, A: Allocator + Copy>(
     one: &'a Core<A>,
     other: &'a Core<A>,
 ) -> (&'a Program<A>, &'a Program<A>)
-    requires { program_in one.now ≡ program_in other.now }
+    requires { one.now.program ≡ other.now.program }
     ensures { program_of result.0.now ≡ program_of result.1.now }
 {
     (one.program(), other.program())
@@ -43,7 +41,7 @@ pub fn sessions<'a, A: Allocator + Copy>(
     one: &'a Core<A>,
     other: &'a Core<A>,
 ) -> (Sessions<'a, A>, Sessions<'a, A>)
-    requires { program_in one.now ≡ program_in other.now }
+    requires { one.now.program ≡ other.now.program }
     ensures { result.0 ≡ result.1 }
 {
     (one.sessions(), other.sessions())
@@ -55,10 +53,8 @@ pub fn step<A: Allocator + Copy>(
     other: &mut Core<A>,
     pick: u32,
 ) -> (Result<Answer<A>, StepFault>, Result<Answer<A>, StepFault>)
-    ghost at: { program.Program × List ℕ }
-    requires first { IsCore at.0 at.1 one.old }
-    requires second { IsCore at.0 at.1 other.old }
-    ensures { StepAlike at.0 result.0 one.new result.1 other.new }
+    requires { one.old ≡ other.old }
+    ensures { StepAlike one.old.program result.0 one.new result.1 other.new }
 {
     let first = one.step(pick);
     let second = other.step(pick);
@@ -71,22 +67,8 @@ pub fn step_of_full<A: Allocator + Copy>(
     core: &mut Core<A>,
     pick: u32,
 ) -> Result<Answer<A>, StepFault>
-    ghost at: { program.Program × List ℕ }
-    requires core { IsCore at.0 at.1 core.old }
-    requires full { length at.1 ≡ JOURNAL }
+    requires { IsSomeAnd core.old.journal (λ picks. length picks ≡ JOURNAL) }
     ensures fault { result ≡ Err StepFault.LimitReached }
-    ensures same { core.new ≡ core.old }
-{
-    core.step(pick)
-}
-
-/// `tn_trace::Core::step` has one answer of a core that was refused memory.
-pub fn step_of_spent<A: Allocator + Copy>(
-    core: &mut Core<A>,
-    pick: u32,
-) -> Result<Answer<A>, StepFault>
-    requires { IsCoreSpent core.old }
-    ensures fault { result ≡ Err StepFault.Spent }
     ensures same { core.new ≡ core.old }
 {
     core.step(pick)
@@ -97,20 +79,10 @@ pub fn journal<'a, A: Allocator + Copy>(
     one: &'a Core<A>,
     other: &'a Core<A>,
 ) -> (Result<&'a [u32], StepFault>, Result<&'a [u32], StepFault>)
-    ghost at: { program.Program × List ℕ }
-    requires first { IsCore at.0 at.1 one.now }
-    requires second { IsCore at.0 at.1 other.now }
-    ensures { IsOkAnd result.0 (λ v. IsOkAnd result.1 (λ w. v.now ≡ w.now)) }
+    requires { one.now ≡ other.now }
+    ensures { seen_by (λ v. v.now) result.0 ≡ seen_by (λ v. v.now) result.1 }
 {
     (one.journal(), other.journal())
-}
-
-/// `tn_trace::Core::journal` has one answer of a core that was refused memory.
-pub fn journal_of_spent<A: Allocator + Copy>(core: &Core<A>) -> Result<&[u32], StepFault>
-    requires { IsCoreSpent core.now }
-    ensures { result ≡ Err StepFault.Spent }
-{
-    core.journal()
 }
 
 /// `tn_trace::Core::replies` has one answer.
@@ -121,20 +93,10 @@ pub fn replies<'a, A: Allocator + Copy>(
     Result<&'a [Term<A>], StepFault>,
     Result<&'a [Term<A>], StepFault>,
 )
-    ghost at: { program.Program × List ℕ }
-    requires first { IsCore at.0 at.1 one.now }
-    requires second { IsCore at.0 at.1 other.now }
-    ensures { IsOkAnd result.0 (λ v. IsOkAnd result.1 (λ w. map tree_of v.now ≡ map tree_of w.now)) }
+    requires { one.now ≡ other.now }
+    ensures { seen_by (λ v. map tree_of v.now) result.0 ≡ seen_by (λ v. map tree_of v.now) result.1 }
 {
     (one.replies(), other.replies())
-}
-
-/// `tn_trace::Core::replies` has one answer of a core that was refused memory.
-pub fn replies_of_spent<A: Allocator + Copy>(core: &Core<A>) -> Result<&[Term<A>], StepFault>
-    requires { IsCoreSpent core.now }
-    ensures { result ≡ Err StepFault.Spent }
-{
-    core.replies()
 }
 
 /// `tn_trace::Core::listing` has one answer.
@@ -146,21 +108,8 @@ pub fn listing<'a, A: Allocator + Copy>(
     Result<Option<&'a [Term<A>]>, StepFault>,
     Result<Option<&'a [Term<A>]>, StepFault>,
 )
-    ghost at: { program.Program × List ℕ }
-    requires first { IsCore at.0 at.1 one.now }
-    requires second { IsCore at.0 at.1 other.now }
-    ensures { IsOkAnd result.0 (λ v. IsOkAnd result.1 (λ w. listing_seen v ≡ listing_seen w)) }
+    requires { one.now ≡ other.now }
+    ensures { seen_by listing_seen result.0 ≡ seen_by listing_seen result.1 }
 {
     (one.listing(session), other.listing(session))
-}
-
-/// `tn_trace::Core::listing` has one answer of a core that was refused memory.
-pub fn listing_of_spent<A: Allocator + Copy>(
-    core: &Core<A>,
-    session: u32,
-) -> Result<Option<&[Term<A>]>, StepFault>
-    requires { IsCoreSpent core.now }
-    ensures { result ≡ Err StepFault.Spent }
-{
-    core.listing(session)
 }

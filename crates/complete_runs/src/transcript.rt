@@ -1,10 +1,7 @@
 // The transcript of a run.
-ghost use Rattle.std.specs.Prelude.{◌≡◌, ℕ, List, IfOk};
+ghost use Rattle.std.specs.Prelude.{◌≡◌, IfOk};
 ghost use Rattle.std.specs.Option.{option_map};
-ghost use Rattle.def_script.specs.Program as program;
 ghost use Rattle.tn_program.specs.Views.{program_of};
-ghost use Rattle.tn_trace.specs.Transcripts.{IsTranscript};
-ghost use Rattle.complete_runs.specs.Alike.{AreOfRun};
 
 use std::alloc::{AllocError, Allocator};
 use tn_program::Program;
@@ -23,7 +20,7 @@ pub fn of_picks<A: Allocator + Copy>(
 )
     requires programs { program_of one.now ≡ program_of other.now }
     requires picks { picks.now ≡ same_picks.now }
-    ensures { IfOk result.0 (λ t. IfOk result.1 (λ u. AreOfRun (program_of one.now) t u)) }
+    ensures { IfOk result.0 (λ t. IfOk result.1 (λ u. t ≡ u)) }
 {
     let first = Transcript::of_picks(alloc, one, picks);
     let second = Transcript::of_picks(alloc, other, same_picks);
@@ -41,7 +38,7 @@ pub fn of_round<A: Allocator + Copy>(
     Result<Transcript<A>, AllocError>,
 )
     requires { program_of one.now ≡ program_of other.now }
-    ensures { IfOk result.0 (λ t. IfOk result.1 (λ u. AreOfRun (program_of one.now) t u)) }
+    ensures { IfOk result.0 (λ t. IfOk result.1 (λ u. t ≡ u)) }
 {
     let first = Transcript::of_round(alloc, one, limit);
     let second = Transcript::of_round(alloc, other, limit);
@@ -54,9 +51,7 @@ pub fn lines<'a, A: Allocator + Copy>(
     other: &'a Transcript<A>,
     place: usize,
 ) -> (Option<&'a [u8]>, Option<&'a [u8]>)
-    ghost at: { program.Program × List ℕ }
-    requires first { IsTranscript at.0 at.1 one.now }
-    requires second { IsTranscript at.0 at.1 other.now }
+    requires { one.now ≡ other.now }
     ensures { option_map (λ v. v.now) result.0 ≡ option_map (λ v. v.now) result.1 }
 {
     (one.lines(place), other.lines(place))
@@ -67,9 +62,7 @@ pub fn replies<'a, A: Allocator + Copy>(
     one: &'a Transcript<A>,
     other: &'a Transcript<A>,
 ) -> (&'a [u8], &'a [u8])
-    ghost at: { program.Program × List ℕ }
-    requires first { IsTranscript at.0 at.1 one.now }
-    requires second { IsTranscript at.0 at.1 other.now }
+    requires { one.now ≡ other.now }
     ensures { result.0.now ≡ result.1.now }
 {
     (one.replies(), other.replies())
@@ -80,9 +73,7 @@ pub fn journal<'a, A: Allocator + Copy>(
     one: &'a Transcript<A>,
     other: &'a Transcript<A>,
 ) -> (&'a [u32], &'a [u32])
-    ghost at: { program.Program × List ℕ }
-    requires first { IsTranscript at.0 at.1 one.now }
-    requires second { IsTranscript at.0 at.1 other.now }
+    requires { one.now ≡ other.now }
     ensures { result.0.now ≡ result.1.now }
 {
     (one.journal(), other.journal())

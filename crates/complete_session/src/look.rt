@@ -3,7 +3,7 @@ ghost use Rattle.std.specs.Prelude.{◌≡◌};
 ghost use Rattle.std.specs.Option.{option_map};
 ghost use Rattle.tn_term.specs.Views.{alive_of};
 ghost use Rattle.tn_flags.specs.Views.{call_seen, flags_of, table_of};
-ghost use Rattle.tn_session.specs.Looks.{look_seen, lent_seen, newest_seen};
+ghost use Rattle.tn_session.specs.Looks.{look_seen, look_setting, newest_seen};
 ghost use Rattle.tn_session.specs.Views.{mark_kind_seen};
 
 use std::alloc::Allocator;
@@ -87,7 +87,7 @@ pub fn send_setting<'a, A: Allocator + Copy>(
     other: &Look<'a, A>,
 ) -> (Setting<&'a Spec<A>>, Setting<&'a Spec<A>>)
     requires { look_seen one.now ≡ look_seen other.now }
-    ensures { lent_seen result.0 ≡ lent_seen result.1 }
+    ensures { look_setting result.0 ≡ look_setting result.1 }
 {
     (one.send_setting(), other.send_setting())
 }
@@ -98,7 +98,7 @@ pub fn receive_setting<'a, A: Allocator + Copy>(
     other: &Look<'a, A>,
 ) -> (Setting<&'a Spec<A>>, Setting<&'a Spec<A>>)
     requires { look_seen one.now ≡ look_seen other.now }
-    ensures { lent_seen result.0 ≡ lent_seen result.1 }
+    ensures { look_setting result.0 ≡ look_setting result.1 }
 {
     (one.receive_setting(), other.receive_setting())
 }

@@ -7,6 +7,7 @@
 
 mod actions;
 mod bindings;
+mod eval_context;
 mod fault;
 mod function_setting;
 mod functions;
@@ -14,7 +15,6 @@ mod matching;
 mod names;
 mod outcome;
 mod parts;
-mod scene;
 mod settings;
 mod spec;
 mod value;

@@ -3,7 +3,7 @@ use Rattle.std.proofs.Common.{◌≡◌, ◌==◌, ◌-◌, ℕ, List, [], ◌�
 use Rattle.std.specs.declared.vec.Vec.{Vec}
 use Rattle.std.proofs.lemmas.Bool.Decides.{nat_tests}
 use Rattle.def_term.specs.Text.{is_name}
-use Rattle.def_text.specs.Tokens.{open_brace, close_brace, open_bracket, close_bracket, comma, stop, integer, atom, characters, pid, bad, TokenSpan, Tokens, in_quotes}
+use Rattle.def_text.specs.Tokens.{open_brace, close_brace, open_bracket, close_bracket, comma, stop, integer, atom, characters, pid, bad, TokenSpan, Tokens}
 use Rattle.def_text.specs.Tokens as text
 use Rattle.def_text.specs.Scan.{IsTokenOf, TokenKind, left_brace, right_brace, left_bracket, right_bracket, separator, full_stop, numeral, bare_atom, quoted_atom, string, process_identifier}
 use Rattle.def_text.specs.Faults as faults
@@ -18,7 +18,7 @@ use Rattle.tn_text.specs.Answers.{AreTokens, NoTokenAt, IsTokenList}
 use Rattle.tn_text.specs.Kinds.{kind_of}
 use Rattle.tn_text.specs.Lexer.{ShowsToken, AllShown, AllGood}
 use Rattle.complete_terms.specs.Answers.{AreAlike}
-use Rattle.complete_terms.proofs.Readings.{IsDetermined, IsRefusalBy, IsAnswerBy, answers_alike}
+use Rattle.complete_terms.proofs.Readings.{IsDetermined, IsAnswerBy, answers_alike}
 
 -- ---- the kind of a token
 

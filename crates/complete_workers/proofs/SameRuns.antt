@@ -1,5 +1,5 @@
 -- Two answers of one job over the same bytes: what is answered, written and left is the same.
-use Rattle.std.proofs.Common.{◌≡◌, ◌∙◌, ◌⊎◌, inl, inr, ℕ, Bool, true, List, [], ◌++◌, take, Option, Some, None, IsSome, Result, Ok, Err, IfOk, IfErr, OnOk, refl, sym, ap, ap₂, subst}
+use Rattle.std.proofs.Common.{◌≡◌, ◌∙◌, ◌⊎◌, inl, inr, ℕ, Bool, true, List, [], ◌++◌, take, Option, Some, None, IsSome, Result, Ok, Err, IfOk, IfErr, refl, sym, ap, ap₂, subst}
 use Rattle.tn_text.specs.Watch.{watched_inner, has_failed, is_flushed}
 use Rattle.tn_text.specs.declared.watched.Watched.{Watched}
 use Rattle.tn_run.specs.Answers.{by_workers, HasPicksWhereListed, live_end_of, live_run, run_for}

@@ -1,15 +1,12 @@
 -- The registers of the variables of a head: what holds of each, and which variables have one.
-use Rattle.std.proofs.Common.{◌≡◌, ℕ, suc, ◌+◌, ◌≤◌, List, [], ◌∷◌, Option, Some, None, refl, sym, ap, ◌∙◌, subst, nat_cmp, Bool, true, false, ◌==◌, ◌||◌, is_some, eq-eqb, eqb-true, Ordering, Less, Equal, Greater, cond, unwrap_or}
+use Rattle.std.proofs.Common.{◌≡◌, ℕ, suc, ◌+◌, ◌≤◌, List, [], ◌∷◌, Option, Some, None, refl, ap, ◌∙◌, nat_cmp, Bool, true, false, ◌==◌, ◌||◌, is_some, Ordering, Less, Equal, Greater, cond, unwrap_or}
 use Rattle.std.specs.Bool.{⊤}
-use Rattle.std.specs.FinMap.{find, put, nat_cmp-IsAntisymmetric}
-use Rattle.std.specs.FinMap.Entries.{by_order, find-put}
-use Rattle.std.specs.Ordering.{eq_by_cmp, is_eq}
-use Rattle.std.specs.Cmp.{nat_cmp_total, Equal-is, both_ways}
-use Rattle.def_term.proofs.Same.{tied_self}
-use Rattle.def_spec.specs.Matching.{Pattern, Patterns, variable, anything, only_term, in_tuple, in_list, no_patterns, and_pattern, occurs, occurs_in_some}
+use Rattle.std.specs.FinMap.{find, put}
+use Rattle.std.specs.FinMap.Entries.{by_order}
+use Rattle.std.specs.Ordering.{eq_by_cmp}
 use Rattle.def_machine.specs.Instructions.{Instruction}
 use Rattle.def_machine.specs.Validity.{Each}
-use Rattle.def_machine.specs.Compilation.{VariableRegisters, registers_taken, variable_met, variables_after, variables_after_each, all_registers}
+use Rattle.def_machine.specs.Compilation.{VariableRegisters, all_registers}
 use Rattle.def_machine.proofs.AcceptedPlaces.{IsSet, set_later}
 
 module _ (P : ℕ → Type 0) where

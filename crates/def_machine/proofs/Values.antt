@@ -6,7 +6,7 @@ use Rattle.def_term.specs.Names.{word}
 use Rattle.def_spec.specs.Matching.{Pattern, Matches, value_bound, occurs}
 use Rattle.def_spec.specs.Functions.{Func, apply, truth, is_true}
 use Rattle.def_spec.specs.Expressions as ex
-use Rattle.def_spec.specs.Expressions.{Dialect, Expr, Exprs, no_exprs, and_expr, bound_to, whole_list, all_bound, constant, tuple_of, list_of, call, and_also, or_else, perform, Context, Effect, context_after, Position, in_condition, in_body, Action, message, return_trace, exception_trace, silent, enable_trace, disable_trace, trace, caller, action_done, Evaluation, comes_to, faults, then_on, or_fault, settle, evaluation, evaluation_of_all, evaluation_while_true, evaluation_until_true, values_bound}
+use Rattle.def_spec.specs.Expressions.{Dialect, Expr, Exprs, no_exprs, and_expr, bound_to, whole_list, all_bound, constant, tuple_of, list_of, call, and_also, or_else, perform, Context, Effect, context_after, Position, in_condition, in_body, Action, trace, action_done, Evaluation, comes_to, faults, then_on, or_fault, settle, evaluation, evaluation_of_all, evaluation_while_true, evaluation_until_true, values_bound}
 use Rattle.def_spec.specs.Outcome.{Outcome, matched_term}
 use Rattle.def_machine.specs.Instructions.{ShapeKind, kind_tuple, kind_list, goes_on_at, gives_exit, Instruction, load_constant, load_list, load_own_pid, test_equal, jump, build, apply_function}
 use Rattle.def_machine.specs.Machine.{Registers, with_register, set_register, test_move, term_of, before, terms_in, set_value, set_action_value, does}

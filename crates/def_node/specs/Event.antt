@@ -1,11 +1,11 @@
--- The events of the node, which sessions may tell of (trace:process/4 and trace:function/4).
+-- The events of the node, which sessions can report (trace:process/4 and trace:function/4).
 -- Depends on terms, the names of functions and the classes of exceptions.
 use Rattle.std.specs.Prelude.{ℕ, Bool, List, Option}
 use Rattle.def_term.specs.Tree.{Tree}
 use Rattle.def_term.specs.Names.{Mfa}
 use Rattle.def_script.specs.Program.{Class}
 
--- a call: whether it names the module, whether the function is exported, the function of the frame beneath, and the depth of its frame
+-- a call: whether it names the module, whether the function is exported, its caller, and the depth of its frame
 pub record Call : Type 0 where
   pub mfa : Mfa
   pub args : List Tree

@@ -44,7 +44,7 @@ EventsAreOfTheRun = (ks : List Function) → (w : World) → (n : ℕ) → IsWit
 abbrev pub NoneByCatch : List Frame → Type 0
 NoneByCatch fs = All (λ f. f.by_catch ≡ false) fs
 
--- a raise leaves the frames above the newest that a catch step called, and that one; it keeps those beneath
+-- a raise leaves the frames above the newest that a catch step called, and that one; the frames below stay
 abbrev pub LeavesDownToACatch : Type 0
 LeavesDownToACatch =
     (above beneath : List Frame) (f : Frame) → NoneByCatch above → f.by_catch ≡ true →
@@ -73,14 +73,14 @@ caught_value throw t = t
 caught_value exit t = tuple (of_elements (word "EXIT" ∷ t ∷ []))
 caught_value error t = tuple (of_elements (word "EXIT" ∷ tuple (of_elements (t ∷ list (of_elements []) ∷ [])) ∷ []))
 
--- a raise over a frame that a catch step called goes on in the frame beneath, which keeps its variables but the step's target
+-- where a catch step called a frame, a raise above it goes on in the frame below, which keeps its variables but for the step's target
 abbrev pub CaughtRaiseGoesOn : Type 0
 CaughtRaiseGoesOn =
     (ks : List Function) (n : ℕ) (q : Process) (above beneath : List Frame) (f g : Frame) (c : Class) (t : Tree) → NoneByCatch above → f.by_catch ≡ true →
     raises ks n q (above ++ f ∷ g ∷ beneath) c t ≡ continues (resume q f.target (caught_value c t) g beneath) (events_of_raise ks n (above ++ f ∷ g ∷ beneath) c t)
 
--- where no catch step called the oldest frame, each raise is over frames of the one kind or the other: a catch step called none,
--- or the newest that one called depends on another
+-- where no catch step called the oldest frame, the frames are of one of the two kinds: a catch step called none,
+-- or there is a frame below the newest that one called
 abbrev pub RaiseIsCaughtOrNot : Type 0
 RaiseIsCaughtOrNot =
     (fs : List Frame) → IsEntered fs →

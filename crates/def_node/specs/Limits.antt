@@ -10,7 +10,7 @@ use Rattle.def_node.specs.Process.{FRAMES, Frame, Process, Act, waits, continues
 abbrev pub IsOwn : ℕ → List Bool → Process → Type 0
 IsOwn most ls q = (q.links ≡ ls) × (length q.frames ≤ most)
 
--- after its own act a process has the links that it had and at most so many frames, a spawn gives the given pid, and an exit tells the partners that the process has
+-- after its own act a process has the links that it had and at most so many frames, a spawn gives the given pid, and an exit has the partners of the process
 abbrev pub IsOwnAct : ℕ → List Bool → Option ℕ → Act → Type 0
 IsOwnAct most ls child (waits q) = IsOwn most ls q
 IsOwnAct most ls child (continues q es) = IsOwn most ls q
@@ -32,7 +32,7 @@ IsEntered (f ∷ g ∷ gs) = IsEntered (g ∷ gs)
 abbrev pub IsSmall : Process → Type 0
 IsSmall q = (length q.frames ≤ FRAMES) × (length q.links ≡ PROCESSES) × IsEntered q.frames
 
--- each process that lives is small
+-- each process that is alive is small
 abbrev pub AllSmall : List (Option Process) → Type 0
 AllSmall [] = Unit {0}
 AllSmall (None ∷ ss) = AllSmall ss
@@ -49,12 +49,12 @@ IsAfter (s ∷ ss) [] = ⊥
 IsAfter (None ∷ ss) (v ∷ vs) = (v ≡ None) × IsAfter ss vs
 IsAfter (Some q ∷ ss) (v ∷ vs) = IsAfter ss vs
 
--- what a pick came to, as processes
+-- the processes after a pick
 abbrev pub world_after : Move → World
 world_after (moved v es) = v
 world_after (idle v) = v
 
--- where a pick comes to nothing, the processes are as they were
+-- where a pick is idle, the processes are as they were
 abbrev pub IsStill : World → Move → Type 0
 IsStill w (moved v es) = Unit {0}
 IsStill w (idle v) = v ≡ w

@@ -25,11 +25,11 @@ place_in None i = None
 place_in (Some None) i = None
 place_in (Some (Some q)) i = Some i
 
--- the place of the process with this pid, where it lives
+-- the place of the process with this pid, where it is alive
 abbrev pub place_of_pid : World → ℕ → Option ℕ
 place_of_pid w n = if nat_le FIRST_PID n then place_in (slice_get w.slots (n - FIRST_PID)) (n - FIRST_PID) else None
 
--- the process at this place changed, if it lives
+-- the process at this place changed, if it is alive
 abbrev pub with_slot : List (Option Process) → ℕ → (Process → Process) → List (Option Process)
 with_slot [] i f = []
 with_slot (s ∷ ss) zero f = option_map f s ∷ ss
@@ -87,7 +87,7 @@ first_signal (Some s) r = Some s
 abbrev pub with_signal : Tree → Process → Process
 with_signal r q = record q { signal = first_signal q.signal r }
 
--- the process n, at the place i, links to m, which lives at the place j or nowhere
+-- the process n, at the place i, links to m, which is at the place j, or isn't alive
 abbrev pub linked_to : World → ℕ → ℕ → ℕ → Option ℕ → Move
 linked_to w i n m None = moved (change_at w i (with_signal (word "noproc"))) (linked n m ∷ [])
 linked_to w i n m (Some j) = moved (change_at (change_at w i (with_link m true)) j (with_link n true)) (linked n m ∷ getting_linked m n ∷ [])
@@ -153,7 +153,7 @@ start_process w n child e =
 
 -- ---- one step
 
--- the act of the process n, at the place i: first the process is what the act leaves of it, and then comes what else the act does
+-- the act of the process n, at the place i: first what it makes of that process, and then what it does to others
 abbrev pub after_act : World → ℕ → ℕ → Act → Move
 after_act w i n (waits q) = idle (put_at w i q)
 after_act w i n (continues q es) = moved (put_at w i q) es
@@ -195,10 +195,14 @@ abbrev pub of_move : NodeState → Move → PickResult
 of_move s (moved w es) = gives_events (record s { world = w }) es
 of_move s (idle w) = gives_nothing (record s { world = w })
 
--- pick 0 is the control list, pick n the process n
+-- what a pick gives, over these functions and so many commands: pick 0 is the control list, pick n the process n
+abbrev pub pick_result : List Function → ℕ → NodeState → ℕ → PickResult
+pick_result ks commands s zero = if nat_lt s.taken commands then gives_command (record s { taken = suc s.taken }) (suc s.taken) else gives_nothing s
+pick_result ks commands s (suc n) = of_move s (next_of ks s.world (suc n))
+
+-- what a pick gives in a run of the program
 abbrev pub next : Program → NodeState → ℕ → PickResult
-next p s zero = if nat_lt s.taken (length p.commands) then gives_command (record s { taken = suc s.taken }) (suc s.taken) else gives_nothing s
-next p s (suc n) = of_move s (next_of p.functions s.world (suc n))
+next p s n = pick_result p.functions (length p.commands) s n
 
 -- no command is taken yet
 abbrev pub opening_state : Program → NodeState

@@ -82,7 +82,7 @@ locally x = record { target = x; named = false; by_catch = false }
 abbrev pub catch_manner : Option Name → Manner
 catch_manner x = record { target = x; named = true; by_catch = true }
 
--- a call of the function k with the number i, over the frames beneath. Over so many frames it ends the process
+-- a call of the function k with the number i, above these frames. Above the most frames it ends the process
 abbrev pub enters_at : List Function → ℕ → Process → List Frame → Manner → List Tree → ℕ → Option Function → Act
 enters_at ks n q fs a args i None = exits q.links (word "undef") []
 enters_at ks n q fs a args i (Some k) =
@@ -104,7 +104,7 @@ abbrev pub leaves_to : Process → Option Name → List Frame → Tree → Event
 leaves_to q x [] t e = exits q.links (word "normal") (e ∷ [])
 leaves_to q x (g ∷ gs) t e = continues (resume q x t g gs) (e ∷ [])
 
--- a return of this value from a frame of the function k, over the frames beneath
+-- a return of this value from a frame of the function k, above these frames
 abbrev pub leaves : ℕ → Process → Function → Option Name → List Frame → Tree → Act
 leaves n q k x fs t = leaves_to q x fs t (returned n (mfa_of k) t (length fs + 1))
 
@@ -115,7 +115,7 @@ pub record Exception : Type 0 where
   pub class : Class
   pub value : Tree
 
--- what a raise over these frames raises: a throw where a catch step called none of them is the error {nocatch,T}
+-- what a raise in the newest of these frames raises: a throw where a catch step called none of them is the error {nocatch,T}
 abbrev pub exception_of : List Frame → Class → Tree → Exception
 exception_of fs throw t =
     if list_any (λ f. f.by_catch) fs then record { class = throw; value = t } else
@@ -127,7 +127,7 @@ abbrev pub exit_reason : Class → Tree → Tree
 exit_reason error t = tuple (more t (more (list none) none))
 exit_reason c t = t
 
--- the value of the catch that it is caught by
+-- the value of the catch that catches it
 abbrev pub caught_as : Class → Tree → Tree
 caught_as throw t = t
 caught_as c t = tuple (more (word "EXIT") (more (exit_reason c t) none))
@@ -137,7 +137,7 @@ abbrev pub left_by : List Frame → List (Frame × ℕ)
 left_by [] = []
 left_by (f ∷ fs) = (f, length fs + 1) ∷ (if f.by_catch then [] else left_by fs)
 
--- the frames beneath those: none where it isn't caught
+-- the frames below those: none where it isn't caught
 abbrev pub kept_by : List Frame → List Frame
 kept_by [] = []
 kept_by (f ∷ fs) = if f.by_catch then fs else kept_by fs
@@ -179,7 +179,7 @@ step_on q f fs = record q { frames = next_step f ∷ fs }
 abbrev pub binds : Process → Frame → List Frame → Option Name → Tree → Process
 binds q f fs x t = record q { frames = record f { place = f.place + 1; env = rebound_target x t f.env } ∷ fs }
 
--- it can't move while the mailbox is empty
+-- it waits while the mailbox is empty
 abbrev pub receives : Process → Frame → List Frame → Option Name → List Tree → Act
 receives q f fs x [] = waits (with_frames q (f ∷ fs))
 receives q f fs x (t ∷ ts) = continues (record (binds q f fs x t) { mailbox = ts }) []

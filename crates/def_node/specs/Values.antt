@@ -26,7 +26,7 @@ abbrev pub rebound : Env → Name → Tree → Env
 rebound [] x t = (x, t) ∷ []
 rebound (e ∷ env) x t = if bytes_eq e.0 x then (e.0, t) ∷ env else e ∷ rebound env x t
 
--- a target that is none throws the value away
+-- without a target the value is discarded
 abbrev pub rebound_target : Option Name → Tree → Env → Env
 rebound_target None t env = env
 rebound_target (Some x) t env = rebound env x t

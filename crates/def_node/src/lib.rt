@@ -53,7 +53,7 @@ pub fn a_raise_leaves_frames()
 
 /// The process goes on after the catch step that called the last frame which is left, and its target gets
 /// what the class says. Where no catch step called a frame, an error or an exit ends the process, and a
-/// throw is the error `nocatch`. One of the two it is, as no catch step calls the oldest frame.
+/// throw is the error `nocatch`. One of the two holds, since no catch step calls the oldest frame.
 pub fn a_raise_goes_on_or_ends_the_process()
     ensures either { RaiseIsCaughtOrNot }
     ensures caught { CaughtRaiseGoesOn }

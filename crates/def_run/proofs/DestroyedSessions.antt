@@ -8,7 +8,7 @@ use Rattle.def_script.specs.Exports.{Exports, exports_of}
 use Rattle.def_session.specs.Session.{event_reported}
 use Rattle.def_session.specs.Commands.{command_done}
 use Rattle.def_session.proofs.DestroyedSessions.{event-silent, event-destroyed, command-destroyed}
-use Rattle.def_run.specs.Run.{HistoryItem, event_item, command_item, history_from, run_state_after, start}
+use Rattle.def_run.specs.Run.{HistoryItem, event_item, command_item, history_from, start, run_state_of}
 use Rattle.def_run.specs.View.{is_own, view}
 use Rattle.def_run.specs.Listing.{messages_from, session_after, messages, state_of}
 use Rattle.def_run.proofs.Appends.{own-append, shown-append, messages-append, state-append}
@@ -29,7 +29,7 @@ module _ (s : Name) (p : Program) (picks more : List ℕ) (h : (state_of (view s
   seen = history_from p.functions (start p) picks
 
   abbrev next : List HistoryItem
-  next = history_from p.functions (run_state_after p.functions (start p) picks) more
+  next = history_from p.functions (run_state_of p picks) more
 
   pub destroyed_listing : messages s p (picks ++ more) ≡ messages s p picks
   destroyed_listing =

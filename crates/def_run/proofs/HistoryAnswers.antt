@@ -9,7 +9,7 @@ use Rattle.def_script.specs.Script.{creations}
 use Rattle.def_node.specs.Event.{Event}
 use Rattle.def_session.specs.State.{absent_session}
 use Rattle.def_session.specs.Session.{event_reported}
-use Rattle.def_run.specs.Run.{HistoryItem, event_item, command_item, RunState, PickStep, pick_step, history_from, moves_from, run_state_after, start, events, moves}
+use Rattle.def_run.specs.Run.{HistoryItem, event_item, command_item, RunState, PickStep, pick_step, history_from, moves_from, run_state_after, start, events, moves, pick_step_after}
 use Rattle.def_run.specs.View.{is_own}
 use Rattle.def_run.specs.Listing.{messages_from, Item, reported_by_all, answers_from, history_by}
 use Rattle.def_run.specs.History.{NamedSession, all_after, all_after_items, named_sessions, Moment, MoveHistory, moments_from, move_history, move_histories_from, move_histories, moments_of, history, history_messages, items_of_sessions, items_of_moments}
@@ -201,7 +201,7 @@ pick-items p before k None = refl
 pick-items p before k (Some pick) =
     let o : Exports = exports_of p in
     let cs : List (Name × Name) = creations p.commands in
-    let shown : List HistoryItem = (pick_step p.functions (run_state_after p.functions (start p) before) pick).shown in
+    let shown : List HistoryItem = (pick_step_after p before pick).shown in
     let whole : events p (before ++ pick ∷ []) ≡ events p before ++ shown = shown-append p.functions (start p) before (pick ∷ []) ∙ ap (events p before ++◌) (append-nil shown) in
     ap (items_of_moments o (history p before)) (append-nil (moments_from o k pick (all_after_items o (named_sessions p) (events p before)) shown))
     ∙ ap (λ ss. items_of_moments o (history p before) (moments_from o k pick ss shown)) (all-after o cs [] (events p before))

@@ -6,7 +6,7 @@ use Rattle.def_script.specs.Program.{Function, Command, Program}
 use Rattle.def_node.specs.Limits.{IsStill}
 use Rattle.def_node.specs.Node.{World, Move, moved, idle, next_of, NodeState, gives_command, gives_nothing, of_move, next}
 use Rattle.def_node.proofs.Still.{next_still}
-use Rattle.def_run.specs.Run.{RunState, takes_command, goes_to, pick_step_with, pick_step, start, moves, run_state_after}
+use Rattle.def_run.specs.Run.{RunState, takes_command, goes_to, pick_step_with, pick_step, start, moves, run_state_after, run_state_of}
 use Rattle.def_run.specs.Laws.{state_at, IsNext, PickIsNext}
 use Rattle.def_run.proofs.Replay.{room_spent}
 
@@ -90,5 +90,5 @@ at_place p picks pick q (suc room) e spent below ends = subst (λ r. IsNext p (n
 
 pub pick_is_next : PickIsNext
 pick_is_next p picks pick below =
-    let q : RunState = run_state_after p.functions (start p) picks in
+    let q : RunState = run_state_of p picks in
     at_place p picks pick q q.room refl (room_spent p.functions (start p) picks) below (place_ends p.functions p.commands (start p) picks ([], refl))

@@ -2,12 +2,9 @@
 use Rattle.std.proofs.Common.{◌≡◌, ◌+◌, ◌<◌, ℕ, zero, suc, List, [], ◌∷◌, length, refl, ap, arith}
 use Rattle.def_script.specs.Program.{Function, Program, Command}
 use Rattle.def_node.specs.Node.{Move, moved, idle, next_of}
-use Rattle.def_run.specs.Run.{RunState, takes_command, goes_to, pick_step_with, run_state_after, start, moves}
+use Rattle.def_run.specs.Run.{RunState, takes_command, goes_to, pick_step_with, start, moves, run_state_of}
 use Rattle.def_run.specs.Laws.{IsStep, TakesCommandOf, PickIsItsStep, PickTakesACommand, FullJournalStays}
 use Rattle.def_run.proofs.Replay.{room_spent}
-
-abbrev place_of : Program → List ℕ → RunState
-place_of p picks = run_state_after p.functions (start p) picks
 
 step_goes : (q : RunState) (room : ℕ) (m : Move) → IsStep m (goes_to q room m)
 step_goes q room (moved w es) = (refl, refl, refl)
@@ -25,21 +22,21 @@ command_with : (ks : List Function) (q : RunState) (room : ℕ) → 0 < room →
 command_with ks q zero h = absurd (omega arith)
 command_with ks q (suc room) h = command_goes q room q.commands
 
-spent : (p : Program) (picks : List ℕ) → length (moves p picks) + (place_of p picks).room ≡ 65536
+spent : (p : Program) (picks : List ℕ) → length (moves p picks) + (run_state_of p picks).room ≡ 65536
 spent p picks = room_spent p.functions (start p) picks
 
 pub pick_is_its_step : PickIsItsStep
 pick_is_its_step p picks n h =
-    let e : length (moves p picks) + (place_of p picks).room ≡ 65536 = spent p picks in
-    step_with p.functions (place_of p picks) n (place_of p picks).room (omega arith)
+    let e : length (moves p picks) + (run_state_of p picks).room ≡ 65536 = spent p picks in
+    step_with p.functions (run_state_of p picks) n (run_state_of p picks).room (omega arith)
 
 pub pick_takes_a_command : PickTakesACommand
 pick_takes_a_command p picks h =
-    let e : length (moves p picks) + (place_of p picks).room ≡ 65536 = spent p picks in
-    command_with p.functions (place_of p picks) (place_of p picks).room (omega arith)
+    let e : length (moves p picks) + (run_state_of p picks).room ≡ 65536 = spent p picks in
+    command_with p.functions (run_state_of p picks) (run_state_of p picks).room (omega arith)
 
 pub full_journal_stays : FullJournalStays
 full_journal_stays p picks pick h =
-    let e : length (moves p picks) + (place_of p picks).room ≡ 65536 = spent p picks in
-    let none : (place_of p picks).room ≡ 0 = omega arith in
-    ap (λ r. (pick_step_with p.functions (place_of p picks) r pick).moved) none
+    let e : length (moves p picks) + (run_state_of p picks).room ≡ 65536 = spent p picks in
+    let none : (run_state_of p picks).room ≡ 0 = omega arith in
+    ap (λ r. (pick_step_with p.functions (run_state_of p picks) r pick).moved) none

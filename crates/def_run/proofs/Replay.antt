@@ -2,7 +2,7 @@
 use Rattle.std.proofs.Common.{◌≡◌, ◌≤◌, ◌+◌, ℕ, zero, suc, List, [], ◌∷◌, ◌++◌, length, Bool, true, false, if◌then◌else◌, refl, sym, ap, ◌∙◌, subst, arith}
 use Rattle.def_script.specs.Program.{Function, Program, Command}
 use Rattle.def_node.specs.Node.{Move, moved, idle, next_of}
-use Rattle.def_run.specs.Run.{RunState, PickStep, stays, takes_command, goes_to, pick_step_in, pick_step_with, pick_step, history_from, moves_from, run_state_after, start, events, moves}
+use Rattle.def_run.specs.Run.{RunState, PickStep, stays, takes_command, goes_to, pick_step_in, pick_step_with, pick_step, history_from, moves_from, run_state_after, start, events, moves, run_state_of}
 use Rattle.def_run.proofs.Appends.{shown-append, moves-append, place-append}
 
 -- a pick that did not move changes nothing
@@ -153,4 +153,4 @@ room_spent ks p (pick ∷ picks) = go (pick_step ks p pick) (pick_spends ks p pi
         ∙ ih ∙ s.1 h
 
 pub moves_bounded : (p : Program) (picks : List ℕ) → length (moves p picks) ≤ 65536
-moves_bounded p picks = let e : length (moves_from p.functions (start p) picks) + (run_state_after p.functions (start p) picks).room ≡ 65536 = room_spent p.functions (start p) picks in omega arith
+moves_bounded p picks = let e : length (moves_from p.functions (start p) picks) + (run_state_of p picks).room ≡ 65536 = room_spent p.functions (start p) picks in omega arith

@@ -2,7 +2,7 @@
 use Rattle.std.proofs.Common.{◌≤◌, ℕ, List, [], ◌∷◌, ◌++◌, length, Option, Some, None, ap, ◌∙◌, append-nil, arith}
 use Rattle.std.specs.Prelude.{codes, filter, option_to_list}
 use Rattle.def_script.specs.Program.{Program}
-use Rattle.def_run.specs.Run.{HistoryItem, start, run_state_after, moves_from}
+use Rattle.def_run.specs.Run.{HistoryItem, start, moves_from, run_state_of}
 use Rattle.def_script.specs.Exports.{exports_of}
 use Rattle.def_run.specs.Listing.{messages_of, messages_from, session_after, replies_from, listing_text, listings_text, lines_of}
 use Rattle.def_run.specs.Picks.{picks_text}
@@ -26,7 +26,7 @@ output_of p items journal =
 pub idle_place : IdleLeavesThePlace
 idle_place p picks pick h =
     place-append p.functions (start p) picks (pick ∷ [])
-    ∙ ap (λ t. t.after) (pick_kept p.functions (run_state_after p.functions (start p) picks) pick h)
+    ∙ ap (λ t. t.after) (pick_kept p.functions (run_state_of p picks) pick h)
 
 one_at_most : (m : Option Tree) → length (option_to_list m) ≤ 1
 one_at_most None = omega arith
@@ -53,7 +53,7 @@ pub journal_output : JournalGivesTheOutput
 journal_output p picks = λ i. output_of p (events_again p picks i) (journal_again p picks i)
 
 pub runs_grow : RunsGrow
-runs_grow p picks more = (moves_from p.functions (run_state_after p.functions (start p) picks) more, moves-append p.functions (start p) picks more)
+runs_grow p picks more = (moves_from p.functions (run_state_of p picks) more, moves-append p.functions (start p) picks more)
 
 pub by_the_view : ListingGoesByTheView
 by_the_view s tracer p q picks others h = (ap messages_of h, ap (λ v. listing_text s tracer (messages_of v)) h)

@@ -9,7 +9,7 @@ use Rattle.def_session.specs.State.{destroyed, Session}
 use Rattle.def_script.specs.Exports.{Exports}
 use Rattle.def_node.specs.Event.{Event}
 use Rattle.def_node.specs.Node.{Move, moved, idle, next_of, NodeState, PickResult, gives_events, gives_command, gives_nothing, next}
-use Rattle.def_run.specs.Run.{JOURNAL, HistoryItem, RunState, PickStep, event_item, command_item, start, pick_step, run_state_after, events, moves}
+use Rattle.def_run.specs.Run.{JOURNAL, HistoryItem, RunState, PickStep, event_item, command_item, pick_step, events, moves, run_state_of, pick_step_after}
 use Rattle.def_run.specs.Round.{pass, round}
 use Rattle.def_run.specs.View.{view, strike_program, strike_picks}
 use Rattle.def_run.specs.Picks.{SpellsPicks}
@@ -21,13 +21,13 @@ use Rattle.def_script.specs.Script.{creations}
 
 -- after these picks the pick moves nothing
 abbrev pub IsIdleAfter : Program → List ℕ → ℕ → Type 0
-IsIdleAfter p picks pick = (pick_step p.functions (run_state_after p.functions (start p) picks) pick).moved ≡ false
+IsIdleAfter p picks pick = (pick_step_after p picks pick).moved ≡ false
 
 -- an idle pick changes nothing
 abbrev pub IdleLeavesThePlace : Type 0
 IdleLeavesThePlace =
     (p : Program) (picks : List ℕ) (pick : ℕ) → IsIdleAfter p picks pick →
-    run_state_after p.functions (start p) (picks ++ pick ∷ []) ≡ run_state_after p.functions (start p) picks
+    run_state_of p (picks ++ pick ∷ []) ≡ run_state_of p picks
 
 -- put anywhere, it leaves no trace: not in what is shown
 abbrev pub IdleShowsNothing : Type 0
@@ -161,13 +161,13 @@ TakesCommandOf (c ∷ cs) t = (t.moved ≡ true) × (t.shown ≡ command_item c 
 abbrev pub PickIsItsStep : Type 0
 PickIsItsStep =
     (p : Program) (picks : List ℕ) (n : ℕ) → length (moves p picks) < JOURNAL →
-    IsStep (next_of p.functions (run_state_after p.functions (start p) picks).world (suc n)) (pick_step p.functions (run_state_after p.functions (start p) picks) (suc n))
+    IsStep (next_of p.functions (run_state_of p picks).world (suc n)) (pick_step_after p picks (suc n))
 
 -- and a pick 0 takes the next command
 abbrev pub PickTakesACommand : Type 0
 PickTakesACommand =
     (p : Program) (picks : List ℕ) → length (moves p picks) < JOURNAL →
-    TakesCommandOf (run_state_after p.functions (start p) picks).commands (pick_step p.functions (run_state_after p.functions (start p) picks) 0)
+    TakesCommandOf (run_state_of p picks).commands (pick_step p.functions (run_state_of p picks) 0)
 
 -- with 65,536 moves every pick is passed over
 abbrev pub FullJournalStays : Type 0
@@ -187,7 +187,7 @@ IsNext p (gives_nothing s) t = (t.moved ≡ false) × (s ≡ state_at p t.after)
 abbrev pub PickIsNext : Type 0
 PickIsNext =
     (p : Program) (picks : List ℕ) (pick : ℕ) → length (moves p picks) < JOURNAL →
-    IsNext p (next p (state_at p (run_state_after p.functions (start p) picks)) pick) (pick_step p.functions (run_state_after p.functions (start p) picks) pick)
+    IsNext p (next p (state_at p (run_state_of p picks)) pick) (pick_step_after p picks pick)
 
 -- ---- rounds
 

@@ -11,7 +11,7 @@ use Rattle.def_node.specs.Event.{Event}
 use Rattle.def_session.specs.State.{Session, absent_session}
 use Rattle.def_session.specs.Session.{event_reported}
 use Rattle.def_session.specs.Commands.{command_done}
-use Rattle.def_run.specs.Run.{HistoryItem, event_item, command_item, events, moves, pick_step, run_state_after, start}
+use Rattle.def_run.specs.Run.{HistoryItem, event_item, command_item, events, moves, pick_step, pick_step_after}
 use Rattle.def_run.specs.View.{is_own, View, view}
 use Rattle.def_run.specs.Picks.{picks_text}
 
@@ -83,7 +83,7 @@ answers_from o ss past (command_item c ∷ items) = answers_from o ss (past ++ c
 -- what a pick shows after these
 abbrev pub history_by : Program → List ℕ → Option ℕ → List HistoryItem
 history_by p before None = []
-history_by p before (Some pick) = (pick_step p.functions (run_state_after p.functions (start p) before) pick).shown
+history_by p before (Some pick) = (pick_step_after p before pick).shown
 
 -- the messages that the move k adds, by order of its events, and for one event by rising session number
 abbrev pub answer : Program → List ℕ → ℕ → List Item

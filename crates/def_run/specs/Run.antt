@@ -73,6 +73,14 @@ JOURNAL = 65536
 abbrev pub start : Program → RunState
 start p = record { world = opening_world p.entries; commands = p.commands; room = JOURNAL }
 
+-- where the picks lead in a run of the program
+abbrev pub run_state_of : Program → List ℕ → RunState
+run_state_of p picks = run_state_after p.functions (start p) picks
+
+-- what one more pick does after these
+abbrev pub pick_step_after : Program → List ℕ → ℕ → PickStep
+pick_step_after p picks pick = pick_step p.functions (run_state_of p picks) pick
+
 -- the events of the moves in order, with each command taken in its place
 abbrev pub events : Program → List ℕ → List HistoryItem
 events p picks = history_from p.functions (start p) picks

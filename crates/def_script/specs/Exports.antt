@@ -1,4 +1,4 @@
--- What a run begins with, as far as sessions know it (own).
+-- What sessions know of a program from the start of a run on (own).
 -- Depends on the program's data.
 use Rattle.std.specs.Prelude.{ℕ, Bool, List, map, length}
 use Rattle.def_term.specs.Names.{Mfa}

@@ -23,7 +23,7 @@ RefusalIsOne = (bytes : List ℕ) (r s : Refusal) → IsRefused bytes r → IsRe
 abbrev pub EachTextIsEither : Type 0
 EachTextIsEither = (bytes : List ℕ) → ((p : Program) × IsScript bytes p) ⊎ ((r : Refusal) × IsRefused bytes r)
 
--- what a text comes to: a program, or the line of a refusal
+-- what is made of a text: a program, or the line of a refusal
 pub data Answer : Type 0 where
   a_program : Program → Answer
   a_line : List ℕ → Answer
@@ -39,7 +39,7 @@ ExactlyOneAnswer = (bytes : List ℕ) → (a : Answer) × IsAnswered bytes a × 
 
 -- ---- the first broken rule
 
--- what is computed is the least rule that the lowest-numbered form breaks that breaks any
+-- of the lowest-numbered form that breaks a rule, what is computed is the least rule that it breaks
 abbrev pub FirstBrokenIsFound : Type 0
 FirstBrokenIsFound = (fs : List Form) (n : ℕ) (r : Rule) → first_broken fs ≡ Some (n, r) → IsFirstBroken fs n r
 

@@ -13,7 +13,7 @@ is_variable (c ∷ cs) = nat_le 65 c && nat_le c 90
 pub data Class : Type 0 where
   error throw exit : Class
 
--- a step of a function; its terms are templates. A target that is none throws the value away (own)
+-- a step of a function; its terms are templates. Without a target the value is discarded (own)
 pub data Step : Type 0 where
   send : (to message : Tree) → Step
   receive : (target : Option Name) → Step

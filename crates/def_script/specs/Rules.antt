@@ -114,7 +114,7 @@ named_with_module s = None
 -- ---- variables
 
 abbrev mutual
-  -- whether a variable stands in the term that is none of these
+  -- whether a variable that is none of these occurs in the term
   pub has_other_variable : List Name → Tree → Bool
   has_other_variable bound (int n) = false
   has_other_variable bound (atom s) = is_variable s && not (is_among bound s)
@@ -127,7 +127,7 @@ abbrev mutual
   have_other_variable bound none = false
   have_other_variable bound (more t ts) = has_other_variable bound t || have_other_variable bound ts
 
--- the terms of a step, its target apart
+-- the terms of a step, without its target
 abbrev pub terms_of : Step → List Tree
 terms_of (send to message) = to ∷ message ∷ []
 terms_of (receive v) = []

@@ -82,7 +82,7 @@ pub record HasBroken (bytes : List ℕ) (n : ℕ) (r : Rule) : Type 0 where
   pub few : length forms ≤ FORMS
   pub first : IsFirstBroken forms n r
 
--- the first that applies of 1; 2 to 4; 6; 5 with the lowest-numbered form; the least of 7 to 13 that the lowest-numbered form breaks that breaks any
+-- the first that applies of 1; 2 to 4; 6; 5 of the lowest-numbered form without a shape; of the lowest-numbered form that breaks a rule, the least of 7 to 13 that it breaks
 abbrev pub IsRefused : List ℕ → Refusal → Type 0
 IsRefused bytes too_long = LENGTH < length bytes
 IsRefused bytes (token at) = ScriptRefused bytes faults.misplaced at

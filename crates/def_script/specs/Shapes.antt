@@ -38,7 +38,7 @@ each_in f (t ∷ ts) = both (λ x xs. x ∷ xs) (f t) (each_in f ts)
 
 -- ---- names, variables and targets
 
--- the target that throws a value away
+-- the target that discards a value
 abbrev pub nothing_name : Name
 nothing_name = codes "_"
 
@@ -113,7 +113,7 @@ abbrev pub exported_in : Tree → Option Bool
 exported_in (atom s) = exported_of s
 exported_in t = None
 
--- no name stands in it twice
+-- no name is in it twice
 abbrev pub are_distinct : List Name → Bool
 are_distinct [] = true
 are_distinct (s ∷ ss) = not (is_among ss s) && are_distinct ss

@@ -21,7 +21,7 @@ CommandResult = Session × Tree
 abbrev pub number_term : ℕ → Tree
 number_term n = int (pos n)
 
--- a command so answered changes nothing
+-- a command with this reply changes nothing
 abbrev pub refuse : Session → CommandResult
 refuse s = (s, word "badarg")
 

@@ -152,7 +152,7 @@ DestroyedAgain = (o : Exports) (s : Session) (name : Name) → s.phase ≡ destr
 
 -- ---- marks
 
--- exception_trace asks for a mark for exceptions, whatever stands before and after it
+-- exception_trace asks for a mark for exceptions, whatever effects come before and after it
 abbrev pub ExceptionTraceMarks : Type 0
 ExceptionTraceMarks = (before behind : List Effect) → mark_asked (before ++ traces_exception ∷ behind) ≡ Some for_exceptions
 
@@ -160,13 +160,13 @@ ExceptionTraceMarks = (before behind : List Effect) → mark_asked (before ++ tr
 abbrev pub Lacks : Effect → List Effect → Type 0
 Lacks e es = All (λ x. x ≢ e) es
 
--- return_trace without it for one for returns
+-- return_trace without it asks for a mark for returns
 abbrev pub ReturnTraceMarks : Type 0
 ReturnTraceMarks =
     (before behind : List Effect) → Lacks traces_exception before → Lacks traces_exception behind →
     mark_asked (before ++ traces_return ∷ behind) ≡ Some for_returns
 
--- and effects without either for none
+-- and effects without either ask for no mark
 abbrev pub OtherEffectsMarkNothing : Type 0
 OtherEffectsMarkNothing = (es : List Effect) → Lacks traces_return es → Lacks traces_exception es → mark_asked es ≡ None
 
@@ -188,7 +188,7 @@ NoOtherException =
     (s : Session) (p : ℕ) (f : Mfa) (c : Class) (t : Tree) (depth : ℕ) → mark_of s p depth ≢ Some for_exceptions →
     (event_reported s (raised p f c t depth)).1 ≡ None
 
--- a return of a frame with a mark of either kind is reported exactly so
+-- a return of a frame with a mark of either kind is reported exactly where `call` is set and `silent` is clear
 abbrev pub ReturnIsTold : Type 0
 ReturnIsTold =
     (s : Session) (p : ℕ) (f : Mfa) (t : Tree) (depth : ℕ) (k : MarkKind) → s.phase ≡ live → mark_of s p depth ≡ Some k →
@@ -235,11 +235,11 @@ MarksOfOthersStay =
     (s : Session) (e : Event) (q depth : ℕ) → FIRST_PID ≤ process_of e → FIRST_PID ≤ q → process_of e ≢ q →
     mark_of (event_reported s e).0 q depth ≡ mark_of s q depth
 
--- after its exit a process no longer lives
+-- after its exit a process is no longer alive
 abbrev pub ExitEndsTheLife : Type 0
 ExitEndsTheLife = (s : Session) (p : ℕ) (r : Tree) → s.phase ≡ live → (event_reported s (exited p r)).0.alive ≡ with_alive s.alive p false
 
--- ---- before creation, and life
+-- ---- before creation, and which processes are alive
 
 -- a creation changes the phase of an absent session alone
 abbrev pub CreationMakesLive : Type 0
@@ -251,11 +251,11 @@ CreationMakesLive =
 abbrev pub CommandBeforeCreation : Type 0
 CommandBeforeCreation = (o : Exports) (s : Session) (c : Command) → s.phase ≡ absent → is_creation c ≡ false → command_done o s c ≡ (s, word "badarg")
 
--- before its creation a session reports nothing, and learns who lives alone
+-- before its creation a session reports nothing, and an event changes only which processes are alive
 abbrev pub EventBeforeCreation : Type 0
 EventBeforeCreation = (s : Session) (e : Event) → s.phase ≡ absent → event_reported s e ≡ (record s { alive = alive_after s.alive e }, None)
 
--- in each phase a session knows who lives: the spawned until they exit
+-- in each phase a session knows which processes are alive: those that were spawned, until they exit
 abbrev pub LifeGoesByEvents : Type 0
 LifeGoesByEvents = (s : Session) (e : Event) → (event_reported s e).0.alive ≡ alive_after s.alive e
 

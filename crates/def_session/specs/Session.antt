@@ -43,7 +43,7 @@ evaluated_by (by s) c = effects_of_outcome (outcome_of s c)
 abbrev pub context : Session → ℕ → List Tree → Option Mfa → Context
 context s self_pid ts caller = record { matched_list = ts; self_pid = self_pid; caller_mfa = caller; alive = s.alive; flags = s.flags }
 
--- the frame of this depth is marked, for whatever
+-- the frame of this depth has a mark of either kind
 abbrev pub is_marked : Session → ℕ → ℕ → Bool
 is_marked s p depth = is_some (mark_of s p depth)
 
@@ -91,7 +91,7 @@ abbrev pub or_for_returns : Option MarkKind → Option MarkKind
 or_for_returns None = Some for_returns
 or_for_returns (Some k) = Some k
 
--- the mark that effects ask for: exception_trace one for exceptions, whatever stands beside it, return_trace alone one for returns
+-- the mark that effects ask for: exception_trace one for exceptions, whatever other effects there are, return_trace alone one for returns
 abbrev pub mark_asked : List Effect → Option MarkKind
 mark_asked [] = None
 mark_asked (traces_return ∷ es) = or_for_returns (mark_asked es)

@@ -43,7 +43,7 @@ with_arity m f (int (pos n)) = if nat_le n PARAMETERS then Some (one (record { m
 with_arity m f (atom s) = if is_wildcard s then Some (any_arity m f) else None
 with_arity m f _ = None
 
--- M and F are atoms; after '_' only '_' may stand
+-- M and F are atoms; after '_' only '_' may follow
 abbrev pub pattern_by : Tree → Tree → Tree → Option FunctionPattern
 pattern_by (atom m) (atom f) a =
     if is_wildcard m then (if is_wildcard f && same a (word "_") then Some every else None) else

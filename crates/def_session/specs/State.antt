@@ -1,5 +1,5 @@
 -- The state of one session (trace:session_create/3, process/4).
--- Depends on flags, on settings and on who lives.
+-- Depends on flags, on settings and on which processes are alive.
 use Rattle.std.specs.Prelude.{ℕ, ◌-◌, ◌==◌, true, false, if◌then◌else◌, List, [], ◌∷◌, ◌++◌, replicate, slice_get, slice_set, Option, Some, None}
 use Rattle.std.specs.Option.{unwrap_or}
 use Rattle.def_term.specs.Alive.{FIRST_PID, PROCESSES, Alive, with_alive}
@@ -34,7 +34,7 @@ pub record Session : Type 0 where
   -- of the processes from the first pid on, the marks of frames, the newest first
   pub marks : List (List Mark)
 
--- the first of the processes live
+-- the initial processes are alive
 abbrev pub alive_at_start : ℕ → Alive
 alive_at_start n = replicate n true ++ replicate (PROCESSES - n) false
 
@@ -80,7 +80,7 @@ kind_among (m ∷ ms) depth = if m.depth == depth then Some m.kind else kind_amo
 abbrev pub mark_of : Session → ℕ → ℕ → Option MarkKind
 mark_of s n depth = kind_among (marks_at s n) depth
 
--- who lives after an event
+-- which processes are alive after an event
 abbrev pub alive_after : Alive → Event → Alive
 alive_after alive (spawned p parent f args) = with_alive alive p true
 alive_after alive (exited p r) = with_alive alive p false

@@ -76,7 +76,7 @@ pub fn marks_tell_returns_and_exceptions()
 {}
 
 /// After a return, or an exception that leaves it, a frame has no mark, and the process's other frames are
-/// marked as before. After a process's exit its flags and marks are gone, and it no longer lives. No event
+/// marked as before. After a process's exit its flags and marks are gone, and it isn't alive. No event
 /// changes the marks of a process that it isn't about.
 pub fn ends_take_marks_and_flags()
     ensures returned { ReturnEndsTheMark }
@@ -97,7 +97,7 @@ pub fn nothing_precedes_creation()
     ensures event { EventBeforeCreation }
 {}
 
-/// In each phase a session knows which processes live, and no event changes its phase.
+/// In each phase a session knows which processes are alive, and no event changes its phase.
 pub fn a_session_knows_who_lives()
     ensures life { LifeGoesByEvents }
     ensures phase { EventKeepsThePhase }

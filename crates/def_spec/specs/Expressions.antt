@@ -19,13 +19,13 @@ pub data Action : Type 0 where
   message return_trace exception_trace silent enable_trace disable_trace trace caller : Action
 
 mutual
-  -- a variable, `'$_'`, `'$$'`, a term as it stands, a tuple or list of expressions, or a call of a function or an action
+  -- a variable, `'$_'`, `'$$'`, a literal, a tuple or list of expressions, or a call of a function or an action
   pub data Expr : Type 0 where
     -- '$N', '$_' and '$$'
     bound_to : ℕ → Expr
     whole_list : Expr
     all_bound : Expr
-    -- a term as it stands
+    -- a literal
     constant : Tree → Expr
     tuple_of : Exprs → Expr
     list_of : Exprs → Expr
@@ -41,7 +41,7 @@ mutual
     no_exprs : Exprs
     and_expr : Expr → Exprs → Exprs
 
--- what an expression is evaluated in: the list that is matched, the own pid, the function of the frame beneath, who lives, and the flags of all processes
+-- what an expression is evaluated in: the list that is matched, the own pid, the caller, which processes are alive, and the flags of all processes
 pub record Context : Type 0 where
   pub matched_list : List Tree
   pub self_pid : ℕ
@@ -63,7 +63,7 @@ pub data Effect : Type 0 where
 abbrev pub change_flags : Flags → (off on : Flags) → Flags
 change_flags f off on = union (without f off) on
 
--- the flags of all processes after an effect in the process me
+-- the flags of all processes after an effect in the process of this pid
 abbrev pub flags_by : ℕ → FlagTable → Effect → FlagTable
 flags_by self_pid t (gives_message u) = t
 flags_by self_pid t traces_return = t
@@ -76,7 +76,7 @@ abbrev pub flags_after : ℕ → FlagTable → List Effect → FlagTable
 flags_after self_pid t [] = t
 flags_after self_pid t (e ∷ es) = flags_after self_pid (flags_by self_pid t e) es
 
--- what is evaluated after some effects has the flags that are there then
+-- what is evaluated after some effects reads the flags after them
 abbrev pub context_after : Context → List Effect → Context
 context_after c es = record c { flags = flags_after c.self_pid c.flags es }
 
@@ -128,7 +128,7 @@ of_calls for_calls e = e ∷ []
 of_calls for_sends e = []
 of_calls for_receives e = []
 
--- {M,F,Arity} of the frame beneath, `undefined` for an entry call
+-- {M,F,Arity} of the caller, `undefined` for an entry call
 abbrev pub caller_term : Option Mfa → Tree
 caller_term None = word "undefined"
 caller_term (Some f) = mfa_term f
@@ -153,7 +153,7 @@ pub data Position : Type 0 where
   in_condition : Position
   in_body : Position
 
--- an expression comes to a value or faults; with the effects so far
+-- what an expression gives: a value or a fault, with the effects so far
 pub data Evaluation (X : Type 0) : Type 0 where
   comes_to : X → List Effect → Evaluation X
   faults : List Effect → Evaluation X
@@ -174,7 +174,7 @@ settle in_condition r = r
 settle in_body None = Some (word "EXIT")
 settle in_body (Some t) = Some t
 
--- the effects of an action stand after those so far; one that faults has none. Actions stand in bodies alone
+-- the effects of an action come after those so far; one that faults has none. Actions are in bodies alone
 abbrev pub with_effect : Position → Option (Tree × List Effect) → List Effect → Evaluation Tree
 with_effect in_condition r es = faults es
 with_effect in_body None es = comes_to (word "EXIT") es
@@ -187,7 +187,7 @@ values_bound (e ∷ es) = e.1 ∷ values_bound es
 
 module _ (d : Dialect) (part : Position) (b : Bindings) (c : Context) where
   abbrev mutual
-    -- what an expression comes to after these effects; its own stand after them, an argument's before its call's
+    -- what an expression gives after these effects; its own come after them, an argument's before its call's
     pub evaluation : Expr → List Effect → Evaluation Tree
     evaluation (bound_to n) x = or_fault (value_bound b n) x
     evaluation whole_list x = comes_to (list (of_elements c.matched_list)) x

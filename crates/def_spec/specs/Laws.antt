@@ -73,7 +73,7 @@ ConditionsHaveNoEffects =
 
 -- ---- effects
 
--- the effects of what is evaluated stand after those so far
+-- the effects of what is evaluated come after those so far
 abbrev pub EffectsStandAfter : Type 0
 EffectsStandAfter = (d : Dialect) (part : Position) (b : Bindings) (c : Context) (e : Expr) (x : List Effect) → (own : List Effect) × (its_effects (evaluation d part b c e x) ≡ x ++ own)
 
@@ -82,7 +82,7 @@ abbrev pub IsOther : Action → Type 0
 IsOther trace = ⊥
 IsOther a = ⊤
 
--- `trace` doesn't stand in the expression
+-- `trace` doesn't occur in the expression
 abbrev mutual
   pub IsTraceless : Expr → Type 0
   IsTraceless (bound_to n) = ⊤
@@ -195,7 +195,7 @@ numbers_of an_and_also = (1, None)
 numbers_of an_or_else = (1, None)
 numbers_of (an_action a) = numbers_of_action a
 
--- a call in a part where it is allowed: no action stands in a condition, nor one that the dialect lacks
+-- a call in a part where it is allowed: a condition has no action, and a body none that the dialect lacks
 abbrev pub IsAllowed : Dialect → Position → Callee → Type 0
 IsAllowed d in_condition (an_action a) = ⊥
 IsAllowed d in_body (an_action a) = has_action d a ≡ true
@@ -203,7 +203,7 @@ IsAllowed d part (a_function f) = ⊤
 IsAllowed d part an_and_also = ⊤
 IsAllowed d part an_or_else = ⊤
 
--- the number of arguments is one that the function has, and the call may stand there
+-- the number of arguments is one that the function has, and the call is allowed there
 pub record IsFitting (d : Dialect) (part : Position) (f : Callee) (n : ℕ) : Type 0 where
   pub least : nat_le (numbers_of f).0 n ≡ true
   pub most : is_at_most (numbers_of f).1 n ≡ true

@@ -1,5 +1,5 @@
 -- Heads of clauses, and what it is to match one ("Match Specifications in Erlang", "Grammar").
--- Depends on terms and their equality. Above the walk that finds a binding stands `Matches`, which knows no walk.
+-- Depends on terms and their equality. `Matches` defines a match by substitution; `bindings_of` is the walk that finds the binding.
 use Rattle.std.specs.Prelude.{◌≡◌, ℕ, ◌==◌, Bool, false, ◌||◌, if◌then◌else◌, List, [], ◌∷◌, Option, Some, None, is_some, unwrap_or, IsTrue}
 use Rattle.std.specs.Ordering.{nat_cmp}
 use Rattle.std.specs.Option.{option_and_then}
@@ -29,7 +29,7 @@ Bindings = List (ℕ × Tree)
 abbrev pub value_bound : Bindings → ℕ → Option Tree
 value_bound b n = find nat_cmp n b
 
--- the variable stands in the pattern
+-- the variable occurs in the pattern
 abbrev mutual
   pub occurs : ℕ → Pattern → Bool
   occurs n (variable m) = n == m
@@ -72,12 +72,12 @@ pub record Matches (p : Pattern) (t : Tree) (b : Bindings) : Type 0 where
   pub exact : (n : ℕ) → is_some (value_bound b n) ≡ occurs n p
   pub filled : (fill : Fill) × (subst_in p b fill ≡ t)
 
--- what is bound once t was met at the variable n, where it had that value
+-- the bindings after t was matched with the variable n, which had that value before
 abbrev pub bind : ℕ → Tree → Bindings → Option Tree → Option Bindings
 bind n t b None = Some (put nat_cmp n t b)
 bind n t b (Some u) = if same u t then Some b else None
 
--- the bindings after a pattern was held against a term, from those before
+-- the bindings after a pattern was matched with a term, from those before
 abbrev mutual
   pub bind_on : Pattern → Tree → Bindings → Option Bindings
   bind_on (variable n) t b = bind n t b (value_bound b n)
@@ -88,7 +88,7 @@ abbrev mutual
   bind_on (in_list ps) (list ts) b = bind_each ps ts b
   bind_on (in_list ps) _ b = None
 
-  -- each pattern against its term, left to right; as many of the one as of the other
+  -- each pattern with its term, left to right; there are as many of the one as of the other
   pub bind_each : Patterns → Trees → Bindings → Option Bindings
   bind_each no_patterns none b = Some b
   bind_each no_patterns (more t ts) b = None

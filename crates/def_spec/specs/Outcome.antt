@@ -1,6 +1,6 @@
 -- The outcome of a specification ("Match Specifications in Erlang", "Execution of the Match").
 -- Depends on matching, values and effects.
--- Above the computed outcome stands `IsOutcome`: the least-numbered clause that fires.
+-- `IsOutcome` defines it as that of the least-numbered clause that fires; the same is computed below.
 use Rattle.std.specs.Prelude.{◌≡◌, Bool, true, ◌⊎◌, ◌&&◌, if◌then◌else◌, List, [], ◌∷◌, Option, Some, None}
 use Rattle.std.specs.Option.{option_and_then}
 use Rattle.def_term.specs.Tree.{Tree, list, of_elements}

@@ -170,7 +170,7 @@ has_action for_sends caller = false
 has_action for_sends a = true
 has_action for_receives a = false
 
--- whether a call may stand there: actions in bodies alone
+-- whether a call is allowed there: actions in bodies alone
 abbrev pub is_allowed : Dialect → Position → Callee → Bool
 is_allowed d in_condition (an_action a) = false
 is_allowed d in_body (an_action a) = has_action d a

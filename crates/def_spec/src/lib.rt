@@ -4,7 +4,7 @@
 //! Depends on def_term. Promises, as laws: the walk over a head finds the one binding, where there is one
 //! and only there; the computed outcome is that of the least-numbered clause that fires; a body's value
 //! is a term, a condition has no effects, and without `trace` neither flags nor effects change a value;
-//! `trace` tells whether it changes flags; a specification that is read is sound, and a fault is the first
+//! the value of `trace` says whether it changes flags; a specification that is read is sound, and a fault is the first
 //! one; and inheritance gives what the manual says in each case of the two flags.
 #![tactic(auto)]
 
@@ -32,7 +32,7 @@ pub fn outcome_is_of_the_first_clause()
 {}
 
 /// In a body each expression whose variables the head binds has a term as its value. The effects of what is
-/// evaluated stand after those before it, and a condition has none. Without `trace` an expression has the
+/// evaluated come after those before it, and a condition has none. Without `trace` an expression has the
 /// value and the effects that it has alone, with any flags and after any effects.
 pub fn bodies_have_values()
     ensures values { BodiesHaveValues }
@@ -52,7 +52,7 @@ pub fn trace_tells_a_change()
 {}
 
 /// A specification that is read has the dialect that it is read for, at least one clause, no variable that
-/// its head doesn't bind, and only calls that are allowed where they stand, with a number of arguments
+/// its head doesn't bind, and only calls that are allowed where they are, with a number of arguments
 /// that fits; and its variables are numbered from 0 to 999.
 pub fn read_specifications_are_sound()
     ensures sound { ReadSpecsAreSound }

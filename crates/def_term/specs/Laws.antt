@@ -6,7 +6,7 @@ use Rattle.std.specs.declared.cmp.Ordering.TheVariants.{Equal}
 use Rattle.def_term.specs.Tree.{Tree}
 use Rattle.def_term.specs.Order.{tree_cmp}
 
--- of any two terms one is before the other or they are equal, and what is before a term is before those after it
+-- of any two terms one comes before the other, or they are equal; a term that comes before another comes before all those after it
 abbrev pub OrderIsTotal : Type 0
 OrderIsTotal = IsTotalOrder tree_cmp
 

@@ -25,7 +25,7 @@ abbrev mutual
   tree_cmp (list ts) (list us) = trees_cmp ts us
   tree_cmp t u = nat_cmp (rank t) (rank u)
 
-  -- element by element, a beginning first
+  -- element by element; where one ends first, it comes first
   pub trees_cmp : Trees → Trees → Ordering
   trees_cmp none none = Equal
   trees_cmp none (more u us) = Less

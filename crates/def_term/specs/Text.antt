@@ -17,7 +17,7 @@ is_upper b = nat_le 65 b && nat_le b 90
 abbrev pub is_digit : ℕ → Bool
 is_digit b = nat_le 48 b && nat_le b 57
 
--- the number that decimal digits spell, where a number stands before them
+-- the number that decimal digits spell after this number
 abbrev pub number_after : ℕ → List ℕ → ℕ
 number_after n [] = n
 number_after n (d ∷ ds) = number_after (n * 10 + (d - 48)) ds
@@ -26,7 +26,7 @@ number_after n (d ∷ ds) = number_after (n * 10 + (d - 48)) ds
 abbrev pub is_name_byte : ℕ → Bool
 is_name_byte b = is_lower b || is_upper b || is_digit b || (b == 95) || (b == 64)
 
--- a run of them
+-- each byte is one of them
 abbrev pub are_name_bytes : List ℕ → Bool
 are_name_bytes [] = true
 are_name_bytes (b ∷ bs) = is_name_byte b && are_name_bytes bs
@@ -55,7 +55,7 @@ is_written_bare s = is_name s && not (is_among (codes "maybe" ∷ codes "else" �
 abbrev pub escape : ℕ → List ℕ
 escape b = cond ((b == 39) || (b == 92)) (92 ∷ b ∷ []) (b ∷ [])
 
--- otherwise quoted
+-- any other atom is quoted
 abbrev pub atom_text : List ℕ → List ℕ
 atom_text s = cond (is_written_bare s) s (39 ∷ flat_map escape s ++ 39 ∷ [])
 

@@ -6,13 +6,13 @@ use Rattle.def_text.specs.Tokens.{Token}
 use Rattle.def_text.specs.Grammar.{Derives}
 use Rattle.def_text.specs.Limits.{Fits}
 
--- refusal 2, nothing begins so even without limits, or the whole text is only a beginning; 3, nested too deep; 4, a number, atom, string, tuple or list too large
+-- 2: no term begins so even without limits, or the text ends before its term does; 3: it nests too deep; 4: a number, atom, string, tuple or list is too large
 pub data FaultKind : Type 0 where
   misplaced : FaultKind
   too_deep : FaultKind
   too_large : FaultKind
 
--- further tokens complete it, to a term within the limits
+-- some further tokens complete it to a term within the limits
 abbrev pub Begins : ℕ → Bool → List Token → Type 0
 Begins limit sized front = (further : List Token) × (t : Tree) × Derives (front ++ further) t × Fits limit sized t
 
@@ -20,11 +20,11 @@ Begins limit sized front = (further : List Token) × (t : Tree) × Derives (fron
 abbrev pub BeginsAtAll : List Token → Type 0
 BeginsAtAll front = (further : List Token) × (t : Tree) × Derives (front ++ further) t
 
--- a refusal, with the tokens from the refused one on; none are left where the whole text is only a beginning
+-- a refusal, with the tokens from the refused one on; there are none where the text ends before its term does
 abbrev pub Fault : Type 0
 Fault = FaultKind × List Token
 
--- which refusal it is after a front that begins a term within the limits: with the next token it begins none even without limits; else none within the depth; else none within the sizes
+-- which refusal it is after a front that begins a term within the limits: 2 where with the next token it begins none even without limits; else 3 where it begins none within the depth; else 4
 abbrev pub FaultAt : ℕ → List Token → FaultKind → List Token → Type 0
 FaultAt limit front misplaced [] = (t : Tree) → Derives front t → ⊥
 FaultAt limit front too_deep [] = ⊥

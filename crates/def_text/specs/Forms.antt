@@ -30,7 +30,7 @@ pub record FormBegins (bytes : List ℕ) (n at : ℕ) : Type 0 where
 abbrev pub EndsForm : List TokenSpan → Type 0
 EndsForm xs = (xs ≡ []) ⊎ ((front : List TokenSpan) × (last : TokenSpan) × (xs ≡ front ++ last ∷ []) × (is_stop last.token ≡ true))
 
--- the rest of the tokens, before which stand so many full stops, one of them right before it
+-- the rest of the tokens after so many full stops, the last of which is right before it
 pub record IsAfterStops (n : ℕ) (xs rest : List TokenSpan) : Type 0 where
   pub front : List TokenSpan
   pub split : xs ≡ front ++ rest

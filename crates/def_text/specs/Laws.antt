@@ -76,15 +76,15 @@ TermOrRefusal = (bytes : List ℕ) → length bytes ≤ LENGTH → ((t : Tree) �
 abbrev pub SpelledTermsAreOne : Type 0
 SpelledTermsAreOne = (bytes : List ℕ) (ts us : List Tree) → SpellsTerms bytes ts → SpellsTerms bytes us → ts ≡ us
 
--- a text that spells terms with full stops is not refused so
+-- a text that spells terms with full stops is not refused as a script
 abbrev pub SpelledTermsAreNotRefused : Type 0
 SpelledTermsAreNotRefused = (bytes : List ℕ) (ts : List Tree) (kind : FaultKind) (at : ℕ) → SpellsTerms bytes ts → ScriptRefused bytes kind at → ⊥
 
--- a text is refused so in one way at most
+-- a text is refused as a script in one way at most
 abbrev pub ScriptRefusalIsOne : Type 0
 ScriptRefusalIsOne = (bytes : List ℕ) (kind other : FaultKind) (at there : ℕ) → ScriptRefused bytes kind at → ScriptRefused bytes other there → (kind ≡ other) × (at ≡ there)
 
--- within the length each text spells terms with full stops or is refused so
+-- within the length each text spells terms with full stops or is refused as a script
 abbrev pub TermsOrRefusal : Type 0
 TermsOrRefusal = (bytes : List ℕ) → length bytes ≤ LENGTH → ((ts : List Tree) × SpellsTerms bytes ts) ⊎ ((kind : FaultKind) × (at : ℕ) × ScriptRefused bytes kind at)
 
@@ -98,7 +98,7 @@ IntegerIsItsToken = (n : ℤ) (rest : List ℕ) → in_range n ≡ true → stop
 abbrev pub PidIsItsToken : Type 0
 PidIsItsToken = (n : ℕ) (rest : List ℕ) → n < 2 ^ 32 → IsToken (w (process n)) rest (pid n)
 
--- that of an atom is its token, where nothing follows that goes on with a name
+-- that of an atom is its token, where what follows doesn't continue the name
 abbrev pub AtomIsItsToken : Type 0
 AtomIsItsToken = (s rest : List ℕ) → all_are is_printable s ≡ true → stops is_name_byte rest ≡ true → IsToken (w (name s)) rest (atom s)
 

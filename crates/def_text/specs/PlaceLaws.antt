@@ -13,7 +13,7 @@ PlaceIsThere = (bytes : List ℕ) (at : ℕ) → IsPlace (take at bytes) (place_
 abbrev pub PlaceIsOne : Type 0
 PlaceIsOne = (passed : List ℕ) (p q : LineColumn) → IsPlace passed p → IsPlace passed q → (p.line ≡ q.line) × (p.column ≡ q.column)
 
--- moving one byte on gives the next column, or after a line feed the first of the next line
+-- one byte later comes the next column, or after a line feed the first column of the next line
 abbrev pub OneByteOn : Type 0
 OneByteOn = (bytes : List ℕ) (at b : ℕ) → slice_get bytes at ≡ Some b → place_at bytes (at + 1) ≡ after_byte (place_at bytes at) b
 

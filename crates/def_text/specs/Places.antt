@@ -12,12 +12,12 @@ abbrev pub line_feeds : List ℕ → ℕ
 line_feeds [] = 0
 line_feeds (b ∷ bs) = if b == 10 then line_feeds bs + 1 else line_feeds bs
 
--- the column after these bytes, the first of which stands in that column: each byte is one column, and a line feed is the last of its line
+-- the column after these bytes, the first of which is in that column: each byte is one column, and a line feed is the last byte of its line
 abbrev pub column_from : ℕ → List ℕ → ℕ
 column_from c [] = c
 column_from c (b ∷ bs) = column_from (if b == 10 then 1 else c + 1) bs
 
--- the place after these bytes of a text's front: one line more than end there
+-- the place after these first bytes of a text: its line is one more than the number of lines that end in them
 abbrev pub place_after : List ℕ → LineColumn
 place_after passed = record { line = line_feeds passed + 1; column = column_from 1 passed }
 

@@ -74,12 +74,12 @@ pub data ReadState : Type 0 where
 abbrev pub read_start : ReadState
 read_start = inside next []
 
--- a term stands where one may stand
+-- a term, where a term may be
 abbrev pub put : Tree → List OpenFrame → ReadState
 put t [] = done t
 put t (frame b f ∷ fs) = inside behind (frame b (f ++ t ∷ []) ∷ fs)
 
--- a term that is one token: refused too deep before too large
+-- a term that is one token; the depth is tested before the sizes
 abbrev pub leaf_at : ℕ → Bool → Tree → List OpenFrame → Result ReadState FaultKind
 leaf_at limit sized t fs = cond (nat_le (length fs + depth t) limit) (cond (sizes_ok sized t) (Ok (put t fs)) (Err too_large)) (Err too_deep)
 
@@ -128,7 +128,7 @@ step_by_sort limit sized (inside behind fs) nothing = Err misplaced
 abbrev pub step : ℕ → Bool → ReadState → Token → Result ReadState FaultKind
 step limit sized s x = step_by_sort limit sized s (sort x)
 
--- goes on, or is refused at the first of these tokens
+-- reading goes on, or the first of these tokens is refused
 abbrev pub after_step : Result ReadState FaultKind → (ReadState → Result ReadState Fault) → List Token → Result ReadState Fault
 after_step (Ok s) go ts = go s
 after_step (Err k) go ts = Err (k, ts)

@@ -1,4 +1,4 @@
--- Which token stands at the front of the bytes, and how long it is, by cases on the bytes from the left.
+-- Which token is at the front of the bytes, and how long it is, by cases on the bytes from the left.
 -- Depends on tokens (own). Lemmas say that it finds each token, and only tokens.
 use Rattle.std.specs.Prelude.{◌≡◌, ℕ, ◌+◌, List, [], ◌∷◌, take, drop, Bool, true, false, not, ◌&&◌, ◌||◌, if◌then◌else◌, nat_le, nat_lt, ◌==◌, Option, Some, None}
 use Rattle.def_term.specs.Text.{is_digit, is_lower, is_name_byte, is_among, reserved_words}
@@ -39,7 +39,7 @@ unescape escaped [] = []
 unescape true (b ∷ bs) = b ∷ unescape false bs
 unescape false (b ∷ bs) = if b == 92 then unescape true bs else b ∷ unescape false bs
 
--- `.0>` stands at the front
+-- `.0>` is at the front
 abbrev pub closes_pid : List ℕ → Bool
 closes_pid (a ∷ b ∷ c ∷ bs) = (a == 46) && (b == 48) && (c == 62)
 closes_pid _ = false
@@ -49,7 +49,7 @@ abbrev pub begins_zero : List ℕ → Bool
 begins_zero [] = false
 begins_zero (b ∷ bs) = b == 48
 
--- how many bytes after `<` a pid has, where these stand after `<0.`
+-- how many bytes after `<` a pid has, where these bytes come after `<0.`
 abbrev pub pid_number_end : List ℕ → Option ℕ
 pid_number_end bs =
     let n = run_len is_digit bs in

@@ -15,7 +15,7 @@ pub data ScriptState : Type 0 where
 abbrev pub script_start : ScriptState
 script_start = reading [] read_start
 
--- after a term stands a full stop and nothing else
+-- a full stop comes after a term, and nothing else
 abbrev pub after_term : List Tree → Tree → Token → Result ScriptState FaultKind
 after_term ts t text.stop = Ok (reading (ts ++ t ∷ []) read_start)
 after_term ts t x = Err misplaced
@@ -30,7 +30,7 @@ abbrev pub script_step : ℕ → Bool → ScriptState → Token → Result Scrip
 script_step limit sized (reading ts (done t)) x = after_term ts t x
 script_step limit sized (reading ts (inside p fs)) x = with_terms ts (step limit sized (inside p fs) x)
 
--- goes on, or is refused at the first of these tokens
+-- reading goes on, or the first of these tokens is refused
 abbrev pub after_script_step : Result ScriptState FaultKind → (ScriptState → Result ScriptState Fault) → List Token → Result ScriptState Fault
 after_script_step (Ok s) go xs = go s
 after_script_step (Err k) go xs = Err (k, xs)
@@ -40,7 +40,7 @@ abbrev pub script_run : ℕ → Bool → ScriptState → List Token → Result S
 script_run limit sized s [] = Ok s
 script_run limit sized s (x ∷ xs) = after_script_step (script_step limit sized s x) (λ z. script_run limit sized z xs) (x ∷ xs)
 
--- a script ends between terms; elsewhere the whole text is only a beginning, and no token is left
+-- a script ends between terms; elsewhere the text ends before its term does, and no token is left
 abbrev pub script_end : ScriptState → Result (List Tree) Fault
 script_end (reading ts (done t)) = Err (misplaced, [])
 script_end (reading ts (inside first fs)) = Err (misplaced, [])

@@ -1,4 +1,4 @@
--- Which terms a text spells as a script, and how a text that is none is refused: as for one term, of any number of terms with a full stop after each.
+-- Which terms a text spells as a script, and how a text that spells none is refused: as for one term, but for any number of terms with a full stop after each.
 -- Depends on the tokens, the grammar, the limits and the kinds of refusal (own).
 use Rattle.std.specs.Prelude.{◌≡◌, ℕ, ◌≤◌, List, [], ◌∷◌, ◌++◌, length, Bool, true, false}
 use Rattle.def_term.specs.Tree.{Tree}
@@ -13,7 +13,7 @@ abbrev pub EachFits : ℕ → Bool → List Tree → Type 0
 EachFits limit sized [] = Unit {0}
 EachFits limit sized (t ∷ ts) = Fits limit sized t × EachFits limit sized ts
 
--- further tokens complete it, to a script of terms within the limits
+-- some further tokens complete it to a script of terms within the limits
 abbrev pub BeginsScript : ℕ → Bool → List Token → Type 0
 BeginsScript limit sized front = (further : List Token) × (ts : List Tree) × DerivesScript (front ++ further) ts × EachFits limit sized ts
 
@@ -21,7 +21,7 @@ BeginsScript limit sized front = (further : List Token) × (ts : List Tree) × D
 abbrev pub BeginsAnyScript : List Token → Type 0
 BeginsAnyScript front = (further : List Token) × (ts : List Tree) × DerivesScript (front ++ further) ts
 
--- which refusal it is after a front that begins a script within the limits: with the next token it begins none even without limits; else none within the depth; else none within the sizes
+-- which refusal it is after a front that begins a script within the limits: 2 where with the next token it begins none even without limits; else 3 where it begins none within the depth; else 4
 abbrev pub ScriptFaultAt : ℕ → List Token → FaultKind → List Token → Type 0
 ScriptFaultAt limit front misplaced [] = (ts : List Tree) → DerivesScript front ts → ⊥
 ScriptFaultAt limit front too_deep [] = ⊥
@@ -42,7 +42,7 @@ pub record SpellsTerms (bytes : List ℕ) (ts : List Tree) : Type 0 where
   pub derives : DerivesScript (tokens_of tokens) ts
   pub fits : EachFits DEPTH true ts
 
--- refused so as a script, at the offset of the first byte of the refused token
+-- the text is refused as a script with this refusal, at the offset of the first byte of the refused token
 pub record ScriptRefused (bytes : List ℕ) (kind : FaultKind) (at : ℕ) : Type 0 where
   pub short : length bytes ≤ LENGTH
   pub front : List TokenSpan

@@ -28,7 +28,7 @@ abbrev pub offset_of : ℕ → List TokenSpan → ℕ
 offset_of end [] = end
 offset_of end (x ∷ xs) = x.from
 
--- refused so at that offset, that of the first byte of the refused token
+-- the text is refused with this refusal, at the offset of the first byte of the refused token
 pub record IsRefusedAt (bytes : List ℕ) (kind : FaultKind) (at : ℕ) : Type 0 where
   pub short : length bytes ≤ LENGTH
   pub front : List TokenSpan

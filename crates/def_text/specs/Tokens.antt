@@ -4,7 +4,7 @@
 use Rattle.std.specs.Prelude.{◌≡◌, ℕ, ℤ, pos, neg_ℤ, ◌+◌, ◌-◌, ◌*◌, ◌<◌, List, [], ◌∷◌, ◌++◌, length, drop, flat_map, Bool, true, false, not, ◌&&◌, ◌||◌, ◌⊎◌, if◌then◌else◌, nat_le, ◌==◌, codes}
 use Rattle.def_term.specs.Text.{is_digit, number_after, is_name, is_name_byte, is_among, reserved_words}
 
--- what stands in a text: punctuation, full stop, integer, atom, string, pid
+-- what a text consists of: punctuation, full stop, integer, atom, string, pid
 pub data Token : Type 0 where
   open_brace : Token
   close_brace : Token
@@ -23,7 +23,7 @@ pub data Token : Type 0 where
 abbrev pub is_blank : ℕ → Bool
 is_blank b = (b == 32) || (b == 9) || (b == 10) || (b == 13)
 
--- how many bytes of blanks and comments stand at the front, inside a comment or not.
+-- how many bytes of blanks and comments are at the front, inside a comment or not.
 -- A comment is `%` and all bytes up to a line feed or the end
 abbrev pub gap_len : Bool → List ℕ → ℕ
 gap_len inside [] = 0
@@ -35,7 +35,7 @@ abbrev pub all_are : (ℕ → Bool) → List ℕ → Bool
 all_are p [] = true
 all_are p (b ∷ bs) = p b && all_are p bs
 
--- the run is over: nothing is left, or another byte
+-- the run ends here: no byte is left, or the next is another
 abbrev pub stops : (ℕ → Bool) → List ℕ → Bool
 stops p [] = true
 stops p (b ∷ bs) = not (p b)
@@ -97,7 +97,7 @@ IsInteger u rest n =
     (stops is_digit rest ≡ true)
     × ((IsDigits u × (n ≡ pos (number u))) ⊎ ((ds : List ℕ) × (u ≡ 45 ∷ ds) × IsDigits ds × (n ≡ neg_ℤ (pos (number ds)))))
 
--- the bytes u, with the rest after them, are this token, the longest that stands there
+-- the bytes u, with the rest after them, are this token, the longest at that place
 abbrev pub IsToken : List ℕ → List ℕ → Token → Type 0
 IsToken u rest open_brace = u ≡ 123 ∷ []
 IsToken u rest close_brace = u ≡ 125 ∷ []
@@ -111,11 +111,11 @@ IsToken u rest (characters s) = IsQuoted 34 u s
 IsToken u rest (pid n) = (ds : List ℕ) × IsPid u ds n
 IsToken u rest bad = ⊥
 
--- at the front of the bytes stands no token
+-- no token is at the front of the bytes
 abbrev pub HasNoToken : List ℕ → Type 0
 HasNoToken bytes = (u rest : List ℕ) (t : Token) → bytes ≡ u ++ rest → IsToken u rest t → ⊥
 
--- a token, or all bytes to the end where no token stands at their front
+-- a token, or all bytes to the end where no token is at their front
 abbrev pub Stands : List ℕ → List ℕ → Token → Type 0
 Stands u rest bad = (rest ≡ []) × (0 < length u) × HasNoToken u
 Stands u rest t = IsToken u rest t

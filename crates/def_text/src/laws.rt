@@ -63,12 +63,12 @@ pub fn a_place_counts_lines_and_bytes()
     ensures one { PlaceIsOne }
 {}
 
-/// One byte on the column is the next, or after a line feed the first of the next line.
+/// One byte later comes the next column, or after a line feed the first column of the next line.
 pub fn one_byte_on()
     ensures { OneByteOn }
 {}
 
-/// A form begins after as many full stops as there are forms before it, the last of which stands right
+/// A form begins after as many full stops as there are forms before it, the last of which is right
 /// before it; and a text's form begins at one offset.
 pub fn a_form_begins_after_full_stops()
     ensures stops { FormIsAfterStops }

@@ -4,7 +4,7 @@ use Rattle.std.specs.Prelude.{◌≡◌, ◌≢◌, ◌<◌, ℕ, List, Some, sl
 use Rattle.def_turns.specs.Slots.{is_slot, all_slots}
 use Rattle.def_turns.specs.Turns.{Turns, times, times_in, IsExclusive, Pushes, Steals, TurnStep, AreSteps, turns_start}
 
--- how often a number is to stand among all slots: once where it is a slot's
+-- how often a number is to be among all slots: once where it is a slot's
 abbrev pub once : ℕ → ℕ
 once x = if is_slot x then 1 else 0
 
@@ -24,7 +24,7 @@ StepsKeepTheRule = (s t : Turns) → IsExclusive s → TurnStep s t → IsExclus
 abbrev pub NoSlotIsLost : Type 0
 NoSlotIsLost = (s t : Turns) (x : ℕ) → TurnStep s t → times_in x t ≡ times_in x s
 
--- whatever steps follow, each slot stands once in the queue or in a view, and nothing else does
+-- whatever steps follow, each slot is once in the queue or in a view, and nothing else is
 abbrev pub EachSlotStaysOnce : Type 0
 EachSlotStaysOnce = (ts : List Turns) → AreSteps turns_start ts → All (λ t. (x : ℕ) → times_in x t ≡ once x) ts
 

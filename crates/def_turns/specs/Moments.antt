@@ -1,4 +1,4 @@
--- What an end may say of one of its calls (own): at one moment in it the turns were such, whatever other ends did before and after.
+-- What an end may say of one of its calls (own): at one moment in it the turns were as it says, whatever other ends did before and after.
 -- The turns are those of no queue that has a name: what a caller learns is what they say of the end's view.
 -- Depends on turns.
 use Rattle.std.specs.Prelude.{◌≡◌, ℕ, List, [], Some, slice_get}

@@ -11,15 +11,15 @@ pub record Turns : Type 0 where
   pub queue : List ℕ
   pub views : List (List ℕ)
 
--- how often a slot stands in a list
+-- how often a slot is in a list
 abbrev pub times : ℕ → List ℕ → ℕ
 times x xs = count_by (λ y. nat_eq y x) xs
 
--- how often a slot stands in the queue and in all views
+-- how often a slot is in the queue and in all views
 abbrev pub times_in : ℕ → Turns → ℕ
 times_in x s = times x s.queue + sum_by (λ v. times x v) s.views
 
--- the rule: no slot stands twice in the queue, in the queue and a view, or in two views
+-- the rule: no slot is twice in the queue, in the queue and a view, or in two views
 abbrev pub IsExclusive : Turns → Type 0
 IsExclusive s = (x : ℕ) → times_in x s ≤ 1
 

@@ -1,6 +1,6 @@
 //! What turns are: slots, the run queue, the ends that hold slots, and the steps push and steal.
 //!
-//! Depends on the pids of terms. Promises, as laws, that each step keeps the rule that no slot stands twice
+//! Depends on the pids of terms. Promises, as laws, that each step keeps the rule that no slot is twice
 //! in the queue and the views, that none is lost, that no slot is held by two ends, and that a step changes
 //! no view but its own end's. All else is definition, for the crates above.
 #![tactic(auto)]
@@ -14,14 +14,14 @@ pub fn each_slot_is_there_once()
     ensures { EachSlotIsThereOnce }
 {}
 
-/// No slot stands twice, in the queue, in the queue and a view, or in two views: at first, and after each
+/// No slot is twice in the queue, in the queue and a view, or in two views: at first, and after each
 /// step.
 pub fn the_rule_is_kept()
     ensures opening { OpeningIsExclusive }
     ensures step { StepsKeepTheRule }
 {}
 
-/// A step neither loses a slot nor makes one. So whatever steps follow, each slot stands once in the queue
+/// A step neither loses a slot nor makes one. So whatever steps follow, each slot is once in the queue
 /// or in a view.
 pub fn no_slot_is_lost()
     ensures step { NoSlotIsLost }

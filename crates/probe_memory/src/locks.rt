@@ -1,6 +1,6 @@
 // Steps under a lock by two seats, and the output of the closed lock.
 ghost use Rattle.std.specs.Prelude.{◌≡◌, []};
-ghost use Rattle.tn_trace.specs.Cores.{IsCore};
+ghost use Rattle.tn_trace.specs.Cores.{core_of};
 
 use crate::says::{fault_name, print_bytes, say};
 use crate::scripts::{Inputs, program_or_say};
@@ -111,7 +111,7 @@ fn steps_of_a_lock<J: JournalName, R: Print + Wait>(
     core: Core<Global>,
     new_log: NewLog,
 )
-    requires core { IsCore J.program [] core }
+    requires core { core ≡ core_of J.program [] }
     requires named { new_log ≡ J.log }
 {
     let alloc = inputs.alloc;

@@ -1,6 +1,6 @@
 // One worker over a script: its report, and the close of its lock.
 ghost use Rattle.std.specs.Prelude.{◌≡◌, []};
-ghost use Rattle.tn_trace.specs.Cores.{IsCore};
+ghost use Rattle.tn_trace.specs.Cores.{core_of};
 
 use crate::locks::{LINES, say_close};
 use crate::runs::TURNS;
@@ -53,7 +53,7 @@ fn report_of_one<J: JournalName + Send + Sync, R: Print + Threads + Wait + Sync>
     core: Core<Global>,
     new_log: NewLog,
 )
-    requires core { IsCore J.program [] core }
+    requires core { core ≡ core_of J.program [] }
     requires named { new_log ≡ J.log }
 {
     let sessions = core.program().session_count();
@@ -88,7 +88,7 @@ fn lines_of_one<J: JournalName + Send + Sync, R: Print + Threads + Wait + Sync>(
     core: Core<Global>,
     new_log: NewLog,
 )
-    requires core { IsCore J.program [] core }
+    requires core { core ≡ core_of J.program [] }
     requires named { new_log ≡ J.log }
 {
     let sessions = core.program().session_count();

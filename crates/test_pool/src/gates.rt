@@ -1,6 +1,6 @@
 // What a gate is told, and when: a step is answered before the gate hears of it.
 ghost use Rattle.std.specs.Prelude.{◌≡◌, []};
-ghost use Rattle.tn_trace.specs.Cores.{IsCore};
+ghost use Rattle.tn_trace.specs.Cores.{core_of};
 
 use crate::workers::senders;
 use std::alloc::Global;
@@ -95,7 +95,7 @@ fn two_workers<J: JournalName + Send + Sync, R: Threads + Abort + Wait + Sync>(
     core: Core<Global>,
     new_log: NewLog,
 ) -> Result<(), Fail>
-    requires core { IsCore J.program [] core }
+    requires core { core ≡ core_of J.program [] }
     requires named { new_log ≡ J.log }
 {
     let (live, seats) = Live::<Global, J>::begin(alloc, core, new_log, 2)?;

@@ -1,6 +1,6 @@
 // The board: lines that are put and lent, and the output with and without them.
 ghost use Rattle.std.specs.Prelude.{◌≡◌, []};
-ghost use Rattle.tn_trace.specs.Cores.{IsCore};
+ghost use Rattle.tn_trace.specs.Cores.{core_of};
 
 use std::alloc::Global;
 use std::marker::Brand;
@@ -154,7 +154,7 @@ fn check_boards<J: JournalName, R: Wait + Abort>(
     new_log: NewLog,
     other: u64,
 ) -> Result<(), Fail>
-    requires core { IsCore J.program [] core }
+    requires core { core ≡ core_of J.program [] }
     requires named { new_log ≡ J.log }
 {
     let (live, mut seats) = Live::<Global, J>::begin(alloc, core, new_log, 1)?;

@@ -1,7 +1,7 @@
 // The lock by two seats in turn: what their steps answer, and the journal, the listings and the receipts
 // that it closes with.
 ghost use Rattle.std.specs.Prelude.{◌≡◌, []};
-ghost use Rattle.tn_trace.specs.Cores.{IsCore};
+ghost use Rattle.tn_trace.specs.Cores.{core_of};
 
 use std::alloc::Global;
 use std::marker::Brand;
@@ -138,7 +138,7 @@ fn spawns_by_two<J: JournalName, R: Wait + Abort>(
     core: Core<Global>,
     new_log: NewLog,
 ) -> Result<(), Fail>
-    requires core { IsCore J.program [] core }
+    requires core { core ≡ core_of J.program [] }
     requires named { new_log ≡ J.log }
 {
     let (live, mut seats) = Live::<Global, J>::begin(alloc, core, new_log, 2)?;
@@ -189,7 +189,7 @@ fn closed_twice<J: JournalName, R: Wait + Abort>(
     core: Core<Global>,
     new_log: NewLog,
 ) -> Result<(), Fail>
-    requires core { IsCore J.program [] core }
+    requires core { core ≡ core_of J.program [] }
     requires named { new_log ≡ J.log }
 {
     let (live, mut seats) = Live::<Global, J>::begin(alloc, core, new_log, 2)?;
@@ -244,7 +244,7 @@ fn seats_that_fit<J: JournalName, R: Abort>(
     core: Core<Global>,
     new_log: NewLog,
 ) -> Result<(), Fail>
-    requires core { IsCore J.program [] core }
+    requires core { core ≡ core_of J.program [] }
     requires named { new_log ≡ J.log }
 {
     let (mut book, mut seats) = Book::<Global, J>::begin(alloc, core, new_log, 2)?;

@@ -1,7 +1,7 @@
 // Each growth refused in turn, over the steps of a lock with two seats: what is answered, what the seats have
 // seen, and that the lock is spent from then on.
 ghost use Rattle.std.specs.Prelude.{◌≡◌, []};
-ghost use Rattle.tn_trace.specs.Cores.{IsCore};
+ghost use Rattle.tn_trace.specs.Cores.{core_of};
 
 use crate::lock::SPAWNS;
 use std::alloc::Allocator;
@@ -97,7 +97,7 @@ fn steps_of_a_lock<A: Allocator + Copy, J: JournalName, R: Wait + Abort>(
     core: Core<A>,
     new_log: NewLog,
 )
-    requires core { IsCore J.program [] core }
+    requires core { core ≡ core_of J.program [] }
     requires named { new_log ≡ J.log }
 {
     let Ok((live, mut seats)) = Live::<A, J>::begin(alloc, core, new_log, 2) else {

@@ -1,6 +1,6 @@
 // One worker over the script of two senders and a receiver: its receipts, and the journal that closes.
 ghost use Rattle.std.specs.Prelude.{◌≡◌, []};
-ghost use Rattle.tn_trace.specs.Cores.{IsCore};
+ghost use Rattle.tn_trace.specs.Cores.{core_of};
 
 use std::alloc::Global;
 use std::marker::{Brand, Send, Sync};
@@ -72,7 +72,7 @@ fn lone_worker<J: JournalName + Send + Sync, R: Threads + Abort + Wait + Sync>(
     core: Core<Global>,
     new_log: NewLog,
 ) -> Result<(), Fail>
-    requires core { IsCore J.program [] core }
+    requires core { core ≡ core_of J.program [] }
     requires named { new_log ≡ J.log }
 {
     let (live, seats) = Live::<Global, J>::begin(alloc, core, new_log, 1)?;

@@ -172,11 +172,23 @@ module _ (d : ex.Dialect) (b : Bindings) (c : ex.Context) where
   pub condition_value : (e : Expr) (o : Option Tree) (old new : List Effect) → or_fault o new ≡ evaluation d ex.in_condition b c e old → ex.value d ex.in_condition b c e ≡ o
   condition_value e o old new is = sym (of-any d b c e old) ∙ sym (ap its_value is) ∙ answered_value o new
 
-  pub each_stops : (all : Exprs) (e : Expr) (es : Exprs) (v : Option Tree) → all ≡ and_expr e es → ex.value d ex.in_condition b c e ≡ v → is_true_value v ≡ false → false ≡ each_true d b c all
-  each_stops all e es v a is h = sym (ap (each_true d b c) a ∙ ap (λ w. is_true_value w && each_true d b c es) is ∙ ap (λ q. q && each_true d b c es) h)
+  first_or_rest : (q known : Bool) (r : Evaluation Tree) (y : List Effect) → is_true_value (its_value r) ≡ known → is_true_value (its_value (if q then r else comes_to (truth false) y)) ≡ (q && known)
+  first_or_rest true known r y is = is
+  first_or_rest false known r y is = refl
 
-  pub each_goes_on : (all : Exprs) (e : Expr) (es : Exprs) (t : Tree) → all ≡ and_expr e es → ex.value d ex.in_condition b c e ≡ Some t → is_true t ≡ true → each_true d b c es ≡ each_true d b c all
-  each_goes_on all e es t a is h = sym (ap (each_true d b c) a ∙ ap (λ w. is_true_value w && each_true d b c es) is ∙ ap (λ q. q && each_true d b c es) h)
+  first_then_rest : (r : Evaluation Tree) (v : Option Tree) (es : Exprs) → its_value r ≡ v → ((y : List Effect) → is_true_value (its_value (ex.evaluation_while_true d ex.in_condition b c es y)) ≡ each_true d b c es)
+      → is_true_value (its_value (then_on r (λ t y. if is_true t then ex.evaluation_while_true d ex.in_condition b c es y else comes_to (truth false) y))) ≡ (is_true_value v && each_true d b c es)
+  first_then_rest (faults y) v es is rest = ap (λ w. is_true_value w && each_true d b c es) is
+  first_then_rest (comes_to t y) v es is rest =
+      first_or_rest (is_true t) (each_true d b c es) (ex.evaluation_while_true d ex.in_condition b c es y) y (rest y) ∙ ap (λ w. is_true_value w && each_true d b c es) is
+
+  -- whether `andalso` of conditions is true, whatever effects there are
+  while_each_true : (es : Exprs) (old : List Effect) → is_true_value (its_value (ex.evaluation_while_true d ex.in_condition b c es old)) ≡ each_true d b c es
+  while_each_true no_exprs old = refl
+  while_each_true (and_expr e es) old = first_then_rest (ex.evaluation d ex.in_condition b c e old) (ex.value d ex.in_condition b c e) es (of-any d b c e old) (λ y. while_each_true es y)
+
+  pub each_true_from : (es : Exprs) (o : Option Tree) (old new : List Effect) → or_fault o new ≡ ex.evaluation_while_true d ex.in_condition b c es old → is_true_value o ≡ each_true d b c es
+  each_true_from es o old new is = sym (ap is_true_value (answered_value o new)) ∙ ap (λ r. is_true_value (its_value r)) is ∙ while_each_true es old
 
 -- ---- clauses
 

@@ -9,7 +9,7 @@ ghost use Rattle.tn_action.specs.Views.{effect_seen, outcome_seen};
 use crate::context::Context;
 use crate::effect::{Effect, Outcome};
 use crate::eval_context::{EvalContext, Position};
-use crate::values::value;
+use crate::values::{all_in_turn, value};
 use bumpalo::Bump;
 use std::alloc::{AllocError, Allocator};
 use tn_head::bind;
@@ -76,7 +76,7 @@ fn clause_effects<'a, A: Allocator + Copy>(
     }
 }
 
-/// Whether each condition is `true`.
+/// Whether each condition is `true`: whether `andalso` of them is.
 fn each_true<'a, A: Allocator + Copy>(
     conditions: &'a Vec<Expr<A>, A>,
     scene: &EvalContext<'a, '_, A>,
@@ -88,17 +88,10 @@ fn each_true<'a, A: Allocator + Copy>(
         ..*scene
     };
     let mut effects = Vec::new(scene.alloc);
-    for i in 0..conditions.len() {
-        match value(&conditions[i], &in_condition, &mut effects)? {
-            Some(part) => {
-                if !part.is_true() {
-                    return Ok(false);
-                }
-            }
-            None => return Ok(false),
-        }
+    match all_in_turn(conditions, &in_condition, &mut effects)? {
+        Some(last) => Ok(last.is_true()),
+        None => Ok(false),
     }
-    Ok(true)
 }
 
 /// The effects of a body, up to a fault. An error is refused memory.

@@ -124,7 +124,7 @@ fn values<'a, A: Allocator + Copy>(
 
 /// `andalso`: stops at the first that isn't `true`.
 #[cycle(value)]
-fn all_in_turn<'a, A: Allocator + Copy>(
+pub fn all_in_turn<'a, A: Allocator + Copy>(
     exprs: &'a Vec<Expr<A>, A>,
     scene: &EvalContext<'a, '_, A>,
     effects: &mut Vec<Effect<A>, A>,

@@ -1,5 +1,5 @@
 -- What was written is what the status says.
-use Rattle.std.proofs.Common.{◌≡◌, ◌∙◌, ◌⊎◌, inl, inr, ℕ, Bool, true, false, if◌then◌else◌, List, Option, Result, Ok, Err, IfOk, IfErr, refl, sym, ap, arith}
+use Rattle.std.proofs.Common.{◌≡◌, ◌∙◌, ◌⊎◌, inl, inr, ℕ, Bool, true, false, if◌then◌else◌, List, Option, Result, Ok, Err, IfOk, refl, sym, arith}
 use Rattle.tn_text.specs.Watch.{has_failed}
 use Rattle.tn_text.specs.declared.watched.Watched.{Watched}
 use Rattle.tn_run.specs.Jobs.{Meets, FailedEnd, JobView, Writes, no_end_failed, reader_failed, writer_failed}

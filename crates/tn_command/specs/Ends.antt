@@ -1,5 +1,6 @@
 -- What a reader or a writer keeps of its calls (own).
 use Rattle.std.specs.Prelude.{◌≡◌, ℕ, List, ◌++◌, take, Option, Some, Result, Ok, Err, MatchResult}
+use Rattle.std.specs.declared.io.Error.{Error}
 use Rattle.std.specs.Io.KnownBytes.{ReadConsumes, WriteAppends}
 use Rattle.tn_command.specs.declared.last_error.LastError.{LastError}
 use Rattle.tn_command.specs.declared.tee.Tee.{Tee}
@@ -7,6 +8,10 @@ use Rattle.tn_command.specs.declared.tee.Tee.{Tee}
 -- the reader or writer inside
 abbrev pub last_error_inner : {T : Type 0} → LastError T → T
 last_error_inner n = n.inner
+
+-- the error of the last call that failed
+abbrev pub last_error_of : {T : Type 0} → LastError T → Option Error
+last_error_of n = n.error
 
 -- the error of a call that failed, or else the one that was kept before it
 abbrev pub latest : {X E : Type 0} → Result X E → Option E → Option E

@@ -1,5 +1,6 @@
 pub mod Ends
 pub mod Numbers
+pub mod PickTexts
 pub mod Sources
 pub mod Status
 pub mod SpecTests

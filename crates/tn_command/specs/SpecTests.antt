@@ -1,14 +1,15 @@
 -- The exit status of a trial, and what it writes (own).
-use Rattle.std.specs.Prelude.{◌≡◌, ℕ, List, Option, Result, Ok, Err}
+use Rattle.std.specs.Prelude.{◌≡◌, ℕ, true, List, Option, Result, Ok, Err, IfErr, OnOk}
 use Rattle.std.specs.Io.KnownBytes.{Appends}
 use Rattle.std.specs.Process.{exit_status}
 use Rattle.std.specs.declared.process.ExitCode.{ExitCode}
-use Rattle.tn_text.specs.Watch.{watched_inner}
+use Rattle.tn_text.specs.Watch.{watched_inner, has_failed, is_flushed}
 use Rattle.tn_text.specs.declared.watched.Watched.{Watched}
 use Rattle.tn_verdict.specs.SpecTestInputs.{IsAnswerTo, IsNoAnswer}
 use Rattle.tn_verdict.specs.declared.spec_test_input.SpecTestInput.{SpecTestInput}
 use Rattle.tn_verdict.specs.declared.spec_test_input.SpecTestFault.{SpecTestFault}
 use Rattle.tn_verdict.specs.declared.spec_test_input.SpecTestFault.TheVariants.{OutOfMemory}
+use Rattle.tn_run.specs.Ends.{WroteAll, WroteFront}
 use Rattle.tn_command.specs.Status.{LISTED_STATUS, REFUSED_STATUS, FAULT_STATUS}
 use Rattle.tn_command.specs.declared.spec_test.SpecTestRunFault.{SpecTestRunFault}
 use Rattle.tn_command.specs.declared.spec_test.SpecTestRunFault.TheVariants as faults
@@ -25,6 +26,25 @@ pub record IsTriedAs {A : Type 0} (n : ℕ) (q : SpecTestInput) (old new : Optio
   pub listed : n ≡ LISTED_STATUS → (text : List ℕ) × IsAnswerTo q text × Appends old new text
   pub refused : n ≡ REFUSED_STATUS → (new ≡ old) × (f : SpecTestFault A) × (r ≡ Err (faults.SpecTestInput f)) × IsNoAnswer q f
 
+-- 0 only where the question has an answer
+abbrev pub HasAnswerIfListed : SpecTestInput → ℕ → Type 0
+HasAnswerIfListed q n = n ≡ LISTED_STATUS → (text : List ℕ) × IsAnswerTo q text
+
 -- the same of a watched writer, with the function that tells the known bytes of what is watched
 abbrev pub TriedAs : {A W : Type 0} → ExitCode → SpecTestInput → (W → Option (List ℕ)) → (old new : Watched W) → Result Unit (SpecTestRunFault A) → Type 0
 TriedAs status q gained old new r = IsTriedAs (exit_status status) q (gained (watched_inner old)) (gained (watched_inner new)) r
+
+-- ---- with what it does to the writer
+
+-- nothing was written, for the fault of the first text that isn't what it should be; or the writer failed, and had
+-- taken a front of the answer
+abbrev pub IsSpecTestEnd : {A W : Type 0} → SpecTestInput → (W → Option (List ℕ)) → (old new : Watched W) → SpecTestRunFault A → Type 0
+IsSpecTestEnd q gained old new (faults.SpecTestInput f) = IsNoAnswer q f × (new ≡ old)
+IsSpecTestEnd q gained old new (faults.Run f) = (has_failed new ≡ true) × (text : List ℕ) × IsAnswerTo q text × WroteFront gained old new text f
+
+-- the whole answer was written and flushed, or a fault says why not
+pub record MeetsSpecTest {A W : Type 0} (q : SpecTestInput) (gained : W → Option (List ℕ)) (old new : Watched W) (r : Result Unit (SpecTestRunFault A)) : Type 0 where
+  pub written : OnOk r ((text : List ℕ) × IsAnswerTo q text × WroteAll gained old new text)
+  pub flushed : OnOk r (is_flushed new ≡ true)
+  pub unfailed : OnOk r (has_failed new ≡ has_failed old)
+  pub fault : IfErr r (IsSpecTestEnd q gained old new)

@@ -1,8 +1,8 @@
 // A reader or a writer that keeps why a call of it failed.
-ghost use Rattle.std.specs.Prelude.{◌≡◌};
+ghost use Rattle.std.specs.Prelude.{◌≡◌, None};
 ghost use Rattle.std.specs.Io.{ReadsAtMost, WritesAtMost};
 ghost use Rattle.std.specs.Io.KnownBytes.{Keeps};
-ghost use Rattle.tn_command.specs.Ends.{ReadsInside, WritesInside, last_error_inner, latest};
+ghost use Rattle.tn_command.specs.Ends.{ReadsInside, WritesInside, last_error_inner, last_error_of, latest};
 
 use std::io::{Error, Read, Result, Write};
 
@@ -17,7 +17,8 @@ pub struct LastError<T> {
 impl<T> LastError<T> {
     /// None of its calls has failed yet.
     pub fn of(inner: T) -> Self
-        ensures { last_error_inner result ≡ inner }
+        ensures inner { last_error_inner result ≡ inner }
+        ensures none { last_error_of result ≡ None }
     {
         LastError { inner, error: None }
     }
@@ -25,7 +26,7 @@ impl<T> LastError<T> {
     /// Keeps the error of a call that failed.
     fn keep<X>(&mut self, answer: &Result<X>)
         ensures inner { last_error_inner self.new ≡ last_error_inner self.old }
-        ensures kept { self.new.error ≡ latest answer.now self.old.error }
+        ensures kept { last_error_of self.new ≡ latest answer.now (last_error_of self.old) }
     {
         if let Err(error) = answer {
             self.error = Some(*error);
@@ -34,7 +35,8 @@ impl<T> LastError<T> {
 
     /// The reader or writer itself, and the error that was kept.
     pub fn into_parts(self) -> (T, Option<Error>)
-        ensures { result.0 ≡ last_error_inner self }
+        ensures inner { result.0 ≡ last_error_inner self }
+        ensures error { result.1 ≡ last_error_of self }
     {
         let LastError { inner, error } = self;
         (inner, error)
@@ -47,7 +49,7 @@ impl<R: Read> Read for LastError<R> {
     fn read(&mut self, buf: &mut [u8]) -> Result<usize>
         ensures bound { ReadsAtMost result buf.new }
         ensures bytes { ReadsInside R.remaining last_error_inner self.old self.new result buf.new }
-        ensures kept { self.new.error ≡ latest result self.old.error }
+        ensures kept { last_error_of self.new ≡ latest result (last_error_of self.old) }
     {
         let result = self.inner.read(buf);
         self.keep(&result);
@@ -61,7 +63,7 @@ impl<W: Write> Write for LastError<W> {
     fn write(&mut self, buf: &[u8]) -> Result<usize>
         ensures bound { WritesAtMost result buf.now }
         ensures bytes { WritesInside W.contents last_error_inner self.old self.new result buf.now }
-        ensures kept { self.new.error ≡ latest result self.old.error }
+        ensures kept { last_error_of self.new ≡ latest result (last_error_of self.old) }
     {
         let result = self.inner.write(buf);
         self.keep(&result);
@@ -70,7 +72,7 @@ impl<W: Write> Write for LastError<W> {
 
     fn flush(&mut self) -> Result<()>
         ensures bytes { Keeps (W.contents (last_error_inner self.old)) (W.contents (last_error_inner self.new)) }
-        ensures kept { self.new.error ≡ latest result self.old.error }
+        ensures kept { last_error_of self.new ≡ latest result (last_error_of self.old) }
     {
         let result = self.inner.flush();
         self.keep(&result);

@@ -2,9 +2,11 @@
 //! input or a file, to standard output, and its exit status.
 //!
 //! Depends on tn_run, which promises what is written, and on tn_refusal, which promises the line of a refusal.
-//! Promises of each job that the status is that of its answer, 0 for what was asked for, 2 for a refusal and 3
-//! for a fault, and that what was written is what the status says. A refusal or a fault has one line on standard error:
-//! how the text can be fixed, or what failed. So it is with an explained run and the trial of one specification.
+//! Promises of each job that it is done as tn_run says, that the status is that of its answer, 0 for what was asked
+//! for, 2 for a refusal and 3 for a fault, and that what was written is what the status says; so it is with an
+//! explained run and the trial of one specification. Promises of a text of picks that it is what the reader holds,
+//! without a line feed at its end. A refusal or a fault has one line on standard error: how the text can be fixed, or
+//! what failed.
 #![tactic(auto)]
 
 mod command;
@@ -24,7 +26,7 @@ pub use command::Command;
 pub use jobs::{perform, perform_over};
 pub use last_error::LastError;
 pub use number::plain_number;
-pub use picks::picks_of;
+pub use picks::{picks_of, picks_over};
 pub use source::{Source, source_of};
 pub use spec_test::{SpecTestRunFault, test_spec, test_spec_over};
 pub use status::{FAULT, JobEnd, REFUSED, report};

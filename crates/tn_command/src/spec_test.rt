@@ -2,7 +2,7 @@
 ghost use Rattle.std.specs.Prelude.{◌≡◌};
 ghost use Rattle.std.specs.Process.{exit_status};
 ghost use Rattle.tn_command.specs.Status.{IsStatus, OnFaultUntouchedOrFailed};
-ghost use Rattle.tn_command.specs.SpecTests.{spec_test_status_of, TriedAs};
+ghost use Rattle.tn_command.specs.SpecTests.{HasAnswerIfListed, MeetsSpecTest, TriedAs, spec_test_status_of};
 
 use crate::last_error::LastError;
 use crate::status::{FAULT, JobEnd, REFUSED};
@@ -51,6 +51,7 @@ pub fn test_spec_over<A: Allocator + Copy, W: Write>(
     ensures failed { OnFaultUntouchedOrFailed result.status writer.old writer.new }
     ensures status { IsStatus (exit_status result.status) }
     ensures answer { exit_status result.status ≡ spec_test_status_of result.answer }
+    ensures done { MeetsSpecTest question.now W.contents writer.old writer.new result.answer }
 {
     let text = match answer(alloc, question) {
         Ok(text) => text,
@@ -112,7 +113,8 @@ fn tell_question<A: Allocator>(
 
 /// Answers the question on standard output.
 pub fn test_spec<R: Print + Eprint + AllocGlobal>(rt: &R, question: &SpecTestInput<'_>) -> ExitCode
-    ensures { IsStatus (exit_status result) }
+    ensures status { IsStatus (exit_status result) }
+    ensures listed { HasAnswerIfListed question.now (exit_status result) }
 {
     let mut writer = Watched::of(LastError::of(io::writer(rt)));
     let JobEnd { status, answer } = test_spec_over(rt.alloc(), &mut writer, question);

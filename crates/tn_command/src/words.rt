@@ -1,7 +1,7 @@
 // The words of the command line.
-ghost use Rattle.std.specs.Prelude.{IfErr};
+ghost use Rattle.std.specs.Prelude.{◌≡◌, IfErr};
 ghost use Rattle.std.specs.Process.{exit_status};
-ghost use Rattle.tn_command.specs.Status.{IsFailure};
+ghost use Rattle.tn_command.specs.Status.{FAULT_STATUS};
 
 use crate::status::report;
 use std::alloc::{AllocError, Global};
@@ -50,7 +50,7 @@ fn words(rt: &impl Env, alloc: Global) -> Result<Vec<String>, AllocError> {
 ///
 /// The status of a fault, after its line on standard error, where memory was refused.
 pub fn arguments<R: Env + Eprint + AllocGlobal>(rt: &R) -> Result<Vec<String>, ExitCode>
-    ensures { IfErr result (λ status. IsFailure (exit_status status)) }
+    ensures { IfErr result (λ status. exit_status status ≡ FAULT_STATUS) }
 {
     match words(rt, rt.alloc()) {
         Ok(words) => Ok(words),

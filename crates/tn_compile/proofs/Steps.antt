@@ -1,13 +1,13 @@
 -- The code of expressions, from the last one to the first.
-use Rattle.std.proofs.Common.{false, if◌then◌else◌, ◌&&◌, ◌==◌, ◌≡◌, ℕ, zero, suc, ◌+◌, ◌-◌, ◌<◌, ◌≤◌, List, [], ◌∷◌, ◌++◌, length, drop, refl, sym, ap, ◌∙◌, arith, true, get_or, reverse, append_assoc}
+use Rattle.std.proofs.Common.{false, if◌then◌else◌, ◌&&◌, ◌==◌, ◌≡◌, ℕ, zero, suc, ◌+◌, ◌-◌, ◌<◌, ◌≤◌, List, [], ◌∷◌, ◌++◌, length, drop, refl, sym, ap, ◌∙◌, arith, true, get_or, reverse, append_assoc, Bool, not}
 use Rattle.std.proofs.lemmas.Bool.{ne_eqb}
 use Rattle.std.proofs.lemmas.List.{drop_more, length-map, length-reverse}
 use Rattle.std.specs.declared.vec.Vec.{Vec}
 use Rattle.def_spec.specs.Functions.{truth}
 use Rattle.def_spec.specs.Expressions as ex
-use Rattle.def_spec.specs.Expressions.{Exprs, no_exprs, and_expr}
+use Rattle.def_spec.specs.Expressions.{Exprs, and_expr}
 use Rattle.def_spec.specs.Functions.{Func}
-use Rattle.def_machine.specs.Instructions.{kind_tuple, kind_list, OnFault, Instruction, load_constant, load_own_pid, test_equal, jump, build, apply_function, perform_action, change_flags, gives_exit}
+use Rattle.def_machine.specs.Instructions.{kind_tuple, kind_list, OnFault, Instruction, load_constant, load_own_pid, build, apply_function, perform_action, change_flags, gives_exit}
 use Rattle.def_machine.specs.Compilation.{VariableRegisters, register_of, registers_of, call_code, is_on_self, action_code}
 use Rattle.tn_spec.specs.Sizes.{expr_size, exprs_size}
 use Rattle.tn_spec.specs.Views.{dialect_of, expr_seen, exprs_seen}
@@ -17,7 +17,7 @@ use Rattle.tn_code.specs.declared.instr.Instr.{Instr}
 use Rattle.tn_compile.specs.Views.{code_left, variables_seen, part_of, fault_in, fault_emitted}
 use Rattle.tn_compile.specs.declared.emit_context.Position.{Position}
 use Rattle.tn_compile.specs.declared.emit_context.Position.TheVariants.{Condition, Body}
-use Rattle.tn_compile.specs.Emissions.{expr_emitted, exprs_emitted, while_emitted, until_emitted, is_trace}
+use Rattle.tn_compile.specs.Emissions.{expr_emitted, exprs_emitted, short_circuit, tests_emitted, test_emitted, is_trace}
 use Rattle.tn_compile.specs.declared.emit_context.EmitContext.{EmitContext}
 
 pub exprs_here : {A : Type 0} (es : List (Expr A)) (i : ℕ) (e : Expr A) → i < length es → e ≡ get_or es i e → exprs_seen (drop i es) ≡ and_expr (expr_seen e) (exprs_seen (drop (i + 1) es))
@@ -158,41 +158,35 @@ module _ (s : EmitContext) where
         load ∙ ap (λ x. load_own_pid free ∷ x) (after ∙ ap (exprs_emitted s es (free + 1)) before ∙ ap (λ q. exprs_emitted s es q (action_code (dialect_of s.dialect) a free (free ∷ registers_of (variables_seen s.variables.now) es (suc free)) ∷ k)) n)
         ∙ sym (ap (λ q. if q then with_pid else alone) is)
 
-  pub and-emitted : (es : Exprs) (free end : ℕ) (k a b new : List Instruction) → end ≡ length k → a ≡ load_constant free (truth true) ∷ k → b ≡ while_emitted s es (free + 1) end a → new ≡ load_constant free (truth false) ∷ b → new ≡ expr_emitted s (ex.and_also es) free k
-  and-emitted es free end k a b new is one two three =
-      let n : free + 1 ≡ suc free = omega arith in
-      three ∙ ap (λ x. load_constant free (truth false) ∷ x)
-      (two ∙ ap (while_emitted s es (free + 1) end) one ∙ ap (λ q. while_emitted s es q end (load_constant free (truth true) ∷ k)) n ∙ ap (λ q. while_emitted s es (suc free) q (load_constant free (truth true) ∷ k)) is)
+  short-circuit-is : (stops : Bool) (es : Exprs) (free : ℕ) (k : List Instruction) → load_constant free (truth stops) ∷ tests_emitted s stops es (suc free) (length k) (load_constant free (truth (not stops)) ∷ k) ≡ expr_emitted s (short_circuit stops es) free k
+  short-circuit-is true es free k = refl
+  short-circuit-is false es free k = refl
 
-  pub or-emitted : (es : Exprs) (free end : ℕ) (k a b new : List Instruction) → end ≡ length k → a ≡ load_constant free (truth false) ∷ k → b ≡ until_emitted s es (free + 1) end a → new ≡ load_constant free (truth true) ∷ b → new ≡ expr_emitted s (ex.or_else es) free k
-  or-emitted es free end k a b new is one two three =
+  pub short-circuit-emitted : (stops : Bool) (es : Exprs) (free end : ℕ) (k a b new : List Instruction) → end ≡ length k → a ≡ load_constant free (truth (not stops)) ∷ k → b ≡ tests_emitted s stops es (free + 1) end a → new ≡ load_constant free (truth stops) ∷ b → new ≡ expr_emitted s (short_circuit stops es) free k
+  short-circuit-emitted stops es free end k a b new is one two three =
       let n : free + 1 ≡ suc free = omega arith in
-      three ∙ ap (λ x. load_constant free (truth true) ∷ x)
-      (two ∙ ap (until_emitted s es (free + 1) end) one ∙ ap (λ q. until_emitted s es q end (load_constant free (truth false) ∷ k)) n ∙ ap (λ q. until_emitted s es (suc free) q (load_constant free (truth false) ∷ k)) is)
+      three ∙ ap (λ x. load_constant free (truth stops) ∷ x)
+      (two ∙ ap (tests_emitted s stops es (free + 1) end) one ∙ ap (λ q. tests_emitted s stops es q end (load_constant free (truth (not stops)) ∷ k)) n ∙ ap (λ q. tests_emitted s stops es (suc free) q (load_constant free (truth (not stops)) ∷ k)) is)
+      ∙ short-circuit-is stops es free k
 
   pub exprs-more : (es rest : Exprs) (e : ex.Expr) (free i j : ℕ) (k old new : List Instruction) → i ≡ j + 1 → es ≡ and_expr e rest → old ≡ exprs_emitted s rest (free + i) k → new ≡ expr_emitted s e (free + j) old → new ≡ exprs_emitted s es (free + j) k
   exprs-more es rest e free i j k old new n is before after =
       let m : free + i ≡ suc (free + j) = omega (arith, n) in
       after ∙ ap (expr_emitted s e (free + j)) (before ∙ ap (λ q. exprs_emitted s rest q k) m) ∙ sym (ap (λ y. exprs_emitted s y (free + j) k) is)
 
-  pub while-more : (es rest : Exprs) (e : ex.Expr) (free end left place : ℕ) (k old tested loaded new : List Instruction) → es ≡ and_expr e rest → old ≡ while_emitted s rest free end k → left ≡ register_of (variables_seen s.variables.now) e free → place ≡ length old - end → tested ≡ test_equal left (free + 1) place ∷ old → loaded ≡ load_constant (free + 1) (truth true) ∷ tested → new ≡ expr_emitted s e free loaded → new ≡ while_emitted s es free end k
-  while-more es rest e free end left place k old tested loaded new is before at there t l after =
-      let n : free + 1 ≡ suc free = omega arith in
-      let v : VariableRegisters = variables_seen s.variables.now in
-      after
-      ∙ ap (expr_emitted s e free)
-      (l ∙ ap (λ x. load_constant (free + 1) (truth true) ∷ x) (t ∙ ap (λ q. test_equal left (free + 1) q ∷ old) there ∙ ap (λ q. test_equal q (free + 1) (length old - end) ∷ old) at)
-      ∙ ap (λ q. load_constant q (truth true) ∷ test_equal (register_of v e free) q (length old - end) ∷ old) n
-      ∙ ap (λ x. load_constant (suc free) (truth true) ∷ test_equal (register_of v e free) (suc free) (length x - end) ∷ x) before)
-      ∙ sym (ap (λ y. while_emitted s y free end k) is)
+  tests-first : (stops : Bool) (e : ex.Expr) (rest : Exprs) (free end : ℕ) (k : List Instruction) → let left = tests_emitted s stops rest free end k in
+      expr_emitted s e free (load_constant (suc free) (truth true) ∷ test_emitted stops (register_of (variables_seen s.variables.now) e free) (suc free) (length left - end) left) ≡ tests_emitted s stops (and_expr e rest) free end k
+  tests-first true e rest free end k = refl
+  tests-first false e rest free end k = refl
 
-  pub until-more : (es rest : Exprs) (e : ex.Expr) (free end left place : ℕ) (k old jumped tested loaded new : List Instruction) → es ≡ and_expr e rest → old ≡ until_emitted s rest free end k → left ≡ register_of (variables_seen s.variables.now) e free → place ≡ length old - end → jumped ≡ jump place ∷ old → tested ≡ test_equal left (free + 1) 1 ∷ jumped → loaded ≡ load_constant (free + 1) (truth true) ∷ tested → new ≡ expr_emitted s e free loaded → new ≡ until_emitted s es free end k
-  until-more es rest e free end left place k old jumped tested loaded new is before at there j t l after =
+  pub tests-more : (stops : Bool) (es rest : Exprs) (e : ex.Expr) (free end left m : ℕ) (k old tested loaded new : List Instruction) → es ≡ and_expr e rest → old ≡ tests_emitted s stops rest free end k → left ≡ register_of (variables_seen s.variables.now) e free → m ≡ length old → tested ≡ test_emitted stops left (free + 1) (m - end) old → loaded ≡ load_constant (free + 1) (truth true) ∷ tested → new ≡ expr_emitted s e free loaded → new ≡ tests_emitted s stops es free end k
+  tests-more stops es rest e free end left m k old tested loaded new is before at there t l after =
       let n : free + 1 ≡ suc free = omega arith in
       let v : VariableRegisters = variables_seen s.variables.now in
       after
       ∙ ap (expr_emitted s e free)
-      (l ∙ ap (λ x. load_constant (free + 1) (truth true) ∷ x) (t ∙ ap (λ x. test_equal left (free + 1) 1 ∷ x) (j ∙ ap (λ q. jump q ∷ old) there) ∙ ap (λ q. test_equal q (free + 1) 1 ∷ jump (length old - end) ∷ old) at)
-      ∙ ap (λ q. load_constant q (truth true) ∷ test_equal (register_of v e free) q 1 ∷ jump (length old - end) ∷ old) n
-      ∙ ap (λ x. load_constant (suc free) (truth true) ∷ test_equal (register_of v e free) (suc free) 1 ∷ jump (length x - end) ∷ x) before)
-      ∙ sym (ap (λ y. until_emitted s y free end k) is)
+      (l ∙ ap (λ x. load_constant (free + 1) (truth true) ∷ x) (t ∙ ap (λ q. test_emitted stops left (free + 1) (q - end) old) there ∙ ap (λ q. test_emitted stops q (free + 1) (length old - end) old) at)
+      ∙ ap (λ q. load_constant q (truth true) ∷ test_emitted stops (register_of v e free) q (length old - end) old) n
+      ∙ ap (λ x. load_constant (suc free) (truth true) ∷ test_emitted stops (register_of v e free) (suc free) (length x - end) x) before)
+      ∙ tests-first stops e rest free end k
+      ∙ sym (ap (λ y. tests_emitted s stops y free end k) is)

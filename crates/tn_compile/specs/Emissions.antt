@@ -1,10 +1,10 @@
 -- The code of expressions, by what it is emitted for.
-use Rattle.std.specs.Prelude.{◌≡◌, ℕ, suc, Bool, true, false, List, [], ◌∷◌, length}
+use Rattle.std.specs.Prelude.{◌≡◌, ℕ, suc, ◌-◌, Bool, true, false, List, [], ◌∷◌, length}
 use Rattle.std.specs.declared.vec.Vec.{Vec}
 use Rattle.def_spec.specs.Expressions as ex
 use Rattle.def_spec.specs.Expressions.{Dialect, Expr, Exprs}
 use Rattle.def_spec.specs.Outcome.{Clause}
-use Rattle.def_machine.specs.Instructions.{Instruction, build, apply_function}
+use Rattle.def_machine.specs.Instructions.{Instruction, test_equal, jump, build, apply_function}
 use Rattle.def_machine.specs.Compilation.{registers_of, action_code, expr_code, exprs_code, while_true_code, until_true_code, clause_code}
 use Rattle.def_machine.specs.HeadFolds.{folded_clause}
 use Rattle.tn_spec.specs.Views.{dialect_of, func_of, action_of}
@@ -16,6 +16,7 @@ use Rattle.tn_code.specs.declared.instr.Instr.{Instr}
 use Rattle.tn_compile.specs.Heads.{in_front}
 use Rattle.tn_compile.specs.Views.{code_left, fault_emitted, part_of, variables_seen}
 use Rattle.tn_compile.specs.declared.emit_context.EmitContext.{EmitContext}
+use Rattle.tn_compile.specs.declared.emit_context.Stop.{Stop}
 
 abbrev pub expr_emitted : EmitContext → Expr → ℕ → List Instruction → List Instruction
 expr_emitted s e d k = expr_code (dialect_of s.dialect) (part_of s.part) s.left (variables_seen s.variables.now) e d k
@@ -23,11 +24,20 @@ expr_emitted s e d k = expr_code (dialect_of s.dialect) (part_of s.part) s.left 
 abbrev pub exprs_emitted : EmitContext → Exprs → ℕ → List Instruction → List Instruction
 exprs_emitted s es d k = exprs_code (dialect_of s.dialect) (part_of s.part) s.left (variables_seen s.variables.now) es d k
 
-abbrev pub while_emitted : EmitContext → Exprs → (d g : ℕ) → List Instruction → List Instruction
-while_emitted s es d g k = while_true_code (dialect_of s.dialect) (part_of s.part) s.left (variables_seen s.variables.now) es d g k
+-- the first value that is `true` stops `orelse`, and the first that isn't stops `andalso`
+abbrev pub short_circuit : Bool → Exprs → Expr
+short_circuit true es = ex.or_else es
+short_circuit false es = ex.and_also es
 
-abbrev pub until_emitted : EmitContext → Exprs → (d g : ℕ) → List Instruction → List Instruction
-until_emitted s es d g k = until_true_code (dialect_of s.dialect) (part_of s.part) s.left (variables_seen s.variables.now) es d g k
+-- k where no value stops the expressions, and else on to where g instructions are left
+abbrev pub tests_emitted : EmitContext → Bool → Exprs → (d g : ℕ) → List Instruction → List Instruction
+tests_emitted s true es d g k = until_true_code (dialect_of s.dialect) (part_of s.part) s.left (variables_seen s.variables.now) es d g k
+tests_emitted s false es d g k = while_true_code (dialect_of s.dialect) (part_of s.part) s.left (variables_seen s.variables.now) es d g k
+
+-- the test of one value, which is compared with `true`
+abbrev pub test_emitted : Bool → (left right place : ℕ) → List Instruction → List Instruction
+test_emitted true left right place k = test_equal left right 1 ∷ jump place ∷ k
+test_emitted false left right place k = test_equal left right place ∷ k
 
 -- the code of clauses, their heads folded, and then what follows where none fires
 abbrev pub clauses_emitted : Dialect → List Clause → List Instruction → List Instruction
@@ -68,11 +78,16 @@ EmitsOnSelf s a es d old new =
 abbrev pub EmitsAction : {A : Type 0} → EmitContext → Action → Exprs → ℕ → Vec (Instr A) A → Vec (Instr A) A → Type 0
 EmitsAction s a es = EmitsExpr s (ex.perform (action_of a) es)
 
-abbrev pub EmitsWhileTrue : {A : Type 0} → EmitContext → Exprs → (d g : ℕ) → Vec (Instr A) A → Vec (Instr A) A → Type 0
-EmitsWhileTrue s es d g old new = code_left new ≡ while_emitted s es d g (code_left old)
+-- `orelse` or `andalso`
+abbrev pub EmitsShortCircuit : {A : Type 0} → EmitContext → Bool → Exprs → ℕ → Vec (Instr A) A → Vec (Instr A) A → Type 0
+EmitsShortCircuit s stops es = EmitsExpr s (short_circuit stops es)
 
-abbrev pub EmitsUntilTrue : {A : Type 0} → EmitContext → Exprs → (d g : ℕ) → Vec (Instr A) A → Vec (Instr A) A → Type 0
-EmitsUntilTrue s es d g old new = code_left new ≡ until_emitted s es d g (code_left old)
+-- the test of the value in the left register, where the right one has `true`
+abbrev pub EmitsTest : {A : Type 0} → (left right : ℕ) → Stop → Vec (Instr A) A → Vec (Instr A) A → Type 0
+EmitsTest left right t old new = code_left new ≡ test_emitted t.on_true left right (length old.items - t.left) (code_left old)
+
+abbrev pub EmitsTests : {A : Type 0} → EmitContext → Exprs → ℕ → Stop → Vec (Instr A) A → Vec (Instr A) A → Type 0
+EmitsTests s es d t old new = code_left new ≡ tests_emitted s t.on_true es d t.left (code_left old)
 
 abbrev pub EmitsClause : {A : Type 0} → Dialect → Clause → Vec (Instr A) A → Vec (Instr A) A → Type 0
 EmitsClause d k old new = code_left new ≡ clause_code d (folded_clause k) (code_left old)

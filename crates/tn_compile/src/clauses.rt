@@ -8,8 +8,8 @@ ghost use Rattle.tn_spec.specs.Wholes.{spec_seen};
 ghost use Rattle.tn_compile.specs.Emissions.{EmitsClause, EmitsClauses};
 ghost use Rattle.tn_compile.specs.Rooms.{HasRoomFor};
 
-use crate::emit_context::{EmitContext, Position, emit};
-use crate::exprs::{emit_exprs, emit_while_true};
+use crate::emit_context::{EmitContext, Position, Stop, emit};
+use crate::exprs::{emit_exprs, emit_tests};
 use crate::fronts::put_in_front;
 use crate::heads::{HeadSteps, steps_of_head};
 use crate::places::in_places;
@@ -46,7 +46,11 @@ fn emit_clause<P: Allocator, A: Allocator + Copy>(
         part: Position::Condition,
         ..body
     };
-    emit_while_true(alloc, code, &clause.conditions, &conditions, free, left)?;
+    let stop = Stop {
+        on_true: false,
+        left,
+    };
+    emit_tests(alloc, code, &clause.conditions, &conditions, free, stop)?;
     put_in_front(code, steps, left)?;
     Ok(emit(code, Instr::LoadList { to: 0 })?)
 }

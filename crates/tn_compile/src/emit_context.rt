@@ -35,6 +35,15 @@ pub struct EmitContext<'a> {
     pub left: usize,
 }
 
+/// Which value stops a list of expressions, and where the code goes on then.
+#[derive(Clone, Copy)]
+pub struct Stop {
+    /// A value that is `true`, or one that isn't.
+    pub on_true: bool,
+    /// How many instructions are left there.
+    pub left: usize,
+}
+
 /// Puts an instruction in front of the code, which stands from its end to its beginning.
 pub fn emit<A: Allocator>(code: &mut Vec<Instr<A>, A>, instr: Instr<A>) -> Result<(), AllocError>
     ensures emitted { OnOk result (code_left code.new ≡ instruction_of instr ∷ code_left code.old) }

@@ -1,7 +1,7 @@
 // The code of expressions.
 ghost use Rattle.std.specs.Prelude.{◌≡◌, ◌∷◌, ◌+◌, ◌<◌, ◌≤◌, ◌^◌, OnOk, IfOk, length};
 ghost use Rattle.def_spec.specs.Functions.{truth};
-ghost use Rattle.def_spec.specs.Expressions.{all_bound, and_also, or_else};
+ghost use Rattle.def_spec.specs.Expressions.{all_bound};
 ghost use Rattle.def_machine.specs.Compilation.{register_of, registers_of, is_on_self, action_code};
 ghost use Rattle.def_machine.specs.Instructions.{load_constant};
 ghost use Rattle.tn_spec.specs.Sizes.{expr_size, exprs_size};
@@ -9,11 +9,11 @@ ghost use Rattle.tn_spec.specs.Views.{dialect_of, action_of, expr_seen, exprs_se
 ghost use Rattle.tn_term.specs.Views.{tree_of};
 ghost use Rattle.tn_code.specs.Views.{instruction_of, on_fault_seen};
 ghost use Rattle.tn_compile.specs.Views.{code_left, variables_seen, fault_emitted};
-ghost use Rattle.tn_compile.specs.Emissions.{EmitsExpr, EmitsExprs, EmitsWhileTrue, EmitsUntilTrue};
+ghost use Rattle.tn_compile.specs.Emissions.{EmitsExpr, EmitsExprs, EmitsShortCircuit, EmitsTest, EmitsTests};
 ghost use Rattle.tn_compile.specs.Emissions.{EmitsBuild, EmitsApply, EmitsPerform, EmitsOnSelf, EmitsAction, is_trace};
 
 use crate::emit_context::{
-    EmitContext, Position, VariableRegister, all_registers, emit, register_of_variable,
+    EmitContext, Position, Stop, VariableRegister, all_registers, emit, register_of_variable,
 };
 use std::alloc::{AllocError, Allocator};
 use tn_code::{Instr, Kind, OnFault};
@@ -281,8 +281,8 @@ pub fn emit_expr<P: Allocator, A: Allocator + Copy>(
             emit_apply(alloc, code, *func, exprs, scene, free)?;
             emit_exprs(alloc, code, exprs, scene, free)
         }
-        Expr::AndAlso(exprs) => emit_and_also(alloc, code, exprs, scene, free),
-        Expr::OrElse(exprs) => emit_or_else(alloc, code, exprs, scene, free),
+        Expr::AndAlso(exprs) => emit_short_circuit(alloc, code, exprs, scene, free, false),
+        Expr::OrElse(exprs) => emit_short_circuit(alloc, code, exprs, scene, free, true),
         Expr::Perform(action, exprs) => emit_action(alloc, code, *action, exprs, scene, free),
     }
 }
@@ -312,44 +312,26 @@ fn emit_action<P: Allocator, A: Allocator + Copy>(
     }
 }
 
-/// Puts the code of `andalso` in front of the code.
+/// Puts the code of `orelse`, which `true` stops, or of `andalso`, which any other value stops, in front of the code.
 #[cycle(emit)]
-fn emit_and_also<P: Allocator, A: Allocator + Copy>(
+fn emit_short_circuit<P: Allocator, A: Allocator + Copy>(
     alloc: A,
     code: &mut Vec<Instr<A>, A>,
     exprs: &Vec<Expr<P>, P>,
     scene: &EmitContext<'_>,
     free: usize,
+    on_true: bool,
 ) -> Result<(), AllocError>
     requires room { free + 2 + exprs_size (exprs_seen exprs.now.items) < 2 ^ 64 }
     requires behind { scene.now.left ≤ length code.old.items }
-    ensures emitted { OnOk result (EmitsExpr scene.now (and_also (exprs_seen exprs.now.items)) free code.old code.new) }
+    ensures emitted { OnOk result
+        (EmitsShortCircuit scene.now on_true (exprs_seen exprs.now.items) free code.old code.new) }
     ensures longer { OnOk result (length code.old.items ≤ length code.new.items) }
 {
-    let end = code.len();
-    emit_truth(alloc, code, free, true)?;
-    emit_while_true(alloc, code, exprs, scene, free + 1, end)?;
-    emit_truth(alloc, code, free, false)
-}
-
-/// Puts the code of `orelse` in front of the code.
-#[cycle(emit)]
-fn emit_or_else<P: Allocator, A: Allocator + Copy>(
-    alloc: A,
-    code: &mut Vec<Instr<A>, A>,
-    exprs: &Vec<Expr<P>, P>,
-    scene: &EmitContext<'_>,
-    free: usize,
-) -> Result<(), AllocError>
-    requires room { free + 2 + exprs_size (exprs_seen exprs.now.items) < 2 ^ 64 }
-    requires behind { scene.now.left ≤ length code.old.items }
-    ensures emitted { OnOk result (EmitsExpr scene.now (or_else (exprs_seen exprs.now.items)) free code.old code.new) }
-    ensures longer { OnOk result (length code.old.items ≤ length code.new.items) }
-{
-    let end = code.len();
-    emit_truth(alloc, code, free, false)?;
-    emit_until_true(alloc, code, exprs, scene, free + 1, end)?;
-    emit_truth(alloc, code, free, true)
+    let left = code.len();
+    emit_truth(alloc, code, free, !on_true)?;
+    emit_tests(alloc, code, exprs, scene, free + 1, Stop { on_true, left })?;
+    emit_truth(alloc, code, free, on_true)
 }
 
 /// Puts the code of the values of several expressions in front of the code.
@@ -375,73 +357,55 @@ pub fn emit_exprs<P: Allocator, A: Allocator + Copy>(
     Ok(())
 }
 
-/// Puts in front of the code what goes on with it where all are `true`, and else at the end.
-#[cycle(emit)]
-pub fn emit_while_true<P: Allocator, A: Allocator + Copy>(
-    alloc: A,
+/// Puts the test of a value against `true` in front of the code; one that stops goes on where the stop says.
+fn emit_test<A: Allocator>(
     code: &mut Vec<Instr<A>, A>,
-    exprs: &Vec<Expr<P>, P>,
-    scene: &EmitContext<'_>,
-    free: usize,
-    end: usize,
+    left: usize,
+    right: usize,
+    stop: Stop,
 ) -> Result<(), AllocError>
-    requires room { free + 1 + exprs_size (exprs_seen exprs.now.items) < 2 ^ 64 }
-    requires behind { scene.now.left ≤ length code.old.items }
-    requires end { end ≤ length code.old.items }
-    ensures emitted { OnOk result (EmitsWhileTrue scene.now (exprs_seen exprs.now.items) free end code.old code.new) }
+    requires { stop.left ≤ length code.old.items }
+    ensures emitted { OnOk result (EmitsTest left right stop code.old code.new) }
     ensures longer { OnOk result (length code.old.items ≤ length code.new.items) }
 {
-    let mut i = exprs.len();
-    while i > 0 {
-        i -= 1;
-        let expr = &exprs[i];
-        let left = register_of(scene.variables, expr, free);
-        let place = code.len() - end;
-        emit(
-            code,
-            Instr::TestEqual {
-                left,
-                right: free + 1,
-                place,
-            },
-        )?;
-        emit_truth(alloc, code, free + 1, true)?;
-        emit_expr(alloc, code, expr, scene, free)?;
-    }
-    Ok(())
-}
-
-/// Puts in front of the code what goes on with it where none is `true`, and else at the end.
-#[cycle(emit)]
-pub fn emit_until_true<P: Allocator, A: Allocator + Copy>(
-    alloc: A,
-    code: &mut Vec<Instr<A>, A>,
-    exprs: &Vec<Expr<P>, P>,
-    scene: &EmitContext<'_>,
-    free: usize,
-    end: usize,
-) -> Result<(), AllocError>
-    requires room { free + 1 + exprs_size (exprs_seen exprs.now.items) < 2 ^ 64 }
-    requires behind { scene.now.left ≤ length code.old.items }
-    requires end { end ≤ length code.old.items }
-    ensures emitted { OnOk result (EmitsUntilTrue scene.now (exprs_seen exprs.now.items) free end code.old code.new) }
-    ensures longer { OnOk result (length code.old.items ≤ length code.new.items) }
-{
-    let mut i = exprs.len();
-    while i > 0 {
-        i -= 1;
-        let expr = &exprs[i];
-        let left = register_of(scene.variables, expr, free);
-        let place = code.len() - end;
+    let place = code.len() - stop.left;
+    if stop.on_true {
         emit(code, Instr::Jump { place })?;
         emit(
             code,
             Instr::TestEqual {
                 left,
-                right: free + 1,
+                right,
                 place: 1,
             },
-        )?;
+        )
+    } else {
+        emit(code, Instr::TestEqual { left, right, place })
+    }
+}
+
+/// Puts in front of the code what goes on with it where no value stops it.
+#[cycle(emit)]
+pub fn emit_tests<P: Allocator, A: Allocator + Copy>(
+    alloc: A,
+    code: &mut Vec<Instr<A>, A>,
+    exprs: &Vec<Expr<P>, P>,
+    scene: &EmitContext<'_>,
+    free: usize,
+    stop: Stop,
+) -> Result<(), AllocError>
+    requires room { free + 1 + exprs_size (exprs_seen exprs.now.items) < 2 ^ 64 }
+    requires behind { scene.now.left ≤ length code.old.items }
+    requires stop { stop.left ≤ length code.old.items }
+    ensures emitted { OnOk result (EmitsTests scene.now (exprs_seen exprs.now.items) free stop code.old code.new) }
+    ensures longer { OnOk result (length code.old.items ≤ length code.new.items) }
+{
+    let mut i = exprs.len();
+    while i > 0 {
+        i -= 1;
+        let expr = &exprs[i];
+        let left = register_of(scene.variables, expr, free);
+        emit_test(code, left, free + 1, stop)?;
         emit_truth(alloc, code, free + 1, true)?;
         emit_expr(alloc, code, expr, scene, free)?;
     }

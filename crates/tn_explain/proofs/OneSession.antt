@@ -1,13 +1,13 @@
 -- One session: an event, and a command.
 use Rattle.std.proofs.Common.{◌≡◌, ◌∙◌, ℕ, Bool, true, false, if◌then◌else◌, List, [], ◌∷◌, ◌++◌, map, Option, Some, None, refl, sym, ap, subst, append-nil, codes}
 use Rattle.std.specs.Str.{bytes_eq}
+use Rattle.std.specs.Option.{IsSomeAnd}
 use Rattle.def_term.specs.Alive.{Alive}
 use Rattle.def_term.specs.Tree.{Tree}
 use Rattle.def_term.specs.Text.{w}
 use Rattle.def_script.specs.Program.{Command, session_of}
 use Rattle.def_script.specs.Exports.{Exports}
 use Rattle.def_node.specs.Event.{Event}
-use Rattle.def_session.specs.State as definition
 use Rattle.def_session.specs.State.{absent, new_session, alive_after}
 use Rattle.def_session.specs.Session.{event_reported}
 use Rattle.def_session.specs.Commands.{command_done}
@@ -15,8 +15,7 @@ use Rattle.def_run.specs.Run.{event_item, command_item}
 use Rattle.def_run.specs.History.{NamedSession, after}
 use Rattle.def_explain.specs.Accounts.{said, event_lines, command_lines}
 use Rattle.def_explain.specs.Runs.{session_lines, makes}
-use Rattle.tn_session.specs.Sessions.{IsAt, Says}
-use Rattle.tn_session.specs.declared.message.Message.{Message}
+use Rattle.tn_session.specs.Sessions.{SessionValue, value_in, next_session}
 use Rattle.tn_session.specs.declared.session.Session.{Session}
 use Rattle.tn_explain.specs.Lines.{lines_text}
 use Rattle.tn_trace.specs.Slots.{IsSession, IsTracked, ObeysOwn}
@@ -33,14 +32,14 @@ module _ {A : Type 0} (step : Step) (o : Exports) (living : Alive) (s : NamedSes
   asked_of b is = ap (is_asked step) (sym h.name) ∙ is
 
   -- the session is there
-  pub is_at : (session : Session A) → old.session ≡ Some session → IsAt o.functions s.1 session
-  is_at session is = subst (IsSession o.functions living s.1) is h.session
+  pub is_there : (session : Session A) → old.session ≡ Some session → value_in session ≡ Some (record { functions = o.functions; state = s.1 })
+  is_there session is = subst (IsSession o.functions living s.1) is h.session
 
   absent_is : old.session ≡ None → s.1 ≡ new_session absent living
   absent_is is = subst (IsSession o.functions living s.1) is h.session
 
   module _ (e : Event) (text : List ℕ) where
-    -- the session makes of the event what stands between two texts
+    -- the session makes of the event what is between two texts
     abbrev pub HasMade : Slot A Discard → List ℕ → Type 0
     HasMade new text' = HasState o (alive_after living e) (after o s (event_item e)) new × (text' ≡ text ++ text_by step (map (makes s.0) (session_lines o s (event_item e))))
 
@@ -50,15 +49,16 @@ module _ {A : Type 0} (step : Step) (o : Exports) (living : Alive) (s : NamedSes
       sym (ap (λ q. text ++ text_by step (map (makes s.0) (event_lines q e))) (absent_is is) ∙ append-nil text),
     )
 
-    pub tells_asked : (session : Session A) (text' : List ℕ) → is_asked step old.name ≡ true → IsAt o.functions (event_reported s.1 e).0 session → text' ≡ text ++ lines_text old.name (event_lines s.1 e) → HasMade (record old { session = Some session }) text'
+    pub tells_asked : (session : Session A) (text' : List ℕ) → is_asked step old.name ≡ true → value_in session ≡ Some (record { functions = o.functions; state = (event_reported s.1 e).0 }) → text' ≡ text ++ lines_text old.name (event_lines s.1 e) → HasMade (record old { session = Some session }) text'
     tells_asked session text' filter at written = (
       record { name = h.name; session = at },
       written ∙ ap (λ n. text ++ lines_text n (event_lines s.1 e)) h.name ∙ ap (λ l. text ++ l) (sym (lines_wanted (filter_seen step.filter.now) step.number s.0 (event_lines s.1 e) (asked_of true filter))),
     )
 
-    pub tells_only : (session : Session A) (m : Option (Message A)) → is_asked step old.name ≡ false → Says o.functions s.1 e session m → HasMade (record old { session = Some session }) text
-    tells_only session m filter says = (
-      record { name = h.name; session = subst (λ q. IsAt o.functions q session) (sym (ap (λ (p : definition.Session × Option Tree). p.0) says.reported)) says.state },
+    pub tells_only : (before session : Session A) (m : Option Tree) → old.session ≡ Some before → is_asked step old.name ≡ false
+        → IsSomeAnd (value_in before) (λ v. next_session v (event_reported v.state e) ≡ (value_in session, m)) → HasMade (record old { session = Some session }) text
+    tells_only before session m is filter reports = (
+      record { name = h.name; session = sym (ap (λ (p : Option SessionValue × Option Tree). p.0) (subst (λ v. IsSomeAnd v (λ u. next_session u (event_reported u.state e) ≡ (value_in session, m))) (is_there before is) reports)) },
       sym (ap (λ l. text ++ l) (lines_not_wanted (filter_seen step.filter.now) step.number s.0 (event_lines s.1 e) (asked_of false filter)) ∙ append-nil text),
     )
 

@@ -4,13 +4,12 @@ use Rattle.std.proofs.lemmas.List.{take_all}
 use Rattle.std.specs.declared.vec.Vec.{Vec}
 use Rattle.def_script.specs.Program.{Function, Program}
 use Rattle.def_script.specs.Exports.{Exports, exports_of}
-use Rattle.def_run.specs.Run.{HistoryItem, RunState, PickStep, pick_step, events, moves, moves_from, start}
+use Rattle.def_run.specs.Run.{HistoryItem, RunState, PickStep, pick_step, events, moves, moves_from, start, run_state_of, pick_step_after}
 use Rattle.def_run.proofs.Replay.{pick_kept, moves_bounded}
 use Rattle.def_run.specs.History.{NamedSession, all_after, all_after_items, named_sessions}
 use Rattle.def_explain.specs.Runs.{entries_of_move}
 use Rattle.def_explain.proofs.AccountPicks.{entries_from, entries_by_picks}
 use Rattle.def_explain.specs.RunTexts.{Filter, account_text}
-use Rattle.tn_trace.specs.Runs.{run_state_of, turn_after}
 use Rattle.tn_trace.specs.Observers.{IsNextMove, SeesMove}
 use Rattle.tn_trace.specs.Follows.{AddsEach, AddsFrom}
 use Rattle.tn_trace.specs.declared.journal.JournalEntry.{JournalEntry}
@@ -27,9 +26,9 @@ after-append : (o : Exports) (ss : List NamedSession) (xs ys : List HistoryItem)
 after-append o ss [] ys = refl
 after-append o ss (x ∷ xs) ys = after-append o (all_after o ss x) xs ys
 
-sessions_more : (p : Program) (picks : List ℕ) (pick : ℕ) → sessions_after p (picks ++ pick ∷ []) ≡ all_after_items (exports_of p) (sessions_after p picks) (turn_after p picks pick).shown
+sessions_more : (p : Program) (picks : List ℕ) (pick : ℕ) → sessions_after p (picks ++ pick ∷ []) ≡ all_after_items (exports_of p) (sessions_after p picks) (pick_step_after p picks pick).shown
 sessions_more p picks pick =
-    ap (all_after_items (exports_of p) (named_sessions p)) (events_more p picks pick) ∙ after-append (exports_of p) (named_sessions p) (events p picks) (turn_after p picks pick).shown
+    ap (all_after_items (exports_of p) (named_sessions p)) (events_more p picks pick) ∙ after-append (exports_of p) (named_sessions p) (events p picks) (pick_step_after p picks pick).shown
 
 -- the explainer saw a move that shows this
 pub move_explained : {A : Type 0} (p : Program) (picks : List ℕ) (entry : JournalEntry) (shown : List HistoryItem) (old new : Explainer A) (text text' : Vec ℕ A) → IsNextMove p picks entry shown
@@ -48,7 +47,7 @@ move_explained p picks entry shown old new text text' next sessions filter writt
         filter = filter;
         written = written ∙ ap (λ n. text.items ++ filtered_text a n (entries_of_move o n entry.pick ss shown)) number
             ∙ ap (λ xs. text.items ++ filtered_text a (suc k) (entries_of_move o (suc k) entry.pick ss xs)) (sym next.shows)
-            ∙ ap (λ b. text.items ++ filtered_text a (suc k) (if b then entries_of_move o (suc k) entry.pick ss (turn_after p picks entry.pick).shown else [])) (sym next.moved);
+            ∙ ap (λ b. text.items ++ filtered_text a (suc k) (if b then entries_of_move o (suc k) entry.pick ss (pick_step_after p picks entry.pick).shown else [])) (sym next.moved);
       };
     }
 
@@ -69,16 +68,16 @@ turn_text p a k j pick ss t rest false e none count =
 abbrev pub later_text : Program → Filter → List ℕ → List NamedSession → List ℕ → List ℕ
 later_text p a picks ss rest = let k : ℕ = length (moves p picks) in filtered_text a k (entries_from (exports_of p) p.functions (run_state_of p picks) k ss rest)
 
-counted_more : (p : Program) (picks : List ℕ) (pick : ℕ) (b : Bool) → (turn_after p picks pick).moved ≡ b → length (moves p (picks ++ pick ∷ [])) ≡ (if b then suc (length (moves p picks)) else length (moves p picks))
+counted_more : (p : Program) (picks : List ℕ) (pick : ℕ) (b : Bool) → (pick_step_after p picks pick).moved ≡ b → length (moves p (picks ++ pick ∷ [])) ≡ (if b then suc (length (moves p picks)) else length (moves p picks))
 counted_more p picks pick true e =
     ap length (moves_more p picks pick ∙ ap (λ b. moves p picks ++ (if b then pick ∷ [] else [])) e) ∙ length-append (moves p picks) (pick ∷ []) ∙ add-one (length (moves p picks))
 counted_more p picks pick false e = ap length (moves_more p picks pick ∙ ap (λ b. moves p picks ++ (if b then pick ∷ [] else [])) e ∙ append-nil (moves p picks))
 
 later_more : (p : Program) (a : Filter) (picks : List ℕ) (ss : List NamedSession) (pick : ℕ) (rest : List ℕ)
     → later_text p a picks ss (pick ∷ rest)
-    ≡ filtered_text a (suc (length (moves p picks))) (entries_of_turn p (length (moves p picks)) pick ss (turn_after p picks pick)) ++ later_text p a (picks ++ pick ∷ []) (all_after_items (exports_of p) ss (turn_after p picks pick).shown) rest
+    ≡ filtered_text a (suc (length (moves p picks))) (entries_of_turn p (length (moves p picks)) pick ss (pick_step_after p picks pick)) ++ later_text p a (picks ++ pick ∷ []) (all_after_items (exports_of p) ss (pick_step_after p picks pick).shown) rest
 later_more p a picks ss pick rest =
-    let t : PickStep = turn_after p picks pick in
+    let t : PickStep = pick_step_after p picks pick in
     let k : ℕ = length (moves p picks) in
     let j : ℕ = length (moves p (picks ++ pick ∷ [])) in
     turn_text p a k j pick ss t rest t.moved refl (λ e. ap (λ (u : PickStep). u.shown) (pick_kept p.functions (run_state_of p picks) pick e)) (counted_more p picks pick t.moved refl)

@@ -1,5 +1,6 @@
 -- What a session makes of an event, of its lines that were appended piece by piece.
-use Rattle.std.proofs.Common.{◌≡◌, ◌∙◌, ℕ, Bool, true, false, List, [], ◌++◌, Option, Some, None, is_some, sym, ap, subst}
+use Rattle.std.proofs.Common.{◌≡◌, ◌∙◌, ℕ, Bool, true, false, List, [], ◌++◌, Option, Some, None, IfSome, is_some, refl, sym, ap, subst}
+use Rattle.std.specs.Option.{IsSomeAnd, option_map}
 use Rattle.def_term.specs.Tree.{Tree}
 use Rattle.def_term.specs.Names as names
 use Rattle.def_spec.specs.Flags.{Flags}
@@ -9,8 +10,7 @@ use Rattle.def_session.specs.State.{flags_at}
 use Rattle.def_session.specs.Session.{effects_of, event_reported, is_silenced}
 use Rattle.def_explain.specs.Accounts.{Line, flag_lines, event_lines}
 use Rattle.tn_session.specs.Looks.{is_live}
-use Rattle.tn_session.specs.Sessions.{IsAt}
-use Rattle.tn_session.specs.declared.session.Session.{Session}
+use Rattle.tn_session.specs.Sessions.{SessionValue, next_session}
 use Rattle.tn_explain.specs.Evaluations.{GivesOf, is_done}
 use Rattle.tn_explain.specs.Lines.{PutsLines, lines_text}
 use Rattle.tn_explain.specs.SessionLines.{Makes}
@@ -27,41 +27,75 @@ told_none done silent b m is same none = ap (λ x. reported_lines x silent m) is
 pub flags_changed : (p : ℕ) (a b c d : Flags) → a ≡ b → c ≡ d → changed_lines p a c ≡ changed_lines p b d
 flags_changed p a b c d x y = ap (λ f. changed_lines p f c) x ∙ ap (changed_lines p b) y
 
-module _ {A : Type 0} (fs : List (names.Mfa × Bool)) (s : definition.Session) (e : Event) (n : names.Name) (new : Session A) (after : definition.Session) (m : Option Tree)
-    (reported : event_reported s e ≡ (after, m)) (at : IsAt fs after new) where
-  state : IsAt fs (event_reported s e).0 new
-  state = subst (λ (a : definition.Session × Option Tree). IsAt fs a.0 new) (sym reported) at
+-- what holds of the session that is there holds where there is one
+pub if_there : {T : Type 0} (o : Option T) (P : T → Type 0) → ((x : T) → o ≡ Some x → P x) → IfSome o P
+if_there None P h = tt
+if_there (Some x) P h = h x refl
+
+pub there : {T : Type 0} (o : Option T) (x : T) (P : T → Type 0) → o ≡ Some x → IfSome o P → P x
+there o x P is h = subst (λ v. IfSome v P) is h
+
+pub and_there : {T : Type 0} (o : Option T) (x : T) (P : T → Type 0) → o ≡ Some x → IsSomeAnd o P → P x
+and_there o x P is h = subst (λ v. IsSomeAnd v P) is h
+
+-- the state that is seen of the session is its own
+pub seen_is : {L : Type 0} (look_of : L → definition.Session) (o : Option SessionValue) (s : SessionValue) (l : L) → o ≡ Some s → option_map look_of (Some l) ≡ option_map (λ (v : SessionValue). v.state) o → look_of l ≡ s.state
+seen_is look_of o s l is seen =
+    let same : Some (look_of l) ≡ Some s.state = seen ∙ ap (option_map (λ (v : SessionValue). v.state)) is in
+    cc
+
+-- where a look is had of the session, the session is there, and the look shows its state
+pub if_seen : {K : Type 0} (look_of : K → definition.Session) (o : Option SessionValue) (l : K) (P : SessionValue → Type 0) → option_map look_of (Some l) ≡ option_map (λ (v : SessionValue). v.state) o
+    → ((s : SessionValue) → o ≡ Some s → look_of l ≡ s.state → P s) → IsSomeAnd o P
+if_seen look_of None l P e h = absurd (cc e)
+if_seen look_of (Some s) l P e h = h s refl (seen_is look_of (Some s) s l refl e)
+
+-- and what holds of it there gives what is asked
+pub and_seen : {K : Type 0} (look_of : K → definition.Session) (o : Option SessionValue) (l : K) (P Q : SessionValue → Type 0) → option_map look_of (Some l) ≡ option_map (λ (v : SessionValue). v.state) o
+    → ((s : SessionValue) → look_of l ≡ s.state → Q s → P s) → IsSomeAnd o Q → IsSomeAnd o P
+and_seen look_of None l P Q e h q = absurd q
+and_seen look_of (Some s) l P Q e h q = h s (seen_is look_of (Some s) s l refl e) q
+
+module _ (s : SessionValue) (e : Event) (n : names.Name) (new : Option SessionValue) (m : Option Tree) (gives : next_session s (event_reported s.state e) ≡ (new, m)) where
+  abbrev pub after : definition.Session
+  after = (event_reported s.state e).0
+
+  pub state : new ≡ Some (record s { state = (event_reported s.state e).0 })
+  state = sym (ap (λ (p : Option SessionValue × Option Tree). p.0) gives)
+
+  reported : event_reported s.state e ≡ (after, m)
+  reported = ap (λ (k : Option Tree). (after, k)) (ap (λ (p : Option SessionValue × Option Tree). p.1) gives)
 
   -- of an event by which a process inherits flags
-  pub inherited_made : (giver taker : ℕ) (o b c d : List ℕ) → s.phase ≡ definition.live → both_of e ≡ Some (giver, taker)
-      → PutsLines n (changed_lines giver (flags_at s giver) (flags_at after giver)) o b → PutsLines n (changed_lines taker (flags_at s taker) (flags_at after taker)) b c → PutsLines n (reported_or_no_flag m) c d
-      → Makes fs s e n new o d
+  pub inherited_made : (giver taker : ℕ) (o b c d : List ℕ) → s.state.phase ≡ definition.live → both_of e ≡ Some (giver, taker)
+      → PutsLines n (changed_lines giver (flags_at s.state giver) (flags_at after giver)) o b → PutsLines n (changed_lines taker (flags_at s.state taker) (flags_at after taker)) b c → PutsLines n (reported_or_no_flag m) c d
+      → Makes s e n new o d
   inherited_made giver taker o b c d phase both first second third =
-      let i : Inherits s e giver taker = inherits s e giver taker phase both in
-      let ks : List Line = flag_lines giver s after in
-      let ls : List Line = flag_lines taker s after in
-      let is : event_lines s e ≡ (ks ++ ls) ++ reported_or_no_flag m =
-      i.lines ∙ ap (λ (a : definition.Session × Option Tree). (flag_lines giver s a.0 ++ flag_lines taker s a.0) ++ reported_or_no_flag a.1) reported in
+      let i : Inherits s.state e giver taker = inherits s.state e giver taker phase both in
+      let ks : List Line = flag_lines giver s.state after in
+      let ls : List Line = flag_lines taker s.state after in
+      let is : event_lines s.state e ≡ (ks ++ ls) ++ reported_or_no_flag m =
+      i.lines ∙ ap (λ (a : definition.Session × Option Tree). (flag_lines giver s.state a.0 ++ flag_lines taker s.state a.0) ++ reported_or_no_flag a.1) reported in
       record {
         state = state;
         text = more n (ks ++ ls) (reported_or_no_flag m) o c d (more n ks ls o b c first second) third ∙ ap (λ x. o ++ lines_text n x) (sym is);
       }
 
   -- of another
-  pub evaluated_made : (r : Evaluation) (o b c d end : List ℕ) → s.phase ≡ definition.live → both_of e ≡ None → GivesOf n s e o b r → PutsLines n (lines_after s e) [] end
-      → PutsLines n (reported_lines (is_done r) (is_silenced after e) m) b c → d ≡ c ++ end → Makes fs s e n new o d
+  pub evaluated_made : (r : Evaluation) (o b c d end : List ℕ) → s.state.phase ≡ definition.live → both_of e ≡ None → GivesOf n s.state e o b r → PutsLines n (lines_after s.state e) [] end
+      → PutsLines n (reported_lines (is_done r) (is_silenced after e) m) b c → d ≡ c ++ end → Makes s e n new o d
   evaluated_made r o b c d end phase none before behind tells ended =
-      let ks : List Line = lines_before s e in
+      let ks : List Line = lines_before s.state e in
       let ls : List Line = reported_lines (is_done r) (is_silenced after e) m in
-      let is : event_lines s e ≡ (ks ++ ls) ++ lines_after s e =
-      parts_are s e phase none
-      ∙ ap (λ (a : definition.Session × Option Tree). (ks ++ reported_lines (is_some (effects_of s e)) (is_silenced a.0 e) a.1) ++ lines_after s e) reported
-      ∙ ap (λ b. (ks ++ reported_lines b (is_silenced after e) m) ++ lines_after s e) (sym (done_is r (effects_of s e) before.effects)) in
+      let is : event_lines s.state e ≡ (ks ++ ls) ++ lines_after s.state e =
+      parts_are s.state e phase none
+      ∙ ap (λ (a : definition.Session × Option Tree). (ks ++ reported_lines (is_some (effects_of s.state e)) (is_silenced a.0 e) a.1) ++ lines_after s.state e) reported
+      ∙ ap (λ b. (ks ++ reported_lines b (is_silenced after e) m) ++ lines_after s.state e) (sym (done_is r (effects_of s.state e) before.effects)) in
       record {
         state = state;
-        text = more n (ks ++ ls) (lines_after s e) o c d (more n ks ls o b c before.text tells) (ended ∙ ap (λ x. c ++ x) behind) ∙ ap (λ x. o ++ lines_text n x) (sym is);
+        text = more n (ks ++ ls) (lines_after s.state e) o c d (more n ks ls o b c before.text tells) (ended ∙ ap (λ x. c ++ x) behind) ∙ ap (λ x. o ++ lines_text n x) (sym is);
       }
 
   -- of a session that isn't live
-  pub nothing_made : (o : List ℕ) → is_live s.phase ≡ false → Makes fs s e n new o o
-  nothing_made o h = record { state = state; text = nothing n o ∙ ap (λ x. o ++ lines_text n x) (sym (makes_nothing s e h)) }
+  pub nothing_made : (o : List ℕ) → is_live s.state.phase ≡ false → Makes s e n new o o
+  nothing_made o h = record { state = state; text = nothing n o ∙ ap (λ x. o ++ lines_text n x) (sym (makes_nothing s.state e h)) }

@@ -3,11 +3,10 @@ use Rattle.std.specs.Prelude.{◌≡◌, ℕ, suc, if◌then◌else◌, List, []
 use Rattle.std.specs.declared.vec.Vec.{Vec}
 use Rattle.def_script.specs.Program.{Program}
 use Rattle.def_script.specs.Exports.{exports_of}
-use Rattle.def_run.specs.Run.{PickStep, events, moves}
+use Rattle.def_run.specs.Run.{PickStep, events, moves, pick_step_after}
 use Rattle.def_run.specs.History.{NamedSession, all_after_items, named_sessions}
 use Rattle.def_explain.specs.Runs.{AccountEntry, entries_of_move}
 use Rattle.def_explain.specs.RunTexts.{Filter}
-use Rattle.tn_trace.specs.Runs.{turn_after}
 use Rattle.tn_explain.specs.Filters.{filter_seen, filtered_text}
 use Rattle.tn_explain.specs.NamedSessions.{AreNamedSessions}
 use Rattle.tn_explain.specs.declared.explainer.Explainer.{Explainer}
@@ -26,7 +25,7 @@ entries_of_turn p k pick ss t = if t.moved then entries_of_move (exports_of p) (
 
 -- its text, as far as it is asked for
 abbrev pub text_of_pick : Filter → Program → List ℕ → ℕ → List ℕ
-text_of_pick a p picks pick = let k : ℕ = length (moves p picks) in filtered_text a (suc k) (entries_of_turn p k pick (sessions_after p picks) (turn_after p picks pick))
+text_of_pick a p picks pick = let k : ℕ = length (moves p picks) in filtered_text a (suc k) (entries_of_turn p k pick (sessions_after p picks) (pick_step_after p picks pick))
 
 -- it was appended, and the same is asked for as before
 pub record AddsExplanation {A : Type 0} (p : Program) (picks : List ℕ) (pick : ℕ) (old new : Explainer A) (text text' : Vec ℕ A) : Type 0 where

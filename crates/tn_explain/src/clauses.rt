@@ -4,7 +4,7 @@ ghost use Rattle.def_session.specs.Settings.{by};
 ghost use Rattle.tn_spec.specs.Wholes.{spec_seen};
 ghost use Rattle.tn_action.specs.Views.{effect_seen};
 ghost use Rattle.tn_verdict.specs.Views.{reason_seen};
-ghost use Rattle.tn_session.specs.Looks.{lent_seen};
+ghost use Rattle.tn_session.specs.Looks.{look_setting};
 ghost use Rattle.tn_text.specs.Writes.{Grows};
 ghost use Rattle.tn_explain.specs.Evaluations.{EvaluatesBy};
 ghost use Rattle.tn_explain.specs.LineParts.{failing_lines, firing_lines};
@@ -37,7 +37,7 @@ impl<A: Allocator + Copy> Lines<'_, A> {
         context: &Context<'_, A>,
         out: &mut Vec<u8, A>,
     ) -> Result<Evaluation, AllocError>
-        ensures ok { IfOk result (EvaluatesBy self.now (lent_seen setting.entry) context.now out.old out.new) }
+        ensures ok { IfOk result (EvaluatesBy self.now (look_setting setting.entry) context.now out.old out.new) }
         ensures grows { Grows out.old.items out.new.items }
     {
         match setting {

@@ -1,11 +1,12 @@
 // What a session makes of an event.
-ghost use Rattle.std.specs.Prelude.{◌≡◌, ◌++◌, OnOk, None};
-ghost use Rattle.std.specs.Option.{option_map};
+ghost use Rattle.std.specs.Prelude.{◌≡◌, ◌++◌, OnOk, IfSome, None};
+ghost use Rattle.std.specs.Option.{IsSomeAnd, option_map};
 ghost use Rattle.def_session.specs.Session.{is_silenced};
 ghost use Rattle.tn_flags.specs.Views.{event_of};
+ghost use Rattle.tn_session.specs.Sessions.{value_in};
 ghost use Rattle.tn_session.specs.Looks.{look_seen};
 ghost use Rattle.tn_text.specs.Writes.{Grows};
-ghost use Rattle.tn_explain.specs.SessionLines.{MakesLines, MakesLiveLines, TellsLines};
+ghost use Rattle.tn_explain.specs.SessionLines.{Makes, MakesLive, ReportsLines};
 
 use crate::clauses::Evaluation;
 use crate::inheritance::both_of;
@@ -25,7 +26,8 @@ pub fn put_event_lines<A: Allocator + Copy>(
     event: &Event<A>,
     out: &mut Vec<u8, A>,
 ) -> Result<(), AllocError>
-    ensures ok { OnOk result (MakesLines session.old event.now name.now session.new out.old out.new) }
+    ensures ok { OnOk result (IsSomeAnd (value_in session.old) (λ s.
+        Makes s (event_of event.now) name.now (value_in session.new) out.old.items out.new.items)) }
     ensures grows { Grows out.old.items out.new.items }
 {
     let lines = Lines { alloc, name };
@@ -62,7 +64,8 @@ impl<A: Allocator + Copy> Lines<'_, A> {
         event: &Event<A>,
         out: &mut Vec<u8, A>,
     ) -> Result<(), AllocError>
-        ensures ok { OnOk result (MakesLiveLines None session.old event.now self.now session.new out.old out.new) }
+        ensures ok { OnOk result (IsSomeAnd (value_in session.old) (λ s.
+            MakesLive None s event.now self.now (value_in session.new) out.old out.new)) }
         ensures grows { Grows out.old.items out.new.items }
     {
         let Some(look) = session.look() else {
@@ -86,7 +89,8 @@ impl<A: Allocator + Copy> Lines<'_, A> {
         message: &Option<Message<'_, A>>,
         out: &mut Vec<u8, A>,
     ) -> Result<(), AllocError>
-        ensures ok { OnOk result (TellsLines session.now evaluation event.now message.now self.now out.old out.new) }
+        ensures ok { OnOk result (IfSome (value_in session.now) (λ s.
+            ReportsLines s evaluation event.now message.now self.now out.old out.new)) }
         ensures grows { Grows out.old.items out.new.items }
     {
         let Evaluation::Done { .. } = evaluation else {

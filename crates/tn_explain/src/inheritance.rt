@@ -1,8 +1,9 @@
 // What a child or a partner inherits.
 ghost use Rattle.std.specs.Prelude.{◌≡◌, ◌++◌, ℕ, OnOk, Option, Some, map};
-ghost use Rattle.std.specs.Option.{option_map};
+ghost use Rattle.std.specs.Option.{IsSomeAnd, option_map};
 ghost use Rattle.def_explain.specs.Accounts.{line_where, changed_text};
 ghost use Rattle.tn_flags.specs.Views.{event_of, flags_of};
+ghost use Rattle.tn_session.specs.Sessions.{value_in};
 ghost use Rattle.tn_text.specs.Writes.{Grows};
 ghost use Rattle.tn_explain.specs.SessionLines.{MakesOfBoth};
 ghost use Rattle.tn_explain.specs.LineParts.{both_of, changed_lines};
@@ -63,7 +64,8 @@ impl<A: Allocator + Copy> Lines<'_, A> {
         taker: u32,
         out: &mut Vec<u8, A>,
     ) -> Result<(), AllocError>
-        ensures ok { OnOk result (MakesOfBoth giver taker session.old event.now self.now session.new out.old out.new) }
+        ensures ok { OnOk result (IsSomeAnd (value_in session.old) (λ s.
+            MakesOfBoth giver taker s event.now self.now (value_in session.new) out.old out.new)) }
         ensures grows { Grows out.old.items out.new.items }
     {
         let Some(look) = session.look() else {

@@ -1,6 +1,6 @@
 // What is known of a send and of a receive before the session sees it.
 ghost use Rattle.std.specs.Prelude.{◌≡◌, IfOk};
-ghost use Rattle.tn_session.specs.Looks.{lent_seen};
+ghost use Rattle.tn_session.specs.Looks.{look_setting};
 ghost use Rattle.tn_text.specs.Writes.{Grows};
 ghost use Rattle.tn_explain.specs.Evaluations.{Evaluates, AnswersOn};
 ghost use Rattle.tn_explain.specs.Events.{EachSend, receive_of};
@@ -67,7 +67,8 @@ impl<A: Allocator + Copy> Lines<'_, A> {
         list: &'a [Value<'a, A>],
         out: &mut Vec<u8, A>,
     ) -> Result<Evaluation, AllocError>
-        ensures ok { IfOk result (AnswersOn self.now (lent_seen setting.entry) look.now pid list.now out.old out.new) }
+        ensures ok { IfOk result
+            (AnswersOn self.now (look_setting setting.entry) look.now pid list.now out.old out.new) }
         ensures grows { Grows out.old.items out.new.items }
     {
         let context = Context {

@@ -3,7 +3,6 @@ use Rattle.std.proofs.Common.{◌≡◌, ◌∙◌, ℕ, ◌+◌, ◌<◌, List,
 use Rattle.std.proofs.lemmas.List.{drop_more}
 use Rattle.def_term.specs.Tree.{Tree}
 use Rattle.def_run.specs.Listing.{line_of, lines_of}
-use Rattle.tn_text.specs.Writes.{Grows}
 
 -- one more line
 pub next_line : {X : Type 0} (g : X → Tree) (xs : List X) (i : ℕ) (x : X) (now after whole : List ℕ) → i < length xs → x ≡ get_or xs i x

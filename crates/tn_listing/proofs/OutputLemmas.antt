@@ -1,6 +1,8 @@
 -- The listings of an output, session by session, and its parts.
-use Rattle.std.proofs.Common.{Bor, ◌≡◌, ◌∙◌, ℕ, zero, suc, ◌+◌, ◌≤◌, List, [], ◌∷◌, ◌++◌, length, take, Some, None, refl, sym, ap, append_assoc, append-nil, add-one, codes, arith}
+use Rattle.std.proofs.Common.{◌≡◌, ◌∙◌, ℕ, zero, suc, ◌+◌, ◌≤◌, List, [], ◌∷◌, ◌++◌, length, take, Option, Some, None, refl, sym, ap, append_assoc, append-nil, add-one, codes, arith}
 use Rattle.std.specs.Prelude.{slice_get, option_to_list}
+use Rattle.std.specs.Option.{option_map}
+use Rattle.std.proofs.lemmas.Option.{slice_get-map}
 use Rattle.def_term.specs.Tree.{Tree}
 use Rattle.def_term.specs.Names.{Name}
 use Rattle.def_script.specs.Program.{Program}
@@ -8,7 +10,7 @@ use Rattle.def_script.specs.Script.{creations}
 use Rattle.def_run.specs.Run.{moves}
 use Rattle.def_run.specs.Picks.{picks_text}
 use Rattle.def_run.specs.Listing.{messages, replies, lines_of, header_line, listing_text, listings_text, program_output}
-use Rattle.tn_trace.specs.Transcripts.{AreLinesOf}
+use Rattle.tn_trace.specs.Transcripts.{TranscriptValue, transcript_of}
 use Rattle.tn_listing.specs.Outputs.{listing_numbered, all_listings}
 
 -- one more session
@@ -41,9 +43,20 @@ pub all_are_listed : (p : Program) (picks : List ℕ) (i n : ℕ) (before now : 
 all_are_listed p picks i n before now size past so_far =
     so_far ∙ ap (λ ss. before ++ listings_text (λ s. messages s p picks) ss) (take_past (creations p.commands) i (omega arith))
 
+-- the lines at a place of a transcript are those of the session there
+lines_there : (p : Program) (picks : List ℕ) (i : ℕ) (t : TranscriptValue) (o : Option (List ℕ)) → t ≡ transcript_of p picks → o ≡ slice_get t.listings i
+    → o ≡ option_map (λ s. lines_of (messages s.0 p picks)) (slice_get (creations p.commands) i)
+lines_there p picks i t o is at =
+    at ∙ ap (λ (v : TranscriptValue). slice_get v.listings i) is ∙ slice_get-map (λ (s : Name × Name). lines_of (messages s.0 p picks)) (creations p.commands) i
+
+none_there : {X Y : Type 0} (f : X → Y) (o : Option X) → None ≡ option_map f o → o ≡ None
+none_there f None e = refl
+none_there f (Some x) e = absurd (cc e)
+
 -- no session has this number
-pub none_listed : (p : Program) (picks : List ℕ) (i : ℕ) (text : List ℕ) → slice_get (creations p.commands) i ≡ None → text ≡ text ++ listing_numbered p picks i
-none_listed p picks i text none =
+pub none_listed : (p : Program) (picks : List ℕ) (i : ℕ) (t : TranscriptValue) (text : List ℕ) → t ≡ transcript_of p picks → None ≡ slice_get t.listings i → text ≡ text ++ listing_numbered p picks i
+none_listed p picks i t text is at =
+    let none : slice_get (creations p.commands) i ≡ None = none_there _ _ (lines_there p picks i t None is at) in
     sym (append-nil text) ∙ ap (λ r. text ++ listings_text (λ s. messages s p picks) (option_to_list r)) (sym none)
 
 headed_lines : (before header reported lines headed after : List ℕ) → headed ≡ before ++ header → after ≡ headed ++ lines → lines ≡ reported → after ≡ before ++ (header ++ reported)
@@ -55,13 +68,13 @@ listed_as ms ss i s named =
     sym (append-nil (header_line s.0 s.1 ++ lines_of (ms s.0))) ∙ ap (λ q. listings_text ms (option_to_list q)) named
 
 -- the lines of the session at this place
-pub one_listed : (p : Program) (picks : List ℕ) (i : ℕ) (v : Bor (List ℕ)) (s : Name × Name) (before headed after : List ℕ) → AreLinesOf p picks i (Some v)
-    → Some s ≡ slice_get (creations p.commands) i → headed ≡ before ++ header_line s.0 s.1 → after ≡ headed ++ v.now → after ≡ before ++ listing_numbered p picks i
-one_listed p picks i v s before headed after lent named head added =
-    let which : Some lent.0 ≡ Some s = sym lent.1 ∙ sym named in
-    let own : lent.0 ≡ s = cc in
-    let own_lines : v.now ≡ lines_of (messages s.0 p picks) = lent.2 ∙ ap (λ (n : Name × Name). lines_of (messages n.0 p picks)) own in
-    headed_lines before (header_line s.0 s.1) (lines_of (messages s.0 p picks)) v.now headed after head added own_lines
+pub one_listed : (p : Program) (picks : List ℕ) (i : ℕ) (t : TranscriptValue) (v : List ℕ) (s : Name × Name) (before headed after : List ℕ) → t ≡ transcript_of p picks → Some v ≡ slice_get t.listings i
+    → Some s ≡ slice_get (creations p.commands) i → headed ≡ before ++ header_line s.0 s.1 → after ≡ headed ++ v → after ≡ before ++ listing_numbered p picks i
+one_listed p picks i t v s before headed after is at named head added =
+    let those : Some v ≡ Some (lines_of (messages s.0 p picks)) =
+    lines_there p picks i t (Some v) is at ∙ ap (option_map (λ (n : Name × Name). lines_of (messages n.0 p picks))) (sym named) in
+    let own_lines : v ≡ lines_of (messages s.0 p picks) = cc in
+    headed_lines before (header_line s.0 s.1) (lines_of (messages s.0 p picks)) v headed after head added own_lines
     ∙ ap (λ l. before ++ l) (listed_as (λ n. messages n p picks) (creations p.commands) i s named)
 
 pub all_parts : (start l1 l2 l3 l4 l5 l6 a b c d e f : List ℕ) → start ≡ [] → l1 ≡ start ++ a → l2 ≡ l1 ++ b → l3 ≡ l2 ++ c → l4 ≡ l3 ++ d → l5 ≡ l4 ++ e → l6 ≡ l5 ++ f → l6 ≡ a ++ b ++ c ++ d ++ e ++ f

@@ -7,8 +7,7 @@ use Rattle.def_run.specs.Listing.{messages, listings_text, program_output}
 use Rattle.def_run.specs.Round.{round}
 use Rattle.tn_program.specs.declared.parts.Program as code
 use Rattle.tn_program.specs.Views.{program_of}
-use Rattle.tn_trace.specs.declared.transcript.Transcript.{Transcript}
-use Rattle.tn_trace.specs.Transcripts.{IsTranscript}
+use Rattle.tn_trace.specs.Transcripts.{TranscriptValue, transcript_of}
 
 -- the new text is the old one with these bytes after it
 abbrev pub AddsText : {A : Type 0} → List ℕ → Vec ℕ A → Vec ℕ A → Type 0
@@ -27,9 +26,9 @@ abbrev pub output_of_round : Program → ℕ → List ℕ
 output_of_round p limit = program_output p (round p limit)
 
 -- this is so of the program and of whichever picks of it the transcript is of
-abbrev pub OnItsPicks : {A : Type 0} → code.Program A → Transcript A → (Program → List ℕ → Type 0) → Type 0
-OnItsPicks p t IsSo = (picks : List ℕ) → IsTranscript (program_of p) picks t → IsSo (program_of p) picks
+abbrev pub OnItsPicks : {A : Type 0} → code.Program A → TranscriptValue → (Program → List ℕ → Type 0) → Type 0
+OnItsPicks p t IsSo = (picks : List ℕ) → t ≡ transcript_of (program_of p) picks → IsSo (program_of p) picks
 
 -- a call that went well added this text of the program and of whichever picks of it the transcript is of
-abbrev pub Outputs : {A X E : Type 0} → (Program → List ℕ → List ℕ) → code.Program A → Transcript A → Result X E → Vec ℕ A → Vec ℕ A → Type 0
+abbrev pub Outputs : {A X E : Type 0} → (Program → List ℕ → List ℕ) → code.Program A → TranscriptValue → Result X E → Vec ℕ A → Vec ℕ A → Type 0
 Outputs bytes p t result old new = OnItsPicks p t (λ q picks. IfOk result (λ _. AddsText (bytes q picks) old new))

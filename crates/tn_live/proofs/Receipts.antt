@@ -1,5 +1,5 @@
 -- A receipt held against a record.
-use Rattle.std.proofs.Common.{◌≡◌, ◌∙◌, ℕ, suc, ◌+◌, ◌<◌, ◌≤◌, List, [], ◌∷◌, zero, length, map, get_or, Option, Some, None, refl, sym, ap, arith, IsTrue, ◌↔◌, Bool}
+use Rattle.std.proofs.Common.{◌≡◌, ◌∙◌, ℕ, suc, ◌+◌, ◌<◌, ◌≤◌, List, [], ◌∷◌, zero, length, map, get_or, Option, Some, None, refl, sym, ap, subst, arith, IsTrue, ◌↔◌, Bool}
 use Rattle.std.proofs.lemmas.Option.{slice_get_within, slice_get_read, get_or_from_slice_get}
 use Rattle.std.proofs.lemmas.List.{length-map}
 use Rattle.def_script.specs.Program.{Program}
@@ -11,10 +11,15 @@ use Rattle.tn_live.specs.declared.entry.Entry.{Entry}
 use Rattle.tn_live.specs.declared.entry.ItemPlace.{ItemPlace}
 use Rattle.tn_live.specs.declared.entry.Receipt.{Receipt}
 use Rattle.tn_live.specs.Journal.{entry, picks_of}
-use Rattle.tn_live.specs.Places.{item_place, item_places, reported_at, AreTold}
+use Rattle.tn_trace.specs.Cores.{CoreValue, core_of}
+use Rattle.tn_live.specs.Places.{item_place, item_places, reported_at, AreTold, TellsWhether}
 use Rattle.tn_live.specs.ClosedJournals.{Confirms}
 use Rattle.tn_live.proofs.Journals.{picks-length}
 use Rattle.tn_live.proofs.Answers.{places_at, places-length, answer_told, some_same}
+
+-- of a core whose program and journal are known
+pub told_of : (p : Program) (picks : List ℕ) (core : CoreValue) (result : Bool) (Holds : Program → List ℕ → Type 0) → core ≡ core_of p picks → TellsWhether core result Holds → IsTrue result ↔ Holds p picks
+told_of p picks core result Holds is tells = subst (λ (v : CoreValue). TellsWhether v result Holds) is tells picks refl
 
 entry_or : Entry → Option Entry → Entry
 entry_or e None = e

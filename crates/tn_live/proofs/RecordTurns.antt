@@ -1,12 +1,11 @@
 -- A record and what a seat has seen, through a turn.
-use Rattle.std.proofs.Common.{◌≡◌, ◌∙◌, ℕ, suc, ◌+◌, ◌<◌, ◌≤◌, List, [], ◌∷◌, ◌++◌, length, map, Some, Ok, Err, Result, refl, sym, ap, subst, arith, length-append}
+use Rattle.std.proofs.Common.{◌≡◌, ◌∙◌, ℕ, suc, ◌+◌, ◌<◌, ◌≤◌, List, [], ◌∷◌, ◌++◌, length, map, Some, IfSome, Ok, Err, Result, refl, sym, ap, subst, arith, length-append}
 use Rattle.def_script.specs.Program.{Program}
 use Rattle.def_run.specs.Run.{moves}
 use Rattle.def_run.specs.Listing.{Item as DefinedItem, answer}
 use Rattle.tn_trace.specs.Items.{item_seen}
-use Rattle.tn_trace.specs.Cores.{IsCore}
-use Rattle.tn_trace.specs.declared.run_core.Core.{Core}
-use Rattle.tn_trace.proofs.CoreLemmas.{core_moves}
+use Rattle.tn_trace.specs.Cores.{CoreValue, core_of, IsStepOf}
+use Rattle.tn_trace.specs.declared.item.Answer.{Answer}
 use Rattle.tn_live.specs.declared.entry.Entry.{Entry}
 use Rattle.tn_live.specs.declared.entry.Receipt.{Receipt}
 use Rattle.tn_live.specs.declared.entry.Turn.{Turn}
@@ -25,10 +24,11 @@ use Rattle.tn_live.proofs.Answers.{places_kept}
 
 module _ {A J : Type 0} (p : Program) where
   -- a record that differs in its core alone, which is of the same journal
-  pub record_as : (r q : Record A J) → IsRecord p r → q.front ≡ r.front → q.entries.items ≡ r.entries.items → q.places.items ≡ r.places.items → q.counts ≡ r.counts → IsCore p (picks_of r.entries.items) q.core → IsRecord p q
+  pub record_as : (r q : Record A J) → IsRecord p r → q.front ≡ r.front → q.entries.items ≡ r.entries.items → q.places.items ≡ r.places.items → q.counts ≡ r.counts → q.core ≡ core_of p (picks_of r.entries.items) → IsRecord p q
   record_as r q is front entries places counts core = record {
     reached = front ∙ is.reached ∙ sym entries;
-    core = subst (λ (es : List Entry). IsCore p (picks_of es) q.core) (sym entries) core;
+    core = core ∙ ap (λ (es : List Entry). core_of p (picks_of es)) (sym entries);
+    moved = subst (IsJournal p) (sym entries) is.moved;
     placed = ap (map (λ v. v.items)) places ∙ is.placed ∙ ap (λ (es : List Entry). item_places p (picks_of es) (length es)) (sym entries);
     counted = λ seat d below. ap (λ cs. Rattle.std.proofs.Common.get_or cs seat d) counts ∙ is.counted seat d below ∙ ap (made_by seat) (sym entries);
   }
@@ -43,7 +43,12 @@ module _ {A J : Type 0} (p : Program) where
   }
 
   pub record_same : (r q : Record A J) → IsRecord p r → SameRecord r q → IsRecord p q
-  record_same r q is same = record_as r q is same.front same.entries same.places same.counts (subst (IsCore p (picks_of r.entries.items)) (sym same.core) is.core)
+  record_same r q is same = record_as r q is same.front same.entries same.places same.counts (same.core ∙ is.core)
+
+  -- what a step of its core answers
+  pub core_steps : (r : Record A J) (pick : ℕ) (new : CoreValue) (result : Result (Answer A) StepFault) → IsRecord p r
+      → IfSome r.core.journal (λ picks. IsStepOf r.core.program picks pick new result) → IsStepOf p (picks_of r.entries.items) pick new result
+  core_steps r pick new result is h = subst (λ (v : CoreValue). IfSome v.journal (λ picks. IsStepOf v.program picks pick new result)) is.core h
 
   pub seen_same : (s t : Seen A J) → IsSeen p s → SameSeen s t → IsSeen p t
   seen_same s t is same = seen_as s t is same.front same.entries same.number same.made same.last
@@ -57,7 +62,7 @@ module _ {A J : Type 0} (p : Program) where
         seen_is = record {
           reached = front ∙ is'.reached ∙ sym shown;
           numbered = subst (λ n. n < 16) (sym number) seen.numbered;
-          moved = subst (IsJournal p) (sym whole) (core_moves p (picks_of r.entries.items) r.core is.core);
+          moved = subst (IsJournal p) (sym whole) is.moved;
           counted = made ∙ seen.counted ∙ sym (made_over s.number r.entries.items s.entries.items b) ∙ ap (λ es. made_by s.number es) (sym whole) ∙ ap (λ n. made_by n t.entries.items) (sym number);
           latest = last ∙ seen.latest ∙ sym (last_over s.number r.entries.items s.entries.items b) ∙ ap (λ es. last_by s.number es) (sym whole) ∙ ap (λ n. last_by n t.entries.items) (sym number);
         };
@@ -77,7 +82,8 @@ module _ {A J : Type 0} (p : Program) where
       places_kept p picks (pick ∷ []) (length es) moved.journal moved.moved.moved (omega (arith, picks-length es)) in
       let answered : items ≡ answer p (picks ++ pick ∷ []) (length es) = moved.moved.answered ∙ ap (answer p (picks ++ pick ∷ [])) (picks-length es) in record {
         reached = adds.front;
-        core = subst (λ c. IsCore p (picks_of q.entries.items) c) (sym adds.core) (subst (λ ps. IsCore p ps r.core) (sym grown) moved.moved.after);
+        core = adds.core ∙ moved.moved.after ∙ ap (core_of p) (sym grown);
+        moved = subst (λ ps. moves p ps ≡ ps) (sym grown) moved.moved.moved;
         placed =
             adds.places
             ∙ ap (λ vs. vs ++ map item_place items ∷ []) (moved.placed ∙ sym kept)

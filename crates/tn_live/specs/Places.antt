@@ -1,24 +1,23 @@
--- Where messages stand in the listings.
+-- Where messages are in the listings.
 use Rattle.std.specs.Prelude.{◌≡◌, ℕ, zero, suc, Bool, IsTrue, ◌↔◌, List, [], ◌∷◌, ◌++◌, map, Option, Some, None, slice_get}
 use Rattle.def_term.specs.Tree.{Tree}
 use Rattle.def_term.specs.Names.{Name}
 use Rattle.def_script.specs.Program.{Program}
 use Rattle.def_run.specs.Listing.{Item as DefinedItem, answer, messages}
 use Rattle.tn_trace.specs.Items.{item_seen}
-use Rattle.tn_trace.specs.Cores.{IsCore, creation_numbered}
+use Rattle.tn_trace.specs.Cores.{CoreValue, creation_numbered}
 use Rattle.tn_trace.specs.declared.item.Item.{Item}
-use Rattle.tn_trace.specs.declared.run_core.Core.{Core}
 use Rattle.tn_term.specs.Views.{tree_of}
 use Rattle.tn_term.specs.declared.term.Term.{Term}
 use Rattle.std.specs.Option.{option_map}
 use denote.Ref.{Bor}
 use Rattle.tn_live.specs.declared.entry.ItemPlace.{ItemPlace}
 
--- where a message stands
+-- where a message is
 abbrev pub item_place : DefinedItem → ItemPlace
 item_place x = record { session = x.session; index = x.index }
 
--- where the messages stand that each of the first n moves adds
+-- where the messages are that each of the first n moves adds
 abbrev pub item_places : Program → List ℕ → ℕ → List (List ItemPlace)
 item_places program picks zero = []
 item_places program picks (suc n) = item_places program picks n ++ map item_place (answer program picks n) ∷ []
@@ -44,11 +43,11 @@ reported_at program picks place = reported_message place (message_at program pic
 abbrev pub AreTold : {A : Type 0} → Program → List ℕ → List ItemPlace → List (Item A) → Type 0
 AreTold program picks places items = map (reported_at program picks) places ≡ map (λ x. Some (item_seen x)) items
 
--- whatever journal the core is of, the test is true exactly where this holds of it
-abbrev pub TellsWhether : {A : Type 0} → Core A → Bool → (Program → List ℕ → Type 0) → Type 0
-TellsWhether core result Holds = (p : Program) (picks : List ℕ) → IsCore p picks core → IsTrue result ↔ Holds p picks
+-- the test is true exactly where this holds of the core's program and journal
+abbrev pub TellsWhether : CoreValue → Bool → (Program → List ℕ → Type 0) → Type 0
+TellsWhether core result Holds = (picks : List ℕ) → core.journal ≡ Some picks → IsTrue result ↔ Holds core.program picks
 
--- whatever journal the core is of, this is the message at the place
-abbrev pub IsMessageAt : {A : Type 0} → Core A → ItemPlace → Option (Bor (Term A)) → Type 0
+-- this is the message at the place in the listings of the core's program and journal
+abbrev pub IsMessageAt : {A : Type 0} → CoreValue → ItemPlace → Option (Bor (Term A)) → Type 0
 IsMessageAt core place result =
-    (p : Program) (picks : List ℕ) → IsCore p picks core → option_map (λ t. tree_of t.now) result ≡ message_at p picks place
+    (picks : List ℕ) → core.journal ≡ Some picks → option_map (λ t. tree_of t.now) result ≡ message_at core.program picks place

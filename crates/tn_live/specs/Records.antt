@@ -1,7 +1,7 @@
 -- What a seat and a book keep.
 use Rattle.std.specs.Prelude.{◌≡◌, ℕ, ◌<◌, true, false, Bool, List, [], length, map, get_or, Option, Some, None}
 use Rattle.def_script.specs.Program.{Program}
-use Rattle.tn_trace.specs.Cores.{IsCore}
+use Rattle.tn_trace.specs.Cores.{core_of}
 use Rattle.tn_live.specs.declared.entry.Entry.{Entry}
 use Rattle.tn_live.specs.declared.record.Seen.{Seen}
 use Rattle.tn_live.specs.declared.record.Record.{Record}
@@ -21,10 +21,11 @@ pub record IsSeen {A J : Type 0} (program : Program) (s : Seen A J) : Type 0 whe
 abbrev pub CountsMade : List ℕ → List Entry → Type 0
 CountsMade counts entries = (seat d : ℕ) → seat < 16 → get_or counts seat d ≡ made_by seat entries
 
--- the core is that of the program and of the entries, each answer's messages stand at these places, and each seat's entries are counted
+-- the core is that of the program and of the entries, each of which moved; the messages of each answer are at these places, and each seat's entries are counted
 pub record IsRecord {A J : Type 0} (program : Program) (r : Record A J) : Type 0 where
   pub reached : r.front ≡ r.entries.items
-  pub core : IsCore program (picks_of r.entries.items) r.core
+  pub core : r.core ≡ core_of program (picks_of r.entries.items)
+  pub moved : IsJournal program r.entries.items
   pub placed : map (λ v. v.items) r.places.items ≡ item_places program (picks_of r.entries.items) (length r.entries.items)
   pub counted : CountsMade r.counts r.entries.items
 

@@ -46,7 +46,7 @@ fn all_fit<A: Allocator + Copy, J: JournalName>(book: &Book<A, J>, seats: &[Seat
 impl<A: Allocator + Copy, J: JournalName> Book<A, J> {
     ghost use Rattle.std.specs.Prelude.{◌≡◌, ◌≤◌, ◌<◌, [], false, IfOk, IfSome, IsTrue, ◌↔◌};
     ghost use Rattle.tn_program.specs.Views.{program_of};
-    ghost use Rattle.tn_trace.specs.Cores.{IsCore};
+    ghost use Rattle.tn_trace.specs.Cores.{core_of};
     ghost use Rattle.tn_live.specs.States.{SeatFits, book_of, AreFresh};
     ghost use Rattle.tn_live.specs.SeatTurns.{SeatTurns, SeatCounts, BookTurns};
     ghost use Rattle.tn_live.specs.ClosedJournals.{EndsJournal};
@@ -63,7 +63,7 @@ impl<A: Allocator + Copy, J: JournalName> Book<A, J> {
         new_log: NewLog,
         n: u32,
     ) -> Result<(Book<A, J>, Vec<Seat<A, J>, A>), AllocError>
-        requires core { IsCore J.program [] core }
+        requires core { core ≡ core_of J.program [] }
         requires named { new_log ≡ J.log }
         requires count { (0 < n) × (n ≤ 16) }
         ensures book { IfOk result (λ r. r.0 ≡ book_of []) }

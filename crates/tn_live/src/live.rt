@@ -53,7 +53,7 @@ impl<A: Allocator, J: JournalName> fmt::Debug for CloseFault<A, J> {
 
 impl<A: Allocator + Copy, J: JournalName> Live<A, J> {
     ghost use Rattle.std.specs.Prelude.{◌≡◌, ◌≤◌, ◌<◌, [], IfOk};
-    ghost use Rattle.tn_trace.specs.Cores.{IsCore};
+    ghost use Rattle.tn_trace.specs.Cores.{core_of};
     ghost use Rattle.tn_live.specs.States.{live_of, AreFresh};
     ghost use Rattle.tn_live.specs.SeatTurns.{SeatTurns, SeatCounts};
     ghost use Rattle.tn_live.specs.ClosedJournals.{Closes};
@@ -70,7 +70,7 @@ impl<A: Allocator + Copy, J: JournalName> Live<A, J> {
         new_log: NewLog,
         n: u32,
     ) -> Result<(Live<A, J>, Vec<Seat<A, J>, A>), AllocError>
-        requires core { IsCore J.program [] core }
+        requires core { core ≡ core_of J.program [] }
         requires named { new_log ≡ J.log }
         requires count { (0 < n) × (n ≤ 16) }
         ensures live { IfOk result (λ r. r.0 ≡ live_of n J.log) }

@@ -1,9 +1,9 @@
 -- What a pick gives, by what was picked.
-use Rattle.std.proofs.Common.{◌≡◌, ℕ, zero, suc, ◌+◌, ◌<◌, ◌≤◌, true, false, cond, List, length, ap, sym, ◌∙◌, arith}
+use Rattle.std.proofs.Common.{◌≡◌, ℕ, zero, suc, ◌+◌, ◌<◌, ◌≤◌, true, false, cond, Option, Some, ap, sym, ◌∙◌, arith}
 use Rattle.std.specs.Prelude.{nat_lt}
 use Rattle.std.proofs.lemmas.Bool.Decides.{nat_tests}
-use Rattle.def_script.specs.Program.{Function, Program}
-use Rattle.def_node.specs.Node.{World, NodeState, Move, PickResult, next, next_of, of_move, gives_command, gives_nothing}
+use Rattle.def_node.specs.Node.{Move, PickResult, pick_result, next_of, of_move, gives_command, gives_nothing}
+use Rattle.tn_node.specs.Nodes.{NodeValue, PickAnswer, next_node, answers_command, answers_nothing}
 
 lt_true : (a b : ℕ) → a < b → nat_lt a b ≡ true
 lt_true a b h = grind (arith, nat_tests)
@@ -11,27 +11,26 @@ lt_true a b h = grind (arith, nat_tests)
 lt_false : (a b : ℕ) → b ≤ a → nat_lt a b ≡ false
 lt_false a b h = grind (arith, nat_tests)
 
-pub control_more : (p : Program) (s : NodeState) (w : World) (taken commands : ℕ) → commands ≡ length p.commands → record { world = w; taken = taken } ≡ s → taken < commands
-    → gives_command (record { world = w; taken = taken + 1 }) (taken + 1) ≡ next p s 0
-control_more p s w taken commands all is below =
-    let one : taken + 1 ≡ suc taken = omega arith in
-    let here : NodeState = record { world = w; taken = taken } in
-    let G : ℕ → PickResult = λ k. gives_command (record { world = w; taken = k }) k in
-    ap G one
-    ∙ sym (ap (λ b. cond b (G (suc taken)) (gives_nothing here)) (lt_true taken (length p.commands) (omega (arith, all, below))))
-    ∙ ap (λ x. next p x 0) is
+-- the node once so many commands were taken, and the command that was the last of them
+abbrev takes : NodeValue → ℕ → Option NodeValue × PickAnswer
+takes n k = (Some (record n { state = record n.state { taken = k } }), answers_command k)
 
-pub control_done : (p : Program) (s : NodeState) (w : World) (taken commands : ℕ) → commands ≡ length p.commands → record { world = w; taken = taken } ≡ s → commands ≤ taken
-    → gives_nothing (record { world = w; taken = taken }) ≡ next p s 0
-control_done p s w taken commands all is past =
-    let here : NodeState = record { world = w; taken = taken } in
-    let G : ℕ → PickResult = λ k. gives_command (record { world = w; taken = k }) k in
-    sym (ap (λ b. cond b (G (suc taken)) (gives_nothing here)) (lt_false taken (length p.commands) (omega (arith, all, past))))
-    ∙ ap (λ x. next p x 0) is
+-- the node after a pick
+abbrev pub after_pick : NodeValue → ℕ → Option NodeValue × PickAnswer
+after_pick n pick = next_node n (pick_result n.functions n.commands n.state pick)
 
-pub process_pick : (p : Program) (s : NodeState) (ks : List Function) (w : World) (taken n : ℕ) (m : Move) → 0 < n → ks ≡ p.functions → record { world = w; taken = taken } ≡ s
-    → m ≡ next_of ks w n → of_move (record { world = w; taken = taken }) m ≡ next p s n
-process_pick p s ks w taken zero m positive same is moved = absurd (omega arith)
-process_pick p s ks w taken (suc n) m positive same is moved =
-    let here : NodeState = record { world = w; taken = taken } in
-    ap (of_move here) (moved ∙ ap (λ fs. next_of fs w (suc n)) same) ∙ ap (λ x. next p x (suc n)) is
+pub control_more : (n : NodeValue) → n.state.taken < n.commands → after_pick n 0 ≡ takes n (n.state.taken + 1)
+control_more n below =
+    let k : ℕ = suc n.state.taken in
+    let more : PickResult = gives_command (record n.state { taken = k }) k in
+    ap (λ b. next_node n (cond b more (gives_nothing n.state))) (lt_true n.state.taken n.commands below) ∙ ap (takes n) (omega arith)
+
+pub control_done : (n : NodeValue) → n.commands ≤ n.state.taken → after_pick n 0 ≡ (Some n, answers_nothing)
+control_done n past =
+    let k : ℕ = suc n.state.taken in
+    let more : PickResult = gives_command (record n.state { taken = k }) k in
+    ap (λ b. next_node n (cond b more (gives_nothing n.state))) (lt_false n.state.taken n.commands past)
+
+pub process_pick : (n : NodeValue) (pid : ℕ) (m : Move) → 0 < pid → m ≡ next_of n.functions n.state.world pid → after_pick n pid ≡ next_node n (of_move n.state m)
+process_pick n zero m positive moved = absurd (omega arith)
+process_pick n (suc k) m positive moved = sym (ap (λ x. next_node n (of_move n.state x)) moved)

@@ -1,3 +1,4 @@
 pub mod NodeEvents
 pub mod Worlds
+pub mod Codes
 pub mod Nodes

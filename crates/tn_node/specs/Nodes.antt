@@ -1,50 +1,55 @@
--- What the code's node stands for.
-use Rattle.std.specs.Prelude.{◌≡◌, ℕ, length, map, Option, Some, None, Result, IfOk}
-use Rattle.def_script.specs.Program.{Program}
+-- What the code's node stands for, and a step of it.
+use Rattle.std.specs.Prelude.{ℕ, List, length, map, Option, Some, refl}
+use Rattle.std.specs.Coded.{Coded, code_by, coded_ℕ, coded_list, coded×}
+use Rattle.def_script.specs.Program.{Function, Program}
+use Rattle.def_node.specs.Event.{Event}
 use Rattle.def_node.specs.Node as node
-use Rattle.def_node.specs.Node.{next}
 use Rattle.tn_flags.specs.Views.{event_of}
 use Rattle.tn_script.specs.Views.{functions_of}
+use Rattle.tn_node.specs.Codes.{function_code, state_code}
 use Rattle.tn_node.specs.Worlds.{world_of}
 use Rattle.tn_node.specs.declared.step_outcome.Moved as code
 use Rattle.tn_node.specs.declared.step_outcome.Moved.{Moved}
 use Rattle.tn_node.specs.declared.node.State.{State}
-use Rattle.tn_node.specs.declared.node.Node.{Node}
 
-abbrev pub node_state_of : {A : Type 0} → State A → node.NodeState
-node_state_of s = record { world = world_of s.world; taken = s.taken }
+-- a node that was not refused memory: the functions of its program, the number of its commands, and its state
+pub record NodeValue : Type 0 where
+  pub functions : List Function
+  pub commands : ℕ
+  pub state : node.NodeState
 
--- the code's state runs this program, and stands for this state
-abbrev pub IsNodeOf : {A : Type 0} → Program → node.NodeState → State A → Type 0
-IsNodeOf p s c = (functions_of c.functions.items ≡ p.functions) × (c.commands ≡ length p.commands) × (node_state_of c ≡ s)
+-- it is stored as the tuple of its fields
+abbrev pub node_code : Coded NodeValue
+node_code =
+    code_by (List Function × (ℕ × node.NodeState)) (coded× (coded_list function_code) (coded× coded_ℕ state_code)) (λ n. (n.functions, (n.commands, n.state)))
+    (λ p. record { functions = p.0; commands = p.1.0; state = p.1.1 }) (λ _. refl)
 
-abbrev pub IsNodeIn : {A : Type 0} → Program → node.NodeState → Option (State A) → Type 0
-IsNodeIn p s None = ⊥
-IsNodeIn p s (Some c) = IsNodeOf p s c
+-- a node of the program, in this state
+abbrev pub node_at : Program → node.NodeState → NodeValue
+node_at p s = record { functions = p.functions; commands = length p.commands; state = s }
 
--- the node runs this program, and is in this state
-abbrev pub IsNodeAt : {A : Type 0} → Program → node.NodeState → Node A → Type 0
-IsNodeAt p s n = IsNodeIn p s n.state
+-- what a step of a node answers: events, the number of the next command (from 1), or nothing
+pub data PickAnswer : Type 0 where
+  answers_events : List Event → PickAnswer
+  answers_command : ℕ → PickAnswer
+  answers_nothing : PickAnswer
 
--- the node was refused memory
-abbrev pub IsNodeSpent : {A : Type 0} → Node A → Type 0
-IsNodeSpent n = n.state ≡ None
+-- the node after a pick, beside what the pick answers
+abbrev pub next_node : NodeValue → node.PickResult → Option NodeValue × PickAnswer
+next_node n (node.gives_events s es) = (Some (record n { state = s }), answers_events es)
+next_node n (node.gives_command s k) = (Some (record n { state = s }), answers_command k)
+next_node n (node.gives_nothing s) = (Some (record n { state = s }), answers_nothing)
 
--- what a pick gives, where s is the state afterwards
-abbrev pub next_seen : {A : Type 0} → node.NodeState → Moved A → node.PickResult
-next_seen s (code.TheVariants.Moved es) = node.gives_events s (map event_of es.items)
-next_seen s (code.TheVariants.Control n) = node.gives_command s n
-next_seen s code.TheVariants.Idle = node.gives_nothing s
+-- what the code's answer stands for
+abbrev pub moved_seen : {A : Type 0} → Moved A → PickAnswer
+moved_seen (code.TheVariants.Moved es) = answers_events (map event_of es.items)
+moved_seen (code.TheVariants.Control n) = answers_command n
+moved_seen code.TheVariants.Idle = answers_nothing
 
--- what the pick gives in the state s, with the code's state after it
-abbrev pub StepsTo : {A : Type 0} → Program → node.NodeState → State A → ℕ → Moved A → Type 0
-StepsTo p s new pick m = IsNodeOf p (node_state_of new) new × (next_seen (node_state_of new) m ≡ next p s pick)
-
--- whatever program the code's state runs, and in whatever state: the pick gives what the definition gives
-abbrev pub StateGoesOn : {A E : Type 0} → State A → State A → ℕ → Result (Moved A) E → Type 0
-StateGoesOn old new pick r = (p : Program) (s : node.NodeState) → IsNodeOf p s old → IfOk r (StepsTo p s new pick)
-
--- the same of a node
-abbrev pub GoesOn : {A E : Type 0} → Node A → Node A → ℕ → Result (Moved A) E → Type 0
-GoesOn old new pick r =
-    (p : Program) (s : node.NodeState) → IsNodeAt p s old → IfOk r (λ m. (t : node.NodeState) × IsNodeAt p t new × (next_seen t m ≡ next p s pick))
+-- what the code's state stands for
+abbrev pub node_seen : {A : Type 0} → State A → NodeValue
+node_seen c = record {
+  functions = functions_of c.functions.items;
+  commands = c.commands;
+  state = record { world = world_of c.world; taken = c.taken };
+}

@@ -1,8 +1,8 @@
 //! The node: all processes of a run, and one step of one of them.
 //!
 //! Depends on tn_process and on the definitions of def_node. Promises that `Node::new` is the state of
-//! the program before any pick, and that `Node::step` answers what the definition's `next` gives for a
-//! pick, the events in order, the next command's number or nothing, and has the state after it. A node
+//! the program before any pick, and that `Node::step` answers what the definition's `pick_result` gives
+//! for a pick, the events in order, the next command's number or nothing, and has the state after it. A node
 //! that was refused memory is spent: it answers the refusal from then on. It knows nothing of sessions.
 #![tactic(auto)]
 

@@ -2,6 +2,7 @@
 use crate::step_outcome::Moved;
 use crate::world::World;
 use std::alloc::{AllocError, Allocator};
+use std::marker::Model;
 use tn_program::Program;
 use tn_script::{Function, copy_functions};
 
@@ -15,22 +16,35 @@ pub struct State<A: Allocator> {
     world: World<A>,
 }
 
-/// A node that runs a program. It has no state once it was refused memory.
+/// A node that runs a program, seen as its functions, the number of its commands and its state. It has none
+/// of these once it was refused memory.
 #[derive(Drop)]
 pub struct Node<A: Allocator> {
     state: Option<State<A>>,
 }
 
+impl<A: Allocator> Model for Node<A> {
+    ghost use Rattle.std.specs.Prelude.{Option};
+    ghost use Rattle.std.specs.Coded.{coded_option};
+    ghost use Rattle.std.specs.Option.{option_map};
+    ghost use Rattle.tn_node.specs.Nodes.{NodeValue, node_code, node_seen};
+
+    ghost Value = { Option NodeValue };
+
+    ghost coded = { coded_option node_code };
+
+    ghost view = { λ n. option_map node_seen n.state };
+}
+
 impl<A: Allocator + Copy> State<A> {
-    ghost use Rattle.std.specs.Prelude.{◌≡◌, ◌<◌, IfOk};
-    ghost use Rattle.def_script.specs.Program as program;
-    ghost use Rattle.def_node.specs.Node as node;
+    ghost use Rattle.std.specs.Prelude.{◌≡◌, ◌<◌, Some, IfOk};
+    ghost use Rattle.def_node.specs.Node.{opening_state, pick_result};
     ghost use Rattle.tn_program.specs.Views.{program_of};
-    ghost use Rattle.tn_node.specs.Nodes.{IsNodeOf, StepsTo, StateGoesOn};
+    ghost use Rattle.tn_node.specs.Nodes.{node_at, node_seen, next_node, moved_seen};
 
     /// The state before any pick.
     fn new(alloc: A, program: &Program<A>) -> Result<State<A>, AllocError>
-        ensures { IfOk result (λ s. IsNodeOf (program_of program.now) (node.opening_state (program_of program.now)) s) }
+        ensures { let p = program_of program.now in IfOk result (λ s. node_seen s ≡ node_at p (opening_state p)) }
     {
         let functions = copy_functions(alloc, program.functions())?;
         let world = World::new(alloc, program.entries())?;
@@ -45,7 +59,8 @@ impl<A: Allocator + Copy> State<A> {
 
     /// Takes the next command of the control list.
     fn step_control(&mut self) -> Moved<A>
-        ensures { (p : program.Program) (s : node.NodeState) → IsNodeOf p s self.old → StepsTo p s self.new 0 result }
+        ensures { let n = node_seen self.old in next_node n (pick_result n.functions n.commands n.state 0) ≡
+            (Some (node_seen self.new), moved_seen result) }
     {
         if self.taken < self.commands {
             self.taken += 1;
@@ -58,7 +73,8 @@ impl<A: Allocator + Copy> State<A> {
     /// A step of the process with this pid.
     fn step_process(&mut self, pid: u32) -> Result<Moved<A>, AllocError>
         requires { 0 < pid }
-        ensures { StateGoesOn self.old self.new pid result }
+        ensures { let n = node_seen self.old in IfOk result (λ m.
+            next_node n (pick_result n.functions n.commands n.state pid) ≡ (Some (node_seen self.new), moved_seen m)) }
     {
         match self.world.step(self.alloc, &self.functions, pid)? {
             Some(events) => Ok(Moved::Moved(events)),
@@ -68,7 +84,8 @@ impl<A: Allocator + Copy> State<A> {
 
     /// One pick.
     fn step(&mut self, pick: u32) -> Result<Moved<A>, AllocError>
-        ensures { StateGoesOn self.old self.new pick result }
+        ensures { let n = node_seen self.old in IfOk result (λ m.
+            next_node n (pick_result n.functions n.commands n.state pick) ≡ (Some (node_seen self.new), moved_seen m)) }
     {
         if pick == 0 {
             Ok(self.step_control())
@@ -79,15 +96,15 @@ impl<A: Allocator + Copy> State<A> {
 }
 
 impl<A: Allocator + Copy> Node<A> {
-    ghost use Rattle.std.specs.Prelude.{◌≡◌, IfOk, IsErr, OnErr};
-    ghost use Rattle.def_script.specs.Program as program;
-    ghost use Rattle.def_node.specs.Node as node;
+    ghost use Rattle.std.specs.Prelude.{◌≡◌, Some, None, IfOk, OnErr};
+    ghost use Rattle.std.specs.Option.{IsSomeAnd};
+    ghost use Rattle.def_node.specs.Node.{opening_state, pick_result};
     ghost use Rattle.tn_program.specs.Views.{program_of};
-    ghost use Rattle.tn_node.specs.Nodes.{IsNodeAt, IsNodeSpent, GoesOn};
+    ghost use Rattle.tn_node.specs.Nodes.{node_at, next_node, moved_seen};
 
     /// The node of the program, before any pick.
     pub fn new(alloc: A, program: &Program<A>) -> Result<Node<A>, AllocError>
-        ensures { IfOk result (λ n. IsNodeAt (program_of program.now) (node.opening_state (program_of program.now)) n) }
+        ensures { let p = program_of program.now in IfOk result (λ n. n ≡ Some (node_at p (opening_state p))) }
     {
         Ok(Node {
             state: Some(State::new(alloc, program)?),
@@ -101,9 +118,9 @@ impl<A: Allocator + Copy> Node<A> {
     ///
     /// AllocError where memory was refused, in this step or an earlier one: the node is spent.
     pub fn step(&mut self, pick: u32) -> Result<Moved<A>, AllocError>
-        ensures moved { GoesOn self.old self.new pick result }
-        ensures spent { IsNodeSpent self.old → IsErr result }
-        ensures refused { OnErr result (IsNodeSpent self.new) }
+        ensures moved { IfOk result (λ m. IsSomeAnd self.old (λ n.
+            next_node n (pick_result n.functions n.commands n.state pick) ≡ (self.new, moved_seen m))) }
+        ensures refused { OnErr result (self.new ≡ None) }
     {
         match &mut self.state {
             None => Err(AllocError),

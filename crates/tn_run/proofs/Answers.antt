@@ -6,7 +6,7 @@ use Rattle.def_run.specs.Picks.{SpellsPicks}
 use Rattle.def_run.specs.Output.{IsOutput, IsRoundOutput, lists, refuses, refuses_picks, lists_round, refuses_round, refusal_text}
 use Rattle.tn_refusal.specs.Refusals.{refusal_of}
 use Rattle.tn_run.specs.declared.outcome.Outcome.TheVariants.{Listed, Refused}
-use Rattle.tn_run.specs.Answers.{by_picks, by_round, by_workers, HasPicks}
+use Rattle.tn_run.specs.Answers.{by_picks, HasPicks}
 use Rattle.tn_run.specs.Laws.{RunIsAsDefined, RoundIsAsDefined, WorkersRunAsDefined}
 use Rattle.tn_run.proofs.JobLemmas.{refused_by}
 

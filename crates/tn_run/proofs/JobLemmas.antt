@@ -2,7 +2,7 @@
 use Rattle.std.proofs.Common.{◌≡◌, ◌∙◌, ◌⊎◌, inl, inr, ℕ, true, List, Option, None, Some, IfSome, Ok, Err, refl, ap, subst}
 use Rattle.std.specs.declared.vec.Vec.{Vec}
 use Rattle.def_script.specs.Script as script
-use Rattle.def_script.specs.Script.{Refusal, IsScript, IsRefused, too_long}
+use Rattle.def_script.specs.Script.{Refusal, IsRefused, too_long}
 use Rattle.tn_text.specs.Watch.{watched_inner, has_failed}
 use Rattle.tn_text.specs.declared.watched.Watched.{Watched}
 use Rattle.tn_run.specs.Ends.{WritesFront, WroteFront}

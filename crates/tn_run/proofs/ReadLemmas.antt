@@ -1,5 +1,5 @@
 -- What was read of a script, and the answer that belongs to it.
-use Rattle.std.proofs.Common.{◌≡◌, ◌≢◌, ◌∙◌, ℕ, ◌+◌, ◌<◌, ◌≤◌, true, List, [], ◌++◌, length, Option, None, Some, IfSome, MatchOption, Result, Ok, Err, IfOk, IfErr, refl, sym, subst, ap, append-nil, arith, length-append}
+use Rattle.std.proofs.Common.{◌≡◌, ◌≢◌, ◌∙◌, ℕ, ◌≤◌, List, [], ◌++◌, length, Option, None, Some, IfSome, MatchOption, Result, Ok, Err, IfOk, IfErr, sym, subst, ap, append-nil, arith}
 use Rattle.std.specs.declared.vec.Vec.{Vec}
 use Rattle.def_script.specs.Program as defined
 use Rattle.def_script.specs.Script.{IsScript}

@@ -9,7 +9,7 @@ use Rattle.def_node.specs.Node.{World, Move, moved, idle, next_of, place_of_pid,
 use Rattle.def_node.specs.Limits.{IsWithin, world_after}
 use Rattle.def_node.proofs.Limits.{next_keeps, opening_within}
 use Rattle.def_node.proofs.Steps.{living_nowhere}
-use Rattle.def_run.specs.Run.{RunState, goes_to, takes_command, pick_step_with, pick_step, run_state_after, start}
+use Rattle.def_run.specs.Run.{RunState, goes_to, takes_command, pick_step_with, pick_step, run_state_after, start, run_state_of}
 use Rattle.def_run.specs.Round.{pass, pass_from}
 use Rattle.def_run.specs.Laws.{IsIdleAfter}
 use Rattle.tn_run.specs.Laws.{RestIsOfAllPicks}
@@ -77,7 +77,7 @@ in_pass P rests n low high =
 pub rest_is_of_all_picks : RestIsOfAllPicks
 rest_is_of_all_picks p picks few rests zero = All-get_or (IsIdleAfter p picks) (0 ∷ pass_from 64 100) 0 0 (omega arith) rests
 rest_is_of_all_picks p picks few rests (suc n) =
-    let q : RunState = run_state_after p.functions (start p) picks in
+    let q : RunState = run_state_of p picks in
     let within : IsWithin q.world = place_within p.functions (start p) picks (opening_within p.entries few) in
     let other : place_of_pid q.world (suc n) ≡ None → IsIdleAfter p picks (suc n) = idle_turn p.functions q q.room n in
     elim (nat_lt n 99) as (λ b. nat_lt n 99 ≡ b → IsIdleAfter p picks (suc n)) [

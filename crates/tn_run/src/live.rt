@@ -1,7 +1,7 @@
 // A run by workers: a script in, and the output of the journal that they made out.
 ghost use Rattle.std.specs.Prelude.{◌≡◌, [], IfOk, IfErr};
 ghost use Rattle.tn_program.specs.Views.{program_of};
-ghost use Rattle.tn_trace.specs.Cores.{IsCore};
+ghost use Rattle.tn_trace.specs.Cores.{core_of};
 ghost use Rattle.tn_run.specs.RestingSeats.{RunsToRest, IsClosedOutput};
 ghost use Rattle.tn_run.specs.Answers.{live_run};
 ghost use Rattle.tn_run.specs.Jobs.{IsOfNoEnd, IsProgramAnswer, Meets, Prepares};
@@ -72,7 +72,7 @@ fn run_core<J: JournalName + Send + Sync, T: Threads + Wait + Sync, G: Gate>(
     new_log: NewLog,
     workers: &Workers<'_, G>,
 ) -> Result<(Vec<u32>, Vec<u8>), LiveFault>
-    requires core { IsCore J.program [] core }
+    requires core { core ≡ core_of J.program [] }
     requires named { new_log ≡ J.log }
     requires count { IsWorkerCount workers.now.count }
     ensures output { IfOk result (λ r. RunsToRest J.program r.0.items r.1.items) }

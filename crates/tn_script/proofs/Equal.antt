@@ -1,9 +1,9 @@
 -- Lists, seen by a view, compared from the front.
-use Rattle.std.proofs.Common.{◌≡◌, ◌↔◌, ℕ, ◌+◌, ◌<◌, ◌≤◌, List, ◌∷◌, length, get_or, drop, map, sym, ap, ap₂, ◌∙◌, Bool, IsTrue}
+use Rattle.std.proofs.Common.{◌≡◌, ◌↔◌, ℕ, ◌+◌, ◌<◌, List, ◌∷◌, length, get_or, drop, map, sym, ap, ap₂, ◌∙◌, Bool, IsTrue}
 use Rattle.def_term.specs.Names.{Name}
 use Rattle.def_script.specs.Program.{Step}
 use Rattle.def_script.specs.Shapes.{function_from}
-use Rattle.std.proofs.lemmas.List.{drop_more, drop_all, length-map}
+use Rattle.std.proofs.lemmas.List.{drop_more, length-map}
 
 abbrev pub EqualSo : {X Z : Type 0} (f : X → Z) (xs ys : List X) (i : ℕ) → Type 0
 EqualSo f xs ys i = (map f (drop i xs) ≡ map f (drop i ys)) ↔ (map f xs ≡ map f ys)
@@ -28,9 +28,6 @@ equal_next f xs ys i x y p q is js e so_far = (
   λ rest. so_far.0 (here f xs i x p is ∙ ap₂ (λ a cs. a ∷ cs) e rest ∙ sym (here f ys i y q js)),
   λ all. tails (f x) (f y) (map f (drop (i + 1) xs)) (map f (drop (i + 1) ys)) (sym (here f xs i x p is) ∙ so_far.1 all ∙ here f ys i y q js),
 )
-
-pub equal_all : {X Z : Type 0} (f : X → Z) (xs ys : List X) (i : ℕ) → length xs ≤ i → length ys ≤ i → EqualSo f xs ys i → map f xs ≡ map f ys
-equal_all f xs ys i p q so_far = so_far.0 (ap (map f) (drop_all i xs p) ∙ sym (ap (map f) (drop_all i ys q)))
 
 -- what a test of lent lists says of the lists
 pub seen_equal : {X Z : Type 0} (f : X → Z) (xs ys vs ws : List X) (r : Bool) → vs ≡ xs → ws ≡ ys → IsTrue r ↔ (map f vs ≡ map f ws) → IsTrue r ↔ (map f xs ≡ map f ys)

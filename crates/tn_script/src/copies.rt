@@ -4,12 +4,34 @@ ghost use Rattle.def_script.specs.Program.{call_remote, catch, spawn};
 ghost use Rattle.def_script.specs.Program.{set_processes, set_function, set_send, set_receive};
 ghost use Rattle.tn_term.specs.Views.{tree_of};
 ghost use Rattle.tn_flags.specs.Views.{command_of};
-ghost use Rattle.tn_script.specs.Views.{args_of, entry_of, step_of, function_of, functions_of};
+ghost use Rattle.tn_script.specs.Views.{args_of, entry_of, step_of, functions_of};
 
 use crate::form::{Arguments, Entry, Function, Step};
+use crate::same::Part;
 use std::alloc::{AllocError, Allocator};
 use tn_flags::Command;
 use tn_term::{Atom, Term, copy_terms};
+
+/// A part of a form that can be copied.
+trait PartCopy<A: Allocator + Copy>: Part + Drop {
+    /// The same part.
+    fn copy(&self, alloc: A) -> Result<Self, AllocError>
+        ensures { IfOk result (λ p. Self.seen p ≡ Self.seen self.now) };
+}
+
+/// The same parts.
+fn copy_each<A: Allocator + Copy, P: PartCopy<A>>(
+    alloc: A,
+    parts: &[P],
+) -> Result<Vec<P, A>, AllocError>
+    ensures { IfOk result (λ v. map P.seen v.items ≡ map P.seen parts.now) }
+{
+    let mut copies = Vec::new(alloc);
+    for part in parts {
+        copies.push(part.copy(alloc)?)?;
+    }
+    Ok(copies)
+}
 
 /// The same target.
 pub fn copy_target<A: Allocator + Copy>(
@@ -122,122 +144,6 @@ fn copy_spawn<A: Allocator + Copy>(
     })
 }
 
-/// The same step.
-fn copy_step<A: Allocator + Copy>(alloc: A, step: &Step<A>) -> Result<Step<A>, AllocError>
-    ensures { IfOk result (λ s. step_of s ≡ step_of step.now) }
-{
-    match step {
-        Step::Send { to, message } => Ok(Step::Send {
-            to: to.copy_into(alloc)?,
-            message: message.copy_into(alloc)?,
-        }),
-        Step::Receive { target } => Ok(Step::Receive {
-            target: copy_target(alloc, target)?,
-        }),
-        Step::CallRemote {
-            target,
-            module,
-            name,
-            args,
-        } => copy_remote_call(alloc, target, module, name, args),
-        Step::CallLocal { target, name, args } => {
-            let (target, name, args) = copy_callee(alloc, target, name, args)?;
-            Ok(Step::CallLocal { target, name, args })
-        }
-        Step::Catch {
-            target,
-            module,
-            name,
-            args,
-        } => copy_catch(alloc, target, module, name, args),
-        Step::Spawn {
-            target,
-            module,
-            name,
-            args,
-        } => copy_spawn(alloc, target, module, name, args),
-        Step::Link(other) => Ok(Step::Link(other.copy_into(alloc)?)),
-        Step::Unlink(other) => Ok(Step::Unlink(other.copy_into(alloc)?)),
-        Step::Return(value) => Ok(Step::Return(value.copy_into(alloc)?)),
-        Step::Raise { class, value } => Ok(Step::Raise {
-            class: *class,
-            value: value.copy_into(alloc)?,
-        }),
-    }
-}
-
-/// The same steps.
-fn copy_steps<A: Allocator + Copy>(
-    alloc: A,
-    steps: &[Step<A>],
-) -> Result<Vec<Step<A>, A>, AllocError>
-    ensures { IfOk result (λ v. map step_of v.items ≡ map step_of steps.now) }
-{
-    let mut copies = Vec::new(alloc);
-    for step in steps {
-        copies.push(copy_step(alloc, step)?)?;
-    }
-    Ok(copies)
-}
-
-/// The same names.
-fn copy_names<A: Allocator + Copy>(
-    alloc: A,
-    names: &[Atom<A>],
-) -> Result<Vec<Atom<A>, A>, AllocError>
-    ensures { IfOk result (λ v. v.items ≡ names.now) }
-{
-    let mut copies = Vec::new(alloc);
-    for name in names {
-        copies.push(name.copy_into(alloc)?)?;
-    }
-    Ok(copies)
-}
-
-/// The same function.
-fn copy_function<A: Allocator + Copy>(
-    alloc: A,
-    function: &Function<A>,
-) -> Result<Function<A>, AllocError>
-    ensures { IfOk result (λ k. function_of k ≡ function_of function.now) }
-{
-    Ok(Function {
-        module: function.module.copy_into(alloc)?,
-        name: function.name.copy_into(alloc)?,
-        exported: function.exported,
-        params: copy_names(alloc, &function.params)?,
-        steps: copy_steps(alloc, &function.steps)?,
-    })
-}
-
-/// The same functions.
-pub fn copy_functions<A: Allocator + Copy>(
-    alloc: A,
-    functions: &[Function<A>],
-) -> Result<Vec<Function<A>, A>, AllocError>
-    ensures { IfOk result (λ v. functions_of v.items ≡ functions_of functions.now) }
-{
-    let mut copies = Vec::new(alloc);
-    for function in functions {
-        copies.push(copy_function(alloc, function)?)?;
-    }
-    Ok(copies)
-}
-
-/// The same entry calls.
-pub fn copy_entries<A: Allocator + Copy>(
-    alloc: A,
-    entries: &[Entry<A>],
-) -> Result<Vec<Entry<A>, A>, AllocError>
-    ensures { IfOk result (λ v. map entry_of v.items ≡ map entry_of entries.now) }
-{
-    let mut copies = Vec::new(alloc);
-    for entry in entries {
-        copies.push(copy_entry(alloc, entry)?)?;
-    }
-    Ok(copies)
-}
-
 /// The same three terms.
 fn copy_three<A: Allocator + Copy>(
     alloc: A,
@@ -324,42 +230,125 @@ fn copy_receive_setting<A: Allocator + Copy>(
     })
 }
 
-/// The same command.
-fn copy_command<A: Allocator + Copy>(
-    alloc: A,
-    command: &Command<A>,
-) -> Result<Command<A>, AllocError>
-    ensures { IfOk result (λ c. command_of c ≡ command_of command.now) }
-{
-    match command {
-        Command::SessionCreate { session, tracer } => Ok(Command::SessionCreate {
-            session: session.copy_into(alloc)?,
-            tracer: tracer.copy_into(alloc)?,
-        }),
-        Command::SessionDestroy { session } => Ok(Command::SessionDestroy {
-            session: session.copy_into(alloc)?,
-        }),
-        Command::Process {
-            session,
-            procs,
-            how,
-            flags,
-        } => copy_process_setting(alloc, session, procs, how, flags),
-        Command::Function {
-            session,
-            mfa,
-            specification,
-            options,
-        } => copy_function_setting(alloc, session, mfa, specification, options),
-        Command::Send {
-            session,
-            specification,
-        } => copy_send_setting(alloc, session, specification),
-        Command::Recv {
-            session,
-            specification,
-        } => copy_receive_setting(alloc, session, specification),
+impl<A: Allocator + Copy> PartCopy<A> for Atom<A> {
+    fn copy(&self, alloc: A) -> Result<Self, AllocError> {
+        self.copy_into(alloc)
     }
+}
+
+impl<A: Allocator + Copy> PartCopy<A> for Step<A> {
+    fn copy(&self, alloc: A) -> Result<Self, AllocError> {
+        match self {
+            Step::Send { to, message } => Ok(Step::Send {
+                to: to.copy_into(alloc)?,
+                message: message.copy_into(alloc)?,
+            }),
+            Step::Receive { target } => Ok(Step::Receive {
+                target: copy_target(alloc, target)?,
+            }),
+            Step::CallRemote {
+                target,
+                module,
+                name,
+                args,
+            } => copy_remote_call(alloc, target, module, name, args),
+            Step::CallLocal { target, name, args } => {
+                let (target, name, args) = copy_callee(alloc, target, name, args)?;
+                Ok(Step::CallLocal { target, name, args })
+            }
+            Step::Catch {
+                target,
+                module,
+                name,
+                args,
+            } => copy_catch(alloc, target, module, name, args),
+            Step::Spawn {
+                target,
+                module,
+                name,
+                args,
+            } => copy_spawn(alloc, target, module, name, args),
+            Step::Link(other) => Ok(Step::Link(other.copy_into(alloc)?)),
+            Step::Unlink(other) => Ok(Step::Unlink(other.copy_into(alloc)?)),
+            Step::Return(value) => Ok(Step::Return(value.copy_into(alloc)?)),
+            Step::Raise { class, value } => Ok(Step::Raise {
+                class: *class,
+                value: value.copy_into(alloc)?,
+            }),
+        }
+    }
+}
+
+impl<A: Allocator + Copy> PartCopy<A> for Function<A> {
+    fn copy(&self, alloc: A) -> Result<Self, AllocError> {
+        Ok(Function {
+            module: self.module.copy_into(alloc)?,
+            name: self.name.copy_into(alloc)?,
+            exported: self.exported,
+            params: copy_each(alloc, &self.params)?,
+            steps: copy_each(alloc, &self.steps)?,
+        })
+    }
+}
+
+impl<A: Allocator + Copy> PartCopy<A> for Entry<A> {
+    fn copy(&self, alloc: A) -> Result<Self, AllocError> {
+        copy_entry(alloc, self)
+    }
+}
+
+impl<A: Allocator + Copy> PartCopy<A> for Command<A> {
+    fn copy(&self, alloc: A) -> Result<Self, AllocError> {
+        match self {
+            Command::SessionCreate { session, tracer } => Ok(Command::SessionCreate {
+                session: session.copy_into(alloc)?,
+                tracer: tracer.copy_into(alloc)?,
+            }),
+            Command::SessionDestroy { session } => Ok(Command::SessionDestroy {
+                session: session.copy_into(alloc)?,
+            }),
+            Command::Process {
+                session,
+                procs,
+                how,
+                flags,
+            } => copy_process_setting(alloc, session, procs, how, flags),
+            Command::Function {
+                session,
+                mfa,
+                specification,
+                options,
+            } => copy_function_setting(alloc, session, mfa, specification, options),
+            Command::Send {
+                session,
+                specification,
+            } => copy_send_setting(alloc, session, specification),
+            Command::Recv {
+                session,
+                specification,
+            } => copy_receive_setting(alloc, session, specification),
+        }
+    }
+}
+
+/// The same functions.
+pub fn copy_functions<A: Allocator + Copy>(
+    alloc: A,
+    functions: &[Function<A>],
+) -> Result<Vec<Function<A>, A>, AllocError>
+    ensures { IfOk result (λ v. functions_of v.items ≡ functions_of functions.now) }
+{
+    copy_each(alloc, functions)
+}
+
+/// The same entry calls.
+pub fn copy_entries<A: Allocator + Copy>(
+    alloc: A,
+    entries: &[Entry<A>],
+) -> Result<Vec<Entry<A>, A>, AllocError>
+    ensures { IfOk result (λ v. map entry_of v.items ≡ map entry_of entries.now) }
+{
+    copy_each(alloc, entries)
 }
 
 /// The same commands.
@@ -369,9 +358,5 @@ pub fn copy_commands<A: Allocator + Copy>(
 ) -> Result<Vec<Command<A>, A>, AllocError>
     ensures { IfOk result (λ v. map command_of v.items ≡ map command_of commands.now) }
 {
-    let mut copies = Vec::new(alloc);
-    for command in commands {
-        copies.push(copy_command(alloc, command)?)?;
-    }
-    Ok(copies)
+    copy_each(alloc, commands)
 }

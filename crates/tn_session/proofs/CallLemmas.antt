@@ -1,27 +1,17 @@
 -- What the calls of a session give, of its state.
-use Rattle.std.proofs.Common.{◌≡◌, ◌∙◌, List, Bool, map, Option, Some, refl, sym, ap, subst}
-use Rattle.def_term.specs.Names as names
-use Rattle.def_node.specs.Event.{Event}
+use Rattle.std.proofs.Common.{◌≡◌, ◌∙◌, map, Option, Some, sym, ap, subst}
+use Rattle.std.specs.Option.{IsSomeAnd, option_map}
 use Rattle.def_session.specs.State as definition
-use Rattle.def_session.specs.Session.{event_reported}
-use Rattle.tn_term.specs.declared.term.Term.{Term}
 use Rattle.tn_session.specs.Views.{state_seen, function_seen}
-use Rattle.tn_session.specs.Sessions.{Holds, HoldsIn, Says, Tells}
-use Rattle.tn_session.specs.EventSteps.{event_result, reported_as_term}
-use Rattle.tn_session.specs.declared.message.Message.{Message}
+use Rattle.tn_session.specs.Sessions.{SessionValue, session_seen, next_session}
 use Rattle.tn_session.specs.declared.state.State.{State}
 
-module _ {A : Type 0} (fs : List (names.Mfa × Bool)) (s : definition.Session) (e : Event) (o : Option (State A)) (c d : State A) where
-  still : o ≡ Some c → HoldsIn fs s o → d.functions ≡ c.functions → map function_seen d.functions.items ≡ fs
-  still is h same = let k : Holds fs s c = subst (HoldsIn fs s) is h in ap (λ v. map function_seen v.items) same ∙ k.functions
+-- what holds of the state that is there holds of the session
+pub where_there : {A : Type 0} (P : SessionValue → Type 0) (o : Option (State A)) (c : State A) → o ≡ Some c → P (session_seen c) → IsSomeAnd (option_map session_seen o) P
+where_there P o c is h = subst (λ x. IsSomeAnd (option_map session_seen x) P) (sym is) h
 
-  from_here : o ≡ Some c → HoldsIn fs s o → event_reported s e ≡ event_reported (state_seen c) e
-  from_here is h = let k : Holds fs s c = subst (HoldsIn fs s) is h in ap (λ x. event_reported x e) (sym k.state)
-
-  pub says_case : {B : Type 0} (m : Option (Message B)) → o ≡ Some c → HoldsIn fs s o → event_reported (state_seen c) e ≡ event_result d m → d.functions ≡ c.functions
-      → Says fs s e (record { state = Some d }) m
-  says_case m is h tells same = record { after = state_seen d; state = record { functions = still is h same; state = refl }; reported = from_here is h ∙ tells }
-
-  pub tells_case : {B : Type 0} (m : Option (Term B)) → o ≡ Some c → HoldsIn fs s o → event_reported (state_seen c) e ≡ reported_as_term d m → d.functions ≡ c.functions
-      → Tells fs s e (record { state = Some d }) m
-  tells_case m is h tells same = record { after = state_seen d; state = record { functions = still is h same; state = refl }; reported = from_here is h ∙ tells }
+-- the functions stay, and the state is the one that the definition gives
+pub next_there : {A T : Type 0} (c d : State A) (r : definition.Session × T) (x : T)
+    → r ≡ (state_seen d, x) → d.functions ≡ c.functions → next_session (session_seen c) r ≡ (Some (session_seen d), x)
+next_there c d r x gives same =
+    ap (next_session (session_seen c)) gives ∙ ap (λ v. (Some (record { functions = map function_seen v.items; state = state_seen d }), x)) (sym same)

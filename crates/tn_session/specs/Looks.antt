@@ -1,8 +1,7 @@
 -- What is seen of a session between two steps.
-use Rattle.std.specs.Prelude.{◌≡◌, Bool, true, false, List, Option, IsSomeAnd}
+use Rattle.std.specs.Prelude.{Bool, true, false, Option}
 use Rattle.std.specs.Option.{option_map}
 use Rattle.std.specs.Borrow.{Bor}
-use Rattle.def_term.specs.Names as names
 use Rattle.def_node.specs.Event as node
 use Rattle.def_session.specs.Settings as settings
 use Rattle.def_session.specs.State as definition
@@ -11,9 +10,7 @@ use Rattle.tn_spec.specs.declared.spec.Spec.{Spec}
 use Rattle.tn_index.specs.declared.function_setting.Setting.{Setting}
 use Rattle.tn_index.specs.declared.function_setting.Setting.TheVariants.{Disabled, Always, Specification}
 use Rattle.tn_session.specs.Newest.{newest_with}
-use Rattle.tn_session.specs.Sessions.{IsAt}
 use Rattle.tn_session.specs.Views.{state_seen}
-use Rattle.tn_session.specs.declared.session.Session.{Session}
 use Rattle.tn_session.specs.declared.look.Look.{Look}
 use Rattle.tn_session.specs.declared.look.NewestSetting.{NewestSetting}
 
@@ -21,28 +18,24 @@ use Rattle.tn_session.specs.declared.look.NewestSetting.{NewestSetting}
 abbrev pub look_seen : {A : Type 0} → Look A → definition.Session
 look_seen l = state_seen l.state.now
 
--- whatever state the session is in, it is the one that is seen
-abbrev pub LendsLook : {A : Type 0} → Session A → Option (Look A) → Type 0
-LendsLook c result = (fs : List (names.Mfa × Bool)) (s : definition.Session) → IsAt fs s c → IsSomeAnd result (λ l. look_seen l ≡ s)
-
 -- it was created, and not destroyed
 abbrev pub is_live : definition.Phase → Bool
 is_live definition.absent = false
 is_live definition.live = true
 is_live definition.destroyed = false
 
--- a setting that lends its specification
-abbrev pub lent_seen : {A : Type 0} → Setting (Bor (Spec A)) → settings.Setting
-lent_seen Disabled = settings.off
-lent_seen Always = settings.plain
-lent_seen (Specification s) = settings.by (spec_seen s.now)
+-- a setting whose specification is borrowed
+abbrev pub look_setting : {A : Type 0} → Setting (Bor (Spec A)) → settings.Setting
+look_setting Disabled = settings.off
+look_setting Always = settings.plain
+look_setting (Specification s) = settings.by (spec_seen s.now)
 
 -- what a command sets, and whether it is local
 abbrev pub parts_of : settings.FunctionSetting → settings.Setting × Bool
 parts_of k = (k.setting, k.local)
 
 abbrev pub newest_seen : {A : Type 0} → NewestSetting A → settings.Setting × Bool
-newest_seen k = (lent_seen k.setting, k.local)
+newest_seen k = (look_setting k.setting, k.local)
 
 -- those of the newest command that has the called function among its own
 abbrev pub newest_for : {A : Type 0} → Look A → node.Call → Option (settings.Setting × Bool)

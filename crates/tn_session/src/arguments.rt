@@ -56,7 +56,7 @@ fn with_number<A: Allocator + Copy>(
     })))
 }
 
-/// The functions of {M,F,'_'}; None where another atom stands for `'_'`.
+/// The functions of {M,F,'_'}; None where another atom is in the place of `'_'`.
 fn with_word<A: Allocator + Copy>(
     alloc: A,
     module: &Atom<A>,

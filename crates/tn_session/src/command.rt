@@ -124,7 +124,7 @@ impl<A: Allocator + Copy> State<A> {
     /// Changes the flags of each living process.
     fn change_existing(&mut self, on: bool, flags: Flags)
         ensures done { state_seen self.new ≡ existing_changed on (flags_view flags) (state_seen self.old) }
-        ensures kept { self.new.functions ≡ self.old.functions }
+        ensures functions { self.new.functions ≡ self.old.functions }
     {
         let alive = self.alive;
         change_living(&mut self.flags, alive, on, flags);
@@ -140,7 +140,7 @@ impl<A: Allocator + Copy> State<A> {
     /// Changes the flags of one process, where it lives.
     fn change_one(&mut self, pid: u32, on: bool, flags: Flags) -> Reply<A>
         ensures done { AreFlagsSet self.old (one_process pid) on (flags_view flags) self.new (reply_seen result) }
-        ensures kept { self.new.functions ≡ self.old.functions }
+        ensures functions { self.new.functions ≡ self.old.functions }
     {
         if !self.alive.has(pid) {
             return Reply::Badarg;
@@ -152,7 +152,7 @@ impl<A: Allocator + Copy> State<A> {
     /// Changes flags, and counts the processes.
     fn change_flags(&mut self, procs: Procs, on: bool, flags: Flags) -> Reply<A>
         ensures done { AreFlagsSet self.old (procs_seen procs) on (flags_view flags) self.new (reply_seen result) }
-        ensures kept { self.new.functions ≡ self.old.functions }
+        ensures functions { self.new.functions ≡ self.old.functions }
     {
         match procs {
             Procs::One(pid) => self.change_one(pid, on, flags),
@@ -178,7 +178,7 @@ impl<A: Allocator + Copy> State<A> {
     fn process(&mut self, procs: &Term<A>, how: &Term<A>, flags: &Term<A>) -> Reply<A>
         ensures done { IsProcessDone self.old (tree_of procs.now) (tree_of how.now) (tree_of flags.now)
             self.new (reply_seen result) }
-        ensures kept { self.new.functions ≡ self.old.functions }
+        ensures functions { self.new.functions ≡ self.old.functions }
     {
         match (procs_of(procs), how_of(how), flags_of(flags)) {
             (Some(procs), Some(on), Some(flags)) => self.change_flags(procs, on, flags),
@@ -206,7 +206,7 @@ impl<A: Allocator + Copy> State<A> {
         setting: FunctionSetting<CompiledSpec<A>, A>,
     ) -> Result<Reply<A>, AllocError>
         ensures done { IfOk result (λ r. AddsSetting self.old (function_setting_seen setting) self.new (reply_seen r)) }
-        ensures kept { self.new.functions ≡ self.old.functions }
+        ensures functions { self.new.functions ≡ self.old.functions }
     {
         let count = self.match_count(&setting);
         self.settings.set(&self.functions, setting)?;
@@ -222,7 +222,7 @@ impl<A: Allocator + Copy> State<A> {
     ) -> Result<Reply<A>, AllocError>
         ensures done { IfOk result (λ r. IsFunctionDone self.old
             (tree_of functions.now) (tree_of specification.now) (tree_of options.now) self.new (reply_seen r)) }
-        ensures kept { OnOk result (self.new.functions ≡ self.old.functions) }
+        ensures functions { OnOk result (self.new.functions ≡ self.old.functions) }
     {
         let Some(local) = options_of(options) else {
             return Ok(Reply::Badarg);
@@ -243,7 +243,7 @@ impl<A: Allocator + Copy> State<A> {
     /// `{send,Name,Spec,[]}` (`trace:send/3`)
     fn send(&mut self, specification: &Term<A>) -> Result<Reply<A>, AllocError>
         ensures done { IfOk result (λ r. IsSendDone self.old (tree_of specification.now) self.new (reply_seen r)) }
-        ensures kept { self.new.functions ≡ self.old.functions }
+        ensures functions { self.new.functions ≡ self.old.functions }
     {
         match setting_of(self.alloc, specification, Dialect::Send) {
             Ok(setting) => {
@@ -257,7 +257,7 @@ impl<A: Allocator + Copy> State<A> {
     /// `{recv,Name,Spec,[]}` (`trace:recv/3`)
     fn receive(&mut self, specification: &Term<A>) -> Result<Reply<A>, AllocError>
         ensures done { IfOk result (λ r. IsReceiveDone self.old (tree_of specification.now) self.new (reply_seen r)) }
-        ensures kept { self.new.functions ≡ self.old.functions }
+        ensures functions { self.new.functions ≡ self.old.functions }
     {
         match setting_of(self.alloc, specification, Dialect::Recv) {
             Ok(setting) => {
@@ -271,7 +271,7 @@ impl<A: Allocator + Copy> State<A> {
     /// Takes all settings, flags and marks away (`trace:session_destroy/1`).
     fn destroy(&mut self)
         ensures done { state_seen self.new ≡ new_session destroyed (alive_of self.old.alive) }
-        ensures kept { self.new.functions ≡ self.old.functions }
+        ensures functions { self.new.functions ≡ self.old.functions }
     {
         let none = Flags::none();
         self.phase = Phase::Destroyed;
@@ -286,7 +286,7 @@ impl<A: Allocator + Copy> State<A> {
     /// What a command does to a live session.
     fn live_command(&mut self, command: &Command<A>) -> Result<Reply<A>, AllocError>
         ensures done { IfOk result (λ r. IsLiveDone self.old (command_of command.now) self.new (reply_seen r)) }
-        ensures kept { OnOk result (self.new.functions ≡ self.old.functions) }
+        ensures functions { OnOk result (self.new.functions ≡ self.old.functions) }
     {
         match command {
             Command::SessionCreate { .. } => Ok(Reply::Badarg),
@@ -314,7 +314,7 @@ impl<A: Allocator + Copy> State<A> {
     /// What a command does to the session, and its reply.
     fn perform_command(&mut self, command: &Command<A>) -> Result<Reply<A>, AllocError>
         ensures done { IfOk result (λ r. IsCommandDone self.old (command_of command.now) self.new (reply_seen r)) }
-        ensures kept { OnOk result (self.new.functions ≡ self.old.functions) }
+        ensures functions { OnOk result (self.new.functions ≡ self.old.functions) }
     {
         match self.phase {
             Phase::Live => Ok(self.live_command(command)?),
@@ -325,7 +325,7 @@ impl<A: Allocator + Copy> State<A> {
     /// What a command does to the session, and its reply. An error is refused memory.
     pub fn command(&mut self, command: &Command<A>) -> Result<Term<A>, AllocError>
         ensures done { IfOk result (λ t. IsCommandDone self.old (command_of command.now) self.new (tree_of t)) }
-        ensures kept { OnOk result (self.new.functions ≡ self.old.functions) }
+        ensures functions { OnOk result (self.new.functions ≡ self.old.functions) }
     {
         let reply = self.perform_command(command)?;
         Ok(reply.term(self.alloc)?)

@@ -4,7 +4,7 @@
 //! def_session. Promises that `created` is the session at its creation, that `command` and `event` are
 //! one step of the definition of a session, reply and message included, and that a session that was
 //! refused memory is spent. A specification is kept with its code, by which it is evaluated. What a session
-//! reports of an event is a `Message` that lends the event; a term or a text is made of it. A `Look` shows the
+//! reports of an event is a `Message` that borrows from the event; a term or a text is made of it. A `Look` shows the
 //! session between two steps, and `mark_for` is the mark that the effects of a call ask for.
 #![tactic(auto)]
 

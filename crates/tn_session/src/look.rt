@@ -1,6 +1,6 @@
 // What is seen of a session between two steps.
 ghost use Rattle.std.specs.Prelude.{◌≡◌};
-ghost use Rattle.tn_session.specs.Looks.{lent_seen};
+ghost use Rattle.tn_session.specs.Looks.{look_setting};
 ghost use Rattle.tn_session.specs.Views.{setting_seen};
 
 use crate::compiled_spec::CompiledSpec;
@@ -25,9 +25,9 @@ pub struct NewestSetting<'a, A: Allocator> {
     pub local: bool,
 }
 
-/// The setting, which lends its specification.
-fn lend_setting<A: Allocator + Copy>(setting: &Setting<CompiledSpec<A>>) -> Setting<&Spec<A>>
-    ensures { lent_seen result ≡ setting_seen setting.now }
+/// The setting, with its specification borrowed.
+fn borrow_setting<A: Allocator + Copy>(setting: &Setting<CompiledSpec<A>>) -> Setting<&Spec<A>>
+    ensures { look_setting result ≡ setting_seen setting.now }
 {
     match setting {
         Setting::Disabled => Setting::Disabled,
@@ -43,7 +43,7 @@ impl<'a, A: Allocator + Copy> Look<'a, A> {
     ghost use Rattle.def_session.specs.State as definition;
     ghost use Rattle.tn_term.specs.Views.{alive_of};
     ghost use Rattle.tn_flags.specs.Views.{call_seen, flags_of, table_of};
-    ghost use Rattle.tn_session.specs.Looks.{look_seen, lent_seen, is_live, newest_seen, newest_for};
+    ghost use Rattle.tn_session.specs.Looks.{look_seen, look_setting, is_live, newest_seen, newest_for};
     ghost use Rattle.tn_session.specs.Views.{mark_kind_seen};
 
     /// Whether it was not destroyed.
@@ -94,16 +94,16 @@ impl<'a, A: Allocator + Copy> Look<'a, A> {
 
     /// The setting of sends (`trace:send/3`).
     pub fn send_setting(&self) -> Setting<&'a Spec<A>>
-        ensures { lent_seen result ≡ (look_seen self.now).sending }
+        ensures { look_setting result ≡ (look_seen self.now).sending }
     {
-        lend_setting(&self.state.sending)
+        borrow_setting(&self.state.sending)
     }
 
     /// The setting of receives (`trace:recv/3`).
     pub fn receive_setting(&self) -> Setting<&'a Spec<A>>
-        ensures { lent_seen result ≡ (look_seen self.now).receiving }
+        ensures { look_setting result ≡ (look_seen self.now).receiving }
     {
-        lend_setting(&self.state.receiving)
+        borrow_setting(&self.state.receiving)
     }
 
     /// What the newest function command that has the called function among its own sets
@@ -114,7 +114,7 @@ impl<'a, A: Allocator + Copy> Look<'a, A> {
         match self.state.settings.get(&call.mfa, call.exported) {
             None => None,
             Some(function_setting) => Some(NewestSetting {
-                setting: lend_setting(&function_setting.setting),
+                setting: borrow_setting(&function_setting.setting),
                 local: function_setting.local,
             }),
         }

@@ -11,8 +11,8 @@ use std::alloc::{AllocError, Allocator};
 use tn_flags::Event;
 use tn_term::Term;
 
-/// The message of an event (module `trace`, "trace messages"): it lends the event, and says whether a call
-/// is reported by its arity alone, and which term stands at the end, if any.
+/// The message of an event (module `trace`, "trace messages"): it borrows from the event, and says whether a call
+/// is reported by its arity alone, and which term is at the end, if any.
 #[derive(Drop)]
 pub struct Message<'a, A: Allocator> {
     pub event: &'a Event<A>,

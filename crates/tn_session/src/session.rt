@@ -15,21 +15,26 @@ pub struct Session<A: Allocator> {
 }
 
 impl<A: Allocator + Copy> Session<A> {
-    ghost use Rattle.std.specs.Prelude.{◌≡◌, List, Bool, IsErr, IsNone, IfOk, OnErr, map};
-    ghost use Rattle.def_term.specs.Names as names;
-    ghost use Rattle.def_session.specs.State as definition;
+    ghost use Rattle.std.specs.Prelude.{◌≡◌, ℕ, Some, IsNone, IfOk, OnErr, map};
+    ghost use Rattle.std.specs.Option.{IsSomeAnd, option_map};
     ghost use Rattle.def_session.specs.State.{live, new_session};
+    ghost use Rattle.def_session.specs.Session.{event_reported};
+    ghost use Rattle.def_session.specs.Commands.{command_done};
     ghost use Rattle.tn_term.specs.Views.{tree_of, alive_of};
     ghost use Rattle.tn_flags.specs.Views.{event_of, command_of};
     ghost use Rattle.tn_session.specs.Views.{function_seen};
-    ghost use Rattle.tn_session.specs.Looks.{LendsLook};
-    ghost use Rattle.tn_session.specs.Sessions.{IsAt, IsSpent, Replies, Tells, Says};
+    ghost use Rattle.tn_session.specs.Messages.{message_seen};
+    ghost use Rattle.tn_session.specs.Looks.{look_seen};
+    ghost use Rattle.tn_session.specs.Sessions.{value_in, exports_in, next_session};
 
     /// The session at its creation: live, without flags and settings of functions, with send and receive
     /// `true`, where these processes live. The functions are those of the program, each once, with whether
     /// it is exported (`trace:session_create/3`). It takes no memory.
     pub fn created(alloc: A, functions: Vec<(Mfa<A>, bool), A>, alive: Alive) -> Session<A>
-        ensures { IsAt (map function_seen functions.items) (new_session live (alive_of alive)) result }
+        ensures { value_in result ≡ Some (record {
+          functions = map function_seen functions.items;
+          state = new_session live (alive_of alive);
+        }) }
     {
         let none = Flags::none();
         Session {
@@ -50,8 +55,7 @@ impl<A: Allocator + Copy> Session<A> {
 
     /// What is seen of it. None once it was refused memory: it is spent.
     pub fn look(&self) -> Option<Look<'_, A>>
-        ensures state { LendsLook self.now result }
-        ensures spent { IsSpent self.now → IsNone result }
+        ensures { option_map look_seen result ≡ option_map (λ s. s.state) (value_in self.now) }
     {
         match &self.state {
             Some(state) => Some(Look { state }),
@@ -66,10 +70,9 @@ impl<A: Allocator + Copy> Session<A> {
     ///
     /// AllocError where memory was refused, in this call or an earlier one: the session is spent.
     pub fn command(&mut self, command: &Command<A>) -> Result<Term<A>, AllocError>
-        ensures done { (fs : List (names.Mfa × Bool)) → (s : definition.Session) → IsAt fs s self.old →
-            IfOk result (λ t. Replies fs s (command_of command.now) self.new (tree_of t)) }
-        ensures spent { IsSpent self.old → IsErr result }
-        ensures refused { OnErr result (IsSpent self.new) }
+        ensures done { let k = command_of command.now in IfOk result (λ t. IsSomeAnd (value_in self.old) (λ s. (n : ℕ) →
+            next_session s (command_done (exports_in s n) s.state k) ≡ (value_in self.new, tree_of t))) }
+        ensures refused { OnErr result (IsNone (value_in self.new)) }
     {
         match &mut self.state {
             None => Err(AllocError),
@@ -89,10 +92,9 @@ impl<A: Allocator + Copy> Session<A> {
     ///
     /// AllocError where memory was refused, in this call or an earlier one: the session is spent.
     pub fn event(&mut self, event: &Event<A>) -> Result<Option<Term<A>>, AllocError>
-        ensures reported { (fs : List (names.Mfa × Bool)) → (s : definition.Session) → IsAt fs s self.old →
-            IfOk result (λ m. Tells fs s (event_of event.now) self.new m) }
-        ensures spent { IsSpent self.old → IsErr result }
-        ensures refused { OnErr result (IsSpent self.new) }
+        ensures reported { let e = event_of event.now in IfOk result (λ m. IsSomeAnd (value_in self.old) (λ s.
+            next_session s (event_reported s.state e) ≡ (value_in self.new, option_map tree_of m))) }
+        ensures refused { OnErr result (IsNone (value_in self.new)) }
     {
         match &mut self.state {
             None => Err(AllocError),
@@ -106,16 +108,15 @@ impl<A: Allocator + Copy> Session<A> {
         }
     }
 
-    /// The same, with a message that lends the event.
+    /// The same, with a message that borrows from the event.
     ///
     /// # Errors
     ///
     /// AllocError where memory was refused, in this call or an earlier one: the session is spent.
     pub fn tell<'a>(&mut self, event: &'a Event<A>) -> Result<Option<Message<'a, A>>, AllocError>
-        ensures reported { (fs : List (names.Mfa × Bool)) → (s : definition.Session) → IsAt fs s self.old →
-            IfOk result (λ m. Says fs s (event_of event.now) self.new m) }
-        ensures spent { IsSpent self.old → IsErr result }
-        ensures refused { OnErr result (IsSpent self.new) }
+        ensures reported { let e = event_of event.now in IfOk result (λ m. IsSomeAnd (value_in self.old) (λ s.
+            next_session s (event_reported s.state e) ≡ (value_in self.new, option_map message_seen m))) }
+        ensures refused { OnErr result (IsNone (value_in self.new)) }
     {
         match &mut self.state {
             None => Err(AllocError),

@@ -73,7 +73,7 @@ fn kind_text<A: Allocator>(event: &Event<A>) -> &'static [u8]
     }
 }
 
-/// Appends what stands after the kind, each with a comma before it.
+/// Appends what comes after the kind, each with a comma before it.
 fn put_details<A: Allocator, B: Allocator>(
     event: &Event<A>,
     short: bool,

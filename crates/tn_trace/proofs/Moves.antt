@@ -6,7 +6,7 @@ use Rattle.def_script.specs.Program.{Command, session_of, Program}
 use Rattle.def_node.specs.Event.{Event}
 use Rattle.def_node.specs.Node.{NodeState, gives_events, gives_command, gives_nothing, next}
 use Rattle.def_script.specs.Exports.{Exports}
-use Rattle.def_run.specs.Run.{HistoryItem, event_item, command_item, PickStep, start, events, moves}
+use Rattle.def_run.specs.Run.{HistoryItem, event_item, command_item, PickStep, start, events, moves, run_state_of, pick_step_after}
 use Rattle.def_script.specs.Exports.{exports_of}
 use Rattle.def_run.specs.Listing.{Item as DefinedItem, replies, replies_from, answers_from, history_by, answer}
 use Rattle.def_script.specs.Script.{creations}
@@ -15,20 +15,19 @@ use Rattle.def_run.proofs.Appends.{shown-append, moves-append, place-append, rep
 use Rattle.def_run.proofs.Nexts.{pick_is_next}
 use Rattle.def_run.proofs.Replay.{pick_kept}
 use Rattle.tn_trace.specs.Tracks.{tracks_from, tracks_of, with_command, with_events, items_of_tracks, reply_in, command_numbered}
-use Rattle.tn_trace.specs.Runs.{run_state_of, turn_after}
 use Rattle.tn_trace.specs.Observers.{IsNextMove, IsNextCommand}
 use Rattle.tn_trace.specs.declared.journal.JournalEntry.{JournalEntry}
 use Rattle.tn_trace.proofs.Tracks.{command_more_all, events_more_all, told_answers}
 use Rattle.tn_trace.proofs.Creations.{is_created, reply_of, reply_is, never_created, no_creation}
 
-pub place_more : (p : Program) (picks : List ℕ) (x : ℕ) → run_state_of p (picks ++ x ∷ []) ≡ (turn_after p picks x).after
+pub place_more : (p : Program) (picks : List ℕ) (x : ℕ) → run_state_of p (picks ++ x ∷ []) ≡ (pick_step_after p picks x).after
 place_more p picks x = place-append p.functions (start p) picks (x ∷ [])
 
-pub events_more : (p : Program) (picks : List ℕ) (x : ℕ) → events p (picks ++ x ∷ []) ≡ events p picks ++ (turn_after p picks x).shown
-events_more p picks x = shown-append p.functions (start p) picks (x ∷ []) ∙ ap (λ xs. events p picks ++ xs) (append-nil (turn_after p picks x).shown)
+pub events_more : (p : Program) (picks : List ℕ) (x : ℕ) → events p (picks ++ x ∷ []) ≡ events p picks ++ (pick_step_after p picks x).shown
+events_more p picks x = shown-append p.functions (start p) picks (x ∷ []) ∙ ap (λ xs. events p picks ++ xs) (append-nil (pick_step_after p picks x).shown)
 
-pub moves_more : (p : Program) (picks : List ℕ) (x : ℕ) → moves p (picks ++ x ∷ []) ≡ moves p picks ++ (if (turn_after p picks x).moved then x ∷ [] else [])
-moves_more p picks x = moves-append p.functions (start p) picks (x ∷ []) ∙ ap (λ xs. moves p picks ++ xs) (append-nil (if (turn_after p picks x).moved then x ∷ [] else []))
+pub moves_more : (p : Program) (picks : List ℕ) (x : ℕ) → moves p (picks ++ x ∷ []) ≡ moves p picks ++ (if (pick_step_after p picks x).moved then x ∷ [] else [])
+moves_more p picks x = moves-append p.functions (start p) picks (x ∷ []) ∙ ap (λ xs. moves p picks ++ xs) (append-nil (if (pick_step_after p picks x).moved then x ∷ [] else []))
 
 taken_front : (xs : List ℕ) (x : ℕ) → take (length xs) (xs ++ x ∷ []) ≡ xs
 taken_front [] x = refl
@@ -39,7 +38,7 @@ last_got [] x = refl
 last_got (y ∷ xs) x = last_got xs x
 
 -- the answer of the last of picks that all move
-last_answer : (p : Program) (picks : List ℕ) (x : ℕ) → moves p (picks ++ x ∷ []) ≡ picks ++ x ∷ [] → answer p (picks ++ x ∷ []) (length picks) ≡ answers_from (exports_of p) (creations p.commands) (events p picks) (turn_after p picks x).shown
+last_answer : (p : Program) (picks : List ℕ) (x : ℕ) → moves p (picks ++ x ∷ []) ≡ picks ++ x ∷ [] → answer p (picks ++ x ∷ []) (length picks) ≡ answers_from (exports_of p) (creations p.commands) (events p picks) (pick_step_after p picks x).shown
 last_answer p picks x all =
     let shown : List ℕ → Option ℕ → List DefinedItem = λ before o. answers_from (exports_of p) (creations p.commands) (events p before) (history_by p before o) in
     ap (λ js. shown (take (length picks) js) (slice_get js (length picks))) all
@@ -47,10 +46,10 @@ last_answer p picks x all =
     ∙ ap (shown picks) (last_got picks x)
 
 -- where picks that all move lead with one more that moves
-journal_more : (p : Program) (picks : List ℕ) (x : ℕ) → moves p picks ≡ picks → (turn_after p picks x).moved ≡ true → moves p (picks ++ x ∷ []) ≡ picks ++ x ∷ []
-journal_more p picks x all moved = moves_more p picks x ∙ ap (λ xs. xs ++ (if (turn_after p picks x).moved then x ∷ [] else [])) all ∙ ap (λ b. picks ++ (if b then x ∷ [] else [])) moved
+journal_more : (p : Program) (picks : List ℕ) (x : ℕ) → moves p picks ≡ picks → (pick_step_after p picks x).moved ≡ true → moves p (picks ++ x ∷ []) ≡ picks ++ x ∷ []
+journal_more p picks x all moved = moves_more p picks x ∙ ap (λ xs. xs ++ (if (pick_step_after p picks x).moved then x ∷ [] else [])) all ∙ ap (λ b. picks ++ (if b then x ∷ [] else [])) moved
 
-state_more : (p : Program) (picks : List ℕ) (x : ℕ) (s : NodeState) → s ≡ state_at p (turn_after p picks x).after → s ≡ state_at p (run_state_of p (picks ++ x ∷ []))
+state_more : (p : Program) (picks : List ℕ) (x : ℕ) (s : NodeState) → s ≡ state_at p (pick_step_after p picks x).after → s ≡ state_at p (run_state_of p (picks ++ x ∷ []))
 state_more p picks x s state = state ∙ ap (state_at p) (sym (place_more p picks x))
 
 -- what an entry of the journal shows
@@ -72,7 +71,7 @@ entry_moves p picks entry shown next =
 
 pub nothing_pick : (p : Program) (picks : List ℕ) (x : ℕ) (s : NodeState) → length (moves p picks) < 65536 → gives_nothing s ≡ next p (state_at p (run_state_of p picks)) x → (s ≡ state_at p (run_state_of p picks)) × IsIdleAfter p picks x
 nothing_pick p picks x s below h =
-    let law : IsNext p (gives_nothing s) (turn_after p picks x) = subst (λ n. IsNext p n (turn_after p picks x)) (sym h) (pick_is_next p picks x below) in
+    let law : IsNext p (gives_nothing s) (pick_step_after p picks x) = subst (λ n. IsNext p n (pick_step_after p picks x)) (sym h) (pick_is_next p picks x below) in
     (law.1 ∙ ap (λ (t : PickStep). state_at p t.after) (pick_kept p.functions (run_state_of p picks) x law.0), law.0)
 
 -- ---- events
@@ -85,7 +84,7 @@ no_replies o past (e ∷ es) = no_replies o (past ++ event_item e ∷ []) es
 pub next_events : (p : Program) (picks : List ℕ) (entry : JournalEntry) (s : NodeState) (es : List Event) → moves p picks ≡ picks → entry.number ≡ suc (length picks) → length (moves p picks) < 65536 → gives_events s es ≡ next p (state_at p (run_state_of p picks)) entry.pick
     → IsNextMove p picks entry (map event_item es) × (s ≡ state_at p (run_state_of p (picks ++ entry.pick ∷ [])))
 next_events p picks entry s es all number below h =
-    let law : IsNext p (gives_events s es) (turn_after p picks entry.pick) = subst (λ n. IsNext p n (turn_after p picks entry.pick)) (sym h) (pick_is_next p picks entry.pick below) in
+    let law : IsNext p (gives_events s es) (pick_step_after p picks entry.pick) = subst (λ n. IsNext p n (pick_step_after p picks entry.pick)) (sym h) (pick_is_next p picks entry.pick below) in
     (record { all = all; numbered = number; moved = law.0; shows = law.2 }, state_more p picks entry.pick s law.1)
 
 pub record IsEventsMove (p : Program) (picks : List ℕ) (x : ℕ) (es : List Event) : Type 0 where
@@ -117,7 +116,7 @@ reply_found p picks k c in_list =
 pub next_command : (p : Program) (picks : List ℕ) (entry : JournalEntry) (s : NodeState) (n : ℕ) → moves p picks ≡ picks → entry.number ≡ suc (length picks) → length (moves p picks) < 65536 → gives_command s n ≡ next p (state_at p (run_state_of p picks)) entry.pick
     → (c : Command) × IsNextCommand p picks entry c × (command_numbered p.commands n ≡ Some c) × (s ≡ state_at p (run_state_of p (picks ++ entry.pick ∷ [])))
 next_command p picks entry s n all number below h =
-    let law : IsNext p (gives_command s n) (turn_after p picks entry.pick) = subst (λ k. IsNext p k (turn_after p picks entry.pick)) (sym h) (pick_is_next p picks entry.pick below) in
+    let law : IsNext p (gives_command s n) (pick_step_after p picks entry.pick) = subst (λ k. IsNext p k (pick_step_after p picks entry.pick)) (sym h) (pick_is_next p picks entry.pick below) in
     let found : slice_get p.commands law.2.0 ≡ Some law.2.1 = law.2.3 in (
       law.2.1,
       record { move = record { all = all; numbered = number; moved = law.0; shows = law.2.4 }; place = law.2.0; listed = found },

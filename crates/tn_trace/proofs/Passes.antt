@@ -1,14 +1,14 @@
 -- The run of the first picks that moved, through more picks.
-use Rattle.std.proofs.Common.{◌≡◌, ◌∙◌, ℕ, zero, suc, ◌+◌, ◌-◌, min, ◌<◌, ◌≤◌, Bool, true, false, if◌then◌else◌, List, [], ◌∷◌, ◌++◌, length, take, refl, sym, ap, subst, append-nil, append_assoc, length-append, get_or, add-one, arith}
+use Rattle.std.proofs.Common.{◌≡◌, ◌∙◌, ℕ, zero, suc, ◌+◌, ◌-◌, min, ◌<◌, ◌≤◌, false, if◌then◌else◌, List, [], ◌∷◌, ◌++◌, length, take, refl, sym, ap, subst, append-nil, append_assoc, length-append, get_or, add-one, arith}
 use Rattle.std.proofs.lemmas.List.{take_all, take_more}
 use Rattle.def_script.specs.Program.{Function, Program}
-use Rattle.def_run.specs.Run.{RunState, moves, moves_from, run_state_after, start}
+use Rattle.def_run.specs.Run.{RunState, moves, moves_from, run_state_after, start, run_state_of, pick_step_after}
 use Rattle.def_run.specs.Round.{pass, pass_from, round}
 use Rattle.def_run.specs.Laws.{repeat_picks}
 use Rattle.def_run.proofs.Appends.{moves-append}
 use Rattle.def_run.proofs.Replay.{moves_again, place_again, moves_bounded}
 use Rattle.def_run.proofs.Rounds.{round_is_in_order}
-use Rattle.tn_trace.specs.Runs.{turn_after, IsRun, Steps}
+use Rattle.tn_trace.specs.Runs.{IsRun, Steps}
 use Rattle.tn_trace.specs.Follows.{Follows, AddsEach, AddsFrom}
 use Rattle.tn_trace.specs.declared.run.PickOutcome.{PickOutcome}
 use Rattle.tn_trace.specs.declared.run.PickOutcome.TheVariants.{Moved, Idle, Full}
@@ -34,13 +34,13 @@ moves_after : (p : Program) (before more : List ℕ) → moves p (before ++ more
 moves_after p before more =
     let rest : RunState → List ℕ = λ q. moves_from p.functions q more in
     moves-append p.functions (start p) before more
-    ∙ ap (λ xs. xs ++ rest (run_state_after p.functions (start p) before)) (sym (moves_again p.functions (start p) before))
+    ∙ ap (λ xs. xs ++ rest (run_state_of p before)) (sym (moves_again p.functions (start p) before))
     ∙ ap (λ q. moves p (moves p before) ++ rest q) (sym (place_again p.functions (start p) before))
     ∙ sym (moves-append p.functions (start p) (moves p before) more)
 
 -- once there are so many, more picks change nothing
 pub full_stays : (p : Program) (limit : ℕ) (before more : List ℕ) → limit ≤ length (take limit (moves p before)) → take limit (moves p (before ++ more)) ≡ take limit (moves p before)
-full_stays p limit before more full = ap (take limit) (moves-append p.functions (start p) before more) ∙ first_full limit (moves p before) (moves_from p.functions (run_state_after p.functions (start p) before) more) full
+full_stays p limit before more full = ap (take limit) (moves-append p.functions (start p) before more) ∙ first_full limit (moves p before) (moves_from p.functions (run_state_of p before) more) full
 
 -- ---- what is added
 
@@ -89,7 +89,7 @@ module _ {A O G : Type 0} (Seen : O → Program → List ℕ → Type 0) (Adds :
       )
   moved_or_not Idle run s =
       let whole : take limit (moves p before) ≡ moves p before = first_whole limit (moves p before) s.0 in
-      let idle : (turn_after p (moves p before) x).moved ≡ false = subst (λ js. (turn_after p js x).moved ≡ false) whole s.2 in
+      let idle : (pick_step_after p (moves p before) x).moved ≡ false = subst (λ js. (pick_step_after p js x).moved ≡ false) whole s.2 in
       let made : moves p (before ++ x ∷ []) ≡ moves p before =
       moves_after p before (x ∷ []) ∙ moves_more p (moves p before) x ∙ ap (λ b. moves p (moves p before) ++ (if b then x ∷ [] else [])) idle
       ∙ append-nil (moves p (moves p before)) ∙ moves_again p.functions (start p) before in

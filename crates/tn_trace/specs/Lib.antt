@@ -8,6 +8,7 @@ pub mod Events
 pub mod Commands
 pub mod Items
 pub mod Advances
+pub mod Codes
 pub mod Cores
 pub mod Transcripts
 pub mod Follows

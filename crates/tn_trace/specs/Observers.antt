@@ -2,21 +2,20 @@
 use Rattle.std.specs.Prelude.{◌≡◌, ℕ, suc, true, List, [], ◌∷◌, ◌++◌, length, map, slice_get, Some, Result, OnOk}
 use Rattle.std.specs.declared.alloc.AllocError.{AllocError}
 use Rattle.def_script.specs.Program.{Command, Program}
-use Rattle.def_run.specs.Run.{HistoryItem, event_item, command_item, moves}
+use Rattle.def_run.specs.Run.{HistoryItem, event_item, command_item, moves, pick_step_after}
 use Rattle.tn_flags.specs.Views.{event_of, command_of}
 use Rattle.tn_flags.specs.declared.event.Event as flags
 use Rattle.tn_flags.specs.declared.command.Command as commands
 use Rattle.tn_program.specs.Views.{program_of}
 use Rattle.tn_program.specs.declared.parts.Program as code
-use Rattle.tn_trace.specs.Runs.{turn_after}
 use Rattle.tn_trace.specs.declared.journal.JournalEntry.{JournalEntry}
 
 -- after these picks, each of which moved, the entry's pick moves and shows this
 pub record IsNextMove (p : Program) (picks : List ℕ) (entry : JournalEntry) (shown : List HistoryItem) : Type 0 where
   pub all : moves p picks ≡ picks
   pub numbered : entry.number ≡ suc (length picks)
-  pub moved : (turn_after p picks entry.pick).moved ≡ true
-  pub shows : (turn_after p picks entry.pick).shown ≡ shown
+  pub moved : (pick_step_after p picks entry.pick).moved ≡ true
+  pub shows : (pick_step_after p picks entry.pick).shown ≡ shown
 
 -- it takes this command of the control list
 pub record IsNextCommand (p : Program) (picks : List ℕ) (entry : JournalEntry) (c : Command) : Type 0 where

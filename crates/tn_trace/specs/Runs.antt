@@ -1,27 +1,19 @@
 -- What the code's runs stand for.
-use Rattle.std.specs.Prelude.{◌≡◌, ℕ, suc, min, ◌<◌, ◌≤◌, List, [], ◌∷◌, ◌++◌, length, Result, MatchResult}
+use Rattle.std.specs.Prelude.{◌≡◌, ℕ, min, ◌<◌, ◌≤◌, List, [], ◌∷◌, ◌++◌, length, Some, Result, MatchResult}
 use Rattle.std.specs.declared.alloc.AllocError.{AllocError}
 use Rattle.def_script.specs.Program.{Program}
-use Rattle.def_run.specs.Run.{JOURNAL, RunState, PickStep, start, run_state_after, pick_step, moves}
+use Rattle.def_run.specs.Run.{JOURNAL, moves, run_state_of}
 use Rattle.def_run.specs.Laws.{IsIdleAfter, state_at}
-use Rattle.tn_node.specs.Nodes.{IsNodeAt}
+use Rattle.tn_node.specs.Nodes.{node_at}
 use Rattle.tn_program.specs.Views.{program_of}
 use Rattle.tn_program.specs.declared.parts.Program as code
 use Rattle.tn_trace.specs.declared.run.PickOutcome.{PickOutcome}
 use Rattle.tn_trace.specs.declared.run.PickOutcome.TheVariants.{Moved, Idle, Full}
 use Rattle.tn_trace.specs.declared.run.Run.{Run}
 
--- where the picks lead
-abbrev pub run_state_of : Program → List ℕ → RunState
-run_state_of p picks = run_state_after p.functions (start p) picks
-
--- what one more pick does after these
-abbrev pub turn_after : Program → List ℕ → ℕ → PickStep
-turn_after p picks pick = pick_step p.functions (run_state_of p picks) pick
-
 -- the run is that of the program after these picks, each of which moved, and what looks on saw them; so many may move
 pub record IsRun {A O : Type 0} (Seen : O → Program → List ℕ → Type 0) (p : Program) (limit : ℕ) (picks : List ℕ) (r : Run A O) : Type 0 where
-  pub node : IsNodeAt p (state_at p (run_state_of p picks)) r.node
+  pub node : r.node ≡ Some (node_at p (state_at p (run_state_of p picks)))
   pub seen : Seen r.observer p picks
   pub journaled : r.journal.items ≡ picks
   pub moved : moves p picks ≡ picks

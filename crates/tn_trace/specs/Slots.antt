@@ -9,7 +9,7 @@ use Rattle.def_session.specs.State as definition
 use Rattle.def_script.specs.Exports.{Exports}
 use Rattle.def_session.specs.State.{absent, new_session}
 use Rattle.def_session.specs.Commands.{command_done}
-use Rattle.tn_session.specs.Sessions.{IsAt}
+use Rattle.tn_session.specs.Sessions.{value_in}
 use Rattle.tn_session.specs.declared.session.Session.{Session}
 use Rattle.tn_trace.specs.Tracks.{Track, with_command}
 use Rattle.tn_trace.specs.declared.slot.Slot.{Slot}
@@ -17,7 +17,7 @@ use Rattle.tn_trace.specs.declared.slot.Slot.{Slot}
 -- a session that isn't there is absent, where these processes live
 abbrev pub IsSession : {A : Type 0} → List (Mfa × Bool) → Alive → definition.Session → Option (Session A) → Type 0
 IsSession fs living s None = s ≡ new_session absent living
-IsSession fs living s (Some c) = IsAt fs s c
+IsSession fs living s (Some session) = value_in session ≡ Some (record { functions = fs; state = s })
 
 -- the slot is this session's, over the functions of the program and where these processes live
 pub record IsTracked {A K : Type 0} (Keeps : K → List Tree → Type 0) (o : Exports) (living : Alive) (t : Track) (slot : Slot A K) : Type 0 where

@@ -1,11 +1,11 @@
 -- The sessions of a run side by side, each with its state and its messages so far, as the definitions give them.
-use Rattle.std.specs.Prelude.{ℕ, zero, suc, ◌∷◌, [], ◌++◌, List, Bool, map, filter, flat_map, length, Option, Some, None, option_to_list, slice_get, if◌then◌else◌, Result, IfOk}
+use Rattle.std.specs.Prelude.{ℕ, zero, suc, ◌∷◌, [], ◌++◌, List, map, filter, flat_map, length, Option, Some, None, option_to_list, slice_get, if◌then◌else◌, Result, IfOk}
 use Rattle.std.specs.declared.alloc.AllocError.{AllocError}
 use Rattle.std.specs.Option.{unwrap_or}
 use Rattle.std.specs.Str.{bytes_eq}
 use Rattle.def_term.specs.Tree.{Tree}
-use Rattle.def_term.specs.Names.{Name, Mfa, word}
-use Rattle.def_script.specs.Program.{Function, mfa_of, Command, session_of, Program}
+use Rattle.def_term.specs.Names.{Name, word}
+use Rattle.def_script.specs.Program.{Command, session_of, Program}
 use Rattle.def_node.specs.Event.{Event}
 use Rattle.def_script.specs.Exports.{Exports, exports_of}
 use Rattle.def_script.specs.Script.{creations}

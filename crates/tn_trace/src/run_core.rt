@@ -7,6 +7,7 @@ use crate::recorder::Recorder;
 use crate::run::{PickOutcome, Run};
 use crate::sinks::Terms;
 use std::alloc::{AllocError, Allocator};
+use std::marker::Model;
 use tn_program::{Program, Sessions};
 use tn_term::Term;
 
@@ -35,17 +36,33 @@ fn advance<A: Allocator + Copy>(
     }
 }
 
-impl<A: Allocator + Copy> Core<A> {
-    ghost use Rattle.std.specs.Prelude.{◌≡◌, [], IfOk};
+impl<A: Allocator> Model for Core<A> {
+    ghost use Rattle.std.specs.Prelude.{IfSome};
+    ghost use Rattle.std.specs.Option.{option_map};
     ghost use Rattle.tn_program.specs.Views.{program_of};
-    ghost use Rattle.tn_trace.specs.Cores.{IsCore, IsCoreSpent, CoreStepsOn, AnswersJournal, AreReplies};
+    ghost use Rattle.tn_trace.specs.Cores.{CoreValue, core_code, IsOwnRun};
+
+    ghost Value = { CoreValue };
+
+    ghost coded = { core_code };
+
+    ghost view = { λ c. record { program = program_of c.program; journal = option_map (λ r. r.journal.items) c.run } };
+
+    ghost invariant = { λ c. IfSome c.run (IsOwnRun c.program) };
+}
+
+impl<A: Allocator + Copy> Core<A> {
+    ghost use Rattle.std.specs.Prelude.{◌≡◌, [], None, map, Err, IfOk, IfSome};
+    ghost use Rattle.std.specs.Result.{IsOkAnd};
     ghost use Rattle.def_script.specs.Script.{creations};
-    ghost use Rattle.tn_trace.specs.Cores.{program_in};
-    ghost use Rattle.tn_trace.specs.Cores.{IsListing};
+    ghost use Rattle.def_run.specs.Listing.{replies};
+    ghost use Rattle.tn_term.specs.Views.{tree_of};
+    ghost use Rattle.tn_program.specs.Views.{program_of};
+    ghost use Rattle.tn_trace.specs.Cores.{core_of, IsStepOf, Lists};
 
     /// The core of the program and the empty journal.
     pub fn new(alloc: A, program: Program<A>) -> Result<Core<A>, AllocError>
-        ensures { IfOk result (λ c. IsCore (program_of program) [] c) }
+        ensures { IfOk result (λ c. c ≡ core_of (program_of program) []) }
     {
         let recorder = Recorder::new(alloc, &program)?;
         let run = Run::new(alloc, &program, recorder, JOURNAL)?;
@@ -57,7 +74,7 @@ impl<A: Allocator + Copy> Core<A> {
 
     /// The program, also of a core that is spent.
     pub fn program(&self) -> &Program<A>
-        ensures { program_of result.now ≡ program_in self.now }
+        ensures { program_of result.now ≡ self.now.program }
     {
         &self.program
     }
@@ -65,7 +82,7 @@ impl<A: Allocator + Copy> Core<A> {
     /// The name and the tracer of each session, in the control list's order, also of a core that is spent. It
     /// takes no memory.
     pub fn sessions(&self) -> Sessions<'_, A>
-        ensures { result ≡ creations (program_in self.now).commands }
+        ensures { result ≡ creations self.now.program.commands }
     {
         self.program.sessions()
     }
@@ -77,9 +94,8 @@ impl<A: Allocator + Copy> Core<A> {
     /// Spent after a step that was refused memory; else LimitReached where the journal is full; else
     /// OutOfMemory where memory was refused: the core is spent.
     pub fn step(&mut self, pick: u32) -> Result<Answer<A>, StepFault>
-        ensures step { CoreStepsOn pick self.old self.new result }
-        ensures program { program_in self.new ≡ program_in self.old }
-        ensures spent { IsCoreSpent self.old → (result ≡ Err StepFault.Spent) × (self.new ≡ self.old) }
+        ensures step { IfSome self.old.journal (λ picks. IsStepOf self.old.program picks pick self.new result) }
+        ensures spent { self.old.journal ≡ None → (result ≡ Err StepFault.Spent) × (self.new ≡ self.old) }
     {
         match &mut self.run {
             None => Err(StepFault::Spent),
@@ -101,8 +117,8 @@ impl<A: Allocator + Copy> Core<A> {
     ///
     /// Spent after a step that was refused memory.
     pub fn journal(&self) -> Result<&[u32], StepFault>
-        ensures journal { AnswersJournal self.now result }
-        ensures spent { IsCoreSpent self.now → result ≡ Err StepFault.Spent }
+        ensures journal { IfSome self.now.journal (λ picks. IsOkAnd result (λ v. v.now ≡ picks)) }
+        ensures spent { self.now.journal ≡ None → result ≡ Err StepFault.Spent }
     {
         match &self.run {
             Some(run) => Ok(&run.journal),
@@ -116,8 +132,9 @@ impl<A: Allocator + Copy> Core<A> {
     ///
     /// Spent after a step that was refused memory.
     pub fn replies(&self) -> Result<&[Term<A>], StepFault>
-        ensures replies { AreReplies self.now result }
-        ensures spent { IsCoreSpent self.now → result ≡ Err StepFault.Spent }
+        ensures replies { IfSome self.now.journal (λ picks.
+            IsOkAnd result (λ v. map tree_of v.now ≡ replies self.now.program picks)) }
+        ensures spent { self.now.journal ≡ None → result ≡ Err StepFault.Spent }
     {
         match &self.run {
             Some(run) => Ok(&run.observer.replies.terms),
@@ -131,8 +148,8 @@ impl<A: Allocator + Copy> Core<A> {
     ///
     /// Spent after a step that was refused memory.
     pub fn listing(&self, session: u32) -> Result<Option<&[Term<A>]>, StepFault>
-        ensures listing { IsListing session self.now result }
-        ensures spent { IsCoreSpent self.now → result ≡ Err StepFault.Spent }
+        ensures listing { IfSome self.now.journal (λ picks. IsOkAnd result (Lists self.now.program picks session)) }
+        ensures spent { self.now.journal ≡ None → result ≡ Err StepFault.Spent }
     {
         let Some(run) = &self.run else {
             return Err(StepFault::Spent);

@@ -3,6 +3,7 @@ use crate::recorder::Recorder;
 use crate::sinks::Lines;
 use crate::texts::{run_of_picks, run_of_round};
 use std::alloc::{AllocError, Allocator};
+use std::marker::Model;
 use tn_program::Program;
 
 /// What a run of a program wrote down: the messages of each session and the replies as text, each with
@@ -13,11 +14,24 @@ pub struct Transcript<A: Allocator> {
     journal: Vec<u32, A>,
 }
 
+impl<A: Allocator> Model for Transcript<A> {
+    ghost use Rattle.tn_trace.specs.Transcripts.{TranscriptValue, slot_lines};
+
+    ghost Value = { TranscriptValue };
+
+    ghost view = { λ t. record {
+      listings = slot_lines t.recorder.slots.items;
+      replied = t.recorder.replies.text.items;
+      journal = t.journal.items;
+    } };
+}
+
 impl<A: Allocator + Copy> Transcript<A> {
-    ghost use Rattle.std.specs.Prelude.{IfOk};
+    ghost use Rattle.std.specs.Prelude.{◌≡◌, IfOk, slice_get};
+    ghost use Rattle.std.specs.Option.{option_map};
+    ghost use Rattle.def_run.specs.Round.{round};
     ghost use Rattle.tn_program.specs.Views.{program_of};
-    ghost use Rattle.tn_trace.specs.Transcripts.{IsTranscript, IsTranscriptOfRound};
-    ghost use Rattle.tn_trace.specs.Transcripts.{LendsLines, LendsReplies, LendsJournal};
+    ghost use Rattle.tn_trace.specs.Transcripts.{transcript_of};
 
     /// The transcript of the run by these picks.
     ///
@@ -29,7 +43,7 @@ impl<A: Allocator + Copy> Transcript<A> {
         program: &Program<A>,
         picks: &[u32],
     ) -> Result<Transcript<A>, AllocError>
-        ensures { IfOk result (λ t. IsTranscript (program_of program.now) picks.now t) }
+        ensures { IfOk result (λ t. t ≡ transcript_of (program_of program.now) picks.now) }
     {
         let run = run_of_picks(alloc, program, picks)?;
         Ok(Transcript {
@@ -44,7 +58,7 @@ impl<A: Allocator + Copy> Transcript<A> {
     ///
     /// AllocError where memory was refused.
     pub fn of_round(alloc: A, program: &Program<A>, limit: u32) -> Result<Transcript<A>, AllocError>
-        ensures { IfOk result (λ t. IsTranscriptOfRound (program_of program.now) limit t) }
+        ensures { IfOk result (λ t. t ≡ transcript_of (program_of program.now) (round (program_of program.now) limit)) }
     {
         let run = run_of_round(alloc, program, limit)?;
         Ok(Transcript {
@@ -56,7 +70,7 @@ impl<A: Allocator + Copy> Transcript<A> {
     /// The lines of the session at this place among the creations of the control list, from 0, in order;
     /// None where there is no such session.
     pub fn lines(&self, place: usize) -> Option<&[u8]>
-        ensures { LendsLines place self.now result }
+        ensures { option_map (λ v. v.now) result ≡ slice_get self.now.listings place }
     {
         match self.recorder.slots.get(place) {
             Some(slot) => Some(&slot.kept.text),
@@ -66,14 +80,14 @@ impl<A: Allocator + Copy> Transcript<A> {
 
     /// The replies to the commands that were taken, a line each, in order.
     pub fn replies(&self) -> &[u8]
-        ensures { LendsReplies self.now result.now }
+        ensures { result.now ≡ self.now.replied }
     {
         &self.recorder.replies.text
     }
 
     /// The picks that moved, in order.
     pub fn journal(&self) -> &[u32]
-        ensures { LendsJournal self.now result.now }
+        ensures { result.now ≡ self.now.journal }
     {
         &self.journal
     }

@@ -1,7 +1,6 @@
 -- What is written piece by piece.
 use Rattle.std.proofs.Common.{◌≡◌, ◌∙◌, ℕ, List, [], ◌++◌, if◌then◌else◌, Result, Ok, Err, OnOk, is_ok, sym, ap, append_assoc, append-nil}
 use Rattle.tn_text.specs.Writes.{Grows}
-use Rattle.tn_text.proofs.Growth.{grows_on}
 
 -- one piece, and then the rest
 pub behind : (o x r b d : List ℕ) → b ≡ o ++ x → d ≡ b ++ r → d ≡ o ++ (x ++ r)

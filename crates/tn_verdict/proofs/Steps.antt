@@ -6,7 +6,7 @@ use Rattle.def_term.specs.Tree.{Tree, of_elements}
 use Rattle.def_spec.specs.Functions.{Func, is_true, nth}
 use Rattle.def_spec.specs.Matching.{Pattern, Patterns, and_pattern, Bindings, bind_on, bindings_of}
 use Rattle.def_spec.specs.Expressions as ex
-use Rattle.def_spec.specs.Expressions.{Exprs, no_exprs, and_expr}
+use Rattle.def_spec.specs.Expressions.{Exprs, and_expr}
 use Rattle.def_spec.specs.Outcome.{Clause, matched_term}
 use Rattle.def_explain.specs.Heads.{HeadReason, after_matching, stop_or, stop_in, pattern_count, head_reason}
 use Rattle.def_explain.specs.Reasons.{Reason, by_head, by_condition, has_value, untrue_by, untrue_in, as_reason, reason_by}

@@ -3,7 +3,7 @@ use Rattle.std.specs.Prelude.{◌≡◌, ◌≢◌, ◌≤◌, ℕ, List, map, p
 use Rattle.std.specs.Option.{option_map}
 use Rattle.std.specs.Borrow.{Bor}
 use Rattle.std.specs.declared.vec.Vec.{Vec}
-use Rattle.def_term.specs.Tree.{Tree, int, tuple, list, Trees, none, more, of_elements}
+use Rattle.def_term.specs.Tree.{Tree, int, list, Trees, of_elements}
 use Rattle.def_term.specs.Names.{Mfa, mfa_term}
 use Rattle.def_text.specs.Spelling.{Spells}
 use Rattle.def_spec.specs.Expressions as ex

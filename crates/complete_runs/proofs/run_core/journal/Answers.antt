@@ -1,8 +1,10 @@
-use Rattle.std.proofs.Common.{◌≡◌, ◌∙◌, sym}
-use Rattle.complete_runs.proofs.Both.{both_ok}
+use Rattle.std.proofs.Common.{◌∙◌, sym, ap}
+use Rattle.tn_trace.specs.Cores.{CoreValue}
+use Rattle.complete_runs.proofs.SameSteps.{read_of, is_read}
 use Rattle.complete_runs.proofs.run_core.journal.Goals as goal
 
 pub returns : goal.returns
 returns g c =
-    both_ok (λ v. v.now ≡ g.at.1) (λ v w. v.now ≡ w.now) (λ v w k l. k ∙ sym l) _ _
-    (c.journal.ensures.journal g.at.0 g.at.1 c.requires.1.0) (c.journal-2.ensures.journal g.at.0 g.at.1 c.requires.1.1)
+    is_read (λ v. v.now) c.args.one.now.journal (λ picks. picks) _ c.journal.ensures.journal c.journal.ensures.spent
+    ∙ ap (λ (v : CoreValue). read_of v.journal (λ picks. picks)) c.requires
+    ∙ sym (is_read (λ v. v.now) c.args.other.now.journal (λ picks. picks) _ c.journal-2.ensures.journal c.journal-2.ensures.spent)

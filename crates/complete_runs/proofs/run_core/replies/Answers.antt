@@ -1,10 +1,12 @@
-use Rattle.std.proofs.Common.{◌≡◌, ◌∙◌, map, sym}
+use Rattle.std.proofs.Common.{◌∙◌, map, sym, ap}
 use Rattle.def_run.specs.Listing.{replies}
 use Rattle.tn_term.specs.Views.{tree_of}
-use Rattle.complete_runs.proofs.Both.{both_ok}
+use Rattle.tn_trace.specs.Cores.{CoreValue}
+use Rattle.complete_runs.proofs.SameSteps.{read_of, is_read}
 use Rattle.complete_runs.proofs.run_core.replies.Goals as goal
 
 pub returns : goal.returns
 returns g c =
-    both_ok (λ v. map tree_of v.now ≡ replies g.at.0 g.at.1) (λ v w. map tree_of v.now ≡ map tree_of w.now) (λ v w k l. k ∙ sym l) _ _
-    (c.replies.ensures.replies g.at.0 g.at.1 c.requires.1.0) (c.replies-2.ensures.replies g.at.0 g.at.1 c.requires.1.1)
+    is_read (λ v. map tree_of v.now) c.args.one.now.journal (replies c.args.one.now.program) _ c.replies.ensures.replies c.replies.ensures.spent
+    ∙ ap (λ (v : CoreValue). read_of v.journal (replies v.program)) c.requires
+    ∙ sym (is_read (λ v. map tree_of v.now) c.args.other.now.journal (replies c.args.other.now.program) _ c.replies-2.ensures.replies c.replies-2.ensures.spent)

@@ -1,5 +1,7 @@
-use Rattle.complete_runs.proofs.SameTranscripts.{same_lines}
+use Rattle.std.proofs.Common.{◌∙◌, sym, ap}
+use Rattle.std.specs.Prelude.{slice_get}
+use Rattle.tn_trace.specs.Transcripts.{TranscriptValue}
 use Rattle.complete_runs.proofs.transcript.lines.Goals as goal
 
 pub returns : goal.returns
-returns g c = same_lines g.at.0 g.at.1 c.args.place _ _ (c.lines.ensures g.at.0 g.at.1 c.requires.1.0) (c.lines-2.ensures g.at.0 g.at.1 c.requires.1.1)
+returns g c = c.lines.ensures ∙ ap (λ (t : TranscriptValue). slice_get t.listings c.args.place) c.requires ∙ sym c.lines-2.ensures

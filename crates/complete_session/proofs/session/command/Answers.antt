@@ -1,12 +1,15 @@
-use Rattle.std.proofs.Common.{IfOk, subst, sym}
+use Rattle.std.proofs.Common.{ℕ}
+use Rattle.def_term.specs.Tree.{Tree}
+use Rattle.def_session.specs.State.{Session}
+use Rattle.def_session.specs.Commands.{command_done}
 use Rattle.tn_term.specs.Views.{tree_of}
 use Rattle.tn_flags.specs.Views.{command_of}
-use Rattle.tn_session.specs.Sessions.{Replies}
-use Rattle.complete_session.proofs.Same.{same_reply}
+use Rattle.tn_session.specs.Sessions.{SessionValue, value_in, exports_in}
+use Rattle.complete_session.proofs.Same.{same_given, of_any}
 use Rattle.complete_session.proofs.session.command.Goals as goal
 
 pub returns-clause-reply : goal.returns-clause-reply
 returns-clause-reply g c =
-    let P = c.requires.1 in
-    same_reply _ _ g.at.0 g.at.1 (command_of c.args.command.now) _ _ (c.command-first.ensures.done g.at.0 g.at.1 P.0)
-    (subst (λ d. IfOk c.command-second.result (λ t. Replies g.at.0 g.at.1 d c.command-second.new.self (tree_of t))) (sym P.1.1) (c.command-second.ensures.done g.at.0 g.at.1 P.1.0))
+    let done : ℕ → SessionValue → Session × Tree = λ n s. command_done (exports_in s n) s.state (command_of c.args.command.now) in
+    same_given tree_of (value_in c.args.one.now) (done 0) _ _ _ _ (of_any tree_of (value_in c.args.one.now) done _ _ c.command-first.ensures.done)
+    (of_any tree_of (value_in c.args.one.now) done _ _ (rw (← c.requires.sessions, ← c.requires.commands) at c.command-second.ensures.done))

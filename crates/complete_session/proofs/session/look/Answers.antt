@@ -1,9 +1,7 @@
-use Rattle.complete_session.proofs.Same.{is_some, same_look}
+use Rattle.std.proofs.Common.{◌∙◌, sym, ap}
+use Rattle.std.specs.Option.{option_map}
+use Rattle.tn_session.specs.Sessions.{SessionValue}
 use Rattle.complete_session.proofs.session.look.Goals as goal
 
-pub returns-clause-some : goal.returns-clause-some
-returns-clause-some g c = is_some _ g.at.1 (c.look.ensures.state g.at.0 g.at.1 c.requires.1.0)
-
-pub returns-clause-seen : goal.returns-clause-seen
-returns-clause-seen g c =
-    same_look _ _ g.at.1 (c.look.ensures.state g.at.0 g.at.1 c.requires.1.0) (c.look-2.ensures.state g.at.0 g.at.1 c.requires.1.1)
+pub returns : goal.returns
+returns g c = c.look.ensures ∙ ap (option_map (λ (s : SessionValue). s.state)) c.requires ∙ sym c.look-2.ensures

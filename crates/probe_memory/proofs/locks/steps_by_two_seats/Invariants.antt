@@ -1,6 +1,5 @@
-use Rattle.tn_program.specs.Views.{program_of}
 use Rattle.probe_memory.proofs.locks.steps_by_two_seats.Given as goal
 
 -- the log that was just opened, and the core's program
 abbrev pub ghosts-steps_of_a_lock : goal.ghosts-steps_of_a_lock
-ghosts-steps_of_a_lock g a = record { log = a.new_log; program = program_of a.core.program }
+ghosts-steps_of_a_lock g a = record { log = a.new_log; program = a.core.program }

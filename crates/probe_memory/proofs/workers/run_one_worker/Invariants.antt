@@ -1,6 +1,5 @@
-use Rattle.tn_program.specs.Views.{program_of}
 use Rattle.probe_memory.proofs.workers.run_one_worker.Given as goal
 
 -- the log that was just opened, and the core's program
 abbrev pub ghosts-report_of_one : goal.ghosts-report_of_one
-ghosts-report_of_one g a = record { log = a.new_log; program = program_of a.core.program }
+ghosts-report_of_one g a = record { log = a.new_log; program = a.core.program }

@@ -1,6 +1,5 @@
-use Rattle.tn_program.specs.Views.{program_of}
 use Rattle.test_pool.proofs.lines.all_lines_but_one.Given as goal
 
 -- the log that was just opened, and the core's program
 abbrev pub ghosts-check_boards : goal.ghosts-check_boards
-ghosts-check_boards g a = record { log = a.new_log; program = program_of a.core.program }
+ghosts-check_boards g a = record { log = a.new_log; program = a.core.program }

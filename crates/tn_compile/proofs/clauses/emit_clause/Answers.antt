@@ -17,9 +17,9 @@ returns-clause-emitted g c =
     let made : instructions_of c.in_ok-steps.field-0.steps.items ≡ pattern_steps (fold_head (head_seen c.args.clause.now.head)) [] 0 1 = search rules in
     let known : variables_seen c.in_ok-steps.field-0.variables.items ≡ variables_after (fold_head (head_seen c.args.clause.now.head)) [] 0 1 = search rules in
     let free : c.in_ok-steps.field-0.free ≡ 1 + registers_taken (fold_head (head_seen c.args.clause.now.head)) = search rules in
-    clause-is d k c.len-left.result c.in_ok-steps.field-0.free (variables_seen c.as_slice.result.now) (instructions_of c.in_ok-steps.field-0.steps.items) (code_left c.args.code.now) (code_left c.emit.new.code) (code_left c.emit_exprs.new.code) (code_left c.emit_while_true.new.code) (code_left c.put_in_front.new.code) (code_left c.emit-2.new.code)
+    clause-is d k c.len-left.result c.in_ok-steps.field-0.free (variables_seen c.as_slice.result.now) (instructions_of c.in_ok-steps.field-0.steps.items) (code_left c.args.code.now) (code_left c.emit.new.code) (code_left c.emit_exprs.new.code) (code_left c.emit_tests.new.code) (code_left c.put_in_front.new.code) (code_left c.emit-2.new.code)
     (c.len-left.ensures ∙ c.args.code.now.ok.0 ∙ sym (left-length c.args.code.now)) free (ap variables_seen c.as_slice.ensures.value ∙ known) made
-    c.in_ok-emit.ensures.emitted c.in_ok-emit_exprs.ensures.emitted c.in_ok-emit_while_true.ensures.emitted c.in_ok-put_in_front.ensures.emitted c.in_ok-emit-2.ensures.emitted
+    c.in_ok-emit.ensures.emitted c.in_ok-emit_exprs.ensures.emitted c.in_ok-emit_tests.ensures.emitted c.in_ok-put_in_front.ensures.emitted c.in_ok-emit-2.ensures.emitted
 
 pub steps_of_head-requires : goal.steps_of_head-requires
 steps_of_head-requires g c = record { room = room-of-head _ _ c.requires.body }
@@ -30,18 +30,18 @@ emit_exprs-requires g c = record {
   behind = one-longer _ _ _ (c.len-left.ensures ∙ c.args.code.now.ok.0) c.in_ok-emit.ensures.longer;
 }
 
-pub emit_while_true-requires : goal.emit_while_true-requires
-emit_while_true-requires g c =
+pub emit_tests-requires : goal.emit_tests-requires
+emit_tests-requires g c =
     let behind : c.len-left.result ≤ length c.emit_exprs.new.code.items =
     as-long _ _ _ (one-longer _ _ _ (c.len-left.ensures ∙ c.args.code.now.ok.0) c.in_ok-emit.ensures.longer) c.in_ok-emit_exprs.ensures.longer in
-    record { room = room-behind-head _ _ _ c.in_ok-steps.ensures.free c.requires.conditions; behind = behind; end = behind }
+    record { room = room-behind-head _ _ _ c.in_ok-steps.ensures.free c.requires.conditions; behind = behind; stop = behind }
 
 pub put_in_front-requires : goal.put_in_front-requires
 put_in_front-requires g c =
-    as-long _ _ _ (as-long _ _ _ (one-longer _ _ _ (c.len-left.ensures ∙ c.args.code.now.ok.0) c.in_ok-emit.ensures.longer) c.in_ok-emit_exprs.ensures.longer) c.in_ok-emit_while_true.ensures.longer
+    as-long _ _ _ (as-long _ _ _ (one-longer _ _ _ (c.len-left.ensures ∙ c.args.code.now.ok.0) c.in_ok-emit.ensures.longer) c.in_ok-emit_exprs.ensures.longer) c.in_ok-emit_tests.ensures.longer
 
 pub returns-clause-longer : goal.returns-clause-longer
 returns-clause-longer g c =
     as-long _ _ _ (one-longer _ _ _ refl c.in_ok-emit.ensures.longer)
     (as-long _ _ _ c.in_ok-emit_exprs.ensures.longer
-    (as-long _ _ _ c.in_ok-emit_while_true.ensures.longer (as-long _ _ _ c.in_ok-put_in_front.ensures.longer (one-longer _ _ _ refl c.in_ok-emit-2.ensures.longer))))
+    (as-long _ _ _ c.in_ok-emit_tests.ensures.longer (as-long _ _ _ c.in_ok-put_in_front.ensures.longer (one-longer _ _ _ refl c.in_ok-emit-2.ensures.longer))))

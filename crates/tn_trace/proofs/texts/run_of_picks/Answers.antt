@@ -1,5 +1,4 @@
-use Rattle.std.proofs.Common.{[], refl}
-use Rattle.std.proofs.lemmas.List.{take_all}
+use Rattle.std.proofs.Common.{[]}
 use Rattle.tn_program.specs.Views.{program_of}
 use Rattle.tn_trace.specs.Items.{AreTexts}
 use Rattle.tn_trace.specs.Recorders.{HasRecorded}

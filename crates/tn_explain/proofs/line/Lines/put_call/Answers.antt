@@ -9,7 +9,7 @@ use Rattle.def_explain.specs.Causes.{of_named_calls}
 use Rattle.def_explain.specs.Accounts.{cause_lines}
 use Rattle.tn_term.specs.Views.{tree_of, mfa_seen, alive_of}
 use Rattle.tn_flags.specs.Views.{call_seen, table_of}
-use Rattle.tn_session.specs.Looks.{look_seen, lent_seen, newest_seen}
+use Rattle.tn_session.specs.Looks.{look_seen, look_setting, newest_seen}
 use Rattle.tn_explain.specs.Evaluations.{GivesLines, GivesWhere, GivesBySetting, GivesOf}
 use Rattle.tn_explain.specs.LineParts.{uncovered_lines}
 use Rattle.tn_explain.proofs.EarlierLines.{refused_so, unflagged_so, settled_so, same_context, context_of, uncovered, unnamed, covered, no_call, is_false, is_true, caller_lent}
@@ -51,7 +51,7 @@ returns-then-not-concerns-clause-ok g c =
     let x = c.put_where-then-not-concerns.new.out.items in
     IfOk-weaker c.put_where-then-not-concerns.result (GivesWhere n false (codes "the setting is global, and the call doesn't name the module") o x) (GivesOf n s e o x)
     (λ r h. refused_so n s e o x r (cause_lines s e of_named_calls)
-    (unnamed s c.args.pid k (lent_seen c.in-Some.newest.setting) c.in-Some.newest.local (sym (ap (option_map newest_seen) c.in-Some.is) ∙ c.newest.ensures)
+    (unnamed s c.args.pid k (look_setting c.in-Some.newest.setting) c.in-Some.newest.local (sym (ap (option_map newest_seen) c.in-Some.is) ∙ c.newest.ensures)
     (ap (λ f. f call_flag) (sym c.flags_at.ensures) ∙ is_true c.flags_at.result.call c.if-not-flags_at.false) (sym c.concerns.ensures ∙ c.if-not-concerns.true)) h)
     c.put_where-then-not-concerns.ensures.ok
 
@@ -63,7 +63,7 @@ returns-clause-ok g c =
     let e = called c.args.pid k in
     let o = c.args.out.now.items in
     let x = c.put_setting.new.out.items in
-    let its = lent_seen c.in-Some.newest.setting in
+    let its = look_setting c.in-Some.newest.setting in
     let here = context_of c.args.pid (map tree_of c.as_slice.result.now) (option_map (λ f. mfa_seen f.now) c.as_ref.result) (alive_of c.alive.result.now) (table_of c.flags.result.now) in
     IfOk-weaker c.put_setting.result (GivesBySetting n its here o x) (GivesOf n s e o x)
     (λ r h. settled_so n s e o x r its its here (context s c.args.pid k.args k.caller) refl

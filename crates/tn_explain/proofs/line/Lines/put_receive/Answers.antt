@@ -6,7 +6,7 @@ use Rattle.def_spec.specs.Flags.{receive_flag}
 use Rattle.def_node.specs.Event.{received}
 use Rattle.def_session.specs.Session.{context, evaluated_by}
 use Rattle.tn_term.specs.Views.{tree_of}
-use Rattle.tn_session.specs.Looks.{look_seen, lent_seen}
+use Rattle.tn_session.specs.Looks.{look_seen, look_setting}
 use Rattle.tn_session.proofs.Evaluations.{list_of_receive}
 use Rattle.tn_explain.specs.Evaluations.{GivesWhere, GivesOf}
 use Rattle.tn_explain.proofs.EarlierLines.{unflagged_so, settled_so, receive_by, no_receive}
@@ -29,7 +29,7 @@ returns-clause-ok g c =
     let n = c.args.self.now.name.now in
     let s = look_seen c.args.look.now in
     let e = received c.args.pid c.args.sender (tree_of c.args.message.now) in
-    settled_so n s e _ _ _ (lent_seen c.receive_setting.result) s.receiving _ _ c.receive_setting.ensures
+    settled_so n s e _ _ _ (look_setting c.receive_setting.result) s.receiving _ _ c.receive_setting.ensures
     (ap (λ ts. context s c.args.pid ts None) (list_of_receive c.args.sender c.args.message))
     (receive_by s c.args.pid c.args.sender (tree_of c.args.message.now) (ap (λ f. f receive_flag) (sym c.flags_at.ensures) ∙ c.if-not-flags_at.false))
     c.in_ok-put_values.ensures.ok

@@ -5,7 +5,7 @@ use Rattle.def_spec.specs.Flags.{send_flag}
 use Rattle.def_node.specs.Event.{sent}
 use Rattle.def_session.specs.Session.{context, evaluated_by}
 use Rattle.tn_term.specs.Views.{tree_of}
-use Rattle.tn_session.specs.Looks.{look_seen, lent_seen}
+use Rattle.tn_session.specs.Looks.{look_seen, look_setting}
 use Rattle.tn_session.proofs.Evaluations.{list_of_send}
 use Rattle.tn_explain.specs.Evaluations.{GivesWhere, GivesOf}
 use Rattle.tn_explain.proofs.EarlierLines.{unflagged_so, settled_so, send_by, no_send}
@@ -28,7 +28,7 @@ returns-clause-ok g c = λ b.
     let n = c.args.self.now.name.now in
     let s = look_seen c.args.look.now in
     let e = sent c.args.pid (tree_of c.args.message.now) c.args.to b in
-    settled_so n s e _ _ _ (lent_seen c.send_setting.result) s.sending _ _ c.send_setting.ensures
+    settled_so n s e _ _ _ (look_setting c.send_setting.result) s.sending _ _ c.send_setting.ensures
     (ap (λ ts. context s c.args.pid ts None) (list_of_send c.args.to c.args.message))
     (send_by s c.args.pid (tree_of c.args.message.now) c.args.to b (ap (λ f. f send_flag) (sym c.flags_at.ensures) ∙ c.if-not-flags_at.false))
     c.in_ok-put_values.ensures.ok

@@ -1,7 +1,7 @@
 use Rattle.tn_live.proofs.closed.Closed.listing.Goals as goal
 
 pub returns-in-Ok : goal.returns-in-Ok
-returns-in-Ok g c = rw (← c.self.view_is) (c.in-Ok.ensures.listing g.J.JournalName.program _ c.self.invariant.core)
+returns-in-Ok g c = rw (← c.self.view_is) (rw c.self.invariant.core at c.in-Ok.ensures.listing)
 
 pub returns-in-Err : goal.returns-in-Err
-returns-in-Err g c = absurd (c.in-Err.ensures.listing g.J.JournalName.program _ c.self.invariant.core)
+returns-in-Err g c = absurd (rw c.self.invariant.core at c.in-Err.ensures.listing)

@@ -1,10 +1,8 @@
-use Rattle.std.proofs.Common.{◌∙◌, ◌<◌, List, length, arith, refl, sym, ap, subst}
+use Rattle.std.proofs.Common.{◌∙◌, ◌<◌, List, Ok, Err, length, arith, refl, sym, ap, subst}
 use Rattle.def_run.specs.Laws.{IsIdleAfter}
-use Rattle.tn_trace.specs.Cores.{IsCore}
 use Rattle.tn_live.specs.declared.entry.Entry.{Entry}
 use Rattle.tn_live.specs.Journal.{picks_of}
-use Rattle.tn_trace.proofs.CoreLemmas.{core_moves}
-use Rattle.tn_live.proofs.RecordTurns.{record_as, record_same, seen_same, rests, turns_from, begins_as, length_as}
+use Rattle.tn_live.proofs.RecordTurns.{record_as, record_same, core_steps, seen_same, rests, turns_from, begins_as, length_as}
 use Rattle.tn_live.proofs.record.Record.step.Goals as goal
 
 pub enter-requires-clause-moved : goal.enter-requires-clause-moved
@@ -13,8 +11,8 @@ enter-requires-clause-moved g c =
     let r = c.make_room.new.self in
     let is = record_same p c.args.self.now r c.requires.record c.make_room.ensures.record in record {
       reached = is.reached;
-      journal = core_moves p (picks_of r.entries.items) r.core is.core;
-      moved = rw c.in-Ok-Moved.field-0-is at (c.in-Ok-Moved.ensures.step p (picks_of r.entries.items) is.core);
+      journal = is.moved;
+      moved = rw c.in-Ok-Moved.field-0-is at (core_steps p r c.args.pick c.step.new.self (Ok c.in-Ok-Moved.field-0) is c.in-Ok-Moved.ensures.step);
       placed = is.placed;
       counted = is.counted;
     }
@@ -42,7 +40,7 @@ returns-in-Ok-Idle g c =
     let same = c.make_room.ensures.record in
     let seen = c.make_room.ensures.seen in
     let is = record_same p c.args.self.now r c.requires.record same in
-    let stepped = rw c.in-Ok-Idle.field-0-is at (c.in-Ok-Idle.ensures.step p (picks_of r.entries.items) is.core) in
+    let stepped = rw c.in-Ok-Idle.field-0-is at (core_steps p r c.args.pick c.step.new.self (Ok c.in-Ok-Idle.field-0) is c.in-Ok-Idle.ensures.step) in
     let q = record_as p r _ is refl refl refl refl stepped.after in (
       rests p c.args.self.now _ c.args.seen.now c.show.new.seen c.requires.record q c.requires.seen c.requires.begins same.entries c.show.ensures.front c.show.ensures.entries (c.show.ensures.number ∙ seen.number)
           (c.show.ensures.made ∙ seen.made) (c.show.ensures.last ∙ seen.last),
@@ -59,8 +57,8 @@ returns-in-Err-LimitReached g c =
     let seen = c.make_room.ensures.seen in
     let show = c.show-in-Err-LimitReached.ensures in
     let is = record_same p c.args.self.now r c.requires.record same in
-    let stepped = rw c.in-Err-LimitReached.field-0-is at (c.in-Err-LimitReached.ensures.step p (picks_of r.entries.items) is.core) in
-    let q = record_as p r _ is refl refl refl refl (subst (IsCore p (picks_of r.entries.items)) (sym stepped.1) is.core) in (
+    let stepped = rw c.in-Err-LimitReached.field-0-is at (core_steps p r c.args.pick c.step.new.self (Err c.in-Err-LimitReached.field-0) is c.in-Err-LimitReached.ensures.step) in
+    let q = record_as p r _ is refl refl refl refl stepped.1 in (
       rests p c.args.self.now _ c.args.seen.now c.show-in-Err-LimitReached.new.seen c.requires.record q c.requires.seen c.requires.begins same.entries show.front show.entries (show.number ∙ seen.number) (show.made ∙ seen.made)
           (show.last ∙ seen.last),
       sym (length_as r.entries.items c.args.self.now.entries.items same.entries) ∙ stepped.0,
@@ -71,4 +69,4 @@ returns-in-Err-Spent g c =
     let p = g.J.JournalName.program in
     let r = c.make_room.new.self in
     let is = record_same p c.args.self.now r c.requires.record c.make_room.ensures.record in
-    absurd (rw c.in-Err-Spent.field-0-is at (c.in-Err-Spent.ensures.step p (picks_of r.entries.items) is.core))
+    absurd (rw c.in-Err-Spent.field-0-is at (core_steps p r c.args.pick c.step.new.self (Err c.in-Err-Spent.field-0) is c.in-Err-Spent.ensures.step))

@@ -1,8 +1,7 @@
-use Rattle.std.proofs.Common.{◌∙◌, ap, sym}
-use Rattle.def_node.specs.Node.{next}
+use Rattle.std.proofs.Common.{◌∙◌, ap}
+use Rattle.tn_node.specs.Nodes.{node_seen}
+use Rattle.tn_node.proofs.Picks.{after_pick}
 use Rattle.tn_node.proofs.node.State.step.Goals as goal
 
 pub returns-then-pick-eq0 : goal.returns-then-pick-eq0
-returns-then-pick-eq0 g c p s h =
-    let done = c.step_control.ensures p s h in
-    (done.0, done.1 ∙ sym (ap (next p s) c.if-pick-eq0.true))
+returns-then-pick-eq0 g c = ap (after_pick (node_seen c.args.self.now)) c.if-pick-eq0.true ∙ c.step_control.ensures

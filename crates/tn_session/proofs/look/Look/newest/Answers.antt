@@ -16,5 +16,5 @@ pub returns-in-Some : goal.returns-in-Some
 returns-in-Some g c =
     let k = call_seen c.args.call.now in
     let ks = c.args.self.now.state.now.settings in
-    ap (λ s. Some (s, c.in-Some.function_setting.now.local)) c.lend_setting.ensures
+    ap (λ s. Some (s, c.in-Some.function_setting.now.local)) c.borrow_setting.ensures
     ∙ sym (ap (option_map parts_of) (newest_seen ks k.mfa k.exported ∙ ap (option_map function_setting_seen) (sym c.get.ensures ∙ ap (option_map (λ x. x.now)) c.in-Some.is)))

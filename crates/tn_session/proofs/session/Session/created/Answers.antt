@@ -1,14 +1,14 @@
-use Rattle.std.proofs.Common.{map, refl}
+use Rattle.std.proofs.Common.{Some, map}
 use Rattle.def_session.specs.State.{live}
 use Rattle.def_session.specs.Settings.{plain}
 use Rattle.tn_term.specs.Views.{alive_of}
-use Rattle.tn_session.specs.Views.{function_setting_seen, marks_seen}
+use Rattle.tn_session.specs.Views.{function_seen, function_setting_seen, marks_seen}
 use Rattle.tn_session.proofs.session.Session.created.Goals as goal
 
 pub returns : goal.returns
-returns g c = record {
-  functions = refl;
-  state = λ i. record {
+returns g c = λ i. Some (record {
+  functions = map function_seen c.args.functions.items;
+  state = record {
     phase = live;
     alive = alive_of c.args.alive;
     flags = c.none.ensures i;
@@ -18,4 +18,4 @@ returns g c = record {
     receiving = plain;
     marks = marks_seen (c.new-2.ensures.items i);
   };
-}
+})

@@ -1,17 +1,16 @@
-use Rattle.std.proofs.Common.{◌∙◌, sym, ap, subst}
+use Rattle.std.proofs.Common.{◌∙◌, Some, sym, ap}
 use Rattle.def_session.specs.State.{new_session, live}
 use Rattle.tn_term.specs.Views.{tree_of, alive_of}
 use Rattle.tn_flags.specs.Views.{command_of}
-use Rattle.tn_session.specs.Sessions.{IsAt}
-use Rattle.tn_trace.proofs.OneSession.{is_at, obeys_there, obeys_creation}
+use Rattle.tn_trace.proofs.OneSession.{obeys_there, obeys_creation}
 use Rattle.tn_trace.proofs.slot.Slot.reply.Goals as goal
 
 pub returns-in-Some : goal.returns-in-Some
 returns-in-Some g c = λ o t fs h.
     let old = c.args.self.now in
     let living = alive_of c.args.living in
-    obeys_there g.K.MessageSink.keeps g.K.MessageSink.gives o living t old h (command_of c.args.command.now) c.command.new.self (tree_of c.in_ok-command.field-0)
-    (c.in_ok-command.ensures.done o.functions t.session (is_at g.K.MessageSink.keeps g.K.MessageSink.gives o living t old h c.in-Some.session c.in-Some.is))
+    obeys_there g.K.MessageSink.keeps g.K.MessageSink.gives o living t old h (command_of c.args.command.now) c.in-Some.session c.command.new.self (tree_of c.in_ok-command.field-0)
+    c.in-Some.is c.in_ok-command.ensures.done
 
 pub returns-in_ok-functions-in-SessionCreate : goal.returns-in_ok-functions-in-SessionCreate
 returns-in_ok-functions-in-SessionCreate g c = λ o t fs h.
@@ -19,5 +18,5 @@ returns-in_ok-functions-in-SessionCreate g c = λ o t fs h.
     let living = alive_of c.args.living in
     obeys_creation g.K.MessageSink.keeps g.K.MessageSink.gives o living t old h (command_of c.args.command.now) c.in-SessionCreate.session c.in-SessionCreate.tracer c.created.result (tree_of c.in_ok-reply-in-SessionCreate.reply) c.in_default.is
     (ap command_of c.in-SessionCreate.is)
-    (subst (λ ks. IsAt ks (new_session live living) c.created.result) (c.in_ok-functions-in-SessionCreate.ensures ∙ sym fs) c.created.ensures)
+    (c.created.ensures ∙ ap (λ ks. Some (record { functions = ks; state = new_session live living })) (c.in_ok-functions-in-SessionCreate.ensures ∙ sym fs))
     c.in_ok-reply-in-SessionCreate.ensures

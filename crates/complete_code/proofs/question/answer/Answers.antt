@@ -1,5 +1,0 @@
-use Rattle.complete_code.proofs.Questions.{answered_alike}
-use Rattle.complete_code.proofs.question.answer.Goals as goal
-
-pub returns : goal.returns
-returns g c = answered_alike c.args.question.now _ _ c.answer.ensures c.answer-2.ensures

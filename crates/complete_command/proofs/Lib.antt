@@ -1,0 +1,4 @@
+mod SameJobs
+mod SamePicks
+mod SameSpecTests
+mod SameWords

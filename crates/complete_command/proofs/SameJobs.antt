@@ -1,0 +1,41 @@
+-- Two ends of one job: where both are outcomes, or both are faults, the statuses are one.
+use Rattle.std.proofs.Common.{◌≡◌, ◌∙◌, ℕ, Result, Ok, Err, IfOk, is_ok, if◌then◌else◌, sym, ap}
+use Rattle.tn_run.specs.Answers.{is_listed, run_by, schedule_seen}
+use Rattle.tn_run.specs.Jobs.{JobView}
+use Rattle.tn_run.specs.declared.live.Ran.{Ran}
+use Rattle.tn_run.specs.declared.fault.LiveFault.{LiveFault}
+use Rattle.tn_run.specs.declared.outcome.Schedule.{Schedule}
+use Rattle.tn_explain.specs.Accounts.{explain_by}
+use Rattle.tn_explain.specs.declared.request.ExplainRequest.{ExplainRequest}
+use Rattle.tn_command.specs.Status.{LISTED_STATUS, REFUSED_STATUS, status_of}
+use Rattle.complete_workers.specs.Runs.{AreOfOneText}
+use Rattle.complete_workers.proofs.OneRun.{one_run, reads_or_not}
+use Rattle.complete_explain.proofs.OneExplanation.{explains_or_not, one_explanation}
+use Rattle.complete_command.specs.Jobs.{HasOneAnswer}
+
+pub same_status : {O F : Type 0} (job : JobView O F) (n m : ℕ) (r q : Result O F) → n ≡ status_of job r → m ≡ status_of job q
+    → IfOk r (λ o. IfOk q (λ u. job.succeeds o ≡ job.succeeds u)) → is_ok r ≡ is_ok q → n ≡ m
+same_status job n m (Ok o) (Ok u) e f same both = e ∙ ap (λ b. if b then LISTED_STATUS else REFUSED_STATUS) same ∙ sym f
+same_status job n m (Ok o) (Err d) e f same both = absurd (cc both)
+same_status job n m (Err d) (Ok u) e f same both = absurd (cc both)
+same_status job n m (Err d) (Err b) e f same both = e ∙ sym f
+
+-- two runs of one text by workers succeed alike
+pub succeed_alike : (r q : Result Ran LiveFault) → IfOk r (λ x. IfOk q (AreOfOneText x)) → IfOk r (λ x. IfOk q (λ y. is_listed x.outcome ≡ is_listed y.outcome))
+succeed_alike (Ok x) (Ok y) h = ap is_listed h.outcome
+succeed_alike (Ok x) (Err d) h = tt
+succeed_alike (Err d) q h = tt
+
+-- ---- the jobs of the commands
+
+pub run_has_one : (schedule : Schedule) → HasOneAnswer (run_by schedule)
+run_has_one schedule = record {
+  answer = λ bytes o u x y h i. one_run bytes (schedule_seen schedule) o u x y h i;
+  reads = λ bytes o x h. reads_or_not (schedule_seen schedule) bytes o x h;
+}
+
+pub explanation_has_one : (request : ExplainRequest) → HasOneAnswer (explain_by request)
+explanation_has_one request = record {
+  answer = λ bytes o u x y h i. one_explanation bytes request o u x y h i;
+  reads = λ bytes o x h. explains_or_not bytes request o x h;
+}

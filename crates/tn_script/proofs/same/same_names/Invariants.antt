@@ -1,9 +1,0 @@
-use Rattle.std.proofs.Common.{◌≡◌, length}
-use Rattle.tn_script.proofs.Equal.{EqualSo}
-use Rattle.tn_script.proofs.same.same_names.Given as goal
-
-abbrev pub invariant-loop-i : goal.invariant-loop-i
-invariant-loop-i g l = record {
-  lengths : length l.fn.one ≡ length l.fn.other;
-  rest : EqualSo (λ s. s) l.fn.one l.fn.other l.i;
-}
