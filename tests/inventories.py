@@ -97,7 +97,7 @@ def claims():
         yield f"the claim of {name} in {path}", good, path
     says = [row[1] for rows in tables().values() for row in rows]
     one = sum(text.startswith("determined") for text in says)
-    counts = f"| {one} of {len(says)} contracts leave one answer; the rest is named |"
+    counts = f"| {one} of {len(says)} contracts leave one answer but for what is named |"
     yield "the counts of contracts with one answer", counts in text, counts
     sources = " ".join(
         " ".join((CRATES / path).read_text().split())

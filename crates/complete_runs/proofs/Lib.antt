@@ -1,3 +1,4 @@
 pub mod Both
 pub mod SameSteps
 pub mod SameSlots
+pub mod ObservedRuns

@@ -72,7 +72,7 @@ step_of_full p None pick new r full h = absurd full
 step_of_full p (Some picks) pick new r full h = full_stays p picks pick new r full h
 
 -- a pick doesn't both move and rest
-not_both : (p : Program) (picks : List ℕ) (pick : ℕ) → moves p (picks ++ pick ∷ []) ≡ picks ++ pick ∷ [] → IsIdleAfter p picks pick → moves p picks ≡ picks → ⊥
+pub not_both : (p : Program) (picks : List ℕ) (pick : ℕ) → moves p (picks ++ pick ∷ []) ≡ picks ++ pick ∷ [] → IsIdleAfter p picks pick → moves p picks ≡ picks → ⊥
 not_both p picks pick moved idle was =
     let e : picks ++ pick ∷ [] ≡ picks = sym moved ∙ idle_moved p picks pick [] idle ∙ ap (moves p) (append-nil picks) ∙ was in
     omega (arith, length_push picks pick, ap length e)

@@ -1,0 +1,72 @@
+// A run, with what looks on.
+ghost use Rattle.std.specs.Prelude.{ℕ, List, [], ◌++◌, min, IfOk, OnOk};
+ghost use Rattle.def_run.specs.Run.{JOURNAL};
+ghost use Rattle.tn_program.specs.Views.{program_of};
+ghost use Rattle.tn_trace.specs.Runs.{IsRun};
+ghost use Rattle.tn_trace.specs.Follows.{Follows};
+ghost use Rattle.complete_runs.specs.ObservedRuns.{AreRuns, OneMoreAlike};
+
+use std::alloc::{AllocError, Allocator};
+use tn_program::Program;
+use tn_trace::{Observer, PickOutcome, Run};
+
+/// `tn_trace::Run::new` has one answer but for what looks on, of which `sees` is known.
+pub fn new<A: Allocator + Copy, O: Observer<A> + Drop>(
+    alloc: A,
+    program: &Program<A>,
+    one: O,
+    other: O,
+    limit: usize,
+) -> (Result<Run<A, O>, AllocError>, Result<Run<A, O>, AllocError>)
+    requires one { O.sees one (program_of program.now) [] }
+    requires other { O.sees other (program_of program.now) [] }
+    ensures { IfOk result.0 (λ r. IfOk result.1 (AreRuns O.sees (program_of program.now) (min limit JOURNAL) [] r)) }
+{
+    let first = Run::new(alloc, program, one, limit);
+    let second = Run::new(alloc, program, other, limit);
+    (first, second)
+}
+
+/// `tn_trace::Run::step` has one answer: what the pick comes to. The runs afterwards are one but for what looks on,
+/// of which `sees` is known.
+pub fn step<A: Allocator + Copy, O: Observer<A> + Drop>(
+    program: &Program<A>,
+    one: &mut Run<A, O>,
+    other: &mut Run<A, O>,
+    pick: u32,
+    first: &mut O::Output,
+    second: &mut O::Output,
+) -> (
+    Result<PickOutcome, AllocError>,
+    Result<PickOutcome, AllocError>,
+)
+    ghost at: { ℕ × List ℕ }
+    requires one { IsRun O.sees (program_of program.now) at.0 at.1 one.old }
+    requires other { IsRun O.sees (program_of program.now) at.0 at.1 other.old }
+    ensures { IfOk result.0 (λ a. IfOk result.1
+        (OneMoreAlike O.sees (program_of program.now) at pick one.new other.new a)) }
+{
+    let came = one.step(program, pick, first);
+    let came_again = other.step(program, pick, second);
+    (came, came_again)
+}
+
+/// `tn_trace::Run::take_all` leaves one run but for what looks on, of which `sees` is known.
+pub fn take_all<A: Allocator + Copy, O: Observer<A> + Drop>(
+    program: &Program<A>,
+    one: &mut Run<A, O>,
+    other: &mut Run<A, O>,
+    picks: &[u32],
+    first: &mut O::Output,
+    second: &mut O::Output,
+) -> (Result<(), AllocError>, Result<(), AllocError>)
+    ghost at: { ℕ × List ℕ }
+    requires one { Follows O.sees (program_of program.now) at.0 at.1 one.old }
+    requires other { Follows O.sees (program_of program.now) at.0 at.1 other.old }
+    ensures one { OnOk result.0 (Follows O.sees (program_of program.now) at.0 (at.1 ++ picks.now) one.new) }
+    ensures other { OnOk result.1 (Follows O.sees (program_of program.now) at.0 (at.1 ++ picks.now) other.new) }
+{
+    let done = one.take_all(program, picks, first);
+    let done_again = other.take_all(program, picks, second);
+    (done, done_again)
+}
