@@ -4,8 +4,7 @@ use Rattle.std.specs.Process.{exit_status}
 use Rattle.std.specs.declared.process.ExitCode.{ExitCode}
 use Rattle.tn_text.specs.Watch.{watched_inner, has_failed}
 use Rattle.tn_text.specs.declared.watched.Watched.{Watched}
-use Rattle.tn_run.specs.Jobs.{JobView, Meets, Writes}
-use Rattle.tn_command.specs.declared.status.JobEnd.{JobEnd}
+use Rattle.tn_run.specs.Jobs.{JobView, Writes}
 
 abbrev pub LISTED_STATUS : ℕ
 LISTED_STATUS = 0
@@ -35,10 +34,6 @@ pub record IsWrittenAs {O F : Type 0} (job : JobView O F) (n : ℕ) (bytes old n
   pub refused : n ≡ REFUSED_STATUS → (outcome : O) × (job.succeeds outcome ≡ false) × Writes job bytes old new outcome
 
 -- ---- of a watched reader and writer, each with the function that tells the known bytes of what is watched
-
--- the answer is that of the job, with what it does to both
-abbrev pub DoesJob : {R W O F : Type 0} → JobView O F → (R → Option (List ℕ)) → (reader reader' : Watched R) → (W → Option (List ℕ)) → (writer writer' : Watched W) → JobEnd O F → Type 0
-DoesJob job known reader reader' gained writer writer' end = Meets job known reader reader' gained writer writer' end.answer
 
 -- the writer has gained what the exit status says
 abbrev pub WroteAs : {R W O F : Type 0} → JobView O F → ExitCode → (R → Option (List ℕ)) → Watched R → (W → Option (List ℕ)) → (old new : Watched W) → Type 0

@@ -1,7 +1,8 @@
 // What a command does with a script.
 ghost use Rattle.std.specs.Prelude.{◌≡◌};
 ghost use Rattle.std.specs.Process.{exit_status};
-ghost use Rattle.tn_command.specs.Status.{DoesJob, IsStatus, OnFaultUntouchedOrFailed, WroteAs, status_of};
+ghost use Rattle.tn_run.specs.Jobs.{Meets};
+ghost use Rattle.tn_command.specs.Status.{IsStatus, OnFaultUntouchedOrFailed, WroteAs, status_of};
 
 use crate::command::Command;
 use crate::last_error::LastError;
@@ -31,7 +32,8 @@ pub fn perform_over<A: Allocator + Copy, J: DirectJob<A>, R: Read, W: Write>(
     ensures failed { OnFaultUntouchedOrFailed result.status writer.old writer.new }
     ensures status { IsStatus (exit_status result.status) }
     ensures answer { exit_status result.status ≡ status_of (J.view job.now) result.answer }
-    ensures done { DoesJob (J.view job.now) R.remaining reader.old reader.new W.contents writer.old writer.new result }
+    ensures done { Meets (J.view job.now) R.remaining reader.old reader.new
+        W.contents writer.old writer.new result.answer }
 {
     let answer = transact(alloc, job, reader, writer);
     let status = job_status(job, &answer);

@@ -2,8 +2,9 @@
 ghost use Rattle.std.specs.Prelude.{◌≡◌};
 ghost use Rattle.std.specs.Process.{exit_status};
 ghost use Rattle.tn_run.specs.Answers.{live_run};
+ghost use Rattle.tn_run.specs.Jobs.{Meets};
 ghost use Rattle.tn_run.specs.Workers.{IsWorkerCount};
-ghost use Rattle.tn_command.specs.Status.{DoesJob, IsStatus, OnFaultUntouchedOrFailed, WroteAs, status_of};
+ghost use Rattle.tn_command.specs.Status.{IsStatus, OnFaultUntouchedOrFailed, WroteAs, status_of};
 
 use crate::jobs::{INPUT, print_end, script_of};
 use crate::last_error::LastError;
@@ -34,7 +35,7 @@ pub fn run_workers_over<T: Threads + Wait + Sync, R: Read, W: Write, G: Gate>(
     ensures failed { OnFaultUntouchedOrFailed result.status writer.old writer.new }
     ensures status { IsStatus (exit_status result.status) }
     ensures answer { exit_status result.status ≡ status_of live_run result.answer }
-    ensures done { DoesJob live_run R.remaining reader.old reader.new W.contents writer.old writer.new result }
+    ensures done { Meets live_run R.remaining reader.old reader.new W.contents writer.old writer.new result.answer }
 {
     let answer = run_live(rt, alloc, reader, writer, workers);
     let status = job_status::<Global, LiveRun>(&LiveRun, &answer);
