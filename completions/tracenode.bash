@@ -1,10 +1,21 @@
 # Completion of tracenode's command line for bash: source this file, as ~/.bashrc may do.
 
+# Files and folders that begin so. A folder is followed by a slash, and a name with blanks is quoted.
+_tracenode_files() {
+    local names
+    mapfile -t names < <(compgen -f -- "${1//\\/}")
+    COMPREPLY+=("${names[@]}")
+    compopt -o filenames 2>/dev/null
+}
+
 _tracenode() {
     local word=${COMP_WORDS[COMP_CWORD]} before=${COMP_WORDS[COMP_CWORD - 1]} command=${COMP_WORDS[1]} words=
     COMPREPLY=()
     if [ "$COMP_CWORD" -eq 1 ]; then
-        words='replay round workers explain spec help --help --version'
+        words='replay round workers explain spec help -h --help -V --version'
+        case ${COMP_WORDS[0]} in
+            */*) words+=' --prove --install' ;;
+        esac
     else
         case $before in
             --picks | --limit | --n | --turns | --session | --move | --list | --me | --caller) return ;;
@@ -12,23 +23,24 @@ _tracenode() {
                 COMPREPLY=($(compgen -W 'call send receive' -- "$word"))
                 return
                 ;;
-            --picks-file)
-                COMPREPLY=($(compgen -f -- "$word"))
+            --picks-file | --install)
+                _tracenode_files "$word"
                 return
                 ;;
         esac
         case $command in
-            replay) words='--picks --picks-file --help' ;;
-            round) words='--limit --help' ;;
-            workers) words='--n --turns --help' ;;
-            explain) words='--picks --picks-file --session --move --help' ;;
-            spec) words='--list --for --me --caller --help' ;;
+            replay) words='--picks --picks-file -h --help' ;;
+            round) words='--limit -h --help' ;;
+            workers) words='--n --turns -h --help' ;;
+            explain) words='--picks --picks-file --session --move -h --help' ;;
+            spec) words='--list --for --me --caller -h --help' ;;
             help) words='replay round workers explain spec' ;;
         esac
     fi
     COMPREPLY=($(compgen -W "$words" -- "$word"))
+    [ "$COMP_CWORD" -gt 1 ] || return
     case $command in
-        replay | round | workers | explain) COMPREPLY+=($(compgen -f -- "$word")) ;;
+        replay | round | workers | explain) _tracenode_files "$word" ;;
     esac
 }
 

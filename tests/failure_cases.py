@@ -57,6 +57,18 @@ def ends():
     check("an output that nobody reads", ran.returncode in (3, -13), ran)
 
 
+def closed_pipes():
+    """Standard output is a pipe that nobody reads any more: status 3, and no line."""
+    every = (EXAMPLES / "every_line.term").read_bytes()
+    for words, script in ((SEND_HI_PICKS, SEND_HI), (["explain", *EVERY_LINE], every), (["spec", "--list", "[]", "[{'_',[],[]}]"], b"")):
+        reader, writer = os.pipe()
+        os.close(reader)
+        command = [str(PROGRAM), *words]
+        ran = subprocess.run(command, input=script, stdout=writer, stderr=subprocess.PIPE, check=False)
+        os.close(writer)
+        check(f"{words[0]} to a closed pipe", ran.returncode == 3 and ran.stderr == b"", ran)
+
+
 def memory():
     """Want of memory: a limit on the address space that a large script passes."""
     text = b"{a}.\n" * (TEXT_BYTES // 5)

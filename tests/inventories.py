@@ -6,6 +6,7 @@ lists must be all that there is.
 import re
 
 from contracts import CRATES, TOP, chapter, tables
+from node_differences import DIFFERENCES
 
 DOCS = TOP / "docs"
 README = TOP / "README.md"
@@ -148,6 +149,22 @@ def differences():
             yield f"the difference {first}", first in lines, first
 
 
+def node_differences():
+    """Each difference that an explanation knows has its definition, its words, its line of the page and its moves."""
+    text = (DOCS / "DIFFERENCES.md").read_text()
+    lines = {line.rstrip(".") for line in re.findall(r"^\* \*\*(.+?)\*\*", text, re.M)}
+    defined = (CRATES / "def_explain" / "specs" / "Differences.antt").read_text()
+    names = re.findall(r"^  (\w+) : Difference$", defined, re.M)
+    known = [name for name, *_ in DIFFERENCES]
+    yield "the differences that have moves", known == names, (known, names)
+    words = dict(re.findall(r'^difference_text (\w+) = codes "(.*)"$', defined, re.M))
+    manual = (DOCS / "MANUAL.md").read_text()
+    for name, line, first, *_ in DIFFERENCES:
+        yield f"the words of {name}", words.get(name) == line, words.get(name)
+        yield f"the line of {name} on the page of differences", first in lines, first
+        yield f"the row of {name} in the manual", f"| `on a node: {line}` |" in manual, line
+
+
 def sizes():
     """The README is a front door, and the page of progress is short."""
     text = README.read_text()
@@ -172,6 +189,6 @@ def version():
 
 def findings():
     """Each thing to hold: its name, whether it holds, and what was seen."""
-    parts = (lists_of_crates, laws, promised_functions, claims, files, glossary, differences, sizes, version)
+    parts = (lists_of_crates, laws, promised_functions, claims, files, glossary, differences, node_differences, sizes, version)
     for part in parts:
         yield from part()

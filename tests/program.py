@@ -44,7 +44,7 @@ SUBJECTS = {
         text_cases.numbers,
         text_cases.numbers_in_terms,
     ),
-    "explanation": (explanation_cases.explanations,),
+    "explanation": (explanation_cases.explanations, explanation_cases.differences),
     "specification": (specification_cases.trials, specification_cases.functions, specification_cases.specifications),
     "command_line": (
         command_line_cases.tries,
@@ -53,9 +53,16 @@ SUBJECTS = {
         command_line_cases.starts,
         command_line_cases.installs,
     ),
-    "document": (document_cases.documents, document_cases.promises, document_cases.lists, document_cases.names),
+    "document": (
+        document_cases.documents,
+        document_cases.completions,
+        document_cases.promises,
+        document_cases.lists,
+        document_cases.names,
+    ),
     "failure": (
         failure_cases.ends,
+        failure_cases.closed_pipes,
         failure_cases.memory,
         failure_cases.growths,
         failure_cases.calls,
@@ -64,7 +71,7 @@ SUBJECTS = {
 }
 
 # What reads documents and sources alone.
-WITHOUT_PROGRAM = {document_cases.promises, document_cases.lists}
+WITHOUT_PROGRAM = {document_cases.promises, document_cases.lists, document_cases.names, document_cases.completions}
 
 
 def main():

@@ -261,6 +261,7 @@ TRIALS = (
             "clause 1 fires: <0.100.0> gets send, <0.100.0> gets send, <0.100.0> gets procs, <0.100.0> gets procs, "
             "<0.100.0> gets arity, message [false,true,false,true]",
             "=> a message that ends in [false,true,false,true]",
+            "on a node: arguments and elements of tuples are evaluated from the right, and two of them have actions here",
         ),
     ),
     # What is no living process's pid, or no list of flags, is a fault, and changes nothing.

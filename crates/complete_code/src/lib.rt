@@ -7,6 +7,7 @@
 
 mod clauses;
 mod code;
+mod differences;
 mod effects;
 mod execute;
 mod instr;

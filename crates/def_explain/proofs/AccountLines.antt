@@ -1,5 +1,5 @@
 -- The messages among the lines of an event are the session's message of it.
-use Rattle.std.proofs.Common.{◌≡◌, ℕ, suc, Bool, true, false, List, [], ◌∷◌, ◌++◌, Option, Some, None, option_to_list, refl, sym, ap, ◌∙◌, append-nil, if◌then◌else◌}
+use Rattle.std.proofs.Common.{◌≡◌, ℕ, suc, Bool, true, false, List, [], ◌∷◌, ◌++◌, map, Option, Some, None, option_to_list, refl, sym, ap, ◌∙◌, append-nil, if◌then◌else◌}
 use Rattle.def_term.specs.Tree.{Tree}
 use Rattle.def_spec.specs.Expressions.{Dialect, Context}
 use Rattle.def_spec.specs.Outcome.{Clause}
@@ -9,7 +9,8 @@ use Rattle.def_session.specs.State.{Phase, absent, live, destroyed, MarkKind, fo
 use Rattle.def_session.specs.Session.{inherit, effects_of, context, reported_for, reported_in}
 use Rattle.def_explain.specs.Causes.{Cause, no_mark, marked_for_returns, no_flag, no_setting, of_named_calls, switched_off, no_clause, silenced, message_false, cause_of}
 use Rattle.def_explain.specs.Verdicts.{Verdict, fails, fires, verdict_of}
-use Rattle.def_explain.specs.Accounts.{Line, said, tells, reported_in_lines, line_where, changed_text, flag_lines, inheritance_lines, lines_by, clause_lines, setting_lines, evaluation_lines, cause_lines, marked_lines, mark_lines, end_lines, message_lines, live_lines, event_lines_in}
+use Rattle.def_explain.specs.Accounts.{Line, said, tells, reported_in_lines, line_where, changed_text, flag_lines, inheritance_lines, lines_by, clause_lines, setting_lines, evaluation_lines, cause_lines, marked_lines, mark_lines, end_lines, message_lines, live_lines, difference_lines, event_lines_in, differs}
+use Rattle.def_explain.specs.Differences.{Difference, clause_differences, event_difference}
 use Rattle.def_explain.specs.Laws.{LinesTellTheMessage}
 use Rattle.def_explain.proofs.CauseOfEvents.{cause_where_nothing_told, cause_is_computed}
 
@@ -20,6 +21,7 @@ Says ls = reported_in_lines ls ≡ []
 pub joined-reported : (ls ms : List Line) → reported_in_lines (ls ++ ms) ≡ reported_in_lines ls ++ reported_in_lines ms
 joined-reported [] ms = refl
 joined-reported (said b ∷ ls) ms = joined-reported ls ms
+joined-reported (differs x ∷ ls) ms = joined-reported ls ms
 joined-reported (tells t ∷ ls) ms = ap (λ x. t ∷ x) (joined-reported ls ms)
 
 both-say : (ls ms : List Line) → Says ls → Says ms → Says (ls ++ ms)
@@ -50,13 +52,17 @@ inheritance-says s (linked p q) = refl
 inheritance-says s (unlinked p q) = refl
 inheritance-says s (getting_unlinked p q) = refl
 
+differences-say : (xs : List Difference) → Says (map differs xs)
+differences-say [] = refl
+differences-say (x ∷ xs) = differences-say xs
+
 clauses-say : (n : ℕ) (d : Dialect) (ks : List Clause) (c : Context) → Says (clause_lines n d ks c)
 clauses-say n d [] c = refl
 clauses-say n d (k ∷ ks) c = go (verdict_of d k c) (clauses-say (suc n) d ks c)
   where
-    go : (v : Verdict) → Says (clause_lines (suc n) d ks c) → Says (lines_by n v (clause_lines (suc n) d ks c))
+    go : (v : Verdict) → Says (clause_lines (suc n) d ks c) → Says (lines_by n d k c v (clause_lines (suc n) d ks c))
     go (fails r) h = h
-    go (fires b es) h = refl
+    go (fires b es) h = differences-say (clause_differences d k c es)
 
 setting-says : (g : Setting) (c : Context) → Says (setting_lines g c)
 setting-says off c = refl
@@ -146,8 +152,12 @@ in-phase : (p : Phase) (s : Session) (e : Event) → reported_in_lines (event_li
 in-phase absent s e = refl
 in-phase destroyed s e = refl
 in-phase live s e =
-    joined-reported (inheritance_lines s e) (live_lines (inherit s e) e)
-    ∙ ap (λ x. x ++ reported_in_lines (live_lines (inherit s e) e)) (inheritance-says s e)
+    let ls : List Line = live_lines (inherit s e) e in
+    joined-reported (inheritance_lines s e ++ ls) (difference_lines s e)
+    ∙ ap (λ x. reported_in_lines (inheritance_lines s e ++ ls) ++ x) (differences-say (option_to_list (event_difference s e)))
+    ∙ append-nil (reported_in_lines (inheritance_lines s e ++ ls))
+    ∙ joined-reported (inheritance_lines s e) ls
+    ∙ ap (λ x. x ++ reported_in_lines ls) (inheritance-says s e)
     ∙ live-reported (inherit s e) e
 
 pub lines_tell_the_message : LinesTellTheMessage

@@ -13,3 +13,6 @@ mod CommandTerms
 mod RunRows
 pub mod AccountPicks
 mod RunMessages
+mod Differences
+mod DifferenceLines
+mod DifferenceRows

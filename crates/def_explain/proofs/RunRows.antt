@@ -6,6 +6,7 @@ use Rattle.def_term.specs.Names.{word}
 use Rattle.def_term.specs.Text.{is_written_bare}
 use Rattle.def_script.specs.Program.{error, Program, send, catch, give_back, raise}
 use Rattle.def_run.proofs.Samples.{number, braces, brackets, function, entry, call_named, spawns, program, creates, sets, mfa_of, sets_function, lines}
+use Rattle.def_explain.specs.Differences.{has_mark_below}
 use Rattle.def_explain.specs.RunTexts.{Filter, account_text}
 
 abbrev everything : Filter
@@ -83,7 +84,7 @@ pub why_an_exception_is_missing : account_text everything (program (function "go
     ∷ "  s2: the call is marked for returns alone" ∷ "  s2: the mark is gone"
     ∷ "10 100 <0.100.0> return_from {m,go,0} {'EXIT',{bad,[]}}" ∷ "  s1: the call has no mark" ∷ "  s2: the call has no mark"
     ∷ "10 100 <0.100.0> exit normal" ∷ "  s1: no flag procs" ∷ "  s1: <0.100.0> loses call" ∷ "  s2: no flag procs" ∷ "  s2: <0.100.0> loses call" ∷ [])
-unfolding is_written_bare digits
+unfolding is_written_bare digits has_mark_below
 why_an_exception_is_missing = refl
 
 -- the call that marks for exceptions clears `call`: it is reported, the exception isn't, and the mark is gone all the same

@@ -6,7 +6,7 @@ use Rattle.def_term.specs.Tree.{int, tuple, none, more}
 use Rattle.def_term.specs.Names.{word}
 use Rattle.def_spec.specs.Matching.{Pattern, variable, anything, in_list, no_patterns, and_pattern}
 use Rattle.def_spec.specs.Functions as fn
-use Rattle.def_spec.specs.Expressions.{for_calls, for_sends, Expr, bound_to, constant, tuple_of, list_of, call, perform, message, silent, enable_trace, trace, Exprs, no_exprs, and_expr, Context}
+use Rattle.def_spec.specs.Expressions.{for_calls, for_sends, Expr, bound_to, constant, tuple_of, list_of, call, perform, message, silent, enable_trace, disable_trace, trace, Exprs, no_exprs, and_expr, Context}
 use Rattle.def_spec.specs.Outcome.{Clause}
 use Rattle.def_session.specs.State.{alive_at_start}
 use Rattle.def_explain.specs.Spellings.{spelling}
@@ -67,14 +67,31 @@ pub none_fires : spec_test_text for_calls (of_head ∷ []) hi_one ≡ codes "cla
 unfolding is_written_bare digits
 none_fires = refl
 
--- `silent` is about calls alone
+-- `silent` is about calls alone; on a node about sends by a match specification too
 pub silent_call : spec_test_text for_calls (whole_and_silent ∷ []) hi_one ≡ codes "clause 1 fires: silent true\n  '$7' is [hi,1]\n=> no message: silent\n"
 unfolding is_written_bare digits
 silent_call = refl
 
-pub silent_send : spec_test_text for_sends (whole_and_silent ∷ []) hi_one ≡ codes "clause 1 fires: silent true\n  '$7' is [hi,1]\n=> a message\n"
+pub silent_send : spec_test_text for_sends (whole_and_silent ∷ []) hi_one ≡ codes "clause 1 fires: silent true\n  '$7' is [hi,1]\n=> a message\non a node: no message: silent\n"
 unfolding is_written_bare digits
 silent_send = refl
+
+-- {'_',[],[{disable_trace,send}]}
+abbrev clears_send : Clause
+clears_send = record { head = anything; conditions = no_exprs; body = one (perform disable_trace (one (constant (word "send")))) }
+
+-- a send that ends a node, and a call that doesn't
+abbrev on_send : Context
+on_send = record hi_one { flags = spec_test_flags for_sends 100 }
+
+pub last_flag_of_a_sender : spec_test_text for_sends (clears_send ∷ []) on_send
+    ≡ codes "clause 1 fires: <0.100.0> loses send\n=> a message\non a node: this send ends the node with a segmentation fault, since the body clears the sender's last flag\n"
+unfolding is_written_bare digits
+last_flag_of_a_sender = refl
+
+pub another_flag_of_a_caller : spec_test_text for_calls (clears_send ∷ []) hi_one ≡ codes "clause 1 fires: <0.100.0> loses send\n=> a message\n"
+unfolding is_written_bare digits
+another_flag_of_a_caller = refl
 
 -- a change is reported as it is asked for, whatever it changes; the process has `call` before it
 pub changed_flags : spec_test_text for_calls (tracing ∷ []) hi_one

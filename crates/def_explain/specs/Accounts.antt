@@ -1,6 +1,6 @@
 -- What one session makes of an event or a command, line by line (own).
--- Depends on what a session makes of an event, on why it reports nothing, and on the texts of reasons and effects.
-use Rattle.std.specs.Prelude.{ℕ, suc, if◌then◌else◌, List, [], ◌∷◌, ◌++◌, Option, Some, None, codes, decimal}
+-- Depends on what a session makes of an event, on why it reports nothing, on what a node does otherwise, and on the texts of reasons and effects.
+use Rattle.std.specs.Prelude.{ℕ, suc, if◌then◌else◌, List, [], ◌∷◌, ◌++◌, map, Option, Some, None, option_to_list, codes, decimal}
 use Rattle.std.specs.Option.{unwrap_or}
 use Rattle.def_term.specs.Tree.{Tree, pid}
 use Rattle.def_term.specs.Names.{Mfa, word}
@@ -17,18 +17,28 @@ use Rattle.def_session.specs.Session.{inherit, effects_of, mark_asked, is_marked
 use Rattle.def_session.specs.Commands.{command_done}
 use Rattle.def_explain.specs.Causes.{Cause, no_mark, marked_for_returns, no_flag, no_setting, of_named_calls, switched_off, no_clause, silenced, message_false, cause_of}
 use Rattle.def_explain.specs.Verdicts.{Verdict, fails, fires, verdict_of}
+use Rattle.def_explain.specs.Differences.{Difference, clause_differences, event_difference}
 use Rattle.def_explain.specs.Texts.{said_of_each, effects_text, reason_text, clause_text}
 
--- what is said, or a message that is reported
+-- what is said, a message that is reported, or what a running node does otherwise
 pub data Line : Type 0 where
   said : List ℕ → Line
   tells : Tree → Line
+  differs : Difference → Line
 
 -- the messages among these lines
 abbrev pub reported_in_lines : List Line → List Tree
 reported_in_lines [] = []
 reported_in_lines (said text ∷ ls) = reported_in_lines ls
 reported_in_lines (tells t ∷ ls) = t ∷ reported_in_lines ls
+reported_in_lines (differs x ∷ ls) = reported_in_lines ls
+
+-- what a node does otherwise among these lines
+abbrev pub differences_in_lines : List Line → List Difference
+differences_in_lines [] = []
+differences_in_lines (said text ∷ ls) = differences_in_lines ls
+differences_in_lines (tells t ∷ ls) = differences_in_lines ls
+differences_in_lines (differs x ∷ ls) = x ∷ differences_in_lines ls
 
 -- something said after them
 abbrev pub followed_by_line : List Line → List ℕ → List Line
@@ -57,15 +67,15 @@ inheritance_lines s e = []
 
 -- ---- clauses
 
--- a clause that doesn't fire comes before those after it
-abbrev pub lines_by : ℕ → Verdict → List Line → List Line
-lines_by n (fails r) behind = said (clause_text n (codes ": " ++ reason_text r)) ∷ behind
-lines_by n (fires b es) behind = said (clause_text n (codes " fires" ++ effects_text es)) ∷ []
+-- a clause that doesn't fire comes before those after it; beneath one that does there is what a node does otherwise
+abbrev pub lines_by : ℕ → Dialect → Clause → Context → Verdict → List Line → List Line
+lines_by n d k c (fails r) behind = said (clause_text n (codes ": " ++ reason_text r)) ∷ behind
+lines_by n d k c (fires b es) behind = said (clause_text n (codes " fires" ++ effects_text es)) ∷ map differs (clause_differences d k c es)
 
 -- the clauses after so many, up to the first that fires
 abbrev pub clause_lines : ℕ → Dialect → List Clause → Context → List Line
 clause_lines n d [] c = said (codes "no clause fires") ∷ []
-clause_lines n d (k ∷ ks) c = lines_by n (verdict_of d k c) (clause_lines (suc n) d ks c)
+clause_lines n d (k ∷ ks) c = lines_by n d k c (verdict_of d k c) (clause_lines (suc n) d ks c)
 
 -- of a setting
 abbrev pub setting_lines : Setting → Context → List Line
@@ -137,11 +147,15 @@ message_lines s e None (Some m) = evaluation_lines s e ++ tells m ∷ []
 abbrev pub live_lines : Session → Event → List Line
 live_lines s e = message_lines s e (cause_of s e) (reported_for s e (effects_of s e)).1 ++ (mark_lines s e ++ end_lines s e)
 
+-- what a node does otherwise at an event without a body
+abbrev pub difference_lines : Session → Event → List Line
+difference_lines s e = map differs (option_to_list (event_difference s e))
+
 -- a session that isn't there makes nothing of an event
 abbrev pub event_lines_in : Phase → Session → Event → List Line
 event_lines_in absent s e = []
 event_lines_in destroyed s e = []
-event_lines_in live s e = inheritance_lines s e ++ live_lines (inherit s e) e
+event_lines_in live s e = inheritance_lines s e ++ live_lines (inherit s e) e ++ difference_lines s e
 
 -- what a session makes of an event
 abbrev pub event_lines : Session → Event → List Line

@@ -1,20 +1,21 @@
 -- What is promised of reasons and causes (own).
 -- Depends on reasons, on causes, on which clause fires and on what a session makes of an event.
-use Rattle.std.specs.Prelude.{◌≡◌, ◌↔◌, ℕ, List, option_to_list, Some, None}
+use Rattle.std.specs.Prelude.{◌≡◌, ◌↔◌, ℕ, true, List, ◌++◌, option_to_list, Some, None}
 use Rattle.std.specs.Option.{option_map}
 use Rattle.def_term.specs.Tree.{Tree, Trees, list, of_elements}
 use Rattle.def_spec.specs.Matching.{Pattern, Bindings, Matches}
 use Rattle.def_spec.specs.Functions.{Func}
 use Rattle.def_spec.specs.Reading.{found_in, table, a_function, an_action}
-use Rattle.def_spec.specs.Expressions.{Action, Dialect, Expr, Context, in_condition, value}
+use Rattle.def_spec.specs.Expressions.{Action, Dialect, Expr, Exprs, Context, Effect, in_condition, value}
 use Rattle.def_spec.specs.Outcome.{Clause, Fires, outcome_in}
 use Rattle.def_explain.specs.Heads.{HeadReason, IsHeadReason}
 use Rattle.def_explain.specs.Values.{FaultsAt}
 use Rattle.def_explain.specs.Spellings.{function_name, action_name}
-use Rattle.def_explain.specs.Accounts.{reported_in_lines, event_lines}
+use Rattle.def_explain.specs.Differences.{Difference, evaluates_from_right, OneShowsOrder, order_difference, BodyDiffers, body_differs, EventDiffers, event_difference, evaluation_differences}
+use Rattle.def_explain.specs.Accounts.{reported_in_lines, differences_in_lines, event_lines}
 use Rattle.def_explain.specs.Places.{StopsAtClause, stop_of}
 use Rattle.def_node.specs.Event.{Event}
-use Rattle.def_session.specs.State.{Session}
+use Rattle.def_session.specs.State.{live, Session}
 use Rattle.def_session.specs.Session.{effects_of, reported_for, event_reported}
 use Rattle.def_explain.specs.Reasons.{Reason, IsReason, reason_of}
 use Rattle.def_explain.specs.Causes.{Cause, IsCause, cause_of}
@@ -74,3 +75,19 @@ CauseIsComputed = (s : Session) (e : Event) (x : Cause) → (cause_of s e ≡ So
 -- the messages among the lines of an event are the session's message of it
 abbrev pub LinesTellTheMessage : Type 0
 LinesTellTheMessage = (s : Session) (e : Event) → reported_in_lines (event_lines s e) ≡ option_to_list (event_reported s e).1
+
+-- a node is known to do otherwise at a clause that fires exactly where it is said so
+abbrev pub BodyDifferenceIsComputed : Type 0
+BodyDifferenceIsComputed = (d : Dialect) (c : Context) (es : List Effect) (x : Difference) → (body_differs d c es x ≡ true) ↔ BodyDiffers d c es x
+
+-- and by the order of evaluation of its body
+abbrev pub OrderDifferenceIsComputed : Type 0
+OrderDifferenceIsComputed = (body : Exprs) (x : Difference) → (order_difference body ≡ Some x) ↔ ((x ≡ evaluates_from_right) × OneShowsOrder body)
+
+-- and at an event without a body
+abbrev pub EventDifferenceIsComputed : Type 0
+EventDifferenceIsComputed = (s : Session) (e : Event) (x : Difference) → (event_difference s e ≡ Some x) ↔ EventDiffers s e x
+
+-- among the lines of an event there is each that a node does otherwise, as the event is evaluated and at its end, and nothing else of a node
+abbrev pub LinesTellTheDifference : Type 0
+LinesTellTheDifference = (s : Session) (e : Event) → s.phase ≡ live → differences_in_lines (event_lines s e) ≡ evaluation_differences s e ++ option_to_list (event_difference s e)

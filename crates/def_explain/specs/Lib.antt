@@ -1,5 +1,6 @@
 pub mod Accounts
 pub mod Causes
+pub mod Differences
 pub mod Heads
 pub mod Laws
 pub mod Places

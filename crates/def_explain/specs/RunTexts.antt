@@ -8,7 +8,8 @@ use Rattle.def_term.specs.Text.{w, atom_text}
 use Rattle.def_script.specs.Program.{Command, create, destroy, set_processes, set_function, set_send, set_receive, Program}
 use Rattle.def_session.specs.Messages.{elements_of}
 use Rattle.def_run.specs.Run.{HistoryItem, event_item, command_item}
-use Rattle.def_explain.specs.Accounts.{Line, said, tells}
+use Rattle.def_explain.specs.Differences.{on_node}
+use Rattle.def_explain.specs.Accounts.{Line, said, tells, differs}
 use Rattle.def_explain.specs.Runs.{AccountEntry, shows, shows_nothing, makes, entries}
 
 -- the term that the command was given as
@@ -34,10 +35,11 @@ item_text (event_item e) = after_first (elements_of false e)
 abbrev pub move_text : ℕ → ℕ → List ℕ → List ℕ
 move_text k pick rest = decimal k ++ 32 ∷ decimal pick ++ rest ++ 10 ∷ []
 
--- what is said, or the line of the session's listing after an arrow
+-- what is said, the line of the session's listing after an arrow, or what a node does otherwise
 abbrev pub line_text : Line → List ℕ
 line_text (said text) = text
 line_text (tells t) = codes "=> " ++ w t
+line_text (differs x) = on_node x
 
 -- a line for each entry; what a session makes of it is indented, after its name
 abbrev pub entry_text : AccountEntry → List ℕ

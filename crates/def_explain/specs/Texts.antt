@@ -1,12 +1,12 @@
 -- The text of a test of a match specification: what becomes of its clauses on one list (own).
 -- Depends on verdicts, on the texts of terms and on what a message's last element is.
-use Rattle.std.specs.Prelude.{ℕ, suc, Bool, true, false, not, ◌==◌, ◌&&◌, ◌||◌, if◌then◌else◌, List, [], ◌∷◌, ◌++◌, flat_map, replicate, Option, Some, None, codes, decimal}
+use Rattle.std.specs.Prelude.{ℕ, suc, Bool, true, false, ◌&&◌, if◌then◌else◌, List, [], ◌∷◌, ◌++◌, flat_map, replicate, Option, Some, None, codes, decimal}
 use Rattle.def_term.specs.Tree.{Tree}
 use Rattle.def_term.specs.Order.{same}
 use Rattle.def_term.specs.Names.{Name, word}
 use Rattle.def_term.specs.Alive.{PROCESSES}
 use Rattle.def_term.specs.Text.{w, atom_text, pid_text}
-use Rattle.def_spec.specs.Flags.{Flag, Flags, send_flag, receive_flag, call_flag, silent_flag, no_flags, only, FlagTable, with_flags_in, flags_by_name}
+use Rattle.def_spec.specs.Flags.{Flag, Flags, send_flag, receive_flag, call_flag, no_flags, only, FlagTable, with_flags_in, flags_by_name}
 use Rattle.def_spec.specs.Matching.{Bindings}
 use Rattle.def_spec.specs.Expressions.{Dialect, for_calls, for_sends, for_receives, Context, Effect, gives_message, traces_return, traces_exception, silences, changes}
 use Rattle.def_spec.specs.Outcome.{Clause}
@@ -15,6 +15,7 @@ use Rattle.def_explain.specs.Heads.{HeadReason, no_list, other_length, after_mat
 use Rattle.def_explain.specs.Reasons.{ConditionReason, has_value, faults_at, Reason, by_head, by_condition}
 use Rattle.def_explain.specs.Spellings.{spelling}
 use Rattle.def_explain.specs.Verdicts.{Verdict, fails, fires, verdict_of}
+use Rattle.def_explain.specs.Differences.{Difference, later_silent, clause_differences, on_node}
 
 -- ---- flags
 
@@ -86,13 +87,6 @@ binding_line e = codes "  " ++ atom_text (36 ∷ decimal e.0) ++ codes " is " ++
 abbrev pub clause_text : ℕ → List ℕ → List ℕ
 clause_text n rest = codes "clause " ++ decimal (suc n) ++ rest
 
--- whether the process of this pid has the flag `silent` after these effects; `b` is whether it had it before
-abbrev pub later_silent : ℕ → Bool → List Effect → Bool
-later_silent self_pid b [] = b
-later_silent self_pid b (silences x ∷ es) = later_silent self_pid x es
-later_silent self_pid b (changes n off on ∷ es) = later_silent self_pid (if n == self_pid then on silent_flag || (b && not (off silent_flag)) else b) es
-later_silent self_pid b (e ∷ es) = later_silent self_pid b es
-
 -- `silent` is about calls alone
 abbrev pub is_for_calls : Dialect → Bool
 is_for_calls for_calls = true
@@ -111,19 +105,24 @@ ending_text (Some t) =
 abbrev pub end_text : Dialect → ℕ → List Effect → List ℕ
 end_text d self_pid es = if is_for_calls d && later_silent self_pid false es then codes "no message: silent" else ending_text (last_message es)
 
--- a clause that fires in the process of this pid, its bindings by rising number, and the message
-abbrev pub fires_text : Dialect → ℕ → ℕ → Bindings → List Effect → List ℕ
-fires_text d self_pid n b es = clause_text n (codes " fires" ++ effects_text es ++ 10 ∷ flat_map binding_line b ++ codes "=> " ++ end_text d self_pid es ++ 10 ∷ [])
+-- what a node does otherwise
+abbrev pub difference_line : Difference → List ℕ
+difference_line x = on_node x ++ 10 ∷ []
+
+-- a clause that fires in this context, its bindings by rising number, the message, and what a node does otherwise
+abbrev pub fires_text : Dialect → Clause → Context → ℕ → Bindings → List Effect → List ℕ
+fires_text d k c n b es =
+    clause_text n (codes " fires" ++ effects_text es ++ 10 ∷ flat_map binding_line b ++ codes "=> " ++ end_text d c.self_pid es ++ 10 ∷ flat_map difference_line (clause_differences d k c es))
 
 -- a clause and, where it doesn't fire, those after it
-abbrev pub verdict_text : Dialect → ℕ → ℕ → Verdict → List ℕ → List ℕ
-verdict_text d self_pid n (fails r) behind = clause_text n (codes ": " ++ reason_text r ++ 10 ∷ behind)
-verdict_text d self_pid n (fires b es) behind = fires_text d self_pid n b es
+abbrev pub verdict_text : Dialect → Clause → Context → ℕ → Verdict → List ℕ → List ℕ
+verdict_text d k c n (fails r) behind = clause_text n (codes ": " ++ reason_text r ++ 10 ∷ behind)
+verdict_text d k c n (fires b es) behind = fires_text d k c n b es
 
 -- the clauses after so many, up to the first that fires
 abbrev pub spec_test_text_after : Dialect → ℕ → List Clause → Context → List ℕ
 spec_test_text_after d n [] c = codes "=> no message: no clause fires" ++ 10 ∷ []
-spec_test_text_after d n (k ∷ ks) c = verdict_text d c.self_pid n (verdict_of d k c) (spec_test_text_after d (suc n) ks c)
+spec_test_text_after d n (k ∷ ks) c = verdict_text d k c n (verdict_of d k c) (spec_test_text_after d (suc n) ks c)
 
 -- of all clauses
 abbrev pub spec_test_text : Dialect → List Clause → Context → List ℕ

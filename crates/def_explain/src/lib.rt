@@ -1,19 +1,21 @@
-//! Why a session reports nothing of an event, why a clause of a specification doesn't fire, and what the sessions
-//! make of a run, move by move.
+//! Why a session reports nothing of an event, why a clause of a specification doesn't fire, what a running node does
+//! otherwise, and what the sessions make of a run, move by move.
 //!
 //! Depends on the match specifications of `def_spec`, the sessions of `def_session` and the runs of `def_run`.
 //! Promises, as laws over the definitions: a session that is there has a cause exactly where it reports nothing of
 //! an event, and a clause a reason exactly where it doesn't fire, one at most, and it is what is computed; a head
-//! has one exactly where it doesn't match; a condition faults at a part of it exactly where it has no value; the
-//! messages that a session reports in the account of a run are its listing's; and a command is written as a term
-//! that is read as it. There is no code.
+//! has one exactly where it doesn't match; a condition faults at a part of it exactly where it has no value; what a
+//! node is said to do otherwise is what is defined of it; the messages that a session reports in the account of a run
+//! are its listing's; and a command is written as a term that is read as it. There is no code.
 #![tactic(auto)]
 
 ghost use Rattle.def_explain.specs.Laws.{ReasonWhereNotFired, ReasonIsOne, ReasonIsComputed};
 ghost use Rattle.def_explain.specs.Laws.{VerdictIsComputed, OutcomeIsByVerdicts};
 ghost use Rattle.def_explain.specs.Laws.{FunctionNameIsRead, ActionNameIsRead, StopIsComputed};
 ghost use Rattle.def_explain.specs.Laws.{HeadReasonWhereNotMatched, FaultWhereNoValue};
-ghost use Rattle.def_explain.specs.Laws.{LinesTellTheMessage};
+ghost use Rattle.def_explain.specs.Laws.{LinesTellTheMessage, LinesTellTheDifference};
+ghost use Rattle.def_explain.specs.Laws.{BodyDifferenceIsComputed, EventDifferenceIsComputed};
+ghost use Rattle.def_explain.specs.Laws.{OrderDifferenceIsComputed};
 ghost use Rattle.def_explain.specs.Laws.{CauseWhereNothingTold, CauseIsOne, CauseIsComputed};
 ghost use Rattle.def_explain.specs.RunLaws.{AccountTellsTheListing, CommandTermIsRead};
 
@@ -63,6 +65,19 @@ pub fn a_session_has_a_cause_or_tells()
 /// The messages among the lines of an event are the session's message of it.
 pub fn lines_tell_the_message()
     ensures { LinesTellTheMessage }
+{}
+
+/// What a running node is known to do otherwise is what is computed: at a clause that fires, and at an event without a
+/// body.
+pub fn a_difference_is_where_it_applies()
+    ensures body { BodyDifferenceIsComputed }
+    ensures order { OrderDifferenceIsComputed }
+    ensures event { EventDifferenceIsComputed }
+{}
+
+/// Among the lines of an event there is all that a running node does otherwise, and nothing else of a node.
+pub fn lines_tell_the_difference()
+    ensures { LinesTellTheDifference }
 {}
 
 /// The messages that a session reports in the account of a run are its listing's, in their order.

@@ -6,7 +6,7 @@
 //! for, 2 for a refusal and 3 for a fault, and that what was written is what the status says; so it is with an
 //! explained run and the trial of one specification. Promises of a text of picks that it is what the reader holds,
 //! without a line feed at its end. A refusal or a fault has one line on standard error: how the text can be fixed, or
-//! what failed.
+//! what failed. A pipe that was closed has none.
 #![tactic(auto)]
 
 mod command;

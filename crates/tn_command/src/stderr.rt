@@ -32,10 +32,11 @@ pub fn tell_refusal<R: Eprint + AllocGlobal>(
 }
 
 /// Says which fault it was, and the system's reason where there is one. A reader that was refused memory is
-/// a lack of memory, as that of the run itself is.
+/// a lack of memory, as that of the run itself is. Of a closed pipe nothing is said, since whoever read it is gone.
 pub fn tell_fault<F: Display>(rt: &impl Eprint, fault: &F, reason: Option<Error>) {
     let _ = match reason {
         None => rt.eprintln(fault),
+        Some(error) if error.kind() == ErrorKind::BrokenPipe => Ok(()),
         Some(error) if error.kind() == ErrorKind::OutOfMemory => {
             rt.eprintln(RunFault::OutOfMemory)
         }

@@ -10,7 +10,8 @@ use Rattle.def_session.specs.Settings.{off, plain, by}
 use Rattle.def_session.specs.Session.{effects_of_outcome, evaluated_by, mark_asked}
 use Rattle.def_explain.specs.Reasons.{Reason}
 use Rattle.def_explain.specs.Verdicts.{fails, fires, verdict_of, outcome_after, outcome_by_verdicts}
-use Rattle.def_explain.specs.Accounts.{Line, said, lines_by, clause_lines}
+use Rattle.def_explain.specs.Differences.{clause_differences}
+use Rattle.def_explain.specs.Accounts.{Line, said, differs, lines_by, clause_lines}
 use Rattle.def_explain.proofs.ClauseVerdicts.{outcome_is_by_verdicts}
 use Rattle.tn_spec.specs.Views.{clause_seen}
 use Rattle.tn_spec.specs.declared.spec.Clause.{Clause}
@@ -40,11 +41,11 @@ module _ {A : Type 0} (n : Name) (d : Dialect) (c : Context) (ks : List (Clause 
   begun old = record { text = refl; outcome = refl }
 
   module _ (i : ℕ) (old now after : List ℕ) (so_far : SoFar i old now) where
-    lines_here : (k : Clause A) → i < length ks → k ≡ get_or ks i k → lines_from i ≡ lines_by i (verdict_of d (clause_seen k) c) (lines_from (i + 1))
+    lines_here : (k : Clause A) → i < length ks → k ≡ get_or ks i k → lines_from i ≡ lines_by i d (clause_seen k) c (verdict_of d (clause_seen k) c) (lines_from (i + 1))
     lines_here k below is =
         ap (λ js. clause_lines i d (map clause_seen js) c) (drop_more ks i k below)
-        ∙ ap (λ j. lines_by i (verdict_of d (clause_seen j) c) (clause_lines (suc i) d (map clause_seen (drop (i + 1) ks)) c)) (sym is)
-        ∙ ap (λ m. lines_by i (verdict_of d (clause_seen k) c) (clause_lines m d (map clause_seen (drop (i + 1) ks)) c)) (sym (add-one i))
+        ∙ ap (λ j. lines_by i d (clause_seen j) c (verdict_of d (clause_seen j) c) (clause_lines (suc i) d (map clause_seen (drop (i + 1) ks)) c)) (sym is)
+        ∙ ap (λ m. lines_by i d (clause_seen k) c (verdict_of d (clause_seen k) c) (clause_lines m d (map clause_seen (drop (i + 1) ks)) c)) (sym (add-one i))
 
     outcome_here : (k : Clause A) → i < length ks → k ≡ get_or ks i k → outcome_from i ≡ outcome_after (verdict_of d (clause_seen k) c) (outcome_from (i + 1))
     outcome_here k below is =
@@ -57,7 +58,7 @@ module _ {A : Type 0} (n : Name) (d : Dialect) (c : Context) (ks : List (Clause 
       text =
           ap (λ l. l ++ lines_text n (lines_from (i + 1))) made
           ∙ append_assoc now (lines_text n (failing_lines i r)) (lines_text n (lines_from (i + 1)))
-          ∙ ap (λ l. now ++ l) (sym (lines-append n (failing_lines i r) (lines_from (i + 1))) ∙ ap (lines_text n) (ap (λ v. lines_by i v (lines_from (i + 1))) of ∙ sym (lines_here k below is)))
+          ∙ ap (λ l. now ++ l) (sym (lines-append n (failing_lines i r) (lines_from (i + 1))) ∙ ap (lines_text n) (ap (λ v. lines_by i d (clause_seen k) c v (lines_from (i + 1))) of ∙ sym (lines_here k below is)))
           ∙ so_far.text;
       outcome = ap (λ v. outcome_after v (outcome_from (i + 1))) of ∙ sym (outcome_here k below is) ∙ so_far.outcome;
     }
@@ -69,10 +70,10 @@ module _ {A : Type 0} (n : Name) (d : Dialect) (c : Context) (ks : List (Clause 
     whole r = GivesBySetting n (by (record { dialect = d; clauses = map clause_seen ks })) c old after r
 
     -- the one that fires
-    pub ends : (k : Clause A) (b : Bindings) (es : List Effect) (mark : Option code.Kind) → i < length ks → k ≡ get_or ks i k → fires b es ≡ verdict_of d (clause_seen k) c → after ≡ now ++ lines_text n (firing_lines i es) → option_map mark_kind_seen mark ≡ mark_asked es
+    pub ends : (k : Clause A) (b : Bindings) (es : List Effect) (mark : Option code.Kind) → i < length ks → k ≡ get_or ks i k → fires b es ≡ verdict_of d (clause_seen k) c → after ≡ now ++ lines_text n (firing_lines i es ++ map differs (clause_differences d (clause_seen k) c es)) → option_map mark_kind_seen mark ≡ mark_asked es
         → whole (Done mark)
     ends k b es mark below is of made marked = record {
-      text = made ∙ ap (λ l. now ++ lines_text n l) (ap (λ v. lines_by i v (lines_from (i + 1))) of ∙ sym (lines_here k below is)) ∙ so_far.text;
+      text = made ∙ ap (λ l. now ++ lines_text n l) (ap (λ v. lines_by i d (clause_seen k) c v (lines_from (i + 1))) of ∙ sym (lines_here k below is)) ∙ so_far.text;
       effects = ap Some marked ∙ sym (ap (option_map mark_asked) (by_outcome (outcome.matched es) (outcome_here k below is ∙ ap (λ v. outcome_after v (outcome_from (i + 1))) (sym of))));
     }
 

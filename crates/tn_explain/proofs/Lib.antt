@@ -10,3 +10,4 @@ pub mod MoveLines
 pub mod Picks
 pub mod ItemTexts
 pub mod BeforePicks
+pub mod DifferenceLines

@@ -1,9 +1,9 @@
 -- The lines of an event by when they are known: before the session sees the event, and afterwards.
-use Rattle.std.specs.Prelude.{ℕ, Bool, true, false, if◌then◌else◌, List, [], ◌∷◌, ◌++◌, Option, Some, None, codes}
+use Rattle.std.specs.Prelude.{ℕ, Bool, true, false, not, ◌&&◌, if◌then◌else◌, List, [], ◌∷◌, ◌++◌, map, Option, Some, None, codes}
 use Rattle.def_term.specs.Tree.{Tree}
 use Rattle.def_term.specs.Names.{Mfa}
 use Rattle.def_term.specs.Text.{w}
-use Rattle.def_spec.specs.Flags.{Flags, flags_by_name}
+use Rattle.def_spec.specs.Flags.{Flags, flags_by_name, same_flags, set_on_first_spawn}
 use Rattle.def_spec.specs.Expressions.{Effect}
 use Rattle.def_node.specs.Event.{Event, spawned, getting_linked}
 use Rattle.def_session.specs.State.{Session}
@@ -11,13 +11,45 @@ use Rattle.def_session.specs.Session.{effects_of}
 use Rattle.def_explain.specs.Reasons.{Reason}
 use Rattle.def_explain.specs.Causes.{cause_of}
 use Rattle.def_explain.specs.Texts.{clause_text, reason_text, effects_text, said_of_each}
-use Rattle.def_explain.specs.Accounts.{Line, said, tells, line_where, changed_text, mfa_text, message_lines, evaluation_lines, mark_lines, end_lines}
+use Rattle.def_explain.specs.Differences.{Difference, clears_spawn_flags, gives_no_flags, clause_differences, has_spawn_flag, difference_where}
+use Rattle.def_explain.specs.Accounts.{Line, said, tells, differs, line_where, changed_text, mfa_text, message_lines, evaluation_lines, mark_lines, end_lines}
+use Rattle.tn_flags.specs.Views.{flags_of}
+use Rattle.tn_spec.specs.Views.{dialect_of, clause_seen}
+use Rattle.tn_spec.specs.declared.spec.Clause as spec
+use Rattle.tn_spec.specs.declared.func.Dialect as func
+use Rattle.tn_action.specs.Views.{context_seen, effect_seen}
+use Rattle.tn_action.specs.declared.context.Context as context
+use Rattle.tn_action.specs.declared.effect.Effect as effect
+use Rattle.tn_verdict.specs.Differences.{difference_seen, body_differs_seen}
+use Rattle.tn_verdict.specs.declared.differences.Difference as code
+use Rattle.tn_explain.specs.declared.differences.Change.{Change}
 
 -- the process that gives flags and the one that inherits them, where the event is of that
 abbrev pub both_of : Event → Option (ℕ × ℕ)
 both_of (spawned child parent f args) = Some (parent, child)
 both_of (getting_linked p linker) = Some (linker, p)
 both_of e = None
+
+-- the line of a difference, where it is one
+abbrev pub differs_where : Bool → Difference → List Line
+differs_where holds x = if holds then differs x ∷ [] else []
+
+-- the line of a difference at a clause that fires, where it is one
+abbrev pub body_difference_line : {A : Type 0} → code.Difference → func.Dialect → context.Context A → List (effect.Effect A) → List Line
+body_difference_line x d c es = differs_where (body_differs_seen x d c es) (difference_seen x)
+
+-- a line for each that a node does otherwise at a clause that fires
+abbrev pub difference_lines_of : {A : Type 0} → func.Dialect → spec.Clause A → context.Context A → List (effect.Effect A) → List Line
+difference_lines_of d k c es = map differs (clause_differences (dialect_of d) (clause_seen k) (context_seen c) (map effect_seen es))
+
+-- the difference at an event by which one process inherits flags of another, by the flags of both
+abbrev pub inherited_by_flags : Event → (given_by giver had taker : Flags) → Option Difference
+inherited_by_flags (spawned child parent f args) given_by giver had taker = difference_where (given_by set_on_first_spawn && has_spawn_flag taker) clears_spawn_flags
+inherited_by_flags (getting_linked p linker) given_by giver had taker = difference_where (not (same_flags given_by giver && same_flags had taker)) gives_no_flags
+inherited_by_flags e given_by giver had taker = None
+
+abbrev pub inherited_difference : Event → Change → Change → Option Difference
+inherited_difference e giver taker = inherited_by_flags e (flags_of giver.old) (flags_of giver.new) (flags_of taker.old) (flags_of taker.new)
 
 -- a clause that doesn't fire
 abbrev pub failing_lines : ℕ → Reason → List Line

@@ -78,10 +78,12 @@ impl<A: Allocator + Copy> Lines<'_, A> {
     {
         let clauses = &spec.clauses;
         for i in 0..clauses.len() {
-            match verdict(self.alloc, arena, spec.dialect, &clauses[i], context)? {
+            let clause = &clauses[i];
+            match verdict(self.alloc, arena, spec.dialect, clause, context)? {
                 Verdict::Fails(reason) => self.put_failing(i, reason, out)?,
                 Verdict::Fires { effects, .. } => {
                     self.put_firing(i, &effects, out)?;
+                    self.put_differences(spec.dialect, clause, context, &effects, out)?;
                     let mark = mark_for(&effects);
                     return Ok(Evaluation::Done { mark });
                 }

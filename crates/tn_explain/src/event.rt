@@ -9,6 +9,7 @@ ghost use Rattle.tn_text.specs.Writes.{Grows};
 ghost use Rattle.tn_explain.specs.SessionLines.{Makes, MakesLive, ReportsLines};
 
 use crate::clauses::Evaluation;
+use crate::differences::end_difference;
 use crate::inheritance::both_of;
 use crate::line::{Lines, put_text};
 use std::alloc::{AllocError, Allocator};
@@ -71,12 +72,14 @@ impl<A: Allocator + Copy> Lines<'_, A> {
         let Some(look) = session.look() else {
             return Err(AllocError);
         };
+        let difference = end_difference(&look, event);
         let evaluation = self.put_before(&look, event, out)?;
         let mut behind = Vec::new(self.alloc);
         self.put_after(&look, event, evaluation, &mut behind)?;
         let message = session.tell(event)?;
         self.put_reported(session, evaluation, event, &message, out)?;
-        put_text(&behind, out)
+        put_text(&behind, out)?;
+        self.put_event_difference(difference, out)
     }
 
     /// Appends the message of an event that was evaluated, or why there is none: `silent` silences it, or else

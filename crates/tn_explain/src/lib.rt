@@ -17,6 +17,7 @@ mod calls;
 mod causes;
 mod clauses;
 mod creations;
+mod differences;
 mod discard;
 mod ends;
 mod event;

@@ -1,6 +1,5 @@
 -- One flag set where none is.
 use Rattle.std.proofs.Common.{◌≡◌, true, refl, ap}
-use Rattle.def_spec.specs.Flags as flag
 use Rattle.def_spec.specs.Flags.{Flag, send_flag, receive_flag, call_flag, procs_flag, silent_flag, arity_flag, set_on_spawn, set_on_first_spawn, set_on_link, set_on_first_link, no_flags, only}
 use Rattle.tn_flags.specs.declared.flags.Flags.{Flags}
 use Rattle.tn_flags.specs.Views.{flags_of}

@@ -1,5 +1,5 @@
 -- The texts of trials, of the code's specifications and contexts.
-use Rattle.std.specs.Prelude.{◌≡◌, ℕ, List, [], ◌∷◌, ◌++◌, Option, Result, OnOk, codes, map}
+use Rattle.std.specs.Prelude.{◌≡◌, ℕ, List, [], ◌∷◌, ◌++◌, Option, Result, OnOk, codes, map, flat_map}
 use Rattle.std.specs.Option.{option_map}
 use Rattle.std.specs.Borrow.{Bor}
 use Rattle.std.specs.declared.alloc.Allocator.{Ghosts}
@@ -8,16 +8,20 @@ use Rattle.def_term.specs.Tree.{Tree}
 use Rattle.def_spec.specs.Expressions.{Dialect, Effect}
 use Rattle.def_session.specs.Messages.{last_message, later}
 use Rattle.def_explain.specs.Reasons.{Reason}
-use Rattle.def_explain.specs.Texts.{clause_text, reason_text, effects_text, end_text, fires_text, spec_test_text}
+use Rattle.def_explain.specs.Differences.{clause_differences}
+use Rattle.def_explain.specs.Texts.{clause_text, reason_text, effects_text, end_text, difference_line, fires_text, spec_test_text}
 use Rattle.tn_term.specs.Views.{tree_of}
 use Rattle.tn_term.specs.declared.term.Term.{Term}
 use Rattle.tn_head.specs.Views.{bindings_seen}
 use Rattle.tn_head.specs.declared.bindings.Bindings.{Bindings}
 use Rattle.tn_spec.specs.Views.{dialect_of, clause_seen}
+use Rattle.tn_spec.specs.declared.spec.Clause.{Clause}
 use Rattle.tn_spec.specs.declared.spec.Spec.{Spec}
 use Rattle.tn_action.specs.Views.{context_seen, effect_seen}
 use Rattle.tn_action.specs.declared.context.Context.{Context}
 use Rattle.tn_action.specs.declared.effect.Effect as code
+use Rattle.tn_verdict.specs.Differences.{difference_seen, difference_line_where, body_differs_seen}
+use Rattle.tn_verdict.specs.declared.differences.Difference.{Difference}
 use Rattle.tn_verdict.specs.declared.spec_test.SpecTest.{SpecTest}
 
 -- a call that went well left these bytes after the old text
@@ -50,8 +54,16 @@ message_line d self_pid es = codes "=> " ++ end_text d self_pid es ++ 10 ∷ []
 
 module _ {A : Type 0} {G : Ghosts A} (t : SpecTest A G) where
   -- the lines of a clause that fires
-  abbrev pub fired_text : {B : Type 0} → ℕ → Bindings A B → List (code.Effect A) → List ℕ
-  fired_text n b es = fires_text (dialect_of t.spec.now.dialect) t.context.now.self_pid n (bindings_seen b) (map effect_seen es)
+  abbrev pub fired_text : {B : Type 0} → ℕ → Clause A → Bindings A B → List (code.Effect A) → List ℕ
+  fired_text n k b es = fires_text (dialect_of t.spec.now.dialect) (clause_seen k) (context_seen t.context.now) n (bindings_seen b) (map effect_seen es)
+
+  -- the line of what a node does otherwise, where it does
+  abbrev pub line_of_difference : List (code.Effect A) → Difference → List ℕ
+  line_of_difference es x = difference_line_where (body_differs_seen x t.spec.now.dialect t.context.now es) (difference_seen x)
+
+  -- a line for each
+  abbrev pub differences_text : Clause A → List (code.Effect A) → List ℕ
+  differences_text k es = flat_map difference_line (clause_differences (dialect_of t.spec.now.dialect) (clause_seen k) (context_seen t.context.now) (map effect_seen es))
 
   -- all lines
   abbrev pub spec_test_in : List ℕ

@@ -1,9 +1,10 @@
 // The texts of effects.
-ghost use Rattle.std.specs.Prelude.{◌≡◌, ◌++◌, ℕ, List, OnOk, false, map};
+ghost use Rattle.std.specs.Prelude.{◌≡◌, ◌++◌, ℕ, List, OnOk, map};
 ghost use Rattle.def_term.specs.Text.{pid_text};
 ghost use Rattle.def_spec.specs.Expressions.{changes};
 ghost use Rattle.def_spec.specs.Flags.{flags_by_name};
-ghost use Rattle.def_explain.specs.Texts.{silent_text, effect_text, effects_text, said_of_each, later_silent};
+ghost use Rattle.def_explain.specs.Texts.{silent_text, effect_text, effects_text, said_of_each};
+ghost use Rattle.def_explain.specs.Differences.{later_silent};
 ghost use Rattle.tn_flags.specs.Views.{flags_of};
 ghost use Rattle.tn_action.specs.Views.{effect_seen};
 ghost use Rattle.tn_text.specs.Writes.{Grows};
@@ -154,11 +155,11 @@ pub fn put_effects<A: Allocator, B: Allocator>(
     Ok(())
 }
 
-/// Whether the process has the flag `silent` once these effects are done, where it didn't have it before.
-pub fn is_silent<A: Allocator>(self_pid: u32, effects: &[Effect<A>]) -> bool
-    ensures { result ≡ later_silent self_pid false (map effect_seen effects.now) }
+/// Whether the process has the flag `silent` after these effects, where it had it before or didn't.
+pub fn is_silent<A: Allocator>(self_pid: u32, before: bool, effects: &[Effect<A>]) -> bool
+    ensures { result ≡ later_silent self_pid before (map effect_seen effects.now) }
 {
-    let mut silent = false;
+    let mut silent = before;
     for effect in effects {
         silent = silent_after(self_pid, silent, effect);
     }

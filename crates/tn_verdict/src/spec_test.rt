@@ -11,11 +11,15 @@ ghost use Rattle.tn_text.specs.Writes.{Grows};
 ghost use Rattle.tn_verdict.specs.SpecTests.{lent_tree, later_message, spec_test_of};
 ghost use Rattle.tn_verdict.specs.SpecTests.{spec_test_in, failed_text, fired_text};
 ghost use Rattle.tn_verdict.specs.SpecTests.{fires_line, message_line, Appends};
+ghost use Rattle.tn_verdict.specs.SpecTests.{line_of_difference, differences_text};
+ghost use Rattle.tn_verdict.specs.Differences.{difference_seen, difference_line_where};
 ghost use Rattle.tn_verdict.specs.Effects.{FoldsTo};
 
 use crate::clauses::verdict;
+use crate::differences::{Difference, body_differs, put_difference};
 use crate::effects::{is_silent, put_effects};
 use crate::expression_text::put_variable;
+use crate::order::order_differs;
 use crate::reason::{Reason, Verdict};
 use crate::reason_text::{put_number, put_reason, put_value};
 use bumpalo::Bump;
@@ -23,7 +27,7 @@ use std::alloc::{AllocError, Allocator};
 use tn_action::{Context, Effect};
 use tn_guard::Value;
 use tn_head::{Binding, Bindings};
-use tn_spec::{Dialect, Spec};
+use tn_spec::{Clause, Dialect, Spec};
 use tn_term::Term;
 use tn_text::write_term;
 
@@ -90,7 +94,7 @@ fn message_or<'e, A: Allocator>(
 }
 
 /// The last message that the effects give.
-fn last_message<A: Allocator>(effects: &[Effect<A>]) -> Option<&Term<A>>
+pub(crate) fn last_message<A: Allocator>(effects: &[Effect<A>]) -> Option<&Term<A>>
     ensures { lent_tree result ≡ messages.last_message (map effect_seen effects.now) }
 {
     let mut last = None;
@@ -132,7 +136,7 @@ fn put_end<A: Allocator, B: Allocator>(
     ensures grows { Grows out.old.items out.new.items }
 {
     if let Dialect::Call = dialect {
-        if is_silent(self_pid, effects) {
+        if is_silent(self_pid, false, effects) {
             return out.extend_from_slice(b"no message: silent");
         }
     }
@@ -180,6 +184,23 @@ fn put_message<A: Allocator, B: Allocator>(
     Ok(())
 }
 
+/// Appends the line of what a running node does otherwise, where it does.
+fn put_where_differs<B: Allocator>(
+    differs: bool,
+    difference: Difference,
+    out: &mut Vec<u8, B>,
+) -> Result<(), AllocError>
+    ensures ok { Appends (difference_line_where differs (difference_seen difference)) result out.old out.new }
+    ensures grows { Grows out.old.items out.new.items }
+{
+    if !differs {
+        return Ok(());
+    }
+    put_difference(difference, out)?;
+    out.push(b'\n')?;
+    Ok(())
+}
+
 /// A specification that is held against a list.
 #[derive_where(Clone, Copy)]
 struct SpecTest<'a, 'c, A: Allocator + Copy> {
@@ -213,16 +234,49 @@ impl<'a, 'c, A: Allocator + Copy> SpecTest<'a, 'c, A> {
     fn put_fired<B: Allocator>(
         &self,
         before: usize,
+        clause: &Clause<A>,
         bindings: &Bindings<'a, A, &'a Bump<A>>,
         effects: &[Effect<A>],
         out: &mut Vec<u8, B>,
     ) -> Result<(), AllocError>
-        ensures ok { Appends (fired_text self.now before bindings.now effects.now) result out.old out.new }
+        ensures ok { Appends (fired_text self.now before clause.now bindings.now effects.now) result out.old out.new }
         ensures grows { Grows out.old.items out.new.items }
     {
         put_fires(before, effects, out)?;
         put_bindings(self.alloc, bindings, out)?;
-        put_message(self.spec.dialect, self.context.self_pid, effects, out)
+        put_message(self.spec.dialect, self.context.self_pid, effects, out)?;
+        self.put_differences(clause, effects, out)
+    }
+
+    /// Appends the line of what a running node does otherwise, by the effects of a clause that fires, where it does.
+    fn put_body_difference<B: Allocator>(
+        &self,
+        difference: Difference,
+        effects: &[Effect<A>],
+        out: &mut Vec<u8, B>,
+    ) -> Result<(), AllocError>
+        ensures ok { Appends (line_of_difference self.now effects.now difference) result out.old out.new }
+        ensures grows { Grows out.old.items out.new.items }
+    {
+        let differs = body_differs(difference, self.spec.dialect, self.context, effects);
+        put_where_differs(differs, difference, out)
+    }
+
+    /// Appends a line for each that a running node does otherwise at a clause that fires.
+    fn put_differences<B: Allocator>(
+        &self,
+        clause: &Clause<A>,
+        effects: &[Effect<A>],
+        out: &mut Vec<u8, B>,
+    ) -> Result<(), AllocError>
+        ensures ok { Appends (differences_text self.now clause.now effects.now) result out.old out.new }
+        ensures grows { Grows out.old.items out.new.items }
+    {
+        put_where_differs(order_differs(clause), Difference::EvaluatesFromRight, out)?;
+        self.put_body_difference(Difference::NodeEnds, effects, out)?;
+        self.put_body_difference(Difference::FindsNoTracer, effects, out)?;
+        self.put_body_difference(Difference::SuppressesMessage, effects, out)?;
+        self.put_body_difference(Difference::LeavesNoMark, effects, out)
     }
 
     /// Appends what becomes of the clauses, up to the first that fires.
@@ -232,16 +286,17 @@ impl<'a, 'c, A: Allocator + Copy> SpecTest<'a, 'c, A> {
     {
         let clauses = &self.spec.clauses;
         for i in 0..clauses.len() {
+            let clause = &clauses[i];
             match verdict(
                 self.alloc,
                 self.arena,
                 self.spec.dialect,
-                &clauses[i],
+                clause,
                 self.context,
             )? {
                 Verdict::Fails(reason) => self.put_failed(i, reason, out)?,
                 Verdict::Fires { bindings, effects } => {
-                    return self.put_fired(i, bindings, &effects, out);
+                    return self.put_fired(i, clause, bindings, &effects, out);
                 }
             }
         }

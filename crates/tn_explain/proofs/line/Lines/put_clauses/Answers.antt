@@ -5,6 +5,8 @@ use Rattle.tn_head.specs.Views.{bindings_seen}
 use Rattle.tn_spec.specs.Views.{dialect_of}
 use Rattle.tn_action.specs.Views.{context_seen, effect_seen}
 use Rattle.tn_verdict.specs.Views.{reason_seen, verdict_seen}
+use Rattle.tn_explain.specs.LineParts.{firing_lines, difference_lines_of}
+use Rattle.tn_explain.proofs.LineTexts.{more, other}
 use Rattle.tn_explain.proofs.ClauseLines.{goes_on, ends, none_fires}
 use Rattle.tn_explain.proofs.line.Lines.put_clauses.Goals as goal
 use Rattle.tn_text.proofs.Growth.{grows_on}
@@ -14,11 +16,13 @@ returns-in-Fires-clause-ok g c =
     let ks = c.args.spec.now.clauses.items in
     let size = c.len-i-end.ensures ∙ c.args.spec.now.clauses.ok.0 in
     let bs = bindings_seen c.in-Fires.bindings.now in
+    let n = c.args.self.now.name.now in
     ends c.args.self.now.name.now (dialect_of c.args.spec.now.dialect) (context_seen c.args.context.now) ks c.loop-i.i _ _ _ c.loop-i.invariant.so_far
-    c.index.result.now bs (map effect_seen c.deref.result.now) c.mark_for-mark.result (omega (arith, size)) c.index.ensures
+    c.index-clause.result.now bs (map effect_seen c.deref.result.now) c.mark_for-mark.result (omega (arith, size)) c.index-clause.ensures
     (ap (λ xs. fires bs (map effect_seen xs)) c.deref.ensures.value ∙ sym (ap (λ v. verdict_seen v) c.in-Fires.is) ∙ c.in_ok-reason.ensures)
-    c.in_ok-put_firing-in-Fires.ensures.ok
-    (c.mark_for-mark.ensures ∙ ap (λ xs. mark_asked (map effect_seen xs)) (c.deref-in-Fires.ensures.value ∙ sym c.deref.ensures.value))
+    (more n (firing_lines c.loop-i.i (map effect_seen c.deref.result.now)) _ _ _ _ c.in_ok-put_firing-in-Fires.ensures.ok
+    (other n _ _ _ _ (ap (λ xs. difference_lines_of c.args.spec.now.dialect c.index-clause.result.now c.args.context.now xs) (c.deref-in-Fires.ensures.value ∙ sym c.deref.ensures.value)) c.in_ok-put_differences-in-Fires.ensures.ok))
+    (c.mark_for-mark.ensures ∙ ap (λ xs. mark_asked (map effect_seen xs)) (c.deref-in-Fires-2.ensures.value ∙ sym c.deref.ensures.value))
 
 pub loop-i-preserved : goal.loop-i-preserved
 loop-i-preserved g c =
@@ -27,7 +31,7 @@ loop-i-preserved g c =
     record {
       so_far =
           goes_on c.args.self.now.name.now (dialect_of c.args.spec.now.dialect) (context_seen c.args.context.now) ks c.loop-i.i _ _ _ c.loop-i.invariant.so_far
-          c.index.result.now (reason_seen c.in-Fails.reason) (omega (arith, size)) c.index.ensures
+          c.index-clause.result.now (reason_seen c.in-Fails.reason) (omega (arith, size)) c.index-clause.ensures
           (sym (ap (λ v. verdict_seen v) c.in-Fails.is) ∙ c.in_ok-reason.ensures) c.in_ok-put_failing-in-Fails.ensures.ok;
       grows = grows_on c.loop-i.invariant.grows c.in_ok-put_failing-in-Fails.ensures.grows;
     }

@@ -15,8 +15,8 @@ returns-in-Fires-clause-ok g c =
     let ks = self.spec.now.clauses in
     let size = c.len-i-end.ensures ∙ ks.ok.0 in
     let bs = bindings_seen c.in-Fires.bindings.now in
-    ends_ok (dialect_of self.spec.now.dialect) (context_seen self.context.now) ks.items c.loop-i.i c.put_fired.result c.index.result.now bs (map effect_seen c.deref.result.now) c.loop-i.out.items c.put_fired.new.out.items
-    (c.args.out.now.items ++ spec_test_in self) (omega (arith, size)) c.index.ensures
+    ends_ok (dialect_of self.spec.now.dialect) (context_seen self.context.now) ks.items c.loop-i.i c.put_fired.result c.index-clause.result.now bs (map effect_seen c.deref.result.now) c.loop-i.out.items c.put_fired.new.out.items
+    (c.args.out.now.items ++ spec_test_in self) (omega (arith, size)) c.index-clause.ensures
     (ap (λ xs. fires bs (map effect_seen xs)) c.deref.ensures.value ∙ sym (ap (λ v. verdict_seen v) c.in-Fires.is) ∙ c.in_ok-reason.ensures)
     c.loop-i.invariant.written c.put_fired.ensures.ok
 
@@ -26,8 +26,8 @@ loop-i-preserved g c =
     let ks = self.spec.now.clauses in
     let size = c.len-i-end.ensures ∙ ks.ok.0 in
     record {
-      written = goes_on (dialect_of self.spec.now.dialect) (context_seen self.context.now) ks.items c.loop-i.i c.index.result.now (reason_seen c.in-Fails.reason) c.loop-i.out.items c.put_failed.new.out.items
-          (c.args.out.now.items ++ spec_test_in self) (omega (arith, size)) c.index.ensures (sym (ap (λ v. verdict_seen v) c.in-Fails.is) ∙ c.in_ok-reason.ensures) c.loop-i.invariant.written c.in_ok-put_failed-in-Fails.ensures.ok;
+      written = goes_on (dialect_of self.spec.now.dialect) (context_seen self.context.now) ks.items c.loop-i.i c.index-clause.result.now (reason_seen c.in-Fails.reason) c.loop-i.out.items c.put_failed.new.out.items
+          (c.args.out.now.items ++ spec_test_in self) (omega (arith, size)) c.index-clause.ensures (sym (ap (λ v. verdict_seen v) c.in-Fails.is) ∙ c.in_ok-reason.ensures) c.loop-i.invariant.written c.in_ok-put_failed-in-Fails.ensures.ok;
       grows = grows_on c.loop-i.invariant.grows c.put_failed.ensures.grows;
     }
 

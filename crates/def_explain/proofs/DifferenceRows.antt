@@ -1,0 +1,205 @@
+-- Rows: where a node does otherwise, and where it doesn't.
+use Rattle.std.proofs.Common.{◌≡◌, true, false, [], ◌∷◌, Some, None, codes, refl}
+use Rattle.std.specs.Prelude.{replicate}
+use Rattle.def_term.specs.Names.{Mfa, word}
+use Rattle.def_spec.specs.Flags.{Flag, Flags, no_flags, only, union, with_flags_in, send_flag, receive_flag, call_flag, procs_flag, silent_flag, set_on_spawn, set_on_first_spawn, set_on_link, set_on_first_link}
+use Rattle.def_spec.specs.Expressions.{for_calls, for_sends, for_receives, Expr, constant, tuple_of, list_of, call, and_also, perform, message, Exprs, no_exprs, and_expr, Context, Effect, gives_message, traces_return, traces_exception, silences, changes}
+use Rattle.def_spec.specs.Functions as fn
+use Rattle.def_script.specs.Program.{error}
+use Rattle.def_node.specs.Event.{Event, returned, raised, spawned, exited, linked, getting_linked}
+use Rattle.def_session.specs.State.{for_returns, for_exceptions, live, new_session, alive_at_start, Session, MarkKind, with_flags, with_marks}
+use Rattle.def_explain.specs.Differences.{node_ends, finds_no_tracer, suppresses_message, leaves_no_mark, reports_end, reports_exceptions, clears_spawn_flags, gives_no_flags, evaluates_from_right, order_difference, body_differences, event_difference, has_mark_below}
+
+-- ---- bodies, in the process 100
+
+-- it has these flags
+abbrev having : Flags → Context
+having f = record { matched_list = []; self_pid = 100; caller_mfa = None; alive = alive_at_start 2; flags = with_flags_in (replicate 64 no_flags) 100 f }
+
+abbrev and : Flag → Flag → Flags
+and f g = union (only f) (only g)
+
+abbrev loses : Flag → Effect
+loses f = changes 100 (only f) no_flags
+
+abbrev gets : Flag → Effect
+gets f = changes 100 no_flags (only f)
+
+-- {disable_trace,send} with the flags [send]
+pub last_flag_of_a_sender : body_differences for_sends (having (only send_flag)) (loses send_flag ∷ []) ≡ node_ends ∷ []
+last_flag_of_a_sender = refl
+
+-- with another flag left; where `trace` takes another one; and where one is set before
+pub another_flag_left : body_differences for_sends (having (and send_flag procs_flag)) (loses send_flag ∷ []) ≡ []
+another_flag_left = refl
+
+pub another_flag_taken : body_differences for_sends (having (and send_flag procs_flag)) (changes 100 (only procs_flag) no_flags ∷ []) ≡ []
+another_flag_taken = refl
+
+pub another_flag_set : body_differences for_sends (having (only send_flag)) (gets procs_flag ∷ loses send_flag ∷ []) ≡ []
+another_flag_set = refl
+
+-- both flags, one after the other
+pub both_flags_of_a_sender : body_differences for_sends (having (and send_flag procs_flag)) (loses procs_flag ∷ loses send_flag ∷ []) ≡ node_ends ∷ []
+both_flags_of_a_sender = refl
+
+-- set again
+pub last_flag_set_again : body_differences for_sends (having (only send_flag)) (loses send_flag ∷ gets send_flag ∷ []) ≡ node_ends ∷ finds_no_tracer ∷ []
+last_flag_set_again = refl
+
+-- {trace,[send],[send]} clears and sets in one change
+pub cleared_and_set : body_differences for_sends (having (only send_flag)) (changes 100 (only send_flag) (only send_flag) ∷ []) ≡ []
+cleared_and_set = refl
+
+-- {message,false}; the flags of another process; a receive; a call
+pub send_without_message : body_differences for_sends (having (only send_flag)) (loses send_flag ∷ gives_message (word "false") ∷ []) ≡ []
+send_without_message = refl
+
+pub flag_of_another : body_differences for_sends (having (only send_flag)) (changes 101 (only send_flag) no_flags ∷ []) ≡ []
+flag_of_another = refl
+
+pub last_flag_of_a_receiver : body_differences for_receives (having (only receive_flag)) (loses receive_flag ∷ []) ≡ []
+last_flag_of_a_receiver = refl
+
+pub last_flag_of_a_caller : body_differences for_calls (having (only call_flag)) (loses call_flag ∷ []) ≡ []
+last_flag_of_a_caller = refl
+
+-- [{disable_trace,call},{enable_trace,<0.101.0>,procs}] with the flags [call], in the other order, and with another flag left
+pub change_after_the_last_flag : body_differences for_calls (having (only call_flag)) (loses call_flag ∷ changes 101 no_flags (only procs_flag) ∷ []) ≡ finds_no_tracer ∷ []
+change_after_the_last_flag = refl
+
+pub change_before_the_last_flag : body_differences for_calls (having (only call_flag)) (changes 101 no_flags (only procs_flag) ∷ loses call_flag ∷ []) ≡ []
+change_before_the_last_flag = refl
+
+pub change_with_a_flag : body_differences for_calls (having (and call_flag send_flag)) (loses call_flag ∷ changes 101 no_flags (only procs_flag) ∷ []) ≡ []
+change_with_a_flag = refl
+
+-- a silent send and a silent receive, and where silence ends
+pub silent_send : body_differences for_sends (having (only send_flag)) (silences true ∷ []) ≡ suppresses_message ∷ []
+silent_send = refl
+
+pub silent_receive : body_differences for_receives (having (and receive_flag silent_flag)) [] ≡ suppresses_message ∷ []
+silent_receive = refl
+
+pub send_after_silence : body_differences for_sends (having (and send_flag silent_flag)) (silences false ∷ []) ≡ []
+send_after_silence = refl
+
+pub silent_send_without_message : body_differences for_sends (having (and send_flag silent_flag)) (gives_message (word "false") ∷ []) ≡ []
+silent_send_without_message = refl
+
+-- a silent call that asks for a mark; one that isn't silent, and one that asks for none
+pub silent_call : body_differences for_calls (having (only call_flag)) (traces_exception ∷ silences true ∷ []) ≡ leaves_no_mark ∷ []
+silent_call = refl
+
+pub call_with_a_mark : body_differences for_calls (having (only call_flag)) (traces_return ∷ []) ≡ []
+call_with_a_mark = refl
+
+pub silent_call_without_mark : body_differences for_calls (having (only call_flag)) (silences true ∷ []) ≡ []
+silent_call_without_mark = refl
+
+-- ---- the order of evaluation
+
+abbrev says : Expr
+says = perform message (and_expr (constant (word "a")) no_exprs)
+
+abbrev both : Expr → Expr → Exprs
+both e f = and_expr e (and_expr f no_exprs)
+
+-- {'>',{message,a},{message,a}}, {{{message,a},{message,a}}}, and the same in a list that is an argument
+pub two_actions_of_a_call : order_difference (and_expr (call fn.greater (both says says)) no_exprs) ≡ Some evaluates_from_right
+two_actions_of_a_call = refl
+
+pub two_actions_of_a_tuple : order_difference (and_expr (tuple_of (both says says)) no_exprs) ≡ Some evaluates_from_right
+two_actions_of_a_tuple = refl
+
+pub two_actions_in_a_list_of_a_call : order_difference (and_expr (perform message (and_expr (list_of (and_expr (tuple_of (both says says)) no_exprs)) no_exprs)) no_exprs) ≡ Some evaluates_from_right
+two_actions_in_a_list_of_a_call = refl
+
+-- one of two parts; two expressions of a body; two elements of a list; two tests of `andalso`
+pub one_action_of_a_call : order_difference (and_expr (call fn.greater (both says (constant (word "true")))) no_exprs) ≡ None
+one_action_of_a_call = refl
+
+pub two_actions_of_a_body : order_difference (both says says) ≡ None
+two_actions_of_a_body = refl
+
+pub two_actions_of_a_list : order_difference (and_expr (list_of (both says says)) no_exprs) ≡ None
+two_actions_of_a_list = refl
+
+pub two_actions_of_andalso : order_difference (and_expr (and_also (both says says)) no_exprs) ≡ None
+two_actions_of_andalso = refl
+
+-- ---- events of the process 100
+
+abbrev with_these : Flags → Session
+with_these f = with_flags (new_session live (alive_at_start 2)) 100 f
+
+abbrev marked : MarkKind → Session → Session
+marked k s = with_marks s 100 (record { depth = 2; kind = k } ∷ [])
+
+abbrev function : Mfa
+function = record { module_name = codes "m"; function_name = codes "f"; arity = 0 }
+
+abbrev return : Event
+return = returned 100 function (word "ok") 2
+
+abbrev exception : Event
+exception = raised 100 function error (word "bad") 2
+
+-- the return of a marked call in silence; not in silence; without a mark; without `call`
+pub silent_return : event_difference (marked for_returns (with_these (and call_flag silent_flag))) return ≡ Some reports_end
+silent_return = refl
+
+pub return_of_a_call : event_difference (marked for_returns (with_these (only call_flag))) return ≡ None
+return_of_a_call = refl
+
+pub unmarked_return : event_difference (with_these (and call_flag silent_flag)) return ≡ None
+unmarked_return = refl
+
+pub return_without_flag : event_difference (marked for_returns (with_these (only silent_flag))) return ≡ None
+return_without_flag = refl
+
+-- an exception in silence, and one that leaves a call that is marked for returns
+pub silent_exception : event_difference (marked for_exceptions (with_these (and call_flag silent_flag))) exception ≡ Some reports_end
+silent_exception = refl
+
+pub exception_of_returns : event_difference (marked for_returns (with_these (and call_flag silent_flag))) exception ≡ None
+exception_of_returns = refl
+
+-- an exit with a call that is marked for exceptions; for returns; without `call`; and of another process
+pub exit_with_a_marked_call : event_difference (marked for_exceptions (with_these (only call_flag))) (exited 100 (word "boom")) ≡ Some reports_exceptions
+unfolding has_mark_below
+exit_with_a_marked_call = refl
+
+pub exit_with_a_call_for_returns : event_difference (marked for_returns (with_these (only call_flag))) (exited 100 (word "boom")) ≡ None
+unfolding has_mark_below
+exit_with_a_call_for_returns = refl
+
+pub exit_without_flag : event_difference (marked for_exceptions (with_these (only send_flag))) (exited 100 (word "boom")) ≡ None
+exit_without_flag = refl
+
+pub exit_of_another : event_difference (with_flags (marked for_exceptions (with_these (only call_flag))) 101 (only call_flag)) (exited 101 (word "boom")) ≡ None
+unfolding has_mark_below
+exit_of_another = refl
+
+-- the first spawn where new processes have `set_on_spawn`; where they don't; and a later spawn
+pub first_spawn : event_difference (record (with_these (and procs_flag set_on_first_spawn)) { new_process_flags = only set_on_spawn }) (spawned 101 100 function []) ≡ Some clears_spawn_flags
+first_spawn = refl
+
+pub first_spawn_of_a_plain_child : event_difference (with_these (and procs_flag set_on_first_spawn)) (spawned 101 100 function []) ≡ None
+first_spawn_of_a_plain_child = refl
+
+pub later_spawn : event_difference (record (with_these (and procs_flag set_on_spawn)) { new_process_flags = only set_on_spawn }) (spawned 101 100 function []) ≡ None
+later_spawn = refl
+
+-- a link by a process with `set_on_link`, with `set_on_first_link`, and with neither; and what is no `getting_linked`
+pub link_that_gives_flags : event_difference (with_these (and procs_flag set_on_link)) (getting_linked 101 100) ≡ Some gives_no_flags
+link_that_gives_flags = refl
+
+pub first_link_that_gives_flags : event_difference (with_these (and procs_flag set_on_first_link)) (getting_linked 101 100) ≡ Some gives_no_flags
+first_link_that_gives_flags = refl
+
+pub link_that_gives_none : event_difference (with_these (only procs_flag)) (getting_linked 101 100) ≡ None
+link_that_gives_none = refl
+
+pub link_of_the_giver : event_difference (with_these (and procs_flag set_on_link)) (linked 100 101) ≡ None
+link_of_the_giver = refl

@@ -1,0 +1,362 @@
+-- What a node does otherwise is what is computed.
+use Rattle.std.proofs.Common.{◌≡◌, ◌≢◌, ◌↔◌, ◌⊎◌, inl, inr, ◌<◌, ℕ, zero, suc, arith, Bool, true, false, not, ◌&&◌, ◌||◌, List, [], ◌∷◌, ◌++◌, Option, Some, None, refl, sym, ap, subst, ◌∙◌}
+use Rattle.std.specs.Option.{is_some}
+use Rattle.std.proofs.lemmas.Bool.{and_parts}
+use Rattle.def_term.specs.Tree.{Tree}
+use Rattle.def_term.specs.Order.{same}
+use Rattle.def_term.specs.Names.{word}
+use Rattle.def_term.proofs.Same.{same-is, same-self}
+use Rattle.def_spec.specs.Flags.{Flag, send_flag, receive_flag, call_flag, procs_flag, silent_flag, arity_flag, set_on_spawn, set_on_first_spawn, set_on_link, set_on_first_link, Flags, FlagTable, flags_in}
+use Rattle.def_spec.specs.Expressions.{Dialect, for_calls, for_sends, for_receives, Expr, bound_to, whole_list, all_bound, constant, tuple_of, list_of, call, and_also, or_else, perform, Exprs, no_exprs, and_expr, Effect, flags_by, flags_after}
+use Rattle.def_node.specs.Process.{FRAMES}
+use Rattle.def_node.specs.Event.{sent, received, called, returned, raised, spawning, spawned, exited, linked, unlinked, getting_linked, getting_unlinked}
+use Rattle.def_session.specs.State.{MarkKind, for_returns, for_exceptions, Session, flags_at, mark_of}
+use Rattle.def_session.specs.Session.{mark_asked, is_marked, is_for_exceptions, is_marked_for_exceptions}
+use Rattle.def_session.specs.Messages.{last_message}
+use Rattle.def_explain.specs.Causes.{is_false_message}
+use Rattle.def_explain.specs.Differences.{Difference, node_ends, finds_no_tracer, suppresses_message, leaves_no_mark, reports_end, reports_exceptions, clears_spawn_flags, gives_no_flags, evaluates_from_right, CallsAction, OneCallsAction, TwoCallActions, ShowsOrder, OneShowsOrder, calls_action, one_calls_action, two_call_actions, shows_order, one_shows_order, HasNone, has_none, is_change, LosesLastFlag, loses_last_flag, ChangesWithoutFlags, changes_without_flags, is_of_sends, is_of_calls, has_mark_below, difference_where}
+use Rattle.def_explain.specs.Laws.{BodyDifferenceIsComputed, OrderDifferenceIsComputed, EventDifferenceIsComputed}
+
+-- ---- truth values
+
+both_are : (a b : Bool) → a ≡ true → b ≡ true → (a && b) ≡ true
+both_are a b e f = ap (λ x. x && b) e ∙ f
+
+three_parts : (a b c : Bool) → (a && (b && c)) ≡ true → (a ≡ true) × (b ≡ true) × (c ≡ true)
+three_parts a b c h =
+    let x : (a ≡ true) × ((b && c) ≡ true) = and_parts a _ h in
+    let y : (b ≡ true) × (c ≡ true) = and_parts b c x.1 in
+    (x.0, y.0, y.1)
+
+three_are : (a b c : Bool) → a ≡ true → b ≡ true → c ≡ true → (a && (b && c)) ≡ true
+three_are a b c x y z = both_are a _ x (both_are b c y z)
+
+not_is : (a : Bool) → not a ≡ true → a ≡ false
+not_is true h = absurd (cc h)
+not_is false h = refl
+
+is_not : (a : Bool) → a ≡ false → not a ≡ true
+is_not a h = ap not h
+
+-- ---- no flag is set
+
+none-set : (f : Flags) → has_none f ≡ true → HasNone f
+none-set f h =
+    let a : (not (f send_flag) ≡ true) × _ = and_parts (not (f send_flag)) _ h in
+    let b : (not (f receive_flag) ≡ true) × _ = and_parts (not (f receive_flag)) _ a.1 in
+    let c : (not (f call_flag) ≡ true) × _ = and_parts (not (f call_flag)) _ b.1 in
+    let d : (not (f procs_flag) ≡ true) × _ = and_parts (not (f procs_flag)) _ c.1 in
+    let e : (not (f silent_flag) ≡ true) × _ = and_parts (not (f silent_flag)) _ d.1 in
+    let g : (not (f arity_flag) ≡ true) × _ = and_parts (not (f arity_flag)) _ e.1 in
+    let i : (not (f set_on_spawn) ≡ true) × _ = and_parts (not (f set_on_spawn)) _ g.1 in
+    let j : (not (f set_on_first_spawn) ≡ true) × _ = and_parts (not (f set_on_first_spawn)) _ i.1 in
+    let k : (not (f set_on_link) ≡ true) × (not (f set_on_first_link) ≡ true) = and_parts (not (f set_on_link)) _ j.1 in
+    each a.0 b.0 c.0 d.0 e.0 g.0 i.0 j.0 k.0 k.1
+  where
+    each : not (f send_flag) ≡ true → not (f receive_flag) ≡ true → not (f call_flag) ≡ true → not (f procs_flag) ≡ true → not (f silent_flag) ≡ true → not (f arity_flag) ≡ true → not (f set_on_spawn) ≡ true → not (f set_on_first_spawn) ≡ true → not (f set_on_link) ≡ true → not (f set_on_first_link) ≡ true → HasNone f
+    each a b c d e g i j k l send_flag = not_is _ a
+    each a b c d e g i j k l receive_flag = not_is _ b
+    each a b c d e g i j k l call_flag = not_is _ c
+    each a b c d e g i j k l procs_flag = not_is _ d
+    each a b c d e g i j k l silent_flag = not_is _ e
+    each a b c d e g i j k l arity_flag = not_is _ g
+    each a b c d e g i j k l set_on_spawn = not_is _ i
+    each a b c d e g i j k l set_on_first_spawn = not_is _ j
+    each a b c d e g i j k l set_on_link = not_is _ k
+    each a b c d e g i j k l set_on_first_link = not_is _ l
+
+set-none : (f : Flags) → HasNone f → has_none f ≡ true
+set-none f h =
+    let n : (x : Flag) → not (f x) ≡ true = λ x. is_not (f x) (h x) in
+    both_are _ _ (n send_flag) (both_are _ _ (n receive_flag) (both_are _ _ (n call_flag) (both_are _ _ (n procs_flag) (both_are _ _ (n silent_flag) (both_are _ _ (n arity_flag) (both_are _ _ (n set_on_spawn) (both_are _ _ (n set_on_first_spawn) (both_are _ _ (n set_on_link) (n set_on_first_link)))))))))
+
+-- ---- effects one after another
+
+head-is : (x y : Effect) (xs ys : List Effect) → x ∷ xs ≡ y ∷ ys → x ≡ y
+head-is x y xs ys h = cc h
+
+tail-is : (x y : Effect) (xs ys : List Effect) → x ∷ xs ≡ y ∷ ys → xs ≡ ys
+tail-is x y xs ys h = cc h
+
+no-effects : (ds : List Effect) (e : Effect) (fs : List Effect) → [] ≡ ds ++ e ∷ fs → ⊥
+no-effects [] e fs h = cc h
+no-effects (d ∷ ds) e fs h = cc h
+
+loses-last : (p : ℕ) (t : FlagTable) (es : List Effect) → loses_last_flag p t es ≡ true → LosesLastFlag p t es
+loses-last p t [] h = absurd (cc h)
+loses-last p t (e ∷ es) h = go (loses-last p (flags_by p t e) es) (has_none (flags_in (flags_by p t e) p)) refl
+  where
+    later : LosesLastFlag p (flags_by p t e) es → LosesLastFlag p t (e ∷ es)
+    later l = (e ∷ l.0, l.1, l.2, ap (λ x. e ∷ x) l.3, l.4)
+
+    go : (loses_last_flag p (flags_by p t e) es ≡ true → LosesLastFlag p (flags_by p t e) es) → (b : Bool) → has_none (flags_in (flags_by p t e) p) ≡ b → LosesLastFlag p t (e ∷ es)
+    go more true n = ([], e, es, refl, none-set _ n)
+    go more false n = later (more (ap (λ b. b || loses_last_flag p (flags_by p t e) es) (sym n) ∙ h))
+
+last-lost : (p : ℕ) (t : FlagTable) (es ds : List Effect) (e : Effect) (fs : List Effect) → es ≡ ds ++ e ∷ fs → HasNone (flags_in (flags_after p t (ds ++ e ∷ [])) p) → loses_last_flag p t es ≡ true
+last-lost p t [] ds e fs h n = absurd (no-effects ds e fs h)
+last-lost p t (x ∷ es) [] e fs h n =
+    let is : x ≡ e = head-is x e es fs h in
+    ap (λ b. b || loses_last_flag p (flags_by p t x) es) (ap (λ y. has_none (flags_in (flags_by p t y) p)) is ∙ set-none _ n)
+last-lost p t (x ∷ es) (d ∷ ds) e fs h n =
+    let is : x ≡ d = head-is x d es (ds ++ e ∷ fs) h in
+    let more : loses_last_flag p (flags_by p t x) es ≡ true =
+    last-lost p (flags_by p t x) es ds e fs (tail-is x d es (ds ++ e ∷ fs) h) (subst (λ y. HasNone (flags_in (flags_after p (flags_by p t y) (ds ++ e ∷ [])) p)) (sym is) n) in
+    or_right (has_none (flags_in (flags_by p t x) p)) _ more
+  where
+    or_right : (a b : Bool) → b ≡ true → (a || b) ≡ true
+    or_right true b k = refl
+    or_right false b k = k
+
+changes-without : (p : ℕ) (t : FlagTable) (es : List Effect) → changes_without_flags p t es ≡ true → ChangesWithoutFlags p t es
+changes-without p t [] h = absurd (cc h)
+changes-without p t (e ∷ es) h = go (changes-without p (flags_by p t e) es) (is_change e && has_none (flags_in t p)) refl
+  where
+    later : ChangesWithoutFlags p (flags_by p t e) es → ChangesWithoutFlags p t (e ∷ es)
+    later l = (e ∷ l.0, l.1, l.2, ap (λ x. e ∷ x) l.3, l.4, l.5)
+
+    go : (changes_without_flags p (flags_by p t e) es ≡ true → ChangesWithoutFlags p (flags_by p t e) es) → (b : Bool) → (is_change e && has_none (flags_in t p)) ≡ b → ChangesWithoutFlags p t (e ∷ es)
+    go more true n =
+        let both : (is_change e ≡ true) × (has_none (flags_in t p) ≡ true) = and_parts (is_change e) _ n in
+        ([], e, es, refl, both.0, none-set _ both.1)
+    go more false n = later (more (ap (λ b. b || changes_without_flags p (flags_by p t e) es) (sym n) ∙ h))
+
+without-changed : (p : ℕ) (t : FlagTable) (es ds : List Effect) (e : Effect) (fs : List Effect) → es ≡ ds ++ e ∷ fs → is_change e ≡ true → HasNone (flags_in (flags_after p t ds) p) → changes_without_flags p t es ≡ true
+without-changed p t [] ds e fs h k n = absurd (no-effects ds e fs h)
+without-changed p t (x ∷ es) [] e fs h k n =
+    let is : x ≡ e = head-is x e es fs h in
+    ap (λ b. b || changes_without_flags p (flags_by p t x) es) (both_are (is_change x) _ (ap is_change is ∙ k) (set-none _ n))
+without-changed p t (x ∷ es) (d ∷ ds) e fs h k n =
+    let is : x ≡ d = head-is x d es (ds ++ e ∷ fs) h in
+    let more : changes_without_flags p (flags_by p t x) es ≡ true =
+    without-changed p (flags_by p t x) es ds e fs (tail-is x d es (ds ++ e ∷ fs) h) k (subst (λ y. HasNone (flags_in (flags_after p (flags_by p t y) ds) p)) (sym is) n) in
+    or_right (is_change x && has_none (flags_in t p)) _ more
+  where
+    or_right : (a b : Bool) → b ≡ true → (a || b) ≡ true
+    or_right true b k = refl
+    or_right false b k = k
+
+-- ---- messages, marks and dialects
+
+message-there : (o : Option Tree) → not (is_false_message o) ≡ true → o ≢ Some (word "false")
+message-there o h e = absurd (cc (sym (not_is _ h) ∙ ap is_false_message e ∙ same-self (word "false")))
+
+there-message : (o : Option Tree) → o ≢ Some (word "false") → not (is_false_message o) ≡ true
+there-message None h = refl
+there-message (Some t) h = go (same t (word "false")) refl
+  where
+    go : (b : Bool) → same t (word "false") ≡ b → not (same t (word "false")) ≡ true
+    go true e = absurd (h (ap Some (same-is t (word "false") e)))
+    go false e = ap not e
+
+mark-there : (o : Option MarkKind) → is_some o ≡ true → (k : MarkKind) × (o ≡ Some k)
+mark-there None h = absurd (cc h)
+mark-there (Some k) h = (k, refl)
+
+of-sends : (d : Dialect) → (is_of_sends d ≡ true) ↔ (d ≡ for_sends)
+of-sends for_calls = (λ h. absurd (cc h), λ h. absurd (cc h))
+of-sends for_sends = (λ h. refl, λ h. refl)
+of-sends for_receives = (λ h. absurd (cc h), λ h. absurd (cc h))
+
+of-calls : (d : Dialect) → (is_of_calls d ≡ true) ↔ (d ≡ for_calls)
+of-calls for_calls = (λ h. refl, λ h. refl)
+of-calls for_sends = (λ h. absurd (cc h), λ h. absurd (cc h))
+of-calls for_receives = (λ h. absurd (cc h), λ h. absurd (cc h))
+
+of-others : (d : Dialect) → (not (is_of_calls d) ≡ true) ↔ (d ≢ for_calls)
+of-others for_calls = (λ h. absurd (cc h), λ h. absurd (h refl))
+of-others for_sends = (λ h e. cc e, λ h. refl)
+of-others for_receives = (λ h e. cc e, λ h. refl)
+
+pub body_difference_is_computed : BodyDifferenceIsComputed
+body_difference_is_computed d c es node_ends = (
+  λ h.
+      let x : (is_of_sends d ≡ true) × (loses_last_flag c.self_pid c.flags es ≡ true) × (not (is_false_message (last_message es)) ≡ true) = three_parts (is_of_sends d) _ _ h in
+      ((of-sends d).0 x.0, loses-last c.self_pid c.flags es x.1, message-there _ x.2),
+  λ h. three_are _ _ _ ((of-sends d).1 h.0) (last-lost c.self_pid c.flags es h.1.0 h.1.1 h.1.2 h.1.3 h.1.4) (there-message _ h.2),
+)
+body_difference_is_computed d c es finds_no_tracer =
+    (λ h. changes-without c.self_pid c.flags es h, λ h. without-changed c.self_pid c.flags es h.0 h.1 h.2 h.3 h.4 h.5)
+body_difference_is_computed d c es suppresses_message = (
+  λ h.
+      let x : (not (is_of_calls d) ≡ true) × _ × (not (is_false_message (last_message es)) ≡ true) = three_parts (not (is_of_calls d)) _ _ h in
+      ((of-others d).0 x.0, x.1, message-there _ x.2),
+  λ h. three_are _ _ _ ((of-others d).1 h.0) h.1 (there-message _ h.2),
+)
+body_difference_is_computed d c es leaves_no_mark = (
+  λ h.
+      let x : (is_of_calls d ≡ true) × _ × (is_some (mark_asked es) ≡ true) = three_parts (is_of_calls d) _ _ h in
+      ((of-calls d).0 x.0, x.1, mark-there _ x.2),
+  λ h. three_are _ _ _ ((of-calls d).1 h.0) h.1 (ap is_some h.2.1),
+)
+body_difference_is_computed d c es reports_end = (λ h. absurd (cc h), λ h. absurd h)
+body_difference_is_computed d c es reports_exceptions = (λ h. absurd (cc h), λ h. absurd h)
+body_difference_is_computed d c es clears_spawn_flags = (λ h. absurd (cc h), λ h. absurd h)
+body_difference_is_computed d c es gives_no_flags = (λ h. absurd (cc h), λ h. absurd h)
+body_difference_is_computed d c es evaluates_from_right = (λ h. absurd (cc h), λ h. absurd h)
+
+-- ---- events without a body
+
+for-exceptions : (o : Option MarkKind) → is_for_exceptions o ≡ true → o ≡ Some for_exceptions
+for-exceptions None h = absurd (cc h)
+for-exceptions (Some for_returns) h = absurd (cc h)
+for-exceptions (Some for_exceptions) h = refl
+
+module _ (s : Session) (p : ℕ) where
+  mark-below : (n : ℕ) → has_mark_below s p n ≡ true → (depth : ℕ) × (depth < n) × (mark_of s p depth ≡ Some for_exceptions)
+  unfolding has_mark_below
+  mark-below zero h = absurd (cc h)
+  mark-below (suc n) h = go (mark-below n) (is_marked_for_exceptions s p n) refl
+    where
+      later : (depth : ℕ) × (depth < n) × (mark_of s p depth ≡ Some for_exceptions) → (depth : ℕ) × (depth < suc n) × (mark_of s p depth ≡ Some for_exceptions)
+      later m = (m.0, omega (arith, m.1), m.2)
+
+      go : (has_mark_below s p n ≡ true → (depth : ℕ) × (depth < n) × (mark_of s p depth ≡ Some for_exceptions)) → (b : Bool) → is_marked_for_exceptions s p n ≡ b → (depth : ℕ) × (depth < suc n) × (mark_of s p depth ≡ Some for_exceptions)
+      go more true e = (n, omega arith, for-exceptions (mark_of s p n) e)
+      go more false e = later (more (ap (λ b. b || has_mark_below s p n) (sym e) ∙ h))
+
+  below-mark : (n depth : ℕ) → depth < n → mark_of s p depth ≡ Some for_exceptions → has_mark_below s p n ≡ true
+  unfolding has_mark_below
+  below-mark zero depth l h = absurd (omega (arith, l))
+  below-mark (suc n) depth l h = go (λ k. below-mark n depth k h) (is_marked_for_exceptions s p n) refl
+    where
+      other : is_marked_for_exceptions s p n ≡ false → depth ≢ n
+      other e is = absurd (cc (sym e ∙ ap is_for_exceptions (ap (mark_of s p) (sym is) ∙ h)))
+
+      go : (depth < n → has_mark_below s p n ≡ true) → (b : Bool) → is_marked_for_exceptions s p n ≡ b → has_mark_below s p (suc n) ≡ true
+      go more true e = ap (λ b. b || has_mark_below s p n) e
+      go more false e = ap (λ b. b || has_mark_below s p n) e ∙ more (omega (arith, l, other e))
+
+-- ---- the order of evaluation
+
+or-either : (a b : Bool) {P Q : Type 0} → (a ≡ true → P) → (b ≡ true → Q) → (a || b) ≡ true → P ⊎ Q
+or-either true b p q h = inl (p refl)
+or-either false b p q h = inr (q h)
+
+either-or : (a b : Bool) {P Q : Type 0} → (P → a ≡ true) → (Q → b ≡ true) → P ⊎ Q → (a || b) ≡ true
+either-or a b p q (inl x) = ap (λ z. z || b) (p x)
+either-or true b p q (inr x) = refl
+either-or false b p q (inr x) = q x
+
+mutual
+  action-there : (e : Expr) → calls_action e ≡ true → CallsAction e
+  action-there (perform a es) h = tt
+  action-there (tuple_of es) h = one-action-there es h
+  action-there (list_of es) h = one-action-there es h
+  action-there (call f es) h = one-action-there es h
+  action-there (and_also es) h = one-action-there es h
+  action-there (or_else es) h = one-action-there es h
+  action-there (bound_to n) h = absurd (cc h)
+  action-there whole_list h = absurd (cc h)
+  action-there all_bound h = absurd (cc h)
+  action-there (constant t) h = absurd (cc h)
+
+  one-action-there : (es : Exprs) → one_calls_action es ≡ true → OneCallsAction es
+  one-action-there no_exprs h = absurd (cc h)
+  one-action-there (and_expr e es) h = or-either (calls_action e) (one_calls_action es) (action-there e) (one-action-there es) h
+
+mutual
+  there-action : (e : Expr) → CallsAction e → calls_action e ≡ true
+  there-action (perform a es) h = refl
+  there-action (tuple_of es) h = there-one-action es h
+  there-action (list_of es) h = there-one-action es h
+  there-action (call f es) h = there-one-action es h
+  there-action (and_also es) h = there-one-action es h
+  there-action (or_else es) h = there-one-action es h
+  there-action (bound_to n) h = absurd h
+  there-action whole_list h = absurd h
+  there-action all_bound h = absurd h
+  there-action (constant t) h = absurd h
+
+  there-one-action : (es : Exprs) → OneCallsAction es → one_calls_action es ≡ true
+  there-one-action no_exprs h = absurd h
+  there-one-action (and_expr e es) h = either-or (calls_action e) (one_calls_action es) (there-action e) (there-one-action es) h
+
+two-there : (es : Exprs) → two_call_actions es ≡ true → TwoCallActions es
+two-there no_exprs h = absurd (cc h)
+two-there (and_expr e es) h =
+    or-either (calls_action e && one_calls_action es) (two_call_actions es)
+    (λ k. let x : (calls_action e ≡ true) × (one_calls_action es ≡ true) = and_parts (calls_action e) _ k in (action-there e x.0, one-action-there es x.1)) (two-there es) h
+
+there-two : (es : Exprs) → TwoCallActions es → two_call_actions es ≡ true
+there-two no_exprs h = absurd h
+there-two (and_expr e es) h =
+    either-or (calls_action e && one_calls_action es) (two_call_actions es) (λ k. both_are _ _ (there-action e k.0) (there-one-action es k.1)) (there-two es) h
+
+mutual
+  order-there : (e : Expr) → shows_order e ≡ true → ShowsOrder e
+  order-there (tuple_of es) h = or-either (two_call_actions es) (one_shows_order es) (two-there es) (one-order-there es) h
+  order-there (call f es) h = or-either (two_call_actions es) (one_shows_order es) (two-there es) (one-order-there es) h
+  order-there (perform a es) h = or-either (two_call_actions es) (one_shows_order es) (two-there es) (one-order-there es) h
+  order-there (list_of es) h = one-order-there es h
+  order-there (and_also es) h = one-order-there es h
+  order-there (or_else es) h = one-order-there es h
+  order-there (bound_to n) h = absurd (cc h)
+  order-there whole_list h = absurd (cc h)
+  order-there all_bound h = absurd (cc h)
+  order-there (constant t) h = absurd (cc h)
+
+  one-order-there : (es : Exprs) → one_shows_order es ≡ true → OneShowsOrder es
+  one-order-there no_exprs h = absurd (cc h)
+  one-order-there (and_expr e es) h = or-either (shows_order e) (one_shows_order es) (order-there e) (one-order-there es) h
+
+mutual
+  there-order : (e : Expr) → ShowsOrder e → shows_order e ≡ true
+  there-order (tuple_of es) h = either-or (two_call_actions es) (one_shows_order es) (there-two es) (there-one-order es) h
+  there-order (call f es) h = either-or (two_call_actions es) (one_shows_order es) (there-two es) (there-one-order es) h
+  there-order (perform a es) h = either-or (two_call_actions es) (one_shows_order es) (there-two es) (there-one-order es) h
+  there-order (list_of es) h = there-one-order es h
+  there-order (and_also es) h = there-one-order es h
+  there-order (or_else es) h = there-one-order es h
+  there-order (bound_to n) h = absurd h
+  there-order whole_list h = absurd h
+  there-order all_bound h = absurd h
+  there-order (constant t) h = absurd h
+
+  there-one-order : (es : Exprs) → OneShowsOrder es → one_shows_order es ≡ true
+  there-one-order no_exprs h = absurd h
+  there-one-order (and_expr e es) h = either-or (shows_order e) (one_shows_order es) (there-order e) (there-one-order es) h
+
+-- where a difference is said to be
+said-where : (b : Bool) (y x : Difference) → (difference_where b y ≡ Some x) ↔ ((x ≡ y) × (b ≡ true))
+said-where true y x = (λ h. (cc h, refl), λ h. ap Some (sym h.0))
+said-where false y x = (λ h. absurd (cc h), λ h. absurd (cc h.1))
+
+-- and what that means
+where-holds : (b : Bool) (y x : Difference) (P : Type 0) → (b ≡ true) ↔ P → (difference_where b y ≡ Some x) ↔ ((x ≡ y) × P)
+where-holds b y x P e = (
+  λ h. let z : (x ≡ y) × (b ≡ true) = (said-where b y x).0 h in (z.0, e.0 z.1),
+  λ h. (said-where b y x).1 (h.0, e.1 h.1),
+)
+
+pub event_difference_is_computed : EventDifferenceIsComputed
+event_difference_is_computed s (returned p f t depth) x =
+    where-holds _ reports_end x _ (λ h. three_parts (is_marked s p depth) _ _ h, λ h. three_are _ _ _ h.0 h.1 h.2)
+event_difference_is_computed s (raised p f c t depth) x =
+    where-holds _ reports_end x _ (
+      λ h.
+          let y : (is_marked_for_exceptions s p depth ≡ true) × (flags_at s p call_flag ≡ true) × (flags_at s p silent_flag ≡ true) = three_parts (is_marked_for_exceptions s p depth) _ _ h in
+          (for-exceptions (mark_of s p depth) y.0, y.1, y.2),
+      λ h. three_are _ _ _ (ap is_for_exceptions h.0) h.1 h.2,
+    )
+event_difference_is_computed s (exited p r) x =
+    where-holds _ reports_exceptions x _ (
+      λ h.
+          let y : (flags_at s p call_flag ≡ true) × (has_mark_below s p (suc FRAMES) ≡ true) = and_parts (flags_at s p call_flag) _ h in
+          let m : (depth : ℕ) × (depth < suc FRAMES) × (mark_of s p depth ≡ Some for_exceptions) = mark-below s p (suc FRAMES) y.1 in
+          (y.0, (m.0, omega (arith, m.1), m.2)),
+      λ h. both_are _ _ h.0 (below-mark s p (suc FRAMES) h.1.0 (omega (arith, h.1.1)) h.1.2),
+    )
+event_difference_is_computed s (spawned child parent f args) x =
+    where-holds _ clears_spawn_flags x _ (λ h. and_parts (flags_at s parent set_on_first_spawn) _ h, λ h. both_are _ _ h.0 h.1)
+event_difference_is_computed s (getting_linked p linker) x = where-holds _ gives_no_flags x _ (λ h. not_is _ h, λ h. is_not _ h)
+event_difference_is_computed s (sent p t to alive) x = (λ h. absurd (cc h), λ h. absurd h)
+event_difference_is_computed s (received p sender t) x = (λ h. absurd (cc h), λ h. absurd h)
+event_difference_is_computed s (called p c) x = (λ h. absurd (cc h), λ h. absurd h)
+event_difference_is_computed s (spawning p child f args) x = (λ h. absurd (cc h), λ h. absurd h)
+event_difference_is_computed s (linked p q) x = (λ h. absurd (cc h), λ h. absurd h)
+event_difference_is_computed s (unlinked p q) x = (λ h. absurd (cc h), λ h. absurd h)
+event_difference_is_computed s (getting_unlinked p q) x = (λ h. absurd (cc h), λ h. absurd h)
+
+pub order_difference_is_computed : OrderDifferenceIsComputed
+order_difference_is_computed body x = where-holds _ evaluates_from_right x _ (one-order-there body, there-one-order body)

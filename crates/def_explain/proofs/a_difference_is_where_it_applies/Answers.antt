@@ -1,0 +1,11 @@
+use Rattle.def_explain.proofs.Differences.{body_difference_is_computed, order_difference_is_computed, event_difference_is_computed}
+use Rattle.def_explain.proofs.a_difference_is_where_it_applies.Goals as goal
+
+pub returns-clause-body : goal.returns-clause-body
+returns-clause-body c = body_difference_is_computed
+
+pub returns-clause-event : goal.returns-clause-event
+returns-clause-event c = event_difference_is_computed
+
+pub returns-clause-order : goal.returns-clause-order
+returns-clause-order c = order_difference_is_computed

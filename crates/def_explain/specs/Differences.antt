@@ -1,0 +1,316 @@
+-- Where a running node does otherwise than a session (own). OTP's documentation says nothing of it; each was measured on OTP 25 (erts 13.1.5).
+-- Depends on match specifications and on the state of a session before an event.
+use Rattle.std.specs.Prelude.{◌≡◌, ◌≢◌, ◌≤◌, ℕ, zero, suc, ◌==◌, Bool, true, false, not, ◌&&◌, ◌||◌, ◌⊎◌, if◌then◌else◌, List, [], ◌∷◌, ◌++◌, filter, Option, Some, None, option_to_list, codes}
+use Rattle.std.specs.Bool.{⊤}
+use Rattle.std.specs.Option.{is_some}
+use Rattle.def_term.specs.Tree.{pid}
+use Rattle.def_term.specs.Names.{word}
+use Rattle.def_spec.specs.Flags.{Flag, Flags, no_flags, has_all, same_flags, FlagTable, flags_in, send_flag, receive_flag, call_flag, silent_flag, set_on_spawn, set_on_first_spawn}
+use Rattle.def_spec.specs.Expressions.{Dialect, for_calls, for_sends, Expr, bound_to, whole_list, all_bound, constant, tuple_of, list_of, call, and_also, or_else, perform, Exprs, no_exprs, and_expr, Context, Effect, silences, changes, flags_by, flags_after}
+use Rattle.def_node.specs.Process.{FRAMES}
+use Rattle.def_spec.specs.Outcome.{Clause}
+use Rattle.def_session.specs.Settings.{Setting, off, plain, by, setting_for}
+use Rattle.def_node.specs.Event.{Event, sent, received, called, returned, raised, exited, spawned, getting_linked}
+use Rattle.def_session.specs.State.{MarkKind, for_exceptions, Session, flags_at, mark_of}
+use Rattle.def_session.specs.Messages.{last_message}
+use Rattle.def_session.specs.Session.{inherit, context, mark_asked, is_marked, is_marked_for_exceptions}
+use Rattle.def_explain.specs.Causes.{IsOfMarked, is_false_message}
+use Rattle.def_explain.specs.Verdicts.{Verdict, fails, fires, verdict_of}
+
+-- what a node does:
+-- the send ends it with a segmentation fault, where the body clears the sender's last flag;
+-- the tracer is gone with the last flag of the process, and a later change of the same body clears all flags of the process that it is of;
+-- `silent` suppresses the message of a send or a receive that a match specification decides;
+-- a call that is silent gets no mark;
+-- the return or the exception is reported unless `silent` was set at the call;
+-- each call that is marked for exceptions has `exception_from` before the exit;
+-- the first spawn clears both flags for spawns of the child;
+-- a link gives no flags;
+-- the arguments of a call and the elements of a tuple are evaluated from the right
+pub data Difference : Type 0 where
+  node_ends : Difference
+  finds_no_tracer : Difference
+  suppresses_message : Difference
+  leaves_no_mark : Difference
+  reports_end : Difference
+  reports_exceptions : Difference
+  clears_spawn_flags : Difference
+  gives_no_flags : Difference
+  evaluates_from_right : Difference
+
+-- ---- the body of a clause that fires
+
+-- no flag is set
+abbrev pub HasNone : Flags → Type 0
+HasNone f = (x : Flag) → f x ≡ false
+
+-- an effect is a change of flags
+abbrev pub is_change : Effect → Bool
+is_change (changes n cleared set) = true
+is_change e = false
+
+-- after some of these effects the process of this pid has no flag
+abbrev pub LosesLastFlag : ℕ → FlagTable → List Effect → Type 0
+LosesLastFlag p t es = (ds : List Effect) × (e : Effect) × (fs : List Effect) × (es ≡ ds ++ e ∷ fs) × HasNone (flags_in (flags_after p t (ds ++ e ∷ [])) p)
+
+-- a change of flags comes where it has none
+abbrev pub ChangesWithoutFlags : ℕ → FlagTable → List Effect → Type 0
+ChangesWithoutFlags p t es = (ds : List Effect) × (e : Effect) × (fs : List Effect) × (es ≡ ds ++ e ∷ fs) × (is_change e ≡ true) × HasNone (flags_in (flags_after p t ds) p)
+
+-- whether the process of this pid has the flag `silent` after these effects; `b` is whether it had it before
+abbrev pub later_silent : ℕ → Bool → List Effect → Bool
+later_silent self_pid b [] = b
+later_silent self_pid b (silences x ∷ es) = later_silent self_pid x es
+later_silent self_pid b (changes n cleared set ∷ es) = later_silent self_pid (if n == self_pid then set silent_flag || (b && not (cleared silent_flag)) else b) es
+later_silent self_pid b (e ∷ es) = later_silent self_pid b es
+
+-- the process is silent after these effects
+abbrev pub is_silent_by : Context → List Effect → Bool
+is_silent_by c es = later_silent c.self_pid (flags_in c.flags c.self_pid silent_flag) es
+
+abbrev pub IsSilent : Context → List Effect → Type 0
+IsSilent c es = is_silent_by c es ≡ true
+
+-- the effects don't suppress the message
+abbrev pub IsMessage : List Effect → Type 0
+IsMessage es = last_message es ≢ Some (word "false")
+
+-- they ask for a mark
+abbrev pub AsksForMark : List Effect → Type 0
+AsksForMark es = (k : MarkKind) × (mark_asked es ≡ Some k)
+
+-- a node does this otherwise at a clause of this dialect that fires in this context with these effects
+abbrev pub BodyDiffers : Dialect → Context → List Effect → Difference → Type 0
+BodyDiffers d c es node_ends = (d ≡ for_sends) × LosesLastFlag c.self_pid c.flags es × IsMessage es
+BodyDiffers d c es finds_no_tracer = ChangesWithoutFlags c.self_pid c.flags es
+BodyDiffers d c es suppresses_message = (d ≢ for_calls) × IsSilent c es × IsMessage es
+BodyDiffers d c es leaves_no_mark = (d ≡ for_calls) × IsSilent c es × AsksForMark es
+BodyDiffers d c es x = ⊥
+
+-- ---- the order of evaluation
+
+abbrev mutual
+  -- the expression calls an action
+  pub CallsAction : Expr → Type 0
+  CallsAction (perform a es) = ⊤
+  CallsAction (tuple_of es) = OneCallsAction es
+  CallsAction (list_of es) = OneCallsAction es
+  CallsAction (call f es) = OneCallsAction es
+  CallsAction (and_also es) = OneCallsAction es
+  CallsAction (or_else es) = OneCallsAction es
+  CallsAction (bound_to n) = ⊥
+  CallsAction whole_list = ⊥
+  CallsAction all_bound = ⊥
+  CallsAction (constant t) = ⊥
+
+  -- one of several does
+  pub OneCallsAction : Exprs → Type 0
+  OneCallsAction no_exprs = ⊥
+  OneCallsAction (and_expr e es) = CallsAction e ⊎ OneCallsAction es
+
+-- two of several do
+abbrev pub TwoCallActions : Exprs → Type 0
+TwoCallActions no_exprs = ⊥
+TwoCallActions (and_expr e es) = (CallsAction e × OneCallsAction es) ⊎ TwoCallActions es
+
+abbrev mutual
+  -- the expression is a call or a tuple of which two parts have actions, or a part of it is one
+  pub ShowsOrder : Expr → Type 0
+  ShowsOrder (tuple_of es) = TwoCallActions es ⊎ OneShowsOrder es
+  ShowsOrder (call f es) = TwoCallActions es ⊎ OneShowsOrder es
+  ShowsOrder (perform a es) = TwoCallActions es ⊎ OneShowsOrder es
+  ShowsOrder (list_of es) = OneShowsOrder es
+  ShowsOrder (and_also es) = OneShowsOrder es
+  ShowsOrder (or_else es) = OneShowsOrder es
+  ShowsOrder (bound_to n) = ⊥
+  ShowsOrder whole_list = ⊥
+  ShowsOrder all_bound = ⊥
+  ShowsOrder (constant t) = ⊥
+
+  -- one of several is
+  pub OneShowsOrder : Exprs → Type 0
+  OneShowsOrder no_exprs = ⊥
+  OneShowsOrder (and_expr e es) = ShowsOrder e ⊎ OneShowsOrder es
+
+-- ---- an event without a body: a return, an exception, an exit, a child, a link
+
+-- the process of a return or an exception of a marked frame has `call`, and is silent
+abbrev pub IsSilentEnd : Session → Event → (p : ℕ) → Type 0
+IsSilentEnd s e p = IsOfMarked s e × (flags_at s p call_flag ≡ true) × (flags_at s p silent_flag ≡ true)
+
+-- a process with `call` has a frame that is marked for exceptions
+abbrev pub HasMarkedFrame : Session → (p : ℕ) → Type 0
+HasMarkedFrame s p = (flags_at s p call_flag ≡ true) × ((depth : ℕ) × (depth ≤ FRAMES) × (mark_of s p depth ≡ Some for_exceptions))
+
+-- it has a flag for spawns
+abbrev pub has_spawn_flag : Flags → Bool
+has_spawn_flag f = f set_on_spawn || f set_on_first_spawn
+
+-- the first spawn of the parent leaves the child a flag for spawns
+abbrev pub IsFirstSpawn : Session → Event → (parent child : ℕ) → Type 0
+IsFirstSpawn s e parent child = (flags_at s parent set_on_first_spawn ≡ true) × (has_spawn_flag (flags_at (inherit s e) child) ≡ true)
+
+-- both have the flags that they had before
+abbrev pub is_same_for : Session → Session → (p q : ℕ) → Bool
+is_same_for s t p q = same_flags (flags_at s p) (flags_at t p) && same_flags (flags_at s q) (flags_at t q)
+
+-- a node does this otherwise at this event of a session in this state
+abbrev pub EventDiffers : Session → Event → Difference → Type 0
+EventDiffers s (returned p f t depth) x = (x ≡ reports_end) × IsSilentEnd s (returned p f t depth) p
+EventDiffers s (raised p f c t depth) x = (x ≡ reports_end) × IsSilentEnd s (raised p f c t depth) p
+EventDiffers s (exited p r) x = (x ≡ reports_exceptions) × HasMarkedFrame s p
+EventDiffers s (spawned child parent f args) x = (x ≡ clears_spawn_flags) × IsFirstSpawn s (spawned child parent f args) parent child
+EventDiffers s (getting_linked p linker) x = (x ≡ gives_no_flags) × (is_same_for s (inherit s (getting_linked p linker)) linker p ≡ false)
+EventDiffers s e x = ⊥
+
+-- ---- the same, computed
+
+-- no flag is set
+abbrev pub has_none : Flags → Bool
+has_none f = has_all no_flags f
+
+-- after some of these effects the process of this pid has no flag
+abbrev pub loses_last_flag : ℕ → FlagTable → List Effect → Bool
+loses_last_flag p t [] = false
+loses_last_flag p t (e ∷ es) = has_none (flags_in (flags_by p t e) p) || loses_last_flag p (flags_by p t e) es
+
+-- a change of flags comes where it has no flag
+abbrev pub changes_without_flags : ℕ → FlagTable → List Effect → Bool
+changes_without_flags p t [] = false
+changes_without_flags p t (e ∷ es) = (is_change e && has_none (flags_in t p)) || changes_without_flags p (flags_by p t e) es
+
+abbrev mutual
+  -- the expression calls an action
+  pub calls_action : Expr → Bool
+  calls_action (perform a es) = true
+  calls_action (tuple_of es) = one_calls_action es
+  calls_action (list_of es) = one_calls_action es
+  calls_action (call f es) = one_calls_action es
+  calls_action (and_also es) = one_calls_action es
+  calls_action (or_else es) = one_calls_action es
+  calls_action (bound_to n) = false
+  calls_action whole_list = false
+  calls_action all_bound = false
+  calls_action (constant t) = false
+
+  -- one of several does
+  pub one_calls_action : Exprs → Bool
+  one_calls_action no_exprs = false
+  one_calls_action (and_expr e es) = calls_action e || one_calls_action es
+
+-- two of several do
+abbrev pub two_call_actions : Exprs → Bool
+two_call_actions no_exprs = false
+two_call_actions (and_expr e es) = (calls_action e && one_calls_action es) || two_call_actions es
+
+abbrev mutual
+  -- a call or a tuple of which two parts have actions, or a part that is one
+  pub shows_order : Expr → Bool
+  shows_order (tuple_of es) = two_call_actions es || one_shows_order es
+  shows_order (call f es) = two_call_actions es || one_shows_order es
+  shows_order (perform a es) = two_call_actions es || one_shows_order es
+  shows_order (list_of es) = one_shows_order es
+  shows_order (and_also es) = one_shows_order es
+  shows_order (or_else es) = one_shows_order es
+  shows_order (bound_to n) = false
+  shows_order whole_list = false
+  shows_order all_bound = false
+  shows_order (constant t) = false
+
+  -- one of several is
+  pub one_shows_order : Exprs → Bool
+  one_shows_order no_exprs = false
+  one_shows_order (and_expr e es) = shows_order e || one_shows_order es
+
+-- a difference, where it is one
+abbrev pub difference_where : Bool → Difference → Option Difference
+difference_where b x = if b then Some x else None
+
+-- that of the order of evaluation of a body
+abbrev pub order_difference : Exprs → Option Difference
+order_difference body = difference_where (one_shows_order body) evaluates_from_right
+
+-- the dialect is that of sends, or of calls
+abbrev pub is_of_sends : Dialect → Bool
+is_of_sends for_sends = true
+is_of_sends d = false
+
+abbrev pub is_of_calls : Dialect → Bool
+is_of_calls for_calls = true
+is_of_calls d = false
+
+-- whether a node does this otherwise at a clause that fires
+abbrev pub body_differs : Dialect → Context → List Effect → Difference → Bool
+body_differs d c es node_ends = is_of_sends d && (loses_last_flag c.self_pid c.flags es && not (is_false_message (last_message es)))
+body_differs d c es finds_no_tracer = changes_without_flags c.self_pid c.flags es
+body_differs d c es suppresses_message = not (is_of_calls d) && (is_silent_by c es && not (is_false_message (last_message es)))
+body_differs d c es leaves_no_mark = is_of_calls d && (is_silent_by c es && is_some (mark_asked es))
+body_differs d c es x = false
+
+-- by its effects
+abbrev pub body_differences : Dialect → Context → List Effect → List Difference
+body_differences d c es = filter (body_differs d c es) (node_ends ∷ finds_no_tracer ∷ suppresses_message ∷ leaves_no_mark ∷ [])
+
+-- all that a node does otherwise at a clause that fires
+abbrev pub clause_differences : Dialect → Clause → Context → List Effect → List Difference
+clause_differences d k c es = option_to_list (order_difference k.body) ++ body_differences d c es
+
+-- at a clause or, where it doesn't fire, at those after it
+abbrev pub differences_by : Dialect → Clause → Context → Verdict → List Difference → List Difference
+differences_by d k c (fails r) rest = rest
+differences_by d k c (fires b es) rest = clause_differences d k c es
+
+-- at the first clause that fires
+abbrev pub firing_differences : Dialect → List Clause → Context → List Difference
+firing_differences d [] c = []
+firing_differences d (k ∷ ks) c = differences_by d k c (verdict_of d k c) (firing_differences d ks c)
+
+-- of a setting in a context
+abbrev pub setting_differences : Setting → Context → List Difference
+setting_differences off c = []
+setting_differences plain c = []
+setting_differences (by s) c = firing_differences s.dialect s.clauses c
+
+-- where the process has the flag
+abbrev pub differences_if : Bool → List Difference → List Difference
+differences_if b xs = if b then xs else []
+
+-- all that a node does otherwise as the event is evaluated
+abbrev pub evaluation_differences : Session → Event → List Difference
+evaluation_differences s (sent p t to alive) = differences_if (flags_at s p send_flag) (setting_differences s.sending (context s p (pid to ∷ t ∷ []) None))
+evaluation_differences s (received p sender t) = differences_if (flags_at s p receive_flag) (setting_differences s.receiving (context s p (word "nonode@nohost" ∷ pid sender ∷ t ∷ []) None))
+evaluation_differences s (called p c) = differences_if (flags_at s p call_flag) (setting_differences (setting_for s.functions c) (context s p c.args c.caller))
+evaluation_differences s e = []
+
+-- one of the first so many depths has a mark for exceptions
+unfoldable pub has_mark_below : Session → (p : ℕ) → ℕ → Bool
+has_mark_below s p zero = false
+has_mark_below s p (suc n) = is_marked_for_exceptions s p n || has_mark_below s p n
+
+-- what a node does otherwise at an event without a body
+abbrev pub event_difference : Session → Event → Option Difference
+event_difference s (returned p f t depth) = difference_where (is_marked s p depth && (flags_at s p call_flag && flags_at s p silent_flag)) reports_end
+event_difference s (raised p f c t depth) = difference_where (is_marked_for_exceptions s p depth && (flags_at s p call_flag && flags_at s p silent_flag)) reports_end
+event_difference s (exited p r) = difference_where (flags_at s p call_flag && has_mark_below s p (suc FRAMES)) reports_exceptions
+event_difference s (spawned child parent f args) =
+    difference_where (flags_at s parent set_on_first_spawn && has_spawn_flag (flags_at (inherit s (spawned child parent f args)) child)) clears_spawn_flags
+event_difference s (getting_linked p linker) = difference_where (not (is_same_for s (inherit s (getting_linked p linker)) linker p)) gives_no_flags
+event_difference s e = None
+
+-- ---- its text
+
+-- what a node does
+abbrev pub difference_text : Difference → List ℕ
+difference_text node_ends = codes "this send ends the node with a segmentation fault, since the body clears the sender's last flag"
+difference_text finds_no_tracer = codes "the tracer is gone with the last flag, and a later change of this body clears all flags of its process"
+difference_text suppresses_message = codes "no message: silent"
+difference_text leaves_no_mark = codes "no mark: the call is silent"
+difference_text reports_end = codes "a message, unless the call was silent"
+difference_text reports_exceptions = codes "exception_from first, of each call that is marked for exceptions"
+difference_text clears_spawn_flags = codes "the child has neither set_on_spawn nor set_on_first_spawn"
+difference_text gives_no_flags = codes "a link gives no flags"
+difference_text evaluates_from_right = codes "arguments and elements of tuples are evaluated from the right, and two of them have actions here"
+
+-- of a node
+abbrev pub on_node : Difference → List ℕ
+on_node x = codes "on a node: " ++ difference_text x

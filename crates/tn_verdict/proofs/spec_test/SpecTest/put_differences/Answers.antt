@@ -1,0 +1,37 @@
+use Rattle.std.proofs.Common.{◌≡◌, ◌∙◌, ◌++◌, [], map, sym, ap, append-nil}
+use Rattle.def_explain.specs.Differences.{evaluates_from_right, one_shows_order}
+use Rattle.tn_spec.specs.Views.{dialect_of, clause_seen}
+use Rattle.tn_action.specs.Views.{context_seen, effect_seen}
+use Rattle.tn_text.proofs.Growth.{grows_on}
+use Rattle.tn_verdict.specs.Differences.{difference_line_where}
+use Rattle.tn_verdict.specs.SpecTests.{line_of_difference}
+use Rattle.tn_verdict.specs.declared.differences.Difference.TheVariants.{NodeEnds, FindsNoTracer, SuppressesMessage, LeavesNoMark}
+use Rattle.tn_verdict.proofs.ClauseTexts.{each_where}
+use Rattle.tn_verdict.proofs.Pieces.{after_ok, read_as}
+use Rattle.tn_verdict.proofs.spec_test.SpecTest.put_differences.Goals as goal
+
+pub returns-clause-ok : goal.returns-clause-ok
+returns-clause-ok g c =
+    let self = c.args.self.now in
+    let effects = c.args.effects.now in
+    let k = clause_seen c.args.clause.now in
+    let o = c.args.out.now.items in
+    let done = c.put_body_difference-4.result in
+    let last = c.put_body_difference-4.new.out.items in
+    let zero = difference_line_where (one_shows_order k.body) evaluates_from_right in
+    let one = line_of_difference self effects NodeEnds in
+    let two = line_of_difference self effects FindsNoTracer in
+    let three = line_of_difference self effects SuppressesMessage in
+    let four = line_of_difference self effects LeavesNoMark in
+    let first : c.put_where_differs.new.out.items ≡ o ++ zero = c.in_ok-put_where_differs.ensures.ok ∙ ap (λ b. o ++ difference_line_where b evaluates_from_right) c.order_differs.ensures in
+    read_as done o _ _ last (sym (each_where (dialect_of self.spec.now.dialect) k (context_seen self.context.now) (map effect_seen effects)))
+    (after_ok done o zero (one ++ (two ++ (three ++ (four ++ [])))) c.put_where_differs.new.out.items last first
+    (after_ok done c.put_where_differs.new.out.items one (two ++ (three ++ (four ++ []))) c.put_body_difference.new.out.items last c.in_ok-put_body_difference.ensures.ok
+    (after_ok done c.put_body_difference.new.out.items two (three ++ (four ++ [])) c.put_body_difference-2.new.out.items last c.in_ok-put_body_difference-2.ensures.ok
+    (after_ok done c.put_body_difference-2.new.out.items three (four ++ []) c.put_body_difference-3.new.out.items last c.in_ok-put_body_difference-3.ensures.ok
+    (read_as done c.put_body_difference-3.new.out.items four (four ++ []) last (sym (append-nil four)) c.put_body_difference-4.ensures.ok)))))
+
+pub returns-clause-grows : goal.returns-clause-grows
+returns-clause-grows g c =
+    grows_on c.put_where_differs.ensures.grows
+    (grows_on (grows_on c.put_body_difference.ensures.grows c.put_body_difference-2.ensures.grows) (grows_on c.put_body_difference-3.ensures.grows c.put_body_difference-4.ensures.grows))
