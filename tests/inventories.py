@@ -163,6 +163,13 @@ def node_differences():
         yield f"the words of {name}", words.get(name) == line, words.get(name)
         yield f"the line of {name} on the page of differences", first in lines, first
         yield f"the row of {name} in the manual", f"| `on a node: {line}` |" in manual, line
+    source = (TOP / "bench" / "witness" / "differences.py").read_text()
+    classes = re.findall(r'^class \w+\(\w+\):\n    """([^.:"]+)(?:(?!^class ).*\n)*?    lines = \((.*)\)$', source, re.M)
+    yield "the classes of bench/node that have lines", len(classes) == source.count("\n    lines = (\""), classes
+    for first, lines in classes:
+        for said in re.findall(r'"([^"]+)"', lines):
+            good = any(line.startswith(said) and title == first for _, line, title, *_ in DIFFERENCES)
+            yield f"the line that bench/node expects: {said}", good, first
 
 
 def sizes():
