@@ -29,10 +29,10 @@ _tracenode() {
                 ;;
         esac
         case $command in
-            replay) words='--picks --picks-file -h --help' ;;
-            round) words='--limit -h --help' ;;
-            workers) words='--n --turns -h --help' ;;
-            explain) words='--picks --picks-file --session --move -h --help' ;;
+            replay) words='--picks --picks-file --quiet -h --help' ;;
+            round) words='--limit --quiet -h --help' ;;
+            workers) words='--n --turns --quiet -h --help' ;;
+            explain) words='--picks --picks-file --session --move --node -h --help' ;;
             spec) words='--list --for --me --caller -h --help' ;;
             help) words='replay round workers explain spec' ;;
         esac

@@ -4,7 +4,8 @@ import pathlib
 import subprocess
 import tempfile
 
-from harness import EMPTY, PROGRAM, SEND_HI, SEND_HI_OUTPUT, SEND_HI_PICKS, START, TEXT_BYTES, TOP, check, run, wants
+from harness import EMPTY, EXAMPLES, PROGRAM, SEND_HI, SEND_HI_OUTPUT, SEND_HI_PICKS, START, TEXT_BYTES, TOP
+from harness import check, run, wants
 from inventories import said_version
 
 
@@ -25,7 +26,17 @@ exit 7
     explain = ["explain", "--picks", "0", "--session", "s1", "--move", "2"]
     words = {
         "tn_plain": (["replay", "--picks", "0 0"], ["replay", "--picks", ""], ["round"], limits["1"], limits["65536"]),
-        "tn_cli": (["--help"], ["replay"], limits["65537"], limits["01"], limits["ten"], ["workers", "--n", "2"], explain),
+        "tn_cli": (
+            ["--help"],
+            ["replay"],
+            limits["65537"],
+            limits["01"],
+            limits["ten"],
+            ["workers", "--n", "2"],
+            explain,
+            ["replay", "--picks", "0", "--quiet"],
+            ["round", "--quiet"],
+        ),
     }
     with tempfile.TemporaryDirectory() as folder:
         top = pathlib.Path(folder)
@@ -53,6 +64,10 @@ exit 7
         ran = run(line, command=(str(top / "tracenode"),), env=path, cwd=folder)
         wanted = f"tn_cli explain --session s1 {there}/a.term --picks-file={there}/b --move 2\n"
         check("files of an explanation where nothing is built", ran.stdout.decode() == wanted, ran)
+        line = ["explain", "--node", "a.term", "--picks-file=b"]
+        ran = run(line, command=(str(top / "tracenode"),), env=path, cwd=folder)
+        wanted = f"tn_cli explain --node {there}/a.term --picks-file={there}/b\n"
+        check("files after a flag where nothing is built", ran.stdout.decode() == wanted, ran)
         line = ["round", "--limit", "5", "/x/a.term"]
         ran = run(line, command=(str(top / "tracenode"),), env=path, cwd=folder)
         check("a whole path where nothing is built", ran.stdout == b"tn_cli round --limit 5 /x/a.term\n", ran)
@@ -130,6 +145,11 @@ def command_lines():
         "no turns": ["workers", "--n", "2", "--turns", "0"],
         "65537 turns": ["workers", "--n", "2", "--turns", "65537"],
         "turns by letters": ["workers", "--n", "2", "--turns", "many"],
+        "a quiet explanation": ["explain", "--picks", "0", "--quiet"],
+        "a flag with a value": ["replay", "--picks", "0", "--quiet=true"],
+        "a flag twice": ["replay", "--picks", "0", "--quiet", "--quiet"],
+        "a replay with the flag of explanations": ["replay", "--picks", "0", "--node"],
+        "a round with the flag of explanations": ["round", "--node"],
     }
     for name, words in wrong.items():
         ran = run(words, SEND_HI)
@@ -142,6 +162,56 @@ def command_lines():
     for text in ("-1", "--help", "0 00", "0  0", " 0", "4294967296", "x"):
         wants(f"picks {text!r}", run(["replay", "--picks", text], SEND_HI), 2, bad_picks)
     wants("the greatest pick", run(["replay", "--picks", "4294967295"]), 0, EMPTY)
+    either = b"<--picks <TEXT>|--picks-file <FILE>>"
+    for command in ("replay", "explain"):
+        ran = run([command])
+        usage = f"Usage: tracenode {command} ".encode() + either + b" [SCRIPT]\n"
+        check(f"{command} without picks names both options of picks", usage in ran.stderr, ran)
+        check(f"the help of {command} names both options of picks", either in run([command, "--help"]).stdout)
+    spellings_of_processes()
+    spellings_of_sessions()
+    quiet_runs()
+
+
+def spellings_of_processes():
+    """The process of a trial, by its number and by its pid; what is neither is refused, with what is expected."""
+    trial = ["spec", "--list", "[]", "[{'_',[],[{message,{self}}]}]"]
+    for number in ("0", "101", "0101", "4294967295"):
+        by_number, by_pid = (run([*trial, "--me", text]) for text in (number, f"<0.{number}.0>"))
+        told = f"clause 1 fires: message <0.{int(number)}.0>\n=> a message that ends in <0.{int(number)}.0>\n"
+        wants(f"the process {number}", by_number, 0, told.encode())
+        wants(f"the process <0.{number}.0>", by_pid, 0, told.encode())
+    outer = ("<0.1.1>", "<1.1.0>", "<0.1.0", "0.1.0>", "<0.0>", "<1>", "<0.<0.1.0>.0>", " <0.1.0>", "<0.1.0>\n")
+    for text in ("x", "4294967296", "<0.4294967296.0>", "<0..0>", "<0.+1.0>", "<0.-1.0>", *outer):
+        told = f"error: invalid value '{text}' for '--me <N>': a number or a pid <0.N.0> is expected\n\n"
+        wanted = told.encode() + b"For more information, try '--help'.\n"
+        wants(f"the process {text!r}", run([*trial, "--me", text]), 2, b"", wanted)
+
+
+def spellings_of_sessions():
+    """The session of an explanation, by its name bare and in quotes; else the quotes are of its name."""
+    two = (EXAMPLES / "two_sessions.term").read_bytes()
+    explain = ["explain", "--picks", "0 0 0 0 100 0 100", "--session"]
+    for name in ("s1", "s2"):
+        bare = run([*explain, name], two)
+        wants(f"the session '{name}'", run([*explain, f"'{name}'"], two), 0, bare.stdout)
+    blank = two.replace(b"s1", b"'a b'")
+    bare = run([*explain, "a b"], blank)
+    check("a session with a blank", bare.returncode == 0 and b"  'a b': " in bare.stdout, bare)
+    wants("a session with a blank in quotes", run([*explain, "'a b'"], blank), 0, bare.stdout)
+    for text in ("'s1", "s1'", "'", "''s1''", "'s\\1'", "'s'1'", '"s1"'):
+        told = f"error: the script creates no session {text}\n".encode()
+        wants(f"the session {text}", run([*explain, text], two), 2, b"", told)
+
+
+def quiet_runs():
+    """What a quiet run prints on standard output, and how it ends, are those of the run with notes."""
+    for words in (SEND_HI_PICKS, ["replay", "--picks", "0 x"], ["round"], ["round", "--limit", "2"]):
+        ran, quiet = run(words, SEND_HI), run([*words, "--quiet"], SEND_HI)
+        seen = (quiet.returncode, quiet.stdout) == (ran.returncode, ran.stdout)
+        check(f"a quiet {' '.join(words)}", seen and (quiet.returncode or not quiet.stderr), (ran, quiet))
+    ran = run(["workers", "--n", "1", "--quiet"], SEND_HI)
+    check("a quiet run by workers", ran.returncode == 0 and ran.stdout.startswith(b"== session s1") and not ran.stderr, ran)
 
 
 def starts():

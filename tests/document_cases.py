@@ -1,15 +1,20 @@
 """Cases of documents: the man page, the completions, and the inventories."""
+import os
 import pathlib
+import pty
 import re
+import select
 import shlex
+import shutil
 import subprocess
 import tempfile
+import time
 
 import contracts
 import inventories
 import names as source_names
 import promises as promise_tables
-from harness import TOP, check, run
+from harness import SECONDS, TOP, check, run
 
 # The options of ./tracenode, which are not the program's.
 STARTS = {"--prove", "--install"}
@@ -31,6 +36,23 @@ def documents():
         check(f"the options of {file.name}", named == options, (named, options))
         missing = [word for word in commands if not re.search(rf"\b{word}\b", text)]
         check(f"the commands of {file.name}", not missing, missing)
+    for (command,) in COMMANDS:
+        wanted = set(re.findall(r"--[a-z-]+", helps[(command,)]))
+        for shell, named in completed_options(command).items():
+            check(f"the options of {command} for {shell}", named == wanted, (named, wanted))
+
+
+def completed_options(command):
+    """The options that each shell's completion has for a command, as its file lists them."""
+    zsh = (TOP / "completions" / "_tracenode").read_text()
+    part = re.search(rf"^        {command}\)(.*?);;", zsh, re.M | re.S)
+    fish = (TOP / "completions" / "tracenode.fish").read_text()
+    condition = rf"(?: -n '__fish_seen_subcommand_from {command}')?"
+    return {
+        "bash": {word for word in completed(("tracenode", command, "--"), TOP) if word.startswith("--")},
+        "zsh": set(re.findall(r"'(--[a-z-]+)\[", part[1] if part else "")),
+        "fish": {f"--{name}" for name in re.findall(rf"^complete -c tracenode{condition} -l ([a-z-]+)", fish, re.M)},
+    }
 
 
 def completed(words, folder):
@@ -44,8 +66,74 @@ COMP_WORDS=({quoted}); COMP_CWORD={len(words) - 1}; _tracenode; printf '%s\\n' "
     return sorted(ran.stdout.decode().splitlines())
 
 
+# What the completions for zsh and fish make of the last word of a line.
+OF_OTHER_SHELLS = (
+    ("tracenode expl", "explain"),
+    ("tracenode --ver", "--version"),
+    ("tracenode explain --no", "--node"),
+    ("tracenode explain --q", None),
+    ("tracenode replay --q", "--quiet"),
+    ("tracenode round --q", "--quiet"),
+    ("tracenode workers --q", "--quiet"),
+    ("tracenode workers --no", None),
+    ("tracenode spec --for s", "send"),
+    ("tracenode replay --picks-file scripts/twi", "scripts/twice.term"),
+)
+
+
+def completed_by_zsh(line, folder):
+    """What zsh makes of the last word of a line in this folder: it is typed, at a terminal, and completed."""
+    with tempfile.TemporaryDirectory() as home:
+        out = pathlib.Path(home) / "line"
+        place = shlex.quote(str(TOP / "completions"))
+        (pathlib.Path(home) / ".zshrc").write_text(f"""fpath=({place} $fpath); autoload -Uz compinit; compinit -D -u
+complete_and_end() {{ zle complete-word; print -r -- "$BUFFER" >{shlex.quote(str(out))}; exit }}
+zle -N complete_and_end; bindkey -e; bindkey '^T' complete_and_end
+""")
+        terminal, end = pty.openpty()
+        told, last = b"", time.monotonic() + SECONDS
+        how = {"stdin": end, "stdout": end, "stderr": end, "start_new_session": True}
+        env = dict(os.environ, ZDOTDIR=home, TERM="dumb")
+        with subprocess.Popen(["zsh", "-d", "-i"], cwd=folder, env=env, **how) as process:
+            os.close(end)
+            os.write(terminal, line.encode() + b"\x14")
+            while process.poll() is None and time.monotonic() < last:
+                if select.select([terminal], [], [], 0.1)[0]:
+                    try:
+                        told += os.read(terminal, 4096)
+                    except OSError:
+                        break
+            if time.monotonic() >= last:
+                process.kill()
+        os.close(terminal)
+        words = out.read_text().split() if out.exists() else [told.decode(errors="replace")]
+    return None if words == line.split() else words[-1]
+
+
+def completed_by_fish(line, folder):
+    """What fish makes of the last word of a line in this folder; all that it offers, where that isn't one word."""
+    place = shlex.quote(str(TOP / "completions" / "tracenode.fish"))
+    script = f"source {place}; complete -C {shlex.quote(line)}"
+    words = ["fish", "--no-config", "-c", script]
+    ran = subprocess.run(words, cwd=folder, capture_output=True, timeout=SECONDS, check=False)
+    check(f"the completion by fish of {line} ends well", not ran.stderr, ran)
+    offers = [offer.partition("\t")[0] for offer in ran.stdout.decode().splitlines()]
+    return offers[0] if len(offers) == 1 else offers or None
+
+
+def of_other_shells(folder):
+    """The completions for zsh and fish, by these shells; one that isn't installed has its cases said to be left out."""
+    for shell, complete in (("zsh", completed_by_zsh), ("fish", completed_by_fish)):
+        if shutil.which(shell) is None:
+            print(f"NOT RUN {len(OF_OTHER_SHELLS)} cases of the completion for {shell}: {shell} is not installed")
+            continue
+        for line, wanted in OF_OTHER_SHELLS:
+            seen = complete(line, folder)
+            check(f"the completion by {shell} of {line}", seen == wanted, seen)
+
+
 def completions():
-    """The completion for bash: commands, options, folders, and names with blanks."""
+    """The completions: commands, options, folders, and names with blanks, for bash; for the other shells where they are."""
     with tempfile.TemporaryDirectory() as folder:
         inner = pathlib.Path(folder) / "scripts"
         inner.mkdir()
@@ -58,6 +146,10 @@ def completions():
             (("tracenode", "--p"), [""]),
             (("./tracenode", "--install", "scr"), ["scripts"]),
             (("tracenode", "explain", "--m"), ["--move"]),
+            (("tracenode", "explain", "--n"), ["--node"]),
+            (("tracenode", "explain", "--q"), [""]),
+            (("tracenode", "replay", "--q"), ["--quiet"]),
+            (("tracenode", "workers", "--quiet", "scr"), ["scripts"]),
             (("tracenode", "spec", "--for", "s"), ["send"]),
             (("tracenode", "replay", "scr"), ["scripts"]),
             (("tracenode", "replay", "scripts/tw"), ["scripts/twice.term", "scripts/two words.term"]),
@@ -67,6 +159,7 @@ def completions():
         for words, wanted in rows:
             seen = completed(words, folder)
             check(f"the completion of {' '.join(words)}", seen == wanted, seen)
+        of_other_shells(folder)
 
 
 def promises():

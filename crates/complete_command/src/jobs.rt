@@ -8,7 +8,7 @@ ghost use Rattle.complete_command.specs.Jobs.{FlushAlike, GainAlike, RemainAlike
 use std::alloc::Allocator;
 use std::io::{Read, Write};
 use tn_command::JobEnd;
-use tn_explain::{ExplainOutcome, ExplainRequest};
+use tn_explain::{ExplainOutcome, ExplainRequest, RunAndNote, RunEnd};
 use tn_run::{DirectJob, Outcome, RunFault, Schedule};
 use tn_text::Watched;
 
@@ -58,6 +58,25 @@ pub fn run<A: Allocator + Copy, R: Read, W: Write>(
     ensures written { Knows R.remaining one.old → GainAlike W.contents out.old out.new same_out.new result.0 result.1 }
 {
     perform_over(alloc, schedule, one, other, out, same_out)
+}
+
+/// `tn_command::perform_over` has one answer of a run with its note, as said of any job that has one.
+pub fn run_and_note<A: Allocator + Copy, R: Read, W: Write>(
+    alloc: A,
+    job: &RunAndNote<'_>,
+    one: &mut Watched<R>,
+    other: &mut Watched<R>,
+    out: &mut Watched<W>,
+    same_out: &mut Watched<W>,
+) -> (JobEnd<RunEnd, RunFault>, JobEnd<RunEnd, RunFault>)
+    requires reported { TellAlike R.remaining one.old other.old }
+    requires failed { has_failed one.old ≡ has_failed other.old }
+    requires outs { SeenAlike W.contents out.old same_out.old }
+    ensures outcome { Knows R.remaining one.old → AnswerAlike result.0 result.1 }
+    ensures status { Knows R.remaining one.old → HaveOneStatus result.0 result.1 }
+    ensures written { Knows R.remaining one.old → GainAlike W.contents out.old out.new same_out.new result.0 result.1 }
+{
+    perform_over(alloc, job, one, other, out, same_out)
 }
 
 /// `tn_command::perform_over` has one answer of a run that is explained, as said of any job that has one.

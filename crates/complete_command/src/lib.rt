@@ -2,8 +2,8 @@
 //! more than the contract, so its proof shows that the contract leaves one answer.
 //!
 //! Depends on tn_command, and on complete_code, complete_workers and complete_explain for why a question, a run
-//! and an explanation have one answer. That a job has one is a premise of `jobs::perform_over`; `jobs::run` and
-//! `jobs::explain` show it of the jobs that a command does. Promises nothing to other crates.
+//! and an explanation have one answer. That a job has one is a premise of `jobs::perform_over`; `jobs::run`,
+//! `jobs::run_and_note` and `jobs::explain` show it of the jobs that a command does. Promises nothing to other crates.
 #![tactic(auto)]
 
 mod jobs;

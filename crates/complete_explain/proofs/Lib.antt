@@ -1,3 +1,4 @@
 pub mod OneExplanation
 pub mod Both
 pub mod Fronts
+pub mod OneNote

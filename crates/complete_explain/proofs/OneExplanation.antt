@@ -1,5 +1,5 @@
 -- The bytes of a script, the picks and the filter have one explanation.
-use Rattle.std.proofs.Common.{◌≡◌, ◌∙◌, ◌⊎◌, ℕ, List, Option, Some, None, refl, sym, ap, subst}
+use Rattle.std.proofs.Common.{◌≡◌, ◌≢◌, ◌∙◌, ◌⊎◌, ℕ, Bool, true, false, ◌||◌, List, [], Option, Some, None, is_some, refl, sym, ap, subst}
 use Rattle.def_term.specs.Names.{Name}
 use Rattle.def_script.specs.Program.{Program}
 use Rattle.def_script.proofs.OneScript.{one_program}
@@ -10,11 +10,11 @@ use Rattle.tn_run.specs.Answers.{by_picks, HasPicks, run_for}
 use Rattle.tn_run.specs.Jobs.{Gives, OfScript}
 use Rattle.tn_run.specs.declared.outcome.Outcome.TheVariants as run
 use Rattle.tn_refusal.specs.declared.refusal.Refusal.{Refusal}
-use Rattle.tn_explain.specs.Accounts.{HasAskedSession, LacksAskedSession, HasAskedMove, LacksAskedMove, IsAnswer, IsSpelledAnswer, explain_by}
+use Rattle.tn_explain.specs.Accounts.{HasAskedSession, LacksAskedSession, asks_for_moves, IsAnswer, IsSpelledAnswer, explain_by}
 use Rattle.tn_explain.specs.Filters.{filter_seen}
 use Rattle.tn_explain.specs.declared.request.ExplainRequest.{ExplainRequest}
 use Rattle.tn_explain.specs.declared.request.ExplainOutcome.{ExplainOutcome}
-use Rattle.tn_explain.specs.declared.request.ExplainOutcome.TheVariants.{Account, Refused, NoSession, NoMove}
+use Rattle.tn_explain.specs.declared.request.ExplainOutcome.TheVariants.{Account, Refused, NoSession, NoMove, NoDifference}
 use Rattle.complete_workers.proofs.OneRun.{one_run, reads_or_not}
 
 -- ---- of one program and some picks
@@ -23,23 +23,45 @@ no_session : (n : Option Name) (p : Program) → HasAskedSession n p → LacksAs
 no_session None p h i = i
 no_session (Some n) p h i = cc
 
-no_move : (m : Option ℕ) (x y : List ℕ) → x ≡ y → HasAskedMove m x → LacksAskedMove m y → ⊥
-no_move None x y e h i = i
-no_move (Some m) x y e h i = h (e ∙ i)
+-- an account with a line isn't empty
+no_line : (b : Bool) (x y : List ℕ) → b ≡ true → x ≡ y → (b ≡ true → x ≢ []) → y ≡ [] → ⊥
+no_line b x y asked same h none = h asked (same ∙ none)
+
+-- a move's number asks for a line, and so does a node
+number_asks : (a : Filter) → is_some a.move ≡ true → asks_for_moves a ≡ true
+number_asks a h = go a.node
+  where
+    go : (b : Bool) → (b || is_some a.move) ≡ true
+    go true = refl
+    go false = h
+
+node_asks : (a : Filter) → a.node ≡ true → asks_for_moves a ≡ true
+node_asks a h = ap (λ b. b || is_some a.move) h
+
+not_both_ways : (b : Bool) → b ≡ false → b ≡ true → ⊥
+not_both_ways b h i = cc (sym h ∙ i)
 
 one_answer : (p : Program) (picks : List ℕ) (a : Filter) (o u : ExplainOutcome) (x y : List ℕ) → IsAnswer p picks a o x → IsAnswer p picks a u y → (o ≡ u) × (x ≡ y)
 one_answer p picks a Account Account x y h i = (refl, h.2 ∙ sym i.2)
 one_answer p picks a Account NoSession x y h i = absurd (no_session a.session p h.0 i.0)
-one_answer p picks a Account NoMove x y h i = absurd (no_move a.move x (account_text a p picks) h.2 h.1 i.1)
+one_answer p picks a Account NoMove x y h i = absurd (no_line (asks_for_moves a) x (account_text a p picks) (number_asks a i.2) h.2 h.1 i.3)
+one_answer p picks a Account NoDifference x y h i = absurd (no_line (asks_for_moves a) x (account_text a p picks) (node_asks a i.1) h.2 h.1 i.2)
 one_answer p picks a Account (Refused s) x y h i = absurd i
 one_answer p picks a NoSession Account x y h i = absurd (no_session a.session p i.0 h.0)
 one_answer p picks a NoSession NoSession x y h i = (refl, h.1 ∙ sym i.1)
 one_answer p picks a NoSession NoMove x y h i = absurd (no_session a.session p i.0 h.0)
+one_answer p picks a NoSession NoDifference x y h i = absurd (no_session a.session p i.0 h.0)
 one_answer p picks a NoSession (Refused s) x y h i = absurd i
-one_answer p picks a NoMove Account x y h i = absurd (no_move a.move y (account_text a p picks) i.2 i.1 h.1)
+one_answer p picks a NoMove Account x y h i = absurd (no_line (asks_for_moves a) y (account_text a p picks) (number_asks a h.2) i.2 i.1 h.3)
 one_answer p picks a NoMove NoSession x y h i = absurd (no_session a.session p h.0 i.0)
-one_answer p picks a NoMove NoMove x y h i = (refl, h.2 ∙ sym i.2)
+one_answer p picks a NoMove NoMove x y h i = (refl, h.4 ∙ sym i.4)
+one_answer p picks a NoMove NoDifference x y h i = absurd (not_both_ways a.node h.1 i.1)
 one_answer p picks a NoMove (Refused s) x y h i = absurd i
+one_answer p picks a NoDifference Account x y h i = absurd (no_line (asks_for_moves a) y (account_text a p picks) (node_asks a h.1) i.2 i.1 h.2)
+one_answer p picks a NoDifference NoSession x y h i = absurd (no_session a.session p h.0 i.0)
+one_answer p picks a NoDifference NoMove x y h i = absurd (not_both_ways a.node i.1 h.1)
+one_answer p picks a NoDifference NoDifference x y h i = (refl, h.3 ∙ sym i.3)
+one_answer p picks a NoDifference (Refused s) x y h i = absurd i
 one_answer p picks a (Refused r) u x y h i = absurd h
 
 -- ---- of a text
@@ -74,18 +96,27 @@ module _ (bytes : List ℕ) (q : ExplainRequest) where
   one_explanation (Refused r) Account x y h i = absurd (not_refused Account r y x i h)
   one_explanation (Refused r) NoSession x y h i = absurd (not_refused NoSession r y x i h)
   one_explanation (Refused r) NoMove x y h i = absurd (not_refused NoMove r y x i h)
+  one_explanation (Refused r) NoDifference x y h i = absurd (not_refused NoDifference r y x i h)
   one_explanation Account (Refused s) x y h i = absurd (not_refused Account s x y h i)
   one_explanation NoSession (Refused s) x y h i = absurd (not_refused NoSession s x y h i)
   one_explanation NoMove (Refused s) x y h i = absurd (not_refused NoMove s x y h i)
+  one_explanation NoDifference (Refused s) x y h i = absurd (not_refused NoDifference s x y h i)
   one_explanation Account Account x y h i = same_answer Account Account x y h i
   one_explanation Account NoSession x y h i = same_answer Account NoSession x y h i
   one_explanation Account NoMove x y h i = same_answer Account NoMove x y h i
+  one_explanation Account NoDifference x y h i = same_answer Account NoDifference x y h i
   one_explanation NoSession Account x y h i = same_answer NoSession Account x y h i
   one_explanation NoSession NoSession x y h i = same_answer NoSession NoSession x y h i
   one_explanation NoSession NoMove x y h i = same_answer NoSession NoMove x y h i
+  one_explanation NoSession NoDifference x y h i = same_answer NoSession NoDifference x y h i
   one_explanation NoMove Account x y h i = same_answer NoMove Account x y h i
   one_explanation NoMove NoSession x y h i = same_answer NoMove NoSession x y h i
   one_explanation NoMove NoMove x y h i = same_answer NoMove NoMove x y h i
+  one_explanation NoMove NoDifference x y h i = same_answer NoMove NoDifference x y h i
+  one_explanation NoDifference Account x y h i = same_answer NoDifference Account x y h i
+  one_explanation NoDifference NoSession x y h i = same_answer NoDifference NoSession x y h i
+  one_explanation NoDifference NoMove x y h i = same_answer NoDifference NoMove x y h i
+  one_explanation NoDifference NoDifference x y h i = same_answer NoDifference NoDifference x y h i
 
   -- it has picks, or there are none
   pub explains_or_not : (o : ExplainOutcome) (x : List ℕ) → Gives (explain_by q) bytes o x → HasPicks (by_picks q.picks.now) ⊎ (HasPicks (by_picks q.picks.now) → ⊥)
@@ -93,3 +124,4 @@ module _ (bytes : List ℕ) (q : ExplainRequest) where
   explains_or_not Account x h = reads_or_not (by_picks q.picks.now) bytes run.Listed (program_output h.program h.output.picks) (listing_of Account x h)
   explains_or_not NoSession x h = reads_or_not (by_picks q.picks.now) bytes run.Listed (program_output h.program h.output.picks) (listing_of NoSession x h)
   explains_or_not NoMove x h = reads_or_not (by_picks q.picks.now) bytes run.Listed (program_output h.program h.output.picks) (listing_of NoMove x h)
+  explains_or_not NoDifference x h = reads_or_not (by_picks q.picks.now) bytes run.Listed (program_output h.program h.output.picks) (listing_of NoDifference x h)

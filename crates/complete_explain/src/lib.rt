@@ -9,5 +9,6 @@
 mod account;
 mod job;
 mod lines;
+mod notes;
 mod places;
 mod refusals;

@@ -14,5 +14,12 @@ mod RunRows
 pub mod AccountPicks
 mod RunMessages
 mod Differences
-mod DifferenceLines
+pub mod DifferenceLines
 mod DifferenceRows
+mod NodeBodies
+mod NodeSessions
+pub mod NodeCommands
+mod NodeMoves
+mod ReasonRows
+pub mod SpecReasons
+pub mod CommandReasons

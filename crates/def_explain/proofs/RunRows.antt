@@ -1,22 +1,25 @@
 -- Worked rows: the accounts of small runs.
-use Rattle.std.proofs.Common.{◌≡◌, [], ◌∷◌, Some, None, codes, refl}
+use Rattle.std.proofs.Common.{◌≡◌, true, false, List, [], ◌∷◌, Some, None, codes, refl}
+use Prim.Native.String.{String}
 use Rattle.std.specs.Fmt.{digits}
 use Rattle.def_term.specs.Tree.{pid}
 use Rattle.def_term.specs.Names.{word}
 use Rattle.def_term.specs.Text.{is_written_bare}
 use Rattle.def_script.specs.Program.{error, Program, send, catch, give_back, raise}
-use Rattle.def_run.proofs.Samples.{number, braces, brackets, function, entry, call_named, spawns, program, creates, sets, mfa_of, sets_function, lines}
+use Rattle.def_run.proofs.Samples.{number, braces, brackets, function, entry, call_named, spawns, program, creates, sets, mfa_of, sets_function, sets_send, lines}
 use Rattle.def_explain.specs.Differences.{has_mark_below}
+use Rattle.def_explain.specs.NodeMoves.{node_note}
+use Rattle.def_explain.specs.NodeCommands.{can_differ}
 use Rattle.def_explain.specs.RunTexts.{Filter, account_text}
 
 abbrev everything : Filter
-everything = record { session = None; move = None }
+everything = record { session = None; move = None; node = false }
 
 abbrev only_session : Filter
-only_session = record { session = Some (codes "s2"); move = None }
+only_session = record { session = Some (codes "s2"); move = None; node = false }
 
 abbrev only_move : Filter
-only_move = record { session = None; move = Some 5 }
+only_move = record { session = None; move = Some 5; node = false }
 
 -- a send to another process, traced by one session and not by the other
 abbrev two_sends : Program
@@ -42,6 +45,38 @@ pub of_one_move : account_text only_move two_sends (0 ∷ 0 ∷ 0 ∷ 100 ∷ 10
     ≡ lines ("5 100 <0.100.0> send hi <0.101.0>" ∷ "  s1: => {trace,<0.100.0>,send,hi,<0.101.0>}" ∷ "  s2: no flag send" ∷ "5 100 <0.101.0> 'receive' hi" ∷ "  s1: no flag 'receive'" ∷ "  s2: no flag 'receive'" ∷ [])
 unfolding is_written_bare digits
 of_one_move = refl
+
+-- a send that takes the sender's last flag, and one that leaves a flag
+abbrev only_node : Filter
+only_node = record { session = None; move = None; node = true }
+
+abbrev taken_flag : List String → String → Program
+taken_flag flags name = program (function "go" [] (send (pid 101) (word "hi") ∷ []) ∷ function "peer" [] [] ∷ []) (entry "go" [] ∷ entry "peer" [] ∷ [])
+    (creates "s1" "t1" ∷ sets "s1" (word "all") flags ∷ sets_send "s1" (brackets (braces (word "_" ∷ brackets [] ∷ brackets (braces (word "disable_trace" ∷ word name ∷ []) ∷ []) ∷ []) ∷ [])) ∷ [])
+
+pub moves_of_a_node : account_text only_node (taken_flag ("send" ∷ []) "send") (0 ∷ 0 ∷ 0 ∷ 100 ∷ 100 ∷ [])
+    ≡ lines ("5 100 <0.100.0> send hi <0.101.0>" ∷ "  s1: clause 1 fires: <0.100.0> loses send"
+    ∷ "  s1: on a node: this send ends the node with a segmentation fault, since the body clears the sender's last flag"
+    ∷ "  s1: => {trace,<0.100.0>,send,hi,<0.101.0>}" ∷ "5 100 <0.101.0> 'receive' hi" ∷ "  s1: no flag 'receive'" ∷ [])
+unfolding is_written_bare digits
+moves_of_a_node = refl
+
+pub note_of_a_node : node_note (taken_flag ("send" ∷ []) "send") (0 ∷ 0 ∷ 0 ∷ 100 ∷ 100 ∷ []) ≡ Some (record { differing = 1; moves = 5 })
+note_of_a_node = refl
+
+pub no_moves_of_a_node : account_text only_node (taken_flag ("send" ∷ "call" ∷ []) "send") (0 ∷ 0 ∷ 0 ∷ 100 ∷ 100 ∷ []) ≡ []
+unfolding is_written_bare digits
+no_moves_of_a_node = refl
+
+pub no_note_of_a_node : node_note (taken_flag ("send" ∷ "call" ∷ []) "send") (0 ∷ 0 ∷ 0 ∷ 100 ∷ 100 ∷ []) ≡ None
+no_note_of_a_node = refl
+
+-- what a command can lead to: a body that clears a flag, and one that doesn't
+pub a_flag_can_go : can_differ (taken_flag ("send" ∷ "call" ∷ []) "send") ≡ true
+a_flag_can_go = refl
+
+pub no_flag_can_go : can_differ two_sends ≡ false
+no_flag_can_go = refl
 
 -- a child inherits, and its exit takes the flags away
 pub a_child_inherits : account_text everything (program (function "go" [] (spawns "kid" [] ∷ []) ∷ function "kid" [] [] ∷ []) (entry "go" [] ∷ [])

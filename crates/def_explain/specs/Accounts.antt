@@ -67,7 +67,7 @@ inheritance_lines s e = []
 
 -- ---- clauses
 
--- a clause that doesn't fire comes before those after it; beneath one that does there is what a node does otherwise
+-- a clause that doesn't fire comes before those after it; below one that does there is what a node does otherwise
 abbrev pub lines_by : ℕ → Dialect → Clause → Context → Verdict → List Line → List Line
 lines_by n d k c (fails r) behind = said (clause_text n (codes ": " ++ reason_text r)) ∷ behind
 lines_by n d k c (fires b es) behind = said (clause_text n (codes " fires" ++ effects_text es)) ∷ map differs (clause_differences d k c es)

@@ -1,4 +1,4 @@
--- Where a running node does otherwise than a session (own). OTP's documentation says nothing of it; each was measured on OTP 25 (erts 13.1.5).
+-- Where a running node does otherwise than a session (own), as measured on OTP 25 (erts 13.1.5). Of `silent` and `set_on_link` OTP's documentation says what the session does.
 -- Depends on match specifications and on the state of a session before an event.
 use Rattle.std.specs.Prelude.{◌≡◌, ◌≢◌, ◌≤◌, ℕ, zero, suc, ◌==◌, Bool, true, false, not, ◌&&◌, ◌||◌, ◌⊎◌, if◌then◌else◌, List, [], ◌∷◌, ◌++◌, filter, Option, Some, None, option_to_list, codes}
 use Rattle.std.specs.Bool.{⊤}

@@ -12,3 +12,9 @@ pub mod Verdicts
 pub mod RunLaws
 pub mod Runs
 pub mod RunTexts
+pub mod NodeMoves
+pub mod NodeCommands
+pub mod SpecReasons
+pub mod CommandReasons
+pub mod ReasonTexts
+pub mod ReasonLaws

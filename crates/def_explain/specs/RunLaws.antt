@@ -1,12 +1,17 @@
 -- What is promised of what the sessions make of a run (own).
--- Depends on listings, on the shapes of commands and on the text of an account.
-use Rattle.std.specs.Prelude.{◌≡◌, ◌≢◌, ◌⊎◌, ℕ, List, [], ◌∷◌, Some}
+-- Depends on listings, on the shapes of commands, on the text of an account and on what a running node does otherwise.
+use Rattle.std.specs.Prelude.{◌≡◌, ◌≢◌, ◌↔◌, ◌⊎◌, ℕ, true, false, List, [], ◌∷◌, Some}
+use Rattle.std.specs.List.{list_any}
 use Rattle.def_term.specs.Names.{Name}
 use Rattle.def_term.specs.Tree.{atom}
 use Rattle.def_script.specs.Program.{Command, create, session_of, Program}
 use Rattle.def_script.specs.Script.{creations}
 use Rattle.def_script.specs.Shapes.{name_in, command_in}
 use Rattle.def_run.specs.Listing.{messages}
+use Rattle.def_script.specs.Exports.{Exports}
+use Rattle.def_run.specs.History.{MoveHistory}
+use Rattle.def_explain.specs.NodeMoves.{MoveDiffers, move_differs, differing_moves}
+use Rattle.def_explain.specs.NodeCommands.{can_differ}
 use Rattle.def_explain.specs.Runs.{entries, reported_by}
 use Rattle.def_explain.specs.RunTexts.{command_term}
 
@@ -36,3 +41,11 @@ HasNames c = IsName (session_of c)
 -- the term of a command is read as that command
 abbrev pub CommandTermIsRead : Type 0
 CommandTermIsRead = (c : Command) → HasNames c → command_in (command_term c) ≡ Some c
+
+-- what is computed is whether a node does a move otherwise
+abbrev pub MoveDifferenceIsComputed : Type 0
+MoveDifferenceIsComputed = (o : Exports) (h : MoveHistory) → (move_differs o h ≡ true) ↔ MoveDiffers o h
+
+-- where no command can lead to one, a node does no move of any run otherwise
+abbrev pub NoCommandNoDifference : Type 0
+NoCommandNoDifference = (p : Program) (picks : List ℕ) → can_differ p ≡ false → list_any (λ b. b) (differing_moves p picks) ≡ false

@@ -1,12 +1,14 @@
-//! Why a session reports nothing of an event, why a clause of a specification doesn't fire, what a running node does
-//! otherwise, and what the sessions make of a run, move by move.
+//! Why a session reports nothing of an event, why a clause of a specification doesn't fire, why a command is refused,
+//! what a running node does otherwise, and what the sessions make of a run, move by move.
 //!
 //! Depends on the match specifications of `def_spec`, the sessions of `def_session` and the runs of `def_run`.
 //! Promises, as laws over the definitions: a session that is there has a cause exactly where it reports nothing of
 //! an event, and a clause a reason exactly where it doesn't fire, one at most, and it is what is computed; a head
-//! has one exactly where it doesn't match; a condition faults at a part of it exactly where it has no value; what a
-//! node is said to do otherwise is what is defined of it; the messages that a session reports in the account of a run
-//! are its listing's; and a command is written as a term that is read as it. There is no code.
+//! has one exactly where it doesn't match, and a specification exactly where it can't be read; a command that is
+//! refused has one, which says its reply; a condition faults at a part of it exactly where it has no value; what a
+//! node is said to do otherwise is what is defined of it, and it does no move otherwise where no command can lead
+//! to one; the messages that a session reports in the account of a run are its listing's; and a command is written
+//! as a term that is read as it. There is no code.
 #![tactic(auto)]
 
 ghost use Rattle.def_explain.specs.Laws.{ReasonWhereNotFired, ReasonIsOne, ReasonIsComputed};
@@ -18,6 +20,9 @@ ghost use Rattle.def_explain.specs.Laws.{BodyDifferenceIsComputed, EventDifferen
 ghost use Rattle.def_explain.specs.Laws.{OrderDifferenceIsComputed};
 ghost use Rattle.def_explain.specs.Laws.{CauseWhereNothingTold, CauseIsOne, CauseIsComputed};
 ghost use Rattle.def_explain.specs.RunLaws.{AccountTellsTheListing, CommandTermIsRead};
+ghost use Rattle.def_explain.specs.RunLaws.{MoveDifferenceIsComputed, NoCommandNoDifference};
+ghost use Rattle.def_explain.specs.ReasonLaws.{SpecFaultHasReason, SpecReasonIsComputed, CommandReasonIsComputed};
+ghost use Rattle.def_explain.specs.ReasonLaws.{ReplyIsOfReason, FaultHasReason, ZeroHasReason, RefusalChangesNothing};
 
 /// A clause has a reason exactly where it doesn't fire, and one at most, which is what is computed.
 pub fn a_clause_has_a_reason_or_fires()
@@ -88,4 +93,28 @@ pub fn an_account_tells_the_listing()
 /// A command is written as a term that is read as that command.
 pub fn a_command_is_written_as_it_is_read()
     ensures { CommandTermIsRead }
+{}
+
+/// A running node is said to do a move otherwise exactly where it does so in what a session makes of it; and no move of
+/// a run is such where no command can lead to one.
+pub fn a_move_differs_by_a_command()
+    ensures computed { MoveDifferenceIsComputed }
+    ensures none { NoCommandNoDifference }
+{}
+
+/// A term has a reason why it is no match specification exactly where it isn't read as one, of the fault that is
+/// answered; and it is what is computed.
+pub fn a_fault_of_a_specification_has_a_reason()
+    ensures exactly { SpecFaultHasReason }
+    ensures computed { SpecReasonIsComputed }
+{}
+
+/// A command that replies a fault, or a function command that replies 0, has a reason, which is what is computed; a
+/// command with a reason has its reply, and one that is refused changes nothing.
+pub fn a_refusal_has_a_reason()
+    ensures computed { CommandReasonIsComputed }
+    ensures reply { ReplyIsOfReason }
+    ensures fault { FaultHasReason }
+    ensures zero { ZeroHasReason }
+    ensures unchanged { RefusalChangesNothing }
 {}

@@ -1,16 +1,21 @@
 -- What the command line takes (own): its commands, and the arguments of each.
-use Rattle.std.specs.Prelude.{◌≡◌, ℕ, pos, List, [], ◌∷◌, Some, None, map, codes}
+use Rattle.std.specs.Prelude.{◌≡◌, ℕ, pos, List, [], ◌∷◌, Some, None, true, false, map, codes}
 use Rattle.clap.specs.declared.builder.arg.Arg.{Arg}
-use Rattle.clap.specs.declared.builder.action.ArgAction.TheVariants.{Set}
+use Rattle.clap.specs.declared.builder.arg_group.ArgGroup.{ArgGroup}
+use Rattle.clap.specs.declared.builder.action.ArgAction.TheVariants.{Set, SetTrue}
 use Rattle.clap.specs.declared.builder.value_parser.ValueParser.TheVariants.{Signed}
 use Rattle.clap.specs.declared.builder.command.Command.{Command}
 use Rattle.clap.specs.declared.builder.command.Command.TheViews.{out-Command}
-use Rattle.clap.specs.Facts.{args_of}
+use Rattle.clap.specs.Facts.{args_of, groups_of}
 use Rattle.clap.specs.Walk.{rule_of}
 
 -- the option `--NAME VALUE`
 abbrev pub IsOption : List ℕ → Arg → Type 0
 IsOption name a = ((rule_of a).id ≡ name) × ((rule_of a).long ≡ Some name) × ((rule_of a).action ≡ Some Set)
+
+-- the flag `--NAME`, which takes no value
+abbrev pub IsFlag : List ℕ → Arg → Type 0
+IsFlag name a = ((rule_of a).id ≡ name) × ((rule_of a).long ≡ Some name) × ((rule_of a).action ≡ Some SetTrue)
 
 -- a word without a name, which may be absent
 abbrev pub IsWord : List ℕ → Arg → Type 0
@@ -33,21 +38,39 @@ pub record IsCommand (name : List ℕ) (arguments : List (List ℕ)) (c : Comman
   pub called : (out-Command c).name.now ≡ name
   pub takes : argument_names c ≡ arguments
 
--- the arguments of a command that runs a script by picks
+-- of these arguments one must be given, and no two may
+pub record IsOneOf (arguments : List (List ℕ)) (g : ArgGroup) : Type 0 where
+  pub needed : g.required ≡ true
+  pub alone : g.multiple ≡ false
+  pub members : map (λ a. a.now) g.args.items ≡ arguments
+
+-- the arguments that give the picks
+abbrev pub PICKS : List (List ℕ)
+PICKS = codes "picks" ∷ codes "picks-file" ∷ []
+
+-- the command wants its picks by one argument, and has no other such rule
+abbrev pub WantsPicks : Command → Type 0
+WantsPicks c = (g : ArgGroup) × (groups_of c ≡ g ∷ []) × IsOneOf PICKS g
+
+-- the arguments of each command that runs a script by picks
 abbrev pub BY_PICKS : List (List ℕ)
 BY_PICKS = codes "script" ∷ codes "picks" ∷ codes "picks-file" ∷ []
 
+-- the arguments of `replay`
+abbrev pub REPLAY : List (List ℕ)
+REPLAY = codes "script" ∷ codes "picks" ∷ codes "picks-file" ∷ codes "quiet" ∷ []
+
 -- the arguments of `explain`
 abbrev pub EXPLAIN : List (List ℕ)
-EXPLAIN = codes "script" ∷ codes "picks" ∷ codes "picks-file" ∷ codes "session" ∷ codes "move" ∷ []
+EXPLAIN = codes "script" ∷ codes "picks" ∷ codes "picks-file" ∷ codes "session" ∷ codes "move" ∷ codes "node" ∷ []
 
 -- the arguments of `round`
 abbrev pub ROUND : List (List ℕ)
-ROUND = codes "script" ∷ codes "limit" ∷ []
+ROUND = codes "script" ∷ codes "limit" ∷ codes "quiet" ∷ []
 
 -- the arguments of `workers`
 abbrev pub WORKERS : List (List ℕ)
-WORKERS = codes "script" ∷ codes "n" ∷ codes "turns" ∷ []
+WORKERS = codes "script" ∷ codes "n" ∷ codes "turns" ∷ codes "quiet" ∷ []
 
 -- the arguments of `spec`
 abbrev pub TRIAL : List (List ℕ)

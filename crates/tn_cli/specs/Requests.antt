@@ -1,6 +1,9 @@
 -- What the words of the command line ask for (own).
 -- Depends on what `clap` found in the words: the text that each option and each word without a name has.
-use Rattle.std.specs.Prelude.{◌≡◌, ◌≢◌, ◌≤◌, ℕ, List, [], Option, Some, None, Result, Ok, MatchResult, IsSomeAnd, ◌⊎◌, option_map, unwrap_or, if◌then◌else◌, codes}
+use Rattle.std.specs.Prelude.{◌≡◌, ◌≢◌, ◌≤◌, ◌-◌, ◌==◌, ◌&&◌, ◌++◌, ℕ, Bool, false, not, List, [], Option, Some, None, Result, Ok}
+use Rattle.std.specs.Prelude.{MatchResult, IsSomeAnd, ◌⊎◌, option_map, unwrap_or, if◌then◌else◌, take, drop, length, codes}
+use Rattle.std.specs.List.{list_all}
+use Rattle.std.specs.Option.{option_map_or}
 use Rattle.std.specs.Str.Parse.{digits_value}
 use Rattle.std.specs.Str.{bytes_eq}
 use Rattle.std.specs.Borrow.{Bor}
@@ -22,6 +25,10 @@ use Rattle.tn_cli.specs.declared.request.Request.TheVariants.{Replay, Explain, R
 abbrev pub argument : ArgMatches → List ℕ → Option (List ℕ)
 argument m name = first_value (found_of m) name
 
+-- the flag of this name is given: `clap` gives a flag the text `true` where the words have it, else `false`
+abbrev pub is_given : ArgMatches → List ℕ → Bool
+is_given m name = option_map_or (λ text. bytes_eq text (codes "true")) (argument m name) false
+
 -- ---- numbers
 
 -- such a text is given, and its number is within these bounds
@@ -42,6 +49,37 @@ IsGiven least most text n = IsBetween least most text × (n ≡ number_given tex
 abbrev pub IsNumberOrNone : {E : Type 0} → Option (List ℕ) → Result (Option ℕ) E → Type 0
 IsNumberOrNone None r = r ≡ Ok None
 IsNumberOrNone (Some text) r = MatchResult r (λ n. IsPlainNumber text × (n ≡ Some (digits_value 10 text))) (λ e. ¬ (IsPlainNumber text))
+
+-- ---- processes and sessions
+
+-- the text is decimal digits and nothing else, and this is their number
+abbrev pub IsNumber : List ℕ → ℕ → Type 0
+IsNumber text n = IsPlainNumber text × (n ≡ digits_value 10 text)
+
+-- the text is a process's number, this one, or its pid `<0.N.0>`
+abbrev pub NamesProcess : List ℕ → ℕ → Type 0
+NamesProcess text n =
+    IsNumber text n ⊎ ((digits : List ℕ) × (text ≡ codes "<0." ++ digits ++ codes ".0>") × IsNumber digits n)
+
+-- the text is neither
+abbrev pub NamesNoProcess : List ℕ → Type 0
+NamesNoProcess text = (n : ℕ) → ¬ (NamesProcess text n)
+
+-- the byte is no quote, 39, and no backslash, 92
+abbrev pub is_inner : ℕ → Bool
+is_inner c = not (c == 39) && not (c == 92)
+
+-- what is between the first byte of a text and its last
+abbrev pub inner_text : List ℕ → List ℕ
+inner_text text = take (length text - 2) (drop 1 text)
+
+-- the text begins and ends with a quote, and has no quote and no backslash between the two
+abbrev pub is_in_quotes : List ℕ → Bool
+is_in_quotes text = bytes_eq text (codes "'" ++ inner_text text ++ codes "'") && list_all is_inner (inner_text text)
+
+-- the name of a session that a text gives, which may be in quotes as atoms are in scripts
+abbrev pub session_named : List ℕ → List ℕ
+session_named text = if is_in_quotes text then inner_text text else text
 
 -- ---- texts
 
@@ -69,39 +107,45 @@ ArePicksOf m (Text text) = (argument m (codes "picks-file") ≡ None) × (text.n
 
 -- ---- commands
 
--- the session that `--session` names, and the move that `--move` gives
+-- the session that `--session` names, the move that `--move` gives, and whether `--node` is given
 abbrev pub IsAskedOf : ArgMatches → Filter → Type 0
 IsAskedOf m a =
-    IsTextOf (argument m (codes "session")) a.session × IsNumberOrNone {E = Unit {0}} (argument m (codes "move")) (Ok a.move_number)
+    IsTextOf (option_map session_named (argument m (codes "session"))) a.session
+    × IsNumberOrNone {E = Unit {0}} (argument m (codes "move")) (Ok a.move_number)
+    × (a.node ≡ is_given m (codes "node"))
 
 -- what `--for`, `--list`, `--me` and `--caller` give, and the specification
 abbrev pub IsTrialOf : ArgMatches → SpecTestArgs → Type 0
 IsTrialOf m t =
     (t.dialect ≡ dialect_named (unwrap_or (argument m (codes "for")) (codes "call")))
     × (t.list.now ≡ unwrap_or (argument m (codes "list")) [])
-    × IsGiven 0 4294967295 (argument m (codes "me")) t.self_pid
+    × NamesProcess (unwrap_or (argument m (codes "me")) []) t.self_pid
     × IsTextOf (argument m (codes "caller")) t.caller
     × IsTextOf (argument m (codes "specification")) t.specification
 
 -- what the subcommand of this name asks for, by what was found after it
 abbrev pub Asks : List ℕ → ArgMatches → Request → Type 0
-Asks name m (Replay script picks) = (name ≡ codes "replay") × IsSourceNamed (argument m (codes "script")) script × ArePicksOf m picks
+Asks name m (Replay script picks quiet) =
+    (name ≡ codes "replay") × IsSourceNamed (argument m (codes "script")) script × ArePicksOf m picks
+    × (quiet ≡ is_given m (codes "quiet"))
 Asks name m (Explain script picks filter) =
     (name ≡ codes "explain") × IsSourceNamed (argument m (codes "script")) script × ArePicksOf m picks × IsAskedOf m filter
-Asks name m (Round script limit) =
+Asks name m (Round script limit quiet) =
     (name ≡ codes "round") × IsSourceNamed (argument m (codes "script")) script × IsGiven 1 65536 (argument m (codes "limit")) limit
-Asks name m (Workers script count turns) =
+    × (quiet ≡ is_given m (codes "quiet"))
+Asks name m (Workers script count turns quiet) =
     (name ≡ codes "workers") × IsSourceNamed (argument m (codes "script")) script
     × IsGiven 1 16 (argument m (codes "n")) count × IsGiven 1 65536 (argument m (codes "turns")) turns
+    × (quiet ≡ is_given m (codes "quiet"))
 Asks name m (Spec trial) = (name ≡ codes "spec") × IsTrialOf m trial
 
--- a number that the subcommand of this name was given isn't one, or is out of its bounds
+-- a number that the subcommand of this name was given isn't one, or is out of its bounds; for `spec` also no pid
 abbrev pub LacksNumber : List ℕ → ArgMatches → Type 0
 LacksNumber name m =
     ((name ≡ codes "explain") × IsSomeAnd (argument m (codes "move")) (λ text. ¬ (IsPlainNumber text)))
     ⊎ ((name ≡ codes "round") × (¬ (IsBetween 1 65536 (argument m (codes "limit")))))
     ⊎ ((name ≡ codes "workers") × (¬ (IsBetween 1 16 (argument m (codes "n")) × IsBetween 1 65536 (argument m (codes "turns")))))
-    ⊎ ((name ≡ codes "spec") × (¬ (IsBetween 0 4294967295 (argument m (codes "me")))))
+    ⊎ ((name ≡ codes "spec") × NamesNoProcess (unwrap_or (argument m (codes "me")) []))
 
 -- the subcommand that was found lacks a number
 pub record IsWithoutNumber (m : ArgMatches) : Type 0 where

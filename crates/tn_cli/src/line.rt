@@ -1,10 +1,10 @@
 // What the command line may say.
 ghost use Rattle.std.specs.Prelude.{◌≡◌, codes, true, IfOk, IsOkAnd};
-ghost use Rattle.clap.specs.Built.{AddsArg, AddsSubcommand, subcommand_names};
-ghost use Rattle.tn_cli.specs.Line.{IsOption, IsWord, IsElse, IsFromTo, IsCommand};
-ghost use Rattle.tn_cli.specs.Line.{BY_PICKS, EXPLAIN, ROUND, WORKERS, TRIAL, COMMAND_NAMES};
+ghost use Rattle.clap.specs.Built.{AddsSubcommand, subcommand_names};
+ghost use Rattle.tn_cli.specs.Line.{IsOption, IsFlag, IsWord, IsElse, IsFromTo, IsOneOf, IsCommand, WantsPicks};
+ghost use Rattle.tn_cli.specs.Line.{PICKS, BY_PICKS, REPLAY, EXPLAIN, ROUND, WORKERS, TRIAL, COMMAND_NAMES};
 
-use clap::{Arg, ArgAction, Command, value_parser};
+use clap::{Arg, ArgAction, ArgGroup, Command, value_parser};
 use std::alloc::{AllocError, Global};
 
 /// What `--version` prints after the program's name.
@@ -34,18 +34,15 @@ fn script<'a>(alloc: Global) -> Arg<'a>
 }
 
 /// `--picks TEXT`. TEXT may begin with a hyphen: the run refuses it, not the command line.
-fn picks<'a>(alloc: Global) -> Result<Arg<'a>, AllocError>
-    ensures { IfOk result (IsOption (codes "picks")) }
+fn picks<'a>(alloc: Global) -> Arg<'a>
+    ensures { IsOption (codes "picks") result }
 {
-    let picks = Arg::new(alloc, "picks")
+    Arg::new(alloc, "picks")
         .long("picks")
         .value_name("TEXT")
         .help("The picks: decimal numbers, one space between each two")
         .allow_hyphen_values(true)
-        .action(ArgAction::Set);
-    picks
-        .required_unless_present("picks-file")?
-        .conflicts_with("picks-file")
+        .action(ArgAction::Set)
 }
 
 /// `--picks-file FILE`.
@@ -59,40 +56,59 @@ fn picks_file<'a>(alloc: Global) -> Arg<'a>
         .action(ArgAction::Set)
 }
 
-/// The command with one argument more, where there was memory for that.
-fn with_argument<'a>(
-    command: Command<'a>,
-    argument: Result<Arg<'a>, AllocError>,
-) -> Result<Command<'a>, AllocError>
-    ensures { IfOk result (λ r. IsOkAnd argument.entry (λ a. AddsArg command.entry a r)) }
+/// Just one of `--picks` and `--picks-file` must be given; the usage names both.
+fn one_of_picks<'a>(alloc: Global) -> Result<ArgGroup<'a>, AllocError>
+    ensures { IfOk result (IsOneOf PICKS) }
 {
-    command.arg(argument?)
+    ArgGroup::new(alloc, "picks-source")
+        .required(true)
+        .arg("picks")?
+        .arg("picks-file")
 }
 
 /// A command that runs the script by picks, with `--picks TEXT` or `--picks-file FILE`.
 fn by_picks<'a>(alloc: Global, name: &'a str, about: &'a str) -> Result<Command<'a>, AllocError>
-    ensures { IfOk result (IsCommand name.entry.now BY_PICKS) }
+    ensures arguments { IfOk result (IsCommand name.entry.now BY_PICKS) }
+    ensures picks { IfOk result WantsPicks }
 {
-    let command = Command::new(alloc, name).about(about).arg(script(alloc))?;
-    with_argument(command, picks(alloc))?.arg(picks_file(alloc))
+    let one_of_picks = one_of_picks(alloc)?;
+    Command::new(alloc, name)
+        .about(about)
+        .arg(script(alloc))?
+        .arg(picks(alloc))?
+        .arg(picks_file(alloc))?
+        .group(one_of_picks)
 }
 
-/// The subcommand `replay [SCRIPT]` with picks.
+/// `--quiet`.
+fn quiet<'a>(alloc: Global) -> Arg<'a>
+    ensures { IsFlag (codes "quiet") result }
+{
+    Arg::new(alloc, "quiet")
+        .long("quiet")
+        .help("Prints no notes on standard error")
+        .action(ArgAction::SetTrue)
+}
+
+/// The subcommand `replay [SCRIPT] [--quiet]` with picks.
 fn replay<'a>(alloc: Global) -> Result<Command<'a>, AllocError>
-    ensures { IfOk result (IsCommand (codes "replay") BY_PICKS) }
+    ensures arguments { IfOk result (IsCommand (codes "replay") REPLAY) }
+    ensures picks { IfOk result WantsPicks }
 {
     let about = "Runs the script by the given picks, and prints what its sessions saw";
-    by_picks(alloc, "replay", about)
+    by_picks(alloc, "replay", about)?.arg(quiet(alloc))
 }
 
-/// `--session NAME`. NAME may begin with a hyphen.
+/// `--session NAME`. NAME may begin with a hyphen, and may be in quotes as atoms are in scripts.
 fn session<'a>(alloc: Global) -> Arg<'a>
     ensures { IsOption (codes "session") result }
 {
     Arg::new(alloc, "session")
         .long("session")
         .value_name("NAME")
-        .help("Explains what the session of this name makes of the run, and no other")
+        .help(
+            "Explains what the session of this name, in quotes or not, makes of the run, and no other",
+        )
         .allow_hyphen_values(true)
         .action(ArgAction::Set)
 }
@@ -109,14 +125,26 @@ fn move_number<'a>(alloc: Global) -> Arg<'a>
         .action(ArgAction::Set)
 }
 
-/// The subcommand `explain [SCRIPT] [--session NAME] [--move N]` with picks.
+/// `--node`.
+fn node<'a>(alloc: Global) -> Arg<'a>
+    ensures { IsFlag (codes "node") result }
+{
+    Arg::new(alloc, "node")
+        .long("node")
+        .help("Explains the moves alone that a running node does otherwise")
+        .action(ArgAction::SetTrue)
+}
+
+/// The subcommand `explain [SCRIPT] [--session NAME] [--move N] [--node]` with picks.
 fn explain<'a>(alloc: Global) -> Result<Command<'a>, AllocError>
-    ensures { IfOk result (IsCommand (codes "explain") EXPLAIN) }
+    ensures arguments { IfOk result (IsCommand (codes "explain") EXPLAIN) }
+    ensures picks { IfOk result WantsPicks }
 {
     let about = "Runs the script by the given picks, and prints why each session tells or doesn't";
     by_picks(alloc, "explain", about)?
         .arg(session(alloc))?
-        .arg(move_number(alloc))
+        .arg(move_number(alloc))?
+        .arg(node(alloc))
 }
 
 /// `--limit N`.
@@ -134,14 +162,15 @@ fn limit<'a>(alloc: Global) -> Arg<'a>
         .action(ArgAction::Set)
 }
 
-/// The subcommand `round [SCRIPT] [--limit N]`.
+/// The subcommand `round [SCRIPT] [--limit N] [--quiet]`.
 fn round<'a>(alloc: Global) -> Result<Command<'a>, AllocError>
     ensures { IfOk result (IsCommand (codes "round") ROUND) }
 {
     Command::new(alloc, "round")
         .about("Runs the script in rounds of all processes, until nothing moves")
         .arg(script(alloc))?
-        .arg(limit(alloc))
+        .arg(limit(alloc))?
+        .arg(quiet(alloc))
 }
 
 /// `--n N`.
@@ -174,7 +203,7 @@ fn turns<'a>(alloc: Global) -> Arg<'a>
         .action(ArgAction::Set)
 }
 
-/// The subcommand `workers [SCRIPT] --n N [--turns T]`.
+/// The subcommand `workers [SCRIPT] --n N [--turns T] [--quiet]`.
 fn workers<'a>(alloc: Global) -> Result<Command<'a>, AllocError>
     ensures { IfOk result (IsCommand (codes "workers") WORKERS) }
 {
@@ -182,7 +211,8 @@ fn workers<'a>(alloc: Global) -> Result<Command<'a>, AllocError>
         .about("Runs the script by workers in threads, and then until nothing moves")
         .arg(script(alloc))?
         .arg(worker_count(alloc))?
-        .arg(turns(alloc))
+        .arg(turns(alloc))?
+        .arg(quiet(alloc))
 }
 
 /// `--list TERM`. TERM may begin with a hyphen, as in all words of `spec`.
@@ -220,7 +250,7 @@ fn event<'a>(alloc: Global) -> Arg<'a>
         .action(ArgAction::Set)
 }
 
-/// `--me N`.
+/// `--me N`, where N is a number or a pid: what `spec` asks for reads it.
 fn own_process<'a>(alloc: Global) -> Arg<'a>
     ensures named { IsOption (codes "me") result }
     ensures value { IsElse (codes "100") result }
@@ -228,8 +258,9 @@ fn own_process<'a>(alloc: Global) -> Arg<'a>
     Arg::new(alloc, "me")
         .long("me")
         .value_name("N")
-        .help("The process whose event it is, <0.N.0>; no other process has a flag")
-        .value_parser(value_parser!(u32))
+        .help(
+            "The process whose event it is: a number N or a pid <0.N.0>; no other process has a flag",
+        )
         .default_value("100")
         .action(ArgAction::Set)
 }

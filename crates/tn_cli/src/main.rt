@@ -10,6 +10,7 @@ ghost use Rattle.tn_command.specs.Status.{IsStatus};
 
 mod line;
 mod request;
+mod value;
 
 use clap::ArgMatches;
 use clap::error::ErrorKind;
@@ -21,9 +22,10 @@ use std::rt::{Env, Files};
 use std::sync::Wait;
 use std::thread::Threads;
 use tn_command::{
-    FAULT, LastError, REFUSED, Source, arguments, perform, picks_of, report, tell_fault, test_spec,
+    FAULT, LastError, REFUSED, Source, WorkersRun, arguments, perform, picks_of, report,
+    tell_fault, test_spec,
 };
-use tn_explain::{ExplainRequest, Filter};
+use tn_explain::{ExplainRequest, Filter, RunAndNote};
 use tn_pool::Open;
 use tn_run::{RunFault, Schedule, Workers, write_output};
 use tn_text::Watched;
@@ -32,10 +34,26 @@ use tn_verdict::SpecTestInput;
 /// What is done with a script and a text of picks.
 #[derive(Clone, Copy)]
 enum Task<'a> {
-    /// The run's output is printed.
-    Replay,
+    /// The run's output is printed, and its note where there is one, unless nothing is asked for on standard error.
+    Replay { quiet: bool },
     /// The run is explained: the session and the move that are asked for.
     Explain(Filter<'a>),
+}
+
+/// Runs the script by a schedule, with the note of what a running node does otherwise, or without.
+fn run_schedule<R: Input + Files + Print + Eprint + AllocGlobal>(
+    rt: &R,
+    script: Source<'_>,
+    schedule: Schedule<'_>,
+    quiet: bool,
+) -> ExitCode
+    ensures { IsStatus (exit_status result) }
+{
+    if quiet {
+        perform(rt, script, &schedule)
+    } else {
+        perform(rt, script, &RunAndNote { schedule })
+    }
 }
 
 /// Does the task with this text of picks.
@@ -48,7 +66,7 @@ fn run_task<R: Input + Files + Print + Eprint + AllocGlobal>(
     ensures { IsStatus (exit_status result) }
 {
     match task {
-        Task::Replay => perform(rt, script, &Schedule::Picks(picks)),
+        Task::Replay { quiet } => run_schedule(rt, script, Schedule::Picks(picks), quiet),
         Task::Explain(filter) => perform(rt, script, &ExplainRequest { picks, filter }),
     }
 }
@@ -93,6 +111,7 @@ fn run_workers<R: Input + Files + Print + Eprint + AllocGlobal + Threads + Wait 
     script: Source<'_>,
     count: u32,
     turns: u32,
+    quiet: bool,
 ) -> ExitCode
     ensures { IsStatus (exit_status result) }
 {
@@ -101,7 +120,8 @@ fn run_workers<R: Input + Files + Print + Eprint + AllocGlobal + Threads + Wait 
         turns,
         gate: &Open,
     };
-    tn_command::run_workers(rt, script, &workers)
+    let job = WorkersRun { has_note: !quiet };
+    tn_command::run_workers(rt, script, &workers, job)
 }
 
 /// Makes a trial of a specification.
@@ -146,18 +166,27 @@ fn run_request<R: Input + Files + Print + Eprint + AllocGlobal + Threads + Wait 
     ensures { IsStatus (exit_status result) }
 {
     match ask {
-        Request::Replay { script, picks } => run_by_picks(rt, Task::Replay, script, picks),
+        Request::Replay {
+            script,
+            picks,
+            quiet,
+        } => run_by_picks(rt, Task::Replay { quiet }, script, picks),
         Request::Explain {
             script,
             picks,
             filter,
         } => run_by_picks(rt, Task::Explain(filter), script, picks),
-        Request::Round { script, limit } => perform(rt, script, &Schedule::Round(limit)),
+        Request::Round {
+            script,
+            limit,
+            quiet,
+        } => run_schedule(rt, script, Schedule::Round(limit), quiet),
         Request::Workers {
             script,
             count,
             turns,
-        } => run_workers(rt, script, count, turns),
+            quiet,
+        } => run_workers(rt, script, count, turns, quiet),
         Request::Spec(trial) => run_spec(rt, &trial),
     }
 }
@@ -166,9 +195,13 @@ fn run_request<R: Input + Files + Print + Eprint + AllocGlobal + Threads + Wait 
 fn refuse_number<R: Eprint>(rt: &R, bad: BadNumber<'_>) -> ExitCode
     ensures { IsStatus (exit_status result) }
 {
-    let BadNumber { option, text } = bad;
+    let BadNumber {
+        option,
+        text,
+        reason,
+    } = bad;
     let _ = rt.eprintln(format_args!(
-        "error: invalid value '{text}' for '{option}': invalid digit found in string\n\nFor more information, try '--help'."
+        "error: invalid value '{text}' for '{option}': {reason}\n\nFor more information, try '--help'."
     ));
     ExitCode::from(REFUSED)
 }

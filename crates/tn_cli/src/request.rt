@@ -1,9 +1,10 @@
 // What the command line asks for: a command, made of what was read of its words.
-ghost use Rattle.std.specs.Prelude.{◌≡◌, OkIff, IfOk, IfErr, IfSome, IfNone, codes};
-ghost use Rattle.tn_cli.specs.Requests.{argument, dialect_named, IsBetween, number_given, IsNumberOrNone};
-ghost use Rattle.tn_cli.specs.Requests.{ArePicksOf, IsSourceNamed, Asks, IsAskedBy};
+ghost use Rattle.std.specs.Prelude.{◌≡◌, [], OkIff, IfOk, IfErr, IfSome, IfNone, unwrap_or, codes};
+ghost use Rattle.tn_cli.specs.Requests.{argument, is_given, dialect_named, IsBetween, number_given, IsNumberOrNone};
+ghost use Rattle.tn_cli.specs.Requests.{NamesProcess, NamesNoProcess, ArePicksOf, IsSourceNamed, Asks, IsAskedBy};
 ghost use Rattle.tn_cli.specs.Requests.{LacksNumber, IsWithoutNumber, NamesNoCommand};
 
+use crate::value::{process_number, session_name};
 use clap::ArgMatches;
 use tn_command::{Source, plain_number, source_of};
 use tn_explain::Filter;
@@ -36,6 +37,8 @@ pub enum Request<'a> {
     Replay {
         script: Source<'a>,
         picks: PicksSource<'a>,
+        /// Whether no notes are printed on standard error.
+        quiet: bool,
     },
     /// An explanation of a run by picks.
     Explain {
@@ -47,12 +50,16 @@ pub enum Request<'a> {
     Round {
         script: Source<'a>,
         limit: u32,
+        /// Whether no notes are printed on standard error.
+        quiet: bool,
     },
     /// A run by so many workers, of so many turns each.
     Workers {
         script: Source<'a>,
         count: u32,
         turns: u32,
+        /// Whether no notes are printed on standard error.
+        quiet: bool,
     },
     /// A trial of a match specification.
     Spec(SpecTestArgs<'a>),
@@ -64,6 +71,19 @@ pub struct BadNumber<'a> {
     /// The option, with the name of its value.
     pub option: &'static str,
     pub text: &'a str,
+    /// Why it is none, or what is expected.
+    pub reason: &'static str,
+}
+
+/// A text that is no number for an option.
+fn not_number<'a>(option: &'static str, text: &'a str) -> BadNumber<'a>
+    ensures { (result.option ≡ option.entry) × (result.text ≡ text.entry) }
+{
+    BadNumber {
+        option,
+        text,
+        reason: "invalid digit found in string",
+    }
 }
 
 /// The number of an option, within its bounds.
@@ -77,11 +97,11 @@ fn number<'a>(
     ensures { OkIff result (IsBetween least most (argument args.now id.now)) (number_given (argument args.now id.now)) }
 {
     let Some(text) = args.get_str(id) else {
-        return Err(BadNumber { option, text: "" });
+        return Err(not_number(option, ""));
     };
     match plain_number(text) {
         Some(number) if number >= least && number <= most => Ok(number),
-        _ => Err(BadNumber { option, text }),
+        _ => Err(not_number(option, text)),
     }
 }
 
@@ -94,11 +114,31 @@ fn move_number<'a>(matches: &ArgMatches<'a>) -> Result<Option<u64>, BadNumber<'a
     };
     match plain_number(text) {
         Some(number) => Ok(Some(number as u64)),
+        None => Err(not_number("--move <N>", text)),
+    }
+}
+
+/// The process that `spec` is asked for, by its number or its pid.
+fn own_process<'a>(matches: &ArgMatches<'a>) -> Result<u32, BadNumber<'a>>
+    ensures given { IfOk result (NamesProcess (unwrap_or (argument matches.now (codes "me")) [])) }
+    ensures refused { IfErr result (λ e. NamesNoProcess (unwrap_or (argument matches.now (codes "me")) [])) }
+{
+    let text = matches.get_str("me").unwrap_or("");
+    match process_number(text) {
+        Some(number) => Ok(number),
         None => Err(BadNumber {
-            option: "--move <N>",
+            option: "--me <N>",
             text,
+            reason: "a number or a pid <0.N.0> is expected",
         }),
     }
+}
+
+/// Whether the flag of this name is given.
+fn flag(matches: &ArgMatches<'_>, id: &str) -> bool
+    ensures { result ≡ is_given matches.now id.now }
+{
+    matches!(matches.get_str(id), Some("true"))
 }
 
 /// Where the script of a subcommand is read from.
@@ -136,6 +176,7 @@ fn replay<'a>(matches: &ArgMatches<'a>) -> Request<'a>
     Request::Replay {
         script: script(matches),
         picks: picks(matches),
+        quiet: flag(matches, "quiet"),
     }
 }
 
@@ -149,8 +190,9 @@ fn explain<'a>(matches: &ArgMatches<'a>) -> Result<Request<'a>, BadNumber<'a>>
         script: script(matches),
         picks: picks(matches),
         filter: Filter {
-            session: matches.get_str("session"),
+            session: matches.get_str("session").map(session_name),
             move_number,
+            node: flag(matches, "node"),
         },
     })
 }
@@ -164,6 +206,7 @@ fn round<'a>(matches: &ArgMatches<'a>) -> Result<Request<'a>, BadNumber<'a>>
     Ok(Request::Round {
         script: script(matches),
         limit,
+        quiet: flag(matches, "quiet"),
     })
 }
 
@@ -178,6 +221,7 @@ fn workers<'a>(matches: &ArgMatches<'a>) -> Result<Request<'a>, BadNumber<'a>>
         script: script(matches),
         count,
         turns,
+        quiet: flag(matches, "quiet"),
     })
 }
 
@@ -186,7 +230,7 @@ fn spec<'a>(matches: &ArgMatches<'a>) -> Result<Request<'a>, BadNumber<'a>>
     ensures asks { IfOk result (Asks (codes "spec") matches.now) }
     ensures refused { IfErr result (λ e. LacksNumber (codes "spec") matches.now) }
 {
-    let self_pid = number(matches, "me", "--me <N>", 0, u32::MAX)?;
+    let self_pid = own_process(matches)?;
     Ok(Request::Spec(SpecTestArgs {
         dialect: dialect_of(matches.get_str("for").unwrap_or("call")),
         list: matches.get_str("list").unwrap_or(""),

@@ -1,8 +1,8 @@
 // The jobs of the commands, and what is said of their outcomes.
-use crate::stderr::{NamedText, tell_refusal};
+use crate::stderr::{NamedText, tell_note, tell_refusal};
 use std::alloc::Global;
-use tn_explain::{ExplainOutcome, ExplainRequest};
-use tn_run::{Job, LiveRun, Outcome, Ran, Schedule};
+use tn_explain::{ExplainOutcome, ExplainRequest, RunAndNote, RunEnd};
+use tn_run::{Job, Outcome, Schedule};
 
 /// A job that a command does.
 pub trait Command: Job<Global> {
@@ -33,11 +33,16 @@ impl Command for Schedule<'_> {
     }
 }
 
-impl Command for LiveRun {
-    fn tell_outcome<R: Eprint + AllocGlobal>(&self, rt: &R, outcome: Ran, script: NamedText<'_>) {
-        match outcome.outcome {
-            Outcome::Listed => {}
-            Outcome::Refused(refusal) => tell_refusal(rt, refusal, script, b""),
+impl Command for RunAndNote<'_> {
+    fn tell_outcome<R: Eprint + AllocGlobal>(&self, rt: &R, end: RunEnd, script: NamedText<'_>) {
+        let (picks, how): (&[u8], &str) = match self.schedule {
+            Schedule::Picks(text) => (text, "explain --node"),
+            Schedule::Round(_) => (b"", "explain --node, by the picks of the journal,"),
+        };
+        match end {
+            RunEnd::Listed(None) => {}
+            RunEnd::Listed(Some(note)) => tell_note(rt, note, how),
+            RunEnd::Refused(refusal) => tell_refusal(rt, refusal, script, picks),
         }
     }
 }
@@ -59,6 +64,9 @@ impl Command for ExplainRequest<'_> {
             ExplainOutcome::NoMove => {
                 let number = self.filter.move_number.unwrap_or(0);
                 let _ = rt.eprintln(format_args!("error: the run has no move {number}"));
+            }
+            ExplainOutcome::NoDifference => {
+                let _ = rt.eprintln("note: a running node is known to do nothing otherwise there");
             }
         }
     }

@@ -6,7 +6,8 @@
 //! for, 2 for a refusal and 3 for a fault, and that what was written is what the status says; so it is with an
 //! explained run and the trial of one specification. Promises of a text of picks that it is what the reader holds,
 //! without a line feed at its end. A refusal or a fault has one line on standard error: how the text can be fixed, or
-//! what failed. A pipe that was closed has none.
+//! what failed. A pipe that was closed has none. So has a run that a running node is known to do otherwise: at how
+//! many of its moves.
 #![tactic(auto)]
 
 mod command;
@@ -32,4 +33,4 @@ pub use spec_test::{SpecTestRunFault, test_spec, test_spec_over};
 pub use status::{FAULT, JobEnd, REFUSED, report};
 pub use stderr::{NamedText, tell_fault};
 pub use words::arguments;
-pub use workers::{run_workers, run_workers_over};
+pub use workers::{WorkersRun, run_workers, run_workers_over};

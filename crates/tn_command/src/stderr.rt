@@ -1,6 +1,7 @@
-// What is said on standard error of a refusal or a fault.
+// What is said on standard error of a refusal or a fault, and of what a running node does otherwise.
 use std::fmt::Display;
 use std::io::{Error, ErrorKind};
+use tn_explain::NodeNote;
 use tn_refusal::explain;
 use tn_run::{Refusal, RunFault};
 
@@ -42,4 +43,12 @@ pub fn tell_fault<F: Display>(rt: &impl Eprint, fault: &F, reason: Option<Error>
         }
         Some(error) => rt.eprintln(format_args!("{fault}: {error}")),
     };
+}
+
+/// Says how many moves of a run a running node does otherwise, and which command shows them.
+pub(crate) fn tell_note<R: Eprint>(rt: &R, note: NodeNote, how: &str) {
+    let NodeNote { differing, moves } = note;
+    let _ = rt.eprintln(format_args!(
+        "note: a running node differs at {differing} of {moves} moves; {how} shows where"
+    ));
 }

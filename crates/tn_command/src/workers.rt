@@ -6,10 +6,12 @@ ghost use Rattle.tn_run.specs.Jobs.{Meets};
 ghost use Rattle.tn_run.specs.Workers.{IsWorkerCount};
 ghost use Rattle.tn_command.specs.Status.{IsStatus, OnFaultUntouchedOrFailed, WroteAs, status_of};
 
+use crate::command::Command;
 use crate::jobs::{INPUT, print_end, script_of};
 use crate::last_error::LastError;
 use crate::source::{Source, open};
 use crate::status::{JobEnd, job_status};
+use crate::stderr::{NamedText, tell_note, tell_refusal};
 use std::alloc::Global;
 use std::io;
 use std::io::{Read, Write};
@@ -18,8 +20,10 @@ use std::process::ExitCode;
 use std::rt::Files;
 use std::sync::Wait;
 use std::thread::Threads;
+use tn_explain::text_note;
+use tn_listing::PicksFault;
 use tn_pool::Gate;
-use tn_run::{LiveFault, LiveRun, Ran, Workers, run_live};
+use tn_run::{Job, LiveFault, LiveRun, Outcome, Ran, Refusal, RunFault, Workers, run_live};
 use tn_text::Watched;
 
 /// Runs the script that a reader holds by workers: what the writer gained is what the status says.
@@ -42,12 +46,61 @@ pub fn run_workers_over<T: Threads + Wait + Sync, R: Read, W: Write, G: Gate>(
     JobEnd { status, answer }
 }
 
+/// A run by workers, and whether its note is printed: how many moves a running node does otherwise.
+#[derive(Clone, Copy)]
+pub struct WorkersRun {
+    pub has_note: bool,
+}
+
+impl Job<Global> for WorkersRun {
+    ghost use Rattle.tn_run.specs.Answers.{live_run};
+
+    type Outcome = Ran;
+
+    type Fault = LiveFault;
+
+    ghost view = { λ job. live_run };
+
+    ghost takes = { λ job picks. Unit {0} };
+
+    fn picks(&self, alloc: Global) -> Result<Vec<u32>, PicksFault> {
+        LiveRun.picks(alloc)
+    }
+
+    fn refusal_outcome(&self, alloc: Global, refusal: Refusal) -> Ran {
+        LiveRun.refusal_outcome(alloc, refusal)
+    }
+
+    fn succeeds(&self, outcome: &Ran) -> bool {
+        LiveRun.succeeds(outcome)
+    }
+
+    fn fault_of(&self, fault: RunFault) -> LiveFault {
+        LiveRun.fault_of(fault)
+    }
+}
+
+impl Command for WorkersRun {
+    fn tell_outcome<R: Eprint + AllocGlobal>(&self, rt: &R, ran: Ran, script: NamedText<'_>) {
+        match ran.outcome {
+            Outcome::Refused(refusal) => tell_refusal(rt, refusal, script, b""),
+            Outcome::Listed if !self.has_note => {}
+            Outcome::Listed => {
+                if let Ok(Some(note)) = text_note(rt.alloc(), script.bytes, &ran.picks) {
+                    tell_note(rt, note, "explain --node, by the picks of the journal,");
+                }
+            }
+        }
+    }
+}
+
 /// Runs the script that a reader with this name holds by workers, and writes to standard output.
 fn print_run<R: Print + Eprint + AllocGlobal + Threads + Wait + Sync, S: Read + Drop, G: Gate>(
     rt: &R,
     name: &str,
     reader: S,
     workers: &Workers<'_, G>,
+    job: WorkersRun,
 ) -> ExitCode
     requires { IsWorkerCount workers.now.count }
     ensures { IsStatus (exit_status result) }
@@ -55,21 +108,21 @@ fn print_run<R: Print + Eprint + AllocGlobal + Threads + Wait + Sync, S: Read + 
     let mut script = script_of(rt.alloc(), reader);
     let mut writer = Watched::of(LastError::of(io::writer(rt)));
     let end = run_workers_over(rt, rt.alloc(), &mut script, &mut writer, workers);
-    print_end(rt, &LiveRun, end, name, script, writer)
+    print_end(rt, &job, end, name, script, writer)
 }
 
-/// Runs the script of a source by workers, and writes to standard output.
+/// Runs the script of a source by workers, and writes to standard output; and the note, where the job has one.
 pub fn run_workers<
     R: Input + Files + Print + Eprint + AllocGlobal + Threads + Wait + Sync,
     G: Gate,
->(rt: &R, script: Source<'_>, workers: &Workers<'_, G>) -> ExitCode
+>(rt: &R, script: Source<'_>, workers: &Workers<'_, G>, job: WorkersRun) -> ExitCode
     requires { IsWorkerCount workers.now.count }
     ensures { IsStatus (exit_status result) }
 {
     match script {
-        Source::Input => print_run(rt, INPUT, rt.reader(), workers),
+        Source::Input => print_run(rt, INPUT, rt.reader(), workers, job),
         Source::File(path) => match open(rt, path) {
-            Ok(file) => print_run(rt, path, file, workers),
+            Ok(file) => print_run(rt, path, file, workers, job),
             Err(status) => status,
         },
     }

@@ -195,7 +195,7 @@ setting_after : (k : FunctionSetting) (rest : Setting) (o : Option FunctionSetti
 setting_after k rest o c true e = refl
 setting_after k rest o c false e = e
 
-setting_is : (ks : List FunctionSetting) (c : Call) → setting_for ks c ≡ by_newest (newest_of ks c) c
+pub setting_is : (ks : List FunctionSetting) (c : Call) → setting_for ks c ≡ by_newest (newest_of ks c) c
 setting_is [] c = refl
 setting_is (k ∷ ks) c = setting_after k (setting_for ks c) (newest_of ks c) c (has_among k c.mfa c.exported) (setting_is ks c)
 

@@ -11,3 +11,9 @@ pub mod Picks
 pub mod ItemTexts
 pub mod BeforePicks
 pub mod DifferenceLines
+pub mod Comparisons
+pub mod EvaluationDifferences
+pub mod SessionDifferences
+pub mod NoteCounts
+pub mod NodeFlags
+pub mod NodeNotes

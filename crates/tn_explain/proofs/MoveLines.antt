@@ -6,7 +6,7 @@ use Rattle.def_node.specs.Event.{Event}
 use Rattle.def_run.specs.Run.{HistoryItem, event_item}
 use Rattle.def_run.specs.History.{NamedSession, all_after, all_after_items}
 use Rattle.def_explain.specs.Runs.{shows, shows_nothing, made_by_all, entries_over, entries_of_move}
-use Rattle.tn_explain.specs.Filters.{filter_seen, text_by}
+use Rattle.tn_explain.specs.Filters.{selection_seen, text_by}
 use Rattle.tn_explain.specs.NamedSessions.{AreNamedSessions}
 use Rattle.tn_explain.specs.declared.step.Step.{Step}
 use Rattle.tn_explain.specs.declared.sessions.Sessions.{Sessions}
@@ -17,7 +17,7 @@ pub shown_and_made : (step : Step) (o : Exports) (ss : List NamedSession) (x : H
     → next ≡ first ++ text_by step (shows step.number step.pick x ∷ made_by_all o ss x)
 shown_and_made step o ss x first now next line made =
     twice first (text_by step (shows step.number step.pick x ∷ [])) (text_by step (made_by_all o ss x)) (text_by step (shows step.number step.pick x ∷ made_by_all o ss x)) now next line made
-    (text-append (filter_seen step.filter.now) step.number (shows step.number step.pick x ∷ []) (made_by_all o ss x) (refl, tt))
+    (text-append (selection_seen step.selection.now) step.number (shows step.number step.pick x ∷ []) (made_by_all o ss x) (refl, tt))
 
 -- of a command nothing follows
 pub command_shown : (step : Step) (o : Exports) (ss : List NamedSession) (x : HistoryItem) (first next : List ℕ) → next ≡ first ++ text_by step (shows step.number step.pick x ∷ made_by_all o ss x)
@@ -35,7 +35,7 @@ none_shown step o ss xs text = record { sessions = refl; text = refl }
 over_more : (step : Step) (o : Exports) (us : List NamedSession) (x : HistoryItem) (rest : List HistoryItem)
     → text_by step (entries_over o step.number step.pick us (x ∷ rest)) ≡ text_by step (shows step.number step.pick x ∷ made_by_all o us x) ++ text_by step (entries_over o step.number step.pick (all_after o us x) rest)
 over_more step o us x rest =
-    text-append (filter_seen step.filter.now) step.number (shows step.number step.pick x ∷ made_by_all o us x) (entries_over o step.number step.pick (all_after o us x) rest) (refl, are_made_by_all step.number o us x)
+    text-append (selection_seen step.selection.now) step.number (shows step.number step.pick x ∷ made_by_all o us x) (entries_over o step.number step.pick (all_after o us x) rest) (refl, are_made_by_all step.number o us x)
 
 -- one more of it
 one_shown : (step : Step) (o : Exports) (ss us : List NamedSession) (xs rest : List HistoryItem) (x : HistoryItem) (first now next : List ℕ) → next ≡ now ++ text_by step (shows step.number step.pick x ∷ made_by_all o us x)

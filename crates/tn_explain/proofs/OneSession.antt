@@ -21,7 +21,7 @@ use Rattle.tn_explain.specs.Lines.{lines_text}
 use Rattle.tn_trace.specs.Slots.{IsSession, IsTracked, ObeysOwn}
 use Rattle.tn_trace.specs.Tracks.{Track}
 use Rattle.tn_trace.specs.declared.slot.Slot.{Slot}
-use Rattle.tn_explain.specs.Filters.{filter_seen, is_asked, text_by}
+use Rattle.tn_explain.specs.Filters.{selection_seen, is_asked, text_by}
 use Rattle.tn_explain.specs.NamedSessions.{HasState}
 use Rattle.tn_explain.specs.declared.step.Step.{Step}
 use Rattle.tn_explain.specs.declared.discard.Discard.{Discard}
@@ -52,14 +52,14 @@ module _ {A : Type 0} (step : Step) (o : Exports) (living : Alive) (s : NamedSes
     pub tells_asked : (session : Session A) (text' : List ℕ) → is_asked step old.name ≡ true → value_in session ≡ Some (record { functions = o.functions; state = (event_reported s.1 e).0 }) → text' ≡ text ++ lines_text old.name (event_lines s.1 e) → HasMade (record old { session = Some session }) text'
     tells_asked session text' filter at written = (
       record { name = h.name; session = at },
-      written ∙ ap (λ n. text ++ lines_text n (event_lines s.1 e)) h.name ∙ ap (λ l. text ++ l) (sym (lines_wanted (filter_seen step.filter.now) step.number s.0 (event_lines s.1 e) (asked_of true filter))),
+      written ∙ ap (λ n. text ++ lines_text n (event_lines s.1 e)) h.name ∙ ap (λ l. text ++ l) (sym (lines_wanted (selection_seen step.selection.now) step.number s.0 (event_lines s.1 e) (asked_of true filter))),
     )
 
     pub tells_only : (before session : Session A) (m : Option Tree) → old.session ≡ Some before → is_asked step old.name ≡ false
         → IsSomeAnd (value_in before) (λ v. next_session v (event_reported v.state e) ≡ (value_in session, m)) → HasMade (record old { session = Some session }) text
     tells_only before session m is filter reports = (
       record { name = h.name; session = sym (ap (λ (p : Option SessionValue × Option Tree). p.0) (subst (λ v. IsSomeAnd v (λ u. next_session u (event_reported u.state e) ≡ (value_in session, m))) (is_there before is) reports)) },
-      sym (ap (λ l. text ++ l) (lines_not_wanted (filter_seen step.filter.now) step.number s.0 (event_lines s.1 e) (asked_of false filter)) ∙ append-nil text),
+      sym (ap (λ l. text ++ l) (lines_not_wanted (selection_seen step.selection.now) step.number s.0 (event_lines s.1 e) (asked_of false filter)) ∙ append-nil text),
     )
 
   -- ---- a command
@@ -100,12 +100,12 @@ module _ {A : Type 0} (step : Step) (o : Exports) (living : Alive) (s : NamedSes
         let t = stands_after new (Some r) d in (
           t,
           written ∙ ap (λ n. text ++ lines_text n (said (codes "replies " ++ w r) ∷ [])) t.name ∙ ap (λ ls. text ++ lines_text s.0 ls) (sym (own_lines r new d))
-              ∙ ap (λ l. text ++ l) (sym (lines_wanted (filter_seen step.filter.now) step.number s.0 (session_lines o s (command_item c)) (ap (is_asked step) (sym t.name) ∙ filter))),
+              ∙ ap (λ l. text ++ l) (sym (lines_wanted (selection_seen step.selection.now) step.number s.0 (session_lines o s (command_item c)) (ap (is_asked step) (sym t.name) ∙ filter))),
         )
 
     pub obeys_only : (r : Tree) (new : Slot A Discard) → is_asked step new.name ≡ false → Obeyed new (Some r) → HasReplied new text
     obeys_only r new filter d =
         let t = stands_after new (Some r) d in (
           t,
-          sym (ap (λ l. text ++ l) (lines_not_wanted (filter_seen step.filter.now) step.number s.0 (session_lines o s (command_item c)) (ap (is_asked step) (sym t.name) ∙ filter)) ∙ append-nil text),
+          sym (ap (λ l. text ++ l) (lines_not_wanted (selection_seen step.selection.now) step.number s.0 (session_lines o s (command_item c)) (ap (is_asked step) (sym t.name) ∙ filter)) ∙ append-nil text),
         )

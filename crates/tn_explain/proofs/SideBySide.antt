@@ -9,7 +9,7 @@ use Rattle.def_explain.specs.Runs.{session_lines, makes, made_by_all}
 use Rattle.tn_trace.specs.Slots.{EachPair, EachUpTo}
 use Rattle.tn_trace.specs.declared.slot.Slot.{Slot}
 use Rattle.tn_trace.proofs.Places.{up_to_none, up_to_all, all_dropped, each_mapped, place_here}
-use Rattle.tn_explain.specs.Filters.{filter_seen, text_by}
+use Rattle.tn_explain.specs.Filters.{selection_seen, text_by}
 use Rattle.tn_explain.specs.NamedSessions.{HasState}
 use Rattle.tn_explain.specs.declared.step.Step.{Step}
 use Rattle.tn_explain.specs.declared.discard.Discard.{Discard}
@@ -17,7 +17,7 @@ use Rattle.tn_explain.proofs.MoveTexts.{are_made, text-append}
 
 -- what the first of some sessions makes, and then the others
 first_makes : (step : Step) (o : Exports) (x : HistoryItem) (s : NamedSession) (ss : List NamedSession) → text_by step (made_by_all o (s ∷ ss) x) ≡ text_by step (map (makes s.0) (session_lines o s x)) ++ text_by step (made_by_all o ss x)
-first_makes step o x s ss = text-append (filter_seen step.filter.now) step.number (map (makes s.0) (session_lines o s x)) (made_by_all o ss x) (are_made step.number s.0 (session_lines o s x))
+first_makes step o x s ss = text-append (selection_seen step.selection.now) step.number (map (makes s.0) (session_lines o s x)) (made_by_all o ss x) (are_made step.number s.0 (session_lines o s x))
 
 -- one more session
 pub one_more_made : (step : Step) (o : Exports) (x : HistoryItem) (n : ℕ) (ss : List NamedSession) (here : NamedSession) (now next whole : List ℕ) → drop n ss ≡ here ∷ drop (n + 1) ss → next ≡ now ++ text_by step (map (makes here.0) (session_lines o here x))

@@ -1,5 +1,6 @@
 -- What is written of a run that is explained (own).
-use Rattle.std.specs.Prelude.{◌≡◌, ◌≢◌, ℕ, Bool, true, false, List, [], Option, Some, None}
+use Rattle.std.specs.Prelude.{◌≡◌, ◌≢◌, ℕ, Bool, true, false, ◌||◌, List, [], Option, Some, None}
+use Rattle.std.specs.Option.{is_some}
 use Rattle.def_term.specs.Names.{Name}
 use Rattle.def_script.specs.Program.{Program}
 use Rattle.def_script.specs.Rules.{is_created}
@@ -13,7 +14,7 @@ use Rattle.tn_run.specs.declared.fault.RunFault.{RunFault}
 use Rattle.tn_explain.specs.Filters.{filter_seen}
 use Rattle.tn_explain.specs.declared.request.ExplainRequest.{ExplainRequest}
 use Rattle.tn_explain.specs.declared.request.ExplainOutcome.{ExplainOutcome}
-use Rattle.tn_explain.specs.declared.request.ExplainOutcome.TheVariants.{Account, Refused, NoSession, NoMove}
+use Rattle.tn_explain.specs.declared.request.ExplainOutcome.TheVariants.{Account, Refused, NoSession, NoMove, NoDifference}
 
 -- the session that is asked for is there, where a name is given
 abbrev pub HasAskedSession : Option Name → Program → Type 0
@@ -25,21 +26,16 @@ abbrev pub LacksAskedSession : Option Name → Program → Type 0
 LacksAskedSession None p = ⊥
 LacksAskedSession (Some n) p = is_created p.commands n ≡ false
 
--- where a move's number is given, the account isn't empty: a move has a line at least
-abbrev pub HasAskedMove : Option ℕ → List ℕ → Type 0
-HasAskedMove None text = Unit {0}
-HasAskedMove (Some n) text = text ≢ []
-
--- a move's number is given, and the account is empty
-abbrev pub LacksAskedMove : Option ℕ → List ℕ → Type 0
-LacksAskedMove None text = ⊥
-LacksAskedMove (Some n) text = text ≡ []
+-- an account has a line at least where a move's number is given, or only moves are asked for that a node does otherwise
+abbrev pub asks_for_moves : Filter → Bool
+asks_for_moves a = a.node || is_some a.move
 
 -- what is reported of a program's run by these picks, and what is written
 abbrev pub IsAnswer : Program → List ℕ → Filter → ExplainOutcome → List ℕ → Type 0
-IsAnswer p picks a Account text = HasAskedSession a.session p × HasAskedMove a.move text × (text ≡ account_text a p picks)
+IsAnswer p picks a Account text = HasAskedSession a.session p × (asks_for_moves a ≡ true → text ≢ []) × (text ≡ account_text a p picks)
 IsAnswer p picks a NoSession text = LacksAskedSession a.session p × (text ≡ [])
-IsAnswer p picks a NoMove text = HasAskedSession a.session p × LacksAskedMove a.move (account_text a p picks) × (text ≡ [])
+IsAnswer p picks a NoMove text = HasAskedSession a.session p × (a.node ≡ false) × (is_some a.move ≡ true) × (account_text a p picks ≡ []) × (text ≡ [])
+IsAnswer p picks a NoDifference text = HasAskedSession a.session p × (a.node ≡ true) × (account_text a p picks ≡ []) × (text ≡ [])
 IsAnswer p picks a (Refused r) text = ⊥
 
 -- the answer for the picks that a text spells
@@ -54,13 +50,15 @@ explain_refusal Account = None
 explain_refusal (Refused r) = Some (refusal_of r)
 explain_refusal NoSession = None
 explain_refusal NoMove = None
+explain_refusal NoDifference = None
 
--- the outcome is the account that is asked for
+-- the outcome is the account that is asked for, or that there is no difference
 abbrev pub is_account : ExplainOutcome → Bool
 is_account Account = true
 is_account (Refused r) = false
 is_account NoSession = false
 is_account NoMove = false
+is_account NoDifference = true
 
 -- the explanation that is asked for
 abbrev pub explain_by : ExplainRequest → JobView ExplainOutcome RunFault

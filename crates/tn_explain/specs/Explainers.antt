@@ -6,8 +6,8 @@ use Rattle.def_script.specs.Exports.{exports_of}
 use Rattle.def_run.specs.Run.{PickStep, events, moves, pick_step_after}
 use Rattle.def_run.specs.History.{NamedSession, all_after_items, named_sessions}
 use Rattle.def_explain.specs.Runs.{AccountEntry, entries_of_move}
-use Rattle.def_explain.specs.RunTexts.{Filter}
-use Rattle.tn_explain.specs.Filters.{filter_seen, filtered_text}
+use Rattle.def_explain.specs.RunTexts.{Selection}
+use Rattle.tn_explain.specs.Filters.{selection_seen, filtered_text}
 use Rattle.tn_explain.specs.NamedSessions.{AreNamedSessions}
 use Rattle.tn_explain.specs.declared.explainer.Explainer.{Explainer}
 
@@ -24,10 +24,10 @@ abbrev pub entries_of_turn : Program → ℕ → ℕ → List NamedSession → P
 entries_of_turn p k pick ss t = if t.moved then entries_of_move (exports_of p) (suc k) pick ss t.shown else []
 
 -- its text, as far as it is asked for
-abbrev pub text_of_pick : Filter → Program → List ℕ → ℕ → List ℕ
+abbrev pub text_of_pick : Selection → Program → List ℕ → ℕ → List ℕ
 text_of_pick a p picks pick = let k : ℕ = length (moves p picks) in filtered_text a (suc k) (entries_of_turn p k pick (sessions_after p picks) (pick_step_after p picks pick))
 
 -- it was appended, and the same is asked for as before
 pub record AddsExplanation {A : Type 0} (p : Program) (picks : List ℕ) (pick : ℕ) (old new : Explainer A) (text text' : Vec ℕ A) : Type 0 where
-  pub filter : new.filter ≡ old.filter
-  pub written : text'.items ≡ text.items ++ text_of_pick (filter_seen old.filter) p picks pick
+  pub filter : new.selection ≡ old.selection
+  pub written : text'.items ≡ text.items ++ text_of_pick (selection_seen old.selection) p picks pick

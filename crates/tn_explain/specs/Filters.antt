@@ -4,25 +4,29 @@ use Rattle.std.specs.Option.{option_map}
 use Rattle.def_run.specs.Run.{event_item, command_item}
 use Rattle.def_explain.specs.Runs.{AccountEntry, shows, shows_nothing}
 use Rattle.def_explain.specs.RunTexts as definition
-use Rattle.def_explain.specs.RunTexts.{is_move, is_session, entry_text, filter_entries, account_text}
+use Rattle.def_explain.specs.RunTexts.{Selection, selects, is_session, entry_text, filter_entries, selected_text, selection, account_text}
 use Rattle.tn_flags.specs.Views.{event_of, command_of}
 use Rattle.tn_flags.specs.declared.event.Event.{Event}
 use Rattle.tn_flags.specs.declared.command.Command.{Command}
 use Rattle.tn_program.specs.Views.{program_of}
 use Rattle.tn_program.specs.declared.parts.Program.{Program}
 use Rattle.tn_explain.specs.declared.filter.Filter.{Filter}
+use Rattle.tn_explain.specs.declared.selection.Selection as code
 use Rattle.tn_explain.specs.declared.step.Step.{Step}
 
 abbrev pub filter_seen : Filter → definition.Filter
-filter_seen a = record { session = option_map (λ s. s.now) a.session; move = a.move_number }
+filter_seen a = record { session = option_map (λ s. s.now) a.session; move = a.move_number; node = a.node }
 
--- the text of those of the entries that are asked for, after the move of this number
-abbrev pub filtered_text : definition.Filter → ℕ → List AccountEntry → List ℕ
+abbrev pub selection_seen : code.Selection → Selection
+selection_seen a = record { session = option_map (λ s. s.now) a.session; move = a.move_number; among = option_map (λ bs. bs.now) a.among }
+
+-- the text of those of the entries that are selected, after the move of this number
+abbrev pub filtered_text : Selection → ℕ → List AccountEntry → List ℕ
 filtered_text a k es = flat_map entry_text (filter_entries a k es)
 
 -- the same, after the move that is written of
 abbrev pub text_by : Step → List AccountEntry → List ℕ
-text_by step es = filtered_text (filter_seen step.filter.now) step.number es
+text_by step es = filtered_text (selection_seen step.selection.now) step.number es
 
 -- the line of the move that shows this event, where the move is asked for
 abbrev pub text_of_event : {A : Type 0} → Step → Event A → List ℕ
@@ -38,7 +42,15 @@ text_of_nothing step = text_by step (shows_nothing step.number step.pick ∷ [])
 
 -- it is asked for what the session of this name makes of the move
 abbrev pub is_asked : Step → List ℕ → Bool
-is_asked step name = is_move (filter_seen step.filter.now).move step.number && is_session (filter_seen step.filter.now).session name
+is_asked step name = selects (selection_seen step.selection.now) step.number && is_session (selection_seen step.selection.now).session name
+
+-- what is selected of the program's run by these picks
+abbrev pub selected_of : {A : Type 0} → code.Selection → Program A → List ℕ → List ℕ
+selected_of a program picks = selected_text (selection_seen a) (program_of program) picks
+
+-- what the filter selects of it
+abbrev pub selection_of : {A : Type 0} → Filter → Program A → List ℕ → Selection
+selection_of filter program picks = selection (filter_seen filter) (program_of program) picks
 
 -- the account of the program's run by these picks, as far as it is asked for
 abbrev pub account_of : {A : Type 0} → Filter → Program A → List ℕ → List ℕ

@@ -8,3 +8,5 @@ pub mod Filters
 pub mod NamedSessions
 pub mod Explainers
 pub mod Accounts
+pub mod Comparisons
+pub mod Notes

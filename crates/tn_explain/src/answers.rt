@@ -27,6 +27,9 @@ pub fn account_of<A: Allocator + Copy>(
         }
     }
     put_account(alloc, program, picks, filter, &mut out)?;
+    if filter.node && out.is_empty() {
+        return Ok((ExplainOutcome::NoDifference, out));
+    }
     if filter.move_number.is_some() && out.is_empty() {
         return Ok((ExplainOutcome::NoMove, out));
     }

@@ -19,7 +19,7 @@ use tn_term::{Mfa, Term};
 use tn_text::{write_atom, write_term};
 
 /// Whether a command is about a call: every call, or those that name the module.
-fn concerns<A: Allocator + Copy>(newest: &NewestSetting<'_, A>, call: &Call<A>) -> bool
+pub(crate) fn concerns<A: Allocator + Copy>(newest: &NewestSetting<'_, A>, call: &Call<A>) -> bool
     ensures { result ≡ (newest.now.local || call.now.named) }
 {
     newest.local || call.named

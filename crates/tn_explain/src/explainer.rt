@@ -1,5 +1,5 @@
 // What explains a run as it takes its picks.
-use crate::filter::Filter;
+use crate::selection::Selection;
 use crate::sessions::Sessions;
 use crate::step::Step;
 use std::alloc::{AllocError, Allocator};
@@ -7,10 +7,10 @@ use tn_flags::{Command, Event};
 use tn_program::Program;
 use tn_trace::{JournalEntry, Observer};
 
-/// The sessions of a run that is explained, and what is asked for.
+/// The sessions of a run that is explained, and what is selected of it.
 #[derive(Drop)]
 pub(crate) struct Explainer<'a, A: Allocator> {
-    pub filter: Filter<'a>,
+    pub selection: Selection<'a>,
     pub sessions: Sessions<A>,
 }
 
@@ -23,13 +23,13 @@ impl<'a, A: Allocator + Copy> Explainer<'a, A> {
     pub fn new(
         alloc: A,
         program: &Program<A>,
-        filter: &Filter<'a>,
+        selection: &Selection<'a>,
     ) -> Result<Explainer<'a, A>, AllocError>
         ensures explained { IfOk result (λ e. HasExplained e (program_of program.now) []) }
-        ensures filter { IfOk result (λ e. e.filter ≡ filter.now) }
+        ensures selection { IfOk result (λ e. e.selection ≡ selection.now) }
     {
         Ok(Explainer {
-            filter: *filter,
+            selection: *selection,
             sessions: Sessions::new(alloc, program)?,
         })
     }
@@ -56,7 +56,7 @@ impl<'a, A: Allocator + Copy> Observer<A> for Explainer<'a, A> {
         out: &mut Vec<u8, A>,
     ) -> Result<(), AllocError> {
         let step = Step {
-            filter: &self.filter,
+            selection: &self.selection,
             number: entry.number,
             pick: entry.pick,
         };
@@ -73,7 +73,7 @@ impl<'a, A: Allocator + Copy> Observer<A> for Explainer<'a, A> {
         out: &mut Vec<u8, A>,
     ) -> Result<(), AllocError> {
         let step = Step {
-            filter: &self.filter,
+            selection: &self.selection,
             number: entry.number,
             pick: entry.pick,
         };

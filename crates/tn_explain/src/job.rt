@@ -37,6 +37,7 @@ impl<A: Allocator + Copy> Job<A> for ExplainRequest<'_> {
             ExplainOutcome::Refused(_) => false,
             ExplainOutcome::NoSession => false,
             ExplainOutcome::NoMove => false,
+            ExplainOutcome::NoDifference => true,
         }
     }
 

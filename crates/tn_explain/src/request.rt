@@ -22,4 +22,6 @@ pub enum ExplainOutcome {
     NoSession,
     /// Nothing: the run has no move of the number that is asked for.
     NoMove,
+    /// Nothing: of the moves that are asked for a running node is known to do none otherwise.
+    NoDifference,
 }

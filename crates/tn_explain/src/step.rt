@@ -2,17 +2,17 @@
 ghost use Rattle.std.specs.Prelude.{◌≡◌, ◌++◌, ◌∷◌, OnOk, decimal};
 ghost use Rattle.tn_text.specs.Writes.{Grows};
 
-use crate::filter::Filter;
 use crate::item_text::{put_command, put_event};
+use crate::selection::Selection;
 use itoa::Buffer;
 use std::alloc::{AllocError, Allocator};
 use tn_flags::{Command, Event};
 use tn_term::Atom;
 
-/// A move that is written of: its number from 1, its pick, and what is asked for.
+/// A move that is written of: its number from 1, its pick, and what is selected of the run.
 #[derive(Clone, Copy)]
 pub(crate) struct Step<'a> {
-    pub filter: &'a Filter<'a>,
+    pub selection: &'a Selection<'a>,
     pub number: u64,
     pub pick: u32,
 }
@@ -35,7 +35,7 @@ impl Step<'_> {
     pub fn is_asked_of<A: Allocator>(&self, name: &Atom<A>) -> bool
         ensures { result ≡ is_asked self.now name.now }
     {
-        self.filter.is_move(self.number) && self.filter.is_session(name)
+        self.selection.selects(self.number) && self.selection.is_session(name)
     }
 
     /// Appends the line of a command that the move shows, where the move is asked for.
@@ -47,7 +47,7 @@ impl Step<'_> {
         ensures ok { OnOk result (out.new.items ≡ out.old.items ++ text_of_command self.now command.now) }
         ensures grows { Grows out.old.items out.new.items }
     {
-        if !self.filter.is_move(self.number) {
+        if !self.selection.selects(self.number) {
             return Ok(());
         }
         put_numbers(self.number, self.pick, out)?;
@@ -66,7 +66,7 @@ impl Step<'_> {
         ensures ok { OnOk result (out.new.items ≡ out.old.items ++ text_of_event self.now event.now) }
         ensures grows { Grows out.old.items out.new.items }
     {
-        if !self.filter.is_move(self.number) {
+        if !self.selection.selects(self.number) {
             return Ok(());
         }
         put_numbers(self.number, self.pick, out)?;
@@ -80,7 +80,7 @@ impl Step<'_> {
         ensures ok { OnOk result (out.new.items ≡ out.old.items ++ text_of_nothing self.now) }
         ensures grows { Grows out.old.items out.new.items }
     {
-        if !self.filter.is_move(self.number) {
+        if !self.selection.selects(self.number) {
             return Ok(());
         }
         put_numbers(self.number, self.pick, out)?;

@@ -1,15 +1,23 @@
-use Rattle.std.proofs.Common.{rules, codes, []}
+use Rattle.std.proofs.Common.{◌≡◌, ◌∙◌, rules, codes, []}
 use Rattle.std.proofs.lemmas.Result.{IfOk-weaker}
-use Rattle.tn_cli.specs.Line.{IsCommand}
-use Rattle.tn_cli.proofs.Names.{one_more, one_more_so, one_made}
+use Rattle.clap.specs.Facts.{groups_of}
+use Rattle.tn_cli.specs.Line.{BY_PICKS, IsCommand}
+use Rattle.tn_cli.proofs.Names.{one_more, one_group, wants_picks}
 use Rattle.tn_cli.proofs.line.by_picks.Goals as goal
 
-pub returns : goal.returns
-returns c =
+pub returns-clause-arguments : goal.returns-clause-arguments
+returns-clause-arguments c =
     let name = c.args.name.now in
     let bare : IsCommand name [] c.about.result = record { called = search rules; takes = search rules } in
-    let first = one_more name [] (codes "script") c.about.result c.in_ok-command.command c.script.result bare c.script.ensures.0 c.in_ok-command.ensures in
-    let second = one_made name _ (codes "picks") c.in_ok-command.command c.in_ok-with_argument.field-0 c.picks.result first
-    (IfOk-weaker c.picks.result _ _ (λ a is. is.0) c.picks.ensures)
-    c.in_ok-with_argument.ensures in
-    one_more_so name _ (codes "picks-file") c.in_ok-with_argument.field-0 c.picks_file.result c.arg-2.result second c.picks_file.ensures.0 c.arg-2.ensures
+    let first = one_more name [] (codes "script") c.about.result c.in_ok-arg.field-0 c.script.result bare c.script.ensures.0 c.in_ok-arg.ensures in
+    let second = one_more name _ (codes "picks") c.in_ok-arg.field-0 c.in_ok-arg-2.field-0 c.picks.result first c.picks.ensures.0 c.in_ok-arg-2.ensures in
+    let third = one_more name _ (codes "picks-file") c.in_ok-arg-2.field-0 c.in_ok-arg-3.field-0 c.picks_file.result second c.picks_file.ensures.0
+    c.in_ok-arg-3.ensures in
+    IfOk-weaker c.group.result _ _ (λ new added. one_group name BY_PICKS c.in_ok-arg-3.field-0 new c.in_ok-one_of_picks.one_of_picks third added) c.group.ensures
+
+pub returns-clause-picks : goal.returns-clause-picks
+returns-clause-picks c =
+    let bare : groups_of c.about.result ≡ [] = search rules in
+    let none = c.in_ok-arg-3.ensures.groups ∙ c.in_ok-arg-2.ensures.groups ∙ c.in_ok-arg.ensures.groups ∙ bare in
+    IfOk-weaker c.group.result _ _
+    (λ new added. wants_picks c.in_ok-arg-3.field-0 new c.in_ok-one_of_picks.one_of_picks none c.in_ok-one_of_picks.ensures added) c.group.ensures

@@ -1,21 +1,21 @@
 use Rattle.std.proofs.Common.{◌≡◌, rules, codes, []}
 use Rattle.std.proofs.lemmas.Result.{IfOk-weaker}
 use Rattle.clap.specs.Built.{subcommand_names}
-use Rattle.tn_cli.specs.Line.{BY_PICKS, EXPLAIN, ROUND, WORKERS, TRIAL}
+use Rattle.tn_cli.specs.Line.{REPLAY, EXPLAIN, ROUND, WORKERS, TRIAL}
 use Rattle.tn_cli.proofs.Names.{command_made}
 use Rattle.tn_cli.proofs.line.command.Goals as goal
 
 pub returns : goal.returns
 returns c =
     let bare : subcommand_names c.subcommand_required-command.result ≡ [] = search rules in
-    let first = command_made [] (codes "replay") BY_PICKS c.subcommand_required-command.result c.in_ok-command.command c.replay.result bare
-    c.replay.ensures c.in_ok-command.ensures in
+    let first = command_made [] (codes "replay") REPLAY c.subcommand_required-command.result c.in_ok-command.command c.replay.result bare
+    c.replay.ensures.arguments c.in_ok-command.ensures in
     let second = command_made _ (codes "round") ROUND c.in_ok-command.command c.in_ok-command-2.command c.round.result first
     c.round.ensures c.in_ok-command-2.ensures in
     let third = command_made _ (codes "workers") WORKERS c.in_ok-command-2.command c.in_ok-command-3.command c.workers.result second
     c.workers.ensures c.in_ok-command-3.ensures in
     let fourth = command_made _ (codes "explain") EXPLAIN c.in_ok-command-3.command c.in_ok-command-4.command c.explain.result third
-    c.explain.ensures c.in_ok-command-4.ensures in
+    c.explain.ensures.arguments c.in_ok-command-4.ensures in
     IfOk-weaker c.with_subcommand-5.result _ _
     (λ new added. command_made _ (codes "spec") TRIAL c.in_ok-command-4.command new c.spec.result fourth c.spec.ensures added)
     c.with_subcommand-5.ensures

@@ -1,0 +1,79 @@
+-- A run has one note.
+use Rattle.std.proofs.Common.{◌≡◌, ◌∙◌, ◌⊎◌, ℕ, List, Option, Some, None, Result, Ok, Err, IfOk, refl, sym, ap, subst}
+use Rattle.std.specs.Option.{option_map}
+use Rattle.def_script.specs.Program.{Program}
+use Rattle.def_script.proofs.OneScript.{one_program}
+use Rattle.def_run.proofs.Outputs.{picks_are_one}
+use Rattle.def_explain.specs.NodeMoves as definition
+use Rattle.def_explain.specs.NodeMoves.{node_note}
+use Rattle.tn_run.specs.Answers.{ScheduleView, by_picks, by_round, by_workers, schedule_seen, ArePicks, HasPicks, run_for}
+use Rattle.tn_run.specs.Jobs.{Gives, OfScript}
+use Rattle.tn_run.specs.declared.outcome.Outcome.{Outcome}
+use Rattle.tn_run.specs.declared.outcome.Outcome.TheVariants as run
+use Rattle.tn_explain.specs.Notes.{note_seen, HasNote, run_and_note}
+use Rattle.tn_explain.specs.declared.note.NodeNote.{NodeNote}
+use Rattle.tn_explain.specs.declared.run_and_note.RunAndNote.{RunAndNote}
+use Rattle.tn_explain.specs.declared.run_and_note.RunEnd.{RunEnd}
+use Rattle.tn_explain.specs.declared.run_and_note.RunEnd.TheVariants.{Listed, Refused}
+use Rattle.complete_workers.proofs.OneRun.{one_run, reads_or_not}
+
+-- the code's note that stands for a note
+abbrev note_back : definition.NodeNote → NodeNote
+note_back n = record { differing = n.differing; moves = n.moves }
+
+back_is : (n : Option NodeNote) → option_map note_back (option_map note_seen n) ≡ n
+back_is None = refl
+back_is (Some n) = refl
+
+-- two that stand for one are one
+pub same_note : (n m : Option NodeNote) (k : Option definition.NodeNote) → option_map note_seen n ≡ k → option_map note_seen m ≡ k → n ≡ m
+same_note n m k h i = sym (back_is n) ∙ ap (option_map note_back) (h ∙ sym i) ∙ back_is m
+
+-- the picks that are asked of a program are one
+same_picks : (a : ScheduleView) (p : Program) (xs ys : List ℕ) → ArePicks a p xs → ArePicks a p ys → xs ≡ ys
+same_picks (by_picks text) p xs ys h i = picks_are_one text xs ys h i
+same_picks (by_round limit) p xs ys h i = h ∙ sym i
+same_picks (by_workers made) p xs ys h i = h.0 ∙ sym i.0
+
+notes_are_one : (a : ScheduleView) (p : Program) (n m : Option NodeNote) → HasNote a p n → HasNote a p m → n ≡ m
+notes_are_one a p n m h i = same_note n m (node_note p h.picks) h.is (i.is ∙ ap (node_note p) (same_picks a p i.picks h.picks i.given h.given))
+
+-- of the same text
+pub of_one_text : (bytes picks : List ℕ) (n m : Option NodeNote) → OfScript bytes (λ p. option_map note_seen n ≡ node_note p picks) → OfScript bytes (λ p. option_map note_seen m ≡ node_note p picks) → n ≡ m
+of_one_text bytes picks n m h i =
+    same_note n m (node_note h.program picks) h.output (i.output ∙ ap (λ p. node_note p picks) (one_program bytes i.program h.program i.accepted h.accepted))
+
+pub if_both : {X Y E F : Type 0} (r : Result X E) (q : Result Y F) (P : X → Type 0) (Q : Y → Type 0) (R : X → Y → Type 0) → ((x : X) (y : Y) → P x → Q y → R x y) → IfOk r P → IfOk q Q → IfOk r (λ x. IfOk q (λ y. R x y))
+if_both (Ok x) (Ok y) P Q R h i j = h x y i j
+if_both (Ok x) (Err e) P Q R h i j = tt
+if_both (Err d) q P Q R h i j = tt
+
+-- ---- the job
+
+module _ (bytes : List ℕ) (q : RunAndNote) where
+  abbrev view : ScheduleView
+  view = schedule_seen q.schedule
+
+  -- its run
+  abbrev outcome_of : RunEnd → Outcome
+  outcome_of (Listed note) = run.Listed
+  outcome_of (Refused r) = run.Refused r
+
+  run_given : (o : RunEnd) (x : List ℕ) → Gives (run_and_note q) bytes o x → Gives (run_for view) bytes (outcome_of o) x
+  run_given (Listed note) x h = record { program = h.program; accepted = h.accepted; output = h.output.0 }
+  run_given (Refused r) x h = h
+
+  same_end : (o u : RunEnd) (x y : List ℕ) → Gives (run_and_note q) bytes o x → Gives (run_and_note q) bytes u y → outcome_of o ≡ outcome_of u → o ≡ u
+  same_end (Listed n) (Listed m) x y h i e =
+      ap Listed (notes_are_one view h.program n m h.output.1 (subst (λ p. HasNote view p m) (one_program bytes i.program h.program i.accepted h.accepted) i.output.1))
+  same_end (Listed n) (Refused s) x y h i e = absurd (cc e)
+  same_end (Refused r) (Listed m) x y h i e = absurd (cc e)
+  same_end (Refused r) (Refused s) x y h i e = let same : r ≡ s = cc e in ap Refused same
+
+  pub run_and_note_are_one : (o u : RunEnd) (x y : List ℕ) → Gives (run_and_note q) bytes o x → Gives (run_and_note q) bytes u y → (o ≡ u) × (x ≡ y)
+  run_and_note_are_one o u x y h i =
+      let both = one_run bytes view (outcome_of o) (outcome_of u) x y (run_given o x h) (run_given u y i) in
+      (same_end o u x y h i both.0, both.1)
+
+  pub runs_or_not : (o : RunEnd) (x : List ℕ) → Gives (run_and_note q) bytes o x → HasPicks view ⊎ (HasPicks view → ⊥)
+  runs_or_not o x h = reads_or_not view bytes (outcome_of o) x (run_given o x h)

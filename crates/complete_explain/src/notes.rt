@@ -1,0 +1,78 @@
+// What a running node does otherwise in a run.
+ghost use Rattle.std.specs.Prelude.{◌≡◌, IfOk};
+ghost use Rattle.tn_program.specs.Views.{program_of};
+
+use std::alloc::{AllocError, Allocator};
+use tn_explain::NodeNote;
+use tn_program::Program;
+use tn_run::Denial;
+
+/// `tn_explain::can_differ` has one answer for one program.
+pub fn can_differ<A: Allocator + Copy>(
+    alloc: A,
+    first: &Program<A>,
+    second: &Program<A>,
+) -> (Result<bool, AllocError>, Result<bool, AllocError>)
+    requires { program_of first.now ≡ program_of second.now }
+    ensures { IfOk result.0 (λ b. IfOk result.1 (λ d. b ≡ d)) }
+{
+    (
+        tn_explain::can_differ(alloc, first),
+        tn_explain::can_differ(alloc, second),
+    )
+}
+
+/// `tn_explain::differing_moves` has one answer for one program and the same picks.
+pub fn differing_moves<A: Allocator + Copy>(
+    alloc: A,
+    first: &Program<A>,
+    second: &Program<A>,
+    picks: &[u32],
+) -> (
+    Result<Vec<bool, A>, AllocError>,
+    Result<Vec<bool, A>, AllocError>,
+)
+    requires { program_of first.now ≡ program_of second.now }
+    ensures { IfOk result.0 (λ v. IfOk result.1 (λ w. v.items ≡ w.items)) }
+{
+    (
+        tn_explain::differing_moves(alloc, first, picks),
+        tn_explain::differing_moves(alloc, second, picks),
+    )
+}
+
+/// `tn_explain::node_note` has one answer for one program and the same picks.
+pub fn node_note<A: Allocator + Copy>(
+    alloc: A,
+    first: &Program<A>,
+    second: &Program<A>,
+    picks: &[u32],
+) -> (
+    Result<Option<NodeNote>, AllocError>,
+    Result<Option<NodeNote>, AllocError>,
+)
+    requires { program_of first.now ≡ program_of second.now }
+    ensures { IfOk result.0 (λ n. IfOk result.1 (λ m. n ≡ m)) }
+{
+    (
+        tn_explain::node_note(alloc, first, picks),
+        tn_explain::node_note(alloc, second, picks),
+    )
+}
+
+/// `tn_explain::text_note` has one answer for one text and the same picks.
+pub fn text_note<A: Allocator + Copy>(
+    alloc: A,
+    text: &[u8],
+    picks: &[u32],
+) -> (
+    Result<Option<NodeNote>, Denial>,
+    Result<Option<NodeNote>, Denial>,
+)
+    ensures { IfOk result.0 (λ n. IfOk result.1 (λ m. n ≡ m)) }
+{
+    (
+        tn_explain::text_note(alloc, text, picks),
+        tn_explain::text_note(alloc, text, picks),
+    )
+}

@@ -1,0 +1,66 @@
+-- Which moves of a run a running node does otherwise (own).
+-- Depends on the history of a run, and on what a session makes of an event or a command.
+use Rattle.std.specs.Prelude.{◌≢◌, ◌⊎◌, ℕ, Bool, true, false, if◌then◌else◌, List, [], ◌∷◌, map, length, Option, Some, None}
+use Rattle.std.specs.List.{list_any, count_by}
+use Rattle.def_script.specs.Program.{Program}
+use Rattle.def_script.specs.Exports.{Exports, exports_of}
+use Rattle.def_run.specs.Run.{HistoryItem}
+use Rattle.def_run.specs.History.{NamedSession, Moment, MoveHistory, move_histories}
+use Rattle.def_explain.specs.Differences.{Difference}
+use Rattle.def_explain.specs.Accounts.{differences_in_lines}
+use Rattle.def_explain.specs.Runs.{session_lines}
+
+-- one of these is so
+abbrev pub One : {X : Type 0} → (X → Type 0) → List X → Type 0
+One P [] = ⊥
+One P (x ∷ xs) = P x ⊎ One P xs
+
+-- what this session makes of it has what a node does otherwise
+abbrev pub SessionDiffers : Exports → HistoryItem → NamedSession → Type 0
+SessionDiffers o x s = differences_in_lines (session_lines o s x) ≢ []
+
+-- what one of the sessions makes of it
+abbrev pub MomentDiffers : Exports → Moment → Type 0
+MomentDiffers o m = One (SessionDiffers o m.item) m.before
+
+-- one of the moments of a move is such
+abbrev pub MoveDiffers : Exports → MoveHistory → Type 0
+MoveDiffers o h = One (MomentDiffers o) h.moments
+
+-- ---- the same, computed
+
+-- there is one
+abbrev pub is_some_difference : List Difference → Bool
+is_some_difference [] = false
+is_some_difference (x ∷ xs) = true
+
+-- what this session makes of it has what a node does otherwise
+abbrev pub session_differs : Exports → HistoryItem → NamedSession → Bool
+session_differs o x s = is_some_difference (differences_in_lines (session_lines o s x))
+
+-- what one of the sessions makes of it
+abbrev pub moment_differs : Exports → Moment → Bool
+moment_differs o m = list_any (session_differs o m.item) m.before
+
+-- one of the moments of a move is such
+abbrev pub move_differs : Exports → MoveHistory → Bool
+move_differs o h = list_any (moment_differs o) h.moments
+
+-- ---- a run
+
+-- of each move of a run in order, whether a node does it otherwise
+abbrev pub differing_moves : Program → List ℕ → List Bool
+differing_moves p picks = map (move_differs (exports_of p)) (move_histories p picks)
+
+-- how many moves a node does otherwise, and how many there are
+pub record NodeNote : Type 0 where
+  pub differing : ℕ
+  pub moves : ℕ
+
+-- the note of these, where a node does one of them otherwise
+abbrev pub note_of : List Bool → Option NodeNote
+note_of bs = if list_any (λ b. b) bs then Some (record { differing = count_by (λ b. b) bs; moves = length bs }) else None
+
+-- the note of a run
+abbrev pub node_note : Program → List ℕ → Option NodeNote
+node_note p picks = note_of (differing_moves p picks)

@@ -1,0 +1,50 @@
+-- What the code's notes stand for, and runs that have them (own).
+use Rattle.std.specs.Prelude.{◌≡◌, ℕ, Bool, true, false, List, Option, Some, None}
+use Rattle.std.specs.Option.{option_map}
+use Rattle.def_script.specs.Program.{Program}
+use Rattle.def_script.specs.Script.{Refusal}
+use Rattle.def_explain.specs.NodeMoves as definition
+use Rattle.def_explain.specs.NodeMoves.{node_note}
+use Rattle.tn_refusal.specs.Refusals.{refusal_of}
+use Rattle.tn_run.specs.Answers.{ScheduleView, schedule_seen, ArePicks, HasPicks, IsRunListing}
+use Rattle.tn_run.specs.Jobs.{JobView, failed_end}
+use Rattle.tn_run.specs.declared.fault.RunFault.{RunFault}
+use Rattle.tn_explain.specs.declared.note.NodeNote.{NodeNote}
+use Rattle.tn_explain.specs.declared.run_and_note.RunAndNote.{RunAndNote}
+use Rattle.tn_explain.specs.declared.run_and_note.RunEnd.{RunEnd}
+use Rattle.tn_explain.specs.declared.run_and_note.RunEnd.TheVariants.{Listed, Refused}
+
+abbrev pub note_seen : NodeNote → definition.NodeNote
+note_seen n = record { differing = n.differing; moves = n.moves }
+
+-- the note of the program's run by the picks that are asked for
+pub record HasNote (a : ScheduleView) (p : Program) (note : Option NodeNote) : Type 0 where
+  pub picks : List ℕ
+  pub given : ArePicks a p picks
+  pub is : option_map note_seen note ≡ node_note p picks
+
+-- the output is that of the program, and the note that of its run, where the outcome is its listing
+abbrev pub IsListedWithNote : ScheduleView → Program → RunEnd → List ℕ → Type 0
+IsListedWithNote a p (Listed note) output = IsRunListing a p output × HasNote a p note
+IsListedWithNote a p (Refused r) output = ⊥
+
+-- the refusal that an outcome is
+abbrev pub end_refusal : RunEnd → Option Refusal
+end_refusal (Listed n) = None
+end_refusal (Refused r) = Some (refusal_of r)
+
+-- the outcome is the listing of an accepted script
+abbrev pub is_listing : RunEnd → Bool
+is_listing (Listed n) = true
+is_listing (Refused r) = false
+
+-- a run by a schedule, with its note
+abbrev pub run_and_note : RunAndNote → JobView RunEnd RunFault
+run_and_note q = record {
+  of_program = IsListedWithNote (schedule_seen q.schedule);
+  refusal_in = end_refusal;
+  succeeds = is_listing;
+  has = λ end. Unit {0};
+  reads = HasPicks (schedule_seen q.schedule);
+  end_of = failed_end;
+}

@@ -1,0 +1,197 @@
+// Whether a running node does otherwise as an event is evaluated.
+ghost use Rattle.std.specs.Prelude.{◌≡◌, ◌||◌, IfOk};
+ghost use Rattle.def_node.specs.Event.{called};
+ghost use Rattle.def_session.specs.Settings.{by};
+ghost use Rattle.tn_flags.specs.Views.{call_seen, event_of};
+ghost use Rattle.tn_spec.specs.Wholes.{spec_seen};
+ghost use Rattle.tn_session.specs.Looks.{look_setting};
+ghost use Rattle.tn_explain.specs.Events.{EachSend, receive_of};
+ghost use Rattle.tn_explain.specs.Comparisons.{clause_differs_seen, DiffersBy, DiffersOn, DiffersAt};
+
+use crate::calls::concerns;
+use bumpalo::Bump;
+use std::alloc::{AllocError, Allocator};
+use tn_action::{Context, Effect};
+use tn_flags::{Call, Event};
+use tn_guard::{AtomConst, ListView, Value};
+use tn_index::Setting;
+use tn_session::Look;
+use tn_spec::{Clause, Dialect, Spec};
+use tn_term::Term;
+use tn_verdict::{Difference, Verdict, body_differs, order_differs, verdict};
+
+/// Whether a node does otherwise at a clause that fires.
+fn clause_differs<A: Allocator>(
+    dialect: Dialect,
+    clause: &Clause<A>,
+    context: &Context<'_, A>,
+    effects: &[Effect<A>],
+) -> bool
+    ensures { result ≡ clause_differs_seen dialect clause.now context.now effects.now }
+{
+    order_differs(clause)
+        || body_differs(Difference::NodeEnds, dialect, context, effects)
+        || body_differs(Difference::FindsNoTracer, dialect, context, effects)
+        || body_differs(Difference::SuppressesMessage, dialect, context, effects)
+        || body_differs(Difference::LeavesNoMark, dialect, context, effects)
+}
+
+/// Whether it does at the first clause that fires, where one does. What is evaluated lies in the arena.
+fn clauses_differ<'a, A: Allocator + Copy>(
+    alloc: A,
+    arena: &'a Bump<A>,
+    spec: &'a Spec<A>,
+    context: &Context<'a, A>,
+) -> Result<bool, AllocError>
+    ensures { IfOk result (DiffersBy (by (spec_seen spec.now)) context.now) }
+{
+    let clauses = &spec.clauses;
+    for i in 0..clauses.len() {
+        let clause = &clauses[i];
+        match verdict(alloc, arena, spec.dialect, clause, context)? {
+            Verdict::Fails(_) => {}
+            Verdict::Fires { effects, .. } => {
+                return Ok(clause_differs(spec.dialect, clause, context, &effects));
+            }
+        }
+    }
+    Ok(false)
+}
+
+/// The same in an arena that is given up afterwards.
+fn spec_differs<A: Allocator + Copy>(
+    alloc: A,
+    spec: &Spec<A>,
+    context: &Context<'_, A>,
+) -> Result<bool, AllocError>
+    ensures { IfOk result (DiffersBy (by (spec_seen spec.now)) context.now) }
+{
+    let arena = Bump::new(alloc);
+    Ok(clauses_differ(alloc, &arena, spec, context)?)
+}
+
+/// Whether it does as a setting is evaluated in a context.
+fn setting_differs<A: Allocator + Copy>(
+    alloc: A,
+    setting: Setting<&Spec<A>>,
+    context: &Context<'_, A>,
+) -> Result<bool, AllocError>
+    ensures { IfOk result (DiffersBy (look_setting setting.entry) context.now) }
+{
+    match setting {
+        Setting::Disabled => Ok(false),
+        Setting::Always => Ok(false),
+        Setting::Specification(spec) => spec_differs(alloc, spec, context),
+    }
+}
+
+/// Whether it does as a setting is evaluated on these values of a process.
+fn values_differ<'a, A: Allocator + Copy>(
+    alloc: A,
+    setting: Setting<&'a Spec<A>>,
+    look: &Look<'a, A>,
+    pid: u32,
+    list: &'a [Value<'a, A>],
+) -> Result<bool, AllocError>
+    ensures { IfOk result (DiffersOn (look_setting setting.entry) look.now pid list.now) }
+{
+    let context = Context {
+        list: ListView::Values(list),
+        self_pid: pid,
+        caller: None,
+        alive: look.alive(),
+        flags: look.flags(),
+    };
+    setting_differs(alloc, setting, &context)
+}
+
+/// Whether it does at a send.
+fn send_differs<'a, A: Allocator + Copy>(
+    alloc: A,
+    look: &Look<'a, A>,
+    pid: u32,
+    message: &'a Term<A>,
+    to: u32,
+) -> Result<bool, AllocError>
+    ensures { EachSend pid message.now to (λ e. IfOk result (DiffersAt look.now e)) }
+{
+    if !look.flags_at(pid).send {
+        return Ok(false);
+    }
+    let list = [Value::Pid(to), Value::Lent(message)];
+    Ok(values_differ(alloc, look.send_setting(), look, pid, &list)?)
+}
+
+/// Whether it does at a receive.
+fn receive_differs<'a, A: Allocator + Copy>(
+    alloc: A,
+    look: &Look<'a, A>,
+    pid: u32,
+    sender: u32,
+    message: &'a Term<A>,
+) -> Result<bool, AllocError>
+    ensures { IfOk result (DiffersAt look.now (receive_of pid sender message.now)) }
+{
+    if !look.flags_at(pid).receive {
+        return Ok(false);
+    }
+    let list = [
+        Value::AtomConst(AtomConst::Node),
+        Value::Pid(sender),
+        Value::Lent(message),
+    ];
+    Ok(values_differ(alloc, look.receive_setting(), look, pid, &list)?)
+}
+
+/// Whether it does at a call.
+fn call_differs<'a, A: Allocator + Copy>(
+    alloc: A,
+    look: &Look<'a, A>,
+    pid: u32,
+    call: &'a Call<A>,
+) -> Result<bool, AllocError>
+    ensures { IfOk result (DiffersAt look.now (called pid (call_seen call.now))) }
+{
+    if !look.flags_at(pid).call {
+        return Ok(false);
+    }
+    let Some(newest) = look.newest(call) else {
+        return Ok(false);
+    };
+    if !concerns(&newest, call) {
+        return Ok(false);
+    }
+    let context = Context {
+        list: ListView::Terms(call.args.as_slice()),
+        self_pid: pid,
+        caller: call.caller.as_ref(),
+        alive: look.alive(),
+        flags: look.flags(),
+    };
+    setting_differs(alloc, newest.setting, &context)
+}
+
+/// Whether a node does otherwise as an event is evaluated.
+pub(crate) fn evaluation_differs<'a, A: Allocator + Copy>(
+    alloc: A,
+    look: &Look<'a, A>,
+    event: &'a Event<A>,
+) -> Result<bool, AllocError>
+    ensures { IfOk result (DiffersAt look.now (event_of event.now)) }
+{
+    match event {
+        Event::Sent {
+            pid,
+            message,
+            to,
+            ..
+        } => send_differs(alloc, look, *pid, message, *to),
+        Event::Received {
+            pid,
+            sender,
+            message,
+        } => receive_differs(alloc, look, *pid, *sender, message),
+        Event::Called { pid, call } => call_differs(alloc, look, *pid, call),
+        _ => Ok(false),
+    }
+}
