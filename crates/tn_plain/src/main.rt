@@ -1,7 +1,8 @@
 //! The runs `replay --picks TEXT` and `round [--limit N]` of `tracenode`, in a program without `clap`.
 //!
 //! The start script runs it where the whole program isn't built yet: without `clap` it is compiled in little
-//! more than half the time. Depends on tn_command, which promises what is written and the status. Of other
+//! more than half the time. Depends on tn_command and tn_explain, which promise what is written, the note and
+//! the status. Of other
 //! words it says which it takes, with status 2; the start script gives it no others.
 #![tactic(auto)]
 
@@ -14,6 +15,7 @@ ghost use Rattle.tn_plain.specs.Words.{IsLimit, spelled_number, AsksFor, AsksNot
 use std::process::ExitCode;
 use std::rt::{Env, Files};
 use tn_command::{REFUSED, Source, arguments, perform, plain_number};
+use tn_explain::RunAndNote;
 use tn_run::Schedule;
 use tn_trace::JOURNAL;
 
@@ -61,7 +63,7 @@ fn start<R: Env + Input + Files + Print + Eprint + AllocGlobal>(rt: &R) -> ExitC
         Err(status) => return status,
     };
     match schedule(&words) {
-        Some(schedule) => perform(rt, Source::Input, &schedule),
+        Some(schedule) => perform(rt, Source::Input, &RunAndNote { schedule }),
         None => {
             let _ = rt.eprintln("error: the words are replay --picks TEXT, or round [--limit N]");
             ExitCode::from(REFUSED)
