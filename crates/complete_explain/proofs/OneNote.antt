@@ -8,9 +8,8 @@ use Rattle.def_explain.specs.NodeMoves as definition
 use Rattle.def_explain.specs.NodeMoves.{node_note}
 use Rattle.tn_run.specs.Answers.{ScheduleView, by_picks, by_round, by_workers, schedule_seen, ArePicks, HasPicks, run_for}
 use Rattle.tn_run.specs.Jobs.{Gives, OfScript}
-use Rattle.tn_run.specs.declared.outcome.Outcome.{Outcome}
-use Rattle.tn_run.specs.declared.outcome.Outcome.TheVariants as run
-use Rattle.tn_explain.specs.Notes.{note_seen, HasNote, run_and_note}
+use Rattle.tn_explain.specs.Notes.{note_seen, HasNote, run_and_note, run_outcome}
+use Rattle.tn_explain.proofs.NodeNotes.{run_with_note_is_run}
 use Rattle.tn_explain.specs.declared.note.NodeNote.{NodeNote}
 use Rattle.tn_explain.specs.declared.run_and_note.RunAndNote.{RunAndNote}
 use Rattle.tn_explain.specs.declared.run_and_note.RunEnd.{RunEnd}
@@ -55,15 +54,10 @@ module _ (bytes : List ℕ) (q : RunAndNote) where
   view = schedule_seen q.schedule
 
   -- its run
-  abbrev outcome_of : RunEnd → Outcome
-  outcome_of (Listed note) = run.Listed
-  outcome_of (Refused r) = run.Refused r
+  run_given : (o : RunEnd) (x : List ℕ) → Gives (run_and_note q) bytes o x → Gives (run_for view) bytes (run_outcome o) x
+  run_given o x h = run_with_note_is_run q bytes o x h
 
-  run_given : (o : RunEnd) (x : List ℕ) → Gives (run_and_note q) bytes o x → Gives (run_for view) bytes (outcome_of o) x
-  run_given (Listed note) x h = record { program = h.program; accepted = h.accepted; output = h.output.0 }
-  run_given (Refused r) x h = h
-
-  same_end : (o u : RunEnd) (x y : List ℕ) → Gives (run_and_note q) bytes o x → Gives (run_and_note q) bytes u y → outcome_of o ≡ outcome_of u → o ≡ u
+  same_end : (o u : RunEnd) (x y : List ℕ) → Gives (run_and_note q) bytes o x → Gives (run_and_note q) bytes u y → run_outcome o ≡ run_outcome u → o ≡ u
   same_end (Listed n) (Listed m) x y h i e =
       ap Listed (notes_are_one view h.program n m h.output.1 (subst (λ p. HasNote view p m) (one_program bytes i.program h.program i.accepted h.accepted) i.output.1))
   same_end (Listed n) (Refused s) x y h i e = absurd (cc e)
@@ -72,8 +66,8 @@ module _ (bytes : List ℕ) (q : RunAndNote) where
 
   pub run_and_note_are_one : (o u : RunEnd) (x y : List ℕ) → Gives (run_and_note q) bytes o x → Gives (run_and_note q) bytes u y → (o ≡ u) × (x ≡ y)
   run_and_note_are_one o u x y h i =
-      let both = one_run bytes view (outcome_of o) (outcome_of u) x y (run_given o x h) (run_given u y i) in
+      let both = one_run bytes view (run_outcome o) (run_outcome u) x y (run_given o x h) (run_given u y i) in
       (same_end o u x y h i both.0, both.1)
 
   pub runs_or_not : (o : RunEnd) (x : List ℕ) → Gives (run_and_note q) bytes o x → HasPicks view ⊎ (HasPicks view → ⊥)
-  runs_or_not o x h = reads_or_not view bytes (outcome_of o) x (run_given o x h)
+  runs_or_not o x h = reads_or_not view bytes (run_outcome o) x (run_given o x h)

@@ -1,12 +1,12 @@
 -- Whether a node does otherwise as an event is evaluated: at a clause that fires, by a setting, and at an event.
-use Rattle.std.proofs.Common.{◌≡◌, ◌∙◌, ℕ, suc, ◌+◌, ◌<◌, ◌≤◌, Bool, true, false, ◌||◌, if◌then◌else◌, List, [], ◌∷◌, ◌++◌, Option, Some, None, option_to_list, is_some, length, get_or, drop, map, refl, sym, ap}
+use Rattle.std.proofs.Common.{◌≡◌, ◌∙◌, ℕ, ◌+◌, ◌<◌, ◌≤◌, Bool, true, false, ◌||◌, if◌then◌else◌, List, [], ◌∷◌, ◌++◌, Option, Some, None, option_to_list, is_some, length, get_or, drop, map, refl, sym, ap}
 use Rattle.std.proofs.lemmas.List.{drop_more, drop_all}
 use Rattle.std.specs.Option.{option_map}
 use Rattle.def_spec.specs.Expressions.{Dialect, Context, Effect}
 use Rattle.def_spec.specs.Matching.{Bindings}
 use Rattle.def_spec.specs.Outcome as outcome
 use Rattle.def_spec.specs.Flags.{call_flag}
-use Rattle.def_node.specs.Event.{Event, Call, called}
+use Rattle.def_node.specs.Event.{Call, called}
 use Rattle.def_session.specs.State.{Session, flags_at}
 use Rattle.def_session.specs.Session.{context}
 use Rattle.def_session.specs.Settings.{FunctionSetting, Setting, off, setting_for}

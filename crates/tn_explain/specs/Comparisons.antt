@@ -1,5 +1,5 @@
 -- Whether a running node does otherwise, as the code tells it.
-use Rattle.std.specs.Prelude.{◌≡◌, ℕ, Bool, if◌then◌else◌, List, [], ◌∷◌, ◌++◌, map, Option, Some, None}
+use Rattle.std.specs.Prelude.{◌≡◌, ℕ, Bool, if◌then◌else◌, List, [], ◌∷◌, ◌++◌, map, Option, Some}
 use Rattle.std.specs.declared.vec.Vec.{Vec}
 use Rattle.std.specs.List.{list_any}
 use Rattle.def_term.specs.Alive.{Alive}
@@ -7,9 +7,7 @@ use Rattle.def_script.specs.Program.{Program}
 use Rattle.def_script.specs.Exports.{Exports, exports_of}
 use Rattle.def_run.specs.Run.{HistoryItem, event_item, PickStep, pick_step_after}
 use Rattle.def_run.specs.History.{NamedSession, after, all_after, all_after_items, moments_from}
-use Rattle.std.specs.Option.{option_map}
 use Rattle.def_node.specs.Event.{Event}
-use Rattle.def_spec.specs.Expressions.{Context}
 use Rattle.def_session.specs.Settings.{Setting}
 use Rattle.def_session.specs.State as definition
 use Rattle.def_session.specs.State.{alive_after}

@@ -6,8 +6,10 @@ use Rattle.def_script.specs.Script.{Refusal}
 use Rattle.def_explain.specs.NodeMoves as definition
 use Rattle.def_explain.specs.NodeMoves.{node_note}
 use Rattle.tn_refusal.specs.Refusals.{refusal_of}
-use Rattle.tn_run.specs.Answers.{ScheduleView, schedule_seen, ArePicks, HasPicks, IsRunListing}
-use Rattle.tn_run.specs.Jobs.{JobView, failed_end}
+use Rattle.tn_run.specs.Answers.{ScheduleView, schedule_seen, ArePicks, HasPicks, IsRunListing, run_by}
+use Rattle.tn_run.specs.Jobs.{JobView, Gives, failed_end}
+use Rattle.tn_run.specs.declared.outcome.Outcome.{Outcome}
+use Rattle.tn_run.specs.declared.outcome.Outcome.TheVariants as run
 use Rattle.tn_run.specs.declared.fault.RunFault.{RunFault}
 use Rattle.tn_explain.specs.declared.note.NodeNote.{NodeNote}
 use Rattle.tn_explain.specs.declared.run_and_note.RunAndNote.{RunAndNote}
@@ -48,3 +50,13 @@ run_and_note q = record {
   reads = HasPicks (schedule_seen q.schedule);
   end_of = failed_end;
 }
+
+-- what it is without its note
+abbrev pub run_outcome : RunEnd → Outcome
+run_outcome (Listed n) = run.Listed
+run_outcome (Refused r) = run.Refused r
+
+-- what it gives is what the run by its schedule gives
+abbrev pub RunWithNoteIsRun : Type 0
+RunWithNoteIsRun =
+    (q : RunAndNote) (bytes : List ℕ) (end : RunEnd) (output : List ℕ) → Gives (run_and_note q) bytes end output → Gives (run_by q.schedule) bytes (run_outcome end) output

@@ -1,14 +1,16 @@
 //! A run that is explained: what each move shows and what each session makes of it, line by line; and the bytes of
 //! a script, a text of picks and a filter in, the bytes of an account out.
 //!
-//! Depends on tn_session and tn_trace (a run, which takes the picks, and its sessions, which are looked at before and
-//! after each step), tn_verdict (what becomes of a clause, and the texts of reasons and effects), tn_run
-//! (which reads, accepts and refuses scripts) and on the definitions of def_explain. Promises that `put_event_lines`
-//! appends the lines of the definition, each after the name of the session, and takes the session through the event;
-//! that `put_command_line` appends the line of a reply; that `put_account` appends the account of the program's run
-//! by some picks, as far as the filter asks for it, and nothing where memory is refused; and that `explain` writes
-//! exactly that account, or the line of the one refusal, or nothing where the session or the move that the filter
-//! names isn't there, and says which; and that a fault says which end failed, and how many bytes of it were taken.
+//! Depends on tn_session and tn_trace (a run, which takes the picks, and its sessions, which are looked at before
+//! and after each step), tn_verdict (what becomes of a clause, and the texts of reasons and effects), tn_run (which
+//! reads, accepts and refuses scripts) and on the definitions of def_explain. Promises that `put_event_lines`
+//! appends the lines of the definition, each after the name of the session, and takes the session through the
+//! event; that `put_command_line` appends the line of a reply; that `put_account` appends the account of the
+//! program's run by some picks, as far as the filter asks for it, and nothing where memory is refused; and that
+//! `explain` writes exactly that account, or the line of the one refusal, or nothing where the session or the move
+//! that the filter names isn't there, and says which; and that a fault says which end failed, and how many bytes of
+//! it were taken; that the note of a run is the defined one, and that a run with its note writes what the run
+//! writes.
 #![tactic(auto)]
 
 mod account;
@@ -27,6 +29,7 @@ mod filter;
 mod inheritance;
 mod item_text;
 mod job;
+mod laws;
 mod line;
 mod messages;
 mod node_commands;
@@ -44,6 +47,7 @@ pub use account::put_account;
 pub use event::put_event_lines;
 pub use filter::Filter;
 pub use job::explain;
+pub use laws::a_run_with_a_note_is_a_run;
 pub use line::put_command_line;
 pub use node_commands::can_differ;
 pub use node_moves::differing_moves;
