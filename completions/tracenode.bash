@@ -19,20 +19,23 @@ _tracenode() {
     else
         case $before in
             --picks | --limit | --n | --turns | --session | --move | --list | --me | --caller) return ;;
+            --expect-line | --reject-line) return ;;
             --for)
                 COMPREPLY=($(compgen -W 'call send receive' -- "$word"))
                 return
                 ;;
-            --picks-file | --install)
+            --picks-file | --expect | --install)
                 _tracenode_files "$word"
                 return
                 ;;
         esac
         case $command in
-            replay) words='--picks --picks-file --quiet -h --help' ;;
-            round) words='--limit --quiet -h --help' ;;
-            workers) words='--n --turns --quiet -h --help' ;;
-            explain) words='--picks --picks-file --session --move --node -h --help' ;;
+            replay) words='--picks --picks-file --quiet --expect --expect-line --reject-line -h --help' ;;
+            round) words='--limit --quiet --expect --expect-line --reject-line -h --help' ;;
+            workers) words='--n --turns --quiet --expect --expect-line --reject-line -h --help' ;;
+            explain)
+                words='--picks --picks-file --session --move --node --expect --expect-line --reject-line -h --help'
+                ;;
             spec) words='--list --for --me --caller -h --help' ;;
             help) words='replay round workers explain spec' ;;
         esac

@@ -36,6 +36,7 @@ exit 7
             explain,
             ["replay", "--picks", "0", "--quiet"],
             ["round", "--quiet"],
+            ["round", "--expect-line", "x"],
         ),
     }
     with tempfile.TemporaryDirectory() as folder:
@@ -68,6 +69,11 @@ exit 7
         ran = run(line, command=(str(top / "tracenode"),), env=path, cwd=folder)
         wanted = f"tn_cli explain --node {there}/a.term --picks-file={there}/b\n"
         check("files after a flag where nothing is built", ran.stdout.decode() == wanted, ran)
+        line = ["round", "--expect", "b", "a.term", "--expect=c=d", "--expect-line", "x", "--reject-line", "-y"]
+        ran = run(line, command=(str(top / "tracenode"),), env=path, cwd=folder)
+        wanted = f"tn_cli round --expect {there}/b {there}/a.term --expect={there}/c=d --expect-line x"
+        wanted += " --reject-line -y\n"
+        check("files of an expectation where nothing is built", ran.stdout.decode() == wanted, ran)
         line = ["round", "--limit", "5", "/x/a.term"]
         ran = run(line, command=(str(top / "tracenode"),), env=path, cwd=folder)
         check("a whole path where nothing is built", ran.stdout == b"tn_cli round --limit 5 /x/a.term\n", ran)
@@ -171,6 +177,7 @@ def command_lines():
     spellings_of_processes()
     spellings_of_sessions()
     quiet_runs()
+    expectations()
 
 
 def spellings_of_processes():
@@ -212,6 +219,71 @@ def quiet_runs():
         check(f"a quiet {' '.join(words)}", seen and (quiet.returncode or not quiet.stderr), (ran, quiet))
     ran = run(["workers", "--n", "1", "--quiet"], SEND_HI)
     check("a quiet run by workers", ran.returncode == 0 and ran.stdout.startswith(b"== session s1") and not ran.stderr, ran)
+
+
+def expectations():
+    """Outputs that are what is expected and outputs that aren't, by each option and each command, with the reasons."""
+    one_worker = ["workers", "--n", "1", "--quiet"]
+    lines = [[*SEND_HI_PICKS, "--quiet"], ["round", "--quiet"], one_worker, ["explain", "--picks", "0 0 100 100"]]
+    with tempfile.TemporaryDirectory() as folder:
+        place = pathlib.Path(folder)
+        whole, other = place / "whole", place / "other"
+        for words in lines:
+            plain = run(words, SEND_HI)
+            output = plain.stdout
+            name = words[0]
+            check(f"{name} as it is", plain.returncode == 0 and output.count(b"\n") > 4, plain)
+            first, third = (output.splitlines()[at].decode() for at in (0, 2))
+            whole.write_bytes(output)
+            held = [*words, "--expect", str(whole), "--expect-line", first, "--reject-line", "no such line"]
+            wants(f"{name} with all that is expected", run(held, SEND_HI), 0, output, b"")
+            for line in (first, third):
+                wants(f"{name} with {line}", run([*words, "--expect-line", line], SEND_HI), 0, output, b"")
+                told = f"error: the output has the line {line}\n".encode()
+                ran = run([*words, "--reject-line", line], SEND_HI)
+                wants(f"{name} that must not have {line}", ran, 1, output, told)
+            for line in (first[:-1], f"{first} ", "-x"):
+                told = f"error: the output has no line {line}\n".encode()
+                wants(f"{name} without {line}", run([*words, "--expect-line", line], SEND_HI), 1, output, told)
+                wants(f"{name} rejects {line}", run([*words, "--reject-line", line], SEND_HI), 0, output, b"")
+            number = output.count(b"\n")
+            last = output.splitlines()[-1]
+            changed = output.replace(third.encode(), b"another", 1)
+            texts = {
+                "a line that differs": (changed, f"expected line 3: another\nfound line 3: {third}\n".encode()),
+                "bytes that differ": (output.replace(third.encode(), b"\xff", 1), b"line 3 differs\n"),
+                "a control character": (output.replace(third.encode(), b"a\x01", 1), b"line 3 differs\n"),
+                "one line more": (
+                    output + b"more\n",
+                    b"expected line %d: more\nfound the end of the output\n" % (number + 1),
+                ),
+                "one line less": (
+                    b"".join(output.splitlines(keepends=True)[:-1]),
+                    b"expected the end of the output\nfound line %d: %s\n" % (number, last),
+                ),
+                "no last line feed": (output[:-1], b"line %d differs in the line feed at its end\n" % number),
+                "no text": (b"", f"expected the end of the output\nfound line 1: {first}\n".encode()),
+            }
+            for kind, (text, told) in texts.items():
+                other.write_bytes(text)
+                wants(f"{name} with {kind}", run([*words, "--expect", str(other)], SEND_HI), 1, output, told)
+            for path in (place / "absent", place):
+                ran = run([*words, "--expect", str(path)], SEND_HI)
+                good = ran.returncode == 2 and not ran.stdout and ran.stderr.count(b"\n") == 1
+                check(f"{name} with {path.name} as the output", good and str(path).encode() in ran.stderr, ran)
+            ran = run([*words, "--expect", str(whole), "--expect", str(whole)], SEND_HI)
+            check(f"{name} with two outputs", ran.returncode == 2 and not ran.stdout and ran.stderr, ran)
+            ran = run([*words, "--expect-line", "no such line"], b"[")
+            plain = run(words, b"[")
+            seen = (ran.returncode, ran.stdout, ran.stderr)
+            check(f"{name} refused whatever is expected", seen == (2, plain.stdout, plain.stderr), (ran, plain))
+        all_three = ["--expect", str(other), "--expect-line", "absent", "--reject-line", "== replies"]
+        other.write_bytes(SEND_HI_OUTPUT + b"more\n")
+        ran = run([*SEND_HI_PICKS, "--quiet", *all_three], SEND_HI)
+        told = b"error: the output has no line absent\nerror: the output has the line == replies\n"
+        check("all reasons", ran.returncode == 1 and ran.stderr.endswith(told) and b"more\n" in ran.stderr, ran)
+    ran = run(["spec", "--list", "[]", "--expect-line", "x", "[]"])
+    check("a trial with an expectation", ran.returncode == 2 and not ran.stdout, ran)
 
 
 def starts():

@@ -149,6 +149,8 @@ def completions():
             (("tracenode", "explain", "--n"), ["--node"]),
             (("tracenode", "explain", "--q"), [""]),
             (("tracenode", "replay", "--q"), ["--quiet"]),
+            (("tracenode", "round", "--e"), ["--expect", "--expect-line"]),
+            (("tracenode", "round", "--expect", "scripts/twi"), ["scripts/twice.term"]),
             (("tracenode", "workers", "--quiet", "scr"), ["scripts"]),
             (("tracenode", "spec", "--for", "s"), ["send"]),
             (("tracenode", "replay", "scr"), ["scripts"]),

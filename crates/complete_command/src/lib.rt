@@ -6,6 +6,7 @@
 //! `jobs::run_and_note` and `jobs::explain` show it of the jobs that a command does. Promises nothing to other crates.
 #![tactic(auto)]
 
+mod expectation;
 mod jobs;
 mod last_error;
 mod number;

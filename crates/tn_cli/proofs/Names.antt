@@ -1,5 +1,5 @@
 -- What one argument, one group or one command more makes of the names of a command's arguments and commands.
-use Rattle.std.proofs.Common.{◌≡◌, ◌∙◌, ℕ, List, [], ◌∷◌, ◌++◌, map, Result, IfOk, IsOkAnd, Ok, Err, ap, ap₂}
+use Rattle.std.proofs.Common.{◌≡◌, ◌∙◌, ℕ, List, [], ◌∷◌, ◌++◌, map, Result, IfOk, IsOkAnd, Ok, Err, refl, ap, ap₂, subst, codes}
 use Rattle.std.proofs.lemmas.List.{map-append}
 use Rattle.std.proofs.lemmas.Result.{IfOk-weaker}
 use Rattle.clap.specs.declared.builder.arg.Arg.{Arg}
@@ -8,7 +8,7 @@ use Rattle.clap.specs.declared.builder.command.Command.{Command}
 use Rattle.clap.specs.Facts.{args_of, groups_of, subcommands_of}
 use Rattle.clap.specs.Built.{AddsArg, AddsGroup, AddsSubcommand, subcommand_names}
 use Rattle.clap.specs.Simple.{Shape, shape_of}
-use Rattle.tn_cli.specs.Line.{IsCommand, IsOneOf, PICKS, WantsPicks}
+use Rattle.tn_cli.specs.Line.{EXPECTATION, IsCommand, IsOneOf, IsWithExpectation, PICKS, WantsPicks}
 
 pub one_more : (name : List ℕ) (arguments : List (List ℕ)) (word : List ℕ) (old new : Command) (a : Arg)
     → IsCommand name arguments old → a.id.now ≡ word → AddsArg old a new → IsCommand name (arguments ++ word ∷ []) new
@@ -40,6 +40,28 @@ wants_picks old new g none one added = (g, added.1 ∙ ap (λ gs. gs ++ g ∷ []
 -- so it does with an argument more
 pub still_wants : (old new : Command) (a : Arg) → WantsPicks old → AddsArg old a new → WantsPicks new
 still_wants old new a wants added = (wants.0, added.groups ∙ wants.1, wants.2)
+
+-- three arguments, one after the other
+three_after : (xs : List (List ℕ)) (a b d : List ℕ) → ((xs ++ a ∷ []) ++ b ∷ []) ++ d ∷ [] ≡ xs ++ a ∷ b ∷ d ∷ []
+three_after [] a b d = refl
+three_after (x ∷ xs) a b d = ap (λ l. x ∷ l) (three_after xs a b d)
+
+-- the three arguments that say what the output must be
+pub expectation_more : (old second third new : Command) (a b d : Arg) → a.id.now ≡ codes "expect" → b.id.now ≡ codes "expect-line"
+    → d.id.now ≡ codes "reject-line" → AddsArg old a second → AddsArg second b third → AddsArg third d new → IsWithExpectation old new
+expectation_more old second third new a b d is_a is_b is_d with_a with_b with_d = record {
+  takes_more = λ name arguments is.
+      let one = one_more name arguments (codes "expect") old second a is is_a with_a in
+      let two = one_more name _ (codes "expect-line") second third b one is_b with_b in
+      let three = one_more name _ (codes "reject-line") third new d two is_d with_d in
+      subst (λ l. IsCommand name l new) (three_after arguments (codes "expect") (codes "expect-line") (codes "reject-line")) three;
+  wants_so = λ wants. still_wants third new d (still_wants second third b (still_wants old second a wants with_a) with_b) with_d;
+}
+
+-- a command with these after its own arguments, where there was memory for that
+pub expectation_so : {E : Type 0} (name : List ℕ) (arguments : List (List ℕ)) (old : Command) (r : Result Command E)
+    → IsCommand name arguments old → IfOk r (IsWithExpectation old) → IfOk r (IsCommand name (arguments ++ EXPECTATION))
+expectation_so name arguments old r is = IfOk-weaker r _ _ (λ new more. more.takes_more name arguments is)
 
 -- a command more, that there was memory for
 pub command_made : {E : Type 0} (names : List (List ℕ)) (word : List ℕ) (arguments : List (List ℕ)) (old new : Command)

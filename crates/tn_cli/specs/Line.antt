@@ -1,5 +1,5 @@
 -- What the command line takes (own): its commands, and the arguments of each.
-use Rattle.std.specs.Prelude.{◌≡◌, ℕ, pos, List, [], ◌∷◌, Some, None, true, false, map, codes}
+use Rattle.std.specs.Prelude.{◌≡◌, ℕ, pos, List, [], ◌∷◌, ◌++◌, Some, None, true, false, map, codes}
 use Rattle.clap.specs.declared.builder.arg.Arg.{Arg}
 use Rattle.clap.specs.declared.builder.arg_group.ArgGroup.{ArgGroup}
 use Rattle.clap.specs.declared.builder.action.ArgAction.TheVariants.{Set, SetTrue}
@@ -56,21 +56,30 @@ WantsPicks c = (g : ArgGroup) × (groups_of c ≡ g ∷ []) × IsOneOf PICKS g
 abbrev pub BY_PICKS : List (List ℕ)
 BY_PICKS = codes "script" ∷ codes "picks" ∷ codes "picks-file" ∷ []
 
+-- the arguments that say what the output must be
+abbrev pub EXPECTATION : List (List ℕ)
+EXPECTATION = codes "expect" ∷ codes "expect-line" ∷ codes "reject-line" ∷ []
+
+-- the command has these arguments after its own, and wants its picks as it did
+pub record IsWithExpectation (old new : Command) : Type 0 where
+  pub takes_more : (name : List ℕ) (arguments : List (List ℕ)) → IsCommand name arguments old → IsCommand name (arguments ++ EXPECTATION) new
+  pub wants_so : WantsPicks old → WantsPicks new
+
 -- the arguments of `replay`
 abbrev pub REPLAY : List (List ℕ)
-REPLAY = codes "script" ∷ codes "picks" ∷ codes "picks-file" ∷ codes "quiet" ∷ []
+REPLAY = codes "script" ∷ codes "picks" ∷ codes "picks-file" ∷ codes "quiet" ∷ EXPECTATION
 
 -- the arguments of `explain`
 abbrev pub EXPLAIN : List (List ℕ)
-EXPLAIN = codes "script" ∷ codes "picks" ∷ codes "picks-file" ∷ codes "session" ∷ codes "move" ∷ codes "node" ∷ []
+EXPLAIN = codes "script" ∷ codes "picks" ∷ codes "picks-file" ∷ codes "session" ∷ codes "move" ∷ codes "node" ∷ EXPECTATION
 
 -- the arguments of `round`
 abbrev pub ROUND : List (List ℕ)
-ROUND = codes "script" ∷ codes "limit" ∷ codes "quiet" ∷ []
+ROUND = codes "script" ∷ codes "limit" ∷ codes "quiet" ∷ EXPECTATION
 
 -- the arguments of `workers`
 abbrev pub WORKERS : List (List ℕ)
-WORKERS = codes "script" ∷ codes "n" ∷ codes "turns" ∷ codes "quiet" ∷ []
+WORKERS = codes "script" ∷ codes "n" ∷ codes "turns" ∷ codes "quiet" ∷ EXPECTATION
 
 -- the arguments of `spec`
 abbrev pub TRIAL : List (List ℕ)

@@ -17,6 +17,7 @@ use Rattle.tn_spec.specs.declared.func.Dialect.{Dialect}
 use Rattle.tn_spec.specs.declared.func.Dialect.TheVariants.{Call, Send, Recv}
 use Rattle.tn_cli.specs.declared.request.PicksSource.{PicksSource}
 use Rattle.tn_cli.specs.declared.request.PicksSource.TheVariants.{Text, In}
+use Rattle.tn_cli.specs.declared.request.ExpectationArgs.{ExpectationArgs}
 use Rattle.tn_cli.specs.declared.request.SpecTestArgs.{SpecTestArgs}
 use Rattle.tn_cli.specs.declared.request.Request.{Request}
 use Rattle.tn_cli.specs.declared.request.Request.TheVariants.{Replay, Explain, Round, Workers, Spec}
@@ -123,20 +124,36 @@ IsTrialOf m t =
     × IsTextOf (argument m (codes "caller")) t.caller
     × IsTextOf (argument m (codes "specification")) t.specification
 
+-- the file that `--expect` names, and the lines of `--expect-line` and `--reject-line`
+abbrev pub IsExpectationOf : ArgMatches → ExpectationArgs → Type 0
+IsExpectationOf m e =
+    IsTextOf (argument m (codes "expect")) e.file
+    × IsTextOf (argument m (codes "expect-line")) e.line
+    × IsTextOf (argument m (codes "reject-line")) e.no_line
+
+-- what the output of a request must be: anything, of a trial
+abbrev pub request_expectation : Request → ExpectationArgs
+request_expectation (Replay script picks quiet e) = e
+request_expectation (Explain script picks filter e) = e
+request_expectation (Round script limit quiet e) = e
+request_expectation (Workers script count turns quiet e) = e
+request_expectation (Spec trial) = record { file = None; line = None; no_line = None }
+
 -- what the subcommand of this name asks for, by what was found after it
 abbrev pub Asks : List ℕ → ArgMatches → Request → Type 0
-Asks name m (Replay script picks quiet) =
+Asks name m (Replay script picks quiet expectation) =
     (name ≡ codes "replay") × IsSourceNamed (argument m (codes "script")) script × ArePicksOf m picks
-    × (quiet ≡ is_given m (codes "quiet"))
-Asks name m (Explain script picks filter) =
+    × (quiet ≡ is_given m (codes "quiet")) × IsExpectationOf m expectation
+Asks name m (Explain script picks filter expectation) =
     (name ≡ codes "explain") × IsSourceNamed (argument m (codes "script")) script × ArePicksOf m picks × IsAskedOf m filter
-Asks name m (Round script limit quiet) =
+    × IsExpectationOf m expectation
+Asks name m (Round script limit quiet expectation) =
     (name ≡ codes "round") × IsSourceNamed (argument m (codes "script")) script × IsGiven 1 65536 (argument m (codes "limit")) limit
-    × (quiet ≡ is_given m (codes "quiet"))
-Asks name m (Workers script count turns quiet) =
+    × (quiet ≡ is_given m (codes "quiet")) × IsExpectationOf m expectation
+Asks name m (Workers script count turns quiet expectation) =
     (name ≡ codes "workers") × IsSourceNamed (argument m (codes "script")) script
     × IsGiven 1 16 (argument m (codes "n")) count × IsGiven 1 65536 (argument m (codes "turns")) turns
-    × (quiet ≡ is_given m (codes "quiet"))
+    × (quiet ≡ is_given m (codes "quiet")) × IsExpectationOf m expectation
 Asks name m (Spec trial) = (name ≡ codes "spec") × IsTrialOf m trial
 
 -- a number that the subcommand of this name was given isn't one, or is out of its bounds; for `spec` also no pid

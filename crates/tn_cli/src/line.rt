@@ -1,7 +1,8 @@
 // What the command line may say.
 ghost use Rattle.std.specs.Prelude.{◌≡◌, codes, true, IfOk, IsOkAnd};
 ghost use Rattle.clap.specs.Built.{AddsSubcommand, subcommand_names};
-ghost use Rattle.tn_cli.specs.Line.{IsOption, IsFlag, IsWord, IsElse, IsFromTo, IsOneOf, IsCommand, WantsPicks};
+ghost use Rattle.tn_cli.specs.Line.{IsOption, IsFlag, IsWord, IsElse, IsFromTo, IsOneOf};
+ghost use Rattle.tn_cli.specs.Line.{IsCommand, IsWithExpectation, WantsPicks};
 ghost use Rattle.tn_cli.specs.Line.{PICKS, BY_PICKS, REPLAY, EXPLAIN, ROUND, WORKERS, TRIAL, COMMAND_NAMES};
 
 use clap::{Arg, ArgAction, ArgGroup, Command, value_parser};
@@ -20,6 +21,7 @@ Example:
 
 Exit status:
   0  the output was written
+  1  the output was written, and isn't what --expect, --expect-line or --reject-line says
   2  the script, the picks or the command line is refused
   3  a fault: a failed read or write, or want of memory";
 
@@ -90,13 +92,60 @@ fn quiet<'a>(alloc: Global) -> Arg<'a>
         .action(ArgAction::SetTrue)
 }
 
-/// The subcommand `replay [SCRIPT] [--quiet]` with picks.
+/// `--expect FILE`.
+fn expect<'a>(alloc: Global) -> Arg<'a>
+    ensures { IsOption (codes "expect") result }
+{
+    Arg::new(alloc, "expect")
+        .long("expect")
+        .value_name("FILE")
+        .help("The output must be the bytes of this file, or else the exit status is 1")
+        .action(ArgAction::Set)
+}
+
+/// `--expect-line TEXT`. TEXT may begin with a hyphen.
+fn expect_line<'a>(alloc: Global) -> Arg<'a>
+    ensures { IsOption (codes "expect-line") result }
+{
+    Arg::new(alloc, "expect-line")
+        .long("expect-line")
+        .value_name("TEXT")
+        .help("The output must have this line, or else the exit status is 1")
+        .allow_hyphen_values(true)
+        .action(ArgAction::Set)
+}
+
+/// `--reject-line TEXT`. TEXT may begin with a hyphen.
+fn reject_line<'a>(alloc: Global) -> Arg<'a>
+    ensures { IsOption (codes "reject-line") result }
+{
+    Arg::new(alloc, "reject-line")
+        .long("reject-line")
+        .value_name("TEXT")
+        .help("The output must not have this line, or else the exit status is 1")
+        .allow_hyphen_values(true)
+        .action(ArgAction::Set)
+}
+
+/// The command with `[--expect FILE] [--expect-line TEXT] [--reject-line TEXT]` more, which say what its output must
+/// be.
+fn with_expectation<'a>(alloc: Global, command: Command<'a>) -> Result<Command<'a>, AllocError>
+    ensures { IfOk result (IsWithExpectation command.entry) }
+{
+    command
+        .arg(expect(alloc))?
+        .arg(expect_line(alloc))?
+        .arg(reject_line(alloc))
+}
+
+/// The subcommand `replay [SCRIPT] [--quiet]` with picks, and with what its output must be.
 fn replay<'a>(alloc: Global) -> Result<Command<'a>, AllocError>
     ensures arguments { IfOk result (IsCommand (codes "replay") REPLAY) }
     ensures picks { IfOk result WantsPicks }
 {
     let about = "Runs the script by the given picks, and prints what its sessions saw";
-    by_picks(alloc, "replay", about)?.arg(quiet(alloc))
+    let command = by_picks(alloc, "replay", about)?.arg(quiet(alloc))?;
+    with_expectation(alloc, command)
 }
 
 /// `--session NAME`. NAME may begin with a hyphen, and may be in quotes as atoms are in scripts.
@@ -135,16 +184,17 @@ fn node<'a>(alloc: Global) -> Arg<'a>
         .action(ArgAction::SetTrue)
 }
 
-/// The subcommand `explain [SCRIPT] [--session NAME] [--move N] [--node]` with picks.
+/// The subcommand `explain [SCRIPT] [--session NAME] [--move N] [--node]` with picks, and with what its output must be.
 fn explain<'a>(alloc: Global) -> Result<Command<'a>, AllocError>
     ensures arguments { IfOk result (IsCommand (codes "explain") EXPLAIN) }
     ensures picks { IfOk result WantsPicks }
 {
     let about = "Runs the script by the given picks, and prints why each session tells or doesn't";
-    by_picks(alloc, "explain", about)?
+    let command = by_picks(alloc, "explain", about)?
         .arg(session(alloc))?
         .arg(move_number(alloc))?
-        .arg(node(alloc))
+        .arg(node(alloc))?;
+    with_expectation(alloc, command)
 }
 
 /// `--limit N`.
@@ -162,15 +212,16 @@ fn limit<'a>(alloc: Global) -> Arg<'a>
         .action(ArgAction::Set)
 }
 
-/// The subcommand `round [SCRIPT] [--limit N] [--quiet]`.
+/// The subcommand `round [SCRIPT] [--limit N] [--quiet]`, with what its output must be.
 fn round<'a>(alloc: Global) -> Result<Command<'a>, AllocError>
     ensures { IfOk result (IsCommand (codes "round") ROUND) }
 {
-    Command::new(alloc, "round")
+    let command = Command::new(alloc, "round")
         .about("Runs the script in rounds of all processes, until nothing moves")
         .arg(script(alloc))?
         .arg(limit(alloc))?
-        .arg(quiet(alloc))
+        .arg(quiet(alloc))?;
+    with_expectation(alloc, command)
 }
 
 /// `--n N`.
@@ -203,16 +254,17 @@ fn turns<'a>(alloc: Global) -> Arg<'a>
         .action(ArgAction::Set)
 }
 
-/// The subcommand `workers [SCRIPT] --n N [--turns T] [--quiet]`.
+/// The subcommand `workers [SCRIPT] --n N [--turns T] [--quiet]`, with what its output must be.
 fn workers<'a>(alloc: Global) -> Result<Command<'a>, AllocError>
     ensures { IfOk result (IsCommand (codes "workers") WORKERS) }
 {
-    Command::new(alloc, "workers")
+    let command = Command::new(alloc, "workers")
         .about("Runs the script by workers in threads, and then until nothing moves")
         .arg(script(alloc))?
         .arg(worker_count(alloc))?
         .arg(turns(alloc))?
-        .arg(quiet(alloc))
+        .arg(quiet(alloc))?;
+    with_expectation(alloc, command)
 }
 
 /// `--list TERM`. TERM may begin with a hyphen, as in all words of `spec`.

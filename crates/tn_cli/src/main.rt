@@ -1,8 +1,8 @@
 //! The program `tracenode`: a script from a file or standard input, the output on standard output.
 //!
 //! Depends on tn_command, which promises what is written, and on `clap`, which reads the command line. The
-//! status is 0 for a listing or help, 2 for a refused script, text of picks or command line, and 3 for a
-//! fault, with one line on standard error.
+//! status is 0 for a listing or help, 1 for an output that isn't what the command line says it must be, 2 for
+//! a refused script, text of picks or command line, and 3 for a fault, with one line on standard error.
 #![tactic(auto)]
 
 ghost use Rattle.std.specs.Process.{exit_status};
@@ -15,15 +15,15 @@ mod value;
 use clap::ArgMatches;
 use clap::error::ErrorKind;
 use line::command;
-use request::{BadNumber, PicksSource, Request, SpecTestArgs, request_of};
+use request::{BadNumber, ExpectationArgs, PicksSource, Request, SpecTestArgs, request_of};
 use std::io;
 use std::process::ExitCode;
 use std::rt::{Env, Files};
 use std::sync::Wait;
 use std::thread::Threads;
 use tn_command::{
-    FAULT, LastError, REFUSED, Source, WorkersRun, arguments, perform, picks_of, report,
-    tell_fault, test_spec,
+    Expectation, FAULT, LastError, REFUSED, Source, WorkersRun, arguments, output_of, perform,
+    picks_of, report, tell_fault, test_spec,
 };
 use tn_explain::{ExplainRequest, Filter, RunAndNote};
 use tn_pool::Open;
@@ -46,13 +46,14 @@ fn run_schedule<R: Input + Files + Print + Eprint + AllocGlobal>(
     script: Source<'_>,
     schedule: Schedule<'_>,
     quiet: bool,
+    expectation: &Expectation<'_>,
 ) -> ExitCode
     ensures { IsStatus (exit_status result) }
 {
     if quiet {
-        perform(rt, script, &schedule)
+        perform(rt, script, &schedule, expectation)
     } else {
-        perform(rt, script, &RunAndNote { schedule })
+        perform(rt, script, &RunAndNote { schedule }, expectation)
     }
 }
 
@@ -62,12 +63,17 @@ fn run_task<R: Input + Files + Print + Eprint + AllocGlobal>(
     task: Task<'_>,
     script: Source<'_>,
     picks: &[u8],
+    expectation: &Expectation<'_>,
 ) -> ExitCode
     ensures { IsStatus (exit_status result) }
 {
     match task {
-        Task::Replay { quiet } => run_schedule(rt, script, Schedule::Picks(picks), quiet),
-        Task::Explain(filter) => perform(rt, script, &ExplainRequest { picks, filter }),
+        Task::Replay { quiet } => {
+            run_schedule(rt, script, Schedule::Picks(picks), quiet, expectation)
+        }
+        Task::Explain(filter) => {
+            perform(rt, script, &ExplainRequest { picks, filter }, expectation)
+        }
     }
 }
 
@@ -77,6 +83,7 @@ fn run_from<R: Input + Files + Print + Eprint + AllocGlobal>(
     task: Task<'_>,
     script: Source<'_>,
     picks: Source<'_>,
+    expectation: &Expectation<'_>,
 ) -> ExitCode
     ensures { IsStatus (exit_status result) }
 {
@@ -85,7 +92,7 @@ fn run_from<R: Input + Files + Print + Eprint + AllocGlobal>(
         return ExitCode::from(REFUSED);
     }
     match picks_of(rt, picks) {
-        Ok(text) => run_task(rt, task, script, &text),
+        Ok(text) => run_task(rt, task, script, &text, expectation),
         Err(status) => status,
     }
 }
@@ -96,12 +103,13 @@ fn run_by_picks<R: Input + Files + Print + Eprint + AllocGlobal>(
     task: Task<'_>,
     script: Source<'_>,
     picks: PicksSource<'_>,
+    expectation: &Expectation<'_>,
 ) -> ExitCode
     ensures { IsStatus (exit_status result) }
 {
     match picks {
-        PicksSource::In(source) => run_from(rt, task, script, source),
-        PicksSource::Text(text) => run_task(rt, task, script, text.as_bytes()),
+        PicksSource::In(source) => run_from(rt, task, script, source, expectation),
+        PicksSource::Text(text) => run_task(rt, task, script, text.as_bytes(), expectation),
     }
 }
 
@@ -112,6 +120,7 @@ fn run_workers<R: Input + Files + Print + Eprint + AllocGlobal + Threads + Wait 
     count: u32,
     turns: u32,
     quiet: bool,
+    expectation: &Expectation<'_>,
 ) -> ExitCode
     ensures { IsStatus (exit_status result) }
 {
@@ -120,8 +129,11 @@ fn run_workers<R: Input + Files + Print + Eprint + AllocGlobal + Threads + Wait 
         turns,
         gate: &Open,
     };
-    let job = WorkersRun { has_note: !quiet };
-    tn_command::run_workers(rt, script, &workers, job)
+    let job = WorkersRun {
+        has_note: !quiet,
+        expectation,
+    };
+    tn_command::run_workers(rt, script, &workers, &job)
 }
 
 /// Makes a trial of a specification.
@@ -158,10 +170,11 @@ fn run_spec<R: Input + Files + Print + Eprint + AllocGlobal>(
     }
 }
 
-/// Does what is asked for.
-fn run_request<R: Input + Files + Print + Eprint + AllocGlobal + Threads + Wait + Sync>(
+/// Does what is asked for, whose output must be what is expected.
+fn run_so<R: Input + Files + Print + Eprint + AllocGlobal + Threads + Wait + Sync>(
     rt: &R,
     ask: Request<'_>,
+    expectation: &Expectation<'_>,
 ) -> ExitCode
     ensures { IsStatus (exit_status result) }
 {
@@ -170,25 +183,53 @@ fn run_request<R: Input + Files + Print + Eprint + AllocGlobal + Threads + Wait 
             script,
             picks,
             quiet,
-        } => run_by_picks(rt, Task::Replay { quiet }, script, picks),
+            ..
+        } => run_by_picks(rt, Task::Replay { quiet }, script, picks, expectation),
         Request::Explain {
             script,
             picks,
             filter,
-        } => run_by_picks(rt, Task::Explain(filter), script, picks),
+            ..
+        } => run_by_picks(rt, Task::Explain(filter), script, picks, expectation),
         Request::Round {
             script,
             limit,
             quiet,
-        } => run_schedule(rt, script, Schedule::Round(limit), quiet),
+            ..
+        } => run_schedule(rt, script, Schedule::Round(limit), quiet, expectation),
         Request::Workers {
             script,
             count,
             turns,
             quiet,
-        } => run_workers(rt, script, count, turns, quiet),
+            ..
+        } => run_workers(rt, script, count, turns, quiet, expectation),
         Request::Spec(trial) => run_spec(rt, &trial),
     }
+}
+
+/// Does what is asked for. The file that has the output that is expected is read first.
+fn run_request<R: Input + Files + Print + Eprint + AllocGlobal + Threads + Wait + Sync>(
+    rt: &R,
+    ask: Request<'_>,
+) -> ExitCode
+    ensures { IsStatus (exit_status result) }
+{
+    let ExpectationArgs {
+        file,
+        line,
+        no_line,
+    } = ask.expectation();
+    let output = match output_of(rt, file) {
+        Ok(output) => output,
+        Err(status) => return status,
+    };
+    let expectation = Expectation {
+        output: output.as_deref(),
+        line: line.map(|text| text.as_bytes()),
+        no_line: no_line.map(|text| text.as_bytes()),
+    };
+    run_so(rt, ask, &expectation)
 }
 
 /// Says that a value is no number, as other wrong values are refused.

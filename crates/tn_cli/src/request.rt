@@ -3,6 +3,7 @@ ghost use Rattle.std.specs.Prelude.{◌≡◌, [], OkIff, IfOk, IfErr, IfSome, I
 ghost use Rattle.tn_cli.specs.Requests.{argument, is_given, dialect_named, IsBetween, number_given, IsNumberOrNone};
 ghost use Rattle.tn_cli.specs.Requests.{NamesProcess, NamesNoProcess, ArePicksOf, IsSourceNamed, Asks, IsAskedBy};
 ghost use Rattle.tn_cli.specs.Requests.{LacksNumber, IsWithoutNumber, NamesNoCommand};
+ghost use Rattle.tn_cli.specs.Requests.{IsExpectationOf, request_expectation};
 
 use crate::value::{process_number, session_name};
 use clap::ArgMatches;
@@ -30,6 +31,17 @@ pub struct SpecTestArgs<'a> {
     pub specification: Option<&'a str>,
 }
 
+/// What an output must be, in the words of the command line.
+#[derive(Clone, Copy)]
+pub struct ExpectationArgs<'a> {
+    /// The file whose bytes it must be.
+    pub file: Option<&'a str>,
+    /// The line that it must have.
+    pub line: Option<&'a str>,
+    /// The line that it must not have.
+    pub no_line: Option<&'a str>,
+}
+
 /// What the command line asks for.
 #[derive(Clone, Copy)]
 pub enum Request<'a> {
@@ -39,12 +51,14 @@ pub enum Request<'a> {
         picks: PicksSource<'a>,
         /// Whether no notes are printed on standard error.
         quiet: bool,
+        expectation: ExpectationArgs<'a>,
     },
     /// An explanation of a run by picks.
     Explain {
         script: Source<'a>,
         picks: PicksSource<'a>,
         filter: Filter<'a>,
+        expectation: ExpectationArgs<'a>,
     },
     /// A round, in which so many picks may move.
     Round {
@@ -52,6 +66,7 @@ pub enum Request<'a> {
         limit: u32,
         /// Whether no notes are printed on standard error.
         quiet: bool,
+        expectation: ExpectationArgs<'a>,
     },
     /// A run by so many workers, of so many turns each.
     Workers {
@@ -60,9 +75,29 @@ pub enum Request<'a> {
         turns: u32,
         /// Whether no notes are printed on standard error.
         quiet: bool,
+        expectation: ExpectationArgs<'a>,
     },
     /// A trial of a match specification.
     Spec(SpecTestArgs<'a>),
+}
+
+impl<'a> Request<'a> {
+    /// What the output must be; anything, of a trial.
+    pub fn expectation(&self) -> ExpectationArgs<'a>
+        ensures { result ≡ request_expectation self.now }
+    {
+        match *self {
+            Request::Replay { expectation, .. } => expectation,
+            Request::Explain { expectation, .. } => expectation,
+            Request::Round { expectation, .. } => expectation,
+            Request::Workers { expectation, .. } => expectation,
+            Request::Spec(_) => ExpectationArgs {
+                file: None,
+                line: None,
+                no_line: None,
+            },
+        }
+    }
 }
 
 /// A value that isn't a number that the option takes.
@@ -169,6 +204,17 @@ fn dialect_of(event: &str) -> Dialect
     }
 }
 
+/// What the output must be.
+fn expectation<'a>(matches: &ArgMatches<'a>) -> ExpectationArgs<'a>
+    ensures { IsExpectationOf matches.now result }
+{
+    ExpectationArgs {
+        file: matches.get_str("expect"),
+        line: matches.get_str("expect-line"),
+        no_line: matches.get_str("reject-line"),
+    }
+}
+
 /// What `replay` asks for.
 fn replay<'a>(matches: &ArgMatches<'a>) -> Request<'a>
     ensures { Asks (codes "replay") matches.now result }
@@ -177,6 +223,7 @@ fn replay<'a>(matches: &ArgMatches<'a>) -> Request<'a>
         script: script(matches),
         picks: picks(matches),
         quiet: flag(matches, "quiet"),
+        expectation: expectation(matches),
     }
 }
 
@@ -194,6 +241,7 @@ fn explain<'a>(matches: &ArgMatches<'a>) -> Result<Request<'a>, BadNumber<'a>>
             move_number,
             node: flag(matches, "node"),
         },
+        expectation: expectation(matches),
     })
 }
 
@@ -207,6 +255,7 @@ fn round<'a>(matches: &ArgMatches<'a>) -> Result<Request<'a>, BadNumber<'a>>
         script: script(matches),
         limit,
         quiet: flag(matches, "quiet"),
+        expectation: expectation(matches),
     })
 }
 
@@ -222,6 +271,7 @@ fn workers<'a>(matches: &ArgMatches<'a>) -> Result<Request<'a>, BadNumber<'a>>
         count,
         turns,
         quiet: flag(matches, "quiet"),
+        expectation: expectation(matches),
     })
 }
 

@@ -1,2 +1,3 @@
+mod LineLemmas
 mod NumberLemmas
 mod StatusLemmas

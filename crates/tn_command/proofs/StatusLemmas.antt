@@ -20,7 +20,7 @@ status_is n false e = inr (inl e)
 
 pub has_status : {O F : Type 0} (job : JobView O F) (n : ℕ) (r : Result O F) → n ≡ status_of job r → IsStatus n
 has_status job n (Ok o) e = status_is n (job.succeeds o) e
-has_status job n (Err f) e = inr (inr e)
+has_status job n (Err f) e = inr (inr (inl e))
 
 no_fault : {P : Type 0} (b : Bool) → FAULT_STATUS ≡ (if b then LISTED_STATUS else REFUSED_STATUS) → P
 no_fault true e = absurd (omega (arith, e))

@@ -18,15 +18,15 @@ abbrev pub latest : {X E : Type 0} → Result X E → Option E → Option E
 latest (Ok x) kept = kept
 latest (Err e) kept = Some e
 
--- the reader inside
+-- the reader or writer inside
 abbrev pub tee_inner : {R A : Type 0} → Tee R A → R
 tee_inner r = r.inner
 
--- the bytes that were read
+-- the bytes that were read or written
 abbrev pub tee_text : {R A : Type 0} → Tee R A → List ℕ
 tee_text r = r.text.items
 
--- the bytes that a call read are kept after those before; a call that failed has read none
+-- the bytes that a call read or wrote are kept after those before; a call that failed has none
 abbrev pub Records : {E : Type 0} → List ℕ → List ℕ → Result ℕ E → List ℕ → Type 0
 Records old new r bytes = MatchResult r (λ n. new ≡ old ++ take n bytes) (λ _. new ≡ old)
 

@@ -1,4 +1,5 @@
 pub mod Ends
+pub mod Expectations
 pub mod Numbers
 pub mod PickTexts
 pub mod Sources

@@ -1,5 +1,5 @@
 -- The exit status of a job, and what it says was written (own).
-use Rattle.std.specs.Prelude.{◌≡◌, ℕ, ◌⊎◌, true, false, if◌then◌else◌, List, Option, Result, Ok, Err}
+use Rattle.std.specs.Prelude.{◌≡◌, ◌==◌, ◌&&◌, ℕ, ◌⊎◌, Bool, true, false, not, if◌then◌else◌, List, Option, Result, Ok, Err}
 use Rattle.std.specs.Process.{exit_status}
 use Rattle.std.specs.declared.process.ExitCode.{ExitCode}
 use Rattle.tn_text.specs.Watch.{watched_inner, has_failed}
@@ -8,6 +8,9 @@ use Rattle.tn_run.specs.Jobs.{JobView, Writes}
 
 abbrev pub LISTED_STATUS : ℕ
 LISTED_STATUS = 0
+
+abbrev pub UNMET_STATUS : ℕ
+UNMET_STATUS = 1
 
 abbrev pub REFUSED_STATUS : ℕ
 REFUSED_STATUS = 2
@@ -20,9 +23,13 @@ abbrev pub status_of : {O F : Type 0} → JobView O F → Result O F → ℕ
 status_of job (Ok outcome) = if job.succeeds outcome then LISTED_STATUS else REFUSED_STATUS
 status_of job (Err fault) = FAULT_STATUS
 
--- one of the three
+-- one of the four
 abbrev pub IsStatus : ℕ → Type 0
-IsStatus n = (n ≡ LISTED_STATUS) ⊎ ((n ≡ REFUSED_STATUS) ⊎ (n ≡ FAULT_STATUS))
+IsStatus n = (n ≡ LISTED_STATUS) ⊎ ((n ≡ REFUSED_STATUS) ⊎ ((n ≡ FAULT_STATUS) ⊎ (n ≡ UNMET_STATUS)))
+
+-- 1 where the status so far is 0 and the output isn't what it must be, else the status so far
+abbrev pub status_after_judgement : ℕ → Bool → ℕ
+status_after_judgement n is_met = if n == LISTED_STATUS && not is_met then UNMET_STATUS else n
 
 -- none that tells of success
 abbrev pub IsFailure : ℕ → Type 0

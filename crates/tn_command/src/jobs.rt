@@ -2,9 +2,15 @@
 ghost use Rattle.std.specs.Prelude.{◌≡◌};
 ghost use Rattle.std.specs.Process.{exit_status};
 ghost use Rattle.tn_run.specs.Jobs.{Meets};
-ghost use Rattle.tn_command.specs.Status.{IsStatus, OnFaultUntouchedOrFailed, WroteAs, status_of};
+ghost use Rattle.tn_text.specs.Watch.{watched_inner};
+ghost use Rattle.tn_command.specs.Ends.{last_error_inner, tee_text};
+ghost use Rattle.tn_command.specs.Expectations.{meets_expectation};
+ghost use Rattle.tn_command.specs.Status.{IsStatus, OnFaultUntouchedOrFailed, WroteAs};
+ghost use Rattle.tn_command.specs.Status.{status_after_judgement, status_of};
 
 use crate::command::Command;
+use crate::expectation::Expectation;
+use crate::judgement::judge;
 use crate::last_error::LastError;
 use crate::source::{Source, open};
 use crate::status::{JobEnd, job_status};
@@ -12,7 +18,7 @@ use crate::stderr::{NamedText, tell_fault};
 use crate::tee::Tee;
 use std::alloc::{Allocator, Global};
 use std::io;
-use std::io::{Read, Write};
+use std::io::{Error, Read, Write};
 use std::process::ExitCode;
 use std::rt::Files;
 use tn_run::{DirectJob, transact};
@@ -43,26 +49,35 @@ pub fn perform_over<A: Allocator + Copy, J: DirectJob<A>, R: Read, W: Write>(
 /// A reader of a script that keeps its text, and why it failed.
 pub(crate) type Script<R> = Watched<LastError<Tee<R, Global>>>;
 
-/// A reader of a script, of which nothing was read yet.
-pub(crate) fn script_of<R>(alloc: Global, reader: R) -> Script<R> {
-    Watched::of(LastError::of(Tee::of(alloc, reader)))
+/// A writer that keeps the output, and why it failed.
+pub(crate) type Recorder<W> = Watched<LastError<Tee<W, Global>>>;
+
+/// A script that is read, and what it is called.
+pub(crate) struct NamedScript<'a, R> {
+    pub(crate) name: &'a str,
+    pub(crate) reader: Script<R>,
+}
+
+/// A script with this name, of which nothing was read yet.
+pub(crate) fn script_of<'a, R>(alloc: Global, name: &'a str, reader: R) -> NamedScript<'a, R> {
+    let reader = Watched::of(LastError::of(Tee::of(alloc, reader)));
+    NamedScript { name, reader }
 }
 
 /// The status of a job, after a line on standard error where its answer isn't what was asked for.
-pub(crate) fn print_end<R: Eprint + AllocGlobal, J: Command, S: Drop, W: Drop>(
+pub(crate) fn print_end<R: Eprint + AllocGlobal, J: Command, S: Drop>(
     rt: &R,
     job: &J,
     end: JobEnd<J::Outcome, J::Fault>,
-    name: &str,
-    script: Script<S>,
-    writer: Watched<LastError<W>>,
+    script: NamedScript<'_, S>,
+    unwritten: Option<Error>,
 ) -> ExitCode
     ensures { exit_status result ≡ exit_status end.status }
 {
     let JobEnd { status, answer } = end;
-    let (script, unread) = script.into_inner().into_parts();
-    let (_, unwritten) = writer.into_inner().into_parts();
-    let (_, bytes) = script.into_parts();
+    let NamedScript { name, reader } = script;
+    let (reader, unread) = reader.into_inner().into_parts();
+    let (_, bytes) = reader.into_parts();
     let text = NamedText {
         name,
         bytes: &bytes,
@@ -74,33 +89,65 @@ pub(crate) fn print_end<R: Eprint + AllocGlobal, J: Command, S: Drop, W: Drop>(
     status
 }
 
+/// Why a writer failed, where it did.
+pub(crate) fn write_error<W: Drop>(writer: Watched<LastError<W>>) -> Option<Error> {
+    let (_, error) = writer.into_inner().into_parts();
+    error
+}
+
+/// The same of a job whose output was kept, which is held against what is expected.
+pub(crate) fn print_judgement<R: Eprint + AllocGlobal, J: Command, S: Drop, W: Drop>(
+    rt: &R,
+    job: &J,
+    end: JobEnd<J::Outcome, J::Fault>,
+    script: NamedScript<'_, S>,
+    writer: Recorder<W>,
+    expectation: &Expectation<'_>,
+) -> ExitCode
+    ensures { exit_status result ≡ status_after_judgement (exit_status end.status)
+        (meets_expectation expectation.now (tee_text (last_error_inner (watched_inner writer)))) }
+{
+    let (tee, error) = writer.into_inner().into_parts();
+    let (_, output) = tee.into_parts();
+    let status = print_end(rt, job, end, script, error);
+    judge(rt, status, &output, expectation)
+}
+
 /// Does a job with the script that a reader with this name holds, and writes to standard output.
 fn print_job<R: Print + Eprint + AllocGlobal, S: Read + Drop, J: Command + DirectJob<Global>>(
     rt: &R,
     name: &str,
     reader: S,
     job: &J,
+    expectation: &Expectation<'_>,
 ) -> ExitCode
     ensures { IsStatus (exit_status result) }
 {
-    let mut script = script_of(rt.alloc(), reader);
-    let mut writer = Watched::of(LastError::of(io::writer(rt)));
-    let end = perform_over(rt.alloc(), job, &mut script, &mut writer);
-    print_end(rt, job, end, name, script, writer)
+    let mut script = script_of(rt.alloc(), name, reader);
+    if expectation.is_none() {
+        let mut writer = Watched::of(LastError::of(io::writer(rt)));
+        let end = perform_over(rt.alloc(), job, &mut script.reader, &mut writer);
+        return print_end(rt, job, end, script, write_error(writer));
+    }
+    let mut writer = Watched::of(LastError::of(Tee::of(rt.alloc(), io::writer(rt))));
+    let end = perform_over(rt.alloc(), job, &mut script.reader, &mut writer);
+    print_judgement(rt, job, end, script, writer, expectation)
 }
 
-/// Does a job with the script of a source, and writes to standard output.
+/// Does a job with the script of a source, and writes to standard output. Where something is expected of the output,
+/// it is held against that.
 pub fn perform<R: Input + Files + Print + Eprint + AllocGlobal, J: Command + DirectJob<Global>>(
     rt: &R,
     script: Source<'_>,
     job: &J,
+    expectation: &Expectation<'_>,
 ) -> ExitCode
     ensures { IsStatus (exit_status result) }
 {
     match script {
-        Source::Input => print_job(rt, INPUT, rt.reader(), job),
+        Source::Input => print_job(rt, INPUT, rt.reader(), job, expectation),
         Source::File(path) => match open(rt, path) {
-            Ok(file) => print_job(rt, path, file, job),
+            Ok(file) => print_job(rt, path, file, job, expectation),
             Err(status) => status,
         },
     }

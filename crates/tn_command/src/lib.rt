@@ -4,14 +4,18 @@
 //! Depends on tn_run, which promises what is written, and on tn_refusal, which promises the line of a refusal.
 //! Promises of each job that it is done as tn_run says, that the status is that of its answer, 0 for what was asked
 //! for, 2 for a refusal and 3 for a fault, and that what was written is what the status says; so it is with an
-//! explained run and the trial of one specification. Promises of a text of picks that it is what the reader holds,
-//! without a line feed at its end. A refusal or a fault has one line on standard error: how the text can be fixed, or
-//! what failed. A pipe that was closed has none. So has a run that a running node is known to do otherwise: at how
-//! many of its moves.
+//! explained run and the trial of one specification. Promises of an output that is held against an expectation that
+//! the status is 1 where it would be 0 and the output doesn't meet it, and else what it would be. Promises of a text
+//! of picks that it is what the reader holds, without a line feed at its end. A refusal or a fault has one line on
+//! standard error: how the text can be fixed, or what failed. A pipe that was closed has none. So has a run that a
+//! running node is known to do otherwise: at how many of its moves.
 #![tactic(auto)]
 
 mod command;
+mod expectation;
+mod expectation_file;
 mod jobs;
+mod judgement;
 mod last_error;
 mod number;
 mod picks;
@@ -24,13 +28,15 @@ mod words;
 mod workers;
 
 pub use command::Command;
+pub use expectation::Expectation;
+pub use expectation_file::output_of;
 pub use jobs::{perform, perform_over};
 pub use last_error::LastError;
 pub use number::plain_number;
 pub use picks::{picks_of, picks_over};
 pub use source::{Source, source_of};
 pub use spec_test::{SpecTestRunFault, test_spec, test_spec_over};
-pub use status::{FAULT, JobEnd, REFUSED, report};
+pub use status::{FAULT, JobEnd, REFUSED, UNMET, report};
 pub use stderr::{NamedText, tell_fault};
 pub use words::arguments;
 pub use workers::{WorkersRun, run_workers, run_workers_over};

@@ -1,12 +1,15 @@
 // The exit status.
 ghost use Rattle.std.specs.Prelude.{◌≡◌};
 ghost use Rattle.std.specs.Process.{exit_status};
-ghost use Rattle.tn_command.specs.Status.{FAULT_STATUS, status_of};
+ghost use Rattle.tn_command.specs.Status.{FAULT_STATUS, status_after_judgement, status_of};
 
 use std::alloc::Allocator;
 use std::fmt::Display;
 use std::process::ExitCode;
 use tn_run::Job;
+
+/// The status of a run whose output isn't what is expected.
+pub const UNMET: u8 = 1;
 
 /// The status of a refusal.
 pub const REFUSED: u8 = 2;
@@ -39,6 +42,17 @@ pub fn job_status<A: Allocator + Copy, J: Job<A>>(
             }
         }
         Err(_) => ExitCode::from(FAULT),
+    }
+}
+
+/// The exit status of what ended with a status so far, and whose output is what is expected or isn't.
+pub fn judge_status(status: ExitCode, is_met: bool) -> ExitCode
+    ensures { exit_status result ≡ status_after_judgement (exit_status status) is_met }
+{
+    if status == ExitCode::SUCCESS && !is_met {
+        ExitCode::from(UNMET)
+    } else {
+        status
     }
 }
 

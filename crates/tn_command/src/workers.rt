@@ -7,11 +7,13 @@ ghost use Rattle.tn_run.specs.Workers.{IsWorkerCount};
 ghost use Rattle.tn_command.specs.Status.{IsStatus, OnFaultUntouchedOrFailed, WroteAs, status_of};
 
 use crate::command::Command;
-use crate::jobs::{INPUT, print_end, script_of};
+use crate::expectation::Expectation;
+use crate::jobs::{INPUT, print_end, print_judgement, script_of, write_error};
 use crate::last_error::LastError;
 use crate::source::{Source, open};
 use crate::status::{JobEnd, job_status};
 use crate::stderr::{NamedText, tell_note, tell_refusal};
+use crate::tee::Tee;
 use std::alloc::Global;
 use std::io;
 use std::io::{Read, Write};
@@ -46,13 +48,15 @@ pub fn run_workers_over<T: Threads + Wait + Sync, R: Read, W: Write, G: Gate>(
     JobEnd { status, answer }
 }
 
-/// A run by workers, and whether its note is printed: how many moves a running node does otherwise.
+/// A run by workers, what its output must be, and whether its note is printed: how many moves a running node does
+/// otherwise.
 #[derive(Clone, Copy)]
-pub struct WorkersRun {
+pub struct WorkersRun<'a> {
     pub has_note: bool,
+    pub expectation: &'a Expectation<'a>,
 }
 
-impl Job<Global> for WorkersRun {
+impl Job<Global> for WorkersRun<'_> {
     ghost use Rattle.tn_run.specs.Answers.{live_run};
 
     type Outcome = Ran;
@@ -80,7 +84,7 @@ impl Job<Global> for WorkersRun {
     }
 }
 
-impl Command for WorkersRun {
+impl Command for WorkersRun<'_> {
     fn tell_outcome<R: Eprint + AllocGlobal>(&self, rt: &R, ran: Ran, script: NamedText<'_>) {
         match ran.outcome {
             Outcome::Refused(refusal) => tell_refusal(rt, refusal, script, b""),
@@ -100,22 +104,28 @@ fn print_run<R: Print + Eprint + AllocGlobal + Threads + Wait + Sync, S: Read + 
     name: &str,
     reader: S,
     workers: &Workers<'_, G>,
-    job: WorkersRun,
+    job: &WorkersRun<'_>,
 ) -> ExitCode
     requires { IsWorkerCount workers.now.count }
     ensures { IsStatus (exit_status result) }
 {
-    let mut script = script_of(rt.alloc(), reader);
-    let mut writer = Watched::of(LastError::of(io::writer(rt)));
-    let end = run_workers_over(rt, rt.alloc(), &mut script, &mut writer, workers);
-    print_end(rt, &job, end, name, script, writer)
+    let mut script = script_of(rt.alloc(), name, reader);
+    if job.expectation.is_none() {
+        let mut writer = Watched::of(LastError::of(io::writer(rt)));
+        let end = run_workers_over(rt, rt.alloc(), &mut script.reader, &mut writer, workers);
+        return print_end(rt, job, end, script, write_error(writer));
+    }
+    let mut writer = Watched::of(LastError::of(Tee::of(rt.alloc(), io::writer(rt))));
+    let end = run_workers_over(rt, rt.alloc(), &mut script.reader, &mut writer, workers);
+    print_judgement(rt, job, end, script, writer, job.expectation)
 }
 
-/// Runs the script of a source by workers, and writes to standard output; and the note, where the job has one.
+/// Runs the script of a source by workers, and writes to standard output; and the note, where the job has one. Where
+/// something is expected of the output, it is held against that.
 pub fn run_workers<
     R: Input + Files + Print + Eprint + AllocGlobal + Threads + Wait + Sync,
     G: Gate,
->(rt: &R, script: Source<'_>, workers: &Workers<'_, G>, job: WorkersRun) -> ExitCode
+>(rt: &R, script: Source<'_>, workers: &Workers<'_, G>, job: &WorkersRun<'_>) -> ExitCode
     requires { IsWorkerCount workers.now.count }
     ensures { IsStatus (exit_status result) }
 {

@@ -14,7 +14,7 @@ ghost use Rattle.tn_plain.specs.Words.{IsLimit, spelled_number, AsksFor, AsksNot
 
 use std::process::ExitCode;
 use std::rt::{Env, Files};
-use tn_command::{REFUSED, Source, arguments, perform, plain_number};
+use tn_command::{Expectation, REFUSED, Source, arguments, perform, plain_number};
 use tn_explain::RunAndNote;
 use tn_run::Schedule;
 use tn_trace::JOURNAL;
@@ -63,7 +63,12 @@ fn start<R: Env + Input + Files + Print + Eprint + AllocGlobal>(rt: &R) -> ExitC
         Err(status) => return status,
     };
     match schedule(&words) {
-        Some(schedule) => perform(rt, Source::Input, &RunAndNote { schedule }),
+        Some(schedule) => perform(
+            rt,
+            Source::Input,
+            &RunAndNote { schedule },
+            &Expectation::NONE,
+        ),
         None => {
             let _ = rt.eprintln("error: the words are replay --picks TEXT, or round [--limit N]");
             ExitCode::from(REFUSED)

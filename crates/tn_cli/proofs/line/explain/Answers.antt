@@ -1,7 +1,7 @@
 use Rattle.std.proofs.Common.{codes}
 use Rattle.std.proofs.lemmas.Result.{IfOk-weaker}
 use Rattle.tn_cli.specs.Line.{BY_PICKS}
-use Rattle.tn_cli.proofs.Names.{one_more, one_more_so, still_wants}
+use Rattle.tn_cli.proofs.Names.{expectation_so, one_more, still_wants}
 use Rattle.tn_cli.proofs.line.explain.Goals as goal
 
 pub returns-clause-arguments : goal.returns-clause-arguments
@@ -11,10 +11,13 @@ returns-clause-arguments c =
     c.session.ensures.0 c.in_ok-arg.ensures in
     let second = one_more name _ (codes "move") c.in_ok-arg.field-0 c.in_ok-arg-2.field-0 c.move_number.result first c.move_number.ensures.0
     c.in_ok-arg-2.ensures in
-    one_more_so name _ (codes "node") c.in_ok-arg-2.field-0 c.node.result c.arg-3.result second c.node.ensures.0 c.arg-3.ensures
+    let third = one_more name _ (codes "node") c.in_ok-arg-2.field-0 c.in_ok-command.command c.node.result second c.node.ensures.0
+    c.in_ok-command.ensures in
+    expectation_so name _ c.in_ok-command.command c.with_expectation.result third c.with_expectation.ensures
 
 pub returns-clause-picks : goal.returns-clause-picks
 returns-clause-picks c =
     let first = still_wants c.in_ok-by_picks.field-0 c.in_ok-arg.field-0 c.session.result c.in_ok-by_picks.ensures.picks c.in_ok-arg.ensures in
     let second = still_wants c.in_ok-arg.field-0 c.in_ok-arg-2.field-0 c.move_number.result first c.in_ok-arg-2.ensures in
-    IfOk-weaker c.arg-3.result _ _ (λ new added. still_wants c.in_ok-arg-2.field-0 new c.node.result second added) c.arg-3.ensures
+    let third = still_wants c.in_ok-arg-2.field-0 c.in_ok-command.command c.node.result second c.in_ok-command.ensures in
+    IfOk-weaker c.with_expectation.result _ _ (λ new more. more.wants_so third) c.with_expectation.ensures

@@ -1,6 +1,6 @@
 use Rattle.std.proofs.Common.{rules, codes, []}
 use Rattle.tn_cli.specs.Line.{IsCommand}
-use Rattle.tn_cli.proofs.Names.{one_more, one_more_so}
+use Rattle.tn_cli.proofs.Names.{expectation_so, one_more}
 use Rattle.tn_cli.proofs.line.workers.Goals as goal
 
 pub returns : goal.returns
@@ -12,4 +12,6 @@ returns c =
     c.in_ok-arg-2.ensures in
     let third = one_more name _ (codes "turns") c.in_ok-arg-2.field-0 c.in_ok-arg-3.field-0 c.turns.result second c.turns.ensures.named.0
     c.in_ok-arg-3.ensures in
-    one_more_so name _ (codes "quiet") c.in_ok-arg-3.field-0 c.quiet.result c.arg-4.result third c.quiet.ensures.0 c.arg-4.ensures
+    let fourth = one_more name _ (codes "quiet") c.in_ok-arg-3.field-0 c.in_ok-command.command c.quiet.result third c.quiet.ensures.0
+    c.in_ok-command.ensures in
+    expectation_so name _ c.in_ok-command.command c.with_expectation.result fourth c.with_expectation.ensures

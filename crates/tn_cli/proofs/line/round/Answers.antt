@@ -1,0 +1,15 @@
+use Rattle.std.proofs.Common.{rules, codes, []}
+use Rattle.tn_cli.specs.Line.{IsCommand}
+use Rattle.tn_cli.proofs.Names.{expectation_so, one_more}
+use Rattle.tn_cli.proofs.line.round.Goals as goal
+
+pub returns : goal.returns
+returns c =
+    let name = codes "round" in
+    let bare : IsCommand name [] c.about.result = record { called = search rules; takes = search rules } in
+    let first = one_more name [] (codes "script") c.about.result c.in_ok-arg.field-0 c.script.result bare c.script.ensures.0 c.in_ok-arg.ensures in
+    let second = one_more name _ (codes "limit") c.in_ok-arg.field-0 c.in_ok-arg-2.field-0 c.limit.result first c.limit.ensures.named.0
+    c.in_ok-arg-2.ensures in
+    let third = one_more name _ (codes "quiet") c.in_ok-arg-2.field-0 c.in_ok-command.command c.quiet.result second c.quiet.ensures.0
+    c.in_ok-command.ensures in
+    expectation_so name _ c.in_ok-command.command c.with_expectation.result third c.with_expectation.ensures

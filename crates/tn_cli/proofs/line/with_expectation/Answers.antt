@@ -1,0 +1,10 @@
+use Rattle.std.proofs.lemmas.Result.{IfOk-weaker}
+use Rattle.tn_cli.proofs.Names.{expectation_more}
+use Rattle.tn_cli.proofs.line.with_expectation.Goals as goal
+
+pub returns : goal.returns
+returns c =
+    IfOk-weaker c.arg-3.result _ _
+    (λ new added. expectation_more c.args.command c.in_ok-arg.field-0 c.in_ok-arg-2.field-0 new c.expect.result c.expect_line.result c.reject_line.result
+    c.expect.ensures.0 c.expect_line.ensures.0 c.reject_line.ensures.0 c.in_ok-arg.ensures c.in_ok-arg-2.ensures added)
+    c.arg-3.ensures
