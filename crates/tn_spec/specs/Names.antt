@@ -44,9 +44,13 @@ row_seen r = (called_seen r.called, r.least, r.most)
 abbrev pub row_of : Row → reading.Callee × ℕ × Option ℕ
 row_of r = (r.called, r.least, r.most)
 
+-- what the row calls takes so many arguments
+abbrev pub row_takes : code.Row → ℕ → Bool
+row_takes r n = nat_le r.least n && is_at_most r.most n
+
 -- what the row calls may stand there, with so many arguments
 abbrev pub row_allows : code.Row → ex.Dialect → ex.Position → ℕ → Bool
-row_allows r d part n = (nat_le r.least n && is_at_most r.most n) && is_allowed d part (called_seen r.called)
+row_allows r d part n = row_takes r n && is_allowed d part (called_seen r.called)
 
 -- the first row of this name
 abbrev pub row_in : List Row → Name → Option (reading.Callee × ℕ × Option ℕ)

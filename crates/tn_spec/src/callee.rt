@@ -2,7 +2,7 @@
 ghost use Rattle.std.specs.Prelude.{◌≡◌};
 ghost use Rattle.def_spec.specs.Reading.{has_action, is_allowed, is_at_most, named_call};
 ghost use Rattle.tn_spec.specs.Answers.{IsRead};
-ghost use Rattle.tn_spec.specs.Names.{called_seen, position_seen, row_allows};
+ghost use Rattle.tn_spec.specs.Names.{called_seen, position_seen, row_takes, row_allows};
 ghost use Rattle.tn_spec.specs.Views.{dialect_of, action_of};
 
 use crate::fault::SpecFault;
@@ -11,7 +11,7 @@ use crate::table::{Callee, Row, is_unsupported, row_named};
 use std::alloc::Allocator;
 use tn_term::Atom;
 
-/// Where an expression stands.
+/// Where an expression stands: in the conditions of a clause or in its body.
 #[derive(Clone, Copy)]
 pub enum Position {
     Condition,
@@ -19,7 +19,7 @@ pub enum Position {
 }
 
 /// Whether bodies of that dialect have the action.
-fn has(dialect: Dialect, action: Action) -> bool
+pub fn is_in_bodies(dialect: Dialect, action: Action) -> bool
     ensures { result ≡ has_action (dialect_of dialect) (action_of action) }
 {
     match action {
@@ -37,12 +37,12 @@ fn has(dialect: Dialect, action: Action) -> bool
 }
 
 /// Whether the call may stand there: actions in bodies alone.
-fn may_stand(dialect: Dialect, part: Position, called: Callee) -> bool
+pub fn may_stand(dialect: Dialect, part: Position, called: Callee) -> bool
     ensures { result ≡ is_allowed (dialect_of dialect) (position_seen part) (called_seen called) }
 {
     match (part, called) {
         (Position::Condition, Callee::Action(_)) => false,
-        (Position::Body, Callee::Action(action)) => has(dialect, action),
+        (Position::Body, Callee::Action(action)) => is_in_bodies(dialect, action),
         _ => true,
     }
 }
@@ -57,11 +57,20 @@ fn is_few(most: Option<usize>, args: usize) -> bool
     }
 }
 
+impl Row {
+    /// Whether what it calls takes so many arguments.
+    pub fn takes(self, args: usize) -> bool
+        ensures { result ≡ row_takes self args }
+    {
+        self.least <= args && is_few(self.most, args)
+    }
+}
+
 /// Whether what the row calls may stand there, with so many arguments.
 fn fits(row: Row, dialect: Dialect, part: Position, args: usize) -> bool
     ensures { result ≡ row_allows row (dialect_of dialect) (position_seen part) args }
 {
-    row.least <= args && is_few(row.most, args) && may_stand(dialect, part, row.called)
+    row.takes(args) && may_stand(dialect, part, row.called)
 }
 
 /// What the name calls there with so many arguments. An unsupported name is a fault of its own, with

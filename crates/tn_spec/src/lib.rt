@@ -17,10 +17,14 @@ mod spec;
 mod table;
 mod variables;
 
+pub use callee::{Position, is_in_bodies, may_stand};
 pub use clauses::{clause, spec_of};
 pub use expr::Expr;
 pub use fault::SpecFault;
 pub use func::{Action, Dialect, Func};
-pub use names::{AtomKind, kind_of};
+pub use heads::head;
+pub use names::{AtomKind, is_anything, kind_of};
 pub use pattern::{Head, Pattern};
 pub use spec::{Clause, Spec};
+pub use table::{Callee, Row, is_unsupported, row_named};
+pub use variables::Variables;
