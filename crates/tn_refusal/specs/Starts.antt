@@ -1,6 +1,7 @@
 -- Where forms begin, by the tokens that the code lists.
 -- Depends on where forms begin, and on the tokens of a text as the code has them.
 use Rattle.std.specs.Prelude.{ℕ, ◌-◌, ◌≤◌, ◌==◌, List, [], ◌∷◌, length, Bool, true, false, Option, Some, None, if◌then◌else◌}
+use Rattle.std.specs.Option.{option_map}
 use Rattle.def_text.specs.Tokens.{TokenSpan, Tokens}
 use Rattle.def_text.specs.Spelling.{LENGTH}
 use Rattle.def_text.specs.Forms.{FormBegins}
@@ -8,6 +9,7 @@ use Rattle.tn_text.specs.declared.scan.Kind.{Kind}
 use Rattle.tn_text.specs.declared.scan.Kind.TheVariants.{Stop}
 use Rattle.tn_text.specs.declared.lexer.Token.{Token}
 use Rattle.tn_text.specs.Lexer.{AllGood}
+use Rattle.tn_refusal.specs.declared.starts.FormSpan.{FormSpan}
 
 -- a full stop
 abbrev pub is_stop_kind : Kind → Bool
@@ -30,3 +32,7 @@ pub record IsListable (bytes : List ℕ) : Type 0 where
 abbrev pub IsFormOffset : List ℕ → ℕ → Option ℕ → Type 0
 IsFormOffset bytes n (Some at) = FormBegins bytes n at
 IsFormOffset bytes n None = IsListable bytes → ⊥
+
+-- where a form begins, of its span
+abbrev pub span_start : Option FormSpan → Option ℕ
+span_start s = option_map (λ v. v.from) s

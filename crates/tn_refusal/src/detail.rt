@@ -1,5 +1,5 @@
 // What breaks a rule, found by looking through the text. No clause speaks of it.
-use crate::forms::{put_form, put_form_count};
+use crate::forms::{put_broken, put_form_count, put_shapeless};
 use crate::picks::put_picks;
 use crate::put::Detail;
 use crate::refusal::{Refusal, RefusedPart, refusal_part};
@@ -16,21 +16,31 @@ fn put_whole<A: Allocator + Copy>(alloc: A, out: &mut Detail<A>, text: &[u8], re
 }
 
 /// Appends what breaks the rule, after `: `; nothing where it isn't found.
-fn put_detail<A: Allocator + Copy>(alloc: A, out: &mut Detail<A>, text: &[u8], refusal: Refusal) {
+fn put_detail<A: Allocator + Copy>(
+    alloc: A,
+    out: &mut Detail<A>,
+    text: &[u8],
+    form_text: &[u8],
+    refusal: Refusal,
+) {
     match refusal_part(refusal) {
         RefusedPart::Token { at } => put_token(alloc, out, text, refusal, at),
-        RefusedPart::Form { form } => put_form(alloc, out, text, refusal, form),
+        RefusedPart::Form { .. } if matches!(refusal, Refusal::Form { .. }) => {
+            put_shapeless(alloc, out, form_text)
+        }
+        RefusedPart::Form { form } => put_broken(alloc, out, text, refusal, form.saturating_sub(1)),
         RefusedPart::Whole => put_whole(alloc, out, text, refusal),
     }
 }
 
-/// What breaks the rule, after `: `; nothing where it isn't found.
+/// What breaks the rule, after `: `; nothing where it isn't found. The text of the form that is refused is given too.
 pub fn detail_of<A: Allocator + Copy>(
     alloc: A,
     text: &[u8],
+    form_text: &[u8],
     refusal: Refusal,
 ) -> Result<Vec<u8, A>, AllocError> {
     let mut out = Detail::new(alloc);
-    put_detail(alloc, &mut out, text, refusal);
+    put_detail(alloc, &mut out, text, form_text, refusal);
     out.into_text()
 }

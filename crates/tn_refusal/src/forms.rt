@@ -70,12 +70,12 @@ fn put_rule<A: Allocator>(
     }
 }
 
-/// Appends what breaks the shape of the form with this index.
-fn put_shapeless<A: Allocator + Copy>(alloc: A, out: &mut Detail<A>, text: &[u8], index: usize) {
-    match read_terms(alloc, text) {
+/// Appends what breaks the shape of the form of this text.
+pub fn put_shapeless<A: Allocator + Copy>(alloc: A, out: &mut Detail<A>, form_text: &[u8]) {
+    match read_terms(alloc, form_text) {
         Ok(terms) => {
-            if index < terms.len() {
-                put_shape(out, &terms[index]);
+            if let Some(term) = terms.first() {
+                put_shape(out, term);
             }
         }
         Err(TextFault::OutOfMemory) => out.refuse(),
@@ -84,7 +84,7 @@ fn put_shapeless<A: Allocator + Copy>(alloc: A, out: &mut Detail<A>, text: &[u8]
 }
 
 /// Appends what of the form with this index breaks a static rule.
-fn put_broken<A: Allocator + Copy>(
+pub fn put_broken<A: Allocator + Copy>(
     alloc: A,
     out: &mut Detail<A>,
     text: &[u8],
@@ -99,22 +99,6 @@ fn put_broken<A: Allocator + Copy>(
         }
         Err(ScriptFault::OutOfMemory) => out.refuse(),
         Err(_) => {}
-    }
-}
-
-/// Appends what of the form with this number, from 1, breaks a rule.
-pub fn put_form<A: Allocator + Copy>(
-    alloc: A,
-    out: &mut Detail<A>,
-    text: &[u8],
-    refusal: Refusal,
-    number: usize,
-) {
-    let index = number.saturating_sub(1);
-    if matches!(refusal, Refusal::Form { .. }) {
-        put_shapeless(alloc, out, text, index);
-    } else {
-        put_broken(alloc, out, text, refusal, index);
     }
 }
 

@@ -45,9 +45,9 @@ pub fn explain<A: Allocator + Copy>(
     ensures { IfOk result (λ v. IsExplained name.now text.now (refusal_of refusal) v.items) }
 {
     let mark = mark_of(alloc, text, refusal)?;
-    let mut line = front(alloc, name, mark)?;
+    let mut line = front(alloc, name, mark.location)?;
     line.extend_from_slice(words_of(refusal))?;
-    let found = detail_of(alloc, text, refusal)?;
+    let found = detail_of(alloc, text, mark.form, refusal)?;
     append_shown(&mut line, &found)?;
     Ok(line)
 }

@@ -5,7 +5,7 @@ ghost use Rattle.tn_refusal.specs.Refusals.{refusal_of, refused_part};
 
 use crate::line_column::line_column_of;
 use crate::refusal::{Refusal, RefusedPart, refusal_part};
-use crate::starts::form_offset;
+use crate::starts::form_span;
 use itoa::Buffer;
 use std::alloc::{AllocError, Allocator};
 use tn_text::MAX_TEXT;
@@ -16,6 +16,25 @@ pub enum Location {
     Whole,
     Spot { line: usize, column: usize },
     InForm { line: usize, form: usize },
+}
+
+/// Where a refusal is, and the text of the form that is refused; it is empty where no form is.
+#[derive(Clone, Copy)]
+pub struct Mark<'t> {
+    pub location: Location,
+    pub form: &'t [u8],
+}
+
+impl<'t> Mark<'t> {
+    /// Where no form is refused.
+    fn of(location: Location) -> Mark<'t>
+        ensures { result.location ≡ location }
+    {
+        Mark {
+            location,
+            form: b"",
+        }
+    }
 }
 
 /// The place of an offset.
@@ -31,16 +50,19 @@ fn spot(text: &[u8], at: usize) -> Location
 }
 
 /// The line of a form; the whole text where its tokens can't be told.
-fn form_mark<A: Allocator>(alloc: A, text: &[u8], form: usize) -> Result<Location, AllocError>
+fn form_mark<A: Allocator>(alloc: A, text: &[u8], form: usize) -> Result<Mark<'_>, AllocError>
     requires { length text.now < usize.MAX }
-    ensures { IfOk result (λ m. IsFormMark text.now form m) }
+    ensures { IfOk result (λ m. IsFormMark text.now form m.location) }
 {
-    match form_offset(alloc, text, form)? {
-        Some(at) => Ok(Location::InForm {
-            line: line_column_of(text, at).line,
-            form,
+    match form_span(alloc, text, form)? {
+        Some(span) => Ok(Mark {
+            location: Location::InForm {
+                line: line_column_of(text, span.from).line,
+                form,
+            },
+            form: text.get(span.from..span.to).unwrap_or(b""),
         }),
-        None => Ok(Location::Whole),
+        None => Ok(Mark::of(Location::Whole)),
     }
 }
 
@@ -49,15 +71,15 @@ pub fn mark_of<A: Allocator>(
     alloc: A,
     text: &[u8],
     refusal: Refusal,
-) -> Result<Location, AllocError>
-    ensures { IfOk result (λ m. IsMarkOf text.now (refused_part (refusal_of refusal)) m) }
+) -> Result<Mark<'_>, AllocError>
+    ensures { IfOk result (λ m. IsMarkOf text.now (refused_part (refusal_of refusal)) m.location) }
 {
     if text.len() > MAX_TEXT {
-        return Ok(Location::Whole);
+        return Ok(Mark::of(Location::Whole));
     }
     match refusal_part(refusal) {
-        RefusedPart::Whole => Ok(Location::Whole),
-        RefusedPart::Token { at } => Ok(spot(text, at)),
+        RefusedPart::Whole => Ok(Mark::of(Location::Whole)),
+        RefusedPart::Token { at } => Ok(Mark::of(spot(text, at))),
         RefusedPart::Form { form } => Ok(form_mark(alloc, text, form)?),
     }
 }

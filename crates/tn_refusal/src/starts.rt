@@ -1,6 +1,6 @@
 // Where the forms of a text begin.
 ghost use Rattle.std.specs.Prelude.{◌≡◌, IfOk};
-ghost use Rattle.tn_refusal.specs.Starts.{is_stop_kind, start_in, IsFormOffset};
+ghost use Rattle.tn_refusal.specs.Starts.{is_stop_kind, start_in, IsFormOffset, span_start};
 
 use std::alloc::{AllocError, Allocator};
 use tn_text::{Kind, TextFault, Token, tokens};
@@ -28,6 +28,35 @@ fn start_after(tokens: &[Token], stops: usize, end: usize) -> usize
     end
 }
 
+/// Where a form begins, and where the one after it does.
+#[derive(Clone, Copy)]
+pub struct FormSpan {
+    pub from: usize,
+    pub to: usize,
+}
+
+/// The span of the form with this number, from 1: from its first token to that of the form after it, where the text's
+/// length stands for a token that isn't there. None as for `form_offset`.
+pub fn form_span<A: Allocator>(
+    alloc: A,
+    text: &[u8],
+    form: usize,
+) -> Result<Option<FormSpan>, AllocError>
+    ensures { IfOk result (λ o. IsFormOffset text.now form (span_start o)) }
+{
+    match tokens(alloc, text) {
+        Ok(tokens) => Ok(Some(FormSpan {
+            from: start_after(&tokens, form.saturating_sub(1), text.len()),
+            to: start_after(&tokens, form, text.len()),
+        })),
+        Err(TextFault::OutOfMemory) => Err(AllocError),
+        Err(TextFault::TooLong) => Ok(None),
+        Err(TextFault::Token { .. }) => Ok(None),
+        Err(TextFault::TooDeep { .. }) => Ok(None),
+        Err(TextFault::TooLarge { .. }) => Ok(None),
+    }
+}
+
 /// The offset in bytes, from 0, of the first token of the form with this number, from 1: of the token after
 /// as many full stops as forms come before it, or the text's length where no token is left. None where the
 /// text is longer than 1,048,576 bytes, or has bytes that form no token. It takes linear time, and memory for
@@ -43,12 +72,8 @@ pub fn form_offset<A: Allocator>(
 ) -> Result<Option<usize>, AllocError>
     ensures { IfOk result (λ o. IsFormOffset text.now form o) }
 {
-    match tokens(alloc, text) {
-        Ok(tokens) => Ok(Some(start_after(&tokens, form.saturating_sub(1), text.len()))),
-        Err(TextFault::OutOfMemory) => Err(AllocError),
-        Err(TextFault::TooLong) => Ok(None),
-        Err(TextFault::Token { .. }) => Ok(None),
-        Err(TextFault::TooDeep { .. }) => Ok(None),
-        Err(TextFault::TooLarge { .. }) => Ok(None),
+    match form_span(alloc, text, form)? {
+        Some(span) => Ok(Some(span.from)),
+        None => Ok(None),
     }
 }

@@ -8,7 +8,7 @@ returns g c =
     let named : c.extend_from_slice.new.self.items ≡ c.in_ok-line.line.items ++ c.words_of.result.now = search rules in
     let found : c.append_shown.new.line.items ≡ c.extend_from_slice.new.self.items ++ map printable_byte c.in_ok-found.found.items = search rules in
     record {
-      mark = c.in_ok-mark.mark;
+      mark = c.in_ok-mark.mark.location;
       rest = map printable_byte c.in_ok-found.found.items;
       place = c.in_ok-mark.ensures;
       text = cc (named, found, c.in_ok-line.ensures, c.words_of.ensures);

@@ -2,7 +2,7 @@ use Rattle.std.proofs.Common.{◌≡◌, ◌-◌, length, subst, sym, ap, ◌∙
 use Rattle.def_text.specs.Forms.{FormBegins}
 use Rattle.tn_refusal.specs.Starts.{start_in}
 use Rattle.tn_refusal.proofs.FormStarts.{form_begins, no_token, too_long}
-use Rattle.tn_refusal.proofs.starts.form_offset.Goals as goal
+use Rattle.tn_refusal.proofs.starts.form_span.Goals as goal
 
 pub returns-in-Ok : goal.returns-in-Ok
 returns-in-Ok g c =
