@@ -1,7 +1,7 @@
 // What is seen of a session between two steps.
 ghost use Rattle.std.specs.Prelude.{◌≡◌};
 ghost use Rattle.std.specs.Option.{option_map};
-ghost use Rattle.tn_term.specs.Views.{alive_of};
+ghost use Rattle.tn_term.specs.Views.{alive_of, mfa_seen};
 ghost use Rattle.tn_flags.specs.Views.{call_seen, flags_of, table_of};
 ghost use Rattle.tn_session.specs.Looks.{look_seen, look_setting, newest_seen};
 ghost use Rattle.tn_session.specs.Views.{mark_kind_seen};
@@ -11,7 +11,7 @@ use tn_flags::{Call, FlagTable, Flags};
 use tn_index::Setting;
 use tn_session::{Kind, Look, NewestSetting};
 use tn_spec::Spec;
-use tn_term::Alive;
+use tn_term::{Alive, Mfa};
 
 /// `tn_session::Look::is_live` has one answer.
 pub fn is_live<A: Allocator + Copy>(one: &Look<'_, A>, other: &Look<'_, A>) -> (bool, bool)
@@ -115,4 +115,22 @@ pub fn newest<'a, A: Allocator + Copy>(
     ensures { option_map newest_seen result.0 ≡ option_map newest_seen result.1 }
 {
     (one.newest(call), other.newest(same_call))
+}
+
+/// `tn_session::Look::newest_among` has one answer.
+pub fn newest_among<'a, A: Allocator + Copy>(
+    one: &Look<'a, A>,
+    other: &Look<'a, A>,
+    function: &Mfa<A>,
+    same_function: &Mfa<A>,
+    exported: bool,
+) -> (Option<NewestSetting<'a, A>>, Option<NewestSetting<'a, A>>)
+    requires looks { look_seen one.now ≡ look_seen other.now }
+    requires functions { mfa_seen function.now ≡ mfa_seen same_function.now }
+    ensures { option_map newest_seen result.0 ≡ option_map newest_seen result.1 }
+{
+    (
+        one.newest_among(function, exported),
+        other.newest_among(same_function, exported),
+    )
 }

@@ -2,6 +2,7 @@
 use Rattle.std.specs.Prelude.{Bool, true, false, Option}
 use Rattle.std.specs.Option.{option_map}
 use Rattle.std.specs.Borrow.{Bor}
+use Rattle.def_term.specs.Names.{Mfa}
 use Rattle.def_node.specs.Event as node
 use Rattle.def_session.specs.Settings as settings
 use Rattle.def_session.specs.State as definition
@@ -37,6 +38,10 @@ parts_of k = (k.setting, k.local)
 abbrev pub newest_seen : {A : Type 0} → NewestSetting A → settings.Setting × Bool
 newest_seen k = (look_setting k.setting, k.local)
 
--- those of the newest command that has the called function among its own
+-- those of the newest command that has the function, exported or not, among its own
+abbrev pub newest_among : {A : Type 0} → Look A → Mfa → Bool → Option (settings.Setting × Bool)
+newest_among l f exported = option_map parts_of (newest_with (look_seen l).functions f exported)
+
+-- of the called function
 abbrev pub newest_for : {A : Type 0} → Look A → node.Call → Option (settings.Setting × Bool)
-newest_for l c = option_map parts_of (newest_with (look_seen l).functions c.mfa c.exported)
+newest_for l c = newest_among l c.mfa c.exported

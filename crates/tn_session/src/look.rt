@@ -9,7 +9,7 @@ use std::alloc::Allocator;
 use tn_flags::{Call, FlagTable, Flags};
 use tn_index::Setting;
 use tn_spec::Spec;
-use tn_term::Alive;
+use tn_term::{Alive, Mfa};
 
 /// A session as it is between two steps: its flags, its settings with their specifications, its marks and
 /// who lives.
@@ -41,9 +41,9 @@ impl<'a, A: Allocator + Copy> Look<'a, A> {
     ghost use Rattle.std.specs.Option.{option_map};
     ghost use Rattle.def_session.specs.Session as session;
     ghost use Rattle.def_session.specs.State as definition;
-    ghost use Rattle.tn_term.specs.Views.{alive_of};
+    ghost use Rattle.tn_term.specs.Views.{alive_of, mfa_seen};
     ghost use Rattle.tn_flags.specs.Views.{call_seen, flags_of, table_of};
-    ghost use Rattle.tn_session.specs.Looks.{look_seen, look_setting, is_live, newest_seen, newest_for};
+    ghost use Rattle.tn_session.specs.Looks.{look_seen, look_setting, is_live, newest_seen, newest_for, newest_among};
     ghost use Rattle.tn_session.specs.Views.{mark_kind_seen};
 
     /// Whether it was not destroyed.
@@ -106,17 +106,24 @@ impl<'a, A: Allocator + Copy> Look<'a, A> {
         borrow_setting(&self.state.receiving)
     }
 
-    /// What the newest function command that has the called function among its own sets
+    /// What the newest function command that has the function, exported or not, among its own sets
     /// (`trace:function/4`); None where there is none.
-    pub fn newest(&self, call: &Call<A>) -> Option<NewestSetting<'a, A>>
-        ensures { option_map newest_seen result ≡ newest_for self.now (call_seen call.now) }
+    pub fn newest_among(&self, function: &Mfa<A>, exported: bool) -> Option<NewestSetting<'a, A>>
+        ensures { option_map newest_seen result ≡ newest_among self.now (mfa_seen function.now) exported }
     {
-        match self.state.settings.get(&call.mfa, call.exported) {
+        match self.state.settings.get(function, exported) {
             None => None,
             Some(function_setting) => Some(NewestSetting {
                 setting: borrow_setting(&function_setting.setting),
                 local: function_setting.local,
             }),
         }
+    }
+
+    /// What the newest function command that has the called function among its own sets; None where there is none.
+    pub fn newest(&self, call: &Call<A>) -> Option<NewestSetting<'a, A>>
+        ensures { option_map newest_seen result ≡ newest_for self.now (call_seen call.now) }
+    {
+        self.newest_among(&call.mfa, call.exported)
     }
 }
