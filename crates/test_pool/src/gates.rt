@@ -15,7 +15,7 @@ use tn_pool::{Board, Gate, run_workers};
 use tn_trace::Core;
 
 /// How often a worker looks for the other before it gives up.
-const POLLS: u64 = 10_000_000;
+const POLLS: u64 = 4_000_000_000;
 
 /// Holds the second worker's first turn until the first worker's first is answered, and the first worker at
 /// that answer until the second worker begins another turn, so that its own step has been taken by then.

@@ -14,7 +14,7 @@ use tn_run::{Outcome, Ran, Schedule, Workers, run, run_live};
 use tn_text::Watched;
 
 /// How often the gate looks for another worker before it gives up.
-const POLLS: u64 = 10_000_000;
+const POLLS: u64 = 4_000_000_000;
 
 /// Holds the first turn until a turn of another worker is answered.
 #[derive(Drop)]
