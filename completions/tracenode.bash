@@ -18,7 +18,7 @@ _tracenode() {
         esac
     else
         case $before in
-            --picks | --limit | --n | --turns | --session | --move | --list | --me | --caller) return ;;
+            --picks | --limit | --n | --turns | --spread | --session | --move | --list | --me | --caller) return ;;
             --expect-line | --reject-line) return ;;
             --for)
                 COMPREPLY=($(compgen -W 'call send receive' -- "$word"))
@@ -32,7 +32,7 @@ _tracenode() {
         case $command in
             replay) words='--picks --picks-file --quiet --expect --expect-line --reject-line -h --help' ;;
             round) words='--limit --quiet --expect --expect-line --reject-line -h --help' ;;
-            workers) words='--n --turns --quiet --expect --expect-line --reject-line -h --help' ;;
+            workers) words='--n --turns --spread --quiet --expect --expect-line --reject-line -h --help' ;;
             explain)
                 words='--picks --picks-file --session --move --node --expect --expect-line --reject-line -h --help'
                 ;;

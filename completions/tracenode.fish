@@ -21,6 +21,7 @@ complete -c tracenode -n '__fish_seen_subcommand_from round' -l expect-line -x -
 complete -c tracenode -n '__fish_seen_subcommand_from round' -l reject-line -x -d 'A line that the output must not have'
 complete -c tracenode -n '__fish_seen_subcommand_from workers' -l n -x -d 'How many workers there are'
 complete -c tracenode -n '__fish_seen_subcommand_from workers' -l turns -x -d 'How many turns each takes'
+complete -c tracenode -n '__fish_seen_subcommand_from workers' -l spread -x -d 'A seed by which turns give way'
 complete -c tracenode -n '__fish_seen_subcommand_from workers' -l quiet -d 'Print no notes'
 complete -c tracenode -n '__fish_seen_subcommand_from workers' -l expect -r -d 'The file of the output that is expected'
 complete -c tracenode -n '__fish_seen_subcommand_from workers' -l expect-line -x -d 'A line that the output must have'

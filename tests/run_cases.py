@@ -142,7 +142,7 @@ def passes():
 def workers():
     """Each example by workers: the journal that is printed, replayed, gives the same bytes."""
     for script in sorted(EXAMPLES.glob("*.term")):
-        for words in (["--n", "1"], ["--n", "3"], ["--n", "16", "--turns", "2"]):
+        for words in (["--n", "1"], ["--n", "3"], ["--n", "16", "--turns", "2"], ["--n", "4", "--spread", "7"]):
             ran = run(["workers", *words], script.read_bytes())
             picks = ran.stdout.decode().removesuffix("\n").rpartition("\n")[2]
             again = run(["replay", "--picks", picks], script.read_bytes())

@@ -79,7 +79,7 @@ ROUND = codes "script" ∷ codes "limit" ∷ codes "quiet" ∷ EXPECTATION
 
 -- the arguments of `workers`
 abbrev pub WORKERS : List (List ℕ)
-WORKERS = codes "script" ∷ codes "n" ∷ codes "turns" ∷ codes "quiet" ∷ EXPECTATION
+WORKERS = codes "script" ∷ codes "n" ∷ codes "turns" ∷ codes "spread" ∷ codes "quiet" ∷ EXPECTATION
 
 -- the arguments of `spec`
 abbrev pub TRIAL : List (List ℕ)

@@ -136,7 +136,7 @@ abbrev pub request_expectation : Request → ExpectationArgs
 request_expectation (Replay script picks quiet e) = e
 request_expectation (Explain script picks filter e) = e
 request_expectation (Round script limit quiet e) = e
-request_expectation (Workers script count turns quiet e) = e
+request_expectation (Workers script count turns spread quiet e) = e
 request_expectation (Spec trial) = record { file = None; line = None; no_line = None }
 
 -- what the subcommand of this name asks for, by what was found after it
@@ -150,9 +150,10 @@ Asks name m (Explain script picks filter expectation) =
 Asks name m (Round script limit quiet expectation) =
     (name ≡ codes "round") × IsSourceNamed (argument m (codes "script")) script × IsGiven 1 65536 (argument m (codes "limit")) limit
     × (quiet ≡ is_given m (codes "quiet")) × IsExpectationOf m expectation
-Asks name m (Workers script count turns quiet expectation) =
+Asks name m (Workers script count turns spread quiet expectation) =
     (name ≡ codes "workers") × IsSourceNamed (argument m (codes "script")) script
     × IsGiven 1 16 (argument m (codes "n")) count × IsGiven 1 65536 (argument m (codes "turns")) turns
+    × IsNumberOrNone {E = Unit {0}} (argument m (codes "spread")) (Ok spread)
     × (quiet ≡ is_given m (codes "quiet")) × IsExpectationOf m expectation
 Asks name m (Spec trial) = (name ≡ codes "spec") × IsTrialOf m trial
 
@@ -162,6 +163,7 @@ LacksNumber name m =
     ((name ≡ codes "explain") × IsSomeAnd (argument m (codes "move")) (λ text. ¬ (IsPlainNumber text)))
     ⊎ ((name ≡ codes "round") × (¬ (IsBetween 1 65536 (argument m (codes "limit")))))
     ⊎ ((name ≡ codes "workers") × (¬ (IsBetween 1 16 (argument m (codes "n")) × IsBetween 1 65536 (argument m (codes "turns")))))
+    ⊎ ((name ≡ codes "workers") × IsSomeAnd (argument m (codes "spread")) (λ text. ¬ (IsPlainNumber text)))
     ⊎ ((name ≡ codes "spec") × NamesNoProcess (unwrap_or (argument m (codes "me")) []))
 
 -- the subcommand that was found lacks a number

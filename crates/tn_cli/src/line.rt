@@ -254,7 +254,19 @@ fn turns<'a>(alloc: Global) -> Arg<'a>
         .action(ArgAction::Set)
 }
 
-/// The subcommand `workers [SCRIPT] --n N [--turns T] [--quiet]`, with what its output must be.
+/// `--spread SEED`.
+fn spread<'a>(alloc: Global) -> Arg<'a>
+    ensures { IsOption (codes "spread") result }
+{
+    Arg::new(alloc, "spread")
+        .long("spread")
+        .value_name("SEED")
+        .help("Each turn gives way to other workers some times, by this number, so that races show")
+        .value_parser(value_parser!(u32))
+        .action(ArgAction::Set)
+}
+
+/// The subcommand `workers [SCRIPT] --n N [--turns T] [--spread SEED] [--quiet]`, with what its output must be.
 fn workers<'a>(alloc: Global) -> Result<Command<'a>, AllocError>
     ensures { IfOk result (IsCommand (codes "workers") WORKERS) }
 {
@@ -263,6 +275,7 @@ fn workers<'a>(alloc: Global) -> Result<Command<'a>, AllocError>
         .arg(script(alloc))?
         .arg(worker_count(alloc))?
         .arg(turns(alloc))?
+        .arg(spread(alloc))?
         .arg(quiet(alloc))?;
     with_expectation(alloc, command)
 }

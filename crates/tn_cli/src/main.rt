@@ -22,11 +22,10 @@ use std::rt::{Env, Files};
 use std::sync::Wait;
 use std::thread::Threads;
 use tn_command::{
-    Expectation, FAULT, LastError, REFUSED, Source, WorkersRun, arguments, output_of, perform,
-    picks_of, report, tell_fault, test_spec,
+    Expectation, FAULT, LastError, REFUSED, Source, Start, WorkersRun, arguments, output_of,
+    perform, picks_of, report, tell_fault, test_spec,
 };
 use tn_explain::{ExplainRequest, Filter, RunAndNote};
-use tn_pool::Open;
 use tn_run::{RunFault, Schedule, Workers, write_output};
 use tn_text::Watched;
 use tn_verdict::SpecTestInput;
@@ -119,21 +118,18 @@ fn run_workers<R: Input + Files + Print + Eprint + AllocGlobal + Threads + Wait 
     script: Source<'_>,
     count: u32,
     turns: u32,
-    quiet: bool,
-    expectation: &Expectation<'_>,
+    spread: Option<u64>,
+    job: &WorkersRun<'_>,
 ) -> ExitCode
     ensures { IsStatus (exit_status result) }
 {
+    let count = count.max(1).min(16);
     let workers = Workers {
-        count: count.max(1).min(16),
+        count,
         turns,
-        gate: &Open,
+        gate: &Start::new(count, spread),
     };
-    let job = WorkersRun {
-        has_note: !quiet,
-        expectation,
-    };
-    tn_command::run_workers(rt, script, &workers, &job)
+    tn_command::run_workers(rt, script, &workers, job)
 }
 
 /// Makes a trial of a specification.
@@ -201,9 +197,16 @@ fn run_so<R: Input + Files + Print + Eprint + AllocGlobal + Threads + Wait + Syn
             script,
             count,
             turns,
+            spread,
             quiet,
             ..
-        } => run_workers(rt, script, count, turns, quiet, expectation),
+        } => {
+            let job = WorkersRun {
+                has_note: !quiet,
+                expectation,
+            };
+            run_workers(rt, script, count, turns, spread, &job)
+        }
         Request::Spec(trial) => run_spec(rt, &trial),
     }
 }

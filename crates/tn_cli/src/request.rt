@@ -73,6 +73,8 @@ pub enum Request<'a> {
         script: Source<'a>,
         count: u32,
         turns: u32,
+        /// The seed by which turns give way to other workers.
+        spread: Option<u64>,
         /// Whether no notes are printed on standard error.
         quiet: bool,
         expectation: ExpectationArgs<'a>,
@@ -140,16 +142,20 @@ fn number<'a>(
     }
 }
 
-/// The move that `explain` is asked for, where there is one.
-fn move_number<'a>(matches: &ArgMatches<'a>) -> Result<Option<u64>, BadNumber<'a>>
-    ensures { IsNumberOrNone (argument matches.now (codes "move")) result }
+/// The number of an option that may be absent.
+fn number_or_none<'a>(
+    args: &ArgMatches<'a>,
+    id: &str,
+    option: &'static str,
+) -> Result<Option<u64>, BadNumber<'a>>
+    ensures { IsNumberOrNone (argument args.now id.now) result }
 {
-    let Some(text) = matches.get_str("move") else {
+    let Some(text) = args.get_str(id) else {
         return Ok(None);
     };
     match plain_number(text) {
         Some(number) => Ok(Some(number as u64)),
-        None => Err(not_number("--move <N>", text)),
+        None => Err(not_number(option, text)),
     }
 }
 
@@ -232,7 +238,7 @@ fn explain<'a>(matches: &ArgMatches<'a>) -> Result<Request<'a>, BadNumber<'a>>
     ensures asks { IfOk result (Asks (codes "explain") matches.now) }
     ensures refused { IfErr result (λ e. LacksNumber (codes "explain") matches.now) }
 {
-    let move_number = move_number(matches)?;
+    let move_number = number_or_none(matches, "move", "--move <N>")?;
     Ok(Request::Explain {
         script: script(matches),
         picks: picks(matches),
@@ -266,10 +272,12 @@ fn workers<'a>(matches: &ArgMatches<'a>) -> Result<Request<'a>, BadNumber<'a>>
 {
     let count = number(matches, "n", "--n <N>", 1, 16)?;
     let turns = number(matches, "turns", "--turns <T>", 1, 65536)?;
+    let spread = number_or_none(matches, "spread", "--spread <SEED>")?;
     Ok(Request::Workers {
         script: script(matches),
         count,
         turns,
+        spread,
         quiet: flag(matches, "quiet"),
         expectation: expectation(matches),
     })

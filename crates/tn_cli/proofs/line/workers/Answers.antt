@@ -12,6 +12,8 @@ returns c =
     c.in_ok-arg-2.ensures in
     let third = one_more name _ (codes "turns") c.in_ok-arg-2.field-0 c.in_ok-arg-3.field-0 c.turns.result second c.turns.ensures.named.0
     c.in_ok-arg-3.ensures in
-    let fourth = one_more name _ (codes "quiet") c.in_ok-arg-3.field-0 c.in_ok-command.command c.quiet.result third c.quiet.ensures.0
+    let fourth = one_more name _ (codes "spread") c.in_ok-arg-3.field-0 c.in_ok-arg-4.field-0 c.spread.result third c.spread.ensures.0
+    c.in_ok-arg-4.ensures in
+    let fifth = one_more name _ (codes "quiet") c.in_ok-arg-4.field-0 c.in_ok-command.command c.quiet.result fourth c.quiet.ensures.0
     c.in_ok-command.ensures in
-    expectation_so name _ c.in_ok-command.command c.with_expectation.result fourth c.with_expectation.ensures
+    expectation_so name _ c.in_ok-command.command c.with_expectation.result fifth c.with_expectation.ensures
