@@ -10,7 +10,7 @@ use Rattle.def_spec.specs.Functions.{Func}
 use Rattle.def_spec.specs.Expressions.{Dialect, Exprs, bound_to, constant, tuple_of, list_of, and_expr, Position, in_condition, in_body}
 use Rattle.def_spec.specs.Outcome.{Clause, Spec}
 use Rattle.def_spec.specs.Reading.{SpecFault, badarg, unsupported, Reads, then_read, AtomKind, a_variable, a_wrong_variable, a_plain_atom, atom_kind, is_wildcard, pattern_of_kind, pattern_of, patterns_of, head_of_kind, head_of, Callee, a_function, an_and_also, an_or_else, an_action, Row, table, unsupported_names, found_in, is_allowed, takes, called_of, named_call, call_of, atom_expr_of_kind, is_constant, only_element, expr_of, exprs_of, clause_of_parts, clause_of, clauses_of, spec_of}
-use Rattle.def_explain.specs.SpecReasons.{ExpressionReason, not_in_head, no_variable, no_call, no_function, wrong_count, wrong_place, not_supported, HeadTermReason, no_head, no_head_variable, no_tuple, element_count, no_conditions, no_body, ClauseReason, of_shape, of_head, of_condition, of_body, SpecReason, no_clauses, at_clause, expression_fault, clause_fault, reason_fault, IsFirstReason, HasReasonAt, atoms_in, atoms_in_each, IsWrongVariable, IsOtherAtom, IsNoHead, IsHeadTermReason, expressions_in, expressions_in_each, IsNoCall, IsCallOf, IsNamedCall, IsOwnReason, IsExpressionReason, IsExpression, HasExpressionReason, IsClauseReason, IsClause, IsSpecReason, first_reason, reason_after, wrong_of_kind, wrong_variable, head_atom_reason, head_term_reason, atom_reason, place_reason, row_reason, call_reason, own_reason, expression_reason, reason_behind_head, parts_reason, three_reason, clause_reason, spec_reason}
+use Rattle.def_explain.specs.SpecReasons.{ExpressionReason, not_in_head, no_variable, no_call, no_function, wrong_count, wrong_place, not_supported, HeadTermReason, no_head, no_head_variable, no_tuple, element_count, no_conditions, no_body, ClauseReason, of_shape, of_head, of_condition, of_body, SpecReason, no_clauses, at_clause, expression_fault, clause_fault, reason_fault, IsFirstReason, HasReasonAt, atoms_in, atoms_in_each, IsWrongVariable, IsOtherAtom, IsNoHead, IsHeadTermReason, expressions_in, expressions_in_each, IsNoCall, IsCallOf, IsNamedCall, IsOwnReason, IsExpressionReason, IsExpression, HasExpressionReason, IsClauseReason, IsClause, IsSpecReason, first_reason, reason_after, wrong_of_kind, wrong_variable, head_atom_reason, head_term_reason, atom_reason, place_reason, row_reason, call_reason, own_reason, expression_reason, reason_after_head, parts_reason, three_reason, clause_reason, spec_reason}
 use Rattle.def_explain.specs.ReasonLaws.{SpecFaultHasReason, SpecReasonIsComputed}
 
 -- ---- faults that are read
@@ -50,7 +50,7 @@ or-none : {R : Type 0} (o : Option R) → option_or o None ≡ o
 or-none None = refl
 or-none (Some x) = refl
 
-first-append : {X R : Type 0} (f : X → Option R) (xs ys : List X) → first_reason f (xs ++ ys) ≡ option_or (first_reason f xs) (first_reason f ys)
+pub first-append : {X R : Type 0} (f : X → Option R) (xs ys : List X) → first_reason f (xs ++ ys) ≡ option_or (first_reason f xs) (first_reason f ys)
 first-append f [] ys = refl
 first-append f (x ∷ xs) ys = ap (option_or (f x)) (first-append f xs ys) ∙ sym (or-assoc (f x) (first_reason f xs) (first_reason f ys))
 
@@ -242,14 +242,14 @@ parts-fault d h cs bs = go (head_term_reason h) (head_of h) (head-fault h)
         each None = refl
         each (Some x) = ap Some (same x.0 x.1)
 
-    behind : (p : Pattern) → option_map clause_fault (reason_behind_head d cs bs (Ok p)) ≡ fault_read (rest p)
+    behind : (p : Pattern) → option_map clause_fault (reason_after_head d cs bs (Ok p)) ≡ fault_read (rest p)
     behind p =
         map-or clause_fault (option_map (λ x. of_condition x.0 x.1) (reason_after (expression_reason d in_condition p) 0 cs)) (option_map (λ x. of_body x.0 x.1) (reason_after (expression_reason d in_body p) 0 bs))
         ∙ ap (λ o. option_or o (option_map clause_fault (option_map (λ x. of_body x.0 x.1) (reason_after (expression_reason d in_body p) 0 bs)))) (at in_condition p cs of_condition (λ n r. refl))
         ∙ ap (option_or (fault_read (exprs_of d in_condition p cs))) (at in_body p bs of_body (λ n r. refl))
         ∙ sym (then-or (exprs_of d in_condition p cs) (body p) (fault_read (exprs_of d in_body p bs)) (λ conditions. then-map (λ body. record { head = p; conditions = conditions; body = body }) (exprs_of d in_body p bs)))
 
-    go : (o : Option HeadTermReason) (r : Reads Pattern) → option_map as_badarg o ≡ fault_read r → option_map clause_fault (option_or (option_map of_head o) (reason_behind_head d cs bs r)) ≡ fault_read (then_read r rest)
+    go : (o : Option HeadTermReason) (r : Reads Pattern) → option_map as_badarg o ≡ fault_read r → option_map clause_fault (option_or (option_map of_head o) (reason_after_head d cs bs r)) ≡ fault_read (then_read r rest)
     go None (Ok p) same = behind p
     go None (Err e) same = absurd (cc same)
     go (Some x) (Ok p) same = absurd (cc same)
@@ -593,16 +593,16 @@ module _ (d : Dialect) (h : Tree) (cs bs : Trees) where
   parts-sound : (r : ClauseReason) → parts_reason d h cs bs ≡ Some r → Whole r
   parts-sound r e = go (head_term_reason h) refl e
     where
-      go : (o : Option HeadTermReason) → head_term_reason h ≡ o → option_or (option_map of_head o) (reason_behind_head d cs bs (head_of h)) ≡ Some r → Whole r
-      go None n f = let p : (q : Pattern) × (head_of h ≡ Ok q) = (head-otherwise h).0 n in behind-sound r p.0 p.1 (ap (reason_behind_head d cs bs) (sym p.1) ∙ f)
+      go : (o : Option HeadTermReason) → head_term_reason h ≡ o → option_or (option_map of_head o) (reason_after_head d cs bs (head_of h)) ≡ Some r → Whole r
+      go None n f = let p : (q : Pattern) × (head_of h ≡ Ok q) = (head-otherwise h).0 n in behind-sound r p.0 p.1 (ap (reason_after_head d cs bs) (sym p.1) ∙ f)
       go (Some x) n f = subst Whole (is_so (of_head x) r f) (h, cs, bs, refl, head-sound h x n)
 
   -- with a head that is read
   behind-is : (p : Pattern) → head_of h ≡ Ok p → parts_reason d h cs bs ≡ option_or (of_conditions p) (of_bodies p)
-  behind-is p a = ap (λ o. option_or (option_map of_head o) (reason_behind_head d cs bs (head_of h))) ((head-otherwise h).1 (p, a)) ∙ ap (reason_behind_head d cs bs) a
+  behind-is p a = ap (λ o. option_or (option_map of_head o) (reason_after_head d cs bs (head_of h))) ((head-otherwise h).1 (p, a)) ∙ ap (reason_after_head d cs bs) a
 
   head-clause-complete : (r : HeadTermReason) → IsHeadTermReason h r → parts_reason d h cs bs ≡ Some (of_head r)
-  head-clause-complete r k = ap (λ o. option_or (option_map of_head o) (reason_behind_head d cs bs (head_of h))) (head-complete h r k)
+  head-clause-complete r k = ap (λ o. option_or (option_map of_head o) (reason_after_head d cs bs (head_of h))) (head-complete h r k)
 
   condition-complete : (n : ℕ) (r : ExpressionReason) (p : Pattern) → head_of h ≡ Ok p → HasExpressionReason d in_condition p cs n r → parts_reason d h cs bs ≡ Some (of_condition n r)
   condition-complete n r p a k = behind-is p a ∙ ap (λ o. option_or (option_map (λ x. of_condition x.0 x.1) o) (of_bodies p)) (several-complete d in_condition p cs n r k)

@@ -161,10 +161,10 @@ command_reason_text no_match = codes "no function matches"
 command_reason_text no_exported_match = codes "no exported function matches; [local] is for the others too"
 
 -- after a reply, where there is a reason
-abbrev pub reason_behind_reply : Option CommandReason → List ℕ
-reason_behind_reply None = []
-reason_behind_reply (Some r) = codes ": " ++ command_reason_text r
+abbrev pub reason_after_reply : Option CommandReason → List ℕ
+reason_after_reply None = []
+reason_after_reply (Some r) = codes ": " ++ command_reason_text r
 
 -- the reply to a command, and why it is this one
 abbrev pub reply_text : Exports → Session → Command → List ℕ
-reply_text o s c = codes "replies " ++ w (command_done o s c).1 ++ reason_behind_reply (command_reason o s c)
+reply_text o s c = codes "replies " ++ w (command_done o s c).1 ++ reason_after_reply (command_reason o s c)

@@ -280,15 +280,15 @@ module _ (d : Dialect) (part : Position) (head : Pattern) where
   expression_reason t = first_reason own_reason (expressions_in t)
 
 -- of conditions and body, once the head is read
-abbrev pub reason_behind_head : Dialect → Trees → Trees → Reads Pattern → Option ClauseReason
-reason_behind_head d cs bs (Err e) = None
-reason_behind_head d cs bs (Ok p) =
+abbrev pub reason_after_head : Dialect → Trees → Trees → Reads Pattern → Option ClauseReason
+reason_after_head d cs bs (Err e) = None
+reason_after_head d cs bs (Ok p) =
     option_or (option_map (λ x. of_condition x.0 x.1) (reason_after (expression_reason d in_condition p) 0 cs))
     (option_map (λ x. of_body x.0 x.1) (reason_after (expression_reason d in_body p) 0 bs))
 
 -- of head, conditions and body
 abbrev pub parts_reason : Dialect → Tree → Trees → Trees → Option ClauseReason
-parts_reason d h cs bs = option_or (option_map of_head (head_term_reason h)) (reason_behind_head d cs bs (head_of h))
+parts_reason d h cs bs = option_or (option_map of_head (head_term_reason h)) (reason_after_head d cs bs (head_of h))
 
 -- of three elements
 abbrev pub three_reason : Dialect → Tree → Tree → Tree → Option ClauseReason
