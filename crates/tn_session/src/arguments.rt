@@ -128,7 +128,7 @@ fn pattern_in<A: Allocator + Copy>(
 
 /// The functions that a command is about: {M,F,A}, {M,F,'_'}, {M,'_','_'} or {'_','_','_'}, with A from 0
 /// to 255; None of any other term (`trace:function/4`).
-pub(crate) fn pattern_of<A: Allocator + Copy>(
+pub fn pattern_of<A: Allocator + Copy>(
     alloc: A,
     term: &Term<A>,
 ) -> Result<Option<FunctionPattern<A>>, AllocError>
@@ -161,7 +161,7 @@ fn options_in<A: Allocator>(items: &Vec<Term<A>, A>) -> Option<bool>
 }
 
 /// Whether the options are local: `[local]`, else `[]` or `[global]`; None of any other term.
-pub(crate) fn options_of<A: Allocator>(term: &Term<A>) -> Option<bool>
+pub fn options_of<A: Allocator>(term: &Term<A>) -> Option<bool>
     ensures { result ≡ options_of (tree_of term.now) }
 {
     match term {

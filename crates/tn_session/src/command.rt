@@ -26,10 +26,14 @@ use tn_term::{Alive, FIRST_PID, Term};
 
 /// Which processes a command is about.
 #[derive(Clone, Copy, Debug, PartialEq, Eq)]
-pub(crate) enum Procs {
+pub enum Procs {
+    /// The process of this pid.
     One(u32),
+    /// Each process that lives.
     Existing,
+    /// Each that is still to come.
     New,
+    /// Both.
     All,
 }
 
@@ -44,7 +48,7 @@ fn pid_in<A: Allocator>(term: &Term<A>) -> Option<Procs>
 }
 
 /// The processes that the term names: a pid, `existing`, `new` or `all`; None of any other.
-fn procs_of<A: Allocator>(term: &Term<A>) -> Option<Procs>
+pub fn procs_of<A: Allocator>(term: &Term<A>) -> Option<Procs>
     ensures { option_map procs_seen result ≡ procs_of (tree_of term.now) }
 {
     if term.is_word("existing") {
@@ -59,7 +63,7 @@ fn procs_of<A: Allocator>(term: &Term<A>) -> Option<Procs>
 }
 
 /// Whether a command sets, `true`, or clears, `false`; None of any other term.
-fn how_of<A: Allocator>(term: &Term<A>) -> Option<bool>
+pub fn how_of<A: Allocator>(term: &Term<A>) -> Option<bool>
     ensures { result ≡ how_of (tree_of term.now) }
 {
     if term.is_word("true") {

@@ -5,7 +5,8 @@
 //! one step of the definition of a session, reply and message included, and that a session that was
 //! refused memory is spent. A specification is kept with its code, by which it is evaluated. What a session
 //! reports of an event is a `Message` that borrows from the event; a term or a text is made of it. A `Look` shows the
-//! session between two steps, and `mark_for` is the mark that the effects of a call ask for.
+//! session between two steps, `mark_for` is the mark that the effects of a call ask for, and `procs_of`, `how_of`,
+//! `pattern_of` and `options_of` read the arguments of commands.
 #![tactic(auto)]
 
 mod arguments;
@@ -22,6 +23,8 @@ mod setting;
 mod state;
 mod text;
 
+pub use arguments::{options_of, pattern_of};
+pub use command::{Procs, how_of, procs_of};
 pub use look::{Look, NewestSetting};
 pub use marks::mark_for;
 pub use message::Message;
