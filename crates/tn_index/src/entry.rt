@@ -7,7 +7,7 @@ ghost use Rattle.tn_index.specs.Entries.{renew, IsEntryOf, IsUnset};
 use crate::function_setting::FunctionSetting;
 use indexmap::IndexMap;
 use std::alloc::{AllocError, Allocator};
-use std::hash::{BuildHasherDefault, DefaultHasher, FoldHasher, Hash, Hasher};
+use std::hash::{BuildHasherDefault, FoldHasher, Hash, Hasher};
 use tn_term::Mfa;
 
 /// A function of the program, and the command that set it last.
@@ -24,7 +24,7 @@ pub(crate) type Places<A> = IndexMap<u64, usize, BuildHasherDefault<FoldHasher>,
 
 /// The hash of a function.
 fn hash_of<A: Allocator>(function: &Mfa<A>) -> u64 {
-    let mut hasher = DefaultHasher::new();
+    let mut hasher = FoldHasher::default();
     function.module.text().hash(&mut hasher);
     function.name.text().hash(&mut hasher);
     function.arity.hash(&mut hasher);

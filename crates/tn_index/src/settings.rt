@@ -136,6 +136,9 @@ impl<S: Drop, A: Allocator + Copy> Settings<S, A> {
     pub fn get(&self, function: &Mfa<A>, exported: bool) -> Option<&FunctionSetting<S, A>>
         ensures { option_map (λ k. k.now) result ≡ newest_setting self.now (mfa_seen function.now) exported }
     {
+        if self.accepted.is_empty() {
+            return None;
+        }
         match find(&self.entries, &self.places, function, exported) {
             Some(entry) => self.accepted.get(entry.newest?),
             None => newest_in(&self.accepted, function, exported),
