@@ -1,6 +1,5 @@
 -- What a session stands for, and what its calls give.
-use Rattle.std.specs.Prelude.{ℕ, List, Bool, map, Option, Some}
-use Rattle.std.specs.Option.{option_map}
+use Rattle.std.specs.Prelude.{ℕ, List, Bool, map, Option, Some, None, if◌then◌else◌}
 use Rattle.def_term.specs.Names as names
 use Rattle.def_session.specs.State as definition
 use Rattle.def_script.specs.Exports.{Exports}
@@ -18,7 +17,7 @@ session_seen c = record { functions = map function_seen c.functions.items; state
 
 -- what a session stands for; nothing once it was refused memory
 abbrev pub value_in : {A : Type 0} → Session A → Option SessionValue
-value_in c = option_map session_seen c.state
+value_in c = if c.is_spent then None else Some (session_seen c.state)
 
 -- the session in the state that the definition gives, beside what it answers
 abbrev pub next_session : {T : Type 0} → SessionValue → definition.Session × T → Option SessionValue × T

@@ -8,10 +8,11 @@ use tn_flags::{Command, Event, FlagTable, Flags};
 use tn_index::{Setting, Settings};
 use tn_term::{Alive, Mfa, Term};
 
-/// A session that was created. It has no state once it was refused memory: it is spent.
+/// A session that was created. Once it was refused memory it is spent, and its state is of no use.
 #[derive(Drop)]
 pub struct Session<A: Allocator> {
-    state: Option<State<A>>,
+    state: State<A>,
+    is_spent: bool,
 }
 
 impl<A: Allocator + Copy> Session<A> {
@@ -38,7 +39,7 @@ impl<A: Allocator + Copy> Session<A> {
     {
         let none = Flags::none();
         Session {
-            state: Some(State {
+            state: State {
                 alloc,
                 phase: Phase::Live,
                 functions,
@@ -49,7 +50,8 @@ impl<A: Allocator + Copy> Session<A> {
                 sending: Setting::Always,
                 receiving: Setting::Always,
                 marks: Vec::new(alloc),
-            }),
+            },
+            is_spent: false,
         }
     }
 
@@ -57,10 +59,10 @@ impl<A: Allocator + Copy> Session<A> {
     pub fn look(&self) -> Option<Look<'_, A>>
         ensures { option_map look_seen result ≡ option_map (λ s. s.state) (value_in self.now) }
     {
-        match &self.state {
-            Some(state) => Some(Look { state }),
-            None => None,
+        if self.is_spent {
+            return None;
         }
+        Some(Look { state: &self.state })
     }
 
     /// What a command does to the session, and its reply. The session's name in the command isn't looked
@@ -74,15 +76,15 @@ impl<A: Allocator + Copy> Session<A> {
             next_session s (command_done (exports_in s n) s.state k) ≡ (value_in self.new, tree_of t))) }
         ensures refused { OnErr result (IsNone (value_in self.new)) }
     {
-        match &mut self.state {
-            None => Err(AllocError),
-            Some(state) => match state.command(command) {
-                Ok(reply) => Ok(reply),
-                Err(refused) => {
-                    self.state = None;
-                    Err(refused)
-                }
-            },
+        if self.is_spent {
+            return Err(AllocError);
+        }
+        match self.state.command(command) {
+            Ok(reply) => Ok(reply),
+            Err(refused) => {
+                self.is_spent = true;
+                Err(refused)
+            }
         }
     }
 
@@ -96,15 +98,15 @@ impl<A: Allocator + Copy> Session<A> {
             next_session s (event_reported s.state e) ≡ (value_in self.new, option_map tree_of m))) }
         ensures refused { OnErr result (IsNone (value_in self.new)) }
     {
-        match &mut self.state {
-            None => Err(AllocError),
-            Some(state) => match state.event(event) {
-                Ok(message) => Ok(message),
-                Err(refused) => {
-                    self.state = None;
-                    Err(refused)
-                }
-            },
+        if self.is_spent {
+            return Err(AllocError);
+        }
+        match self.state.event(event) {
+            Ok(message) => Ok(message),
+            Err(refused) => {
+                self.is_spent = true;
+                Err(refused)
+            }
         }
     }
 
@@ -118,15 +120,15 @@ impl<A: Allocator + Copy> Session<A> {
             next_session s (event_reported s.state e) ≡ (value_in self.new, option_map message_seen m))) }
         ensures refused { OnErr result (IsNone (value_in self.new)) }
     {
-        match &mut self.state {
-            None => Err(AllocError),
-            Some(state) => match state.tell(event) {
-                Ok(message) => Ok(message),
-                Err(refused) => {
-                    self.state = None;
-                    Err(refused)
-                }
-            },
+        if self.is_spent {
+            return Err(AllocError);
+        }
+        match self.state.tell(event) {
+            Ok(message) => Ok(message),
+            Err(refused) => {
+                self.is_spent = true;
+                Err(refused)
+            }
         }
     }
 }
