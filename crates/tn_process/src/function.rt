@@ -18,9 +18,9 @@ fn is_named<A: Allocator>(
 ) -> bool
     ensures { result ≡ same_mfa (mfa_of (function_of function.now)) (mfa_from module_name.now name.now arity) }
 {
-    function.module.text() == module_name
+    function.params.len() == arity
         && function.name.text() == name
-        && function.params.len() == arity
+        && function.module.text() == module_name
 }
 
 /// The module, the name and the number of parameters of a function.
