@@ -1,13 +1,15 @@
 -- What templates stand for, and the values of a call's parameters.
-use Rattle.std.specs.Prelude.{◌≡◌, List, [], ◌∷◌, ℕ, map, codes}
-use Rattle.def_term.specs.Tree.{Tree, pid}
+use Rattle.std.specs.Prelude.{◌≡◌, ◌≤◌, ◌+◌, List, [], ◌∷◌, ℕ, map, codes, Option, Some, None}
+use Rattle.def_term.specs.Tree.{Tree, Trees, pid, size, depth, sum_of_sizes, greatest_depth}
 use Rattle.def_term.specs.Names.{Name}
 use Rattle.def_node.specs.Values as values
 use Rattle.def_node.specs.Values.{instance_of, params_bound}
-use Rattle.tn_term.specs.Views.{tree_of}
+use Rattle.tn_term.specs.Views.{tree_of, trees_of}
 use Rattle.tn_term.specs.declared.term.Term.{Term}
 use Rattle.tn_script.specs.declared.form.Arguments.{Arguments}
 use Rattle.tn_process.specs.declared.process.Frame.{Frame}
+use Rattle.tn_process.specs.declared.value.Elements.{Elements}
+use Rattle.tn_process.specs.declared.value.Value.{Value}
 use Rattle.tn_process.specs.declared.values.Env.{Env}
 use Rattle.tn_process.specs.Views.{env_of}
 
@@ -35,3 +37,27 @@ env_for_call n ps ts = params_bound ((codes "Self", pid n) ∷ []) ps ts
 abbrev pub BindsNext : {A : Type 0} → Env A → Env A → Name → List (Term A) → List (Term A) → Type 0
 BindsNext old new p had left =
     (ps : List Name) → params_bound (env_of new) ps (map tree_of left) ≡ params_bound (env_of old) (p ∷ ps) (map tree_of had)
+
+-- a built term and its measures: it is no larger and no deeper than so
+pub record IsValueIn {A : Type 0} (n d : ℕ) (t : Tree) (v : Value A) : Type 0 where
+  pub tree : tree_of v.term ≡ t
+  pub size_is : v.size ≡ size t
+  pub depth_is : v.depth ≡ depth t
+  pub size_fits : size t ≤ n
+  pub depth_fits : depth t ≤ d
+
+-- the answer is the term where it is no larger and no deeper than so, and else none
+abbrev pub IsBuiltIn : {A : Type 0} → ℕ → ℕ → Tree → Option (Value A) → Type 0
+IsBuiltIn n d t None = size t ≤ n → depth t ≤ d → ⊥
+IsBuiltIn n d t (Some v) = IsValueIn n d t v
+
+-- built elements: the tuple or list of them is no larger and no deeper than so
+pub record AreElementsIn {A : Type 0} (n d : ℕ) (ts : Trees) (e : Elements A) : Type 0 where
+  pub trees : trees_of e.terms.items ≡ ts
+  pub size_fits : 1 + sum_of_sizes ts ≤ n
+  pub depth_fits : 1 + greatest_depth ts ≤ d
+
+-- the answer is the elements where a tuple or list of them is so, and else none
+abbrev pub AreBuiltIn : {A : Type 0} → ℕ → ℕ → Trees → Option (Elements A) → Type 0
+AreBuiltIn n d ts None = 1 + sum_of_sizes ts ≤ n → 1 + greatest_depth ts ≤ d → ⊥
+AreBuiltIn n d ts (Some e) = AreElementsIn n d ts e

@@ -20,7 +20,7 @@ use Rattle.tn_process.specs.declared.process.Frame.{Frame}
 use Rattle.tn_process.specs.declared.process.Process.{Process}
 
 abbrev pub name_and_term : {A : Type 0} → Binding A → Name × Tree
-name_and_term b = (b.name, tree_of b.value)
+name_and_term b = (b.name, tree_of b.value.term)
 
 abbrev pub env_of : {A : Type 0} → Env A → values.Env
 env_of e = map name_and_term e.values.items

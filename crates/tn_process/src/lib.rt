@@ -3,7 +3,7 @@
 //!
 //! Depends on the functions of a script and on the definitions of def_node. Promises that what a process
 //! does at its next step, and what it is then, are those of the definition: templates are built in one
-//! go and measured first, a call or a return changes the newest frame, an exception leaves frames down to
+//! go and measured as they are built, a call or a return changes the newest frame, an exception leaves frames down to
 //! the newest that a catch step called, and whatever concerns another process comes out as an act, for the
 //! node to carry out.
 #![tactic(auto)]
@@ -14,6 +14,7 @@ mod exception;
 mod function;
 mod neighbours;
 mod process;
+mod value;
 mod values;
 
 pub use act::Act;

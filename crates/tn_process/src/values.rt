@@ -1,5 +1,5 @@
 // The values of variables, and the terms that templates stand for.
-ghost use Rattle.std.specs.Prelude.{◌≡◌, ℕ, ◌+◌, IfOk, List, [], ◌∷◌, map, min, codes};
+ghost use Rattle.std.specs.Prelude.{◌≡◌, ◌≤◌, ◌<◌, ℕ, ◌+◌, IfOk, List, [], ◌∷◌, map, min, codes};
 ghost use Rattle.std.specs.List.{position};
 ghost use Rattle.std.specs.Option.{option_map};
 ghost use Rattle.std.specs.Str.{bytes_eq};
@@ -11,7 +11,9 @@ ghost use Rattle.def_node.specs.Values.{fitting_all, params_bound};
 ghost use Rattle.tn_script.specs.Views.{args_of};
 ghost use Rattle.tn_process.specs.Views.{env_of};
 ghost use Rattle.tn_process.specs.Templates.{all_built_by, args_built_by, env_for_call, BindsNext};
+ghost use Rattle.tn_process.specs.Templates.{IsBuiltIn, AreBuiltIn};
 
+use crate::value::{Elements, Value};
 use std::alloc::{AllocError, Allocator};
 use std::collections::VecDeque;
 use tn_script::{Arguments, is_variable};
@@ -21,7 +23,7 @@ use tn_term::{Atom, Term};
 #[derive(Drop)]
 pub struct Binding<A: Allocator> {
     pub(crate) name: Atom<A>,
-    pub(crate) value: Term<A>,
+    pub(crate) value: Value<A>,
 }
 
 /// Each variable once, the oldest first.
@@ -50,13 +52,15 @@ pub fn pid_in<A: Allocator>(term: &Term<A>) -> Option<u32>
 }
 
 impl<A: Allocator + Copy> Env<A> {
-    /// No variable has a value.
-    pub fn new(alloc: A) -> Env<A>
-        ensures { env_of result ≡ [] }
+    /// The process's own pid, which is the value of `Self`.
+    fn of_process(alloc: A, pid: u32) -> Result<Env<A>, AllocError>
+        ensures { IfOk result (λ e. env_of e ≡ (codes "Self", Tree.pid pid) ∷ []) }
     {
-        Env {
-            values: Vec::new(alloc),
-        }
+        let name = Atom::of(alloc, "Self")?;
+        let value = Value::leaf(Term::Pid(pid));
+        let mut values = Vec::new(alloc);
+        values.push(Binding { name, value })?;
+        Ok(Env { values })
     }
 
     /// The place of the variable.
@@ -66,9 +70,9 @@ impl<A: Allocator + Copy> Env<A> {
         self.values.iter().position(|b| b.name.text() == name)
     }
 
-    /// The value of the variable.
-    pub fn get(&self, name: &str) -> Option<&Term<A>>
-        ensures { option_map (λ t. tree_of t.now) result ≡ binding_of (env_of self.now) name.now }
+    /// The value of the variable, beside its measures.
+    fn entry(&self, name: &str) -> Option<&Value<A>>
+        ensures { option_map (λ v. tree_of v.now.term) result ≡ binding_of (env_of self.now) name.now }
     {
         match self.place(name) {
             Some(i) => Some(&self.values[i].value),
@@ -76,12 +80,22 @@ impl<A: Allocator + Copy> Env<A> {
         }
     }
 
+    /// The value of the variable.
+    pub fn get(&self, name: &str) -> Option<&Term<A>>
+        ensures { option_map (λ t. tree_of t.now) result ≡ binding_of (env_of self.now) name.now }
+    {
+        match self.entry(name) {
+            Some(value) => Some(&value.term),
+            None => None,
+        }
+    }
+
     /// The value of the name, where it is a variable that has one.
-    fn value_of(&self, name: &str) -> Option<&Term<A>>
-        ensures { option_map (λ t. tree_of t.now) result ≡ value_of (env_of self.now) name.now }
+    fn value_of(&self, name: &str) -> Option<&Value<A>>
+        ensures { option_map (λ v. tree_of v.now.term) result ≡ value_of (env_of self.now) name.now }
     {
         if is_variable(name) {
-            self.get(name)
+            self.entry(name)
         } else {
             None
         }
@@ -92,13 +106,6 @@ impl<A: Allocator + Copy> Env<A> {
         ensures { result ≡ fits (instance_of (env_of self.now) (tree_of template.now)) }
     {
         built_size(template, self) <= GREATEST_SIZE && built_depth(template, self) <= GREATEST_DEPTH
-    }
-
-    /// What the template stands for.
-    pub fn build(&self, alloc: A, template: &Term<A>) -> Result<Term<A>, AllocError>
-        ensures { IfOk result (λ t. tree_of t ≡ instance_of (env_of self.now) (tree_of template.now)) }
-    {
-        build_term(template, self, alloc)
     }
 
     /// Whether what each template stands for is within the limits.
@@ -113,26 +120,32 @@ impl<A: Allocator + Copy> Env<A> {
         true
     }
 
-    /// What all templates stand for.
-    pub fn build_all(
-        &self,
-        alloc: A,
-        templates: &Vec<Term<A>, A>,
-    ) -> Result<Vec<Term<A>, A>, AllocError>
-        ensures { IfOk result (λ v. map tree_of v.items ≡ all_built_by self.now templates.now.items) }
-    {
-        build_terms(templates, self, alloc)
-    }
-
     /// What the template stands for, where that is within the limits.
     pub fn fit(&self, alloc: A, template: &Term<A>) -> Result<Option<Term<A>>, AllocError>
         ensures { IfOk result (λ o. option_map tree_of o ≡ fit (instance_of (env_of self.now) (tree_of template.now))) }
     {
-        if self.fits(template) {
-            Ok(Some(self.build(alloc, template)?))
-        } else {
-            Ok(None)
+        match build_term(template, self, alloc, GREATEST_SIZE, GREATEST_DEPTH)? {
+            Some(value) => Ok(Some(value.term)),
+            None => Ok(None),
         }
+    }
+
+    /// What all templates stand for, where each of that is within the limits.
+    fn fit_all(
+        &self,
+        alloc: A,
+        templates: &Vec<Term<A>, A>,
+    ) -> Result<Option<Vec<Term<A>, A>>, AllocError>
+        ensures { IfOk result (λ o. option_map (λ v. map tree_of v.items) o ≡ fitting_all (all_built_by self.now templates.now.items)) }
+    {
+        let mut terms = Vec::with_capacity(alloc, templates.len())?;
+        for template in templates {
+            let Some(term) = self.fit(alloc, template)? else {
+                return Ok(None);
+            };
+            terms.push(term)?;
+        }
+        Ok(Some(terms))
     }
 
     /// What all templates stand for, where each of that is within the limits.
@@ -143,11 +156,9 @@ impl<A: Allocator + Copy> Env<A> {
     ) -> Result<Option<Arguments<A>>, AllocError>
         ensures { IfOk result (λ o. option_map args_of o ≡ fitting_all (args_built_by self.now templates.now)) }
     {
-        if self.all_fit(&templates.terms) {
-            let terms = self.build_all(alloc, &templates.terms)?;
-            Ok(Some(Arguments { terms }))
-        } else {
-            Ok(None)
+        match self.fit_all(alloc, &templates.terms)? {
+            Some(terms) => Ok(Some(Arguments { terms })),
+            None => Ok(None),
         }
     }
 
@@ -160,8 +171,7 @@ impl<A: Allocator + Copy> Env<A> {
     ) -> Result<Env<A>, AllocError>
         ensures { IfOk result (λ e. env_of e ≡ env_for_call pid params.now.items (map tree_of args.items)) }
     {
-        let mut env = Env::new(alloc);
-        env.bind(alloc, &Atom::of(alloc, "Self")?, Term::Pid(pid))?;
+        let mut env = Env::of_process(alloc, pid)?;
         let mut args = VecDeque::from(args);
         for param in params {
             env.bind_next(alloc, param, &mut args)?;
@@ -191,6 +201,7 @@ impl<A: Allocator + Copy> Env<A> {
     pub fn bind(&mut self, alloc: A, name: &Atom<A>, value: Term<A>) -> Result<(), AllocError>
         ensures { IfOk result (λ _. env_of self.new ≡ rebound (env_of self.old) name.now (tree_of value)) }
     {
+        let value = Value::of(value);
         match self.place(name.text()) {
             Some(i) => {
                 self.values[i].value = value;
@@ -212,7 +223,7 @@ fn built_size<A: Allocator + Copy>(template: &Term<A>, env: &Env<A>) -> u64
     match template {
         Term::Int(_) | Term::Pid(_) => 1,
         Term::Atom(a) => match env.value_of(a.text()) {
-            Some(value) => value.size().min(SIZE_END),
+            Some(value) => value.size.min(SIZE_END),
             None => 1,
         },
         Term::Tuple(v) | Term::List(v) => (built_sizes(v, env) + 1).min(SIZE_END),
@@ -242,7 +253,7 @@ fn built_depth<A: Allocator + Copy>(template: &Term<A>, env: &Env<A>) -> u64
     match template {
         Term::Int(_) | Term::Pid(_) => 0,
         Term::Atom(a) => match env.value_of(a.text()) {
-            Some(value) => value.depth(),
+            Some(value) => value.depth,
             None => 0,
         },
         Term::Tuple(v) | Term::List(v) => built_depths(v, env).saturating_add(1),
@@ -261,39 +272,71 @@ fn built_depths<A: Allocator + Copy>(templates: &Vec<Term<A>, A>, env: &Env<A>) 
     greatest
 }
 
-/// What the template stands for.
+/// What the template stands for, where that is no larger and no deeper than so.
 #[cycle(build)]
 fn build_term<A: Allocator + Copy>(
     template: &Term<A>,
     env: &Env<A>,
     alloc: A,
-) -> Result<Term<A>, AllocError>
-    ensures { IfOk result (λ t. tree_of t ≡ instance_of (env_of env.now) (tree_of template.now)) }
+    size: u64,
+    depth: u64,
+) -> Result<Option<Value<A>>, AllocError>
+    requires size_within { size ≤ 65536 }
+    requires depth_within { depth ≤ 32 }
+    ensures { IfOk result (λ o. IsBuiltIn size depth (instance_of (env_of env.now) (tree_of template.now)) o) }
 {
+    if size == 0 {
+        return Ok(None);
+    }
     match template {
-        Term::Int(n) => Ok(Term::Int(*n)),
+        Term::Int(n) => Ok(Some(Value::leaf(Term::Int(*n)))),
         Term::Atom(a) => match env.value_of(a.text()) {
-            Some(value) => Ok(value.copy_into(alloc)?),
-            None => Ok(Term::Atom(a.copy_into(alloc)?)),
+            Some(value) => Ok(value.copy_in(alloc, size, depth)?),
+            None => Ok(Some(Value::leaf(Term::Atom(a.copy_into(alloc)?)))),
         },
-        Term::Pid(n) => Ok(Term::Pid(*n)),
-        Term::Tuple(v) => Ok(Term::Tuple(build_terms(v, env, alloc)?)),
-        Term::List(v) => Ok(Term::List(build_terms(v, env, alloc)?)),
+        Term::Pid(n) => Ok(Some(Value::leaf(Term::Pid(*n)))),
+        Term::Tuple(v) => {
+            let elements = build_terms(v, env, alloc, size, depth)?;
+            Ok(Value::tuple_of(elements))
+        }
+        Term::List(v) => {
+            let elements = build_terms(v, env, alloc, size, depth)?;
+            Ok(Value::list_of(elements))
+        }
     }
 }
 
-/// What the templates stand for, in order.
+/// What the templates stand for, in order, where a tuple of that is no larger and no deeper than so.
 #[cycle(build)]
 fn build_terms<A: Allocator + Copy>(
     templates: &Vec<Term<A>, A>,
     env: &Env<A>,
     alloc: A,
-) -> Result<Vec<Term<A>, A>, AllocError>
-    ensures { IfOk result (λ v. map tree_of v.items ≡ all_built_by env.now templates.now.items) }
+    size: u64,
+    depth: u64,
+) -> Result<Option<Elements<A>>, AllocError>
+    requires size_within { size ≤ 65536 }
+    requires depth_within { depth ≤ 32 }
+    requires room { 0 < size }
+    ensures { IfOk result (λ o. AreBuiltIn size depth (all_built (env_of env.now) (trees_of templates.now.items)) o) }
 {
-    let mut terms = Vec::new(alloc);
-    for template in templates {
-        terms.push(build_term(template, env, alloc)?)?;
+    if depth == 0 {
+        return Ok(None);
     }
-    Ok(terms)
+    let mut terms = Vec::with_capacity(alloc, templates.len())?;
+    let mut total: u64 = 1;
+    let mut greatest: u64 = 0;
+    for template in templates {
+        let Some(value) = build_term(template, env, alloc, size - total, depth - 1)? else {
+            return Ok(None);
+        };
+        total += value.size;
+        greatest = greatest.max(value.depth);
+        terms.push(value.term)?;
+    }
+    Ok(Some(Elements {
+        terms,
+        size: total,
+        depth: greatest + 1,
+    }))
 }

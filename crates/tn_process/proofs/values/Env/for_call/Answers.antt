@@ -1,20 +1,16 @@
-use Rattle.std.proofs.Common.{◌≡◌, ap, ap₂, sym, ◌∙◌, [], ◌∷◌, ◌+◌, map, drop, codes, arith, rules, List, ℕ}
+use Rattle.std.proofs.Common.{◌≡◌, ap, ap₂, sym, ◌∙◌, [], ◌∷◌, ◌+◌, map, drop, codes, arith, rules}
 use Rattle.std.proofs.lemmas.List.{drop_more}
 use Rattle.def_term.specs.Tree as Tree
-use Rattle.def_node.specs.Values.{rebound, params_bound, Env}
+use Rattle.def_node.specs.Values.{params_bound, Env}
 use Rattle.tn_term.specs.Views.{tree_of}
-use Rattle.tn_term.proofs.Views.{tree_of_pid}
-use Rattle.tn_term.specs.declared.term.Term.{Pid}
 use Rattle.tn_process.specs.Views.{env_of}
 use Rattle.tn_process.proofs.values.Env.for_call.Goals as goal
 
 pub loop-param-init : goal.loop-param-init
 loop-param-init g c =
     let base : Env = (codes "Self", Tree.pid c.args.pid) ∷ [] in
-    let e : env_of c.bind-2.new.self ≡ base =
-    c.in_ok-bind.ensures ∙ ap (λ env. rebound env c.in_ok-of.field-0 (tree_of {A = g.row.A.Denot} (Pid c.args.pid))) c.new-env.ensures ∙ ap₂ (λ (x : List ℕ) (t : Tree.Tree). (x, t) ∷ []) c.in_ok-of.ensures (tree_of_pid g.row.A.Denot c.args.pid) in
     let ts : c.from-args.result.items ≡ c.args.args.items = search rules in
-    ap (λ env. params_bound env c.deref-param-items.result.now (map tree_of c.from-args.result.items)) e
+    ap (λ env. params_bound env c.deref-param-items.result.now (map tree_of c.from-args.result.items)) c.in_ok-env.ensures
     ∙ ap₂ (λ ps us. params_bound base ps (map tree_of us)) c.deref-param-items.ensures.value ts
 
 pub loop-param-preserved : goal.loop-param-preserved
