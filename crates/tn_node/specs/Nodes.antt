@@ -1,5 +1,5 @@
 -- What the code's node stands for, and a step of it.
-use Rattle.std.specs.Prelude.{ℕ, List, length, map, Option, Some, refl}
+use Rattle.std.specs.Prelude.{ℕ, Bool, true, false, List, length, map, Option, Some, None, refl}
 use Rattle.std.specs.Coded.{Coded, code_by, coded_ℕ, coded_list, coded×}
 use Rattle.def_script.specs.Program.{Function, Program}
 use Rattle.def_node.specs.Event.{Event}
@@ -27,6 +27,11 @@ node_code =
 -- a node of the program, in this state
 abbrev pub node_at : Program → node.NodeState → NodeValue
 node_at p s = record { functions = p.functions; commands = length p.commands; state = s }
+
+-- a node that is spent has no value
+abbrev pub seen_unless : Bool → NodeValue → Option NodeValue
+seen_unless true n = None
+seen_unless false n = Some n
 
 -- what a step of a node answers: events, the number of the next command (from 1), or nothing
 pub data PickAnswer : Type 0 where

@@ -20,20 +20,21 @@ pub struct State<A: Allocator> {
 /// of these once it was refused memory.
 #[derive(Drop)]
 pub struct Node<A: Allocator> {
-    state: Option<State<A>>,
+    state: State<A>,
+    /// Whether it was refused memory.
+    is_spent: bool,
 }
 
 impl<A: Allocator> Model for Node<A> {
     ghost use Rattle.std.specs.Prelude.{Option};
     ghost use Rattle.std.specs.Coded.{coded_option};
-    ghost use Rattle.std.specs.Option.{option_map};
-    ghost use Rattle.tn_node.specs.Nodes.{NodeValue, node_code, node_seen};
+    ghost use Rattle.tn_node.specs.Nodes.{NodeValue, node_code, node_seen, seen_unless};
 
     ghost Value = { Option NodeValue };
 
     ghost coded = { coded_option node_code };
 
-    ghost view = { λ n. option_map node_seen n.state };
+    ghost view = { λ n. seen_unless n.is_spent (node_seen n.state) };
 }
 
 impl<A: Allocator + Copy> State<A> {
@@ -107,7 +108,8 @@ impl<A: Allocator + Copy> Node<A> {
         ensures { let p = program_of program.now in IfOk result (λ n. n ≡ Some (node_at p (opening_state p))) }
     {
         Ok(Node {
-            state: Some(State::new(alloc, program)?),
+            state: State::new(alloc, program)?,
+            is_spent: false,
         })
     }
 
@@ -122,15 +124,15 @@ impl<A: Allocator + Copy> Node<A> {
             next_node n (pick_result n.functions n.commands n.state pick) ≡ (self.new, moved_seen m))) }
         ensures refused { OnErr result (self.new ≡ None) }
     {
-        match &mut self.state {
-            None => Err(AllocError),
-            Some(state) => match state.step(pick) {
-                Ok(moved) => Ok(moved),
-                Err(refused) => {
-                    self.state = None;
-                    Err(refused)
-                }
-            },
+        if self.is_spent {
+            return Err(AllocError);
+        }
+        match self.state.step(pick) {
+            Ok(moved) => Ok(moved),
+            Err(refused) => {
+                self.is_spent = true;
+                Err(refused)
+            }
         }
     }
 }
