@@ -2,3 +2,4 @@ pub mod Lookup
 pub mod Templates
 pub mod Acts
 pub mod Exceptions
+pub mod Outlooks

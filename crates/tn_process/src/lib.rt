@@ -5,7 +5,7 @@
 //! does at its next step, and what it is then, are those of the definition: templates are built in one
 //! go and measured as they are built, a call or a return changes the newest frame, an exception leaves frames down to
 //! the newest that a catch step called, and whatever concerns another process comes out as an act, for the
-//! node to carry out.
+//! node to carry out; and that what is known of the next step before it is made is what def_outlook says of it.
 #![tactic(auto)]
 
 mod act;
@@ -13,10 +13,12 @@ mod context;
 mod exception;
 mod function;
 mod neighbours;
+mod outlook;
 mod process;
 mod value;
 mod values;
 
 pub use act::Act;
 pub use function::function_mfa;
+pub use outlook::RuntimeError;
 pub use process::Process;

@@ -29,7 +29,7 @@ use tn_script::{Entry, Function, Step, copy_target};
 use tn_term::{Atom, Mfa, Term, copy_terms};
 
 /// How many frames a process may have.
-const FRAMES: usize = 64;
+pub(crate) const FRAMES: usize = 64;
 
 /// A call that goes on.
 #[derive(Drop)]

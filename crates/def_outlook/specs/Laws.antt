@@ -1,0 +1,41 @@
+-- What is promised of what is known of a process's next step before it is made (own).
+-- Depends on what a process does at its next step, and on what is known of it.
+use Rattle.std.specs.Prelude.{◌≡◌, ℕ, true, false, Bool, List, [], ◌∷◌, ◌++◌, length, Option, Some, None}
+use Rattle.def_term.specs.Tree.{Tree}
+use Rattle.def_script.specs.Program.{Function}
+use Rattle.def_node.specs.Process.{Frame, Process, Act, waits, sends, exits, act}
+use Rattle.def_node.specs.Laws.{NoneByCatch}
+use Rattle.def_outlook.specs.Outlook.{RuntimeError, error_reason, runtime_error, is_waiting, addressee, catch_depth}
+
+-- where it is a run-time error, the process ends with the reason of the error, and the step has no other event
+abbrev pub ErrorEndsTheProcess : Type 0
+ErrorEndsTheProcess =
+    (ks : List Function) (n : ℕ) (child : Option ℕ) (q : Process) (x : RuntimeError) → runtime_error ks child q ≡ Some x → act ks n child q ≡ exits q.links (error_reason x) []
+
+-- and where a process ends at a step that has no other event, and takes no exit signal, it is one
+abbrev pub SuddenEndIsAnError : Type 0
+SuddenEndIsAnError =
+    (ks : List Function) (n : ℕ) (child : Option ℕ) (q : Process) (partners : List Bool) (r : Tree) → q.signal ≡ None → act ks n child q ≡ exits partners r [] →
+    (x : RuntimeError) × (runtime_error ks child q ≡ Some x) × (r ≡ error_reason x)
+
+-- an act by which a process waits
+abbrev pub is_wait : Act → Bool
+is_wait (waits q) = true
+is_wait a = false
+
+-- a process is said to wait exactly where it can't move
+abbrev pub WaitingIsOfTheAct : Type 0
+WaitingIsOfTheAct = (ks : List Function) (n : ℕ) (child : Option ℕ) (q : Process) → is_waiting ks q ≡ is_wait (act ks n child q)
+
+-- a send goes to the pid that is said
+abbrev pub SendGoesToTheAddressee : Type 0
+SendGoesToTheAddressee =
+    (ks : List Function) (n : ℕ) (child : Option ℕ) (q r : Process) (to : ℕ) (t : Tree) → act ks n child q ≡ sends r to t → addressee ks q ≡ Some to
+
+-- the newest frame that a catch step called has this depth: that of the last frame that a raise leaves
+abbrev pub CatchHasItsDepth : Type 0
+CatchHasItsDepth = (above beneath : List Frame) (f : Frame) → NoneByCatch above → f.by_catch ≡ true → catch_depth (above ++ f ∷ beneath) ≡ Some (length (f ∷ beneath))
+
+-- there is none where a catch step called no frame
+abbrev pub NoCatchNoDepth : Type 0
+NoCatchNoDepth = (fs : List Frame) → NoneByCatch fs → catch_depth fs ≡ None

@@ -1,0 +1,2 @@
+pub mod Outlook
+pub mod Laws
