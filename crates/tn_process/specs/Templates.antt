@@ -38,7 +38,7 @@ abbrev pub BindsNext : {A : Type 0} → Env A → Env A → Name → List (Term 
 BindsNext old new p had left =
     (ps : List Name) → params_bound (env_of new) ps (map tree_of left) ≡ params_bound (env_of old) (p ∷ ps) (map tree_of had)
 
--- a built term and its measures: it is no larger and no deeper than so
+-- the value is the term, which has at most size n and depth d
 pub record IsValueIn {A : Type 0} (n d : ℕ) (t : Tree) (v : Value A) : Type 0 where
   pub tree : tree_of v.term ≡ t
   pub size_is : v.size ≡ size t
@@ -46,18 +46,18 @@ pub record IsValueIn {A : Type 0} (n d : ℕ) (t : Tree) (v : Value A) : Type 0 
   pub size_fits : size t ≤ n
   pub depth_fits : depth t ≤ d
 
--- the answer is the term where it is no larger and no deeper than so, and else none
+-- the answer is the term where it has at most size n and depth d, and none for another
 abbrev pub IsBuiltIn : {A : Type 0} → ℕ → ℕ → Tree → Option (Value A) → Type 0
 IsBuiltIn n d t None = size t ≤ n → depth t ≤ d → ⊥
 IsBuiltIn n d t (Some v) = IsValueIn n d t v
 
--- built elements: the tuple or list of them is no larger and no deeper than so
+-- the same of the elements of a tuple or list, which has at most size n and depth d
 pub record AreElementsIn {A : Type 0} (n d : ℕ) (ts : Trees) (e : Elements A) : Type 0 where
   pub trees : trees_of e.terms.items ≡ ts
   pub size_fits : 1 + sum_of_sizes ts ≤ n
   pub depth_fits : 1 + greatest_depth ts ≤ d
 
--- the answer is the elements where a tuple or list of them is so, and else none
+-- the answer is the elements where a tuple or list of them is so, and none for others
 abbrev pub AreBuiltIn : {A : Type 0} → ℕ → ℕ → Trees → Option (Elements A) → Type 0
 AreBuiltIn n d ts None = 1 + sum_of_sizes ts ≤ n → 1 + greatest_depth ts ≤ d → ⊥
 AreBuiltIn n d ts (Some e) = AreElementsIn n d ts e

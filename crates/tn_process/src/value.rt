@@ -1,5 +1,6 @@
-// A term beside its size and its depth, so that no limit needs a walk through it.
+// A term beside its size and its depth: whether it is within limits takes no walk through it.
 ghost use Rattle.std.specs.Prelude.{◌≡◌, ◌+◌, min};
+ghost use Rattle.std.below.core.specs.declared.int.u64.TheConstants.{MAX};
 ghost use Rattle.def_term.specs.Tree.{depth as nesting, greatest_depth, size as extent, sum_of_sizes};
 ghost use Rattle.tn_term.specs.Views.{tree_of, trees_of};
 
@@ -12,18 +13,18 @@ pub struct Value<A: Allocator> {
     pub(crate) term: Term<A>,
     pub(crate) size: u64,
     pub(crate) depth: u64,
-    ghost sized: { size ≡ min (extent (tree_of term)) 18446744073709551615 },
-    ghost nested: { depth ≡ min (nesting (tree_of term)) 18446744073709551615 },
+    ghost size_is: { size ≡ min (extent (tree_of term)) MAX },
+    ghost depth_is: { depth ≡ min (nesting (tree_of term)) MAX },
 }
 
-/// The elements of a tuple or list, and the size and the depth of that.
+/// The elements of a tuple or list, and the size and the depth of that tuple or list.
 #[derive(Drop)]
 pub struct Elements<A: Allocator> {
     pub(crate) terms: Vec<Term<A>, A>,
     pub(crate) size: u64,
     pub(crate) depth: u64,
-    ghost sized: { size ≡ 1 + sum_of_sizes (trees_of terms.items) },
-    ghost nested: { depth ≡ 1 + greatest_depth (trees_of terms.items) },
+    ghost size_is: { size ≡ 1 + sum_of_sizes (trees_of terms.items) },
+    ghost depth_is: { depth ≡ 1 + greatest_depth (trees_of terms.items) },
 }
 
 impl<A: Allocator + Copy> Value<A> {
@@ -31,7 +32,7 @@ impl<A: Allocator + Copy> Value<A> {
     ghost use Rattle.def_term.specs.Tree.{Trees, tuple, list};
     ghost use Rattle.tn_process.specs.Templates.{IsBuiltIn, AreBuiltIn};
 
-    /// The term, measured.
+    /// The term, with its size and its depth.
     pub fn of(term: Term<A>) -> Value<A>
         ensures { tree_of result.term ≡ tree_of term }
     {
@@ -81,7 +82,7 @@ impl<A: Allocator + Copy> Value<A> {
         }
     }
 
-    /// A copy, where it is no larger and no deeper than so.
+    /// A copy, where the value has at most this size and this depth.
     pub fn copy_in(&self, alloc: A, size: u64, depth: u64) -> Result<Option<Value<A>>, AllocError>
         requires size_within { size ≤ 65536 }
         requires depth_within { depth ≤ 32 }

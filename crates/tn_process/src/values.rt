@@ -70,7 +70,7 @@ impl<A: Allocator + Copy> Env<A> {
         self.values.iter().position(|b| b.name.text() == name)
     }
 
-    /// The value of the variable, beside its measures.
+    /// The value of the variable, with its size and its depth.
     fn entry(&self, name: &str) -> Option<&Value<A>>
         ensures { option_map (λ v. tree_of v.now.term) result ≡ binding_of (env_of self.now) name.now }
     {
@@ -136,7 +136,8 @@ impl<A: Allocator + Copy> Env<A> {
         alloc: A,
         templates: &Vec<Term<A>, A>,
     ) -> Result<Option<Vec<Term<A>, A>>, AllocError>
-        ensures { IfOk result (λ o. option_map (λ v. map tree_of v.items) o ≡ fitting_all (all_built_by self.now templates.now.items)) }
+        ensures { let ts = all_built_by self.now templates.now.items in
+            IfOk result (λ o. option_map (λ v. map tree_of v.items) o ≡ fitting_all ts) }
     {
         let mut terms = Vec::with_capacity(alloc, templates.len())?;
         for template in templates {
@@ -272,7 +273,7 @@ fn built_depths<A: Allocator + Copy>(templates: &Vec<Term<A>, A>, env: &Env<A>) 
     greatest
 }
 
-/// What the template stands for, where that is no larger and no deeper than so.
+/// What the template stands for, where that has at most this size and this depth. Nothing past them is built.
 #[cycle(build)]
 fn build_term<A: Allocator + Copy>(
     template: &Term<A>,
@@ -306,7 +307,7 @@ fn build_term<A: Allocator + Copy>(
     }
 }
 
-/// What the templates stand for, in order, where a tuple of that is no larger and no deeper than so.
+/// What the templates stand for, in order, where a tuple of that has at most this size and this depth.
 #[cycle(build)]
 fn build_terms<A: Allocator + Copy>(
     templates: &Vec<Term<A>, A>,

@@ -67,7 +67,7 @@ build_terms-invariant_of-result g t c =
     let all = elements_built tree_of tree_of e xs c.args.templates.now.items s.template-index s.terms.items (omega arith) c.deref-template-items.ensures.value s.invariant.built in
     let all_sizes = ap sum_of_sizes all in
     let all_depths = ap greatest_depth all in
-    record { sized = omega arith; nested = omega arith }
+    record { size_is = omega arith; depth_is = omega arith }
 
 pub build_terms-returns : goal.build_terms-returns
 build_terms-returns g t c =
