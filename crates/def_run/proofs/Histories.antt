@@ -10,6 +10,7 @@ use Rattle.def_script.specs.Program.{Function, session_of, Program}
 use Rattle.def_script.specs.Exports.{Exports, exports_of}
 use Rattle.def_script.specs.Rules.{is_creation}
 use Rattle.def_script.specs.Script.{creations}
+use Rattle.def_outlook.specs.Outlook.{outlook}
 use Rattle.def_session.specs.State.{Session, absent_session}
 use Rattle.def_session.specs.Session.{event_reported}
 use Rattle.def_session.specs.Commands.{command_done}
@@ -104,7 +105,7 @@ module _ {B : Type 0} (o : Exports) (cs : List (Name × Name)) (f : Moment → L
       go : (t : PickStep) (b : Bool) → pick_step fs p pick ≡ t → t.moved ≡ b → AreKnown cs (past ++ (t.shown ++ history_from fs t.after picks))
           → ((q : RunState) (j : ℕ) (before : List HistoryItem) → AreKnown cs (before ++ history_from fs q picks)
           → flat_map f (moments_of (move_histories_from o fs q j (sessions_by_view o cs before) picks)) ≡ over g before (history_from fs q picks))
-          → flat_map f (moments_of (if b then move_history o (suc k) pick (sessions_by_view o cs past) t.shown ∷ move_histories_from o fs t.after (suc k) (all_after_items o (sessions_by_view o cs past) t.shown) picks
+          → flat_map f (moments_of (if b then move_history o (suc k) pick (outlook fs p.world pick) (sessions_by_view o cs past) t.shown ∷ move_histories_from o fs t.after (suc k) (all_after_items o (sessions_by_view o cs past) t.shown) picks
           else move_histories_from o fs t.after k (sessions_by_view o cs past) picks))
           ≡ over g past (t.shown ++ history_from fs t.after picks)
       go t true e m known again =

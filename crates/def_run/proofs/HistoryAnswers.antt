@@ -7,6 +7,7 @@ use Rattle.def_script.specs.Program.{Function, Command, Program}
 use Rattle.def_script.specs.Exports.{Exports, exports_of}
 use Rattle.def_script.specs.Script.{creations}
 use Rattle.def_node.specs.Event.{Event}
+use Rattle.def_outlook.specs.Outlook.{outlook}
 use Rattle.def_session.specs.State.{absent_session}
 use Rattle.def_session.specs.Session.{event_reported}
 use Rattle.def_run.specs.Run.{HistoryItem, event_item, command_item, RunState, PickStep, pick_step, history_from, moves_from, run_state_after, start, events, moves, pick_step_after}
@@ -78,7 +79,7 @@ module _ (o : Exports) (fs : List Function) where
   pick-moves q k ss (pick ∷ picks) = go (pick_step fs q pick) (pick_step fs q pick).moved refl (λ r j vs. pick-moves r j vs picks)
     where
       go : (t : PickStep) (b : Bool) → t.moved ≡ b → ((r : RunState) (j : ℕ) (vs : List NamedSession) → map (λ h. h.pick) (move_histories_from o fs r j vs picks) ≡ moves_from fs r picks)
-          → map (λ h. h.pick) (if b then move_history o (suc k) pick ss t.shown ∷ move_histories_from o fs t.after (suc k) (all_after_items o ss t.shown) picks else move_histories_from o fs t.after k ss picks)
+          → map (λ h. h.pick) (if b then move_history o (suc k) pick (outlook fs q.world pick) ss t.shown ∷ move_histories_from o fs t.after (suc k) (all_after_items o ss t.shown) picks else move_histories_from o fs t.after k ss picks)
           ≡ (if b then pick ∷ [] else []) ++ moves_from fs t.after picks
       go t true m again = ap (pick ∷◌) (again t.after (suc k) (all_after_items o ss t.shown))
       go t false m again = again t.after k ss
@@ -91,14 +92,14 @@ module _ (o : Exports) (fs : List Function) where
     where
       go : (n : ℕ) (t : PickStep) (b : Bool) → pick_step fs q pick ≡ t → t.moved ≡ b
           → ((r : RunState) (j : ℕ) (vs : List NamedSession) (i : ℕ) → take i (move_histories_from o fs r j vs picks) ≡ move_histories_from o fs r j vs (take i (moves_from fs r picks)))
-          → take n (if b then move_history o (suc k) pick ss t.shown ∷ move_histories_from o fs t.after (suc k) (all_after_items o ss t.shown) picks else move_histories_from o fs t.after k ss picks)
+          → take n (if b then move_history o (suc k) pick (outlook fs q.world pick) ss t.shown ∷ move_histories_from o fs t.after (suc k) (all_after_items o ss t.shown) picks else move_histories_from o fs t.after k ss picks)
           ≡ move_histories_from o fs q k ss (take n ((if b then pick ∷ [] else []) ++ moves_from fs t.after picks))
       go zero t true e m again = refl
       go (suc n) t true e m again =
           let left : List ℕ = take n (moves_from fs t.after picks) in
-          ap (move_history o (suc k) pick ss t.shown ∷◌) (again t.after (suc k) (all_after_items o ss t.shown) n)
-          ∙ ap (λ b. if b then move_history o (suc k) pick ss t.shown ∷ move_histories_from o fs t.after (suc k) (all_after_items o ss t.shown) left else move_histories_from o fs t.after k ss left) (sym m)
-          ∙ ap (λ u. if u.moved then move_history o (suc k) pick ss u.shown ∷ move_histories_from o fs u.after (suc k) (all_after_items o ss u.shown) left else move_histories_from o fs u.after k ss left) (sym e)
+          ap (move_history o (suc k) pick (outlook fs q.world pick) ss t.shown ∷◌) (again t.after (suc k) (all_after_items o ss t.shown) n)
+          ∙ ap (λ b. if b then move_history o (suc k) pick (outlook fs q.world pick) ss t.shown ∷ move_histories_from o fs t.after (suc k) (all_after_items o ss t.shown) left else move_histories_from o fs t.after k ss left) (sym m)
+          ∙ ap (λ u. if u.moved then move_history o (suc k) pick (outlook fs q.world pick) ss u.shown ∷ move_histories_from o fs u.after (suc k) (all_after_items o ss u.shown) left else move_histories_from o fs u.after k ss left) (sym e)
       go n t false e m again =
           let same : t.after ≡ q = ap (λ u. u.after) (sym e ∙ pick_kept fs q pick (ap (λ u. u.moved) e ∙ m)) in
           again t.after k ss n ∙ ap (λ r. move_histories_from o fs r k ss (take n (moves_from fs t.after picks))) same
@@ -110,14 +111,14 @@ module _ (o : Exports) (fs : List Function) where
   -- the move of a pick after these
   abbrev move_by : RunState → ℕ → List NamedSession → List ℕ → Option ℕ → Option MoveHistory
   move_by q k ss before None = None
-  move_by q k ss before (Some pick) = Some (move_history o k pick (all_after_items o ss (history_from fs q before)) (pick_step fs (run_state_after fs q before) pick).shown)
+  move_by q k ss before (Some pick) = Some (move_history o k pick (outlook fs (run_state_after fs q before).world pick) (all_after_items o ss (history_from fs q before)) (pick_step fs (run_state_after fs q before) pick).shown)
 
   move-later : (q : RunState) (j k pick : ℕ) (ss : List NamedSession) (t : PickStep) (before : List ℕ) (x : Option ℕ) → pick_step fs q pick ≡ t → j ≡ k → move_by t.after j (all_after_items o ss t.shown) before x ≡ move_by q k ss (pick ∷ before) x
   move-later q j k pick ss t before None e h = refl
   move-later q j k pick ss t before (Some y) e h =
-      ap (λ i. Some (move_history o i y (all_after_items o (all_after_items o ss t.shown) (history_from fs t.after before)) (pick_step fs (run_state_after fs t.after before) y).shown)) h
-      ∙ ap (λ vs. Some (move_history o k y vs (pick_step fs (run_state_after fs t.after before) y).shown)) (sym (after-both ss t.shown (history_from fs t.after before)))
-      ∙ ap (λ u. Some (move_history o k y (all_after_items o ss (u.shown ++ history_from fs u.after before)) (pick_step fs (run_state_after fs u.after before) y).shown)) (sym e)
+      ap (λ i. Some (move_history o i y (outlook fs (run_state_after fs t.after before).world y) (all_after_items o (all_after_items o ss t.shown) (history_from fs t.after before)) (pick_step fs (run_state_after fs t.after before) y).shown)) h
+      ∙ ap (λ vs. Some (move_history o k y (outlook fs (run_state_after fs t.after before).world y) vs (pick_step fs (run_state_after fs t.after before) y).shown)) (sym (after-both ss t.shown (history_from fs t.after before)))
+      ∙ ap (λ u. Some (move_history o k y (outlook fs (run_state_after fs u.after before).world y) (all_after_items o ss (u.shown ++ history_from fs u.after before)) (pick_step fs (run_state_after fs u.after before) y).shown)) (sym e)
 
   move-at : (q : RunState) (k : ℕ) (ss : List NamedSession) (picks : List ℕ) (n : ℕ) → slice_get (move_histories_from o fs q k ss picks) n ≡ move_by q (suc (k + n)) ss (take n (moves_from fs q picks)) (slice_get (moves_from fs q picks) n)
   move-at q k ss [] n = refl
@@ -125,11 +126,11 @@ module _ (o : Exports) (fs : List Function) where
     where
       go : (n : ℕ) (t : PickStep) (b : Bool) → pick_step fs q pick ≡ t → t.moved ≡ b
           → ((r : RunState) (j : ℕ) (vs : List NamedSession) (i : ℕ) → slice_get (move_histories_from o fs r j vs picks) i ≡ move_by r (suc (j + i)) vs (take i (moves_from fs r picks)) (slice_get (moves_from fs r picks) i))
-          → slice_get (if b then move_history o (suc k) pick ss t.shown ∷ move_histories_from o fs t.after (suc k) (all_after_items o ss t.shown) picks else move_histories_from o fs t.after k ss picks) n
+          → slice_get (if b then move_history o (suc k) pick (outlook fs q.world pick) ss t.shown ∷ move_histories_from o fs t.after (suc k) (all_after_items o ss t.shown) picks else move_histories_from o fs t.after k ss picks) n
           ≡ move_by q (suc (k + n)) ss (take n ((if b then pick ∷ [] else []) ++ moves_from fs t.after picks)) (slice_get ((if b then pick ∷ [] else []) ++ moves_from fs t.after picks) n)
       go zero t true e m again =
           let number : suc k ≡ suc (k + 0) = omega arith in
-          ap (λ i. Some (move_history o i pick ss t.shown)) number ∙ ap (λ u. Some (move_history o (suc (k + 0)) pick ss u.shown)) (sym e)
+          ap (λ i. Some (move_history o i pick (outlook fs q.world pick) ss t.shown)) number ∙ ap (λ u. Some (move_history o (suc (k + 0)) pick (outlook fs q.world pick) ss u.shown)) (sym e)
       go (suc n) t true e m again =
           let rest : List ℕ = moves_from fs t.after picks in
           let number : suc (suc k + n) ≡ suc (k + suc n) = omega arith in

@@ -7,6 +7,7 @@ use Rattle.def_term.specs.Names.{Name}
 use Rattle.def_script.specs.Program.{Function, session_of, Program}
 use Rattle.def_script.specs.Exports.{Exports, exports_of}
 use Rattle.def_script.specs.Script.{creations}
+use Rattle.def_outlook.specs.Outlook.{Outlook, outlook}
 use Rattle.def_session.specs.State.{Session, absent_session}
 use Rattle.def_session.specs.Session.{event_reported}
 use Rattle.def_session.specs.Commands.{command_done}
@@ -51,10 +52,11 @@ pub record Moment : Type 0 where
   pub before : List NamedSession
   pub after : List NamedSession
 
--- a move: its number, its pick, and its moments in order, of which there can be none
+-- a move: its number, its pick, what is known of its step before it, and its moments in order, of which there can be none
 pub record MoveHistory : Type 0 where
   pub number : ℕ
   pub pick : ℕ
+  pub outlook : Outlook
   pub moments : List Moment
 
 -- the moments of a move that shows these
@@ -63,8 +65,8 @@ moments_from o k pick ss [] = []
 moments_from o k pick ss (x ∷ xs) = record { move = k; pick = pick; item = x; before = ss; after = all_after o ss x } ∷ moments_from o k pick (all_after o ss x) xs
 
 -- the move
-abbrev pub move_history : Exports → (move pick : ℕ) → List NamedSession → List HistoryItem → MoveHistory
-move_history o k pick ss xs = record { number = k; pick = pick; moments = moments_from o k pick ss xs }
+abbrev pub move_history : Exports → (move pick : ℕ) → Outlook → List NamedSession → List HistoryItem → MoveHistory
+move_history o k pick l ss xs = record { number = k; pick = pick; outlook = l; moments = moments_from o k pick ss xs }
 
 -- the picks that move, after so many moves
 abbrev pub move_histories_from : Exports → List Function → RunState → ℕ → List NamedSession → List ℕ → List MoveHistory
@@ -72,7 +74,7 @@ move_histories_from o fs p k ss [] = []
 move_histories_from o fs p k ss (pick ∷ picks) =
     let t : PickStep = pick_step fs p pick in
     if t.moved
-    then move_history o (suc k) pick ss t.shown ∷ move_histories_from o fs t.after (suc k) (all_after_items o ss t.shown) picks
+    then move_history o (suc k) pick (outlook fs p.world pick) ss t.shown ∷ move_histories_from o fs t.after (suc k) (all_after_items o ss t.shown) picks
     else move_histories_from o fs t.after k ss picks
 
 -- the moves of a run, numbered from 1
