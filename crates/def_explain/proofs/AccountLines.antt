@@ -4,13 +4,14 @@ use Rattle.def_term.specs.Tree.{Tree}
 use Rattle.def_spec.specs.Expressions.{Dialect, Context}
 use Rattle.def_spec.specs.Outcome.{Clause}
 use Rattle.def_node.specs.Event.{Event, sent, received, called, returned, raised, spawning, spawned, exited, linked, unlinked, getting_linked, getting_unlinked}
+use Rattle.def_outlook.specs.Outlook.{Outlook}
 use Rattle.def_session.specs.Settings.{Setting, off, plain, by, setting_for}
 use Rattle.def_session.specs.State.{Phase, absent, live, destroyed, MarkKind, for_returns, for_exceptions, Session, flags_at}
 use Rattle.def_session.specs.Session.{inherit, effects_of, context, reported_for, reported_in}
 use Rattle.def_explain.specs.Causes.{Cause, no_mark, marked_for_returns, no_flag, no_setting, of_named_calls, switched_off, no_clause, silenced, message_false, cause_of}
 use Rattle.def_explain.specs.Verdicts.{Verdict, fails, fires, verdict_of}
 use Rattle.def_explain.specs.Accounts.{Line, said, tells, reported_in_lines, line_where, changed_text, flag_lines, inheritance_lines, lines_by, clause_lines, setting_lines, evaluation_lines, cause_lines, marked_lines, mark_lines, end_lines, message_lines, live_lines, difference_lines, event_lines_in, differs}
-use Rattle.def_explain.specs.Differences.{Difference, clause_differences, event_difference}
+use Rattle.def_explain.specs.Differences.{Difference, clause_differences, event_differences}
 use Rattle.def_explain.specs.Laws.{LinesTellTheMessage}
 use Rattle.def_explain.proofs.CauseOfEvents.{cause_where_nothing_told, cause_is_computed}
 
@@ -148,17 +149,17 @@ live-reported s e =
     ∙ append-nil (reported_in_lines ls)
     ∙ message-reported s e (cause_of s e) (reported_for s e (effects_of s e)).1 refl refl
 
-in-phase : (p : Phase) (s : Session) (e : Event) → reported_in_lines (event_lines_in p s e) ≡ option_to_list (reported_in p s e).1
-in-phase absent s e = refl
-in-phase destroyed s e = refl
-in-phase live s e =
+in-phase : (p : Phase) (s : Session) (l : Outlook) (e : Event) → reported_in_lines (event_lines_in p s l e) ≡ option_to_list (reported_in p s e).1
+in-phase absent s l e = refl
+in-phase destroyed s l e = refl
+in-phase live s l e =
     let ls : List Line = live_lines (inherit s e) e in
-    joined-reported (inheritance_lines s e ++ ls) (difference_lines s e)
-    ∙ ap (λ x. reported_in_lines (inheritance_lines s e ++ ls) ++ x) (differences-say (option_to_list (event_difference s e)))
+    joined-reported (inheritance_lines s e ++ ls) (difference_lines s l e)
+    ∙ ap (λ x. reported_in_lines (inheritance_lines s e ++ ls) ++ x) (differences-say (event_differences s l e))
     ∙ append-nil (reported_in_lines (inheritance_lines s e ++ ls))
     ∙ joined-reported (inheritance_lines s e) ls
     ∙ ap (λ x. x ++ reported_in_lines ls) (inheritance-says s e)
     ∙ live-reported (inherit s e) e
 
 pub lines_tell_the_message : LinesTellTheMessage
-lines_tell_the_message s e = in-phase s.phase s e
+lines_tell_the_message s l e = in-phase s.phase s l e

@@ -7,8 +7,9 @@ use Rattle.def_spec.specs.Expressions.{for_calls, for_sends, for_receives, Expr,
 use Rattle.def_spec.specs.Functions as fn
 use Rattle.def_script.specs.Program.{error}
 use Rattle.def_node.specs.Event.{Event, returned, raised, spawned, exited, linked, getting_linked}
+use Rattle.def_outlook.specs.Outlook.{nothing_ahead}
 use Rattle.def_session.specs.State.{for_returns, for_exceptions, live, new_session, alive_at_start, Session, MarkKind, with_flags, with_marks}
-use Rattle.def_explain.specs.Differences.{node_ends, finds_no_tracer, suppresses_message, leaves_no_mark, reports_end, reports_exceptions, clears_spawn_flags, gives_no_flags, evaluates_from_right, order_difference, body_differences, event_difference, has_mark_below}
+use Rattle.def_explain.specs.Differences.{node_ends, finds_no_tracer, suppresses_message, leaves_no_mark, reports_end, reports_exceptions, clears_spawn_flags, gives_no_flags, evaluates_from_right, order_difference, body_differences, event_difference, has_mark_between}
 
 -- ---- bodies, in the process 100
 
@@ -146,60 +147,60 @@ abbrev exception : Event
 exception = raised 100 function error (word "bad") 2
 
 -- the return of a marked call in silence; not in silence; without a mark; without `call`
-pub silent_return : event_difference (marked for_returns (with_these (and call_flag silent_flag))) return ≡ Some reports_end
+pub silent_return : event_difference (marked for_returns (with_these (and call_flag silent_flag))) nothing_ahead return ≡ Some reports_end
 silent_return = refl
 
-pub return_of_a_call : event_difference (marked for_returns (with_these (only call_flag))) return ≡ None
+pub return_of_a_call : event_difference (marked for_returns (with_these (only call_flag))) nothing_ahead return ≡ None
 return_of_a_call = refl
 
-pub unmarked_return : event_difference (with_these (and call_flag silent_flag)) return ≡ None
+pub unmarked_return : event_difference (with_these (and call_flag silent_flag)) nothing_ahead return ≡ None
 unmarked_return = refl
 
-pub return_without_flag : event_difference (marked for_returns (with_these (only silent_flag))) return ≡ None
+pub return_without_flag : event_difference (marked for_returns (with_these (only silent_flag))) nothing_ahead return ≡ None
 return_without_flag = refl
 
 -- an exception in silence, and one that leaves a call that is marked for returns
-pub silent_exception : event_difference (marked for_exceptions (with_these (and call_flag silent_flag))) exception ≡ Some reports_end
+pub silent_exception : event_difference (marked for_exceptions (with_these (and call_flag silent_flag))) nothing_ahead exception ≡ Some reports_end
 silent_exception = refl
 
-pub exception_of_returns : event_difference (marked for_returns (with_these (and call_flag silent_flag))) exception ≡ None
+pub exception_of_returns : event_difference (marked for_returns (with_these (and call_flag silent_flag))) nothing_ahead exception ≡ None
 exception_of_returns = refl
 
 -- an exit with a call that is marked for exceptions; for returns; without `call`; and of another process
-pub exit_with_a_marked_call : event_difference (marked for_exceptions (with_these (only call_flag))) (exited 100 (word "boom")) ≡ Some reports_exceptions
-unfolding has_mark_below
+pub exit_with_a_marked_call : event_difference (marked for_exceptions (with_these (only call_flag))) nothing_ahead (exited 100 (word "boom")) ≡ Some reports_exceptions
+unfolding has_mark_between
 exit_with_a_marked_call = refl
 
-pub exit_with_a_call_for_returns : event_difference (marked for_returns (with_these (only call_flag))) (exited 100 (word "boom")) ≡ None
-unfolding has_mark_below
+pub exit_with_a_call_for_returns : event_difference (marked for_returns (with_these (only call_flag))) nothing_ahead (exited 100 (word "boom")) ≡ None
+unfolding has_mark_between
 exit_with_a_call_for_returns = refl
 
-pub exit_without_flag : event_difference (marked for_exceptions (with_these (only send_flag))) (exited 100 (word "boom")) ≡ None
+pub exit_without_flag : event_difference (marked for_exceptions (with_these (only send_flag))) nothing_ahead (exited 100 (word "boom")) ≡ None
 exit_without_flag = refl
 
-pub exit_of_another : event_difference (with_flags (marked for_exceptions (with_these (only call_flag))) 101 (only call_flag)) (exited 101 (word "boom")) ≡ None
-unfolding has_mark_below
+pub exit_of_another : event_difference (with_flags (marked for_exceptions (with_these (only call_flag))) 101 (only call_flag)) nothing_ahead (exited 101 (word "boom")) ≡ None
+unfolding has_mark_between
 exit_of_another = refl
 
 -- the first spawn where new processes have `set_on_spawn`; where they don't; and a later spawn
-pub first_spawn : event_difference (record (with_these (and procs_flag set_on_first_spawn)) { new_process_flags = only set_on_spawn }) (spawned 101 100 function []) ≡ Some clears_spawn_flags
+pub first_spawn : event_difference (record (with_these (and procs_flag set_on_first_spawn)) { new_process_flags = only set_on_spawn }) nothing_ahead (spawned 101 100 function []) ≡ Some clears_spawn_flags
 first_spawn = refl
 
-pub first_spawn_of_a_plain_child : event_difference (with_these (and procs_flag set_on_first_spawn)) (spawned 101 100 function []) ≡ None
+pub first_spawn_of_a_plain_child : event_difference (with_these (and procs_flag set_on_first_spawn)) nothing_ahead (spawned 101 100 function []) ≡ None
 first_spawn_of_a_plain_child = refl
 
-pub later_spawn : event_difference (record (with_these (and procs_flag set_on_spawn)) { new_process_flags = only set_on_spawn }) (spawned 101 100 function []) ≡ None
+pub later_spawn : event_difference (record (with_these (and procs_flag set_on_spawn)) { new_process_flags = only set_on_spawn }) nothing_ahead (spawned 101 100 function []) ≡ None
 later_spawn = refl
 
 -- a link by a process with `set_on_link`, with `set_on_first_link`, and with neither; and what is no `getting_linked`
-pub link_that_gives_flags : event_difference (with_these (and procs_flag set_on_link)) (getting_linked 101 100) ≡ Some gives_no_flags
+pub link_that_gives_flags : event_difference (with_these (and procs_flag set_on_link)) nothing_ahead (getting_linked 101 100) ≡ Some gives_no_flags
 link_that_gives_flags = refl
 
-pub first_link_that_gives_flags : event_difference (with_these (and procs_flag set_on_first_link)) (getting_linked 101 100) ≡ Some gives_no_flags
+pub first_link_that_gives_flags : event_difference (with_these (and procs_flag set_on_first_link)) nothing_ahead (getting_linked 101 100) ≡ Some gives_no_flags
 first_link_that_gives_flags = refl
 
-pub link_that_gives_none : event_difference (with_these (only procs_flag)) (getting_linked 101 100) ≡ None
+pub link_that_gives_none : event_difference (with_these (only procs_flag)) nothing_ahead (getting_linked 101 100) ≡ None
 link_that_gives_none = refl
 
-pub link_of_the_giver : event_difference (with_these (and procs_flag set_on_link)) (linked 100 101) ≡ None
+pub link_of_the_giver : event_difference (with_these (and procs_flag set_on_link)) nothing_ahead (linked 100 101) ≡ None
 link_of_the_giver = refl

@@ -16,7 +16,6 @@ mod RunMessages
 mod Differences
 pub mod DifferenceLines
 mod DifferenceRows
-mod NodeBodies
 mod NodeSessions
 pub mod NodeCommands
 mod NodeMoves

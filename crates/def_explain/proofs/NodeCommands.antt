@@ -11,6 +11,7 @@ use Rattle.def_node.specs.Event.{Event}
 use Rattle.def_node.specs.Node.{Move, moved, idle, next_of}
 use Rattle.def_session.specs.State.{absent, absent_session, alive_at_start}
 use Rattle.def_session.specs.Commands.{command_done}
+use Rattle.def_outlook.specs.Outlook.{Outlook, outlook}
 use Rattle.def_run.specs.Run.{HistoryItem, event_item, command_item, RunState, PickStep, takes_command, goes_to, pick_step_in, pick_step_with, pick_step, start}
 use Rattle.def_run.specs.History.{NamedSession, session_state_after, all_after, all_after_items, moments_from, move_history, move_histories_from}
 use Rattle.def_explain.specs.Accounts.{command_lines, differences_in_lines}
@@ -53,22 +54,22 @@ module _ (o : Exports) where
 
   -- ---- one move
 
-  session-without-difference : (x : HistoryItem) (s : NamedSession) → IsPlain s.1 → session_differs o x s ≡ false
-  session-without-difference (event_item e) s h = ap is_some_difference (event_without_difference s.1 e h)
-  session-without-difference (command_item c) s h = go (bytes_eq s.0 (session_of c))
+  session-without-difference : (l : Outlook) (x : HistoryItem) (s : NamedSession) → IsPlain s.1 → session_differs o l x s ≡ false
+  session-without-difference l (event_item e) s h = ap is_some_difference (event_without_difference s.1 l e h)
+  session-without-difference l (command_item c) s h = go (bytes_eq s.0 (session_of c))
     where
       go : (b : Bool) → is_some_difference (differences_in_lines (if b then command_lines o s.1 c else [])) ≡ false
       go true = refl
       go false = refl
 
-  sessions-without-difference : (x : HistoryItem) (ss : List NamedSession) → SessionsArePlain ss → list_any (session_differs o x) ss ≡ false
-  sessions-without-difference x [] h = refl
-  sessions-without-difference x (s ∷ ss) h = or_from (session_differs o x s) _ (session-without-difference x s h.0) (sessions-without-difference x ss h.1)
+  sessions-without-difference : (l : Outlook) (x : HistoryItem) (ss : List NamedSession) → SessionsArePlain ss → list_any (session_differs o l x) ss ≡ false
+  sessions-without-difference l x [] h = refl
+  sessions-without-difference l x (s ∷ ss) h = or_from (session_differs o l x s) _ (session-without-difference l x s h.0) (sessions-without-difference l x ss h.1)
 
-  moments-without-difference : (k pick : ℕ) (ss : List NamedSession) (xs : List HistoryItem) → AllByRecursion IsPlainItem xs → SessionsArePlain ss → list_any (moment_differs o) (moments_from o k pick ss xs) ≡ false
-  moments-without-difference k pick ss [] i h = refl
-  moments-without-difference k pick ss (x ∷ xs) i h =
-      or_from (list_any (session_differs o x) ss) _ (sessions-without-difference x ss h) (moments-without-difference k pick (all_after o ss x) xs i.1 (all-after ss x i.0 h))
+  moments-without-difference : (l : Outlook) (k pick : ℕ) (ss : List NamedSession) (xs : List HistoryItem) → AllByRecursion IsPlainItem xs → SessionsArePlain ss → list_any (moment_differs o l) (moments_from o k pick ss xs) ≡ false
+  moments-without-difference l k pick ss [] i h = refl
+  moments-without-difference l k pick ss (x ∷ xs) i h =
+      or_from (list_any (session_differs o l x) ss) _ (sessions-without-difference l x ss h) (moments-without-difference l k pick (all_after o ss x) xs i.1 (all-after ss x i.0 h))
 
 -- ---- one pick
 
@@ -114,10 +115,10 @@ moves-without-difference o fs p k ss (pick ∷ picks) h i = go (pick_step fs p p
   where
     go : (t : PickStep) (b : Bool) → IsPlainStep t
         → ((q : RunState) (j : ℕ) (ts : List NamedSession) → CommandsArePlain q.commands → SessionsArePlain ts → list_any (λ b. b) (map (move_differs o) (move_histories_from o fs q j ts picks)) ≡ false)
-        → list_any (λ b. b) (map (move_differs o) (if b then move_history o (suc k) pick ss t.shown ∷ move_histories_from o fs t.after (suc k) (all_after_items o ss t.shown) picks
+        → list_any (λ b. b) (map (move_differs o) (if b then move_history o (suc k) pick (outlook fs p.world pick) ss t.shown ∷ move_histories_from o fs t.after (suc k) (all_after_items o ss t.shown) picks
         else move_histories_from o fs t.after k ss picks)) ≡ false
     go t true g again =
-        or_from (move_differs o (move_history o (suc k) pick ss t.shown)) _ (moments-without-difference o (suc k) pick ss t.shown g.0 i)
+        or_from (move_differs o (move_history o (suc k) pick (outlook fs p.world pick) ss t.shown)) _ (moments-without-difference o (outlook fs p.world pick) (suc k) pick ss t.shown g.0 i)
         (again t.after (suc k) (all_after_items o ss t.shown) g.1 (items-after o ss t.shown g.0 i))
     go t false g again = again t.after k ss g.1 i
 

@@ -3,6 +3,7 @@ use Rattle.std.proofs.Common.{◌≡◌, ◌≢◌, ◌⊎◌, inl, inr, Bool, t
 use Rattle.std.specs.Prelude.{◌↔◌}
 use Rattle.std.specs.List.{list_any}
 use Rattle.def_script.specs.Exports.{Exports}
+use Rattle.def_outlook.specs.Outlook.{Outlook}
 use Rattle.def_run.specs.Run.{HistoryItem}
 use Rattle.def_run.specs.History.{NamedSession, Moment}
 use Rattle.def_explain.specs.Accounts.{differences_in_lines}
@@ -28,15 +29,15 @@ one-is p P each (x ∷ xs) = (here (p x) refl (one-is p P each xs), there (one-i
     there rest (inl h) = ap (λ b. b || list_any p xs) ((each x).1 h)
     there rest (inr h) = ap (λ b. p x || b) (rest.1 h) ∙ or-true (p x)
 
-session-is : (o : Exports) (x : HistoryItem) (s : NamedSession) → (session_differs o x s ≡ true) ↔ SessionDiffers o x s
-session-is o x s = go (differences_in_lines (session_lines o s x))
+session-is : (o : Exports) (l : Outlook) (x : HistoryItem) (s : NamedSession) → (session_differs o l x s ≡ true) ↔ SessionDiffers o l x s
+session-is o l x s = go (differences_in_lines (session_lines o l s x))
   where
     go : (ds : List Difference) → (is_some_difference ds ≡ true) ↔ (ds ≢ [])
     go [] = (λ h. cc h, λ h. absurd (h refl))
     go (d ∷ ds) = (λ h e. cc e, λ h. refl)
 
-moment-is : (o : Exports) (m : Moment) → (moment_differs o m ≡ true) ↔ MomentDiffers o m
-moment-is o m = one-is (session_differs o m.item) (SessionDiffers o m.item) (session-is o m.item) m.before
+moment-is : (o : Exports) (l : Outlook) (m : Moment) → (moment_differs o l m ≡ true) ↔ MomentDiffers o l m
+moment-is o l m = one-is (session_differs o l m.item) (SessionDiffers o l m.item) (session-is o l m.item) m.before
 
 pub move_difference_is_computed : MoveDifferenceIsComputed
-move_difference_is_computed o h = one-is (moment_differs o) (MomentDiffers o) (moment-is o) h.moments
+move_difference_is_computed o h = one-is (moment_differs o h.outlook) (MomentDiffers o h.outlook) (moment-is o h.outlook) h.moments

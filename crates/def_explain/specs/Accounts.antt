@@ -1,6 +1,6 @@
 -- What one session makes of an event or a command, line by line (own).
 -- Depends on what a session makes of an event, on why it reports nothing, on what a node does otherwise, and on the texts of reasons and effects.
-use Rattle.std.specs.Prelude.{ℕ, suc, if◌then◌else◌, List, [], ◌∷◌, ◌++◌, map, Option, Some, None, option_to_list, codes, decimal}
+use Rattle.std.specs.Prelude.{ℕ, suc, if◌then◌else◌, List, [], ◌∷◌, ◌++◌, map, Option, Some, None, codes, decimal}
 use Rattle.std.specs.Option.{unwrap_or}
 use Rattle.def_term.specs.Tree.{Tree, pid}
 use Rattle.def_term.specs.Names.{Mfa, word}
@@ -11,13 +11,14 @@ use Rattle.def_spec.specs.Flags.{Flags, only, without, flags_by_name}
 use Rattle.def_spec.specs.Expressions.{Dialect, Context}
 use Rattle.def_spec.specs.Outcome.{Clause}
 use Rattle.def_node.specs.Event.{Event, sent, received, called, returned, raised, spawned, exited, getting_linked}
+use Rattle.def_outlook.specs.Outlook.{Outlook}
 use Rattle.def_session.specs.Settings.{Setting, off, plain, by, setting_for}
 use Rattle.def_session.specs.State.{Phase, absent, live, destroyed, MarkKind, for_returns, for_exceptions, Session, flags_at}
 use Rattle.def_session.specs.Session.{inherit, effects_of, mark_asked, is_marked, context, reported_for}
 use Rattle.def_session.specs.Commands.{command_done}
 use Rattle.def_explain.specs.Causes.{Cause, no_mark, marked_for_returns, no_flag, no_setting, of_named_calls, switched_off, no_clause, silenced, message_false, cause_of}
 use Rattle.def_explain.specs.Verdicts.{Verdict, fails, fires, verdict_of}
-use Rattle.def_explain.specs.Differences.{Difference, clause_differences, event_difference}
+use Rattle.def_explain.specs.Differences.{Difference, clause_differences, event_differences}
 use Rattle.def_explain.specs.Texts.{said_of_each, effects_text, reason_text, clause_text}
 
 -- what is said, a message that is reported, or what a running node does otherwise
@@ -147,19 +148,19 @@ message_lines s e None (Some m) = evaluation_lines s e ++ tells m ∷ []
 abbrev pub live_lines : Session → Event → List Line
 live_lines s e = message_lines s e (cause_of s e) (reported_for s e (effects_of s e)).1 ++ (mark_lines s e ++ end_lines s e)
 
--- what a node does otherwise at an event without a body
-abbrev pub difference_lines : Session → Event → List Line
-difference_lines s e = map differs (option_to_list (event_difference s e))
+-- what a node does otherwise at the event itself
+abbrev pub difference_lines : Session → Outlook → Event → List Line
+difference_lines s l e = map differs (event_differences s l e)
 
 -- a session that isn't there makes nothing of an event
-abbrev pub event_lines_in : Phase → Session → Event → List Line
-event_lines_in absent s e = []
-event_lines_in destroyed s e = []
-event_lines_in live s e = inheritance_lines s e ++ live_lines (inherit s e) e ++ difference_lines s e
+abbrev pub event_lines_in : Phase → Session → Outlook → Event → List Line
+event_lines_in absent s l e = []
+event_lines_in destroyed s l e = []
+event_lines_in live s l e = inheritance_lines s e ++ live_lines (inherit s e) e ++ difference_lines s l e
 
--- what a session makes of an event
-abbrev pub event_lines : Session → Event → List Line
-event_lines s e = event_lines_in s.phase s e
+-- what a session makes of an event, where this was known of the step before it
+abbrev pub event_lines : Session → Outlook → Event → List Line
+event_lines s l e = event_lines_in s.phase s l e
 
 -- ---- one command
 

@@ -11,10 +11,11 @@ use Rattle.def_spec.specs.Outcome.{Clause, Fires, outcome_in}
 use Rattle.def_explain.specs.Heads.{HeadReason, IsHeadReason}
 use Rattle.def_explain.specs.Values.{FaultsAt}
 use Rattle.def_explain.specs.Spellings.{function_name, action_name}
-use Rattle.def_explain.specs.Differences.{Difference, evaluates_from_right, OneShowsOrder, order_difference, BodyDiffers, body_differs, EventDiffers, event_difference, evaluation_differences}
+use Rattle.def_explain.specs.Differences.{Difference, evaluates_from_right, OneShowsOrder, order_difference, BodyDiffers, body_differs, EventDiffers, event_difference, ErrorDiffers, error_differs, event_differences, evaluation_differences}
 use Rattle.def_explain.specs.Accounts.{reported_in_lines, differences_in_lines, event_lines}
 use Rattle.def_explain.specs.Places.{StopsAtClause, stop_of}
 use Rattle.def_node.specs.Event.{Event}
+use Rattle.def_outlook.specs.Outlook.{Outlook}
 use Rattle.def_session.specs.State.{live, Session}
 use Rattle.def_session.specs.Session.{effects_of, reported_for, event_reported}
 use Rattle.def_explain.specs.Reasons.{Reason, IsReason, reason_of}
@@ -74,7 +75,7 @@ CauseIsComputed = (s : Session) (e : Event) (x : Cause) → (cause_of s e ≡ So
 
 -- the messages among the lines of an event are the session's message of it
 abbrev pub LinesTellTheMessage : Type 0
-LinesTellTheMessage = (s : Session) (e : Event) → reported_in_lines (event_lines s e) ≡ option_to_list (event_reported s e).1
+LinesTellTheMessage = (s : Session) (l : Outlook) (e : Event) → reported_in_lines (event_lines s l e) ≡ option_to_list (event_reported s e).1
 
 -- a node is known to do otherwise at a clause that fires exactly where it is said so
 abbrev pub BodyDifferenceIsComputed : Type 0
@@ -84,10 +85,14 @@ BodyDifferenceIsComputed = (d : Dialect) (c : Context) (es : List Effect) (x : D
 abbrev pub OrderDifferenceIsComputed : Type 0
 OrderDifferenceIsComputed = (body : Exprs) (x : Difference) → (order_difference body ≡ Some x) ↔ ((x ≡ evaluates_from_right) × OneShowsOrder body)
 
--- and at an event without a body
+-- and at an event without a body, or a receive
 abbrev pub EventDifferenceIsComputed : Type 0
-EventDifferenceIsComputed = (s : Session) (e : Event) (x : Difference) → (event_difference s e ≡ Some x) ↔ EventDiffers s e x
+EventDifferenceIsComputed = (s : Session) (l : Outlook) (e : Event) (x : Difference) → (event_difference s l e ≡ Some x) ↔ EventDiffers s l e x
+
+-- and at the end of a process by a run-time error
+abbrev pub ErrorDifferenceIsComputed : Type 0
+ErrorDifferenceIsComputed = (s : Session) (l : Outlook) (e : Event) (x : Difference) → (error_differs s l e x ≡ true) ↔ ErrorDiffers s l e x
 
 -- among the lines of an event there is each that a node does otherwise, as the event is evaluated and at its end, and nothing else of a node
 abbrev pub LinesTellTheDifference : Type 0
-LinesTellTheDifference = (s : Session) (e : Event) → s.phase ≡ live → differences_in_lines (event_lines s e) ≡ evaluation_differences s e ++ option_to_list (event_difference s e)
+LinesTellTheDifference = (s : Session) (l : Outlook) (e : Event) → s.phase ≡ live → differences_in_lines (event_lines s l e) ≡ evaluation_differences s e ++ event_differences s l e

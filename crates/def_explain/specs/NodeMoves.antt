@@ -4,6 +4,7 @@ use Rattle.std.specs.Prelude.{◌≢◌, ◌⊎◌, ℕ, Bool, true, false, if�
 use Rattle.std.specs.List.{list_any, count_by}
 use Rattle.def_script.specs.Program.{Program}
 use Rattle.def_script.specs.Exports.{Exports, exports_of}
+use Rattle.def_outlook.specs.Outlook.{Outlook}
 use Rattle.def_run.specs.Run.{HistoryItem}
 use Rattle.def_run.specs.History.{NamedSession, Moment, MoveHistory, move_histories}
 use Rattle.def_explain.specs.Differences.{Difference}
@@ -16,16 +17,16 @@ One P [] = ⊥
 One P (x ∷ xs) = P x ⊎ One P xs
 
 -- what this session makes of it has what a node does otherwise
-abbrev pub SessionDiffers : Exports → HistoryItem → NamedSession → Type 0
-SessionDiffers o x s = differences_in_lines (session_lines o s x) ≢ []
+abbrev pub SessionDiffers : Exports → Outlook → HistoryItem → NamedSession → Type 0
+SessionDiffers o l x s = differences_in_lines (session_lines o l s x) ≢ []
 
 -- what one of the sessions makes of it
-abbrev pub MomentDiffers : Exports → Moment → Type 0
-MomentDiffers o m = One (SessionDiffers o m.item) m.before
+abbrev pub MomentDiffers : Exports → Outlook → Moment → Type 0
+MomentDiffers o l m = One (SessionDiffers o l m.item) m.before
 
 -- one of the moments of a move is such
 abbrev pub MoveDiffers : Exports → MoveHistory → Type 0
-MoveDiffers o h = One (MomentDiffers o) h.moments
+MoveDiffers o h = One (MomentDiffers o h.outlook) h.moments
 
 -- ---- the same, computed
 
@@ -35,16 +36,16 @@ is_some_difference [] = false
 is_some_difference (x ∷ xs) = true
 
 -- what this session makes of it has what a node does otherwise
-abbrev pub session_differs : Exports → HistoryItem → NamedSession → Bool
-session_differs o x s = is_some_difference (differences_in_lines (session_lines o s x))
+abbrev pub session_differs : Exports → Outlook → HistoryItem → NamedSession → Bool
+session_differs o l x s = is_some_difference (differences_in_lines (session_lines o l s x))
 
 -- what one of the sessions makes of it
-abbrev pub moment_differs : Exports → Moment → Bool
-moment_differs o m = list_any (session_differs o m.item) m.before
+abbrev pub moment_differs : Exports → Outlook → Moment → Bool
+moment_differs o l m = list_any (session_differs o l m.item) m.before
 
 -- one of the moments of a move is such
 abbrev pub move_differs : Exports → MoveHistory → Bool
-move_differs o h = list_any (moment_differs o) h.moments
+move_differs o h = list_any (moment_differs o h.outlook) h.moments
 
 -- ---- a run
 
