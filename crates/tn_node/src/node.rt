@@ -1,4 +1,5 @@
 // The node and its picks.
+use crate::outlook::Outlook;
 use crate::step_outcome::Moved;
 use crate::world::World;
 use std::alloc::{AllocError, Allocator};
@@ -133,6 +134,22 @@ impl<A: Allocator + Copy> Node<A> {
                 self.is_spent = true;
                 Err(refused)
             }
+        }
+    }
+}
+
+impl<A: Allocator + Copy> Node<A> {
+    ghost use Rattle.std.specs.Prelude.{◌≡◌};
+    ghost use Rattle.tn_node.specs.Outlooks.{outlook_seen, outlook_in};
+
+    /// What is known of the next step of the process that is picked, before it is made. Of pick 0, of a pid with
+    /// which no process lives and of a node that is spent nothing is.
+    pub fn outlook(&self, pick: u32) -> Outlook
+        ensures { outlook_seen result ≡ outlook_in self.now pick }
+    {
+        match &self.state {
+            None => Outlook::nothing(),
+            Some(state) => state.world.outlook(&state.functions, pick),
         }
     }
 }

@@ -11,7 +11,7 @@ use tn_term::{FIRST_PID, PROCESSES, Term};
 /// The processes from pid 100 on; none where one has exited.
 #[derive(Drop)]
 pub struct World<A: Allocator> {
-    slots: Vec<Option<Process<A>>, A>,
+    pub(crate) slots: Vec<Option<Process<A>>, A>,
     ghost few: { length slots.items ≤ 64 },
 }
 
@@ -59,7 +59,7 @@ impl<A: Allocator + Copy> World<A> {
     }
 
     /// The pid that a spawn would give.
-    fn next_pid(&self) -> Option<u32>
+    pub(crate) fn next_pid(&self) -> Option<u32>
         ensures { result ≡ next_pid (world_of self.now) }
     {
         if self.slots.len() < PROCESSES {
