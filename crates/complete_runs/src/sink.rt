@@ -6,7 +6,8 @@ ghost use Rattle.tn_term.specs.Views.{tree_of};
 ghost use Rattle.complete_runs.specs.Alike.{AreKept};
 
 use std::alloc::{AllocError, Allocator};
-use tn_session::Message;
+use tn_flags::Event;
+use tn_session::{EventText, Message};
 use tn_term::Term;
 use tn_trace::{Item, MessageSink};
 
@@ -36,12 +37,13 @@ pub fn keep_reply<A: Allocator + Copy, K: MessageSink<A> + Drop>(
     (first, second)
 }
 
-/// `tn_trace::MessageSink::keep_message` has one answer. The message comes with the number of its session.
+/// `tn_trace::MessageSink::keep_message` has one answer. The message comes with the number of its session and the
+/// event of the text.
 pub fn keep_message<A: Allocator + Copy, K: MessageSink<A> + Drop>(
     one: &mut K,
     other: &mut K,
     alloc: A,
-    message: (u32, &Message<'_, A>),
+    message: (u32, &Message<'_, A>, &Event<A>),
     given: &mut Vec<Item<A>, A>,
     same_given: &mut Vec<Item<A>, A>,
 ) -> (Result<(), AllocError>, Result<(), AllocError>)
@@ -53,7 +55,8 @@ pub fn keep_message<A: Allocator + Copy, K: MessageSink<A> + Drop>(
     ensures kept { OnOk result.0 (OnOk result.1 (AreKept K.keeps one.new other.new)) }
     ensures given { OnOk result.0 (OnOk result.1 (AreKept K.gives given.new same_given.new)) }
 {
-    let first = one.keep_message(alloc, message.0, message.1, given);
-    let second = other.keep_message(alloc, message.0, message.1, same_given);
+    let mut text = EventText::new(message.2, Vec::new(alloc));
+    let first = one.keep_message(alloc, message.0, message.1, &mut text, given);
+    let second = other.keep_message(alloc, message.0, message.1, &mut text, same_given);
     (first, second)
 }

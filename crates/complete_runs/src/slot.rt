@@ -6,13 +6,15 @@ ghost use Rattle.def_script.specs.Exports.{Exports, visible};
 ghost use Rattle.def_run.specs.Listing.{Item as DefinedItem};
 ghost use Rattle.tn_term.specs.Views.{alive_of, tree_of};
 ghost use Rattle.tn_script.specs.Views.{functions_of};
+ghost use Rattle.tn_session.specs.EventTexts.{event_in};
 ghost use Rattle.tn_trace.specs.Slots.{IsTracked};
 ghost use Rattle.tn_trace.specs.Tracks.{Track};
 ghost use Rattle.complete_runs.specs.Alike.{AreKept, AreTrackedAlike};
 
 use std::alloc::{AllocError, Allocator};
-use tn_flags::{Command, Event};
+use tn_flags::Command;
 use tn_script::Function;
+use tn_session::EventText;
 use tn_term::{Alive, Term};
 use tn_trace::{Item, MessageSink, Slot};
 
@@ -21,7 +23,7 @@ pub fn tell<A: Allocator + Copy, K: MessageSink<A> + Drop>(
     one: &mut Slot<A, K>,
     other: &mut Slot<A, K>,
     alloc: A,
-    event: &Event<A>,
+    text: &mut EventText<'_, A>,
     given: &mut Vec<Item<A>, A>,
     same_given: &mut Vec<Item<A>, A>,
 ) -> (Result<(), AllocError>, Result<(), AllocError>)
@@ -32,9 +34,10 @@ pub fn tell<A: Allocator + Copy, K: MessageSink<A> + Drop>(
     requires same_given { K.gives same_given.old at.3 }
     ensures tracked { OnOk result.0 (OnOk result.1 (AreTrackedAlike K.keeps at.0 one.new other.new)) }
     ensures given { OnOk result.0 (OnOk result.1 (AreKept K.gives given.new same_given.new)) }
+    ensures event { event_in text.new ≡ event_in text.old }
 {
-    let first = one.tell(alloc, event, given);
-    let second = other.tell(alloc, event, same_given);
+    let first = one.tell(alloc, text, given);
+    let second = other.tell(alloc, text, same_given);
     (first, second)
 }
 

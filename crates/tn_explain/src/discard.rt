@@ -1,6 +1,6 @@
 // Messages of which nothing is kept.
 use std::alloc::{AllocError, Allocator};
-use tn_session::Message;
+use tn_session::{EventText, Message};
 use tn_term::Term;
 use tn_trace::{Item, MessageSink};
 
@@ -30,6 +30,7 @@ impl<A: Allocator> MessageSink<A> for Discard {
         alloc: A,
         number: u32,
         message: &Message<'_, A>,
+        text: &mut EventText<'_, A>,
         given: &mut Vec<Item<A>, A>,
     ) -> Result<(), AllocError> {
         Ok(())

@@ -2,6 +2,7 @@ pub mod Compilations
 pub mod Views
 pub mod Looks
 pub mod Messages
+pub mod EventTexts
 pub mod Newest
 pub mod Procs
 pub mod Readings

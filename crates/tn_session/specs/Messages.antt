@@ -1,5 +1,5 @@
 -- What a message of the code stands for, and the parts of its text.
-use Rattle.std.specs.Prelude.{ℕ, List, [], ◌∷◌, ◌++◌, Bool, true, false, codes, drop, map, Option, option_to_list}
+use Rattle.std.specs.Prelude.{◌≡◌, ℕ, List, [], ◌∷◌, ◌++◌, Bool, true, false, codes, drop, map, Option, option_to_list}
 use Rattle.std.specs.Option.{option_map}
 use Rattle.std.specs.declared.vec.Vec.{Vec}
 use Rattle.def_term.specs.Tree.{Tree, atom, pid, tuple, of_elements}
@@ -12,6 +12,7 @@ use Rattle.tn_term.specs.declared.mfa.Mfa as mfas
 use Rattle.tn_term.specs.declared.term.Term.{Term}
 use Rattle.tn_flags.specs.Views.{class_of, event_of}
 use Rattle.tn_flags.specs.declared.class.Class.{Class}
+use Rattle.tn_flags.specs.declared.event.Event as events
 use Rattle.tn_session.specs.declared.message.Message.{Message}
 
 -- the terms of a list
@@ -54,6 +55,10 @@ pair s t = tuple (of_elements (s ∷ t ∷ []))
 abbrev pub message_seen : {A : Type 0} → Message A → Tree
 message_seen m = tuple (of_elements (elements_of m.short (event_of m.event.now) ++ last_seen m.last))
 
+-- the same of another event: its elements, and the last term where there is one
+abbrev pub message_of : {A B : Type 0} → events.Event A → Message B → Tree
+message_of e m = tuple (of_elements (elements_of m.short (event_of e) ++ last_seen m.last))
+
 -- the third element of an event's message
 abbrev pub event_name : Event → Name
 event_name (sent p t to true) = codes "send"
@@ -81,6 +86,15 @@ front_text e = codes "{trace," ++ w (pid (process_of e)) ++ codes "," ++ atom_te
 -- a brace and the elements with a comma between any two
 abbrev pub elements_text : Bool → Event → List ℕ
 elements_text short e = 123 ∷ comma_list (of_elements (elements_of short e))
+
+-- what is written; where nothing is, the text of the event's elements, with all arguments of a call
+abbrev pub written_for : {A : Type 0} → events.Event A → List ℕ → List ℕ
+written_for e [] = elements_text false (event_of e)
+written_for e (b ∷ bs) = b ∷ bs
+
+-- nothing is written, or that text
+abbrev pub IsWritten : {A : Type 0} → events.Event A → List ℕ → Type 0
+IsWritten e bs = written_for e bs ≡ elements_text false (event_of e)
 
 -- the elements after the kind, each with a comma before it
 abbrev pub details_text : Bool → Event → List ℕ

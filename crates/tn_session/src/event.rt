@@ -1,5 +1,5 @@
 // What a session makes of an event.
-ghost use Rattle.std.specs.Prelude.{◌≡◌, Bool, if◌then◌else◌, List, [], IfOk};
+ghost use Rattle.std.specs.Prelude.{◌≡◌, Bool, if◌then◌else◌, List, [], IfOk, IfSome};
 ghost use Rattle.std.specs.Option.{option_map};
 ghost use Rattle.def_term.specs.Names.{Mfa};
 ghost use Rattle.def_term.specs.Tree.{Tree};
@@ -41,6 +41,7 @@ impl<A: Allocator + Copy> State<A> {
         event: &'a Event<A>,
     ) -> Result<Option<Message<'a, A>>, AllocError>
         ensures reported { IfOk result (λ m. event_step self.old event.now ≡ event_result self.new m) }
+        ensures of_event { IfOk result (λ m. IfSome m (λ k. k.event.now ≡ event.now)) }
         ensures functions { self.new.functions ≡ self.old.functions }
     {
         match self.phase {
@@ -67,6 +68,7 @@ impl<A: Allocator + Copy> State<A> {
     /// What a live session makes of an event.
     fn tell_live<'a>(&mut self, event: &'a Event<A>) -> Result<Option<Message<'a, A>>, AllocError>
         ensures reported { IfOk result (λ m. live_event_step self.old event.now ≡ event_result self.new m) }
+        ensures of_event { IfOk result (λ m. IfSome m (λ k. k.event.now ≡ event.now)) }
         ensures functions { self.new.functions ≡ self.old.functions }
     {
         self.inherit(event);
@@ -86,6 +88,7 @@ impl<A: Allocator + Copy> State<A> {
         effects: Vec<Effect<A>, A>,
     ) -> Result<Option<Message<'a, A>>, AllocError>
         ensures reported { IfOk result (λ m. event_step_by effects.items self.old event.now ≡ event_result self.new m) }
+        ensures of_event { IfOk result (λ m. IfSome m (λ k. k.event.now ≡ event.now)) }
         ensures functions { self.new.functions ≡ self.old.functions }
     {
         self.affect_all(process_of(event), &effects);
@@ -334,7 +337,8 @@ impl<A: Allocator> State<A> {
         event: &'a Event<A>,
         effects: Vec<Effect<A>, A>,
     ) -> Option<Message<'a, A>>
-        ensures { message_in result ≡ message_after (state_seen self.now) (event_of event.now) (asks effects.items) }
+        ensures message { message_in result ≡ message_after (state_seen self.now) (event_of event.now) (asks effects.items) }
+        ensures of_event { IfSome result (λ k. k.event.now ≡ event.now) }
     {
         if self.is_silenced(event) {
             return None;
@@ -374,7 +378,8 @@ fn message_by<'a, A: Allocator>(
     short: bool,
     last: Option<Term<A>>,
 ) -> Option<Message<'a, A>>
-    ensures { message_in result ≡ decision short event.now last }
+    ensures message { message_in result ≡ decision short event.now last }
+    ensures of_event { IfSome result (λ k. k.event.now ≡ event.now) }
 {
     match last {
         Some(term) => {

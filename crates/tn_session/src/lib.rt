@@ -4,7 +4,8 @@
 //! def_session. Promises that `created` is the session at its creation, that `command` and `event` are
 //! one step of the definition of a session, reply and message included, and that a session that was
 //! refused memory is spent. A specification is kept with its code, by which it is evaluated. What a session
-//! reports of an event is a `Message` that borrows from the event; a term or a text is made of it. A `Look` shows the
+//! reports of an event is a `Message` that borrows from the event; a term or a text is made of it, and an
+//! `EventText` writes the elements of an event once for the messages of several sessions. A `Look` shows the
 //! session between two steps, `mark_for` is the mark that the effects of a call ask for, and `procs_of`, `how_of`,
 //! `pattern_of` and `options_of` read the arguments of commands.
 #![tactic(auto)]
@@ -14,6 +15,7 @@ mod command;
 mod compiled_spec;
 mod elements;
 mod event;
+mod event_text;
 mod look;
 mod marks;
 mod message;
@@ -25,6 +27,7 @@ mod text;
 
 pub use arguments::{options_of, pattern_of};
 pub use command::{Procs, how_of, procs_of};
+pub use event_text::EventText;
 pub use look::{Look, NewestSetting};
 pub use marks::mark_for;
 pub use message::Message;

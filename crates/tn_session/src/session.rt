@@ -16,7 +16,7 @@ pub struct Session<A: Allocator> {
 }
 
 impl<A: Allocator + Copy> Session<A> {
-    ghost use Rattle.std.specs.Prelude.{◌≡◌, ℕ, Some, IsNone, IfOk, OnErr, map};
+    ghost use Rattle.std.specs.Prelude.{◌≡◌, ℕ, Some, IsNone, IfOk, IfSome, OnErr, map};
     ghost use Rattle.std.specs.Option.{IsSomeAnd, option_map};
     ghost use Rattle.def_session.specs.State.{live, new_session};
     ghost use Rattle.def_session.specs.Session.{event_reported};
@@ -118,6 +118,7 @@ impl<A: Allocator + Copy> Session<A> {
     pub fn tell<'a>(&mut self, event: &'a Event<A>) -> Result<Option<Message<'a, A>>, AllocError>
         ensures reported { let e = event_of event.now in IfOk result (λ m. IsSomeAnd (value_in self.old) (λ s.
             next_session s (event_reported s.state e) ≡ (value_in self.new, option_map message_seen m))) }
+        ensures of_event { IfOk result (λ m. IfSome m (λ k. k.event.now ≡ event.now)) }
         ensures refused { OnErr result (IsNone (value_in self.new)) }
     {
         if self.is_spent {

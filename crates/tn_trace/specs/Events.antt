@@ -62,6 +62,6 @@ AllHandOutEach Keeps Gives events old given given' result =
     (o : Exports) (ts : List Track) → AreTracked Keeps o ts old
     → IfOk result (λ _. AreMore Gives (items_of_tracks (map event_of events) ts) given given')
 
--- nothing of the recorder changed but its sessions, and who lives
+-- nothing of the recorder changed but its sessions, who lives, and the room for texts
 abbrev pub OnlySessions : {A K : Type 0} → Recorder A K → Recorder A K → Result (Unit {0}) AllocError → Type 0
-OnlySessions old new result = IfOk result (λ _. new ≡ record old { living = new.living; slots = new.slots })
+OnlySessions old new result = IfOk result (λ _. new ≡ record old { living = new.living; slots = new.slots; room = new.room })

@@ -18,6 +18,8 @@ pub(crate) struct Recorder<A: Allocator, K> {
     pub living: Alive,
     pub slots: Vec<Slot<A, K>, A>,
     pub replies: K,
+    /// Room for the text of an event.
+    pub room: Vec<u8, A>,
 }
 
 impl<A: Allocator + Copy, K: MessageSink<A> + Drop> Recorder<A, K> {
@@ -36,6 +38,7 @@ impl<A: Allocator + Copy, K: MessageSink<A> + Drop> Recorder<A, K> {
             living: Alive::first(program.entries().len()),
             slots: absent_sessions(alloc, program)?,
             replies: K::nothing(alloc),
+            room: Vec::new(alloc),
         })
     }
 
@@ -45,7 +48,7 @@ impl<A: Allocator + Copy, K: MessageSink<A> + Drop> Recorder<A, K> {
         ensures given { AllHandOut K.keeps K.gives event.now self.old given.old given.new result }
         ensures others { OnlySessions self.old self.new result }
     {
-        tell_each(&mut self.slots, self.alloc, event, given)?;
+        tell_each(&mut self.slots, self.alloc, event, &mut self.room, given)?;
         self.living = living_after(self.living, event);
         Ok(())
     }

@@ -14,9 +14,11 @@ use crate::item::Item;
 use crate::sink::MessageSink;
 use crate::slot::Slot;
 use std::alloc::{AllocError, Allocator};
+use std::mem::replace;
 use tn_flags::{Command, Event};
 use tn_program::Program;
 use tn_script::Function;
+use tn_session::EventText;
 use tn_term::{Alive, Term};
 
 /// The number of one more session. The control list has at most 128.
@@ -63,19 +65,22 @@ pub fn living_after<A: Allocator>(living: Alive, event: &Event<A>) -> Alive
     after
 }
 
-/// Each session sees an event.
+/// Each session sees an event. Its text is written into the room.
 pub(crate) fn tell_each<A: Allocator + Copy, K: MessageSink<A> + Drop>(
     slots: &mut Vec<Slot<A, K>, A>,
     alloc: A,
     event: &Event<A>,
+    room: &mut Vec<u8, A>,
     given: &mut Vec<Item<A>, A>,
 ) -> Result<(), AllocError>
     ensures sessions { EachSees K.keeps event.now slots.old.items slots.new.items result }
     ensures given { EachHandsOut K.keeps K.gives event.now slots.old.items given.old given.new result }
 {
+    let mut text = EventText::new(event, replace(room, Vec::new(alloc)));
     for place in 0..slots.len() {
-        slots[place].tell(alloc, event, given)?;
+        slots[place].tell(alloc, &mut text, given)?;
     }
+    *room = text.into_room();
     Ok(())
 }
 

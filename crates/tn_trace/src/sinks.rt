@@ -2,7 +2,7 @@
 use crate::item::Item;
 use crate::sink::MessageSink;
 use std::alloc::{AllocError, Allocator};
-use tn_session::Message;
+use tn_session::{EventText, Message};
 use tn_term::Term;
 use tn_text::write_term;
 
@@ -46,10 +46,11 @@ impl<A: Allocator + Copy> MessageSink<A> for Terms<A> {
         alloc: A,
         number: u32,
         message: &Message<'_, A>,
+        text: &mut EventText<'_, A>,
         given: &mut Vec<Item<A>, A>,
     ) -> Result<(), AllocError> {
         let index = self.terms.len() as u64;
-        let kept = message.term(alloc)?;
+        let kept = text.term(alloc, message)?;
         let reported = kept.copy_into(alloc)?;
         self.terms.push(kept)?;
         given.push(Item {
@@ -90,9 +91,10 @@ impl<A: Allocator + Copy> MessageSink<A> for Lines<A> {
         alloc: A,
         number: u32,
         message: &Message<'_, A>,
+        text: &mut EventText<'_, A>,
         given: &mut Vec<Item<A>, A>,
     ) -> Result<(), AllocError> {
-        message.append_text(&mut self.text)?;
+        text.append_text(message, &mut self.text)?;
         self.text.push(b'\n')?;
         Ok(())
     }

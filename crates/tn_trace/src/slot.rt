@@ -4,9 +4,9 @@ use crate::item::Item;
 use crate::reply::{badarg, created_reply};
 use crate::sink::MessageSink;
 use std::alloc::{AllocError, Allocator};
-use tn_flags::{Command, Event};
+use tn_flags::Command;
 use tn_script::Function;
-use tn_session::Session;
+use tn_session::{EventText, Session};
 use tn_term::{Alive, Atom, Term};
 
 /// A session of the control list: its number from 1, its name, its state once it is created, and what is
@@ -20,26 +20,30 @@ pub struct Slot<A: Allocator, K> {
 }
 
 impl<A: Allocator + Copy, K: MessageSink<A> + Drop> Slot<A, K> {
+    ghost use Rattle.std.specs.Prelude.{◌≡◌};
+    ghost use Rattle.tn_session.specs.EventTexts.{event_in};
     ghost use Rattle.tn_trace.specs.Events.{Sees, HandsOut};
     ghost use Rattle.tn_trace.specs.Commands.{SlotReplies, RepliesToOwn};
 
-    /// The session sees an event.
+    /// The session sees the text's event.
     pub fn tell(
         &mut self,
         alloc: A,
-        event: &Event<A>,
+        text: &mut EventText<'_, A>,
         given: &mut Vec<Item<A>, A>,
     ) -> Result<(), AllocError>
-        ensures tracked { Sees K.keeps event.now self.old self.new result }
-        ensures given { HandsOut K.keeps K.gives event.now self.old given.old given.new result }
+        ensures tracked { Sees K.keeps (event_in text.old) self.old self.new result }
+        ensures given { HandsOut K.keeps K.gives (event_in text.old) self.old given.old given.new result }
+        ensures event { event_in text.new ≡ event_in text.old }
     {
         let Some(session) = &mut self.session else {
             return Ok(());
         };
-        match session.tell(event)? {
+        match session.tell(text.event())? {
             None => Ok(()),
             Some(message) => {
-                self.kept.keep_message(alloc, self.number, &message, given)?;
+                self.kept
+                    .keep_message(alloc, self.number, &message, text, given)?;
                 Ok(())
             }
         }

@@ -8,7 +8,7 @@ use Rattle.tn_trace.proofs.recorder.Recorder.tell_all.Goals as goal
 
 pub loop-event-preserved : goal.loop-event-preserved
 loop-event-preserved g c = (
-  c.in_ok-tell.ensures.others ∙ ap (λ (q : Recorder _ _). record q { living = c.tell.new.self.living; slots = c.tell.new.self.slots }) c.loop-event.invariant.0,
+  c.in_ok-tell.ensures.others ∙ ap (λ (q : Recorder _ _). record q { living = c.tell.new.self.living; slots = c.tell.new.self.slots; room = c.tell.new.self.room }) c.loop-event.invariant.0,
   λ o ts h.
       let inv = c.loop-event.invariant.1 o ts h in (
         map (with_event (event_of c.event-item.result)) inv.0,
