@@ -1,8 +1,10 @@
--- What an observer sees of a run.
-use Rattle.std.specs.Prelude.{◌≡◌, ℕ, suc, true, List, [], ◌∷◌, ◌++◌, length, map, slice_get, Some, Result, OnOk}
+-- What an observer sees of a run, and of the node before each pick.
+use Rattle.std.specs.Prelude.{◌≡◌, ℕ, suc, true, List, [], ◌∷◌, ◌++◌, length, map, slice_get, Option, Some, Result, OnOk}
 use Rattle.std.specs.declared.alloc.AllocError.{AllocError}
 use Rattle.def_script.specs.Program.{Command, Program}
-use Rattle.def_run.specs.Run.{HistoryItem, event_item, command_item, moves, pick_step_after}
+use Rattle.def_run.specs.Run.{HistoryItem, event_item, command_item, moves, run_state_of, pick_step_after}
+use Rattle.def_run.specs.Laws.{state_at}
+use Rattle.tn_node.specs.Nodes.{NodeValue, node_at}
 use Rattle.tn_flags.specs.Views.{event_of, command_of}
 use Rattle.tn_flags.specs.declared.event.Event as flags
 use Rattle.tn_flags.specs.declared.command.Command as commands
@@ -34,8 +36,12 @@ SeesCommand Seen Adds program entry command old new out out' result =
     (picks : List ℕ) → Seen old (program_of program) picks → IsNextCommand (program_of program) picks entry (command_of command)
     → OnOk result (SeesMove Seen Adds (program_of program) picks entry.pick old new out out')
 
--- the same where the next one shows these events
-abbrev pub SeesEvents : {A O G : Type 0} → (O → Program → List ℕ → Type 0) → (Program → List ℕ → ℕ → O → O → G → G → Type 0) → code.Program A → JournalEntry → List (flags.Event A) → O → O → G → G → Result (Unit {0}) AllocError → Type 0
-SeesEvents Seen Adds program entry events old new out out' result =
-    (picks : List ℕ) → Seen old (program_of program) picks → IsNextMove (program_of program) picks entry (map event_item (map event_of events))
+-- what an observer keeps of a node is of the program after these picks, whatever they are, where the node is
+abbrev pub LooksAhead : {S : Type 0} → (S → Program → List ℕ → ℕ → Type 0) → Option NodeValue → ℕ → S → Type 0
+LooksAhead Looks node pick sight = (p : Program) (picks : List ℕ) → node ≡ Some (node_at p (state_at p (run_state_of p picks))) → Looks sight p picks pick
+
+-- the same where the next one shows these events, and the observer kept this of the node before it
+abbrev pub SeesEvents : {A S O G : Type 0} → (S → Program → List ℕ → ℕ → Type 0) → (O → Program → List ℕ → Type 0) → (Program → List ℕ → ℕ → O → O → G → G → Type 0) → code.Program A → JournalEntry → S → List (flags.Event A) → O → O → G → G → Result (Unit {0}) AllocError → Type 0
+SeesEvents Looks Seen Adds program entry sight events old new out out' result =
+    (picks : List ℕ) → Seen old (program_of program) picks → Looks sight (program_of program) picks entry.pick → IsNextMove (program_of program) picks entry (map event_item (map event_of events))
     → OnOk result (SeesMove Seen Adds (program_of program) picks entry.pick old new out out')

@@ -2,16 +2,23 @@
 use crate::journal::JournalEntry;
 use std::alloc::{AllocError, Allocator};
 use tn_flags::{Command, Event};
+use tn_node::Node;
 use tn_program::Program;
 
 /// What looks on while a run takes its picks, and adds to an output what it makes of each that moves.
 pub trait Observer<A: Allocator> {
     ghost use Rattle.std.specs.Prelude.{ℕ, List};
     ghost use Rattle.def_script.specs.Program as definition;
-    ghost use Rattle.tn_trace.specs.Observers.{SeesCommand, SeesEvents};
+    ghost use Rattle.tn_trace.specs.Observers.{LooksAhead, SeesCommand, SeesEvents};
 
     /// What it adds to.
     type Output;
+
+    /// What it keeps of the node before a pick.
+    type Sight: Copy;
+
+    /// What it keeps of the node of a program after such picks, before one more.
+    ghost looks: { Self.Sight → definition.Program → List ℕ → ℕ → Type 0 };
 
     /// It saw the run of a program by these picks, each of which moved, and is as it is then.
     ghost sees: { Self → definition.Program → List ℕ → Type 0 };
@@ -21,6 +28,10 @@ pub trait Observer<A: Allocator> {
 
     /// What the output may be afterwards, also where memory was refused.
     ghost reaches: { Self.Output → Self.Output → Type 0 };
+
+    /// It looks at the node before a pick.
+    fn look(&self, node: &Node<A>, pick: u32) -> Self::Sight
+        ensures { LooksAhead looks node.now pick result };
 
     /// It sees a command of the control list. After an `Err` a part of what it makes of it may be added.
     fn obey(
@@ -33,16 +44,18 @@ pub trait Observer<A: Allocator> {
         ensures ok { SeesCommand sees adds program.now entry command.now self.old self.new out.old out.new result }
         ensures reaches { reaches out.old out.new };
 
-    /// It sees the events of a step of a process, in order. After an `Err` a part of what it makes of them may be
-    /// added.
+    /// It sees the events of a step of a process, in order, with what it kept of the node before it. After an `Err` a
+    /// part of what it makes of them may be added.
     fn see(
         &mut self,
         program: &Program<A>,
         entry: JournalEntry,
+        sight: Self::Sight,
         events: &Vec<Event<A>, A>,
         out: &mut Self::Output,
     ) -> Result<(), AllocError>
-        ensures ok { SeesEvents sees adds program.now entry events.now.items self.old self.new out.old out.new result }
+        ensures ok { SeesEvents looks sees adds program.now entry sight events.now.items
+            self.old self.new out.old out.new result }
         ensures reaches { reaches out.old out.new };
 
     /// The output may be the same afterwards.

@@ -8,6 +8,7 @@ use crate::sink::MessageSink;
 use crate::slot::Slot;
 use std::alloc::{AllocError, Allocator};
 use tn_flags::{Command, Event};
+use tn_node::Node;
 use tn_program::Program;
 use tn_term::Alive;
 
@@ -86,11 +87,17 @@ impl<A: Allocator + Copy, K: MessageSink<A> + Drop> Observer<A> for Recorder<A, 
 
     type Output = Vec<Item<A>, A>;
 
+    type Sight = ();
+
+    ghost looks = { λ _ _ _ _. Unit {0} };
+
     ghost sees = { HasRecorded K.keeps };
 
     ghost adds = { HandsOutAnswer K.gives };
 
     ghost reaches = { λ _ _. Unit {0} };
+
+    fn look(&self, _node: &Node<A>, _pick: u32) {}
 
     fn obey(
         &mut self,
@@ -107,6 +114,7 @@ impl<A: Allocator + Copy, K: MessageSink<A> + Drop> Observer<A> for Recorder<A, 
         &mut self,
         program: &Program<A>,
         entry: JournalEntry,
+        _sight: (),
         events: &Vec<Event<A>, A>,
         out: &mut Self::Output,
     ) -> Result<(), AllocError> {

@@ -76,6 +76,7 @@ impl<A: Allocator + Copy, O: Observer<A> + Drop> Run<A, O> {
             number: count as u64 + 1,
             pick,
         };
+        let sight = self.observer.look(&self.node, pick);
         match self.node.step(pick)? {
             Moved::Idle => Ok(PickOutcome::Idle),
             Moved::Control(number) => match command_at(program, number) {
@@ -87,7 +88,7 @@ impl<A: Allocator + Copy, O: Observer<A> + Drop> Run<A, O> {
                 None => Ok(PickOutcome::Idle),
             },
             Moved::Moved(events) => {
-                self.observer.see(program, entry, &events, out)?;
+                self.observer.see(program, entry, sight, &events, out)?;
                 self.journal.push(pick)?;
                 Ok(PickOutcome::Moved)
             }

@@ -8,7 +8,7 @@ use Rattle.tn_trace.proofs.RecorderSteps.{events_recorded}
 use Rattle.tn_trace.proofs.recorder.RecorderObserver.see.Goals as goal
 
 pub returns-clause-ok : goal.returns-clause-ok
-returns-clause-ok g c = λ picks seen next.
+returns-clause-ok g c = λ picks seen looked next.
     let p = program_of c.args.program.now in
     events_recorded g.K.MessageSink.keeps g.K.MessageSink.gives p picks c.args.entry c.args.self.now seen (map event_of c.args.events.now.items) c.tell_all.new.self c.args.out.now c.tell_all.new.given next
     (c.in_ok-tell_all.ensures.sessions (exports_of p) (tracks_of p picks) seen.sessions) (c.in_ok-tell_all.ensures.given (exports_of p) (tracks_of p picks) seen.sessions)
