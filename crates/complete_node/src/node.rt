@@ -2,9 +2,10 @@
 ghost use Rattle.std.specs.Prelude.{◌≡◌, None, IfOk, IsErr, OnErr};
 ghost use Rattle.tn_program.specs.Views.{program_of};
 ghost use Rattle.tn_node.specs.Nodes.{moved_seen};
+ghost use Rattle.tn_node.specs.Outlooks.{outlook_seen};
 
 use std::alloc::{AllocError, Allocator};
-use tn_node::{Moved, Node};
+use tn_node::{Moved, Node, Outlook};
 use tn_program::Program;
 
 /// `tn_node::Node::new` has one answer.
@@ -33,4 +34,19 @@ pub fn step<A: Allocator + Copy>(
     let first = one.step(pick);
     let second = other.step(pick);
     (first, second)
+}
+
+/// `tn_node::Node::outlook` has one answer.
+pub fn outlook<A: Allocator + Copy>(one: &Node<A>, other: &Node<A>, pick: u32) -> (Outlook, Outlook)
+    requires { one.now ≡ other.now }
+    ensures { outlook_seen result.0 ≡ outlook_seen result.1 }
+{
+    (one.outlook(pick), other.outlook(pick))
+}
+
+/// `tn_node::Outlook::nothing` has one answer.
+pub fn nothing() -> (Outlook, Outlook)
+    ensures { outlook_seen result.0 ≡ outlook_seen result.1 }
+{
+    (Outlook::nothing(), Outlook::nothing())
 }

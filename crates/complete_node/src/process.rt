@@ -1,11 +1,13 @@
 // A process, as the node sees it.
 ghost use Rattle.std.specs.Prelude.{◌≡◌, ◌≤◌, IfOk};
+ghost use Rattle.std.specs.Option.{option_map};
 ghost use Rattle.tn_term.specs.Views.{tree_of};
 ghost use Rattle.tn_script.specs.Views.{entry_of, functions_of};
+ghost use Rattle.tn_process.specs.Outlooks.{error_seen};
 ghost use Rattle.tn_process.specs.Views.{process_seen, act_of};
 
 use std::alloc::{AllocError, Allocator};
-use tn_process::{Act, Process};
+use tn_process::{Act, Process, RuntimeError};
 use tn_script::{Entry, Function};
 use tn_term::Term;
 
@@ -125,4 +127,54 @@ pub fn act<A: Allocator + Copy>(
     let first = one.act(alloc, functions, pid, child);
     let second = other.act(alloc, functions, pid, child);
     (first, second)
+}
+
+/// `tn_process::Process::runtime_error` has one answer.
+pub fn runtime_error<A: Allocator + Copy>(
+    one: &Process<A>,
+    other: &Process<A>,
+    functions: &[Function<A>],
+    child: Option<u32>,
+) -> (Option<RuntimeError>, Option<RuntimeError>)
+    requires { process_seen one.now ≡ process_seen other.now }
+    ensures { option_map error_seen result.0 ≡ option_map error_seen result.1 }
+{
+    let first = one.runtime_error(functions, child);
+    let second = other.runtime_error(functions, child);
+    (first, second)
+}
+
+/// `tn_process::Process::is_waiting` has one answer.
+pub fn is_waiting<A: Allocator + Copy>(
+    one: &Process<A>,
+    other: &Process<A>,
+    functions: &[Function<A>],
+) -> (bool, bool)
+    requires { process_seen one.now ≡ process_seen other.now }
+    ensures { result.0 ≡ result.1 }
+{
+    (one.is_waiting(functions), other.is_waiting(functions))
+}
+
+/// `tn_process::Process::addressee` has one answer.
+pub fn addressee<A: Allocator + Copy>(
+    one: &Process<A>,
+    other: &Process<A>,
+    functions: &[Function<A>],
+) -> (Option<u32>, Option<u32>)
+    requires { process_seen one.now ≡ process_seen other.now }
+    ensures { result.0 ≡ result.1 }
+{
+    (one.addressee(functions), other.addressee(functions))
+}
+
+/// `tn_process::Process::catch_depth` has one answer.
+pub fn catch_depth<A: Allocator + Copy>(
+    one: &Process<A>,
+    other: &Process<A>,
+) -> (Option<usize>, Option<usize>)
+    requires { process_seen one.now ≡ process_seen other.now }
+    ensures { result.0 ≡ result.1 }
+{
+    (one.catch_depth(), other.catch_depth())
 }
