@@ -8,3 +8,5 @@ pub mod Pieces
 pub mod ExpressionTexts
 pub mod Stops
 pub mod SpecTestFlags
+pub mod SpecReasons
+pub mod SpecReasonTexts

@@ -5,3 +5,5 @@ pub mod SpecTestInputs
 pub mod ExpressionTexts
 pub mod SpecTests
 pub mod Differences
+pub mod SpecReasons
+pub mod SpecReasonTexts
