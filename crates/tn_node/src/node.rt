@@ -147,9 +147,9 @@ impl<A: Allocator + Copy> Node<A> {
     pub fn outlook(&self, pick: u32) -> Outlook
         ensures { outlook_seen result ≡ outlook_in self.now pick }
     {
-        match &self.state {
-            None => Outlook::nothing(),
-            Some(state) => state.world.outlook(&state.functions, pick),
+        if self.is_spent {
+            return Outlook::nothing();
         }
+        self.state.world.outlook(&self.state.functions, pick)
     }
 }
