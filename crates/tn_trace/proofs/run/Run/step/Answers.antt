@@ -40,4 +40,4 @@ pub returns-in_ok-push-in-Moved-clause-taken : goal.returns-in_ok-push-in-Moved-
 returns-in_ok-push-in-Moved-clause-taken g c = λ limit picks run.
     let p = program_of c.args.program.now in
     let counted : c.len-count.result ≡ length c.args.self.now.journal.items = omega (arith, c.len-count.ensures, c.args.self.now.journal.ok.0) in
-    events_step g.O.Observer.sees p limit picks c.args.self.now run c.len-count.result counted g.O.Observer.adds c.args.pick c.if-count-self.false c.step.new.self c.in_ok-step.field-0 c.in_ok-step.ensures.moved c.in-Moved.events (record c.args.self.now { node = c.step.new.self; observer = c.see.new.self; journal = c.push-in-Moved.new.self }) c.args.out.now c.see.new.out c.in-Moved.is (λ next. c.in_ok-see-in-Moved.ensures.ok picks run.seen (c.look.ensures p picks run.node) next) refl refl c.in_ok-push-in-Moved.ensures.items
+    events_step g.O.Observer.sees p limit picks c.args.self.now run c.len-count.result counted g.O.Observer.adds c.args.pick c.if-count-self.false c.step.new.self c.in_ok-step.field-0 c.in_ok-step.ensures.moved c.in-Moved.events (record c.args.self.now { node = c.step.new.self; observer = c.see.new.self; journal = c.push-in-Moved.new.self }) c.args.out.now c.see.new.out c.in-Moved.is (λ next. c.in_ok-see-in-Moved.ensures.ok picks run.seen (c.look-sight.ensures p picks run.node) next) refl refl c.in_ok-push-in-Moved.ensures.items
