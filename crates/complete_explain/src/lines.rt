@@ -6,13 +6,15 @@ ghost use Rattle.tn_session.specs.Sessions.{value_in};
 use std::alloc::{AllocError, Allocator};
 use tn_explain::{put_command_line, put_event_lines};
 use tn_flags::Event;
+use tn_node::Outlook;
 use tn_session::Session;
 use tn_term::{Atom, Term};
 
-/// An event, and the name of the session that sees it.
+/// An event, what was known of its step before it, and the name of the session that sees it.
 #[derive(Clone, Copy)]
 pub struct SessionView<'a, A: Allocator> {
     pub name: &'a Atom<A>,
+    pub outlook: Outlook,
     pub event: &'a Event<A>,
 }
 
@@ -32,8 +34,8 @@ pub fn event<A: Allocator + Copy>(
     ensures after { OnOk result.0 (OnOk result.1 (value_in one.new ≡ value_in other.new)) }
 {
     (
-        put_event_lines(alloc, seen.name, one, seen.event, first),
-        put_event_lines(alloc, seen.name, other, seen.event, second),
+        put_event_lines(alloc, seen.name, one, seen.outlook, seen.event, first),
+        put_event_lines(alloc, seen.name, other, seen.outlook, seen.event, second),
     )
 }
 

@@ -8,17 +8,13 @@ use tn_program::Program;
 use tn_run::Denial;
 
 /// `tn_explain::can_differ` has one answer for one program.
-pub fn can_differ<A: Allocator + Copy>(
-    alloc: A,
-    first: &Program<A>,
-    second: &Program<A>,
-) -> (Result<bool, AllocError>, Result<bool, AllocError>)
+pub fn can_differ<A: Allocator>(first: &Program<A>, second: &Program<A>) -> (bool, bool)
     requires { program_of first.now ≡ program_of second.now }
-    ensures { IfOk result.0 (λ b. IfOk result.1 (λ d. b ≡ d)) }
+    ensures { result.0 ≡ result.1 }
 {
     (
-        tn_explain::can_differ(alloc, first),
-        tn_explain::can_differ(alloc, second),
+        tn_explain::can_differ(first),
+        tn_explain::can_differ(second),
     )
 }
 

@@ -6,6 +6,7 @@ use Rattle.std.specs.declared.vec.Vec.{Vec}
 use Rattle.std.specs.Str.{bytes_eq}
 use Rattle.def_script.specs.Program.{Function, Command, session_of, Program}
 use Rattle.def_script.specs.Exports.{Exports, exports_of}
+use Rattle.def_outlook.specs.Outlook.{Outlook, outlook}
 use Rattle.def_run.specs.Run.{HistoryItem, command_item, RunState, PickStep, pick_step, moves, moves_from, start, run_state_of, pick_step_after}
 use Rattle.def_run.specs.History.{NamedSession, all_after, all_after_items, named_sessions, moments_from, move_history, move_histories_from}
 use Rattle.def_run.proofs.Replay.{pick_kept, moves_bounded}
@@ -16,7 +17,7 @@ use Rattle.tn_trace.specs.Follows.{AddsEach, AddsFrom}
 use Rattle.tn_trace.specs.declared.journal.JournalEntry.{JournalEntry}
 use Rattle.tn_trace.proofs.Moves.{place_more}
 use Rattle.tn_explain.specs.Comparisons.{HasCompared, differs_by, AddsDifference}
-use Rattle.tn_explain.specs.Explainers.{sessions_after}
+use Rattle.tn_explain.specs.Explainers.{sessions_after, outlook_after}
 use Rattle.tn_explain.specs.NamedSessions.{AreNamedSessions}
 use Rattle.tn_explain.specs.declared.node_moves.NodeMoves.{NodeMoves}
 use Rattle.tn_explain.proofs.Picks.{sessions_more}
@@ -24,39 +25,40 @@ use Rattle.tn_explain.proofs.Picks.{sessions_more}
 -- ---- a move
 
 -- its number and its pick don't count
-pub same_moments : (o : Exports) (k j a b : ℕ) (ss : List NamedSession) (xs : List HistoryItem) → list_any (moment_differs o) (moments_from o k a ss xs) ≡ list_any (moment_differs o) (moments_from o j b ss xs)
-same_moments o k j a b ss [] = refl
-same_moments o k j a b ss (x ∷ xs) = ap (λ d. list_any (session_differs o x) ss || d) (same_moments o k j a b (all_after o ss x) xs)
+pub same_moments : (o : Exports) (l : Outlook) (k j a b : ℕ) (ss : List NamedSession) (xs : List HistoryItem) → list_any (moment_differs o l) (moments_from o k a ss xs) ≡ list_any (moment_differs o l) (moments_from o j b ss xs)
+same_moments o l k j a b ss [] = refl
+same_moments o l k j a b ss (x ∷ xs) = ap (λ d. list_any (session_differs o l x) ss || d) (same_moments o l k j a b (all_after o ss x) xs)
 
 -- no session makes anything of a command that a node does otherwise
-nothing-of-command : (o : Exports) (k : Command) (s : NamedSession) → session_differs o (command_item k) s ≡ false
-nothing-of-command o k s = go (bytes_eq s.0 (session_of k))
+nothing-of-command : (o : Exports) (l : Outlook) (k : Command) (s : NamedSession) → session_differs o l (command_item k) s ≡ false
+nothing-of-command o l k s = go (bytes_eq s.0 (session_of k))
   where
     go : (b : Bool) → is_some_difference (differences_in_lines (if b then command_lines o s.1 k else [])) ≡ false
     go true = refl
     go false = refl
 
-nothing-of-all : (o : Exports) (k : Command) (ss : List NamedSession) → list_any (session_differs o (command_item k)) ss ≡ false
-nothing-of-all o k [] = refl
-nothing-of-all o k (s ∷ ss) = ap₂ (λ a b. a || b) (nothing-of-command o k s) (nothing-of-all o k ss)
+nothing-of-all : (o : Exports) (l : Outlook) (k : Command) (ss : List NamedSession) → list_any (session_differs o l (command_item k)) ss ≡ false
+nothing-of-all o l k [] = refl
+nothing-of-all o l k (s ∷ ss) = ap₂ (λ a b. a || b) (nothing-of-command o l k s) (nothing-of-all o l k ss)
 
-pub command_compared : (o : Exports) (k : Command) (ss : List NamedSession) → false ≡ list_any (moment_differs o) (moments_from o 0 0 ss (command_item k ∷ []))
-command_compared o k ss = sym (ap (λ b. b || false) (nothing-of-all o k ss))
+pub command_compared : (o : Exports) (l : Outlook) (k : Command) (ss : List NamedSession) → false ≡ list_any (moment_differs o l) (moments_from o 0 0 ss (command_item k ∷ []))
+command_compared o l k ss = sym (ap (λ b. b || false) (nothing-of-all o l k ss))
 
 -- the observer saw a move that shows this
 pub move_compared : {A : Type 0} (p : Program) (picks : List ℕ) (entry : JournalEntry) (shown : List HistoryItem) (b : Bool) (old new : NodeMoves A) (out out' : Vec Bool A) → IsNextMove p picks entry shown
     → AreNamedSessions (exports_of p) (all_after_items (exports_of p) (sessions_after p picks) shown) new.sessions
-    → b ≡ list_any (moment_differs (exports_of p)) (moments_from (exports_of p) 0 0 (sessions_after p picks) shown) → out'.items ≡ out.items ++ b ∷ []
+    → b ≡ list_any (moment_differs (exports_of p) (outlook_after p picks entry.pick)) (moments_from (exports_of p) 0 0 (sessions_after p picks) shown) → out'.items ≡ out.items ++ b ∷ []
     → SeesMove HasCompared AddsDifference p picks entry.pick old new out out'
 move_compared p picks entry shown b old new out out' next sessions is written =
     let o : Exports = exports_of p in
     let ss : List NamedSession = sessions_after p picks in
     let t : PickStep = pick_step_after p picks entry.pick in
+    let l : Outlook = outlook_after p picks entry.pick in
     record {
       after = subst (λ rs. AreNamedSessions o rs new.sessions) (ap (all_after_items o ss) (sym next.shows) ∙ sym (sessions_more p picks entry.pick)) sessions;
       added = written ∙ ap (λ d. out.items ++ d ∷ []) is
-          ∙ ap (λ xs. out.items ++ list_any (moment_differs o) (moments_from o 0 0 ss xs) ∷ []) (sym next.shows)
-          ∙ ap (λ c. out.items ++ (if c then list_any (moment_differs o) (moments_from o 0 0 ss t.shown) ∷ [] else [])) (sym next.moved);
+          ∙ ap (λ xs. out.items ++ list_any (moment_differs o l) (moments_from o 0 0 ss xs) ∷ []) (sym next.shows)
+          ∙ ap (λ c. out.items ++ (if c then list_any (moment_differs o l) (moments_from o 0 0 ss t.shown) ∷ [] else [])) (sym next.moved);
     }
 
 -- ---- all picks
@@ -65,7 +67,7 @@ module _ (o : Exports) (fs : List Function) where
   -- of each pick that moves, from a state of the run on
   abbrev pub differing_from : RunState → List NamedSession → List ℕ → List Bool
   differing_from q ss [] = []
-  differing_from q ss (pick ∷ picks) = let t : PickStep = pick_step fs q pick in differs_by o ss t ++ differing_from t.after (all_after_items o ss t.shown) picks
+  differing_from q ss (pick ∷ picks) = let t : PickStep = pick_step fs q pick in differs_by o (outlook fs q.world pick) ss t ++ differing_from t.after (all_after_items o ss t.shown) picks
 
   from_histories : (q : RunState) (k : ℕ) (ss : List NamedSession) (picks : List ℕ) → map (move_differs o) (move_histories_from o fs q k ss picks) ≡ differing_from q ss picks
   from_histories q k ss [] = refl
@@ -73,9 +75,9 @@ module _ (o : Exports) (fs : List Function) where
     where
       go : (t : PickStep) (b : Bool) → t.moved ≡ b → (t.moved ≡ false → t.shown ≡ [])
           → ((r : RunState) (j : ℕ) (us : List NamedSession) → map (move_differs o) (move_histories_from o fs r j us picks) ≡ differing_from r us picks)
-          → map (move_differs o) (if b then move_history o (suc k) pick ss t.shown ∷ move_histories_from o fs t.after (suc k) (all_after_items o ss t.shown) picks else move_histories_from o fs t.after k ss picks)
-          ≡ (if b then list_any (moment_differs o) (moments_from o 0 0 ss t.shown) ∷ [] else []) ++ differing_from t.after (all_after_items o ss t.shown) picks
-      go t true e none again = ap₂ (λ d ds. d ∷ ds) (same_moments o (suc k) 0 pick 0 ss t.shown) (again t.after (suc k) (all_after_items o ss t.shown))
+          → map (move_differs o) (if b then move_history o (suc k) pick (outlook fs q.world pick) ss t.shown ∷ move_histories_from o fs t.after (suc k) (all_after_items o ss t.shown) picks else move_histories_from o fs t.after k ss picks)
+          ≡ (if b then list_any (moment_differs o (outlook fs q.world pick)) (moments_from o 0 0 ss t.shown) ∷ [] else []) ++ differing_from t.after (all_after_items o ss t.shown) picks
+      go t true e none again = ap₂ (λ d ds. d ∷ ds) (same_moments o (outlook fs q.world pick) (suc k) 0 pick 0 ss t.shown) (again t.after (suc k) (all_after_items o ss t.shown))
       go t false e none again = again t.after k ss ∙ ap (λ xs. differing_from t.after (all_after_items o ss xs) picks) (sym (none e))
 
   -- picks that don't move can be left out
@@ -87,13 +89,13 @@ module _ (o : Exports) (fs : List Function) where
       t = pick_step fs q pick
 
       go : (b : Bool) → t.moved ≡ b → ((r : RunState) (us : List NamedSession) → differing_from r us (moves_from fs r picks) ≡ differing_from r us picks)
-          → differing_from q ss ((if b then pick ∷ [] else []) ++ moves_from fs t.after picks) ≡ differs_by o ss t ++ differing_from t.after (all_after_items o ss t.shown) picks
-      go true e again = ap (λ ds. differs_by o ss t ++ ds) (again t.after (all_after_items o ss t.shown))
+          → differing_from q ss ((if b then pick ∷ [] else []) ++ moves_from fs t.after picks) ≡ differs_by o (outlook fs q.world pick) ss t ++ differing_from t.after (all_after_items o ss t.shown) picks
+      go true e again = ap (λ ds. differs_by o (outlook fs q.world pick) ss t ++ ds) (again t.after (all_after_items o ss t.shown))
       go false e again =
           let still : t ≡ record { moved = false; shown = []; after = q } = pick_kept fs q pick e in
           ap (λ (u : PickStep). differing_from q ss (moves_from fs u.after picks)) still
           ∙ again q ss
-          ∙ ap (λ (u : PickStep). differs_by o ss u ++ differing_from u.after (all_after_items o ss u.shown) picks) (sym still)
+          ∙ ap (λ (u : PickStep). differs_by o (outlook fs q.world pick) ss u ++ differing_from u.after (all_after_items o ss u.shown) picks) (sym still)
 
 pub differing_moves_again : (p : Program) (picks : List ℕ) → differing_moves p (moves p picks) ≡ differing_moves p picks
 differing_moves_again p picks =
@@ -109,7 +111,7 @@ compared p [] picks old new out out' h = ap (λ (v : Vec _ _). v.items) h.1 ∙ 
 compared p (pick ∷ more) picks old new out out' h =
     let o : Exports = exports_of p in
     let t : PickStep = pick_step_after p picks pick in
-    let here : List Bool = differs_by o (sessions_after p picks) t in
+    let here : List Bool = differs_by o (outlook_after p picks pick) (sessions_after p picks) t in
     compared p more (picks ++ pick ∷ []) h.0 new h.1 out' h.3
     ∙ ap (λ l. l ++ later p (picks ++ pick ∷ []) more) h.2
     ∙ append_assoc out.items here (later p (picks ++ pick ∷ []) more)

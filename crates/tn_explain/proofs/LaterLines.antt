@@ -1,5 +1,5 @@
 -- The lines of an event, by those that are known before the session sees it and those after them.
-use Rattle.std.proofs.Common.{◌≡◌, ◌∙◌, ℕ, suc, ◌==◌, arith, length, Bool, true, false, if◌then◌else◌, List, [], ◌∷◌, ◌++◌, Option, Some, None, is_some, subst, refl, sym, ap, append-nil}
+use Rattle.std.proofs.Common.{◌≡◌, ◌∙◌, ℕ, suc, ◌==◌, arith, length, Bool, true, false, if◌then◌else◌, List, [], ◌∷◌, ◌++◌, Option, Some, None, option_to_list, is_some, subst, refl, sym, ap, append-nil}
 use Rattle.std.specs.Option.{option_map, unwrap_or}
 use Rattle.std.proofs.lemmas.Bool.Decides.{nat_tests}
 use Rattle.def_term.specs.Tree.{Tree}
@@ -9,6 +9,7 @@ use Rattle.def_term.proofs.Same.{same-is}
 use Rattle.def_spec.specs.Flags.{Flag, call_flag, procs_flag, silent_flag, arity_flag, send_flag, receive_flag}
 use Rattle.def_spec.specs.Expressions.{Effect}
 use Rattle.def_node.specs.Event.{Event, sent, received, called, returned, raised, spawning, spawned, exited, linked, unlinked, getting_linked, getting_unlinked}
+use Rattle.def_outlook.specs.Outlook.{Outlook}
 use Rattle.def_session.specs.State.{Phase, absent, live, destroyed, MarkKind, for_returns, for_exceptions, Session, flags_at, mark_of}
 use Rattle.def_session.specs.Messages.{process_of, last_message, elements_of, message_by}
 use Rattle.def_session.specs.Session.{inherit, effects_of, is_marked, is_for_exceptions, where_set, where_marked, all_affected, mark_asked, is_silenced, message_after, mark_frame, finish, reported_for, reported_in, event_reported}
@@ -16,7 +17,7 @@ use Rattle.def_session.specs.Laws.{needed_for}
 use Rattle.def_explain.specs.Causes.{no_mark, no_flag, silenced, message_false, is_false_message, cause_by, cause_where, cause_by_mark, cause_of}
 use Rattle.def_term.specs.Text.{pid_text}
 use Rattle.def_explain.specs.Accounts.{Line, line_where, said, evaluation_lines, message_lines, mark_lines, end_lines, live_lines, inheritance_lines, flag_lines, difference_lines, event_lines_in, event_lines}
-use Rattle.def_explain.specs.Differences.{event_difference}
+use Rattle.def_explain.specs.Differences.{event_differences}
 use Rattle.tn_session.specs.Looks.{is_live}
 use Rattle.tn_explain.specs.declared.clauses.Evaluation.{Evaluation}
 use Rattle.tn_explain.specs.declared.clauses.Evaluation.TheVariants.{Refused, Done}
@@ -136,43 +137,43 @@ stays s (linked p q) h = (refl, refl)
 stays s (unlinked p q) h = (refl, refl)
 stays s (getting_unlinked p q) h = (refl, refl)
 
-told_is : (s : Session) (e : Event) → s.phase ≡ live → both_of e ≡ None → event_reported s e ≡ reported_for s e (effects_of s e)
+pub told_is : (s : Session) (e : Event) → s.phase ≡ live → both_of e ≡ None → event_reported s e ≡ reported_for s e (effects_of s e)
 told_is s e phase none = ap (λ p. reported_in p s e) phase ∙ ap (λ t. reported_for t e (effects_of t e)) (stays s e none).1
 
 -- its lines
-pub parts_are : (s : Session) (e : Event) → s.phase ≡ live → both_of e ≡ None
-    → event_lines s e ≡ ((lines_before s e ++ reported_lines (is_some (effects_of s e)) (is_silenced (event_reported s e).0 e) (event_reported s e).1) ++ lines_after s e) ++ difference_lines s e
-parts_are s e phase none =
+pub parts_are : (s : Session) (l : Outlook) (e : Event) → s.phase ≡ live → both_of e ≡ None
+    → event_lines s l e ≡ ((lines_before s e ++ reported_lines (is_some (effects_of s e)) (is_silenced (event_reported s e).0 e) (event_reported s e).1) ++ lines_after s e) ++ difference_lines s l e
+parts_are s l e phase none =
     let st : (inheritance_lines s e ≡ []) × (inherit s e ≡ s) = stays s e none in
-    let ds : List Line = difference_lines s e in
-    ap (λ p. event_lines_in p s e) phase
-    ∙ ap (λ l. (l ++ live_lines (inherit s e) e) ++ ds) st.0
+    let ds : List Line = difference_lines s l e in
+    ap (λ p. event_lines_in p s l e) phase
+    ∙ ap (λ ks. (ks ++ live_lines (inherit s e) e) ++ ds) st.0
     ∙ ap (λ t. live_lines t e ++ ds) st.1
-    ∙ ap (λ l. (l ++ lines_after s e) ++ ds) (message_is s e (effects_of s e) refl)
+    ∙ ap (λ ks. (ks ++ lines_after s e) ++ ds) (message_is s e (effects_of s e) refl)
     ∙ ap (λ a. ((lines_before s e ++ reported_lines (is_some (effects_of s e)) (is_silenced a.0 e) a.1) ++ lines_after s e) ++ ds) (sym (told_is s e phase none))
 
 -- ---- an event by which one does
 
 -- the flags of both, the message or that there is no flag for it, and what a node does otherwise; the flags are those that the session has afterwards
-pub record Inherits (s : Session) (e : Event) (giver taker : ℕ) : Type 0 where
-  pub lines : event_lines s e ≡ ((flag_lines giver s (event_reported s e).0 ++ flag_lines taker s (event_reported s e).0) ++ reported_or_no_flag (event_reported s e).1) ++ difference_lines s e
-  pub difference : inherited_by_flags e (flags_at s giver) (flags_at (event_reported s e).0 giver) (flags_at s taker) (flags_at (event_reported s e).0 taker) ≡ event_difference s e
+pub record Inherits (s : Session) (l : Outlook) (e : Event) (giver taker : ℕ) : Type 0 where
+  pub lines : event_lines s l e ≡ ((flag_lines giver s (event_reported s e).0 ++ flag_lines taker s (event_reported s e).0) ++ reported_or_no_flag (event_reported s e).1) ++ difference_lines s l e
+  pub difference : option_to_list (inherited_by_flags e (flags_at s giver) (flags_at (event_reported s e).0 giver) (flags_at s taker) (flags_at (event_reported s e).0 taker)) ≡ event_differences s l e
 
-inherits_in : (s : Session) (e : Event) (giver taker : ℕ)
+inherits_in : (s : Session) (l : Outlook) (e : Event) (giver taker : ℕ)
     → inheritance_lines s e ≡ flag_lines giver s (inherit s e) ++ flag_lines taker s (inherit s e)
-    → inherited_by_flags e (flags_at s giver) (flags_at (inherit s e) giver) (flags_at s taker) (flags_at (inherit s e) taker) ≡ event_difference s e
-    → live_lines (inherit s e) e ≡ reported_or_no_flag (reported_in live s e).1 → (reported_in live s e).0 ≡ inherit s e → s.phase ≡ live → Inherits s e giver taker
-inherits_in s e giver taker lines difference rest same phase =
+    → option_to_list (inherited_by_flags e (flags_at s giver) (flags_at (inherit s e) giver) (flags_at s taker) (flags_at (inherit s e) taker)) ≡ event_differences s l e
+    → live_lines (inherit s e) e ≡ reported_or_no_flag (reported_in live s e).1 → (reported_in live s e).0 ≡ inherit s e → s.phase ≡ live → Inherits s l e giver taker
+inherits_in s l e giver taker lines difference rest same phase =
     let reported : reported_in live s e ≡ event_reported s e = sym (ap (λ p. reported_in p s e) phase) in
-    let ds : List Line = difference_lines s e in
+    let ds : List Line = difference_lines s l e in
     record {
       lines =
-          ap (λ p. event_lines_in p s e) phase
-          ∙ ap (λ l. (l ++ live_lines (inherit s e) e) ++ ds) lines
-          ∙ ap (λ l. ((flag_lines giver s (inherit s e) ++ flag_lines taker s (inherit s e)) ++ l) ++ ds) rest
+          ap (λ p. event_lines_in p s l e) phase
+          ∙ ap (λ ks. (ks ++ live_lines (inherit s e) e) ++ ds) lines
+          ∙ ap (λ ks. ((flag_lines giver s (inherit s e) ++ flag_lines taker s (inherit s e)) ++ ks) ++ ds) rest
           ∙ ap (λ t. ((flag_lines giver s t ++ flag_lines taker s t) ++ reported_or_no_flag (reported_in live s e).1) ++ ds) (sym same)
           ∙ ap (λ a. ((flag_lines giver s a.0 ++ flag_lines taker s a.0) ++ reported_or_no_flag a.1) ++ ds) reported;
-      difference = ap (λ t. inherited_by_flags e (flags_at s giver) (flags_at t giver) (flags_at s taker) (flags_at t taker)) (sym (sym same ∙ ap (λ a. a.0) reported)) ∙ difference;
+      difference = ap (λ t. option_to_list (inherited_by_flags e (flags_at s giver) (flags_at t giver) (flags_at s taker) (flags_at t taker))) (sym (sym same ∙ ap (λ a. a.0) reported)) ∙ difference;
     }
 
 -- where its process has the flag there is a message
@@ -194,37 +195,37 @@ linked_if : (t : Session) (p linker : ℕ) (b : Bool) → IsToldIf t (getting_li
 linked_if t p linker true = (refl, refl)
 linked_if t p linker false = (ap (λ x. said x ∷ []) no_procs, refl)
 
-pub inherits : (s : Session) (e : Event) (giver taker : ℕ) → s.phase ≡ live → both_of e ≡ Some (giver, taker) → Inherits s e giver taker
-inherits s (spawned child parent f args) giver taker phase both =
+pub inherits : (s : Session) (l : Outlook) (e : Event) (giver taker : ℕ) → s.phase ≡ live → both_of e ≡ Some (giver, taker) → Inherits s l e giver taker
+inherits s l (spawned child parent f args) giver taker phase both =
     let e : Event = spawned child parent f args in
     let t : Session = inherit s e in
     let reported : IsToldIf t e (flags_at t child procs_flag) = spawned_if t child parent f args (flags_at t child procs_flag) in
     let same : (parent, child) ≡ (giver, taker) = cc both in
-    subst (λ (x : ℕ × ℕ). Inherits s e x.0 x.1) same (inherits_in s e parent child refl refl reported.0 reported.1 phase)
-inherits s (getting_linked p linker) giver taker phase both =
+    subst (λ (x : ℕ × ℕ). Inherits s l e x.0 x.1) same (inherits_in s l e parent child refl refl reported.0 reported.1 phase)
+inherits s l (getting_linked p linker) giver taker phase both =
     let e : Event = getting_linked p linker in
     let t : Session = inherit s e in
     let reported : IsToldIf t e (flags_at t p procs_flag) = linked_if t p linker (flags_at t p procs_flag) in
     let same : (linker, p) ≡ (giver, taker) = cc both in
-    subst (λ (x : ℕ × ℕ). Inherits s e x.0 x.1) same (inherits_in s e linker p refl refl reported.0 reported.1 phase)
-inherits s (sent p t to alive) giver taker phase both = absurd (cc both)
-inherits s (received p sender t) giver taker phase both = absurd (cc both)
-inherits s (called p c) giver taker phase both = absurd (cc both)
-inherits s (returned p f t depth) giver taker phase both = absurd (cc both)
-inherits s (raised p f c t depth) giver taker phase both = absurd (cc both)
-inherits s (spawning p child f args) giver taker phase both = absurd (cc both)
-inherits s (exited p r) giver taker phase both = absurd (cc both)
-inherits s (linked p q) giver taker phase both = absurd (cc both)
-inherits s (unlinked p q) giver taker phase both = absurd (cc both)
-inherits s (getting_unlinked p q) giver taker phase both = absurd (cc both)
+    subst (λ (x : ℕ × ℕ). Inherits s l e x.0 x.1) same (inherits_in s l e linker p refl refl reported.0 reported.1 phase)
+inherits s l (sent p t to alive) giver taker phase both = absurd (cc both)
+inherits s l (received p sender t) giver taker phase both = absurd (cc both)
+inherits s l (called p c) giver taker phase both = absurd (cc both)
+inherits s l (returned p f t depth) giver taker phase both = absurd (cc both)
+inherits s l (raised p f c t depth) giver taker phase both = absurd (cc both)
+inherits s l (spawning p child f args) giver taker phase both = absurd (cc both)
+inherits s l (exited p r) giver taker phase both = absurd (cc both)
+inherits s l (linked p q) giver taker phase both = absurd (cc both)
+inherits s l (unlinked p q) giver taker phase both = absurd (cc both)
+inherits s l (getting_unlinked p q) giver taker phase both = absurd (cc both)
 
 -- ---- a session that isn't live
 
 -- makes nothing of an event
-pub makes_nothing : (s : Session) (e : Event) → is_live s.phase ≡ false → event_lines s e ≡ []
-makes_nothing s e h = go s.phase h
+pub makes_nothing : (s : Session) (l : Outlook) (e : Event) → is_live s.phase ≡ false → event_lines s l e ≡ []
+makes_nothing s l e h = go s.phase h
   where
-    go : (p : Phase) → is_live p ≡ false → event_lines_in p s e ≡ []
+    go : (p : Phase) → is_live p ≡ false → event_lines_in p s l e ≡ []
     go absent f = refl
     go destroyed f = refl
     go live f = absurd (cc f)

@@ -3,6 +3,7 @@ use Rattle.std.proofs.Common.{◌≡◌, ◌∙◌, ℕ, Bool, true, false, if�
 use Rattle.std.proofs.lemmas.Grind.{flat_map-append}
 use Rattle.def_term.specs.Names.{Name}
 use Rattle.def_script.specs.Exports.{Exports}
+use Rattle.def_outlook.specs.Outlook.{Outlook}
 use Rattle.def_run.specs.Run.{HistoryItem}
 use Rattle.def_run.specs.History.{NamedSession, all_after}
 use Rattle.def_explain.specs.Accounts.{Line}
@@ -29,18 +30,18 @@ pub are_made : (k : ℕ) (n : Name) (ls : List Line) → AreOf k (map (makes n) 
 are_made k n [] = tt
 are_made k n (l ∷ ls) = are_made k n ls
 
-pub are_made_by_all : (k : ℕ) (o : Exports) (ss : List NamedSession) (x : HistoryItem) → AreOf k (made_by_all o ss x)
-are_made_by_all k o [] x = tt
-are_made_by_all k o (s ∷ ss) x = are-append k (map (makes s.0) (session_lines o s x)) (made_by_all o ss x) (are_made k s.0 (session_lines o s x)) (are_made_by_all k o ss x)
+pub are_made_by_all : (k : ℕ) (o : Exports) (l : Outlook) (ss : List NamedSession) (x : HistoryItem) → AreOf k (made_by_all o l ss x)
+are_made_by_all k o l [] x = tt
+are_made_by_all k o l (s ∷ ss) x = are-append k (map (makes s.0) (session_lines o l s x)) (made_by_all o l ss x) (are_made k s.0 (session_lines o l s x)) (are_made_by_all k o l ss x)
 
-are_over : (k pick : ℕ) (o : Exports) (ss : List NamedSession) (xs : List HistoryItem) → AreOf k (entries_over o k pick ss xs)
-are_over k pick o ss [] = tt
-are_over k pick o ss (x ∷ xs) =
-    (refl, are-append k (made_by_all o ss x) (entries_over o k pick (all_after o ss x) xs) (are_made_by_all k o ss x) (are_over k pick o (all_after o ss x) xs))
+are_over : (k pick : ℕ) (o : Exports) (l : Outlook) (ss : List NamedSession) (xs : List HistoryItem) → AreOf k (entries_over o l k pick ss xs)
+are_over k pick o l ss [] = tt
+are_over k pick o l ss (x ∷ xs) =
+    (refl, are-append k (made_by_all o l ss x) (entries_over o l k pick (all_after o ss x) xs) (are_made_by_all k o l ss x) (are_over k pick o l (all_after o ss x) xs))
 
-pub are_of_move : (k pick : ℕ) (o : Exports) (ss : List NamedSession) (xs : List HistoryItem) → AreOf k (entries_of_move o k pick ss xs)
-are_of_move k pick o ss [] = (refl, tt)
-are_of_move k pick o ss (x ∷ xs) = are_over k pick o ss (x ∷ xs)
+pub are_of_move : (k pick : ℕ) (o : Exports) (l : Outlook) (ss : List NamedSession) (xs : List HistoryItem) → AreOf k (entries_of_move o l k pick ss xs)
+are_of_move k pick o l ss [] = (refl, tt)
+are_of_move k pick o l ss (x ∷ xs) = are_over k pick o l ss (x ∷ xs)
 
 kept_here : {X : Type 0} (b : Bool) (x : X) (xs ys : List X) → (if b then x ∷ (xs ++ ys) else (xs ++ ys)) ≡ (if b then x ∷ xs else xs) ++ ys
 kept_here true x xs ys = refl
@@ -61,9 +62,9 @@ pub text-append : (a : Selection) (k : ℕ) (es fs : List AccountEntry) → AreO
 text-append a k es fs h = ap (flat_map entry_text) (wanted-append a k k es fs refl h) ∙ flat_map-append entry_text (filter_entries a k es) (filter_entries a k fs)
 
 -- what is written of a move doesn't depend on the move before it
-pub text_of_next : (a : Selection) (j k pick : ℕ) (o : Exports) (ss : List NamedSession) (xs : List HistoryItem) (fs : List AccountEntry) → filtered_text a j (entries_of_move o k pick ss xs ++ fs) ≡ filtered_text a k (entries_of_move o k pick ss xs) ++ filtered_text a k fs
-text_of_next a j k pick o ss [] fs = text-append a k (shows_nothing k pick ∷ []) fs (refl, tt)
-text_of_next a j k pick o ss (x ∷ xs) fs = text-append a k (entries_over o k pick ss (x ∷ xs)) fs (are_over k pick o ss (x ∷ xs))
+pub text_of_next : (a : Selection) (j k pick : ℕ) (o : Exports) (l : Outlook) (ss : List NamedSession) (xs : List HistoryItem) (fs : List AccountEntry) → filtered_text a j (entries_of_move o l k pick ss xs ++ fs) ≡ filtered_text a k (entries_of_move o l k pick ss xs) ++ filtered_text a k fs
+text_of_next a j k pick o l ss [] fs = text-append a k (shows_nothing k pick ∷ []) fs (refl, tt)
+text_of_next a j k pick o l ss (x ∷ xs) fs = text-append a k (entries_over o l k pick ss (x ∷ xs)) fs (are_over k pick o l ss (x ∷ xs))
 
 -- ---- one session's lines
 

@@ -17,6 +17,7 @@ use Rattle.def_explain.specs.Accounts.{said, event_lines, command_lines}
 use Rattle.def_explain.specs.Runs.{session_lines, makes}
 use Rattle.tn_session.specs.Sessions.{SessionValue, value_in, next_session}
 use Rattle.tn_session.specs.declared.session.Session.{Session}
+use Rattle.tn_node.specs.Outlooks.{outlook_seen}
 use Rattle.tn_explain.specs.Lines.{lines_text}
 use Rattle.tn_trace.specs.Slots.{IsSession, IsTracked, ObeysOwn}
 use Rattle.tn_trace.specs.Tracks.{Track}
@@ -41,25 +42,25 @@ module _ {A : Type 0} (step : Step) (o : Exports) (living : Alive) (s : NamedSes
   module _ (e : Event) (text : List ℕ) where
     -- the session makes of the event what is between two texts
     abbrev pub HasMade : Slot A Discard → List ℕ → Type 0
-    HasMade new text' = HasState o (alive_after living e) (after o s (event_item e)) new × (text' ≡ text ++ text_by step (map (makes s.0) (session_lines o s (event_item e))))
+    HasMade new text' = HasState o (alive_after living e) (after o s (event_item e)) new × (text' ≡ text ++ text_by step (map (makes s.0) (session_lines o (outlook_seen step.outlook) s (event_item e))))
 
     pub tells_absent : old.session ≡ None → HasMade old text
     tells_absent is = (
       record { name = h.name; session = subst (IsSession o.functions (alive_after living e) (event_reported s.1 e).0) (sym is) (ap (λ q. (event_reported q e).0) (absent_is is)) },
-      sym (ap (λ q. text ++ text_by step (map (makes s.0) (event_lines q e))) (absent_is is) ∙ append-nil text),
+      sym (ap (λ q. text ++ text_by step (map (makes s.0) (event_lines q (outlook_seen step.outlook) e))) (absent_is is) ∙ append-nil text),
     )
 
-    pub tells_asked : (session : Session A) (text' : List ℕ) → is_asked step old.name ≡ true → value_in session ≡ Some (record { functions = o.functions; state = (event_reported s.1 e).0 }) → text' ≡ text ++ lines_text old.name (event_lines s.1 e) → HasMade (record old { session = Some session }) text'
+    pub tells_asked : (session : Session A) (text' : List ℕ) → is_asked step old.name ≡ true → value_in session ≡ Some (record { functions = o.functions; state = (event_reported s.1 e).0 }) → text' ≡ text ++ lines_text old.name (event_lines s.1 (outlook_seen step.outlook) e) → HasMade (record old { session = Some session }) text'
     tells_asked session text' filter at written = (
       record { name = h.name; session = at },
-      written ∙ ap (λ n. text ++ lines_text n (event_lines s.1 e)) h.name ∙ ap (λ l. text ++ l) (sym (lines_wanted (selection_seen step.selection.now) step.number s.0 (event_lines s.1 e) (asked_of true filter))),
+      written ∙ ap (λ n. text ++ lines_text n (event_lines s.1 (outlook_seen step.outlook) e)) h.name ∙ ap (λ l. text ++ l) (sym (lines_wanted (selection_seen step.selection.now) step.number s.0 (event_lines s.1 (outlook_seen step.outlook) e) (asked_of true filter))),
     )
 
     pub tells_only : (before session : Session A) (m : Option Tree) → old.session ≡ Some before → is_asked step old.name ≡ false
         → IsSomeAnd (value_in before) (λ v. next_session v (event_reported v.state e) ≡ (value_in session, m)) → HasMade (record old { session = Some session }) text
     tells_only before session m is filter reports = (
       record { name = h.name; session = sym (ap (λ (p : Option SessionValue × Option Tree). p.0) (subst (λ v. IsSomeAnd v (λ u. next_session u (event_reported u.state e) ≡ (value_in session, m))) (is_there before is) reports)) },
-      sym (ap (λ l. text ++ l) (lines_not_wanted (selection_seen step.selection.now) step.number s.0 (event_lines s.1 e) (asked_of false filter)) ∙ append-nil text),
+      sym (ap (λ l. text ++ l) (lines_not_wanted (selection_seen step.selection.now) step.number s.0 (event_lines s.1 (outlook_seen step.outlook) e) (asked_of false filter)) ∙ append-nil text),
     )
 
   -- ---- a command
@@ -72,7 +73,7 @@ module _ {A : Type 0} (step : Step) (o : Exports) (living : Alive) (s : NamedSes
 
   module _ (c : Command) (text : List ℕ) where
     abbrev pub HasReplied : Slot A Discard → List ℕ → Type 0
-    HasReplied new text' = HasState o living (after o s (command_item c)) new × (text' ≡ text ++ text_by step (map (makes s.0) (session_lines o s (command_item c))))
+    HasReplied new text' = HasState o living (after o s (command_item c)) new × (text' ≡ text ++ text_by step (map (makes s.0) (session_lines o (outlook_seen step.outlook) s (command_item c))))
 
     abbrev pub Obeyed : Slot A Discard → Option Tree → Type 0
     Obeyed new r = ObeysOwn (λ (k : Discard) (ts : List Tree). Unit {0}) o living track c new r
@@ -92,7 +93,7 @@ module _ {A : Type 0} (step : Step) (o : Exports) (living : Alive) (s : NamedSes
       sym (ap (λ b. text ++ text_by step (map (makes s.0) (if b then command_lines o s.1 c else []))) d.1 ∙ append-nil text),
     )
 
-    own_lines : (r : Tree) (new : Slot A Discard) → Obeyed new (Some r) → session_lines o s (command_item c) ≡ said (codes "replies " ++ w r) ∷ []
+    own_lines : (r : Tree) (new : Slot A Discard) → Obeyed new (Some r) → session_lines o (outlook_seen step.outlook) s (command_item c) ≡ said (codes "replies " ++ w r) ∷ []
     own_lines r new d = ap (λ b. if b then command_lines o s.1 c else []) d.1.0 ∙ ap (λ t. said (codes "replies " ++ w t) ∷ []) (sym d.1.1)
 
     pub obeys_asked : (r : Tree) (new : Slot A Discard) (text' : List ℕ) → is_asked step new.name ≡ true → Obeyed new (Some r) → text' ≡ text ++ lines_text new.name (said (codes "replies " ++ w r) ∷ []) → HasReplied new text'
@@ -100,12 +101,12 @@ module _ {A : Type 0} (step : Step) (o : Exports) (living : Alive) (s : NamedSes
         let t = stands_after new (Some r) d in (
           t,
           written ∙ ap (λ n. text ++ lines_text n (said (codes "replies " ++ w r) ∷ [])) t.name ∙ ap (λ ls. text ++ lines_text s.0 ls) (sym (own_lines r new d))
-              ∙ ap (λ l. text ++ l) (sym (lines_wanted (selection_seen step.selection.now) step.number s.0 (session_lines o s (command_item c)) (ap (is_asked step) (sym t.name) ∙ filter))),
+              ∙ ap (λ l. text ++ l) (sym (lines_wanted (selection_seen step.selection.now) step.number s.0 (session_lines o (outlook_seen step.outlook) s (command_item c)) (ap (is_asked step) (sym t.name) ∙ filter))),
         )
 
     pub obeys_only : (r : Tree) (new : Slot A Discard) → is_asked step new.name ≡ false → Obeyed new (Some r) → HasReplied new text
     obeys_only r new filter d =
         let t = stands_after new (Some r) d in (
           t,
-          sym (ap (λ l. text ++ l) (lines_not_wanted (selection_seen step.selection.now) step.number s.0 (session_lines o s (command_item c)) (ap (is_asked step) (sym t.name) ∙ filter)) ∙ append-nil text),
+          sym (ap (λ l. text ++ l) (lines_not_wanted (selection_seen step.selection.now) step.number s.0 (session_lines o (outlook_seen step.outlook) s (command_item c)) (ap (is_asked step) (sym t.name) ∙ filter)) ∙ append-nil text),
         )

@@ -1,13 +1,14 @@
 -- One more pick, and all picks.
-use Rattle.std.proofs.Common.{◌≡◌, ◌∙◌, ℕ, suc, ◌≤◌, Bool, true, false, if◌then◌else◌, List, [], ◌∷◌, ◌++◌, length, take, refl, sym, ap, subst, add-one, append-nil, append_assoc, length-append, arith}
+use Rattle.std.proofs.Common.{◌≡◌, ◌∙◌, ℕ, suc, ◌≤◌, Bool, true, false, if◌then◌else◌, List, [], ◌∷◌, ◌++◌, length, map, take, refl, sym, ap, subst, add-one, append-nil, append_assoc, length-append, arith}
 use Rattle.std.proofs.lemmas.List.{take_all}
 use Rattle.std.specs.declared.vec.Vec.{Vec}
-use Rattle.def_script.specs.Program.{Function, Program}
+use Rattle.def_script.specs.Program.{Function, Command, Program}
 use Rattle.def_script.specs.Exports.{Exports, exports_of}
-use Rattle.def_run.specs.Run.{HistoryItem, RunState, PickStep, pick_step, events, moves, moves_from, start, run_state_of, pick_step_after}
+use Rattle.def_outlook.specs.Outlook.{Outlook, outlook}
+use Rattle.def_run.specs.Run.{HistoryItem, command_item, RunState, PickStep, pick_step, events, moves, moves_from, start, run_state_of, pick_step_after}
 use Rattle.def_run.proofs.Replay.{pick_kept, moves_bounded}
 use Rattle.def_run.specs.History.{NamedSession, all_after, all_after_items, named_sessions}
-use Rattle.def_explain.specs.Runs.{entries_of_move}
+use Rattle.def_explain.specs.Runs.{session_lines, shows, makes, made_by_all, entries_of_move}
 use Rattle.def_explain.proofs.AccountPicks.{entries_from, entries_by_picks}
 use Rattle.def_explain.specs.RunTexts.{Selection, selected_text}
 use Rattle.tn_trace.specs.Observers.{IsNextMove, SeesMove}
@@ -16,7 +17,7 @@ use Rattle.tn_trace.specs.declared.journal.JournalEntry.{JournalEntry}
 use Rattle.tn_trace.proofs.Moves.{place_more, events_more, moves_more}
 use Rattle.tn_explain.specs.Filters.{selection_seen, filtered_text}
 use Rattle.tn_explain.specs.NamedSessions.{AreNamedSessions}
-use Rattle.tn_explain.specs.Explainers.{sessions_after, HasExplained, entries_of_turn, text_of_pick, AddsExplanation}
+use Rattle.tn_explain.specs.Explainers.{sessions_after, outlook_after, HasExplained, entries_of_turn, text_of_pick, AddsExplanation}
 use Rattle.tn_explain.specs.declared.explainer.Explainer.{Explainer}
 use Rattle.tn_explain.proofs.MoveTexts.{text_of_next}
 
@@ -30,37 +31,48 @@ pub sessions_more : (p : Program) (picks : List ℕ) (pick : ℕ) → sessions_a
 sessions_more p picks pick =
     ap (all_after_items (exports_of p) (named_sessions p)) (events_more p picks pick) ∙ after-append (exports_of p) (named_sessions p) (events p picks) (pick_step_after p picks pick).shown
 
+-- of a command the same is made, whatever was known
+made_of_command : (o : Exports) (l m : Outlook) (c : Command) (ss : List NamedSession) → made_by_all o l ss (command_item c) ≡ made_by_all o m ss (command_item c)
+made_of_command o l m c [] = refl
+made_of_command o l m c (s ∷ ss) = ap (λ es. map (makes s.0) (session_lines o l s (command_item c)) ++ es) (made_of_command o l m c ss)
+
+pub entries_of_command : (o : Exports) (l m : Outlook) (n pick : ℕ) (c : Command) (ss : List NamedSession) → entries_of_move o l n pick ss (command_item c ∷ []) ≡ entries_of_move o m n pick ss (command_item c ∷ [])
+entries_of_command o l m n pick c ss = ap (λ es. (shows n pick (command_item c) ∷ es) ++ []) (made_of_command o l m c ss)
+
 -- the explainer saw a move that shows this
-pub move_explained : {A : Type 0} (p : Program) (picks : List ℕ) (entry : JournalEntry) (shown : List HistoryItem) (old new : Explainer A) (text text' : Vec ℕ A) → IsNextMove p picks entry shown
+pub move_explained : {A : Type 0} (p : Program) (picks : List ℕ) (entry : JournalEntry) (shown : List HistoryItem) (l : Outlook) (old new : Explainer A) (text text' : Vec ℕ A) → IsNextMove p picks entry shown
+    → ((n : ℕ) → entries_of_move (exports_of p) l n entry.pick (sessions_after p picks) shown ≡ entries_of_move (exports_of p) (outlook_after p picks entry.pick) n entry.pick (sessions_after p picks) shown)
     → AreNamedSessions (exports_of p) (all_after_items (exports_of p) (sessions_after p picks) shown) new.sessions → new.selection ≡ old.selection
-    → text'.items ≡ text.items ++ filtered_text (selection_seen old.selection) entry.number (entries_of_move (exports_of p) entry.number entry.pick (sessions_after p picks) shown)
+    → text'.items ≡ text.items ++ filtered_text (selection_seen old.selection) entry.number (entries_of_move (exports_of p) l entry.number entry.pick (sessions_after p picks) shown)
     → SeesMove HasExplained AddsExplanation p picks entry.pick old new text text'
-move_explained p picks entry shown old new text text' next sessions filter written =
+move_explained p picks entry shown l old new text text' next same sessions filter written =
     let o : Exports = exports_of p in
     let ss : List NamedSession = sessions_after p picks in
     let a : Selection = selection_seen old.selection in
     let k : ℕ = length (moves p picks) in
+    let m : Outlook = outlook_after p picks entry.pick in
     let number : entry.number ≡ suc k = next.numbered ∙ sym (ap (λ js. suc (length js)) next.all) in
     record {
       after = subst (λ rs. AreNamedSessions o rs new.sessions) (ap (all_after_items o ss) (sym next.shows) ∙ sym (sessions_more p picks entry.pick)) sessions;
       added = record {
         filter = filter;
-        written = written ∙ ap (λ n. text.items ++ filtered_text a n (entries_of_move o n entry.pick ss shown)) number
-            ∙ ap (λ xs. text.items ++ filtered_text a (suc k) (entries_of_move o (suc k) entry.pick ss xs)) (sym next.shows)
-            ∙ ap (λ b. text.items ++ filtered_text a (suc k) (if b then entries_of_move o (suc k) entry.pick ss (pick_step_after p picks entry.pick).shown else [])) (sym next.moved);
+        written = written ∙ ap (λ es. text.items ++ filtered_text a entry.number es) (same entry.number)
+            ∙ ap (λ n. text.items ++ filtered_text a n (entries_of_move o m n entry.pick ss shown)) number
+            ∙ ap (λ xs. text.items ++ filtered_text a (suc k) (entries_of_move o m (suc k) entry.pick ss xs)) (sym next.shows)
+            ∙ ap (λ b. text.items ++ filtered_text a (suc k) (if b then entries_of_move o m (suc k) entry.pick ss (pick_step_after p picks entry.pick).shown else [])) (sym next.moved);
       };
     }
 
 -- ---- all picks
 
 -- what is written of a turn, and then of the picks after it
-turn_text : (p : Program) (a : Selection) (k j pick : ℕ) (ss : List NamedSession) (t : PickStep) (rest : List ℕ) (b : Bool) → t.moved ≡ b → (t.moved ≡ false → t.shown ≡ []) → j ≡ (if b then suc k else k)
-    → filtered_text a k (if b then entries_of_move (exports_of p) (suc k) pick ss t.shown ++ entries_from (exports_of p) p.functions t.after (suc k) (all_after_items (exports_of p) ss t.shown) rest else entries_from (exports_of p) p.functions t.after k ss rest)
-    ≡ filtered_text a (suc k) (if b then entries_of_move (exports_of p) (suc k) pick ss t.shown else []) ++ filtered_text a j (entries_from (exports_of p) p.functions t.after j (all_after_items (exports_of p) ss t.shown) rest)
-turn_text p a k j pick ss t rest true e none count =
-    text_of_next a k (suc k) pick (exports_of p) ss t.shown (entries_from (exports_of p) p.functions t.after (suc k) (all_after_items (exports_of p) ss t.shown) rest)
-    ∙ ap (λ n. filtered_text a (suc k) (entries_of_move (exports_of p) (suc k) pick ss t.shown) ++ filtered_text a n (entries_from (exports_of p) p.functions t.after n (all_after_items (exports_of p) ss t.shown) rest)) (sym count)
-turn_text p a k j pick ss t rest false e none count =
+turn_text : (p : Program) (a : Selection) (l : Outlook) (k j pick : ℕ) (ss : List NamedSession) (t : PickStep) (rest : List ℕ) (b : Bool) → t.moved ≡ b → (t.moved ≡ false → t.shown ≡ []) → j ≡ (if b then suc k else k)
+    → filtered_text a k (if b then entries_of_move (exports_of p) l (suc k) pick ss t.shown ++ entries_from (exports_of p) p.functions t.after (suc k) (all_after_items (exports_of p) ss t.shown) rest else entries_from (exports_of p) p.functions t.after k ss rest)
+    ≡ filtered_text a (suc k) (if b then entries_of_move (exports_of p) l (suc k) pick ss t.shown else []) ++ filtered_text a j (entries_from (exports_of p) p.functions t.after j (all_after_items (exports_of p) ss t.shown) rest)
+turn_text p a l k j pick ss t rest true e none count =
+    text_of_next a k (suc k) pick (exports_of p) l ss t.shown (entries_from (exports_of p) p.functions t.after (suc k) (all_after_items (exports_of p) ss t.shown) rest)
+    ∙ ap (λ n. filtered_text a (suc k) (entries_of_move (exports_of p) l (suc k) pick ss t.shown) ++ filtered_text a n (entries_from (exports_of p) p.functions t.after n (all_after_items (exports_of p) ss t.shown) rest)) (sym count)
+turn_text p a l k j pick ss t rest false e none count =
     ap (λ xs. filtered_text a k (entries_from (exports_of p) p.functions t.after k (all_after_items (exports_of p) ss xs) rest)) (sym (none e))
     ∙ ap (λ n. filtered_text a n (entries_from (exports_of p) p.functions t.after n (all_after_items (exports_of p) ss t.shown) rest)) (sym count)
 
@@ -75,13 +87,13 @@ counted_more p picks pick false e = ap length (moves_more p picks pick ∙ ap (�
 
 later_more : (p : Program) (a : Selection) (picks : List ℕ) (ss : List NamedSession) (pick : ℕ) (rest : List ℕ)
     → later_text p a picks ss (pick ∷ rest)
-    ≡ filtered_text a (suc (length (moves p picks))) (entries_of_turn p (length (moves p picks)) pick ss (pick_step_after p picks pick)) ++ later_text p a (picks ++ pick ∷ []) (all_after_items (exports_of p) ss (pick_step_after p picks pick).shown) rest
+    ≡ filtered_text a (suc (length (moves p picks))) (entries_of_turn p (outlook_after p picks pick) (length (moves p picks)) pick ss (pick_step_after p picks pick)) ++ later_text p a (picks ++ pick ∷ []) (all_after_items (exports_of p) ss (pick_step_after p picks pick).shown) rest
 later_more p a picks ss pick rest =
     let t : PickStep = pick_step_after p picks pick in
     let k : ℕ = length (moves p picks) in
     let j : ℕ = length (moves p (picks ++ pick ∷ [])) in
-    turn_text p a k j pick ss t rest t.moved refl (λ e. ap (λ (u : PickStep). u.shown) (pick_kept p.functions (run_state_of p picks) pick e)) (counted_more p picks pick t.moved refl)
-    ∙ ap (λ q. filtered_text a (suc k) (entries_of_turn p k pick ss t) ++ filtered_text a j (entries_from (exports_of p) p.functions q j (all_after_items (exports_of p) ss t.shown) rest)) (sym (place_more p picks pick))
+    turn_text p a (outlook_after p picks pick) k j pick ss t rest t.moved refl (λ e. ap (λ (u : PickStep). u.shown) (pick_kept p.functions (run_state_of p picks) pick e)) (counted_more p picks pick t.moved refl)
+    ∙ ap (λ q. filtered_text a (suc k) (entries_of_turn p (outlook_after p picks pick) k pick ss t) ++ filtered_text a j (entries_from (exports_of p) p.functions q j (all_after_items (exports_of p) ss t.shown) rest)) (sym (place_more p picks pick))
 
 -- what the explainer added of these picks
 explained : {A : Type 0} (p : Program) (more picks : List ℕ) (old new : Explainer A) (text text' : Vec ℕ A) → AddsEach AddsExplanation p picks more old new text text'
@@ -103,11 +115,11 @@ turn_again : (o : Exports) (fs : List Function) (q : RunState) (k : ℕ) (ss : L
     → entries_from o fs (pick_step fs q pick).after (suc k) (all_after_items o ss (pick_step fs q pick).shown) js ≡ entries_from o fs (pick_step fs q pick).after (suc k) (all_after_items o ss (pick_step fs q pick).shown) picks
     → entries_from o fs (pick_step fs q pick).after k ss js ≡ entries_from o fs (pick_step fs q pick).after k ss picks
     → entries_from o fs q k ss ((if b then pick ∷ [] else []) ++ js)
-    ≡ (if b then entries_of_move o (suc k) pick ss (pick_step fs q pick).shown ++ entries_from o fs (pick_step fs q pick).after (suc k) (all_after_items o ss (pick_step fs q pick).shown) picks else entries_from o fs (pick_step fs q pick).after k ss picks)
+    ≡ (if b then entries_of_move o (outlook fs q.world pick) (suc k) pick ss (pick_step fs q pick).shown ++ entries_from o fs (pick_step fs q pick).after (suc k) (all_after_items o ss (pick_step fs q pick).shown) picks else entries_from o fs (pick_step fs q pick).after k ss picks)
 turn_again o fs q k ss pick js picks true e moved stayed =
     let t : PickStep = pick_step fs q pick in
-    ap (λ b. if b then entries_of_move o (suc k) pick ss t.shown ++ entries_from o fs t.after (suc k) (all_after_items o ss t.shown) js else entries_from o fs t.after k ss js) e
-    ∙ ap (λ es. entries_of_move o (suc k) pick ss t.shown ++ es) moved
+    ap (λ b. if b then entries_of_move o (outlook fs q.world pick) (suc k) pick ss t.shown ++ entries_from o fs t.after (suc k) (all_after_items o ss t.shown) js else entries_from o fs t.after k ss js) e
+    ∙ ap (λ es. entries_of_move o (outlook fs q.world pick) (suc k) pick ss t.shown ++ es) moved
 turn_again o fs q k ss pick js picks false e moved stayed = ap (λ r. entries_from o fs r k ss js) (sym (ap (λ (t : PickStep). t.after) (pick_kept fs q pick e))) ∙ stayed
 
 entries_again : (o : Exports) (fs : List Function) (q : RunState) (k : ℕ) (ss : List NamedSession) (picks : List ℕ) → entries_from o fs q k ss (moves_from fs q picks) ≡ entries_from o fs q k ss picks

@@ -5,6 +5,7 @@ use Rattle.def_term.specs.Tree.{Tree}
 use Rattle.def_term.specs.Names as names
 use Rattle.def_spec.specs.Flags.{Flags}
 use Rattle.def_node.specs.Event.{Event}
+use Rattle.def_outlook.specs.Outlook.{Outlook}
 use Rattle.def_session.specs.State as definition
 use Rattle.def_session.specs.State.{flags_at}
 use Rattle.def_session.specs.Session.{effects_of, event_reported, is_silenced}
@@ -72,34 +73,34 @@ module _ (s : SessionValue) (e : Event) (n : names.Name) (new : Option SessionVa
   reported = ap (λ (k : Option Tree). (after, k)) (ap (λ (p : Option SessionValue × Option Tree). p.1) gives)
 
   -- of an event by which a process inherits flags
-  pub inherited_made : (giver taker : ℕ) (o b c d f : List ℕ) → s.state.phase ≡ definition.live → both_of e ≡ Some (giver, taker)
+  pub inherited_made : (l : Outlook) (giver taker : ℕ) (o b c d f : List ℕ) → s.state.phase ≡ definition.live → both_of e ≡ Some (giver, taker)
       → PutsLines n (changed_lines giver (flags_at s.state giver) (flags_at after giver)) o b → PutsLines n (changed_lines taker (flags_at s.state taker) (flags_at after taker)) b c → PutsLines n (reported_or_no_flag m) c d
       → PutsLines n (map differs (option_to_list (inherited_by_flags e (flags_at s.state giver) (flags_at after giver) (flags_at s.state taker) (flags_at after taker)))) d f
-      → Makes s e n new o f
-  inherited_made giver taker o b c d f phase both first second third fourth =
-      let i : Inherits s.state e giver taker = inherits s.state e giver taker phase both in
+      → Makes l s e n new o f
+  inherited_made l giver taker o b c d f phase both first second third fourth =
+      let i : Inherits s.state l e giver taker = inherits s.state l e giver taker phase both in
       let ks : List Line = flag_lines giver s.state after in
       let ls : List Line = flag_lines taker s.state after in
-      let ds : List Line = difference_lines s.state e in
-      let is : event_lines s.state e ≡ ((ks ++ ls) ++ reported_or_no_flag m) ++ ds =
+      let ds : List Line = difference_lines s.state l e in
+      let is : event_lines s.state l e ≡ ((ks ++ ls) ++ reported_or_no_flag m) ++ ds =
       i.lines ∙ ap (λ (a : definition.Session × Option Tree). ((flag_lines giver s.state a.0 ++ flag_lines taker s.state a.0) ++ reported_or_no_flag a.1) ++ ds) reported in
       record {
         state = state;
         text =
             more n ((ks ++ ls) ++ reported_or_no_flag m) ds o d f (more n (ks ++ ls) (reported_or_no_flag m) o c d (more n ks ls o b c first second) third)
-            (other n _ ds d f (ap (λ x. map differs (option_to_list x)) i.difference) fourth)
+            (other n _ ds d f (ap (map differs) i.difference) fourth)
             ∙ ap (λ x. o ++ lines_text n x) (sym is);
       }
 
   -- of another
-  pub evaluated_made : (r : Evaluation) (o b c d f end : List ℕ) → s.state.phase ≡ definition.live → both_of e ≡ None → GivesOf n s.state e o b r → PutsLines n (lines_after s.state e) [] end
-      → PutsLines n (reported_lines (is_done r) (is_silenced after e) m) b c → d ≡ c ++ end → PutsLines n (difference_lines s.state e) d f → Makes s e n new o f
-  evaluated_made r o b c d f end phase none before behind tells ended last =
+  pub evaluated_made : (l : Outlook) (r : Evaluation) (o b c d f end : List ℕ) → s.state.phase ≡ definition.live → both_of e ≡ None → GivesOf n s.state e o b r → PutsLines n (lines_after s.state e) [] end
+      → PutsLines n (reported_lines (is_done r) (is_silenced after e) m) b c → d ≡ c ++ end → PutsLines n (difference_lines s.state l e) d f → Makes l s e n new o f
+  evaluated_made l r o b c d f end phase none before behind tells ended last =
       let ks : List Line = lines_before s.state e in
       let ls : List Line = reported_lines (is_done r) (is_silenced after e) m in
-      let ds : List Line = difference_lines s.state e in
-      let is : event_lines s.state e ≡ ((ks ++ ls) ++ lines_after s.state e) ++ ds =
-      parts_are s.state e phase none
+      let ds : List Line = difference_lines s.state l e in
+      let is : event_lines s.state l e ≡ ((ks ++ ls) ++ lines_after s.state e) ++ ds =
+      parts_are s.state l e phase none
       ∙ ap (λ (a : definition.Session × Option Tree). ((ks ++ reported_lines (is_some (effects_of s.state e)) (is_silenced a.0 e) a.1) ++ lines_after s.state e) ++ ds) reported
       ∙ ap (λ b. ((ks ++ reported_lines b (is_silenced after e) m) ++ lines_after s.state e) ++ ds) (sym (done_is r (effects_of s.state e) before.effects)) in
       record {
@@ -110,5 +111,5 @@ module _ (s : SessionValue) (e : Event) (n : names.Name) (new : Option SessionVa
       }
 
   -- of a session that isn't live
-  pub nothing_made : (o : List ℕ) → is_live s.state.phase ≡ false → Makes s e n new o o
-  nothing_made o h = record { state = state; text = nothing n o ∙ ap (λ x. o ++ lines_text n x) (sym (makes_nothing s.state e h)) }
+  pub nothing_made : (l : Outlook) (o : List ℕ) → is_live s.state.phase ≡ false → Makes l s e n new o o
+  nothing_made l o h = record { state = state; text = nothing n o ∙ ap (λ x. o ++ lines_text n x) (sym (makes_nothing s.state l e h)) }

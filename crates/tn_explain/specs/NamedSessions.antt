@@ -14,6 +14,7 @@ use Rattle.tn_flags.specs.declared.event.Event.{Event}
 use Rattle.tn_flags.specs.declared.command.Command.{Command}
 use Rattle.tn_script.specs.Views.{functions_of}
 use Rattle.tn_script.specs.declared.form.Function.{Function}
+use Rattle.tn_node.specs.Outlooks.{outlook_seen}
 use Rattle.tn_program.specs.Views.{program_of}
 use Rattle.tn_program.specs.declared.parts.Program.{Program}
 use Rattle.tn_trace.specs.Slots.{IsSession, EachPair}
@@ -41,13 +42,13 @@ AreUncreatedSessions program c = AreNamedSessions (exports_of (program_of progra
 abbrev pub SlotMakes : {A : Type 0} → Step → Exports → (living living' : Alive) → HistoryItem → Slot A Discard → Slot A Discard → List ℕ → List ℕ → Result (Unit {0}) AllocError → Type 0
 SlotMakes step o living living' x old new text text' result =
     (s : NamedSession) → HasState o living s old
-    → OnOk result (HasState o living' (after o s x) new × (text' ≡ text ++ text_by step (map (makes s.0) (session_lines o s x))))
+    → OnOk result (HasState o living' (after o s x) new × (text' ≡ text ++ text_by step (map (makes s.0) (session_lines o (outlook_seen step.outlook) s x))))
 
 -- the same of all sessions
 abbrev pub SlotsMake : {A : Type 0} → Step → Exports → (living living' : Alive) → HistoryItem → List (Slot A Discard) → List (Slot A Discard) → List ℕ → List ℕ → Result (Unit {0}) AllocError → Type 0
 SlotsMake step o living living' x old new text text' result =
     (ss : List NamedSession) → EachPair (HasState o living) ss old
-    → OnOk result (EachPair (HasState o living') (all_after o ss x) new × (text' ≡ text ++ text_by step (made_by_all o ss x)))
+    → OnOk result (EachPair (HasState o living') (all_after o ss x) new × (text' ≡ text ++ text_by step (made_by_all o (outlook_seen step.outlook) ss x)))
 
 -- where a session saw an event, whoever lived before it, what it makes of it was appended as far as it is asked for
 abbrev pub SlotSeesEvent : {A : Type 0} → Step → Event A → Slot A Discard → Slot A Discard → List ℕ → List ℕ → Result (Unit {0}) AllocError → Type 0
@@ -75,19 +76,19 @@ SlotsSeeCommand step order old new text text' result =
 abbrev pub ExplainsItem : {A : Type 0} → Step → Exports → HistoryItem → Sessions A → Sessions A → List ℕ → List ℕ → Result (Unit {0}) AllocError → Type 0
 ExplainsItem step o x old new text text' result =
     (ss : List NamedSession) → AreNamedSessions o ss old
-    → OnOk result (AreNamedSessions o (all_after o ss x) new × (text' ≡ text ++ text_by step (shows step.number step.pick x ∷ made_by_all o ss x)))
+    → OnOk result (AreNamedSessions o (all_after o ss x) new × (text' ≡ text ++ text_by step (shows step.number step.pick x ∷ made_by_all o (outlook_seen step.outlook) ss x)))
 
 -- the same of all that a move shows, in order
 abbrev pub ExplainsItems : {A : Type 0} → Step → Exports → List HistoryItem → Sessions A → Sessions A → List ℕ → List ℕ → Result (Unit {0}) AllocError → Type 0
 ExplainsItems step o xs old new text text' result =
     (ss : List NamedSession) → AreNamedSessions o ss old
-    → OnOk result (AreNamedSessions o (all_after_items o ss xs) new × (text' ≡ text ++ text_by step (entries_over o step.number step.pick ss xs)))
+    → OnOk result (AreNamedSessions o (all_after_items o ss xs) new × (text' ≡ text ++ text_by step (entries_over o (outlook_seen step.outlook) step.number step.pick ss xs)))
 
 -- the same of a move
 abbrev pub ExplainsShown : {A : Type 0} → Step → Exports → List HistoryItem → Sessions A → Sessions A → List ℕ → List ℕ → Result (Unit {0}) AllocError → Type 0
 ExplainsShown step o xs old new text text' result =
     (ss : List NamedSession) → AreNamedSessions o ss old
-    → OnOk result (AreNamedSessions o (all_after_items o ss xs) new × (text' ≡ text ++ text_by step (entries_of_move o step.number step.pick ss xs)))
+    → OnOk result (AreNamedSessions o (all_after_items o ss xs) new × (text' ≡ text ++ text_by step (entries_of_move o (outlook_seen step.outlook) step.number step.pick ss xs)))
 
 -- the sessions saw this event of a move, and it was appended with what they make of it, as far as it is asked for
 abbrev pub ExplainsEvent : {A : Type 0} → Step → Event A → Sessions A → Sessions A → Vec ℕ A → Vec ℕ A → Result (Unit {0}) AllocError → Type 0

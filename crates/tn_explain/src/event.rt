@@ -3,32 +3,35 @@ ghost use Rattle.std.specs.Prelude.{◌≡◌, ◌++◌, OnOk, IfSome, None};
 ghost use Rattle.std.specs.Option.{IsSomeAnd, option_map};
 ghost use Rattle.def_session.specs.Session.{is_silenced};
 ghost use Rattle.tn_flags.specs.Views.{event_of};
+ghost use Rattle.tn_node.specs.Outlooks.{outlook_seen};
 ghost use Rattle.tn_session.specs.Sessions.{value_in};
 ghost use Rattle.tn_session.specs.Looks.{look_seen};
 ghost use Rattle.tn_text.specs.Writes.{Grows};
 ghost use Rattle.tn_explain.specs.SessionLines.{Makes, MakesLive, ReportsLines};
 
 use crate::clauses::Evaluation;
-use crate::differences::end_difference;
+use crate::differences::EventDifferences;
 use crate::inheritance::both_of;
 use crate::line::{Lines, put_text};
 use std::alloc::{AllocError, Allocator};
 use tn_flags::Event;
+use tn_node::Outlook;
 use tn_session::{Look, Message, Session};
 use tn_term::Atom;
 
-/// Appends, a line each, what the session of this name makes of an event, and has the session see the event. One
-/// that was destroyed makes nothing of it. After an `Err`, which is refused memory, a part of it may stand there, and
+/// Appends, a line each, what the session of this name makes of an event of a step of which this was known before it,
+/// and has the session see the event. One that was destroyed makes nothing of it. After an `Err`, which is refused memory, a part of it may stand there, and
 /// the session is spent, as it was, or past the event.
 pub fn put_event_lines<A: Allocator + Copy>(
     alloc: A,
     name: &Atom<A>,
     session: &mut Session<A>,
+    outlook: Outlook,
     event: &Event<A>,
     out: &mut Vec<u8, A>,
 ) -> Result<(), AllocError>
     ensures ok { OnOk result (IsSomeAnd (value_in session.old) (λ s.
-        Makes s (event_of event.now) name.now (value_in session.new) out.old.items out.new.items)) }
+        Makes (outlook_seen outlook) s (event_of event.now) name.now (value_in session.new) out.old.items out.new.items)) }
     ensures grows { Grows out.old.items out.new.items }
 {
     let lines = Lines { alloc, name };
@@ -41,7 +44,7 @@ pub fn put_event_lines<A: Allocator + Copy>(
     }
     match both_of(event) {
         Some((giver, taker)) => lines.put_inheriting(session, event, giver, taker, out),
-        None => lines.put_evaluated(session, event, out),
+        None => lines.put_evaluated(session, outlook, event, out),
     }
 }
 
@@ -62,24 +65,26 @@ impl<A: Allocator + Copy> Lines<'_, A> {
     fn put_evaluated(
         &self,
         session: &mut Session<A>,
+        outlook: Outlook,
         event: &Event<A>,
         out: &mut Vec<u8, A>,
     ) -> Result<(), AllocError>
         ensures ok { OnOk result (IsSomeAnd (value_in session.old) (λ s.
-            MakesLive None s event.now self.now (value_in session.new) out.old out.new)) }
+            MakesLive None (outlook_seen outlook) s event.now self.now (value_in session.new) out.old out.new)) }
         ensures grows { Grows out.old.items out.new.items }
     {
         let Some(look) = session.look() else {
             return Err(AllocError);
         };
-        let difference = end_difference(&look, event);
+        let before = EventDifferences::of(&look, outlook, event);
         let evaluation = self.put_before(&look, event, out)?;
         let mut behind = Vec::new(self.alloc);
         self.put_after(&look, event, evaluation, &mut behind)?;
         let message = session.tell(event)?;
+        let differences = before.after(outlook, event, message.is_some());
         self.put_reported(session, evaluation, event, &message, out)?;
         put_text(&behind, out)?;
-        self.put_event_difference(difference, out)
+        self.put_event_differences(differences, out)
     }
 
     /// Appends the message of an event that was evaluated, or why there is none: `silent` silences it, or else

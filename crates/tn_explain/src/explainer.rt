@@ -4,6 +4,7 @@ use crate::sessions::Sessions;
 use crate::step::Step;
 use std::alloc::{AllocError, Allocator};
 use tn_flags::{Command, Event};
+use tn_node::{Node, Outlook};
 use tn_program::Program;
 use tn_trace::{JournalEntry, Observer};
 
@@ -38,15 +39,23 @@ impl<'a, A: Allocator + Copy> Explainer<'a, A> {
 impl<'a, A: Allocator + Copy> Observer<A> for Explainer<'a, A> {
     ghost use Rattle.tn_text.specs.Writes.{Grows};
     ghost use Rattle.tn_text.proofs.Growth.{grows_none, grows_on};
-    ghost use Rattle.tn_explain.specs.Explainers.{HasExplained, AddsExplanation};
+    ghost use Rattle.tn_explain.specs.Explainers.{SeesAhead, HasExplained, AddsExplanation};
 
     type Output = Vec<u8, A>;
+
+    type Sight = Outlook;
+
+    ghost looks = { SeesAhead };
 
     ghost sees = { HasExplained };
 
     ghost adds = { AddsExplanation };
 
     ghost reaches = { λ out out'. Grows out.items out'.items };
+
+    fn look(&self, node: &Node<A>, pick: u32) -> Outlook {
+        node.outlook(pick)
+    }
 
     fn obey(
         &mut self,
@@ -59,6 +68,7 @@ impl<'a, A: Allocator + Copy> Observer<A> for Explainer<'a, A> {
             selection: &self.selection,
             number: entry.number,
             pick: entry.pick,
+            outlook: Outlook::nothing(),
         };
         self.sessions
             .obey(&step, program.functions(), command, out)?;
@@ -69,6 +79,7 @@ impl<'a, A: Allocator + Copy> Observer<A> for Explainer<'a, A> {
         &mut self,
         program: &Program<A>,
         entry: JournalEntry,
+        sight: Outlook,
         events: &Vec<Event<A>, A>,
         out: &mut Vec<u8, A>,
     ) -> Result<(), AllocError> {
@@ -76,6 +87,7 @@ impl<'a, A: Allocator + Copy> Observer<A> for Explainer<'a, A> {
             selection: &self.selection,
             number: entry.number,
             pick: entry.pick,
+            outlook: sight,
         };
         self.sessions.see(&step, events, out)?;
         Ok(())

@@ -8,6 +8,7 @@ use crate::sessions::Sessions;
 use crate::step::Step;
 use std::alloc::{AllocError, Allocator};
 use tn_flags::{Command, Event};
+use tn_node::{Node, Outlook};
 use tn_program::Program;
 use tn_trace::{JOURNAL, JournalEntry, Observer, Run};
 
@@ -42,14 +43,23 @@ impl<A: Allocator + Copy> NodeMoves<A> {
 
 impl<A: Allocator + Copy> Observer<A> for NodeMoves<A> {
     ghost use Rattle.tn_explain.specs.Comparisons.{HasCompared, AddsDifference};
+    ghost use Rattle.tn_explain.specs.Explainers.{SeesAhead};
 
     type Output = Vec<bool, A>;
+
+    type Sight = Outlook;
+
+    ghost looks = { SeesAhead };
 
     ghost sees = { HasCompared };
 
     ghost adds = { AddsDifference };
 
     ghost reaches = { λ _ _. Unit {0} };
+
+    fn look(&self, node: &Node<A>, pick: u32) -> Outlook {
+        node.outlook(pick)
+    }
 
     fn obey(
         &mut self,
@@ -62,6 +72,7 @@ impl<A: Allocator + Copy> Observer<A> for NodeMoves<A> {
             selection: &NOTHING,
             number: entry.number,
             pick: entry.pick,
+            outlook: Outlook::nothing(),
         };
         let mut nothing = Vec::new(self.sessions.alloc);
         self.sessions
@@ -74,10 +85,11 @@ impl<A: Allocator + Copy> Observer<A> for NodeMoves<A> {
         &mut self,
         program: &Program<A>,
         entry: JournalEntry,
+        sight: Outlook,
         events: &Vec<Event<A>, A>,
         out: &mut Vec<bool, A>,
     ) -> Result<(), AllocError> {
-        let differs = self.sessions.compare(events)?;
+        let differs = self.sessions.compare(sight, events)?;
         out.push(differs)?;
         Ok(())
     }

@@ -36,7 +36,7 @@ fn tell_one<A: Allocator + Copy>(
         return Ok(());
     };
     if is_asked {
-        put_event_lines(alloc, &slot.name, session, event, out)
+        put_event_lines(alloc, &slot.name, session, step.outlook, event, out)
     } else {
         session.tell(event)?;
         Ok(())

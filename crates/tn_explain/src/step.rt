@@ -7,14 +7,17 @@ use crate::selection::Selection;
 use itoa::Buffer;
 use std::alloc::{AllocError, Allocator};
 use tn_flags::{Command, Event};
+use tn_node::Outlook;
 use tn_term::Atom;
 
-/// A move that is written of: its number from 1, its pick, and what is selected of the run.
+/// A move that is written of: its number from 1, its pick, what is known of its step before it, and what is selected of
+/// the run.
 #[derive(Clone, Copy)]
 pub(crate) struct Step<'a> {
     pub selection: &'a Selection<'a>,
     pub number: u64,
     pub pick: u32,
+    pub outlook: Outlook,
 }
 
 /// Appends a move's number and its pick. After an `Err` a part of them may stand there.

@@ -16,7 +16,7 @@ returns-clause-ok g c =
     let giver = c.args.giver in
     let taker = c.args.taker in
     on_ok c.put_event_difference.result _ _
-    (λ made. if_seen look_seen _ c.in-Some.look _ c.in-Some.ensures (λ (s : SessionValue) is seen phase both.
+    (λ made. if_seen look_seen _ c.in-Some.look _ c.in-Some.ensures (λ (s : SessionValue) is seen l phase both.
     let e = event_of c.args.event.now in
     let m = option_map message_seen c.in_ok-message.message in
     let gives = and_there _ s _ is c.in_ok-message.ensures.reported in
@@ -26,7 +26,7 @@ returns-clause-ok g c =
     let second = c.flags_at.ensures ∙ ap (λ x. flags_at x giver) later in
     let third = c.flags_at-had.ensures ∙ ap (λ x. flags_at x taker) seen in
     let fourth = c.flags_at-2.ensures ∙ ap (λ x. flags_at x taker) later in
-    inherited_made s e n (value_in c.tell.new.self) m gives giver taker _ _ _ _ _ phase both
+    inherited_made s e n (value_in c.tell.new.self) m gives l giver taker _ _ _ _ _ phase both
     (other n _ _ _ _ (flags_changed giver _ (flags_at s.state giver) _ (flags_at past giver) first second) c.in_ok-put_changed.ensures.ok)
     (other n _ _ _ _ (flags_changed taker _ (flags_at s.state taker) _ (flags_at past taker) third fourth) c.in_ok-put_changed-2.ensures.ok)
     c.in_ok-put_message.ensures.ok
