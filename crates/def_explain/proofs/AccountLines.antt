@@ -10,8 +10,8 @@ use Rattle.def_session.specs.State.{Phase, absent, live, destroyed, MarkKind, fo
 use Rattle.def_session.specs.Session.{inherit, effects_of, context, reported_for, reported_in}
 use Rattle.def_explain.specs.Causes.{Cause, no_mark, marked_for_returns, no_flag, no_setting, of_named_calls, switched_off, no_clause, silenced, message_false, cause_of}
 use Rattle.def_explain.specs.Verdicts.{Verdict, fails, fires, verdict_of}
-use Rattle.def_explain.specs.Accounts.{Line, said, tells, reported_in_lines, line_where, changed_text, flag_lines, inheritance_lines, lines_by, clause_lines, setting_lines, evaluation_lines, cause_lines, marked_lines, mark_lines, end_lines, message_lines, live_lines, difference_lines, event_lines_in, differs}
-use Rattle.def_explain.specs.Differences.{Difference, clause_differences, event_differences}
+use Rattle.def_explain.specs.Accounts.{Line, said, tells, reported_in_lines, line_where, changed_text, flag_lines, inheritance_lines, lines_by, clause_lines, setting_lines, evaluation_lines, cause_lines, marked_lines, mark_lines, end_lines, message_lines, live_lines, difference_lines, node_lines, event_lines_in, differs, steps_otherwise}
+use Rattle.def_explain.specs.Differences.{Difference, clause_differences, event_difference, step_differences}
 use Rattle.def_explain.specs.Laws.{LinesTellTheMessage}
 use Rattle.def_explain.proofs.CauseOfEvents.{cause_where_nothing_told, cause_is_computed}
 
@@ -23,6 +23,7 @@ pub joined-reported : (ls ms : List Line) → reported_in_lines (ls ++ ms) ≡ r
 joined-reported [] ms = refl
 joined-reported (said b ∷ ls) ms = joined-reported ls ms
 joined-reported (differs x ∷ ls) ms = joined-reported ls ms
+joined-reported (steps_otherwise x ∷ ls) ms = joined-reported ls ms
 joined-reported (tells t ∷ ls) ms = ap (λ x. t ∷ x) (joined-reported ls ms)
 
 both-say : (ls ms : List Line) → Says ls → Says ms → Says (ls ++ ms)
@@ -149,13 +150,18 @@ live-reported s e =
     ∙ append-nil (reported_in_lines ls)
     ∙ message-reported s e (cause_of s e) (reported_for s e (effects_of s e)).1 refl refl
 
+-- nor does what is otherwise by the step
+steps-say : (xs : List Difference) (ls : List Line) → reported_in_lines (map steps_otherwise xs ++ ls) ≡ reported_in_lines ls
+steps-say [] ls = refl
+steps-say (x ∷ xs) ls = steps-say xs ls
+
 in-phase : (p : Phase) (s : Session) (l : Outlook) (e : Event) → reported_in_lines (event_lines_in p s l e) ≡ option_to_list (reported_in p s e).1
 in-phase absent s l e = refl
 in-phase destroyed s l e = refl
 in-phase live s l e =
     let ls : List Line = live_lines (inherit s e) e in
-    joined-reported (inheritance_lines s e ++ ls) (difference_lines s l e)
-    ∙ ap (λ x. reported_in_lines (inheritance_lines s e ++ ls) ++ x) (differences-say (event_differences s l e))
+    joined-reported (inheritance_lines s e ++ ls) (node_lines s l e)
+    ∙ ap (λ x. reported_in_lines (inheritance_lines s e ++ ls) ++ x) (steps-say (step_differences s l e) (difference_lines s e) ∙ differences-say (option_to_list (event_difference s e)))
     ∙ append-nil (reported_in_lines (inheritance_lines s e ++ ls))
     ∙ joined-reported (inheritance_lines s e) ls
     ∙ ap (λ x. x ++ reported_in_lines ls) (inheritance-says s e)

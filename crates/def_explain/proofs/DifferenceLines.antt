@@ -1,5 +1,5 @@
 -- Among the lines of an event there is all that a node does otherwise.
-use Rattle.std.proofs.Common.{◌≡◌, ℕ, suc, Bool, true, false, List, [], ◌∷◌, ◌++◌, map, Option, Some, None, refl, sym, ap, ◌∙◌, append-nil, if◌then◌else◌}
+use Rattle.std.proofs.Common.{◌≡◌, ℕ, suc, Bool, true, false, List, [], ◌∷◌, ◌++◌, map, Option, Some, None, option_to_list, refl, sym, ap, ◌∙◌, append-nil, if◌then◌else◌}
 use Rattle.def_term.specs.Tree.{Tree, pid}
 use Rattle.def_term.specs.Names.{word}
 use Rattle.def_spec.specs.Flags.{send_flag, receive_flag, call_flag}
@@ -13,8 +13,8 @@ use Rattle.def_session.specs.Session.{inherit, effects_of, evaluated_by, effects
 use Rattle.def_session.specs.Laws.{needed_for}
 use Rattle.def_explain.specs.Causes.{Cause, no_mark, marked_for_returns, no_flag, no_setting, of_named_calls, switched_off, no_clause, silenced, message_false, IsCause, is_silent_after, is_false_message, cause_by, cause_of}
 use Rattle.def_explain.specs.Verdicts.{Verdict, fails, fires, verdict_of, outcome_after, outcome_by_verdicts}
-use Rattle.def_explain.specs.Differences.{Difference, clause_differences, differences_by, firing_differences, setting_differences, evaluation_differences, event_differences}
-use Rattle.def_explain.specs.Accounts.{Line, said, tells, differs, differences_in_lines, line_where, changed_text, flag_lines, inheritance_lines, lines_by, clause_lines, setting_lines, evaluation_lines, cause_lines, marked_lines, mark_lines, end_lines, message_lines, live_lines, difference_lines, event_lines_in}
+use Rattle.def_explain.specs.Differences.{Difference, clause_differences, differences_by, firing_differences, setting_differences, evaluation_differences, event_difference, step_differences}
+use Rattle.def_explain.specs.Accounts.{Line, said, tells, differs, differences_in_lines, line_where, changed_text, flag_lines, inheritance_lines, lines_by, clause_lines, setting_lines, evaluation_lines, cause_lines, marked_lines, mark_lines, end_lines, message_lines, live_lines, difference_lines, steps_otherwise, node_lines, event_lines_in}
 use Rattle.def_explain.specs.Laws.{LinesTellTheDifference}
 use Rattle.def_explain.proofs.ClauseVerdicts.{outcome_is_by_verdicts}
 use Rattle.def_explain.proofs.CauseOfEvents.{cause_where_nothing_told, cause_is_computed}
@@ -28,6 +28,7 @@ joined [] ms = refl
 joined (said b ∷ ls) ms = joined ls ms
 joined (tells t ∷ ls) ms = joined ls ms
 joined (differs x ∷ ls) ms = ap (λ y. x ∷ y) (joined ls ms)
+joined (steps_otherwise x ∷ ls) ms = joined ls ms
 
 both : (ls ms : List Line) → IsSilent ls → IsSilent ms → IsSilent (ls ++ ms)
 both ls ms h k = joined ls ms ∙ ap (λ x. x ++ differences_in_lines ms) h ∙ k
@@ -224,11 +225,16 @@ inherited s (unlinked p q) = refl
 inherited s (getting_linked p q) = refl
 inherited s (getting_unlinked p q) = refl
 
+-- what is otherwise by the step isn't among them
+steps-none : (xs : List Difference) (ls : List Line) → differences_in_lines (map steps_otherwise xs ++ ls) ≡ differences_in_lines ls
+steps-none [] ls = refl
+steps-none (x ∷ xs) ls = steps-none xs ls
+
 pub lines_tell_the_difference : LinesTellTheDifference
 lines_tell_the_difference s l e phase =
     let ls : List Line = live_lines (inherit s e) e in
     ap (λ x. differences_in_lines (event_lines_in x s l e)) phase
-    ∙ joined (inheritance_lines s e ++ ls) (difference_lines s l e)
-    ∙ ap (λ x. differences_in_lines (inheritance_lines s e ++ ls) ++ x) (each (event_differences s l e))
-    ∙ ap (λ x. x ++ event_differences s l e)
+    ∙ joined (inheritance_lines s e ++ ls) (node_lines s l e)
+    ∙ ap (λ x. differences_in_lines (inheritance_lines s e ++ ls) ++ x) (steps-none (step_differences s l e) (difference_lines s e) ∙ each (option_to_list (event_difference s e)))
+    ∙ ap (λ x. x ++ option_to_list (event_difference s e))
     (joined (inheritance_lines s e) ls ∙ ap (λ x. x ++ differences_in_lines ls) (of-inheritance s e) ∙ of-live (inherit s e) e ∙ inherited s e)

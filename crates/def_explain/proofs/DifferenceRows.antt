@@ -1,16 +1,16 @@
 -- Rows: where a node does otherwise, and where it doesn't.
-use Rattle.std.proofs.Common.{◌≡◌, ℕ, true, false, [], ◌∷◌, Option, Some, None, codes, refl}
+use Rattle.std.proofs.Common.{◌≡◌, ℕ, Option, true, false, [], ◌∷◌, Some, None, codes, refl}
 use Rattle.std.specs.Prelude.{replicate}
 use Rattle.def_term.specs.Names.{Mfa, word}
 use Rattle.def_spec.specs.Flags.{Flag, Flags, no_flags, only, union, with_flags_in, send_flag, receive_flag, call_flag, procs_flag, silent_flag, set_on_spawn, set_on_first_spawn, set_on_link, set_on_first_link}
 use Rattle.def_spec.specs.Expressions.{for_calls, for_sends, for_receives, Expr, constant, tuple_of, list_of, call, and_also, perform, message, Exprs, no_exprs, and_expr, Context, Effect, gives_message, traces_return, traces_exception, silences, changes}
 use Rattle.def_spec.specs.Functions as fn
 use Rattle.def_script.specs.Program.{error}
-use Rattle.def_node.specs.Event.{Event, received, returned, raised, spawned, exited, linked, getting_linked}
 use Rattle.def_outlook.specs.Outlook.{RuntimeError, passes_limit, sends_to_no_pid, links_to_no_pid, unlinks_from_no_pid, Outlook, nothing_ahead}
 use Rattle.def_session.specs.Settings.{off}
+use Rattle.def_node.specs.Event.{Event, received, returned, raised, spawned, exited, linked, getting_linked}
 use Rattle.def_session.specs.State.{for_returns, for_exceptions, live, new_session, alive_at_start, Session, MarkKind, with_flags, with_marks}
-use Rattle.def_explain.specs.Differences.{node_ends, finds_no_tracer, suppresses_message, leaves_no_mark, reports_end, reports_exceptions, catches_error, reports_attempt, raises_noproc, reports_later, clears_spawn_flags, gives_no_flags, evaluates_from_right, order_difference, body_differences, event_difference, event_differences, has_mark_between}
+use Rattle.def_explain.specs.Differences.{node_ends, finds_no_tracer, suppresses_message, leaves_no_mark, reports_end, reports_exceptions, clears_spawn_flags, gives_no_flags, evaluates_from_right, catches_error, reports_attempt, raises_noproc, reports_later, order_difference, body_differences, event_difference, step_differences, has_mark_below}
 
 -- ---- bodies, in the process 100
 
@@ -148,124 +148,117 @@ abbrev exception : Event
 exception = raised 100 function error (word "bad") 2
 
 -- the return of a marked call in silence; not in silence; without a mark; without `call`
-pub silent_return : event_difference (marked for_returns (with_these (and call_flag silent_flag))) nothing_ahead return ≡ Some reports_end
+pub silent_return : event_difference (marked for_returns (with_these (and call_flag silent_flag))) return ≡ Some reports_end
 silent_return = refl
 
-pub return_of_a_call : event_difference (marked for_returns (with_these (only call_flag))) nothing_ahead return ≡ None
+pub return_of_a_call : event_difference (marked for_returns (with_these (only call_flag))) return ≡ None
 return_of_a_call = refl
 
-pub unmarked_return : event_difference (with_these (and call_flag silent_flag)) nothing_ahead return ≡ None
+pub unmarked_return : event_difference (with_these (and call_flag silent_flag)) return ≡ None
 unmarked_return = refl
 
-pub return_without_flag : event_difference (marked for_returns (with_these (only silent_flag))) nothing_ahead return ≡ None
+pub return_without_flag : event_difference (marked for_returns (with_these (only silent_flag))) return ≡ None
 return_without_flag = refl
 
 -- an exception in silence, and one that leaves a call that is marked for returns
-pub silent_exception : event_difference (marked for_exceptions (with_these (and call_flag silent_flag))) nothing_ahead exception ≡ Some reports_end
+pub silent_exception : event_difference (marked for_exceptions (with_these (and call_flag silent_flag))) exception ≡ Some reports_end
 silent_exception = refl
 
-pub exception_of_returns : event_difference (marked for_returns (with_these (and call_flag silent_flag))) nothing_ahead exception ≡ None
+pub exception_of_returns : event_difference (marked for_returns (with_these (and call_flag silent_flag))) exception ≡ None
 exception_of_returns = refl
 
 -- an exit with a call that is marked for exceptions; for returns; without `call`; and of another process
-pub exit_with_a_marked_call : event_difference (marked for_exceptions (with_these (only call_flag))) nothing_ahead (exited 100 (word "boom")) ≡ Some reports_exceptions
-unfolding has_mark_between
+pub exit_with_a_marked_call : event_difference (marked for_exceptions (with_these (only call_flag))) (exited 100 (word "boom")) ≡ Some reports_exceptions
+unfolding has_mark_below
 exit_with_a_marked_call = refl
 
-pub exit_with_a_call_for_returns : event_difference (marked for_returns (with_these (only call_flag))) nothing_ahead (exited 100 (word "boom")) ≡ None
-unfolding has_mark_between
+pub exit_with_a_call_for_returns : event_difference (marked for_returns (with_these (only call_flag))) (exited 100 (word "boom")) ≡ None
+unfolding has_mark_below
 exit_with_a_call_for_returns = refl
 
-pub exit_without_flag : event_difference (marked for_exceptions (with_these (only send_flag))) nothing_ahead (exited 100 (word "boom")) ≡ None
+pub exit_without_flag : event_difference (marked for_exceptions (with_these (only send_flag))) (exited 100 (word "boom")) ≡ None
 exit_without_flag = refl
 
-pub exit_of_another : event_difference (with_flags (marked for_exceptions (with_these (only call_flag))) 101 (only call_flag)) nothing_ahead (exited 101 (word "boom")) ≡ None
-unfolding has_mark_between
+pub exit_of_another : event_difference (with_flags (marked for_exceptions (with_these (only call_flag))) 101 (only call_flag)) (exited 101 (word "boom")) ≡ None
+unfolding has_mark_below
 exit_of_another = refl
 
 -- the first spawn where new processes have `set_on_spawn`; where they don't; and a later spawn
-pub first_spawn : event_difference (record (with_these (and procs_flag set_on_first_spawn)) { new_process_flags = only set_on_spawn }) nothing_ahead (spawned 101 100 function []) ≡ Some clears_spawn_flags
+pub first_spawn : event_difference (record (with_these (and procs_flag set_on_first_spawn)) { new_process_flags = only set_on_spawn }) (spawned 101 100 function []) ≡ Some clears_spawn_flags
 first_spawn = refl
 
-pub first_spawn_of_a_plain_child : event_difference (with_these (and procs_flag set_on_first_spawn)) nothing_ahead (spawned 101 100 function []) ≡ None
+pub first_spawn_of_a_plain_child : event_difference (with_these (and procs_flag set_on_first_spawn)) (spawned 101 100 function []) ≡ None
 first_spawn_of_a_plain_child = refl
 
-pub later_spawn : event_difference (record (with_these (and procs_flag set_on_spawn)) { new_process_flags = only set_on_spawn }) nothing_ahead (spawned 101 100 function []) ≡ None
+pub later_spawn : event_difference (record (with_these (and procs_flag set_on_spawn)) { new_process_flags = only set_on_spawn }) (spawned 101 100 function []) ≡ None
 later_spawn = refl
 
 -- a link by a process with `set_on_link`, with `set_on_first_link`, and with neither; and what is no `getting_linked`
-pub link_that_gives_flags : event_difference (with_these (and procs_flag set_on_link)) nothing_ahead (getting_linked 101 100) ≡ Some gives_no_flags
+pub link_that_gives_flags : event_difference (with_these (and procs_flag set_on_link)) (getting_linked 101 100) ≡ Some gives_no_flags
 link_that_gives_flags = refl
 
-pub first_link_that_gives_flags : event_difference (with_these (and procs_flag set_on_first_link)) nothing_ahead (getting_linked 101 100) ≡ Some gives_no_flags
+pub first_link_that_gives_flags : event_difference (with_these (and procs_flag set_on_first_link)) (getting_linked 101 100) ≡ Some gives_no_flags
 first_link_that_gives_flags = refl
 
-pub link_that_gives_none : event_difference (with_these (only procs_flag)) nothing_ahead (getting_linked 101 100) ≡ None
+pub link_that_gives_none : event_difference (with_these (only procs_flag)) (getting_linked 101 100) ≡ None
 link_that_gives_none = refl
 
-pub link_of_the_giver : event_difference (with_these (and procs_flag set_on_link)) nothing_ahead (linked 100 101) ≡ None
+pub link_of_the_giver : event_difference (with_these (and procs_flag set_on_link)) (linked 100 101) ≡ None
 link_of_the_giver = refl
+
+-- ---- by the step at an event
 
 -- the end by an error that a catch catches, and by one that none does; of a process without flags
 abbrev ahead : RuntimeError → Option ℕ → Outlook
 ahead x depth = record { error = Some x; caught_at = depth; is_awaited = false }
 
-pub caught_error : event_differences (with_these (only procs_flag)) (ahead passes_limit (Some 2)) (exited 100 (word "system_limit")) ≡ catches_error ∷ []
+pub caught_error : step_differences (with_these (only procs_flag)) (ahead passes_limit (Some 2)) (exited 100 (word "system_limit")) ≡ catches_error ∷ []
 caught_error = refl
 
-pub error_without_catch : event_differences (with_these (only procs_flag)) (ahead passes_limit None) (exited 100 (word "system_limit")) ≡ []
+pub error_without_catch : step_differences (with_these (only procs_flag)) (ahead passes_limit None) (exited 100 (word "system_limit")) ≡ []
 error_without_catch = refl
 
-pub caught_error_without_flag : event_differences (with_these no_flags) (ahead passes_limit (Some 2)) (exited 100 (word "system_limit")) ≡ []
+pub caught_error_without_flag : step_differences (with_these no_flags) (ahead passes_limit (Some 2)) (exited 100 (word "system_limit")) ≡ []
 caught_error_without_flag = refl
 
-pub caught_signal : event_differences (with_these (only procs_flag)) (record nothing_ahead { caught_at = Some 2 }) (exited 100 (word "boom")) ≡ []
+pub caught_signal : step_differences (with_these (only procs_flag)) (record nothing_ahead { caught_at = Some 2 }) (exited 100 (word "boom")) ≡ []
 caught_signal = refl
 
--- a catch leaves the marks below the frame that it called
-pub caught_above_the_mark : event_differences (marked for_exceptions (with_these (only call_flag))) (ahead passes_limit (Some 3)) (exited 100 (word "system_limit")) ≡ catches_error ∷ []
-unfolding has_mark_between
-caught_above_the_mark = refl
-
-pub caught_at_the_mark : event_differences (marked for_exceptions (with_these (only call_flag))) (ahead passes_limit (Some 2)) (exited 100 (word "system_limit")) ≡ catches_error ∷ reports_exceptions ∷ []
-unfolding has_mark_between
-caught_at_the_mark = refl
-
 -- a send, a link and an unlink of what is no pid, with the flag and without
-pub send_to_no_pid : event_differences (with_these (only send_flag)) (ahead sends_to_no_pid None) (exited 100 (word "badarg")) ≡ reports_attempt ∷ []
+pub send_to_no_pid : step_differences (with_these (only send_flag)) (ahead sends_to_no_pid None) (exited 100 (word "badarg")) ≡ reports_attempt ∷ []
 send_to_no_pid = refl
 
-pub send_to_no_pid_without_flag : event_differences (with_these (only procs_flag)) (ahead sends_to_no_pid None) (exited 100 (word "badarg")) ≡ []
+pub send_to_no_pid_without_flag : step_differences (with_these (only procs_flag)) (ahead sends_to_no_pid None) (exited 100 (word "badarg")) ≡ []
 send_to_no_pid_without_flag = refl
 
-pub link_to_no_pid : event_differences (with_these (only procs_flag)) (ahead links_to_no_pid None) (exited 100 (word "badarg")) ≡ reports_attempt ∷ []
+pub link_to_no_pid : step_differences (with_these (only procs_flag)) (ahead links_to_no_pid None) (exited 100 (word "badarg")) ≡ reports_attempt ∷ []
 link_to_no_pid = refl
 
-pub unlink_from_no_pid : event_differences (with_these (only procs_flag)) (ahead unlinks_from_no_pid (Some 1)) (exited 100 (word "badarg")) ≡ reports_attempt ∷ catches_error ∷ []
+pub unlink_from_no_pid : step_differences (with_these (only procs_flag)) (ahead unlinks_from_no_pid (Some 1)) (exited 100 (word "badarg")) ≡ reports_attempt ∷ catches_error ∷ []
 unlink_from_no_pid = refl
 
-pub unlink_from_no_pid_without_flag : event_differences (with_these (only send_flag)) (ahead unlinks_from_no_pid None) (exited 100 (word "badarg")) ≡ []
+pub unlink_from_no_pid_without_flag : step_differences (with_these (only send_flag)) (ahead unlinks_from_no_pid None) (exited 100 (word "badarg")) ≡ []
 unlink_from_no_pid_without_flag = refl
 
 -- a link to a process that isn't alive, with a flag and without
-pub link_to_no_process : event_differences (with_these (only send_flag)) nothing_ahead (linked 100 163) ≡ raises_noproc ∷ []
+pub link_to_no_process : step_differences (with_these (only send_flag)) nothing_ahead (linked 100 163) ≡ raises_noproc ∷ []
 link_to_no_process = refl
 
-pub link_to_no_process_without_flag : event_differences (with_these no_flags) nothing_ahead (linked 100 163) ≡ []
+pub link_to_no_process_without_flag : step_differences (with_these no_flags) nothing_ahead (linked 100 163) ≡ []
 link_to_no_process_without_flag = refl
 
 -- a receive while its process does something else; while it waits; and one that isn't reported
 abbrev a_receive : Event
 a_receive = received 100 101 (word "hi")
 
-pub early_receive : event_differences (with_these (only receive_flag)) nothing_ahead a_receive ≡ reports_later ∷ []
+pub early_receive : step_differences (with_these (only receive_flag)) nothing_ahead a_receive ≡ reports_later ∷ []
 early_receive = refl
 
-pub awaited_receive : event_differences (with_these (only receive_flag)) (record nothing_ahead { is_awaited = true }) a_receive ≡ []
+pub awaited_receive : step_differences (with_these (only receive_flag)) (record nothing_ahead { is_awaited = true }) a_receive ≡ []
 awaited_receive = refl
 
-pub early_receive_without_flag : event_differences (with_these (only send_flag)) nothing_ahead a_receive ≡ []
+pub early_receive_without_flag : step_differences (with_these (only send_flag)) nothing_ahead a_receive ≡ []
 early_receive_without_flag = refl
 
-pub early_receive_without_setting : event_differences (record (with_these (only receive_flag)) { receiving = off }) nothing_ahead a_receive ≡ []
+pub early_receive_without_setting : step_differences (record (with_these (only receive_flag)) { receiving = off }) nothing_ahead a_receive ≡ []
 early_receive_without_setting = refl

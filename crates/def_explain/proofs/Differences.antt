@@ -1,10 +1,8 @@
 -- What a node does otherwise is what is computed.
-use Rattle.std.proofs.Common.{◌≡◌, ◌≢◌, ◌↔◌, ◌⊎◌, inl, inr, ◌<◌, ◌≤◌, ℕ, zero, suc, arith, Bool, true, false, not, ◌&&◌, ◌||◌, List, [], ◌∷◌, ◌++◌, Option, Some, None, refl, sym, ap, subst, ◌∙◌}
-use Rattle.std.specs.Prelude.{nat_le}
+use Rattle.std.proofs.Common.{◌≡◌, ◌≢◌, ◌↔◌, ◌⊎◌, inl, inr, ◌<◌, ℕ, zero, suc, arith, Bool, true, false, not, ◌&&◌, ◌||◌, List, [], ◌∷◌, ◌++◌, Option, Some, None, refl, sym, ap, subst, ◌∙◌}
 use Rattle.std.specs.Option.{is_some}
-use Rattle.std.proofs.lemmas.Bool.Decides.{nat_tests}
-use Rattle.def_term.specs.Alive.{is_alive}
 use Rattle.std.proofs.lemmas.Bool.{and_parts}
+use Rattle.def_term.specs.Alive.{is_alive}
 use Rattle.def_term.specs.Tree.{Tree}
 use Rattle.def_term.specs.Order.{same}
 use Rattle.def_term.specs.Names.{word}
@@ -18,8 +16,8 @@ use Rattle.def_session.specs.State.{MarkKind, for_returns, for_exceptions, Sessi
 use Rattle.def_session.specs.Session.{effects_of, reported_for, mark_asked, is_marked, is_for_exceptions, is_marked_for_exceptions}
 use Rattle.def_session.specs.Messages.{last_message}
 use Rattle.def_explain.specs.Causes.{is_false_message}
-use Rattle.def_explain.specs.Differences.{Difference, node_ends, finds_no_tracer, suppresses_message, leaves_no_mark, reports_end, reports_exceptions, catches_error, reports_attempt, raises_noproc, reports_later, clears_spawn_flags, gives_no_flags, evaluates_from_right, CallsAction, OneCallsAction, TwoCallActions, ShowsOrder, OneShowsOrder, calls_action, one_calls_action, two_call_actions, shows_order, one_shows_order, HasNone, has_none, is_change, LosesLastFlag, loses_last_flag, ChangesWithoutFlags, changes_without_flags, is_of_sends, is_of_calls, lowest_left, IsTraced, attempt_flag, ErrorDiffers, has_mark_between, is_traced, has_that_flag, is_attempt_by, error_differs, difference_where}
-use Rattle.def_explain.specs.Laws.{BodyDifferenceIsComputed, OrderDifferenceIsComputed, EventDifferenceIsComputed, ErrorDifferenceIsComputed}
+use Rattle.def_explain.specs.Differences.{Difference, node_ends, finds_no_tracer, suppresses_message, leaves_no_mark, reports_end, reports_exceptions, clears_spawn_flags, gives_no_flags, evaluates_from_right, catches_error, reports_attempt, raises_noproc, reports_later, IsTraced, attempt_flag, StepDiffers, is_traced, has_that_flag, is_attempt_by, step_differs, CallsAction, OneCallsAction, TwoCallActions, ShowsOrder, OneShowsOrder, calls_action, one_calls_action, two_call_actions, shows_order, one_shows_order, HasNone, has_none, is_change, LosesLastFlag, loses_last_flag, ChangesWithoutFlags, changes_without_flags, is_of_sends, is_of_calls, has_mark_below, difference_where}
+use Rattle.def_explain.specs.Laws.{BodyDifferenceIsComputed, OrderDifferenceIsComputed, EventDifferenceIsComputed, StepDifferenceIsComputed}
 
 -- ---- truth values
 
@@ -44,7 +42,7 @@ is_not a h = ap not h
 
 -- ---- no flag is set
 
-pub none-set : (f : Flags) → has_none f ≡ true → HasNone f
+none-set : (f : Flags) → has_none f ≡ true → HasNone f
 none-set f h =
     let a : (not (f send_flag) ≡ true) × _ = and_parts (not (f send_flag)) _ h in
     let b : (not (f receive_flag) ≡ true) × _ = and_parts (not (f receive_flag)) _ a.1 in
@@ -69,7 +67,7 @@ none-set f h =
     each a b c d e g i j k l set_on_link = not_is _ k
     each a b c d e g i j k l set_on_first_link = not_is _ l
 
-pub set-none : (f : Flags) → HasNone f → has_none f ≡ true
+set-none : (f : Flags) → HasNone f → has_none f ≡ true
 set-none f h =
     let n : (x : Flag) → not (f x) ≡ true = λ x. is_not (f x) (h x) in
     both_are _ _ (n send_flag) (both_are _ _ (n receive_flag) (both_are _ _ (n call_flag) (both_are _ _ (n procs_flag) (both_are _ _ (n silent_flag) (both_are _ _ (n arity_flag) (both_are _ _ (n set_on_spawn) (both_are _ _ (n set_on_first_spawn) (both_are _ _ (n set_on_link) (n set_on_first_link)))))))))
@@ -195,13 +193,13 @@ body_difference_is_computed d c es leaves_no_mark = (
 )
 body_difference_is_computed d c es reports_end = (λ h. absurd (cc h), λ h. absurd h)
 body_difference_is_computed d c es reports_exceptions = (λ h. absurd (cc h), λ h. absurd h)
+body_difference_is_computed d c es clears_spawn_flags = (λ h. absurd (cc h), λ h. absurd h)
+body_difference_is_computed d c es gives_no_flags = (λ h. absurd (cc h), λ h. absurd h)
+body_difference_is_computed d c es evaluates_from_right = (λ h. absurd (cc h), λ h. absurd h)
 body_difference_is_computed d c es catches_error = (λ h. absurd (cc h), λ h. absurd h)
 body_difference_is_computed d c es reports_attempt = (λ h. absurd (cc h), λ h. absurd h)
 body_difference_is_computed d c es raises_noproc = (λ h. absurd (cc h), λ h. absurd h)
 body_difference_is_computed d c es reports_later = (λ h. absurd (cc h), λ h. absurd h)
-body_difference_is_computed d c es clears_spawn_flags = (λ h. absurd (cc h), λ h. absurd h)
-body_difference_is_computed d c es gives_no_flags = (λ h. absurd (cc h), λ h. absurd h)
-body_difference_is_computed d c es evaluates_from_right = (λ h. absurd (cc h), λ h. absurd h)
 
 -- ---- events without a body
 
@@ -210,46 +208,30 @@ for-exceptions None h = absurd (cc h)
 for-exceptions (Some for_returns) h = absurd (cc h)
 for-exceptions (Some for_exceptions) h = refl
 
-le_is : (a b : ℕ) → nat_le a b ≡ true → a ≤ b
-le_is a b e = grind (arith, nat_tests)
-
-is_le : (a b : ℕ) → a ≤ b → nat_le a b ≡ true
-is_le a b h = grind (arith, nat_tests)
-
-module _ (s : Session) (p lowest : ℕ) where
-  -- one is at this depth
-  abbrev is_here : ℕ → Bool
-  is_here n = nat_le lowest n && is_marked_for_exceptions s p n
-
-  abbrev IsFound : ℕ → Type 0
-  IsFound n = (depth : ℕ) × (lowest ≤ depth) × (depth < n) × (mark_of s p depth ≡ Some for_exceptions)
-
-  mark-between : (n : ℕ) → has_mark_between s p lowest n ≡ true → IsFound n
-  unfolding has_mark_between
-  mark-between zero h = absurd (cc h)
-  mark-between (suc n) h = go (mark-between n) (is_here n) refl
+module _ (s : Session) (p : ℕ) where
+  mark-below : (n : ℕ) → has_mark_below s p n ≡ true → (depth : ℕ) × (depth < n) × (mark_of s p depth ≡ Some for_exceptions)
+  unfolding has_mark_below
+  mark-below zero h = absurd (cc h)
+  mark-below (suc n) h = go (mark-below n) (is_marked_for_exceptions s p n) refl
     where
-      go : (has_mark_between s p lowest n ≡ true → IsFound n) → (b : Bool) → is_here n ≡ b → IsFound (suc n)
-      go more true e =
-          let both : (nat_le lowest n ≡ true) × (is_marked_for_exceptions s p n ≡ true) = and_parts (nat_le lowest n) _ e in
-          (n, le_is lowest n both.0, omega arith, for-exceptions (mark_of s p n) both.1)
-      go more false e =
-          let m : IsFound n = more (ap (λ b. b || has_mark_between s p lowest n) (sym e) ∙ h) in
-          (m.0, m.1, omega (arith, m.2), m.3)
+      later : (depth : ℕ) × (depth < n) × (mark_of s p depth ≡ Some for_exceptions) → (depth : ℕ) × (depth < suc n) × (mark_of s p depth ≡ Some for_exceptions)
+      later m = (m.0, omega (arith, m.1), m.2)
 
-  between-mark : (n depth : ℕ) → lowest ≤ depth → depth < n → mark_of s p depth ≡ Some for_exceptions → has_mark_between s p lowest n ≡ true
-  unfolding has_mark_between
-  between-mark zero depth k l h = absurd (omega (arith, l))
-  between-mark (suc n) depth k l h = go (λ j. between-mark n depth k j h) (is_here n) refl
+      go : (has_mark_below s p n ≡ true → (depth : ℕ) × (depth < n) × (mark_of s p depth ≡ Some for_exceptions)) → (b : Bool) → is_marked_for_exceptions s p n ≡ b → (depth : ℕ) × (depth < suc n) × (mark_of s p depth ≡ Some for_exceptions)
+      go more true e = (n, omega arith, for-exceptions (mark_of s p n) e)
+      go more false e = later (more (ap (λ b. b || has_mark_below s p n) (sym e) ∙ h))
+
+  below-mark : (n depth : ℕ) → depth < n → mark_of s p depth ≡ Some for_exceptions → has_mark_below s p n ≡ true
+  unfolding has_mark_below
+  below-mark zero depth l h = absurd (omega (arith, l))
+  below-mark (suc n) depth l h = go (λ k. below-mark n depth k h) (is_marked_for_exceptions s p n) refl
     where
-      other : is_here n ≡ false → depth ≢ n
-      other e is =
-          let here : is_here n ≡ true = both_are _ _ (is_le lowest n (subst (λ m. lowest ≤ m) is k)) (ap is_for_exceptions (ap (mark_of s p) (sym is) ∙ h)) in
-          absurd (cc (sym e ∙ here))
+      other : is_marked_for_exceptions s p n ≡ false → depth ≢ n
+      other e is = absurd (cc (sym e ∙ ap is_for_exceptions (ap (mark_of s p) (sym is) ∙ h)))
 
-      go : (depth < n → has_mark_between s p lowest n ≡ true) → (b : Bool) → is_here n ≡ b → has_mark_between s p lowest (suc n) ≡ true
-      go more true e = ap (λ b. b || has_mark_between s p lowest n) e
-      go more false e = ap (λ b. b || has_mark_between s p lowest n) e ∙ more (omega (arith, l, other e))
+      go : (depth < n → has_mark_below s p n ≡ true) → (b : Bool) → is_marked_for_exceptions s p n ≡ b → has_mark_below s p (suc n) ≡ true
+      go more true e = ap (λ b. b || has_mark_below s p n) e
+      go more false e = ap (λ b. b || has_mark_below s p n) e ∙ more (omega (arith, l, other e))
 
 -- ---- the order of evaluation
 
@@ -353,6 +335,40 @@ where-holds b y x P e = (
   λ h. (said-where b y x).1 (h.0, e.1 h.1),
 )
 
+pub event_difference_is_computed : EventDifferenceIsComputed
+event_difference_is_computed s (returned p f t depth) x =
+    where-holds _ reports_end x _ (λ h. three_parts (is_marked s p depth) _ _ h, λ h. three_are _ _ _ h.0 h.1 h.2)
+event_difference_is_computed s (raised p f c t depth) x =
+    where-holds _ reports_end x _ (
+      λ h.
+          let y : (is_marked_for_exceptions s p depth ≡ true) × (flags_at s p call_flag ≡ true) × (flags_at s p silent_flag ≡ true) = three_parts (is_marked_for_exceptions s p depth) _ _ h in
+          (for-exceptions (mark_of s p depth) y.0, y.1, y.2),
+      λ h. three_are _ _ _ (ap is_for_exceptions h.0) h.1 h.2,
+    )
+event_difference_is_computed s (exited p r) x =
+    where-holds _ reports_exceptions x _ (
+      λ h.
+          let y : (flags_at s p call_flag ≡ true) × (has_mark_below s p (suc FRAMES) ≡ true) = and_parts (flags_at s p call_flag) _ h in
+          let m : (depth : ℕ) × (depth < suc FRAMES) × (mark_of s p depth ≡ Some for_exceptions) = mark-below s p (suc FRAMES) y.1 in
+          (y.0, (m.0, omega (arith, m.1), m.2)),
+      λ h. both_are _ _ h.0 (below-mark s p (suc FRAMES) h.1.0 (omega (arith, h.1.1)) h.1.2),
+    )
+event_difference_is_computed s (spawned child parent f args) x =
+    where-holds _ clears_spawn_flags x _ (λ h. and_parts (flags_at s parent set_on_first_spawn) _ h, λ h. both_are _ _ h.0 h.1)
+event_difference_is_computed s (getting_linked p linker) x = where-holds _ gives_no_flags x _ (λ h. not_is _ h, λ h. is_not _ h)
+event_difference_is_computed s (sent p t to alive) x = (λ h. absurd (cc h), λ h. absurd h)
+event_difference_is_computed s (received p sender t) x = (λ h. absurd (cc h), λ h. absurd h)
+event_difference_is_computed s (called p c) x = (λ h. absurd (cc h), λ h. absurd h)
+event_difference_is_computed s (spawning p child f args) x = (λ h. absurd (cc h), λ h. absurd h)
+event_difference_is_computed s (linked p q) x = (λ h. absurd (cc h), λ h. absurd h)
+event_difference_is_computed s (unlinked p q) x = (λ h. absurd (cc h), λ h. absurd h)
+event_difference_is_computed s (getting_unlinked p q) x = (λ h. absurd (cc h), λ h. absurd h)
+
+pub order_difference_is_computed : OrderDifferenceIsComputed
+order_difference_is_computed body x = where-holds _ evaluates_from_right x _ (one-order-there body, there-one-order body)
+
+-- ---- by the step at an event
+
 -- a process that has a flag
 traced-is : (s : Session) (p : ℕ) → is_traced s p ≡ true → IsTraced s p
 traced-is s p h none = absurd (cc (sym (not_is _ h) ∙ set-none (flags_at s p) none))
@@ -369,50 +385,6 @@ some-is : {X : Type 0} (o : Option X) → is_some o ≡ true → (x : X) × (o �
 some-is None h = absurd (cc h)
 some-is (Some x) h = (x, refl)
 
-pub event_difference_is_computed : EventDifferenceIsComputed
-event_difference_is_computed s l (returned p f t depth) x =
-    where-holds _ reports_end x _ (λ h. three_parts (is_marked s p depth) _ _ h, λ h. three_are _ _ _ h.0 h.1 h.2)
-event_difference_is_computed s l (raised p f c t depth) x =
-    where-holds _ reports_end x _ (
-      λ h.
-          let y : (is_marked_for_exceptions s p depth ≡ true) × (flags_at s p call_flag ≡ true) × (flags_at s p silent_flag ≡ true) = three_parts (is_marked_for_exceptions s p depth) _ _ h in
-          (for-exceptions (mark_of s p depth) y.0, y.1, y.2),
-      λ h. three_are _ _ _ (ap is_for_exceptions h.0) h.1 h.2,
-    )
-event_difference_is_computed s l (exited p r) x =
-    where-holds _ reports_exceptions x _ (
-      λ h.
-          let y : (flags_at s p call_flag ≡ true) × (has_mark_between s p (lowest_left l) (suc FRAMES) ≡ true) = and_parts (flags_at s p call_flag) _ h in
-          let m : (depth : ℕ) × (lowest_left l ≤ depth) × (depth < suc FRAMES) × (mark_of s p depth ≡ Some for_exceptions) = mark-between s p (lowest_left l) (suc FRAMES) y.1 in
-          (y.0, (m.0, m.1, omega (arith, m.2), m.3)),
-      λ h. both_are _ _ h.0 (between-mark s p (lowest_left l) (suc FRAMES) h.1.0 h.1.1 (omega (arith, h.1.2)) h.1.3),
-    )
-event_difference_is_computed s l (linked p other) x =
-    where-holds _ raises_noproc x _ (
-      λ h. let y : (is_traced s p ≡ true) × (not (is_alive s.alive other) ≡ true) = and_parts (is_traced s p) _ h in (traced-is s p y.0, not_is _ y.1),
-      λ h. both_are _ _ (is-traced s p h.0) (is_not _ h.1),
-    )
-event_difference_is_computed s l (received p sender t) x =
-    where-holds _ reports_later x _ (
-      λ h.
-          let y : (not l.is_awaited ≡ true) × (is_some (reported_for s (received p sender t) (effects_of s (received p sender t))).1 ≡ true) = and_parts (not l.is_awaited) _ h in
-          (not_is _ y.0, some-is _ y.1),
-      λ h. both_are _ _ (is_not _ h.0) (ap is_some h.1.1),
-    )
-event_difference_is_computed s l (spawned child parent f args) x =
-    where-holds _ clears_spawn_flags x _ (λ h. and_parts (flags_at s parent set_on_first_spawn) _ h, λ h. both_are _ _ h.0 h.1)
-event_difference_is_computed s l (getting_linked p linker) x = where-holds _ gives_no_flags x _ (λ h. not_is _ h, λ h. is_not _ h)
-event_difference_is_computed s l (sent p t to alive) x = (λ h. absurd (cc h), λ h. absurd h)
-event_difference_is_computed s l (called p c) x = (λ h. absurd (cc h), λ h. absurd h)
-event_difference_is_computed s l (spawning p child f args) x = (λ h. absurd (cc h), λ h. absurd h)
-event_difference_is_computed s l (unlinked p q) x = (λ h. absurd (cc h), λ h. absurd h)
-event_difference_is_computed s l (getting_unlinked p q) x = (λ h. absurd (cc h), λ h. absurd h)
-
-pub order_difference_is_computed : OrderDifferenceIsComputed
-order_difference_is_computed body x = where-holds _ evaluates_from_right x _ (one-order-there body, there-one-order body)
-
--- ---- the end of a process by a run-time error
-
 that-flag-is : (s : Session) (p : ℕ) (o : Option Flag) → has_that_flag s p o ≡ true → (f : Flag) × (o ≡ Some f) × (flags_at s p f ≡ true)
 that-flag-is s p None h = absurd (cc h)
 that-flag-is s p (Some f) h = (f, refl, h)
@@ -421,7 +393,7 @@ attempt-is : (s : Session) (p : ℕ) (o : Option RuntimeError) → is_attempt_by
 attempt-is s p None h = absurd (cc h)
 attempt-is s p (Some x) h = let f : (f : Flag) × (attempt_flag x ≡ Some f) × (flags_at s p f ≡ true) = that-flag-is s p (attempt_flag x) h in (x, f.0, refl, f.1, f.2)
 
-at-exit : (s : Session) (l : Outlook) (p : ℕ) (r : Tree) (x : Difference) → (error_differs s l (exited p r) x ≡ true) ↔ ErrorDiffers s l (exited p r) x
+at-exit : (s : Session) (l : Outlook) (p : ℕ) (r : Tree) (x : Difference) → (step_differs s l (exited p r) x ≡ true) ↔ StepDiffers s l (exited p r) x
 at-exit s l p r reports_attempt = (
   attempt-is s p l.error,
   λ h. ap (is_attempt_by s p) h.2 ∙ ap (has_that_flag s p) h.3 ∙ h.4,
@@ -439,22 +411,60 @@ at-exit s l p r suppresses_message = (λ h. absurd (cc h), λ h. absurd h)
 at-exit s l p r leaves_no_mark = (λ h. absurd (cc h), λ h. absurd h)
 at-exit s l p r reports_end = (λ h. absurd (cc h), λ h. absurd h)
 at-exit s l p r reports_exceptions = (λ h. absurd (cc h), λ h. absurd h)
-at-exit s l p r raises_noproc = (λ h. absurd (cc h), λ h. absurd h)
-at-exit s l p r reports_later = (λ h. absurd (cc h), λ h. absurd h)
 at-exit s l p r clears_spawn_flags = (λ h. absurd (cc h), λ h. absurd h)
 at-exit s l p r gives_no_flags = (λ h. absurd (cc h), λ h. absurd h)
 at-exit s l p r evaluates_from_right = (λ h. absurd (cc h), λ h. absurd h)
+at-exit s l p r raises_noproc = (λ h. absurd (cc h), λ h. absurd h)
+at-exit s l p r reports_later = (λ h. absurd (cc h), λ h. absurd h)
 
-pub error_difference_is_computed : ErrorDifferenceIsComputed
-error_difference_is_computed s l (exited p r) x = at-exit s l p r x
-error_difference_is_computed s l (sent p t to alive) x = (λ h. absurd (cc h), λ h. absurd h)
-error_difference_is_computed s l (received p sender t) x = (λ h. absurd (cc h), λ h. absurd h)
-error_difference_is_computed s l (called p c) x = (λ h. absurd (cc h), λ h. absurd h)
-error_difference_is_computed s l (returned p f t depth) x = (λ h. absurd (cc h), λ h. absurd h)
-error_difference_is_computed s l (raised p f c t depth) x = (λ h. absurd (cc h), λ h. absurd h)
-error_difference_is_computed s l (spawning p child f args) x = (λ h. absurd (cc h), λ h. absurd h)
-error_difference_is_computed s l (spawned p parent f args) x = (λ h. absurd (cc h), λ h. absurd h)
-error_difference_is_computed s l (linked p q) x = (λ h. absurd (cc h), λ h. absurd h)
-error_difference_is_computed s l (unlinked p q) x = (λ h. absurd (cc h), λ h. absurd h)
-error_difference_is_computed s l (getting_linked p q) x = (λ h. absurd (cc h), λ h. absurd h)
-error_difference_is_computed s l (getting_unlinked p q) x = (λ h. absurd (cc h), λ h. absurd h)
+at-link : (s : Session) (l : Outlook) (p other : ℕ) (x : Difference) → (step_differs s l (linked p other) x ≡ true) ↔ StepDiffers s l (linked p other) x
+at-link s l p other raises_noproc = (
+  λ h. let y : (is_traced s p ≡ true) × (not (is_alive s.alive other) ≡ true) = and_parts (is_traced s p) _ h in (traced-is s p y.0, not_is _ y.1),
+  λ h. both_are _ _ (is-traced s p h.0) (is_not _ h.1),
+)
+at-link s l p other node_ends = (λ h. absurd (cc h), λ h. absurd h)
+at-link s l p other finds_no_tracer = (λ h. absurd (cc h), λ h. absurd h)
+at-link s l p other suppresses_message = (λ h. absurd (cc h), λ h. absurd h)
+at-link s l p other leaves_no_mark = (λ h. absurd (cc h), λ h. absurd h)
+at-link s l p other reports_end = (λ h. absurd (cc h), λ h. absurd h)
+at-link s l p other reports_exceptions = (λ h. absurd (cc h), λ h. absurd h)
+at-link s l p other clears_spawn_flags = (λ h. absurd (cc h), λ h. absurd h)
+at-link s l p other gives_no_flags = (λ h. absurd (cc h), λ h. absurd h)
+at-link s l p other evaluates_from_right = (λ h. absurd (cc h), λ h. absurd h)
+at-link s l p other catches_error = (λ h. absurd (cc h), λ h. absurd h)
+at-link s l p other reports_attempt = (λ h. absurd (cc h), λ h. absurd h)
+at-link s l p other reports_later = (λ h. absurd (cc h), λ h. absurd h)
+
+at-receive : (s : Session) (l : Outlook) (p sender : ℕ) (t : Tree) (x : Difference) → (step_differs s l (received p sender t) x ≡ true) ↔ StepDiffers s l (received p sender t) x
+at-receive s l p sender t reports_later = (
+  λ h.
+      let y : (not l.is_awaited ≡ true) × (is_some (reported_for s (received p sender t) (effects_of s (received p sender t))).1 ≡ true) = and_parts (not l.is_awaited) _ h in
+      (not_is _ y.0, some-is _ y.1),
+  λ h. both_are _ _ (is_not _ h.0) (ap is_some h.1.1),
+)
+at-receive s l p sender t node_ends = (λ h. absurd (cc h), λ h. absurd h)
+at-receive s l p sender t finds_no_tracer = (λ h. absurd (cc h), λ h. absurd h)
+at-receive s l p sender t suppresses_message = (λ h. absurd (cc h), λ h. absurd h)
+at-receive s l p sender t leaves_no_mark = (λ h. absurd (cc h), λ h. absurd h)
+at-receive s l p sender t reports_end = (λ h. absurd (cc h), λ h. absurd h)
+at-receive s l p sender t reports_exceptions = (λ h. absurd (cc h), λ h. absurd h)
+at-receive s l p sender t clears_spawn_flags = (λ h. absurd (cc h), λ h. absurd h)
+at-receive s l p sender t gives_no_flags = (λ h. absurd (cc h), λ h. absurd h)
+at-receive s l p sender t evaluates_from_right = (λ h. absurd (cc h), λ h. absurd h)
+at-receive s l p sender t catches_error = (λ h. absurd (cc h), λ h. absurd h)
+at-receive s l p sender t reports_attempt = (λ h. absurd (cc h), λ h. absurd h)
+at-receive s l p sender t raises_noproc = (λ h. absurd (cc h), λ h. absurd h)
+
+pub step_difference_is_computed : StepDifferenceIsComputed
+step_difference_is_computed s l (exited p r) x = at-exit s l p r x
+step_difference_is_computed s l (linked p other) x = at-link s l p other x
+step_difference_is_computed s l (received p sender t) x = at-receive s l p sender t x
+step_difference_is_computed s l (sent p t to alive) x = (λ h. absurd (cc h), λ h. absurd h)
+step_difference_is_computed s l (called p c) x = (λ h. absurd (cc h), λ h. absurd h)
+step_difference_is_computed s l (returned p f t depth) x = (λ h. absurd (cc h), λ h. absurd h)
+step_difference_is_computed s l (raised p f c t depth) x = (λ h. absurd (cc h), λ h. absurd h)
+step_difference_is_computed s l (spawning p child f args) x = (λ h. absurd (cc h), λ h. absurd h)
+step_difference_is_computed s l (spawned p parent f args) x = (λ h. absurd (cc h), λ h. absurd h)
+step_difference_is_computed s l (unlinked p q) x = (λ h. absurd (cc h), λ h. absurd h)
+step_difference_is_computed s l (getting_linked p q) x = (λ h. absurd (cc h), λ h. absurd h)
+step_difference_is_computed s l (getting_unlinked p q) x = (λ h. absurd (cc h), λ h. absurd h)

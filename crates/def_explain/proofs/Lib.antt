@@ -16,6 +16,7 @@ mod RunMessages
 mod Differences
 pub mod DifferenceLines
 mod DifferenceRows
+mod NodeBodies
 mod NodeSessions
 pub mod NodeCommands
 mod NodeMoves

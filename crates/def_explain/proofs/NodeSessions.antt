@@ -1,7 +1,7 @@
--- A session in which no process has a flag is still such a session after an event, or after a command that gives none; and a node does nothing otherwise at an event of it.
-use Rattle.std.proofs.Common.{◌≡◌, ℕ, zero, suc, ◌-◌, Bool, true, false, not, ◌&&◌, ◌||◌, List, [], ◌∷◌, ◌++◌, filter, replicate, slice_get, slice_set, unwrap_or, Option, Some, None, option_to_list, Ok, Err, refl, sym, ap, ap₂, subst, ◌∙◌, if◌then◌else◌}
+-- A session with no flag, setting or mark by which a node can differ is still such a session after an event, or after a command that adds none; and a node does nothing otherwise at an event of it.
+use Rattle.std.proofs.Common.{◌≡◌, ℕ, zero, suc, ◌-◌, Bool, true, false, not, ◌&&◌, ◌||◌, List, [], ◌∷◌, ◌++◌, filter, replicate, slice_get, slice_set, unwrap_or, Option, Some, None, option_to_list, Ok, Err, refl, sym, ap, ap₂, subst, ◌∙◌, ◌==◌, if◌then◌else◌}
 use Rattle.std.specs.List.{AllByRecursion}
-use Rattle.std.proofs.lemmas.Bool.{or_from, and_from, and_left, and_right}
+use Rattle.std.proofs.lemmas.Bool.{or_parts, or_from, and_from, and_left, and_right}
 use Rattle.def_term.specs.Tree.{Tree, pid}
 use Rattle.def_term.specs.Names.{word}
 use Rattle.def_term.specs.Alive.{FIRST_PID, PROCESSES, Alive, with_alive, is_alive}
@@ -10,17 +10,19 @@ use Rattle.def_script.specs.Exports.{Exports}
 use Rattle.def_spec.specs.Flags.{Flag, send_flag, receive_flag, call_flag, procs_flag, silent_flag, arity_flag, set_on_spawn, set_on_first_spawn, set_on_link, set_on_first_link, Flags, no_flags, only, union, without, has_all, same_flags, flags_listed, given_and_kept, after_spawn, after_link}
 use Rattle.def_spec.specs.Expressions.{for_calls, for_sends, for_receives, Effect}
 use Rattle.def_spec.specs.Reading.{Reads}
+use Rattle.def_node.specs.Process.{FRAMES}
 use Rattle.def_node.specs.Event.{Event, sent, received, called, returned, raised, spawning, spawned, exited, linked, unlinked, getting_linked, getting_unlinked}
-use Rattle.def_outlook.specs.Outlook.{RuntimeError, Outlook}
+use Rattle.def_outlook.specs.Outlook.{Outlook}
 use Rattle.def_session.specs.Settings.{FunctionPattern, Setting, setting_of, trace_pattern_of, options_of, setting_for}
-use Rattle.def_session.specs.State.{Phase, absent, live, destroyed, Mark, Session, new_session, flags_at, with_flags, with_marks}
-use Rattle.def_session.specs.Session.{with_both, inherit, context, is_marked, is_marked_for_exceptions, effects_of, where_set, where_marked, finish, reported_for, reported_in, event_reported}
+use Rattle.def_session.specs.State.{Phase, absent, live, destroyed, MarkKind, for_returns, Mark, Session, new_session, flags_at, with_flags, marks_at, with_marks, kind_among, mark_of}
+use Rattle.def_session.specs.Messages.{process_of}
+use Rattle.def_session.specs.Session.{with_both, inherit, context, is_marked, is_for_exceptions, is_marked_for_exceptions, effects_of, where_marked, all_affected, mark_asked, mark_frame, unmark_frame, finish, reported_for, reported_in, event_reported}
 use Rattle.def_session.specs.Commands.{Procs, one_process, existing, new_processes, all_processes, procs_of, how_of, changed_flags, all_changed, existing_changed, new_changed, number_term, refuse, flags_set, flags_set_if, function_set, function_set_if, send_set, receive_set, done_live, done_absent, done_destroyed, done_in, command_done}
-use Rattle.def_explain.specs.Differences.{Difference, reports_end, reports_exceptions, catches_error, reports_attempt, raises_noproc, reports_later, clears_spawn_flags, gives_no_flags, HasNone, has_none, is_same_for, difference_where, differences_if, setting_differences, evaluation_differences, attempt_flag, is_traced, has_that_flag, is_attempt_by, is_reported_early, event_difference, error_differs}
+use Rattle.def_explain.specs.Differences.{Difference, reports_end, reports_exceptions, clears_spawn_flags, gives_no_flags, is_same_for, difference_where, differences_if, setting_differences, evaluation_differences, has_mark_below, event_difference}
 use Rattle.def_explain.specs.Accounts.{differences_in_lines, event_lines_in, event_lines}
-use Rattle.def_explain.specs.NodeCommands.{listed_can_differ, command_can_differ}
+use Rattle.def_explain.specs.NodeCommands.{setting_can_differ, read_can_differ, flags_can_differ, listed_can_differ, command_can_differ}
 use Rattle.def_explain.proofs.DifferenceLines.{lines_tell_the_difference}
-use Rattle.def_explain.proofs.Differences.{none-set, set-none}
+use Rattle.def_explain.proofs.NodeBodies.{ArePlainEffects, HasPlainEffects, plain_effects_of_setting, flags_same_after, IsForReturns, plain_mark, has_send, has_receive, has_call, no_difference_by_setting, FunctionsArePlain, plain_setting_for}
 
 -- ---- elements of lists
 
@@ -40,6 +42,14 @@ module _ {X : Type 0} (P : X → Type 0) where
   each-of-same zero x k = tt
   each-of-same (suc n) x k = (k, each-of-same n x k)
 
+  each-in-filter : (f : X → Bool) (xs : List X) → AllByRecursion P xs → AllByRecursion P (filter f xs)
+  each-in-filter f [] h = tt
+  each-in-filter f (x ∷ xs) h = go (f x) (each-in-filter f xs h.1)
+    where
+      go : (b : Bool) → AllByRecursion P (filter f xs) → AllByRecursion P (if b then x ∷ filter f xs else filter f xs)
+      go true k = (h.0, k)
+      go false k = k
+
 -- writing what is there changes nothing
 with-own-element : {X : Type 0} (xs : List X) (i : ℕ) (d : X) → slice_set xs i (unwrap_or (slice_get xs i) d) ≡ xs
 with-own-element [] i d = refl
@@ -48,23 +58,49 @@ with-own-element (x ∷ xs) (suc i) d = ap (λ ys. x ∷ ys) (with-own-element x
 
 -- ---- flags
 
--- none is set
-abbrev HasPlainFlags : Flags → Type 0
-HasPlainFlags f = HasNone f
+-- `silent`, and those that are inherited
+abbrev flag_can_differ : Flag → Bool
+flag_can_differ send_flag = false
+flag_can_differ receive_flag = false
+flag_can_differ call_flag = false
+flag_can_differ procs_flag = false
+flag_can_differ silent_flag = true
+flag_can_differ arity_flag = false
+flag_can_differ set_on_spawn = true
+flag_can_differ set_on_first_spawn = true
+flag_can_differ set_on_link = true
+flag_can_differ set_on_first_link = true
 
-plain-flags : (f : Flags) → not (has_none f) ≡ false → HasPlainFlags f
-plain-flags f h = none-set f (go (has_none f) h)
+-- none of them is set
+abbrev HasPlainFlags : Flags → Type 0
+HasPlainFlags f = (x : Flag) → flag_can_differ x ≡ true → f x ≡ false
+
+plain-flags : (f : Flags) → flags_can_differ f ≡ false → HasPlainFlags f
+plain-flags f h =
+    let a : _ × (f set_on_first_link ≡ false) = or_parts _ (f set_on_first_link) h in
+    let b : _ × (f set_on_link ≡ false) = or_parts _ (f set_on_link) a.0 in
+    let c : _ × (f set_on_first_spawn ≡ false) = or_parts _ (f set_on_first_spawn) b.0 in
+    let d : (f silent_flag ≡ false) × (f set_on_spawn ≡ false) = or_parts (f silent_flag) (f set_on_spawn) c.0 in
+    each d.0 d.1 c.1 b.1 a.1
   where
-    go : (b : Bool) → not b ≡ false → b ≡ true
-    go true e = refl
-    go false e = absurd (cc e)
+    each : f silent_flag ≡ false → f set_on_spawn ≡ false → f set_on_first_spawn ≡ false → f set_on_link ≡ false → f set_on_first_link ≡ false → HasPlainFlags f
+    each a b c d e send_flag k = absurd (cc k)
+    each a b c d e receive_flag k = absurd (cc k)
+    each a b c d e call_flag k = absurd (cc k)
+    each a b c d e procs_flag k = absurd (cc k)
+    each a b c d e silent_flag k = a
+    each a b c d e arity_flag k = absurd (cc k)
+    each a b c d e set_on_spawn k = b
+    each a b c d e set_on_first_spawn k = c
+    each a b c d e set_on_link k = d
+    each a b c d e set_on_first_link k = e
 
 -- nor is one after a change
 plain-union : (f g : Flags) → HasPlainFlags f → HasPlainFlags g → HasPlainFlags (union f g)
-plain-union f g h k x = or_from (f x) (g x) (h x) (k x)
+plain-union f g h k x e = or_from (f x) (g x) (h x e) (k x e)
 
 plain-without : (f g : Flags) → HasPlainFlags f → HasPlainFlags (without f g)
-plain-without f g h x = and_left (f x) (not (g x)) (h x)
+plain-without f g h x e = and_left (f x) (not (g x)) (h x e)
 
 plain-change : (set : Bool) (f old : Flags) → HasPlainFlags f → HasPlainFlags old → HasPlainFlags (changed_flags set f old)
 plain-change true f old h k = plain-union old f k h
@@ -80,7 +116,7 @@ plain-pair always first f h = go (f first) (f always)
     go : (a b : Bool) → HasPlainFlags (pair_by f always first a b).0 × HasPlainFlags (pair_by f always first a b).1
     go true b = (plain-without f _ h, plain-without f _ h)
     go false true = (h, h)
-    go false false = (λ x. refl, h)
+    go false false = (λ x e. refl, h)
 
 -- the flags of parent and child
 plain-spawn : (parent child : Flags) → HasPlainFlags parent → HasPlainFlags child → HasPlainFlags (after_spawn parent child).0 × HasPlainFlags (after_spawn parent child).1
@@ -99,7 +135,7 @@ union-none f = λ i. λ x. or-none (f x) i
 -- a link without a flag for links leaves both as they are
 link-same : (f g : Flags) → HasPlainFlags f → after_link f g ≡ (f, g)
 link-same f g h =
-    ap₂ (λ a b. let pair : Flags × Flags = pair_by f set_on_link set_on_first_link a b in (pair.1, union g pair.0)) (h set_on_first_link) (h set_on_link)
+    ap₂ (λ a b. let pair : Flags × Flags = pair_by f set_on_link set_on_first_link a b in (pair.1, union g pair.0)) (h set_on_first_link refl) (h set_on_link refl)
     ∙ ap {B = Flags × Flags} (λ k. (f, k)) (union-none g)
 
 -- a set of flags is the same as itself
@@ -120,40 +156,78 @@ has-all-itself f =
 same-as-itself : (f : Flags) → same_flags f f ≡ true
 same-as-itself f = and_from (has_all f f) _ (has-all-itself f) (has-all-itself f)
 
+-- ---- marks
+
+-- each is for returns
+abbrev AreForReturns : List Mark → Type 0
+AreForReturns ms = AllByRecursion (λ m. m.kind ≡ for_returns) ms
+
+plain-kind : (ms : List Mark) (depth : ℕ) → AreForReturns ms → IsForReturns (kind_among ms depth)
+plain-kind [] depth h = tt
+plain-kind (m ∷ ms) depth h = go (m.depth == depth) (plain-kind ms depth h.1)
+  where
+    go : (b : Bool) → IsForReturns (kind_among ms depth) → IsForReturns (if b then Some m.kind else kind_among ms depth)
+    go true k = h.0
+    go false k = k
+
+not-for-exceptions : (o : Option MarkKind) → IsForReturns o → is_for_exceptions o ≡ false
+not-for-exceptions None h = refl
+not-for-exceptions (Some k) h = ap (λ x. is_for_exceptions (Some x)) h
+
 -- ---- a session
 
--- no process has a flag, nor will a new one
+-- none of its flags, settings and marks is one by which a node can differ
 pub record IsPlain (s : Session) : Type 0 where
   pub of_flags : AllByRecursion HasPlainFlags s.flags
   pub of_new_processes : HasPlainFlags s.new_process_flags
+  pub of_functions : FunctionsArePlain s.functions
+  pub of_sending : setting_can_differ s.sending ≡ false
+  pub of_receiving : setting_can_differ s.receiving ≡ false
+  pub of_marks : AllByRecursion AreForReturns s.marks
 
 -- a new session is plain
 pub new_is_plain : (phase : Phase) (alive : Alive) → IsPlain (new_session phase alive)
-new_is_plain phase alive = record { of_flags = each-of-same HasPlainFlags PROCESSES no_flags (λ x. refl); of_new_processes = λ x. refl }
+new_is_plain phase alive = record {
+  of_flags = each-of-same HasPlainFlags PROCESSES no_flags (λ x e. refl);
+  of_new_processes = λ x e. refl;
+  of_functions = tt;
+  of_sending = refl;
+  of_receiving = refl;
+  of_marks = each-of-same AreForReturns PROCESSES [] tt;
+}
 
 -- with another phase, other living processes, other flags or other marks
 plain-phase : (s : Session) (phase : Phase) → IsPlain s → IsPlain (record s { phase = phase })
-plain-phase s phase h = record { of_flags = h.of_flags; of_new_processes = h.of_new_processes }
+plain-phase s phase h = record { of_flags = h.of_flags; of_new_processes = h.of_new_processes; of_functions = h.of_functions; of_sending = h.of_sending; of_receiving = h.of_receiving; of_marks = h.of_marks }
 
 plain-alive : (s : Session) (alive : Alive) → IsPlain s → IsPlain (record s { alive = alive })
-plain-alive s alive h = record { of_flags = h.of_flags; of_new_processes = h.of_new_processes }
+plain-alive s alive h = record { of_flags = h.of_flags; of_new_processes = h.of_new_processes; of_functions = h.of_functions; of_sending = h.of_sending; of_receiving = h.of_receiving; of_marks = h.of_marks }
 
 plain-table : (s : Session) (t : List Flags) → AllByRecursion HasPlainFlags t → IsPlain s → IsPlain (record s { flags = t })
-plain-table s t k h = record { of_flags = k; of_new_processes = h.of_new_processes }
+plain-table s t k h = record { of_flags = k; of_new_processes = h.of_new_processes; of_functions = h.of_functions; of_sending = h.of_sending; of_receiving = h.of_receiving; of_marks = h.of_marks }
 
 plain-with-flags : (s : Session) (n : ℕ) (f : Flags) → HasPlainFlags f → IsPlain s → IsPlain (with_flags s n f)
 plain-with-flags s n f k h = plain-table s _ (each-with HasPlainFlags s.flags (n - FIRST_PID) f k h.of_flags) h
 
-plain-with-marks : (s : Session) (n : ℕ) (ms : List Mark) → IsPlain s → IsPlain (with_marks s n ms)
-plain-with-marks s n ms h = record { of_flags = h.of_flags; of_new_processes = h.of_new_processes }
+plain-with-marks : (s : Session) (n : ℕ) (ms : List Mark) → AreForReturns ms → IsPlain s → IsPlain (with_marks s n ms)
+plain-with-marks s n ms k h = record {
+  of_flags = h.of_flags;
+  of_new_processes = h.of_new_processes;
+  of_functions = h.of_functions;
+  of_sending = h.of_sending;
+  of_receiving = h.of_receiving;
+  of_marks = each-with AreForReturns s.marks (n - FIRST_PID) ms k h.of_marks;
+}
 
 -- what is read of it
 flags-of : (s : Session) (n : ℕ) → IsPlain s → HasPlainFlags (flags_at s n)
-flags-of s n h = each-at HasPlainFlags s.flags (n - FIRST_PID) no_flags h.of_flags (λ x. refl)
+flags-of s n h = each-at HasPlainFlags s.flags (n - FIRST_PID) no_flags h.of_flags (λ x e. refl)
 
--- it has none
-is-plain-none : (s : Session) (n : ℕ) → IsPlain s → has_none (flags_at s n) ≡ true
-is-plain-none s n h = set-none (flags_at s n) (flags-of s n h)
+marks-of : (s : Session) (n : ℕ) → IsPlain s → AreForReturns (marks_at s n)
+marks-of s n h = each-at AreForReturns s.marks (n - FIRST_PID) [] h.of_marks tt
+
+no-mark-for-exceptions : (s : Session) (p depth : ℕ) → IsPlain s → is_marked_for_exceptions s p depth ≡ false
+no-mark-for-exceptions s p depth h = not-for-exceptions (mark_of s p depth) (plain-kind (marks_at s p) depth (marks-of s p h))
 
 -- ---- inheritance
 
@@ -187,51 +261,60 @@ plain-inherit s (getting_unlinked p q) h = h
 
 -- ---- an event
 
-not-set : (s : Session) (p : ℕ) (f : Flag) (r : Option (List Effect)) → IsPlain s → where_set s p f r ≡ None
-not-set s p f r h = ap (λ b. if b then r else None) (flags-of s p h f)
+plain-where-flag : (s : Session) (b : Bool) (o : Option (List Effect)) → HasPlainEffects o → HasPlainEffects (if b then o else None)
+plain-where-flag s true o h = h
+plain-where-flag s false o h = tt
 
-not-marked : (s : Session) (p : ℕ) (m : Bool) → IsPlain s → where_marked s p m ≡ None
-not-marked s p true h = not-set s p call_flag (Some []) h
-not-marked s p false h = refl
+plain-where-mark : (s : Session) (p : ℕ) (m : Bool) → HasPlainEffects (where_marked s p m)
+plain-where-mark s p true = plain-where-flag s (flags_at s p call_flag) (Some []) tt
+plain-where-mark s p false = tt
 
--- nothing is evaluated
-no-effects : (s : Session) (e : Event) → IsPlain s → effects_of s e ≡ None
-no-effects s (sent p t to alive) h = not-set s p send_flag _ h
-no-effects s (received p sender t) h = not-set s p receive_flag _ h
-no-effects s (called p c) h = not-set s p call_flag _ h
-no-effects s (returned p f t depth) h = not-marked s p _ h
-no-effects s (raised p f c t depth) h = not-marked s p _ h
-no-effects s (spawning p child f args) h = not-set s p procs_flag _ h
-no-effects s (spawned p parent f args) h = not-set s p procs_flag _ h
-no-effects s (exited p r) h = not-set s p procs_flag _ h
-no-effects s (linked p q) h = not-set s p procs_flag _ h
-no-effects s (unlinked p q) h = not-set s p procs_flag _ h
-no-effects s (getting_linked p q) h = not-set s p procs_flag _ h
-no-effects s (getting_unlinked p q) h = not-set s p procs_flag _ h
+plain-effects : (s : Session) (e : Event) → IsPlain s → HasPlainEffects (effects_of s e)
+plain-effects s (sent p t to alive) h = plain-where-flag s (flags_at s p send_flag) _ (plain_effects_of_setting s.sending _ h.of_sending)
+plain-effects s (received p sender t) h = plain-where-flag s (flags_at s p receive_flag) _ (plain_effects_of_setting s.receiving _ h.of_receiving)
+plain-effects s (called p c) h = plain-where-flag s (flags_at s p call_flag) _ (plain_effects_of_setting (setting_for s.functions c) _ (plain_setting_for s.functions c h.of_functions))
+plain-effects s (returned p f t depth) h = plain-where-mark s p _
+plain-effects s (raised p f c t depth) h = plain-where-mark s p _
+plain-effects s (spawning p child f args) h = plain-where-flag s (flags_at s p procs_flag) (Some []) tt
+plain-effects s (spawned p parent f args) h = plain-where-flag s (flags_at s p procs_flag) (Some []) tt
+plain-effects s (exited p r) h = plain-where-flag s (flags_at s p procs_flag) (Some []) tt
+plain-effects s (linked p q) h = plain-where-flag s (flags_at s p procs_flag) (Some []) tt
+plain-effects s (unlinked p q) h = plain-where-flag s (flags_at s p procs_flag) (Some []) tt
+plain-effects s (getting_linked p q) h = plain-where-flag s (flags_at s p procs_flag) (Some []) tt
+plain-effects s (getting_unlinked p q) h = plain-where-flag s (flags_at s p procs_flag) (Some []) tt
 
-plain-finish : (s : Session) (e : Event) → IsPlain s → IsPlain (finish s e [])
-plain-finish s (called p c) h = h
-plain-finish s (returned p f t depth) h = plain-with-marks s p _ h
-plain-finish s (raised p f c t depth) h = plain-with-marks s p _ h
-plain-finish s (exited p r) h =
+plain-mark-frame : (s : Session) (p depth : ℕ) (o : Option MarkKind) → IsForReturns o → IsPlain s → IsPlain (mark_frame s p depth o)
+plain-mark-frame s p depth None k h = h
+plain-mark-frame s p depth (Some kind) k h = plain-with-marks s p (record { depth = depth; kind = kind } ∷ marks_at s p) (k, marks-of s p h) h
+
+plain-unmark-frame : (s : Session) (p depth : ℕ) → IsPlain s → IsPlain (unmark_frame s p depth)
+plain-unmark-frame s p depth h = plain-with-marks s p _ (each-in-filter (λ m. m.kind ≡ for_returns) _ (marks_at s p) (marks-of s p h)) h
+
+plain-finish : (s : Session) (e : Event) (es : List Effect) → ArePlainEffects es → IsPlain s → IsPlain (finish s e es)
+plain-finish s (called p c) es k h = plain-mark-frame s p c.depth (mark_asked es) (plain_mark es k) h
+plain-finish s (returned p f t depth) es k h = plain-unmark-frame s p depth h
+plain-finish s (raised p f c t depth) es k h = plain-unmark-frame s p depth h
+plain-finish s (exited p r) es k h =
     let t : Session = record s { alive = with_alive s.alive p false } in
-    plain-with-marks (with_flags t p no_flags) p [] (plain-with-flags t p no_flags (λ x. refl) (plain-alive s _ h))
-plain-finish s (sent p t to alive) h = h
-plain-finish s (received p sender t) h = h
-plain-finish s (spawning p child f args) h = h
-plain-finish s (spawned p parent f args) h = h
-plain-finish s (linked p q) h = h
-plain-finish s (unlinked p q) h = h
-plain-finish s (getting_linked p q) h = h
-plain-finish s (getting_unlinked p q) h = h
+    plain-with-marks (with_flags t p no_flags) p [] tt (plain-with-flags t p no_flags (λ x e. refl) (plain-alive s _ h))
+plain-finish s (sent p t to alive) es k h = h
+plain-finish s (received p sender t) es k h = h
+plain-finish s (spawning p child f args) es k h = h
+plain-finish s (spawned p parent f args) es k h = h
+plain-finish s (linked p q) es k h = h
+plain-finish s (unlinked p q) es k h = h
+plain-finish s (getting_linked p q) es k h = h
+plain-finish s (getting_unlinked p q) es k h = h
 
-plain-report : (s : Session) (e : Event) → IsPlain s → IsPlain (reported_for s e (effects_of s e)).0
-plain-report s e h = subst (λ o. IsPlain (reported_for s e o).0) (sym (no-effects s e h)) (plain-finish s e h)
+plain-report : (s : Session) (e : Event) (o : Option (List Effect)) → HasPlainEffects o → IsPlain s → IsPlain (reported_for s e o).0
+plain-report s e None k h = plain-finish s e [] tt h
+plain-report s e (Some es) k h =
+    plain-finish (all_affected (process_of e) s es) e es k (subst (λ t. IsPlain (record s { flags = t })) (sym (flags_same_after (process_of e) s.flags es k)) h)
 
 plain-report-in : (x : Phase) (s : Session) (e : Event) → IsPlain s → IsPlain (reported_in x s e).0
 plain-report-in absent s e h = plain-alive s _ h
 plain-report-in destroyed s e h = plain-alive s _ h
-plain-report-in live s e h = plain-report (inherit s e) e (plain-inherit s e h)
+plain-report-in live s e h = plain-report (inherit s e) e _ (plain-effects (inherit s e) e (plain-inherit s e h)) (plain-inherit s e h)
 
 pub event_leaves_plain : (s : Session) (e : Event) → IsPlain s → IsPlain (event_reported s e).0
 event_leaves_plain s e h = plain-report-in s.phase s e h
@@ -251,7 +334,14 @@ plain-existing : (set : Bool) (f : Flags) (s : Session) → HasPlainFlags f → 
 plain-existing set f s k h = plain-table s _ (plain-all-changes set f s.alive s.flags k h.of_flags) h
 
 plain-new-processes : (set : Bool) (f : Flags) (s : Session) → HasPlainFlags f → IsPlain s → IsPlain (new_changed set f s)
-plain-new-processes set f s k h = record { of_flags = h.of_flags; of_new_processes = plain-change set f s.new_process_flags k h.of_new_processes }
+plain-new-processes set f s k h = record {
+  of_flags = h.of_flags;
+  of_new_processes = plain-change set f s.new_process_flags k h.of_new_processes;
+  of_functions = h.of_functions;
+  of_sending = h.of_sending;
+  of_receiving = h.of_receiving;
+  of_marks = h.of_marks;
+}
 
 plain-flags-command : (s : Session) (procs : Procs) (set : Bool) (f : Flags) → HasPlainFlags f → IsPlain s → IsPlain (flags_set s procs set f).0
 plain-flags-command s (one_process n) set f k h = go (is_alive s.alive n)
@@ -269,30 +359,37 @@ plain-flags-command-if s (Some procs) None o k h = h
 plain-flags-command-if s (Some procs) (Some set) None k h = h
 plain-flags-command-if s (Some procs) (Some set) (Some f) k h = plain-flags-command s procs set f (plain-flags f k) h
 
-plain-function-command : (o : Exports) (s : Session) (covered : Option FunctionPattern) (local : Option Bool) (spec : Tree) → IsPlain s → IsPlain (function_set_if o s covered local spec).0
-plain-function-command o s None local spec h = h
-plain-function-command o s (Some covered) None spec h = h
-plain-function-command o s (Some covered) (Some local) spec h = go (setting_of for_calls spec)
+plain-function-command : (o : Exports) (s : Session) (covered : Option FunctionPattern) (local : Option Bool) (spec : Tree) → read_can_differ (setting_of for_calls spec) ≡ false → IsPlain s → IsPlain (function_set_if o s covered local spec).0
+plain-function-command o s None local spec k h = h
+plain-function-command o s (Some covered) None spec k h = h
+plain-function-command o s (Some covered) (Some local) spec k h = go (setting_of for_calls spec) k
   where
-    go : (r : Reads Setting) → IsPlain (function_set o s covered local r).0
-    go (Err e) = h
-    go (Ok setting) = record { of_flags = h.of_flags; of_new_processes = h.of_new_processes }
+    go : (r : Reads Setting) → read_can_differ r ≡ false → IsPlain (function_set o s covered local r).0
+    go (Err e) g = h
+    go (Ok setting) g = record {
+      of_flags = h.of_flags;
+      of_new_processes = h.of_new_processes;
+      of_functions = (g, h.of_functions);
+      of_sending = h.of_sending;
+      of_receiving = h.of_receiving;
+      of_marks = h.of_marks;
+    }
 
-plain-send-command : (s : Session) (r : Reads Setting) → IsPlain s → IsPlain (send_set s r).0
-plain-send-command s (Err e) h = h
-plain-send-command s (Ok setting) h = record { of_flags = h.of_flags; of_new_processes = h.of_new_processes }
+plain-send-command : (s : Session) (r : Reads Setting) → read_can_differ r ≡ false → IsPlain s → IsPlain (send_set s r).0
+plain-send-command s (Err e) k h = h
+plain-send-command s (Ok setting) k h = record { of_flags = h.of_flags; of_new_processes = h.of_new_processes; of_functions = h.of_functions; of_sending = k; of_receiving = h.of_receiving; of_marks = h.of_marks }
 
-plain-receive-command : (s : Session) (r : Reads Setting) → IsPlain s → IsPlain (receive_set s r).0
-plain-receive-command s (Err e) h = h
-plain-receive-command s (Ok setting) h = record { of_flags = h.of_flags; of_new_processes = h.of_new_processes }
+plain-receive-command : (s : Session) (r : Reads Setting) → read_can_differ r ≡ false → IsPlain s → IsPlain (receive_set s r).0
+plain-receive-command s (Err e) k h = h
+plain-receive-command s (Ok setting) k h = record { of_flags = h.of_flags; of_new_processes = h.of_new_processes; of_functions = h.of_functions; of_sending = h.of_sending; of_receiving = k; of_marks = h.of_marks }
 
 plain-command-in-live : (o : Exports) (s : Session) (c : Command) → command_can_differ c ≡ false → IsPlain s → IsPlain (done_live o s c).0
 plain-command-in-live o s (create name tracer) k h = h
 plain-command-in-live o s (destroy name) k h = new_is_plain destroyed s.alive
 plain-command-in-live o s (set_processes name procs how flags) k h = plain-flags-command-if s (procs_of procs) (how_of how) (flags_listed flags) k h
-plain-command-in-live o s (set_function name mfa spec options) k h = plain-function-command o s (trace_pattern_of mfa) (options_of options) spec h
-plain-command-in-live o s (set_send name spec) k h = plain-send-command s (setting_of for_sends spec) h
-plain-command-in-live o s (set_receive name spec) k h = plain-receive-command s (setting_of for_receives spec) h
+plain-command-in-live o s (set_function name mfa spec options) k h = plain-function-command o s (trace_pattern_of mfa) (options_of options) spec k h
+plain-command-in-live o s (set_send name spec) k h = plain-send-command s (setting_of for_sends spec) k h
+plain-command-in-live o s (set_receive name spec) k h = plain-receive-command s (setting_of for_receives spec) k h
 
 plain-command-in-absent : (s : Session) (c : Command) → IsPlain s → IsPlain (done_absent s c).0
 plain-command-in-absent s (create name tracer) h = plain-phase s live h
@@ -321,10 +418,21 @@ command_leaves_plain o s c k h = go s.phase
 -- ---- what a node does otherwise
 
 no-evaluation-difference : (s : Session) (e : Event) → IsPlain s → evaluation_differences s e ≡ []
-no-evaluation-difference s (sent p t to alive) h = ap (λ b. differences_if b (setting_differences s.sending (context s p (pid to ∷ t ∷ []) None))) (flags-of s p h send_flag)
-no-evaluation-difference s (received p sender t) h =
-    ap (λ b. differences_if b (setting_differences s.receiving (context s p (word "nonode@nohost" ∷ pid sender ∷ t ∷ []) None))) (flags-of s p h receive_flag)
-no-evaluation-difference s (called p c) h = ap (λ b. differences_if b (setting_differences (setting_for s.functions c) (context s p c.args c.caller))) (flags-of s p h call_flag)
+no-evaluation-difference s (sent p t to alive) h = go (flags_at s p send_flag) refl
+  where
+    go : (b : Bool) → flags_at s p send_flag ≡ b → differences_if b (setting_differences s.sending (context s p (pid to ∷ t ∷ []) None)) ≡ []
+    go true has = no_difference_by_setting (context s p (pid to ∷ t ∷ []) None) (has_send (flags_at s p) has) (flags-of s p h silent_flag refl) s.sending h.of_sending
+    go false has = refl
+no-evaluation-difference s (received p sender t) h = go (flags_at s p receive_flag) refl
+  where
+    go : (b : Bool) → flags_at s p receive_flag ≡ b → differences_if b (setting_differences s.receiving (context s p (word "nonode@nohost" ∷ pid sender ∷ t ∷ []) None)) ≡ []
+    go true has = no_difference_by_setting (context s p (word "nonode@nohost" ∷ pid sender ∷ t ∷ []) None) (has_receive (flags_at s p) has) (flags-of s p h silent_flag refl) s.receiving h.of_receiving
+    go false has = refl
+no-evaluation-difference s (called p c) h = go (flags_at s p call_flag) refl
+  where
+    go : (b : Bool) → flags_at s p call_flag ≡ b → differences_if b (setting_differences (setting_for s.functions c) (context s p c.args c.caller)) ≡ []
+    go true has = no_difference_by_setting (context s p c.args c.caller) (has_call (flags_at s p) has) (flags-of s p h silent_flag refl) (setting_for s.functions c) (plain_setting_for s.functions c h.of_functions)
+    go false has = refl
 no-evaluation-difference s (returned p f t depth) h = refl
 no-evaluation-difference s (raised p f c t depth) h = refl
 no-evaluation-difference s (spawning p child f args) h = refl
@@ -335,58 +443,32 @@ no-evaluation-difference s (unlinked p q) h = refl
 no-evaluation-difference s (getting_linked p q) h = refl
 no-evaluation-difference s (getting_unlinked p q) h = refl
 
+no-mark-below : (s : Session) (p n : ℕ) → IsPlain s → has_mark_below s p n ≡ false
+unfolding has_mark_below
+no-mark-below s p zero h = refl
+no-mark-below s p (suc n) h = or_from (is_marked_for_exceptions s p n) (has_mark_below s p n) (no-mark-for-exceptions s p n h) (no-mark-below s p n h)
+
 not-where : (b : Bool) (x : Difference) → b ≡ false → difference_where b x ≡ None
 not-where b x h = ap (λ a. difference_where a x) h
 
 no-silent-end : (s : Session) (p : ℕ) (m : Bool) → IsPlain s → (m && (flags_at s p call_flag && flags_at s p silent_flag)) ≡ false
-no-silent-end s p m h = and_right m _ (and_right (flags_at s p call_flag) _ (flags-of s p h silent_flag))
+no-silent-end s p m h = and_right m _ (and_right (flags_at s p call_flag) _ (flags-of s p h silent_flag refl))
 
-not-traced : (s : Session) (p : ℕ) → IsPlain s → is_traced s p ≡ false
-not-traced s p h = ap not (is-plain-none s p h)
-
-no-event-difference : (s : Session) (l : Outlook) (e : Event) → IsPlain s → event_difference s l e ≡ None
-no-event-difference s l (returned p f t depth) h = not-where _ reports_end (no-silent-end s p (is_marked s p depth) h)
-no-event-difference s l (raised p f c t depth) h = not-where _ reports_end (no-silent-end s p (is_marked_for_exceptions s p depth) h)
-no-event-difference s l (exited p r) h = not-where _ reports_exceptions (and_left (flags_at s p call_flag) _ (flags-of s p h call_flag))
-no-event-difference s l (linked p q) h = not-where _ raises_noproc (and_left (is_traced s p) _ (not-traced s p h))
-no-event-difference s l (received p sender t) h =
-    ap (λ o. difference_where (is_reported_early l (reported_for s (received p sender t) o).1) reports_later) (no-effects s (received p sender t) h)
-    ∙ not-where _ reports_later (and_right (not l.is_awaited) false refl)
-no-event-difference s l (spawned child parent f args) h = not-where _ clears_spawn_flags (and_left (flags_at s parent set_on_first_spawn) _ (flags-of s parent h set_on_first_spawn))
-no-event-difference s l (getting_linked p linker) h =
+no-event-difference : (s : Session) (e : Event) → IsPlain s → event_difference s e ≡ None
+no-event-difference s (returned p f t depth) h = not-where _ reports_end (no-silent-end s p (is_marked s p depth) h)
+no-event-difference s (raised p f c t depth) h = not-where _ reports_end (no-silent-end s p (is_marked_for_exceptions s p depth) h)
+no-event-difference s (exited p r) h = not-where _ reports_exceptions (and_right (flags_at s p call_flag) _ (no-mark-below s p (suc FRAMES) h))
+no-event-difference s (spawned child parent f args) h = not-where _ clears_spawn_flags (and_left (flags_at s parent set_on_first_spawn) _ (flags-of s parent h set_on_first_spawn refl))
+no-event-difference s (getting_linked p linker) h =
     ap (λ t. difference_where (not (is_same_for s t linker p)) gives_no_flags) (link-inherits-none s p linker h)
     ∙ ap (λ b. difference_where (not b) gives_no_flags) (and_from _ _ (same-as-itself (flags_at s linker)) (same-as-itself (flags_at s p)))
-no-event-difference s l (sent p t to alive) h = refl
-no-event-difference s l (called p c) h = refl
-no-event-difference s l (spawning p child f args) h = refl
-no-event-difference s l (unlinked p q) h = refl
-no-event-difference s l (getting_unlinked p q) h = refl
-
-no-that-flag : (s : Session) (p : ℕ) (o : Option Flag) → IsPlain s → has_that_flag s p o ≡ false
-no-that-flag s p None h = refl
-no-that-flag s p (Some f) h = flags-of s p h f
-
-no-attempt : (s : Session) (p : ℕ) (o : Option RuntimeError) → IsPlain s → is_attempt_by s p o ≡ false
-no-attempt s p None h = refl
-no-attempt s p (Some x) h = no-that-flag s p (attempt_flag x) h
-
--- those of an error, by whether each is one
-abbrev errors_by : Bool → Bool → List Difference
-errors_by a b = let rest : List Difference = if b then catches_error ∷ [] else [] in if a then reports_attempt ∷ rest else rest
-
-no-error-difference : (s : Session) (l : Outlook) (e : Event) → IsPlain s → filter (error_differs s l e) (reports_attempt ∷ catches_error ∷ []) ≡ []
-no-error-difference s l (exited p r) h = ap₂ errors_by (no-attempt s p l.error h) (and_left (is_traced s p) _ (not-traced s p h))
-no-error-difference s l (sent p t to alive) h = refl
-no-error-difference s l (received p sender t) h = refl
-no-error-difference s l (called p c) h = refl
-no-error-difference s l (returned p f t depth) h = refl
-no-error-difference s l (raised p f c t depth) h = refl
-no-error-difference s l (spawning p child f args) h = refl
-no-error-difference s l (spawned p parent f args) h = refl
-no-error-difference s l (linked p q) h = refl
-no-error-difference s l (unlinked p q) h = refl
-no-error-difference s l (getting_linked p q) h = refl
-no-error-difference s l (getting_unlinked p q) h = refl
+no-event-difference s (sent p t to alive) h = refl
+no-event-difference s (received p sender t) h = refl
+no-event-difference s (called p c) h = refl
+no-event-difference s (spawning p child f args) h = refl
+no-event-difference s (linked p q) h = refl
+no-event-difference s (unlinked p q) h = refl
+no-event-difference s (getting_unlinked p q) h = refl
 
 -- a session that isn't there makes no lines of an event
 pub event_without_difference : (s : Session) (l : Outlook) (e : Event) → IsPlain s → differences_in_lines (event_lines s l e) ≡ []
@@ -395,6 +477,4 @@ event_without_difference s l e h = go s.phase refl
     go : (x : Phase) → s.phase ≡ x → differences_in_lines (event_lines s l e) ≡ []
     go absent k = ap (λ x. differences_in_lines (event_lines_in x s l e)) k
     go destroyed k = ap (λ x. differences_in_lines (event_lines_in x s l e)) k
-    go live k =
-        lines_tell_the_difference s l e k
-        ∙ ap₂ (λ a b. a ++ b) (no-evaluation-difference s e h) (ap₂ (λ a b. a ++ option_to_list b) (no-error-difference s l e h) (no-event-difference s l e h))
+    go live k = lines_tell_the_difference s l e k ∙ ap₂ (λ a b. a ++ option_to_list b) (no-evaluation-difference s e h) (no-event-difference s e h)

@@ -7,7 +7,7 @@ use Rattle.def_term.specs.Names.{word}
 use Rattle.def_term.specs.Text.{is_written_bare}
 use Rattle.def_script.specs.Program.{error, Program, send, catch, give_back, raise}
 use Rattle.def_run.proofs.Samples.{number, braces, brackets, function, entry, call_named, spawns, program, creates, sets, mfa_of, sets_function, sets_send, lines}
-use Rattle.def_explain.specs.Differences.{has_mark_between}
+use Rattle.def_explain.specs.Differences.{has_mark_below}
 use Rattle.def_explain.specs.NodeMoves.{node_note}
 use Rattle.def_explain.specs.NodeCommands.{can_differ}
 use Rattle.def_explain.specs.RunTexts.{Filter, account_text}
@@ -71,12 +71,12 @@ no_moves_of_a_node = refl
 pub no_note_of_a_node : node_note (taken_flag ("send" ∷ "call" ∷ []) "send") (0 ∷ 0 ∷ 0 ∷ 100 ∷ 100 ∷ []) ≡ None
 no_note_of_a_node = refl
 
--- what a command can lead to: one that gives a flag, and those that give none
-pub a_flag_is_given : can_differ two_sends ≡ true
-a_flag_is_given = refl
+-- what a command can lead to: a body that clears a flag, and one that doesn't
+pub a_flag_can_go : can_differ (taken_flag ("send" ∷ "call" ∷ []) "send") ≡ true
+a_flag_can_go = refl
 
-pub no_flag_is_given : can_differ (program [] [] (creates "s1" "t1" ∷ sets "s1" (word "all") [] ∷ sets_send "s1" (brackets []) ∷ [])) ≡ false
-no_flag_is_given = refl
+pub no_flag_can_go : can_differ two_sends ≡ false
+no_flag_can_go = refl
 
 -- a child inherits, and its exit takes the flags away
 pub a_child_inherits : account_text everything (program (function "go" [] (spawns "kid" [] ∷ []) ∷ function "kid" [] [] ∷ []) (entry "go" [] ∷ [])
@@ -119,7 +119,7 @@ pub why_an_exception_is_missing : account_text everything (program (function "go
     ∷ "  s2: the call is marked for returns alone" ∷ "  s2: the mark is gone"
     ∷ "10 100 <0.100.0> return_from {m,go,0} {'EXIT',{bad,[]}}" ∷ "  s1: the call has no mark" ∷ "  s2: the call has no mark"
     ∷ "10 100 <0.100.0> exit normal" ∷ "  s1: no flag procs" ∷ "  s1: <0.100.0> loses call" ∷ "  s2: no flag procs" ∷ "  s2: <0.100.0> loses call" ∷ [])
-unfolding is_written_bare digits has_mark_between
+unfolding is_written_bare digits has_mark_below
 why_an_exception_is_missing = refl
 
 -- the call that marks for exceptions clears `call`: it is reported, the exception isn't, and the mark is gone all the same

@@ -1,6 +1,6 @@
 -- What one session makes of an event or a command, line by line (own).
 -- Depends on what a session makes of an event, on why it reports nothing, on what a node does otherwise, and on the texts of reasons and effects.
-use Rattle.std.specs.Prelude.{ℕ, suc, if◌then◌else◌, List, [], ◌∷◌, ◌++◌, map, Option, Some, None, codes, decimal}
+use Rattle.std.specs.Prelude.{ℕ, suc, if◌then◌else◌, List, [], ◌∷◌, ◌++◌, map, Option, Some, None, option_to_list, codes, decimal}
 use Rattle.std.specs.Option.{unwrap_or}
 use Rattle.def_term.specs.Tree.{Tree, pid}
 use Rattle.def_term.specs.Names.{Mfa, word}
@@ -18,14 +18,15 @@ use Rattle.def_session.specs.Session.{inherit, effects_of, mark_asked, is_marked
 use Rattle.def_session.specs.Commands.{command_done}
 use Rattle.def_explain.specs.Causes.{Cause, no_mark, marked_for_returns, no_flag, no_setting, of_named_calls, switched_off, no_clause, silenced, message_false, cause_of}
 use Rattle.def_explain.specs.Verdicts.{Verdict, fails, fires, verdict_of}
-use Rattle.def_explain.specs.Differences.{Difference, clause_differences, event_differences}
+use Rattle.def_explain.specs.Differences.{Difference, clause_differences, event_difference, step_differences}
 use Rattle.def_explain.specs.Texts.{said_of_each, effects_text, reason_text, clause_text}
 
--- what is said, a message that is reported, or what a running node does otherwise
+-- what is said, a message that is reported, what a running node does otherwise, or what it does otherwise by the step
 pub data Line : Type 0 where
   said : List ℕ → Line
   tells : Tree → Line
   differs : Difference → Line
+  steps_otherwise : Difference → Line
 
 -- the messages among these lines
 abbrev pub reported_in_lines : List Line → List Tree
@@ -33,13 +34,15 @@ reported_in_lines [] = []
 reported_in_lines (said text ∷ ls) = reported_in_lines ls
 reported_in_lines (tells t ∷ ls) = t ∷ reported_in_lines ls
 reported_in_lines (differs x ∷ ls) = reported_in_lines ls
+reported_in_lines (steps_otherwise x ∷ ls) = reported_in_lines ls
 
--- what a node does otherwise among these lines
+-- what a node does otherwise among these lines, but for what it does otherwise by the step
 abbrev pub differences_in_lines : List Line → List Difference
 differences_in_lines [] = []
 differences_in_lines (said text ∷ ls) = differences_in_lines ls
 differences_in_lines (tells t ∷ ls) = differences_in_lines ls
 differences_in_lines (differs x ∷ ls) = x ∷ differences_in_lines ls
+differences_in_lines (steps_otherwise x ∷ ls) = differences_in_lines ls
 
 -- something said after them
 abbrev pub followed_by_line : List Line → List ℕ → List Line
@@ -148,15 +151,23 @@ message_lines s e None (Some m) = evaluation_lines s e ++ tells m ∷ []
 abbrev pub live_lines : Session → Event → List Line
 live_lines s e = message_lines s e (cause_of s e) (reported_for s e (effects_of s e)).1 ++ (mark_lines s e ++ end_lines s e)
 
--- what a node does otherwise at the event itself
-abbrev pub difference_lines : Session → Outlook → Event → List Line
-difference_lines s l e = map differs (event_differences s l e)
+-- what a node does otherwise at an event without a body
+abbrev pub difference_lines : Session → Event → List Line
+difference_lines s e = map differs (option_to_list (event_difference s e))
+
+-- what it does otherwise by the step
+abbrev pub step_lines : Session → Outlook → Event → List Line
+step_lines s l e = map steps_otherwise (step_differences s l e)
+
+-- both
+abbrev pub node_lines : Session → Outlook → Event → List Line
+node_lines s l e = step_lines s l e ++ difference_lines s e
 
 -- a session that isn't there makes nothing of an event
 abbrev pub event_lines_in : Phase → Session → Outlook → Event → List Line
 event_lines_in absent s l e = []
 event_lines_in destroyed s l e = []
-event_lines_in live s l e = inheritance_lines s e ++ live_lines (inherit s e) e ++ difference_lines s l e
+event_lines_in live s l e = inheritance_lines s e ++ live_lines (inherit s e) e ++ node_lines s l e
 
 -- what a session makes of an event, where this was known of the step before it
 abbrev pub event_lines : Session → Outlook → Event → List Line

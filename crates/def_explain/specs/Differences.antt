@@ -1,8 +1,8 @@
 -- Where a running node does otherwise than a session (own), as measured on OTP 25 (erts 13.1.5). Of `silent` and `set_on_link` OTP's documentation says what the session does.
 -- Depends on match specifications, on the state of a session before an event, and on what is known of the step of a process before it is made.
-use Rattle.std.specs.Prelude.{◌≡◌, ◌≢◌, ◌≤◌, ℕ, zero, suc, ◌==◌, nat_le, Bool, true, false, not, ◌&&◌, ◌||◌, ◌⊎◌, if◌then◌else◌, List, [], ◌∷◌, ◌++◌, filter, Option, Some, None, option_to_list, codes}
+use Rattle.std.specs.Prelude.{◌≡◌, ◌≢◌, ◌≤◌, ℕ, zero, suc, ◌==◌, Bool, true, false, not, ◌&&◌, ◌||◌, ◌⊎◌, if◌then◌else◌, List, [], ◌∷◌, ◌++◌, filter, Option, Some, None, option_to_list, codes}
 use Rattle.std.specs.Bool.{⊤}
-use Rattle.std.specs.Option.{is_some, unwrap_or}
+use Rattle.std.specs.Option.{is_some}
 use Rattle.def_term.specs.Alive.{is_alive}
 use Rattle.def_term.specs.Tree.{Tree, pid}
 use Rattle.def_term.specs.Names.{word}
@@ -26,13 +26,13 @@ use Rattle.def_explain.specs.Verdicts.{Verdict, fails, fires, verdict_of}
 -- a call that is silent gets no mark;
 -- the return or the exception is reported unless `silent` was set at the call;
 -- each call that is marked for exceptions has `exception_from` before the exit;
+-- the first spawn clears both flags for spawns of the child;
+-- a link gives no flags;
+-- the arguments of a call and the elements of a tuple are evaluated from the right;
 -- a catch step called one of the frames, and its catch catches the run-time error that ends the process here;
 -- the send, link or unlink of what is no pid is reported before its error;
 -- the error `noproc` is raised in the step of the link;
--- the receive is reported when the process next looks at its mailbox;
--- the first spawn clears both flags for spawns of the child;
--- a link gives no flags;
--- the arguments of a call and the elements of a tuple are evaluated from the right
+-- the receive is reported when the process next looks at its mailbox
 pub data Difference : Type 0 where
   node_ends : Difference
   finds_no_tracer : Difference
@@ -40,13 +40,13 @@ pub data Difference : Type 0 where
   leaves_no_mark : Difference
   reports_end : Difference
   reports_exceptions : Difference
+  clears_spawn_flags : Difference
+  gives_no_flags : Difference
+  evaluates_from_right : Difference
   catches_error : Difference
   reports_attempt : Difference
   raises_noproc : Difference
   reports_later : Difference
-  clears_spawn_flags : Difference
-  gives_no_flags : Difference
-  evaluates_from_right : Difference
 
 -- ---- the body of a clause that fires
 
@@ -148,18 +148,32 @@ abbrev mutual
 abbrev pub IsSilentEnd : Session → Event → (p : ℕ) → Type 0
 IsSilentEnd s e p = IsOfMarked s e × (flags_at s p call_flag ≡ true) × (flags_at s p silent_flag ≡ true)
 
--- a process with `call` has a frame that is marked for exceptions, not below this depth
-abbrev pub HasMarkedFrame : Session → (p lowest : ℕ) → Type 0
-HasMarkedFrame s p lowest = (flags_at s p call_flag ≡ true) × ((depth : ℕ) × (lowest ≤ depth) × (depth ≤ FRAMES) × (mark_of s p depth ≡ Some for_exceptions))
+-- a process with `call` has a frame that is marked for exceptions
+abbrev pub HasMarkedFrame : Session → (p : ℕ) → Type 0
+HasMarkedFrame s p = (flags_at s p call_flag ≡ true) × ((depth : ℕ) × (depth ≤ FRAMES) × (mark_of s p depth ≡ Some for_exceptions))
 
--- the depth of the last frame that the end of a process leaves on a node: an error that is caught leaves those down to the newest that a catch step called
-abbrev pub lowest_by : Option RuntimeError → Option ℕ → ℕ
-lowest_by None caught = 0
-lowest_by (Some x) caught = unwrap_or caught 0
+-- it has a flag for spawns
+abbrev pub has_spawn_flag : Flags → Bool
+has_spawn_flag f = f set_on_spawn || f set_on_first_spawn
 
--- of this step
-abbrev pub lowest_left : Outlook → ℕ
-lowest_left l = lowest_by l.error l.caught_at
+-- the first spawn of the parent leaves the child a flag for spawns
+abbrev pub IsFirstSpawn : Session → Event → (parent child : ℕ) → Type 0
+IsFirstSpawn s e parent child = (flags_at s parent set_on_first_spawn ≡ true) × (has_spawn_flag (flags_at (inherit s e) child) ≡ true)
+
+-- both have the flags that they had before
+abbrev pub is_same_for : Session → Session → (p q : ℕ) → Bool
+is_same_for s t p q = same_flags (flags_at s p) (flags_at t p) && same_flags (flags_at s q) (flags_at t q)
+
+-- a node does this otherwise at this event of a session in this state
+abbrev pub EventDiffers : Session → Event → Difference → Type 0
+EventDiffers s (returned p f t depth) x = (x ≡ reports_end) × IsSilentEnd s (returned p f t depth) p
+EventDiffers s (raised p f c t depth) x = (x ≡ reports_end) × IsSilentEnd s (raised p f c t depth) p
+EventDiffers s (exited p r) x = (x ≡ reports_exceptions) × HasMarkedFrame s p
+EventDiffers s (spawned child parent f args) x = (x ≡ clears_spawn_flags) × IsFirstSpawn s (spawned child parent f args) parent child
+EventDiffers s (getting_linked p linker) x = (x ≡ gives_no_flags) × (is_same_for s (inherit s (getting_linked p linker)) linker p ≡ false)
+EventDiffers s e x = ⊥
+
+-- ---- an event by a step of which this was known before it
 
 -- the process has a flag
 abbrev pub IsTraced : Session → (p : ℕ) → Type 0
@@ -188,34 +202,13 @@ IsLinkToNoProcess s p other = IsTraced s p × (is_alive s.alive other ≡ false)
 abbrev pub IsReportedEarly : Session → Outlook → Event → Type 0
 IsReportedEarly s l e = (l.is_awaited ≡ false) × ((m : Tree) × ((reported_for s e (effects_of s e)).1 ≡ Some m))
 
--- it has a flag for spawns
-abbrev pub has_spawn_flag : Flags → Bool
-has_spawn_flag f = f set_on_spawn || f set_on_first_spawn
-
--- the first spawn of the parent leaves the child a flag for spawns
-abbrev pub IsFirstSpawn : Session → Event → (parent child : ℕ) → Type 0
-IsFirstSpawn s e parent child = (flags_at s parent set_on_first_spawn ≡ true) × (has_spawn_flag (flags_at (inherit s e) child) ≡ true)
-
--- both have the flags that they had before
-abbrev pub is_same_for : Session → Session → (p q : ℕ) → Bool
-is_same_for s t p q = same_flags (flags_at s p) (flags_at t p) && same_flags (flags_at s q) (flags_at t q)
-
--- a node does this otherwise at this event of a session in this state, where this was known of the step before it
-abbrev pub EventDiffers : Session → Outlook → Event → Difference → Type 0
-EventDiffers s l (returned p f t depth) x = (x ≡ reports_end) × IsSilentEnd s (returned p f t depth) p
-EventDiffers s l (raised p f c t depth) x = (x ≡ reports_end) × IsSilentEnd s (raised p f c t depth) p
-EventDiffers s l (exited p r) x = (x ≡ reports_exceptions) × HasMarkedFrame s p (lowest_left l)
-EventDiffers s l (linked p other) x = (x ≡ raises_noproc) × IsLinkToNoProcess s p other
-EventDiffers s l (received p sender t) x = (x ≡ reports_later) × IsReportedEarly s l (received p sender t)
-EventDiffers s l (spawned child parent f args) x = (x ≡ clears_spawn_flags) × IsFirstSpawn s (spawned child parent f args) parent child
-EventDiffers s l (getting_linked p linker) x = (x ≡ gives_no_flags) × (is_same_for s (inherit s (getting_linked p linker)) linker p ≡ false)
-EventDiffers s l e x = ⊥
-
--- and this, at the end of a process by a run-time error
-abbrev pub ErrorDiffers : Session → Outlook → Event → Difference → Type 0
-ErrorDiffers s l (exited p r) reports_attempt = IsAttempt s l p
-ErrorDiffers s l (exited p r) catches_error = IsCaughtError s l p
-ErrorDiffers s l e x = ⊥
+-- a node does this otherwise by the step at this event of a session in this state
+abbrev pub StepDiffers : Session → Outlook → Event → Difference → Type 0
+StepDiffers s l (exited p r) reports_attempt = IsAttempt s l p
+StepDiffers s l (exited p r) catches_error = IsCaughtError s l p
+StepDiffers s l (linked p other) raises_noproc = IsLinkToNoProcess s p other
+StepDiffers s l (received p sender t) reports_later = IsReportedEarly s l (received p sender t)
+StepDiffers s l e x = ⊥
 
 -- ---- the same, computed
 
@@ -336,10 +329,20 @@ evaluation_differences s (received p sender t) = differences_if (flags_at s p re
 evaluation_differences s (called p c) = differences_if (flags_at s p call_flag) (setting_differences (setting_for s.functions c) (context s p c.args c.caller))
 evaluation_differences s e = []
 
--- one of the first so many depths, not below this one, has a mark for exceptions
-unfoldable pub has_mark_between : Session → (p lowest : ℕ) → ℕ → Bool
-has_mark_between s p lowest zero = false
-has_mark_between s p lowest (suc n) = (nat_le lowest n && is_marked_for_exceptions s p n) || has_mark_between s p lowest n
+-- one of the first so many depths has a mark for exceptions
+unfoldable pub has_mark_below : Session → (p : ℕ) → ℕ → Bool
+has_mark_below s p zero = false
+has_mark_below s p (suc n) = is_marked_for_exceptions s p n || has_mark_below s p n
+
+-- what a node does otherwise at an event without a body
+abbrev pub event_difference : Session → Event → Option Difference
+event_difference s (returned p f t depth) = difference_where (is_marked s p depth && (flags_at s p call_flag && flags_at s p silent_flag)) reports_end
+event_difference s (raised p f c t depth) = difference_where (is_marked_for_exceptions s p depth && (flags_at s p call_flag && flags_at s p silent_flag)) reports_end
+event_difference s (exited p r) = difference_where (flags_at s p call_flag && has_mark_below s p (suc FRAMES)) reports_exceptions
+event_difference s (spawned child parent f args) =
+    difference_where (flags_at s parent set_on_first_spawn && has_spawn_flag (flags_at (inherit s (spawned child parent f args)) child)) clears_spawn_flags
+event_difference s (getting_linked p linker) = difference_where (not (is_same_for s (inherit s (getting_linked p linker)) linker p)) gives_no_flags
+event_difference s e = None
 
 -- the process has a flag
 abbrev pub is_traced : Session → (p : ℕ) → Bool
@@ -359,28 +362,17 @@ is_attempt_by s p (Some x) = has_that_flag s p (attempt_flag x)
 abbrev pub is_reported_early : Outlook → Option Tree → Bool
 is_reported_early l m = not l.is_awaited && is_some m
 
--- what a node does otherwise at an event without a body, and at a receive
-abbrev pub event_difference : Session → Outlook → Event → Option Difference
-event_difference s l (returned p f t depth) = difference_where (is_marked s p depth && (flags_at s p call_flag && flags_at s p silent_flag)) reports_end
-event_difference s l (raised p f c t depth) = difference_where (is_marked_for_exceptions s p depth && (flags_at s p call_flag && flags_at s p silent_flag)) reports_end
-event_difference s l (exited p r) = difference_where (flags_at s p call_flag && has_mark_between s p (lowest_left l) (suc FRAMES)) reports_exceptions
-event_difference s l (linked p other) = difference_where (is_traced s p && not (is_alive s.alive other)) raises_noproc
-event_difference s l (received p sender t) =
-    difference_where (is_reported_early l (reported_for s (received p sender t) (effects_of s (received p sender t))).1) reports_later
-event_difference s l (spawned child parent f args) =
-    difference_where (flags_at s parent set_on_first_spawn && has_spawn_flag (flags_at (inherit s (spawned child parent f args)) child)) clears_spawn_flags
-event_difference s l (getting_linked p linker) = difference_where (not (is_same_for s (inherit s (getting_linked p linker)) linker p)) gives_no_flags
-event_difference s l e = None
+-- whether a node does this otherwise by the step at this event
+abbrev pub step_differs : Session → Outlook → Event → Difference → Bool
+step_differs s l (exited p r) reports_attempt = is_attempt_by s p l.error
+step_differs s l (exited p r) catches_error = is_traced s p && (is_some l.error && is_some l.caught_at)
+step_differs s l (linked p other) raises_noproc = is_traced s p && not (is_alive s.alive other)
+step_differs s l (received p sender t) reports_later = is_reported_early l (reported_for s (received p sender t) (effects_of s (received p sender t))).1
+step_differs s l e x = false
 
--- whether a node does this otherwise at the end of a process by a run-time error
-abbrev pub error_differs : Session → Outlook → Event → Difference → Bool
-error_differs s l (exited p r) reports_attempt = is_attempt_by s p l.error
-error_differs s l (exited p r) catches_error = is_traced s p && (is_some l.error && is_some l.caught_at)
-error_differs s l e x = false
-
--- all that a node does otherwise at the event itself
-abbrev pub event_differences : Session → Outlook → Event → List Difference
-event_differences s l e = filter (error_differs s l e) (reports_attempt ∷ catches_error ∷ []) ++ option_to_list (event_difference s l e)
+-- all that a node does otherwise by the step at this event
+abbrev pub step_differences : Session → Outlook → Event → List Difference
+step_differences s l e = filter (step_differs s l e) (reports_attempt ∷ catches_error ∷ raises_noproc ∷ reports_later ∷ [])
 
 -- ---- its text
 
@@ -392,13 +384,13 @@ difference_text suppresses_message = codes "no message: silent"
 difference_text leaves_no_mark = codes "no mark: the call is silent"
 difference_text reports_end = codes "a message, unless the call was silent"
 difference_text reports_exceptions = codes "exception_from first, of each call that is marked for exceptions"
+difference_text clears_spawn_flags = codes "the child has neither set_on_spawn nor set_on_first_spawn"
+difference_text gives_no_flags = codes "a link gives no flags"
+difference_text evaluates_from_right = codes "arguments and elements of tuples are evaluated from the right, and two of them have actions here"
 difference_text catches_error = codes "the end is by an error, which a catch catches here"
 difference_text reports_attempt = codes "the send, link or unlink is reported first, as one to a pid is"
 difference_text raises_noproc = codes "noproc is raised in this step"
 difference_text reports_later = codes "reported when the process next looks at its mailbox"
-difference_text clears_spawn_flags = codes "the child has neither set_on_spawn nor set_on_first_spawn"
-difference_text gives_no_flags = codes "a link gives no flags"
-difference_text evaluates_from_right = codes "arguments and elements of tuples are evaluated from the right, and two of them have actions here"
 
 -- of a node
 abbrev pub on_node : Difference → List ℕ

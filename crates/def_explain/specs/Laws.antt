@@ -11,7 +11,7 @@ use Rattle.def_spec.specs.Outcome.{Clause, Fires, outcome_in}
 use Rattle.def_explain.specs.Heads.{HeadReason, IsHeadReason}
 use Rattle.def_explain.specs.Values.{FaultsAt}
 use Rattle.def_explain.specs.Spellings.{function_name, action_name}
-use Rattle.def_explain.specs.Differences.{Difference, evaluates_from_right, OneShowsOrder, order_difference, BodyDiffers, body_differs, EventDiffers, event_difference, ErrorDiffers, error_differs, event_differences, evaluation_differences}
+use Rattle.def_explain.specs.Differences.{Difference, evaluates_from_right, OneShowsOrder, order_difference, BodyDiffers, body_differs, EventDiffers, event_difference, StepDiffers, step_differs, evaluation_differences}
 use Rattle.def_explain.specs.Accounts.{reported_in_lines, differences_in_lines, event_lines}
 use Rattle.def_explain.specs.Places.{StopsAtClause, stop_of}
 use Rattle.def_node.specs.Event.{Event}
@@ -85,14 +85,14 @@ BodyDifferenceIsComputed = (d : Dialect) (c : Context) (es : List Effect) (x : D
 abbrev pub OrderDifferenceIsComputed : Type 0
 OrderDifferenceIsComputed = (body : Exprs) (x : Difference) → (order_difference body ≡ Some x) ↔ ((x ≡ evaluates_from_right) × OneShowsOrder body)
 
--- and at an event without a body, or a receive
+-- and at an event without a body
 abbrev pub EventDifferenceIsComputed : Type 0
-EventDifferenceIsComputed = (s : Session) (l : Outlook) (e : Event) (x : Difference) → (event_difference s l e ≡ Some x) ↔ EventDiffers s l e x
+EventDifferenceIsComputed = (s : Session) (e : Event) (x : Difference) → (event_difference s e ≡ Some x) ↔ EventDiffers s e x
 
--- and at the end of a process by a run-time error
-abbrev pub ErrorDifferenceIsComputed : Type 0
-ErrorDifferenceIsComputed = (s : Session) (l : Outlook) (e : Event) (x : Difference) → (error_differs s l e x ≡ true) ↔ ErrorDiffers s l e x
+-- and by the step at an event
+abbrev pub StepDifferenceIsComputed : Type 0
+StepDifferenceIsComputed = (s : Session) (l : Outlook) (e : Event) (x : Difference) → (step_differs s l e x ≡ true) ↔ StepDiffers s l e x
 
 -- among the lines of an event there is each that a node does otherwise, as the event is evaluated and at its end, and nothing else of a node
 abbrev pub LinesTellTheDifference : Type 0
-LinesTellTheDifference = (s : Session) (l : Outlook) (e : Event) → s.phase ≡ live → differences_in_lines (event_lines s l e) ≡ evaluation_differences s e ++ event_differences s l e
+LinesTellTheDifference = (s : Session) (l : Outlook) (e : Event) → s.phase ≡ live → differences_in_lines (event_lines s l e) ≡ evaluation_differences s e ++ option_to_list (event_difference s e)

@@ -17,7 +17,7 @@ ghost use Rattle.def_explain.specs.Laws.{FunctionNameIsRead, ActionNameIsRead, S
 ghost use Rattle.def_explain.specs.Laws.{HeadReasonWhereNotMatched, FaultWhereNoValue};
 ghost use Rattle.def_explain.specs.Laws.{LinesTellTheMessage, LinesTellTheDifference};
 ghost use Rattle.def_explain.specs.Laws.{BodyDifferenceIsComputed, EventDifferenceIsComputed};
-ghost use Rattle.def_explain.specs.Laws.{OrderDifferenceIsComputed, ErrorDifferenceIsComputed};
+ghost use Rattle.def_explain.specs.Laws.{OrderDifferenceIsComputed, StepDifferenceIsComputed};
 ghost use Rattle.def_explain.specs.Laws.{CauseWhereNothingTold, CauseIsOne, CauseIsComputed};
 ghost use Rattle.def_explain.specs.RunLaws.{AccountTellsTheListing, CommandTermIsRead};
 ghost use Rattle.def_explain.specs.RunLaws.{MoveDifferenceIsComputed, NoCommandNoDifference};
@@ -72,13 +72,13 @@ pub fn lines_tell_the_message()
     ensures { LinesTellTheMessage }
 {}
 
-/// What a running node is known to do otherwise is what is computed: at a clause that fires, at an event without a body,
-/// at a receive, and at the end of a process by a run-time error.
+/// What a running node is known to do otherwise is what is computed: at a clause that fires, at an event without a
+/// body, and by the step at an event.
 pub fn a_difference_is_where_it_applies()
     ensures body { BodyDifferenceIsComputed }
     ensures order { OrderDifferenceIsComputed }
     ensures event { EventDifferenceIsComputed }
-    ensures error { ErrorDifferenceIsComputed }
+    ensures step { StepDifferenceIsComputed }
 {}
 
 /// Among the lines of an event there is all that a running node does otherwise, and nothing else of a node.

@@ -1,20 +1,25 @@
 -- The lines of differences, one after another, and the marks of frames.
-use Rattle.std.proofs.Common.{◌≡◌, ◌∙◌, ℕ, suc, Bool, true, false, not, is_some, ◌&&◌, Option, ◌||◌, Some, None, option_to_list, List, [], ◌∷◌, ◌++◌, map, refl, sym, ap, ap₂, if◌then◌else◌}
-use Rattle.std.specs.Prelude.{nat_le}
-use Rattle.std.specs.Option.{option_map}
-use Rattle.def_term.specs.Tree.{Tree}
+use Rattle.std.proofs.Common.{◌≡◌, ◌∙◌, ℕ, suc, Bool, true, false, ◌&&◌, ◌||◌, Some, None, option_to_list, List, [], ◌∷◌, ◌++◌, map, refl, sym, ap, if◌then◌else◌}
 use Rattle.def_spec.specs.Expressions.{Dialect, Context, Effect}
 use Rattle.def_spec.specs.Outcome.{Clause}
+use Rattle.def_session.specs.State.{Session}
+use Rattle.def_session.specs.Session.{is_marked_for_exceptions}
+use Rattle.def_explain.specs.Accounts.{differs}
+use Rattle.def_explain.specs.Differences.{Difference, node_ends, finds_no_tracer, suppresses_message, leaves_no_mark, evaluates_from_right, one_shows_order, body_differs, body_differences, clause_differences, has_mark_below}
+use Rattle.tn_explain.specs.LineParts.{differs_where}
+use Rattle.def_term.specs.Names.{Name}
+use Rattle.def_term.specs.Tree.{Tree}
 use Rattle.def_node.specs.Event.{Event, sent, received, called, returned, raised, spawning, spawned, exited, linked, unlinked, getting_linked, getting_unlinked}
 use Rattle.def_outlook.specs.Outlook.{Outlook}
-use Rattle.def_session.specs.State.{live, Session}
-use Rattle.def_session.specs.Session.{is_marked_for_exceptions, reported_in, event_reported}
-use Rattle.def_explain.specs.Accounts.{differs}
-use Rattle.def_explain.specs.Differences.{Difference, node_ends, finds_no_tracer, suppresses_message, leaves_no_mark, evaluates_from_right, one_shows_order, body_differs, body_differences, clause_differences, reports_later, reports_attempt, catches_error, difference_where, has_mark_between, event_difference, error_differs, event_differences}
-use Rattle.tn_verdict.specs.Differences.{difference_seen}
-use Rattle.tn_explain.specs.EventDifferences.{difference_before, difference_after, one_before, differences_seen, AreBefore, AreAfter}
-use Rattle.tn_explain.specs.declared.differences.EventDifferences.{EventDifferences}
-use Rattle.tn_explain.specs.LineParts.{differs_where}
+use Rattle.def_session.specs.State.{live}
+use Rattle.def_session.specs.Session.{reported_in, event_reported}
+use Rattle.def_explain.specs.Accounts.{steps_otherwise}
+use Rattle.def_explain.specs.Differences.{catches_error, reports_attempt, raises_noproc, reports_later, step_differs, step_differences}
+use Rattle.tn_explain.specs.LineParts.{step_where}
+use Rattle.tn_explain.specs.Lines.{lines_text}
+use Rattle.tn_explain.specs.StepDifferences.{one_before, steps_seen, is_reported_later, AreBefore, AreAfter}
+use Rattle.tn_explain.specs.declared.step_differences.StepDifferences.{StepDifferences}
+use Rattle.std.specs.Option.{option_map}
 
 one-where : (b : Bool) (x : Difference) (xs : List Difference) → map differs (if b then x ∷ xs else xs) ≡ differs_where b x ++ map differs xs
 one-where true x xs = refl
@@ -42,56 +47,18 @@ pub each_where : (d : Dialect) (k : Clause) (c : Context) (es : List Effect) →
 each_where d k c es = order-where (one_shows_order k.body) (body_differences d c es) ∙ ap (λ l. differs_where (one_shows_order k.body) evaluates_from_right ++ l) (each_of_body d c es)
 
 -- the depths of a process, from the greatest down
-module _ (s : Session) (p lowest n m : ℕ) (is : n ≡ suc m) where
-  pub mark_here : (nat_le lowest m && is_marked_for_exceptions s p m) ≡ true → true ≡ has_mark_between s p lowest n
-  unfolding has_mark_between
-  mark_here h = sym (ap (has_mark_between s p lowest) is ∙ ap (λ b. b || has_mark_between s p lowest m) h)
+module _ (s : Session) (p n m : ℕ) (is : n ≡ suc m) where
+  pub mark_here : is_marked_for_exceptions s p m ≡ true → true ≡ has_mark_below s p n
+  unfolding has_mark_below
+  mark_here h = sym (ap (has_mark_below s p) is ∙ ap (λ b. b || has_mark_below s p m) h)
 
-  pub mark_not_here : (nat_le lowest m && is_marked_for_exceptions s p m) ≡ false → has_mark_between s p lowest m ≡ has_mark_between s p lowest n
-  unfolding has_mark_between
-  mark_not_here h = sym (ap (has_mark_between s p lowest) is ∙ ap (λ b. b || has_mark_between s p lowest m) h)
+  pub mark_not_here : is_marked_for_exceptions s p m ≡ false → has_mark_below s p m ≡ has_mark_below s p n
+  unfolding has_mark_below
+  mark_not_here h = sym (ap (has_mark_below s p) is ∙ ap (λ b. b || has_mark_below s p m) h)
 
-pub no_mark_between : (s : Session) (p lowest n : ℕ) → n ≡ 0 → false ≡ has_mark_between s p lowest n
-unfolding has_mark_between
-no_mark_between s p lowest n is = sym (ap (has_mark_between s p lowest) is)
-
--- the lines of the differences at an event
-pub each_at_event : (a b : Bool) (xs : List Difference) → map differs (one_before a reports_attempt (one_before b catches_error xs)) ≡ differs_where a reports_attempt ++ (differs_where b catches_error ++ map differs xs)
-each_at_event a b xs = one-where a reports_attempt _ ∙ ap (λ l. differs_where a reports_attempt ++ l) (one-where b catches_error xs)
-
--- what is known before an event and what is known afterwards are all that a node does otherwise at it
-known-after : (s : Session) (l : Outlook) (e : Event) (reported : Bool) → s.phase ≡ live → reported ≡ is_some (event_reported s e).1 → difference_after l e reported (difference_before s l e) ≡ event_difference s l e
-known-after s l (received p sender t) reported phase is =
-    ap (λ b. difference_where (not l.is_awaited && b) reports_later) (is ∙ ap (λ (x : Session × Option Tree). is_some x.1) (ap (λ x. reported_in x s (received p sender t)) phase))
-known-after s l (sent p t to alive) reported phase is = refl
-known-after s l (called p c) reported phase is = refl
-known-after s l (returned p f t depth) reported phase is = refl
-known-after s l (raised p f c t depth) reported phase is = refl
-known-after s l (spawning p child f args) reported phase is = refl
-known-after s l (spawned p parent f args) reported phase is = refl
-known-after s l (exited p r) reported phase is = refl
-known-after s l (linked p q) reported phase is = refl
-known-after s l (unlinked p q) reported phase is = refl
-known-after s l (getting_linked p q) reported phase is = refl
-known-after s l (getting_unlinked p q) reported phase is = refl
-
-two-before : (a b : Bool) (xs : List Difference) → one_before a reports_attempt (one_before b catches_error xs) ≡ one_before a reports_attempt (one_before b catches_error []) ++ xs
-two-before true true xs = refl
-two-before true false xs = refl
-two-before false true xs = refl
-two-before false false xs = refl
-
-pub all_known : (s : Session) (l : Outlook) (e : Event) (reported : Bool) (d f : EventDifferences) → s.phase ≡ live → reported ≡ is_some (event_reported s e).1 → AreBefore s l e d → AreAfter l e reported d f → differences_seen f ≡ event_differences s l e
-all_known s l e reported d f phase is before after =
-    two-before f.attempt f.caught (option_to_list (option_map difference_seen f.other))
-    ∙ ap₂ (λ a b. one_before a reports_attempt (one_before b catches_error []) ++ option_to_list (option_map difference_seen f.other)) (after.attempt ∙ before.attempt) (after.caught ∙ before.caught)
-    ∙ ap (λ x. one_before (error_differs s l e reports_attempt) reports_attempt (one_before (error_differs s l e catches_error) catches_error []) ++ option_to_list x)
-    (after.other ∙ ap (difference_after l e reported) before.other ∙ known-after s l e reported phase is)
-
--- a mapped option
-pub some-mapped : {X Y : Type 0} (f : X → Y) (o : Option X) → is_some (option_map f o) ≡ is_some o
-some-mapped f None = refl
-some-mapped f (Some x) = refl
+pub no_mark_below : (s : Session) (p n : ℕ) → n ≡ 0 → false ≡ has_mark_below s p n
+unfolding has_mark_below
+no_mark_below s p n is = sym (ap (has_mark_below s p) is)
 
 -- a test of two, by its parts
 pub both_hold : (a b both : Bool) → a ≡ true → both ≡ b → both ≡ (a && b)
@@ -99,3 +66,52 @@ both_hold a b both h is = is ∙ sym (ap (λ x. x && b) h)
 
 pub first_fails : (a b both : Bool) → a ≡ false → both ≡ false → both ≡ (a && b)
 first_fails a b both h is = is ∙ sym (ap (λ x. x && b) h)
+
+-- the lines of the differences by the step
+step-where : (b : Bool) (x : Difference) (xs : List Difference) → map steps_otherwise (one_before b x xs) ≡ step_where b x ++ map steps_otherwise xs
+step-where true x xs = refl
+step-where false x xs = refl
+
+pub each_step : (d : StepDifferences) → map steps_otherwise (steps_seen d)
+    ≡ step_where d.attempt reports_attempt ++ (step_where d.caught catches_error ++ (step_where d.noproc raises_noproc ++ (step_where d.later reports_later ++ [])))
+each_step d =
+    step-where d.attempt reports_attempt _
+    ∙ ap (λ l. step_where d.attempt reports_attempt ++ l) (step-where d.caught catches_error _
+    ∙ ap (λ l. step_where d.caught catches_error ++ l) (step-where d.noproc raises_noproc _
+    ∙ ap (λ l. step_where d.noproc raises_noproc ++ l) (step-where d.later reports_later [])))
+
+-- a line by the step has the text of any other difference
+pub same_text : (n : Name) (b : Bool) (x : Difference) → lines_text n (differs_where b x) ≡ lines_text n (step_where b x)
+unfolding lines_text
+same_text n true x = refl
+same_text n false x = refl
+
+-- what is known afterwards of a receive
+later-is : (s : Session) (l : Outlook) (e : Event) (reported : Bool) → s.phase ≡ live → reported ≡ is_some (event_reported s e).1 → is_reported_later l e reported ≡ step_differs s l e reports_later
+later-is s l (received p sender t) reported phase is =
+    ap (λ b. not l.is_awaited && b) (is ∙ ap (λ (x : Session × Option Tree). is_some x.1) (ap (λ x. reported_in x s (received p sender t)) phase))
+later-is s l (sent p t to alive) reported phase is = refl
+later-is s l (called p c) reported phase is = refl
+later-is s l (returned p f t depth) reported phase is = refl
+later-is s l (raised p f c t depth) reported phase is = refl
+later-is s l (spawning p child f args) reported phase is = refl
+later-is s l (spawned p parent f args) reported phase is = refl
+later-is s l (exited p r) reported phase is = refl
+later-is s l (linked p q) reported phase is = refl
+later-is s l (unlinked p q) reported phase is = refl
+later-is s l (getting_linked p q) reported phase is = refl
+later-is s l (getting_unlinked p q) reported phase is = refl
+
+-- what is known before an event and what is known afterwards are all that a node does otherwise by the step
+pub all_known : (s : Session) (l : Outlook) (e : Event) (reported : Bool) (d f : StepDifferences) → s.phase ≡ live → reported ≡ is_some (event_reported s e).1 → AreBefore s l e d → AreAfter l e reported d f → steps_seen f ≡ step_differences s l e
+all_known s l e reported d f phase is before after =
+    let last : Bool → List Difference = λ b. one_before b reports_later [] in
+    ap (λ b. one_before b reports_attempt (one_before f.caught catches_error (one_before f.noproc raises_noproc (last f.later)))) (after.attempt ∙ before.attempt)
+    ∙ ap (λ b. one_before (step_differs s l e reports_attempt) reports_attempt (one_before b catches_error (one_before f.noproc raises_noproc (last f.later)))) (after.caught ∙ before.caught)
+    ∙ ap (λ b. one_before (step_differs s l e reports_attempt) reports_attempt (one_before (step_differs s l e catches_error) catches_error (one_before b raises_noproc (last f.later)))) (after.noproc ∙ before.noproc)
+    ∙ ap (λ b. one_before (step_differs s l e reports_attempt) reports_attempt (one_before (step_differs s l e catches_error) catches_error (one_before (step_differs s l e raises_noproc) raises_noproc (last b)))) (after.later ∙ later-is s l e reported phase is)
+
+-- a mapped option
+pub some-mapped : {X Y : Type 0} (f : X → Y) (o : Option X) → is_some (option_map f o) ≡ is_some o
+some-mapped f None = refl
+some-mapped f (Some x) = refl

@@ -1,5 +1,5 @@
 -- The lines of an event, by those that are known before the session sees it and those after them.
-use Rattle.std.proofs.Common.{◌≡◌, ◌∙◌, ℕ, suc, ◌==◌, arith, length, Bool, true, false, if◌then◌else◌, List, [], ◌∷◌, ◌++◌, Option, Some, None, option_to_list, is_some, subst, refl, sym, ap, append-nil}
+use Rattle.std.proofs.Common.{◌≡◌, ◌∙◌, ℕ, suc, ◌==◌, arith, length, Bool, true, false, if◌then◌else◌, List, [], ◌∷◌, ◌++◌, Option, Some, None, option_to_list, map, is_some, subst, refl, sym, ap, append-nil}
 use Rattle.std.specs.Option.{option_map, unwrap_or}
 use Rattle.std.proofs.lemmas.Bool.Decides.{nat_tests}
 use Rattle.def_term.specs.Tree.{Tree}
@@ -16,8 +16,8 @@ use Rattle.def_session.specs.Session.{inherit, effects_of, is_marked, is_for_exc
 use Rattle.def_session.specs.Laws.{needed_for}
 use Rattle.def_explain.specs.Causes.{no_mark, no_flag, silenced, message_false, is_false_message, cause_by, cause_where, cause_by_mark, cause_of}
 use Rattle.def_term.specs.Text.{pid_text}
-use Rattle.def_explain.specs.Accounts.{Line, line_where, said, evaluation_lines, message_lines, mark_lines, end_lines, live_lines, inheritance_lines, flag_lines, difference_lines, event_lines_in, event_lines}
-use Rattle.def_explain.specs.Differences.{event_differences}
+use Rattle.def_explain.specs.Accounts.{Line, line_where, said, evaluation_lines, message_lines, mark_lines, end_lines, live_lines, inheritance_lines, flag_lines, differs, node_lines, event_lines_in, event_lines}
+use Rattle.def_explain.specs.Differences.{event_difference}
 use Rattle.tn_session.specs.Looks.{is_live}
 use Rattle.tn_explain.specs.declared.clauses.Evaluation.{Evaluation}
 use Rattle.tn_explain.specs.declared.clauses.Evaluation.TheVariants.{Refused, Done}
@@ -142,10 +142,10 @@ told_is s e phase none = ap (λ p. reported_in p s e) phase ∙ ap (λ t. report
 
 -- its lines
 pub parts_are : (s : Session) (l : Outlook) (e : Event) → s.phase ≡ live → both_of e ≡ None
-    → event_lines s l e ≡ ((lines_before s e ++ reported_lines (is_some (effects_of s e)) (is_silenced (event_reported s e).0 e) (event_reported s e).1) ++ lines_after s e) ++ difference_lines s l e
+    → event_lines s l e ≡ ((lines_before s e ++ reported_lines (is_some (effects_of s e)) (is_silenced (event_reported s e).0 e) (event_reported s e).1) ++ lines_after s e) ++ node_lines s l e
 parts_are s l e phase none =
     let st : (inheritance_lines s e ≡ []) × (inherit s e ≡ s) = stays s e none in
-    let ds : List Line = difference_lines s l e in
+    let ds : List Line = node_lines s l e in
     ap (λ p. event_lines_in p s l e) phase
     ∙ ap (λ ks. (ks ++ live_lines (inherit s e) e) ++ ds) st.0
     ∙ ap (λ t. live_lines t e ++ ds) st.1
@@ -156,16 +156,18 @@ parts_are s l e phase none =
 
 -- the flags of both, the message or that there is no flag for it, and what a node does otherwise; the flags are those that the session has afterwards
 pub record Inherits (s : Session) (l : Outlook) (e : Event) (giver taker : ℕ) : Type 0 where
-  pub lines : event_lines s l e ≡ ((flag_lines giver s (event_reported s e).0 ++ flag_lines taker s (event_reported s e).0) ++ reported_or_no_flag (event_reported s e).1) ++ difference_lines s l e
-  pub difference : option_to_list (inherited_by_flags e (flags_at s giver) (flags_at (event_reported s e).0 giver) (flags_at s taker) (flags_at (event_reported s e).0 taker)) ≡ event_differences s l e
+  pub lines : event_lines s l e ≡ ((flag_lines giver s (event_reported s e).0 ++ flag_lines taker s (event_reported s e).0) ++ reported_or_no_flag (event_reported s e).1) ++ node_lines s l e
+  pub difference : inherited_by_flags e (flags_at s giver) (flags_at (event_reported s e).0 giver) (flags_at s taker) (flags_at (event_reported s e).0 taker) ≡ event_difference s e
+  pub node : map differs (option_to_list (event_difference s e)) ≡ node_lines s l e
 
 inherits_in : (s : Session) (l : Outlook) (e : Event) (giver taker : ℕ)
     → inheritance_lines s e ≡ flag_lines giver s (inherit s e) ++ flag_lines taker s (inherit s e)
-    → option_to_list (inherited_by_flags e (flags_at s giver) (flags_at (inherit s e) giver) (flags_at s taker) (flags_at (inherit s e) taker)) ≡ event_differences s l e
+    → inherited_by_flags e (flags_at s giver) (flags_at (inherit s e) giver) (flags_at s taker) (flags_at (inherit s e) taker) ≡ event_difference s e
+    → map differs (option_to_list (event_difference s e)) ≡ node_lines s l e
     → live_lines (inherit s e) e ≡ reported_or_no_flag (reported_in live s e).1 → (reported_in live s e).0 ≡ inherit s e → s.phase ≡ live → Inherits s l e giver taker
-inherits_in s l e giver taker lines difference rest same phase =
+inherits_in s l e giver taker lines difference node rest same phase =
     let reported : reported_in live s e ≡ event_reported s e = sym (ap (λ p. reported_in p s e) phase) in
-    let ds : List Line = difference_lines s l e in
+    let ds : List Line = node_lines s l e in
     record {
       lines =
           ap (λ p. event_lines_in p s l e) phase
@@ -173,7 +175,8 @@ inherits_in s l e giver taker lines difference rest same phase =
           ∙ ap (λ ks. ((flag_lines giver s (inherit s e) ++ flag_lines taker s (inherit s e)) ++ ks) ++ ds) rest
           ∙ ap (λ t. ((flag_lines giver s t ++ flag_lines taker s t) ++ reported_or_no_flag (reported_in live s e).1) ++ ds) (sym same)
           ∙ ap (λ a. ((flag_lines giver s a.0 ++ flag_lines taker s a.0) ++ reported_or_no_flag a.1) ++ ds) reported;
-      difference = ap (λ t. option_to_list (inherited_by_flags e (flags_at s giver) (flags_at t giver) (flags_at s taker) (flags_at t taker))) (sym (sym same ∙ ap (λ a. a.0) reported)) ∙ difference;
+      node = node;
+      difference = ap (λ t. inherited_by_flags e (flags_at s giver) (flags_at t giver) (flags_at s taker) (flags_at t taker)) (sym (sym same ∙ ap (λ a. a.0) reported)) ∙ difference;
     }
 
 -- where its process has the flag there is a message
@@ -201,13 +204,13 @@ inherits s l (spawned child parent f args) giver taker phase both =
     let t : Session = inherit s e in
     let reported : IsToldIf t e (flags_at t child procs_flag) = spawned_if t child parent f args (flags_at t child procs_flag) in
     let same : (parent, child) ≡ (giver, taker) = cc both in
-    subst (λ (x : ℕ × ℕ). Inherits s l e x.0 x.1) same (inherits_in s l e parent child refl refl reported.0 reported.1 phase)
+    subst (λ (x : ℕ × ℕ). Inherits s l e x.0 x.1) same (inherits_in s l e parent child refl refl refl reported.0 reported.1 phase)
 inherits s l (getting_linked p linker) giver taker phase both =
     let e : Event = getting_linked p linker in
     let t : Session = inherit s e in
     let reported : IsToldIf t e (flags_at t p procs_flag) = linked_if t p linker (flags_at t p procs_flag) in
     let same : (linker, p) ≡ (giver, taker) = cc both in
-    subst (λ (x : ℕ × ℕ). Inherits s l e x.0 x.1) same (inherits_in s l e linker p refl refl reported.0 reported.1 phase)
+    subst (λ (x : ℕ × ℕ). Inherits s l e x.0 x.1) same (inherits_in s l e linker p refl refl refl reported.0 reported.1 phase)
 inherits s l (sent p t to alive) giver taker phase both = absurd (cc both)
 inherits s l (received p sender t) giver taker phase both = absurd (cc both)
 inherits s l (called p c) giver taker phase both = absurd (cc both)

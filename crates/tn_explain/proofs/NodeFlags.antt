@@ -1,30 +1,25 @@
--- Flags that are listed, read from the last on: whether there is one.
-use Rattle.std.proofs.Common.{◌≡◌, ◌∙◌, Bool, true, false, not, ◌||◌, refl, sym, ap, ap₂}
-use Rattle.std.proofs.lemmas.Bool.{or_parts, or_from}
-use Rattle.def_spec.specs.Flags.{Flags, union}
-use Rattle.def_explain.specs.Differences.{HasNone, has_none}
-use Rattle.def_explain.proofs.Differences.{none-set, set-none}
+-- Flags that are listed, read from the last on: whether one of them is `silent` or inherited.
+use Rattle.std.proofs.Common.{◌≡◌, ◌∙◌, Bool, true, false, ◌||◌, refl, ap}
+use Rattle.def_spec.specs.Flags.{Flags, union, silent_flag, set_on_spawn, set_on_first_spawn, set_on_link, set_on_first_link}
+use Rattle.def_explain.specs.NodeCommands.{flags_can_differ}
 
--- both are empty where none of either is set
-joined : (f g : Flags) → has_none f ≡ true → has_none g ≡ true → has_none (union f g) ≡ true
-joined f g h k = set-none (union f g) (λ x. or_from (f x) (g x) (none-set f h x) (none-set g k x))
-
-first : (f g : Flags) → has_none (union f g) ≡ true → has_none f ≡ true
-first f g h = set-none f (λ x. (or_parts (f x) (g x) (none-set (union f g) h x)).0)
-
-second : (f g : Flags) → has_none (union f g) ≡ true → has_none g ≡ true
-second f g h = set-none g (λ x. (or_parts (f x) (g x) (none-set (union f g) h x)).1)
+swap : (a b c d : Bool) → ((a || b) || (c || d)) ≡ ((a || c) || (b || d))
+swap true b c d = refl
+swap false true true d = refl
+swap false true false d = refl
+swap false false true d = refl
+swap false false false d = refl
 
 -- one of either set
-pub one_of_both : (f g : Flags) → not (has_none (union f g)) ≡ (not (has_none f) || not (has_none g))
-one_of_both f g = go (has_none f) (has_none g) (has_none (union f g)) refl refl refl
-  where
-    go : (a b c : Bool) → has_none f ≡ a → has_none g ≡ b → has_none (union f g) ≡ c → not (has_none (union f g)) ≡ (not (has_none f) || not (has_none g))
-    go true true c h k j = ap not (joined f g h k) ∙ sym (ap₂ (λ x y. not x || not y) h k)
-    go true false true h k j = absurd (cc (sym k ∙ second f g j))
-    go true false false h k j = ap not j ∙ sym (ap₂ (λ x y. not x || not y) h k)
-    go false b true h k j = absurd (cc (sym h ∙ first f g j))
-    go false b false h k j = ap not j ∙ sym (ap₂ (λ x y. not x || not y) h k)
+pub one_of_both : (f g : Flags) → flags_can_differ (union f g) ≡ (flags_can_differ f || flags_can_differ g)
+one_of_both f g =
+    let x : Bool = f set_on_first_spawn || g set_on_first_spawn in
+    let y : Bool = f set_on_link || g set_on_link in
+    let z : Bool = f set_on_first_link || g set_on_first_link in
+    ap (λ b. ((b || x) || y) || z) (swap (f silent_flag) (g silent_flag) (f set_on_spawn) (g set_on_spawn))
+    ∙ ap (λ b. (b || y) || z) (swap _ _ (f set_on_first_spawn) (g set_on_first_spawn))
+    ∙ ap (λ b. b || z) (swap _ _ (f set_on_link) (g set_on_link))
+    ∙ swap _ _ (f set_on_first_link) (g set_on_first_link)
 
 pub turned : (a b : Bool) → (a || b) ≡ (b || a)
 turned true true = refl

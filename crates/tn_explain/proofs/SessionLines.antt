@@ -9,7 +9,7 @@ use Rattle.def_outlook.specs.Outlook.{Outlook}
 use Rattle.def_session.specs.State as definition
 use Rattle.def_session.specs.State.{flags_at}
 use Rattle.def_session.specs.Session.{effects_of, event_reported, is_silenced}
-use Rattle.def_explain.specs.Accounts.{Line, differs, flag_lines, difference_lines, event_lines}
+use Rattle.def_explain.specs.Accounts.{Line, differs, flag_lines, node_lines, event_lines}
 use Rattle.tn_session.specs.Looks.{is_live}
 use Rattle.tn_session.specs.Sessions.{SessionValue, next_session}
 use Rattle.tn_explain.specs.Evaluations.{GivesOf, is_done}
@@ -81,24 +81,24 @@ module _ (s : SessionValue) (e : Event) (n : names.Name) (new : Option SessionVa
       let i : Inherits s.state l e giver taker = inherits s.state l e giver taker phase both in
       let ks : List Line = flag_lines giver s.state after in
       let ls : List Line = flag_lines taker s.state after in
-      let ds : List Line = difference_lines s.state l e in
+      let ds : List Line = node_lines s.state l e in
       let is : event_lines s.state l e ≡ ((ks ++ ls) ++ reported_or_no_flag m) ++ ds =
       i.lines ∙ ap (λ (a : definition.Session × Option Tree). ((flag_lines giver s.state a.0 ++ flag_lines taker s.state a.0) ++ reported_or_no_flag a.1) ++ ds) reported in
       record {
         state = state;
         text =
             more n ((ks ++ ls) ++ reported_or_no_flag m) ds o d f (more n (ks ++ ls) (reported_or_no_flag m) o c d (more n ks ls o b c first second) third)
-            (other n _ ds d f (ap (map differs) i.difference) fourth)
+            (other n _ ds d f (ap (λ x. map differs (option_to_list x)) i.difference ∙ i.node) fourth)
             ∙ ap (λ x. o ++ lines_text n x) (sym is);
       }
 
   -- of another
   pub evaluated_made : (l : Outlook) (r : Evaluation) (o b c d f end : List ℕ) → s.state.phase ≡ definition.live → both_of e ≡ None → GivesOf n s.state e o b r → PutsLines n (lines_after s.state e) [] end
-      → PutsLines n (reported_lines (is_done r) (is_silenced after e) m) b c → d ≡ c ++ end → PutsLines n (difference_lines s.state l e) d f → Makes l s e n new o f
+      → PutsLines n (reported_lines (is_done r) (is_silenced after e) m) b c → d ≡ c ++ end → PutsLines n (node_lines s.state l e) d f → Makes l s e n new o f
   evaluated_made l r o b c d f end phase none before behind tells ended last =
       let ks : List Line = lines_before s.state e in
       let ls : List Line = reported_lines (is_done r) (is_silenced after e) m in
-      let ds : List Line = difference_lines s.state l e in
+      let ds : List Line = node_lines s.state l e in
       let is : event_lines s.state l e ≡ ((ks ++ ls) ++ lines_after s.state e) ++ ds =
       parts_are s.state l e phase none
       ∙ ap (λ (a : definition.Session × Option Tree). ((ks ++ reported_lines (is_some (effects_of s.state e)) (is_silenced a.0 e) a.1) ++ lines_after s.state e) ++ ds) reported

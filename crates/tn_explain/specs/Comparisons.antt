@@ -23,8 +23,6 @@ use Rattle.tn_guard.specs.declared.value.Value.{Value}
 use Rattle.tn_action.specs.Views.{context_seen, effect_seen}
 use Rattle.tn_action.specs.declared.context.Context as action
 use Rattle.tn_action.specs.declared.effect.Effect.{Effect}
-use Rattle.tn_node.specs.Outlooks.{outlook_seen}
-use Rattle.tn_node.specs.declared.outlook.Outlook.{Outlook}
 use Rattle.tn_session.specs.Looks.{look_seen}
 use Rattle.tn_session.specs.Sessions.{SessionValue}
 use Rattle.tn_session.specs.declared.look.Look.{Look}
@@ -60,46 +58,43 @@ DiffersAt look e b = b ≡ is_some_difference (evaluation_differences (look_seen
 abbrev pub event_differs : definition.Session → outlook.Outlook → Event → Bool
 event_differs s l e = is_some_difference (differences_in_lines (event_lines s l e))
 
--- the session saw the event, and this is whether a node does otherwise in what it makes of it, where this was known of the step before it
-pub record Compares (l : outlook.Outlook) (s : SessionValue) (e : Event) (new : Option SessionValue) (b : Bool) : Type 0 where
+-- the session saw the event, and this is whether a node does otherwise in what it makes of it, whatever was known of the step before it
+pub record Compares (s : SessionValue) (e : Event) (new : Option SessionValue) (b : Bool) : Type 0 where
   pub state : new ≡ Some (record s { state = (event_reported s.state e).0 })
-  pub differs : b ≡ event_differs s.state l e
+  pub differs : (l : outlook.Outlook) → b ≡ event_differs s.state l e
 
 -- the same of a session that is live, where these two inherit flags, or none does
-abbrev pub ComparesLive : {A : Type 0} → Option (ℕ × ℕ) → outlook.Outlook → SessionValue → flags.Event A → Option SessionValue → Bool → Type 0
-ComparesLive both l s e new b = s.state.phase ≡ definition.live → both_of (event_of e) ≡ both → Compares l s (event_of e) new b
-
--- the same where the second of two processes inherits flags of the first, whatever was known
-abbrev pub ComparesOfBoth : {A : Type 0} → (giver taker : ℕ) → SessionValue → flags.Event A → Option SessionValue → Bool → Type 0
-ComparesOfBoth giver taker s e new b = (l : outlook.Outlook) → ComparesLive (Some (giver, taker)) l s e new b
+abbrev pub ComparesLive : {A : Type 0} → Option (ℕ × ℕ) → SessionValue → flags.Event A → Option SessionValue → Bool → Type 0
+ComparesLive both s e new b = s.state.phase ≡ definition.live → both_of (event_of e) ≡ both → Compares s (event_of e) new b
 
 -- ---- several sessions
 
 -- where a session saw an event, whoever lived before it, this is whether a node does otherwise in what it makes of it
-abbrev pub SlotCompares : {A : Type 0} → Outlook → flags.Event A → Slot A Discard → Slot A Discard → Bool → Type 0
-SlotCompares l event old new b =
+abbrev pub SlotCompares : {A : Type 0} → flags.Event A → Slot A Discard → Slot A Discard → Bool → Type 0
+SlotCompares event old new b =
     (o : Exports) (living : Alive) (s : NamedSession) → let x : HistoryItem = event_item (event_of event) in
-    HasState o living s old → HasState o (alive_after living (event_of event)) (after o s x) new × (b ≡ session_differs o (outlook_seen l) x s)
+    HasState o living s old → HasState o (alive_after living (event_of event)) (after o s x) new × ((l : outlook.Outlook) → b ≡ session_differs o l x s)
 
 -- the same of all sessions: whether it does in what one of them makes of it
-abbrev pub SlotsCompare : {A : Type 0} → Outlook → flags.Event A → List (Slot A Discard) → List (Slot A Discard) → Bool → Type 0
-SlotsCompare l event old new b =
+abbrev pub SlotsCompare : {A : Type 0} → flags.Event A → List (Slot A Discard) → List (Slot A Discard) → Bool → Type 0
+SlotsCompare event old new b =
     (o : Exports) (living : Alive) (ss : List NamedSession) → let x : HistoryItem = event_item (event_of event) in
-    EachPair (HasState o living) ss old → EachPair (HasState o (alive_after living (event_of event))) (all_after o ss x) new × (b ≡ list_any (session_differs o (outlook_seen l) x) ss)
+    EachPair (HasState o living) ss old
+    → EachPair (HasState o (alive_after living (event_of event))) (all_after o ss x) new × ((l : outlook.Outlook) → b ≡ list_any (session_differs o l x) ss)
 
-abbrev pub ComparesEvent : {A : Type 0} → Outlook → flags.Event A → Sessions A → Sessions A → Bool → Type 0
-ComparesEvent l event old new b =
+abbrev pub ComparesEvent : {A : Type 0} → flags.Event A → Sessions A → Sessions A → Bool → Type 0
+ComparesEvent event old new b =
     (o : Exports) (ss : List NamedSession) → let x : HistoryItem = event_item (event_of event) in
-    AreNamedSessions o ss old → AreNamedSessions o (all_after o ss x) new × (b ≡ list_any (session_differs o (outlook_seen l) x) ss)
+    AreNamedSessions o ss old → AreNamedSessions o (all_after o ss x) new × ((l : outlook.Outlook) → b ≡ list_any (session_differs o l x) ss)
 
 -- the same of a move that shows these, in order
-abbrev pub ComparesItems : {A : Type 0} → Exports → outlook.Outlook → List HistoryItem → Sessions A → Sessions A → Bool → Type 0
-ComparesItems o l xs old new b =
+abbrev pub ComparesItems : {A : Type 0} → Exports → List HistoryItem → Sessions A → Sessions A → Bool → Type 0
+ComparesItems o xs old new b =
     (k pick : ℕ) (ss : List NamedSession) → AreNamedSessions o ss old
-    → AreNamedSessions o (all_after_items o ss xs) new × (b ≡ list_any (moment_differs o l) (moments_from o k pick ss xs))
+    → AreNamedSessions o (all_after_items o ss xs) new × ((l : outlook.Outlook) → b ≡ list_any (moment_differs o l) (moments_from o k pick ss xs))
 
-abbrev pub ComparesMove : {A : Type 0} → Outlook → List (flags.Event A) → Sessions A → Sessions A → Bool → Type 0
-ComparesMove l events old new b = (o : Exports) → ComparesItems o (outlook_seen l) (map event_item (map event_of events)) old new b
+abbrev pub ComparesMove : {A : Type 0} → List (flags.Event A) → Sessions A → Sessions A → Bool → Type 0
+ComparesMove events old new b = (o : Exports) → ComparesItems o (map event_item (map event_of events)) old new b
 
 -- ---- a run
 

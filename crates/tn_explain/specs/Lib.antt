@@ -3,7 +3,7 @@ pub mod Events
 pub mod Lines
 pub mod SessionLines
 pub mod LineParts
-pub mod EventDifferences
+pub mod StepDifferences
 pub mod Elements
 pub mod Filters
 pub mod NamedSessions

@@ -10,9 +10,10 @@ ghost use Rattle.tn_text.specs.Writes.{Grows};
 ghost use Rattle.tn_explain.specs.SessionLines.{Makes, MakesLive, ReportsLines};
 
 use crate::clauses::Evaluation;
-use crate::differences::EventDifferences;
+use crate::differences::end_difference;
 use crate::inheritance::both_of;
 use crate::line::{Lines, put_text};
+use crate::step_differences::StepDifferences;
 use std::alloc::{AllocError, Allocator};
 use tn_flags::Event;
 use tn_node::Outlook;
@@ -76,15 +77,17 @@ impl<A: Allocator + Copy> Lines<'_, A> {
         let Some(look) = session.look() else {
             return Err(AllocError);
         };
-        let before = EventDifferences::of(&look, outlook, event);
+        let at_end = end_difference(&look, event);
+        let before = StepDifferences::of(&look, outlook, event);
         let evaluation = self.put_before(&look, event, out)?;
         let mut behind = Vec::new(self.alloc);
         self.put_after(&look, event, evaluation, &mut behind)?;
         let message = session.tell(event)?;
-        let differences = before.after(outlook, event, message.is_some());
+        let steps = before.after(outlook, event, message.is_some());
         self.put_reported(session, evaluation, event, &message, out)?;
         put_text(&behind, out)?;
-        self.put_event_differences(differences, out)
+        self.put_step_differences(steps, out)?;
+        self.put_event_difference(at_end, out)
     }
 
     /// Appends the message of an event that was evaluated, or why there is none: `silent` silences it, or else

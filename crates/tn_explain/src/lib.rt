@@ -42,6 +42,7 @@ mod session_differences;
 mod sessions;
 mod slots;
 mod step;
+mod step_differences;
 
 pub use account::put_account;
 pub use event::put_event_lines;

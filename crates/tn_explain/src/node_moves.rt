@@ -43,13 +43,12 @@ impl<A: Allocator + Copy> NodeMoves<A> {
 
 impl<A: Allocator + Copy> Observer<A> for NodeMoves<A> {
     ghost use Rattle.tn_explain.specs.Comparisons.{HasCompared, AddsDifference};
-    ghost use Rattle.tn_explain.specs.Explainers.{SeesAhead};
 
     type Output = Vec<bool, A>;
 
-    type Sight = Outlook;
+    type Sight = ();
 
-    ghost looks = { SeesAhead };
+    ghost looks = { λ _ _ _ _. Unit {0} };
 
     ghost sees = { HasCompared };
 
@@ -57,9 +56,7 @@ impl<A: Allocator + Copy> Observer<A> for NodeMoves<A> {
 
     ghost reaches = { λ _ _. Unit {0} };
 
-    fn look(&self, node: &Node<A>, pick: u32) -> Outlook {
-        node.outlook(pick)
-    }
+    fn look(&self, _node: &Node<A>, _pick: u32) {}
 
     fn obey(
         &mut self,
@@ -85,11 +82,11 @@ impl<A: Allocator + Copy> Observer<A> for NodeMoves<A> {
         &mut self,
         program: &Program<A>,
         entry: JournalEntry,
-        sight: Outlook,
+        _sight: (),
         events: &Vec<Event<A>, A>,
         out: &mut Vec<bool, A>,
     ) -> Result<(), AllocError> {
-        let differs = self.sessions.compare(sight, events)?;
+        let differs = self.sessions.compare(events)?;
         out.push(differs)?;
         Ok(())
     }

@@ -52,7 +52,7 @@ pub fn node_note<A: Allocator + Copy>(
 ) -> Result<Option<NodeNote>, AllocError>
     ensures { IfOk result (λ n. option_map note_seen n ≡ node_note (program_of program.now) picks.now) }
 {
-    if !can_differ(program) {
+    if !can_differ(alloc, program)? {
         return Ok(None);
     }
     let differs = differing_moves(alloc, program, picks)?;

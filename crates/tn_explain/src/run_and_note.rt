@@ -40,7 +40,7 @@ fn round_note<A: Allocator + Copy>(
     ensures { IfOk result (λ n. option_map note_seen n ≡
         node_note (program_of program.now) (round (program_of program.now) limit)) }
 {
-    if !can_differ(program) {
+    if !can_differ(alloc, program)? {
         return Ok(None);
     }
     let transcript = Transcript::of_round(alloc, program, limit)?;

@@ -2,17 +2,15 @@
 ghost use Rattle.std.specs.Prelude.{IfOk, Some, None};
 ghost use Rattle.std.specs.Option.{IsSomeAnd};
 ghost use Rattle.tn_flags.specs.Views.{event_of};
-ghost use Rattle.tn_node.specs.Outlooks.{outlook_seen};
 ghost use Rattle.tn_session.specs.Sessions.{value_in};
-ghost use Rattle.tn_explain.specs.Comparisons.{Compares, ComparesLive, ComparesOfBoth, SlotCompares, SlotsCompare};
+ghost use Rattle.tn_explain.specs.Comparisons.{Compares, ComparesLive, SlotCompares, SlotsCompare};
 
-use crate::differences::{Change, EventDifferences, inherited_difference};
+use crate::differences::{Change, end_difference, inherited_difference};
 use crate::discard::Discard;
 use crate::evaluation_differences::evaluation_differs;
 use crate::inheritance::both_of;
 use std::alloc::{AllocError, Allocator};
 use tn_flags::Event;
-use tn_node::Outlook;
 use tn_session::Session;
 use tn_trace::Slot;
 
@@ -21,20 +19,18 @@ use tn_trace::Slot;
 fn compare_evaluated<A: Allocator + Copy>(
     alloc: A,
     session: &mut Session<A>,
-    outlook: Outlook,
     event: &Event<A>,
 ) -> Result<bool, AllocError>
     ensures { IfOk result (λ b. IsSomeAnd (value_in session.old) (λ s.
-        ComparesLive None (outlook_seen outlook) s event.now (value_in session.new) b)) }
+        ComparesLive None s event.now (value_in session.new) b)) }
 {
     let Some(look) = session.look() else {
         return Err(AllocError);
     };
-    let before = EventDifferences::of(&look, outlook, event);
+    let at_end = end_difference(&look, event).is_some();
     let evaluated = evaluation_differs(alloc, &look, event)?;
-    let message = session.tell(event)?;
-    let differences = before.after(outlook, event, message.is_some());
-    Ok(evaluated | differences.is_one())
+    session.tell(event)?;
+    Ok(evaluated | at_end)
 }
 
 /// A live session sees an event by which one process inherits flags of another: whether a node does otherwise in what
@@ -46,7 +42,7 @@ fn compare_inheriting<A: Allocator + Copy>(
     taker: u32,
 ) -> Result<bool, AllocError>
     ensures { IfOk result (λ b. IsSomeAnd (value_in session.old) (λ s.
-        ComparesOfBoth giver taker s event.now (value_in session.new) b)) }
+        ComparesLive (Some (giver, taker)) s event.now (value_in session.new) b)) }
 {
     let Some(look) = session.look() else {
         return Err(AllocError);
@@ -73,11 +69,10 @@ fn compare_inheriting<A: Allocator + Copy>(
 fn compare<A: Allocator + Copy>(
     alloc: A,
     session: &mut Session<A>,
-    outlook: Outlook,
     event: &Event<A>,
 ) -> Result<bool, AllocError>
     ensures { IfOk result (λ b. IsSomeAnd (value_in session.old) (λ s.
-        Compares (outlook_seen outlook) s (event_of event.now) (value_in session.new) b)) }
+        Compares s (event_of event.now) (value_in session.new) b)) }
 {
     let Some(look) = session.look() else {
         return Err(AllocError);
@@ -88,7 +83,7 @@ fn compare<A: Allocator + Copy>(
     }
     match both_of(event) {
         Some((giver, taker)) => compare_inheriting(session, event, giver, taker),
-        None => compare_evaluated(alloc, session, outlook, event),
+        None => compare_evaluated(alloc, session, event),
     }
 }
 
@@ -96,13 +91,12 @@ fn compare<A: Allocator + Copy>(
 fn compare_one<A: Allocator + Copy>(
     alloc: A,
     slot: &mut Slot<A, Discard>,
-    outlook: Outlook,
     event: &Event<A>,
 ) -> Result<bool, AllocError>
-    ensures { IfOk result (SlotCompares outlook event.now slot.old slot.new) }
+    ensures { IfOk result (SlotCompares event.now slot.old slot.new) }
 {
     match &mut slot.session {
-        Some(session) => compare(alloc, session, outlook, event),
+        Some(session) => compare(alloc, session, event),
         None => Ok(false),
     }
 }
@@ -111,14 +105,13 @@ fn compare_one<A: Allocator + Copy>(
 pub(crate) fn compare_each<A: Allocator + Copy>(
     alloc: A,
     slots: &mut Vec<Slot<A, Discard>, A>,
-    outlook: Outlook,
     event: &Event<A>,
 ) -> Result<bool, AllocError>
-    ensures { IfOk result (SlotsCompare outlook event.now slots.old.items slots.new.items) }
+    ensures { IfOk result (SlotsCompare event.now slots.old.items slots.new.items) }
 {
     let mut differs = false;
     for place in 0..slots.len() {
-        differs |= compare_one(alloc, &mut slots[place], outlook, event)?;
+        differs |= compare_one(alloc, &mut slots[place], event)?;
     }
     Ok(differs)
 }

@@ -5,7 +5,6 @@ use crate::slots::{Order, obey_each, tell_each};
 use crate::step::Step;
 use std::alloc::{AllocError, Allocator};
 use tn_flags::{Command, Event};
-use tn_node::Outlook;
 use tn_program::Program;
 use tn_script::Function;
 use tn_term::Alive;
@@ -87,25 +86,21 @@ impl<A: Allocator + Copy> Sessions<A> {
     }
 
     /// The sessions see an event: whether a node does otherwise in what one of them makes of it.
-    fn compare_event(&mut self, outlook: Outlook, event: &Event<A>) -> Result<bool, AllocError>
-        ensures { IfOk result (ComparesEvent outlook event.now self.old self.new) }
+    fn compare_event(&mut self, event: &Event<A>) -> Result<bool, AllocError>
+        ensures { IfOk result (ComparesEvent event.now self.old self.new) }
     {
-        let differs = compare_each(self.alloc, &mut self.slots, outlook, event)?;
+        let differs = compare_each(self.alloc, &mut self.slots, event)?;
         self.living = living_after(self.living, event);
         Ok(differs)
     }
 
     /// The sessions see the events of a move, in order: whether a node does it otherwise.
-    pub fn compare(
-        &mut self,
-        outlook: Outlook,
-        events: &Vec<Event<A>, A>,
-    ) -> Result<bool, AllocError>
-        ensures { IfOk result (ComparesMove outlook events.now.items self.old self.new) }
+    pub fn compare(&mut self, events: &Vec<Event<A>, A>) -> Result<bool, AllocError>
+        ensures { IfOk result (ComparesMove events.now.items self.old self.new) }
     {
         let mut differs = false;
         for event in events {
-            differs |= self.compare_event(outlook, event)?;
+            differs |= self.compare_event(event)?;
         }
         Ok(differs)
     }

@@ -1,4 +1,4 @@
-use Rattle.def_explain.proofs.Differences.{body_difference_is_computed, order_difference_is_computed, event_difference_is_computed, error_difference_is_computed}
+use Rattle.def_explain.proofs.Differences.{body_difference_is_computed, order_difference_is_computed, event_difference_is_computed, step_difference_is_computed}
 use Rattle.def_explain.proofs.a_difference_is_where_it_applies.Goals as goal
 
 pub returns-clause-body : goal.returns-clause-body
@@ -10,5 +10,5 @@ returns-clause-event c = event_difference_is_computed
 pub returns-clause-order : goal.returns-clause-order
 returns-clause-order c = order_difference_is_computed
 
-pub returns-clause-error : goal.returns-clause-error
-returns-clause-error c = error_difference_is_computed
+pub returns-clause-step : goal.returns-clause-step
+returns-clause-step c = step_difference_is_computed

@@ -1,7 +1,6 @@
-use Rattle.std.proofs.Common.{◌≡◌, ◌+◌, ◌-◌, ◌∙◌, not, ◌||◌, drop, refl, sym, ap, ap₂, arith}
+use Rattle.std.proofs.Common.{◌≡◌, ◌+◌, ◌-◌, ◌∙◌, ◌||◌, drop, refl, sym, ap, ap₂, arith}
 use Rattle.def_spec.specs.Flags.{no_flags, union, flags_named}
-use Rattle.def_explain.specs.Differences.{has_none}
-use Rattle.def_explain.specs.NodeCommands.{listed_can_differ}
+use Rattle.def_explain.specs.NodeCommands.{flags_can_differ, listed_can_differ}
 use Rattle.tn_term.specs.Views.{tree_of}
 use Rattle.tn_term.proofs.Trees.{seen, past}
 use Rattle.tn_flags.specs.Views.{flags_of}
@@ -29,7 +28,7 @@ loop-left-preserved g c =
       (
         union a f,
         named_more tree_of v.items (l.left - 1) c.index.result.now a f (union a f) (omega arith) c.index.ensures (sym c.in-Some.ensures) (ap (λ k. flags_named (seen tree_of (drop k v.items))) back ∙ l.invariant.1.1) refl,
-        ap₂ (λ x y. x || y) l.invariant.1.2 c.is_one-differs.ensures ∙ turned (not (has_none f)) (not (has_none a)) ∙ sym (one_of_both a f),
+        ap₂ (λ x y. x || y) l.invariant.1.2 c.flags_can_differ-differs.ensures ∙ turned (flags_can_differ f) (flags_can_differ a) ∙ sym (one_of_both a f),
       ),
     )
 

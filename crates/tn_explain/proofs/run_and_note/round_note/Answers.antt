@@ -8,8 +8,8 @@ use Rattle.tn_explain.specs.Notes.{note_seen}
 use Rattle.tn_explain.proofs.NodeNotes.{no_note, note_again}
 use Rattle.tn_explain.proofs.run_and_note.round_note.Goals as goal
 
-pub returns-then-not-can_differ : goal.returns-then-not-can_differ
-returns-then-not-can_differ g c = let p = program_of c.args.program.now in no_note p (round p c.args.limit) (sym c.can_differ.ensures ∙ c.if-not-can_differ.true)
+pub returns-then-not-branch : goal.returns-then-not-branch
+returns-then-not-branch g c = let p = program_of c.args.program.now in no_note p (round p c.args.limit) (sym c.in_ok-can_differ.ensures ∙ c.if-not-branch.true)
 
 pub returns : goal.returns
 returns g c =

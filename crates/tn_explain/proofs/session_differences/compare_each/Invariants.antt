@@ -5,7 +5,6 @@ use Rattle.def_session.specs.State.{alive_after}
 use Rattle.def_run.specs.Run.{event_item}
 use Rattle.def_run.specs.History.{NamedSession}
 use Rattle.tn_flags.specs.Views.{event_of}
-use Rattle.tn_node.specs.Outlooks.{outlook_seen}
 use Rattle.tn_trace.specs.Slots.{EachPair}
 use Rattle.tn_explain.specs.NamedSessions.{HasState}
 use Rattle.tn_explain.proofs.SessionDifferences.{IsHalfwayCompared}
@@ -14,5 +13,5 @@ use Rattle.tn_explain.proofs.session_differences.compare_each.Given as goal
 abbrev pub invariant-loop-place : goal.invariant-loop-place
 invariant-loop-place g l = record {
   size : length l.slots.items ≡ length l.fn.slots.items;
-  compared : (o : Exports) (living : Alive) (ss : List NamedSession) → EachPair (HasState o living) ss l.fn.slots.items → IsHalfwayCompared o (outlook_seen l.outlook) living (alive_after living (event_of l.event)) (event_item (event_of l.event)) ss l.place l.slots.items l.differs;
+  compared : (o : Exports) (living : Alive) (ss : List NamedSession) → EachPair (HasState o living) ss l.fn.slots.items → IsHalfwayCompared o living (alive_after living (event_of l.event)) (event_item (event_of l.event)) ss l.place l.slots.items l.differs;
 }

@@ -11,7 +11,7 @@ use Rattle.tn_explain.proofs.SessionDifferences.{compares_inheriting}
 use Rattle.tn_explain.proofs.session_differences.compare_inheriting.Goals as goal
 
 pub returns : goal.returns
-returns g c = if_seen look_seen _ c.in-Some.look _ c.in-Some.ensures (λ (s : SessionValue) is seen l phase both.
+returns g c = if_seen look_seen _ c.in-Some.look _ c.in-Some.ensures (λ (s : SessionValue) is seen phase both.
     let e = event_of c.args.event.now in
     let giver = c.args.giver in
     let taker = c.args.taker in
@@ -23,5 +23,5 @@ returns g c = if_seen look_seen _ c.in-Some.look _ c.in-Some.ensures (λ (s : Se
     let second = c.flags_at.ensures ∙ ap (λ x. flags_at x giver) later in
     let third = c.flags_at-had.ensures ∙ ap (λ x. flags_at x taker) seen in
     let fourth = c.flags_at-2.ensures ∙ ap (λ x. flags_at x taker) later in
-    compares_inheriting s e (value_in c.tell.new.self) m gives l difference_seen giver taker c.is_some.result c.inherited_difference.result phase both c.is_some.ensures
+    compares_inheriting s e (value_in c.tell.new.self) m gives difference_seen giver taker c.is_some.result c.inherited_difference.result phase both c.is_some.ensures
     (c.inherited_difference.ensures ∙ flags_inherited e first second third fourth))
