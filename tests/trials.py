@@ -453,8 +453,8 @@ def of_length():
 
 def of_faults():
     """Faults at the greatest depth and in the last clause of 4,096: an event, a specification, and its refusal."""
-    for call, fault in (("{max}", "unsupported function max"), ("{'$1'}", "badarg")):
+    for call, fault in (("{max}", "unsupported function max"), ("{'$1'}", "no function '$1'/0; a tuple is written {{'$1'}}")):
         condition = nested("{'not',", call, "}", DEEPEST - 1)
-        yield "call", f"[{{['$1'],[{condition}],[]}}]", f"clause 1: {fault}"
+        yield "call", f"[{{['$1'],[{condition}],[]}}]", f"clause 1: condition 1: {fault}"
     clauses = many("{'_',[],[]}", ELEMENTS - 1)
-    yield "receive", f"[{clauses},{{'_',[],[{{ceil}}]}}]", f"clause {ELEMENTS}: unsupported function ceil"
+    yield "receive", f"[{clauses},{{'_',[],[{{ceil}}]}}]", f"clause {ELEMENTS}: body 1: unsupported function ceil"

@@ -25,7 +25,9 @@ use Rattle.tn_verdict.specs.SpecTestInputs.{IsList, IsListFault, IsCallerFault, 
 use Rattle.tn_verdict.specs.declared.spec_test_input.SpecTestInput.{SpecTestInput}
 use Rattle.tn_verdict.specs.declared.spec_test_input.SpecTestFault.{SpecTestFault}
 use Rattle.tn_verdict.specs.declared.spec_test_input.SpecTestFault.TheVariants.{List as OfList, NoList, Caller, NoCaller, Text, Spec, OutOfMemory}
-use Rattle.complete_code.specs.SpecTestAnswers.{IsRefusedText, IsRefusedSpec, IsSpecTestRefused, AreAnsweredAlike}
+use Rattle.tn_verdict.specs.SpecReasonTexts.{text_where_reason, TellsReason}
+use Rattle.def_explain.specs.SpecReasons.{spec_reason}
+use Rattle.complete_code.specs.SpecTestAnswers.{IsRefusedText, IsRefusedSpec, IsSpecTestRefused, AreAnsweredAlike, AreToldAlike}
 
 -- ---- texts
 
@@ -229,3 +231,16 @@ answered_alike q (Ok v) (Ok w) x y = one_text q v.items w.items x y
 answered_alike q (Ok v) (Err f) x y = answer_or_fault q v.items f x y
 answered_alike q (Err e) (Ok w) x y = answer_or_fault q w.items e y x
 answered_alike q (Err e) (Err f) x y = one_reason q e f x y
+
+-- ---- two answers why a text spells no specification
+
+one_reason_told : (d : Dialect) (bytes t u : List ℕ) → TellsReason d bytes t → TellsReason d bytes u → t ≡ u
+one_reason_told d bytes t u x y =
+    x.2 ∙ ap (λ s. text_where_reason (spec_reason (dialect_of d) s)) (one bytes x.0 y.0 x.1 y.1) ∙ sym y.2
+
+pub told_alike : {A : Type 0} (d : Dialect) (bytes : List ℕ) (a b : Result (Vec ℕ A) TextFault) → MatchResult a (λ v. TellsReason d bytes v.items) (λ f. IsTextRefusal bytes f)
+    → MatchResult b (λ v. TellsReason d bytes v.items) (λ f. IsTextRefusal bytes f) → AreToldAlike a b
+told_alike d bytes (Ok v) (Ok w) x y = one_reason_told d bytes v.items w.items x y
+told_alike d bytes (Ok v) (Err f) x y = not_refused bytes x.0 f x.1 y
+told_alike d bytes (Err e) (Ok w) x y = not_refused bytes y.0 e y.1 x
+told_alike d bytes (Err e) (Err f) x y = one_refusal bytes e f x y

@@ -36,3 +36,10 @@ AreAnsweredAlike (Ok v) (Ok w) = v.items ≡ w.items
 AreAnsweredAlike (Ok v) (Err f) = IsSpecTestRefused f
 AreAnsweredAlike (Err e) (Ok w) = IsSpecTestRefused e
 AreAnsweredAlike (Err e) (Err f) = ¬ IsSpecTestRefused e → ¬ IsSpecTestRefused f → e ≡ f
+
+-- the same of two answers why a text spells no specification
+abbrev pub AreToldAlike : {A : Type 0} → Result (Vec ℕ A) TextFault → Result (Vec ℕ A) TextFault → Type 0
+AreToldAlike (Ok v) (Ok w) = v.items ≡ w.items
+AreToldAlike (Ok v) (Err f) = IsRefusedText f
+AreToldAlike (Err e) (Ok w) = IsRefusedText e
+AreToldAlike (Err e) (Err f) = ¬ IsRefusedText e → ¬ IsRefusedText f → e ≡ f

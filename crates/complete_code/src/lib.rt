@@ -12,6 +12,7 @@ mod effects;
 mod execute;
 mod instr;
 mod reasons;
+mod spec_reasons;
 mod spec_test;
 mod spec_test_input;
 mod text;

@@ -14,7 +14,7 @@ use std::process::ExitCode;
 use tn_refusal::line_column_of;
 use tn_run::{RunFault, write_output};
 use tn_text::{MAX_TEXT, TextFault, Watched};
-use tn_verdict::{SpecTestFault, SpecTestInput, answer};
+use tn_verdict::{SpecTestFault, SpecTestInput, answer, no_specification_text};
 
 /// Why a trial ended before its answer was written and flushed.
 #[derive(Drop)]
@@ -86,9 +86,29 @@ fn tell_text(rt: &impl Eprint, name: &str, bytes: &[u8], fault: TextFault) {
     };
 }
 
-/// Says on standard error why the question has no answer, in one line.
-fn tell_question<A: Allocator>(
+/// Says on standard error why the specification can't be read.
+fn tell_specification<A: Allocator + Copy>(
     rt: &impl Eprint,
+    alloc: A,
+    question: &SpecTestInput<'_>,
+    fault: &SpecTestFault<A>,
+) {
+    let Ok(reason) = no_specification_text(alloc, question.spec, question.dialect) else {
+        let _ = rt.eprintln(fault);
+        return;
+    };
+    let reason = str::from_utf8(&reason).unwrap_or("");
+    let _ = if reason.is_empty() {
+        rt.eprintln(fault)
+    } else {
+        rt.eprintln(format_args!("specification: {reason}"))
+    };
+}
+
+/// Says on standard error why the question has no answer, in one line.
+fn tell_question<A: Allocator + Copy>(
+    rt: &impl Eprint,
+    alloc: A,
     question: &SpecTestInput<'_>,
     fault: &SpecTestFault<A>,
 ) {
@@ -98,13 +118,7 @@ fn tell_question<A: Allocator>(
             tell_text(rt, "caller", question.caller.unwrap_or(b""), *fault);
         }
         SpecTestFault::Text(fault) => tell_text(rt, "specification", question.spec, *fault),
-        SpecTestFault::Spec {
-            clause: Some(before),
-            fault,
-        } => {
-            let number = *before as u128 + 1;
-            let _ = rt.eprintln(format_args!("specification: clause {number}: {fault}"));
-        }
+        SpecTestFault::Spec { .. } => tell_specification(rt, alloc, question, fault),
         _ => {
             let _ = rt.eprintln(fault);
         }
@@ -121,7 +135,12 @@ pub fn test_spec<R: Print + Eprint + AllocGlobal>(rt: &R, question: &SpecTestInp
     let (_, reason) = writer.into_inner().into_parts();
     match answer {
         Ok(()) => {}
-        Err(SpecTestRunFault::SpecTestInput(fault)) => tell_question(rt, question, &fault),
+        Err(SpecTestRunFault::SpecTestInput(fault)) => tell_question(
+            rt,
+            rt.alloc(),
+            question,
+            &fault,
+        ),
         Err(SpecTestRunFault::Run(fault)) => tell_fault(rt, &fault, reason),
     }
     status
