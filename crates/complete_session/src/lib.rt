@@ -5,6 +5,7 @@
 //! Depends on tn_session.
 #![tactic(auto)]
 
+mod arguments;
 mod event_text;
 mod look;
 mod marks;
