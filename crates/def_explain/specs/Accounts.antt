@@ -1,10 +1,10 @@
 -- What one session makes of an event or a command, line by line (own).
--- Depends on what a session makes of an event, on why it reports nothing, on what a node does otherwise, and on the texts of reasons and effects.
+-- Depends on what a session makes of an event, on why it reports nothing or refuses a command, on what a node does otherwise, and on the texts of reasons and effects.
 use Rattle.std.specs.Prelude.{ℕ, suc, if◌then◌else◌, List, [], ◌∷◌, ◌++◌, map, Option, Some, None, option_to_list, codes, decimal}
 use Rattle.std.specs.Option.{unwrap_or}
 use Rattle.def_term.specs.Tree.{Tree, pid}
 use Rattle.def_term.specs.Names.{Mfa, word}
-use Rattle.def_term.specs.Text.{w, atom_text, pid_text}
+use Rattle.def_term.specs.Text.{atom_text, pid_text}
 use Rattle.def_script.specs.Program.{Command}
 use Rattle.def_script.specs.Exports.{Exports}
 use Rattle.def_spec.specs.Flags.{Flags, only, without, flags_by_name}
@@ -15,11 +15,11 @@ use Rattle.def_outlook.specs.Outlook.{Outlook}
 use Rattle.def_session.specs.Settings.{Setting, off, plain, by, setting_for}
 use Rattle.def_session.specs.State.{Phase, absent, live, destroyed, MarkKind, for_returns, for_exceptions, Session, flags_at}
 use Rattle.def_session.specs.Session.{inherit, effects_of, mark_asked, is_marked, context, reported_for}
-use Rattle.def_session.specs.Commands.{command_done}
 use Rattle.def_explain.specs.Causes.{Cause, no_mark, marked_for_returns, no_flag, no_setting, of_named_calls, switched_off, no_clause, silenced, message_false, cause_of}
 use Rattle.def_explain.specs.Verdicts.{Verdict, fails, fires, verdict_of}
 use Rattle.def_explain.specs.Differences.{Difference, clause_differences, event_difference, step_differences}
 use Rattle.def_explain.specs.Texts.{said_of_each, effects_text, reason_text, clause_text}
+use Rattle.def_explain.specs.ReasonTexts.{reply_text}
 
 -- what is said, a message that is reported, what a running node does otherwise, or what it does otherwise by the step
 pub data Line : Type 0 where
@@ -175,6 +175,6 @@ event_lines s l e = event_lines_in s.phase s l e
 
 -- ---- one command
 
--- the reply to a command of its own
+-- the reply to a command of its own, and why it is this one
 abbrev pub command_lines : Exports → Session → Command → List Line
-command_lines o s c = said (codes "replies " ++ w (command_done o s c).1) ∷ []
+command_lines o s c = said (reply_text o s c) ∷ []
