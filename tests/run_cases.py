@@ -8,27 +8,15 @@ from harness import EMPTY, EXAMPLES, PLAIN, PROBE, ROWS, SEND_HI, check, run, wa
 
 # The worked runs of which a running node does some moves otherwise: how many, and how many moves there are. `badarg`
 # ends a process with calls that are marked for exceptions; three calls are made in silence, and a fourth move ends them;
-# a link hands on flags; and messages are received by processes that haven't made their entry call.
-DIFFERING_ROWS = {
-    "badarg-is-no-exception": (1, 7),
-    "enable-on-another-pid": (1, 5),
-    "exceptions-in-silence": (4, 7),
-    "idle-picks-leave-no-trace": (2, 6),
-    "senders-in-order": (2, 6),
-    "senders-the-other-way": (2, 6),
-    "set-on-link": (1, 7),
-}
+# a link hands on flags.
+DIFFERING_ROWS = {"badarg-is-no-exception": (1, 7), "exceptions-in-silence": (4, 7), "set-on-link": (1, 7)}
 
 
-# The same of the examples' replays: a message goes to a process that hasn't made its entry call.
-DIFFERING_EXAMPLES = {"enabled_on_another": (1, 5), "worker_pool": (2, 11)}
-
-
-def note_of(name, known=DIFFERING_ROWS):
+def note_of(name):
     """What a worked run that isn't refused has on standard error."""
-    if name not in known:
+    if name not in DIFFERING_ROWS:
         return None
-    differing, moves = known[name]
+    differing, moves = DIFFERING_ROWS[name]
     return f"note: a running node differs at {differing} of {moves} moves; explain --node shows where\n".encode()
 
 
@@ -71,12 +59,10 @@ def examples():
             commands.append(words[0])
             ran = run(words, script.read_bytes())
             lines = ran.stdout.decode().splitlines()
-            note = b""
             if words[0] == "replay":
-                note = note_of(script.stem, DIFFERING_EXAMPLES) or b""
                 listings = ran.stdout.decode().partition("== replies\n")[0].splitlines()
                 lines = [line for line in listings if not line.startswith("== session ")] if shown else []
-            check(f"{words[0]} of example {script.stem}", ran.returncode == 0 and lines == shown and ran.stderr == note, ran)
+            check(f"{words[0]} of example {script.stem}", ran.returncode == 0 and lines == shown and not ran.stderr, ran)
         check(f"the commands of example {script.stem}", commands == ["replay", "explain"], commands)
 
 
@@ -138,8 +124,7 @@ def many_lines():
     told = "".join(f"== session s{n} tracer t{n}\n" + line * 10 for n in sessions)
     replies = "".join(f"{{session,s{n}}}\n1\n" for n in sessions)
     output = f"{told}== replies\n{replies}== journal\n{picks}\n"
-    ran = run(["replay", "--picks", picks], script)
-    wants("ten events of nine sessions", ran, 0, output.encode(), note_of("many", {"many": (10, 64)}))
+    wants("ten events of nine sessions", run(["replay", "--picks", picks], script), 0, output.encode())
     whole = next(text for text, name in layers.of_live(output) if name == layers.WHOLE)
     wants("their lines from a board", run(["live", picks], script, command=(str(PROBE),)), 0, whole.encode())
     wants("their lines by one worker", run(["lines", ""], script, command=(str(PROBE),)), 0, b"lines 90\n")
@@ -158,7 +143,7 @@ def workers():
     """Each example by workers: the journal that is printed, replayed, gives the same bytes."""
     for script in sorted(EXAMPLES.glob("*.term")):
         for words in (["--n", "1"], ["--n", "3"], ["--n", "16", "--turns", "2"], ["--n", "4", "--spread", "7"]):
-            ran = run(["workers", "--quiet", *words], script.read_bytes())
+            ran = run(["workers", *words], script.read_bytes())
             picks = ran.stdout.decode().removesuffix("\n").rpartition("\n")[2]
             again = run(["replay", "--picks", picks], script.read_bytes())
             name = f"workers {' '.join(words)} on {script.stem}"
