@@ -48,10 +48,6 @@ is_asked step name = selects (selection_seen step.selection.now) step.number && 
 abbrev pub selected_of : {A : Type 0} → code.Selection → Program A → List ℕ → List ℕ
 selected_of a program picks = selected_text (selection_seen a) (program_of program) picks
 
--- what the filter selects of it
-abbrev pub selection_of : {A : Type 0} → Filter → Program A → List ℕ → Selection
-selection_of filter program picks = selection (filter_seen filter) (program_of program) picks
-
 -- the account of the program's run by these picks, as far as it is asked for
 abbrev pub account_of : {A : Type 0} → Filter → Program A → List ℕ → List ℕ
 account_of filter program picks = account_text (filter_seen filter) (program_of program) picks
