@@ -7,10 +7,12 @@
 
 mod actions;
 mod bindings;
+mod callee;
 mod eval_context;
 mod fault;
 mod function_setting;
 mod functions;
+mod head;
 mod matching;
 mod names;
 mod outcome;

@@ -11,3 +11,11 @@ pub fn kind_of(one: &str, other: &str) -> (AtomKind, AtomKind)
 {
     (tn_spec::kind_of(one), tn_spec::kind_of(other))
 }
+
+/// `tn_spec::is_anything` has one answer.
+pub fn is_anything(one: &str, other: &str) -> (bool, bool)
+    requires { one.now ≡ other.now }
+    ensures { result.0 ≡ result.1 }
+{
+    (tn_spec::is_anything(one), tn_spec::is_anything(other))
+}
