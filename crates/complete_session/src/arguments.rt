@@ -44,7 +44,8 @@ pub fn pattern_of<A: Allocator + Copy>(
     Result<Option<FunctionPattern<A>>, AllocError>,
 )
     requires { tree_of one.now ≡ tree_of other.now }
-    ensures { IfOk result.0 (λ p. IfOk result.1 (λ q. option_map function_pattern_seen p ≡ option_map function_pattern_seen q)) }
+    ensures { IfOk result.0 (λ p. IfOk result.1 (λ q.
+        option_map function_pattern_seen p ≡ option_map function_pattern_seen q)) }
 {
     (
         tn_session::pattern_of(alloc, one),

@@ -16,7 +16,7 @@ use Rattle.def_session.specs.State.{MarkKind, for_returns, for_exceptions, Sessi
 use Rattle.def_session.specs.Session.{effects_of, reported_for, mark_asked, is_marked, is_for_exceptions, is_marked_for_exceptions}
 use Rattle.def_session.specs.Messages.{last_message}
 use Rattle.def_explain.specs.Causes.{is_false_message}
-use Rattle.def_explain.specs.Differences.{Difference, node_ends, finds_no_tracer, suppresses_message, leaves_no_mark, reports_end, reports_exceptions, clears_spawn_flags, gives_no_flags, evaluates_from_right, catches_error, reports_attempt, raises_noproc, reports_later, IsTraced, attempt_flag, StepDiffers, is_traced, has_that_flag, is_attempt_by, step_differs, CallsAction, OneCallsAction, TwoCallActions, ShowsOrder, OneShowsOrder, calls_action, one_calls_action, two_call_actions, shows_order, one_shows_order, HasNone, has_none, is_change, LosesLastFlag, loses_last_flag, ChangesWithoutFlags, changes_without_flags, is_of_sends, is_of_calls, has_mark_below, difference_where}
+use Rattle.def_explain.specs.Differences.{Difference, node_ends, finds_no_tracer, suppresses_message, leaves_no_mark, reports_end, reports_exceptions, clears_spawn_flags, gives_no_flags, evaluates_from_right, catches_error, reports_attempt, raises_noproc, reports_later, HasFlags, attempt_flag, StepDiffers, is_traced, has_that_flag, is_attempt_by, step_differs, CallsAction, OneCallsAction, TwoCallActions, ShowsOrder, OneShowsOrder, calls_action, one_calls_action, two_call_actions, shows_order, one_shows_order, HasNone, has_none, is_change, LosesLastFlag, loses_last_flag, ChangesWithoutFlags, changes_without_flags, is_of_sends, is_of_calls, has_mark_below, difference_where}
 use Rattle.def_explain.specs.Laws.{BodyDifferenceIsComputed, OrderDifferenceIsComputed, EventDifferenceIsComputed, StepDifferenceIsComputed}
 
 -- ---- truth values
@@ -370,10 +370,10 @@ order_difference_is_computed body x = where-holds _ evaluates_from_right x _ (on
 -- ---- by the step at an event
 
 -- a process that has a flag
-traced-is : (s : Session) (p : ℕ) → is_traced s p ≡ true → IsTraced s p
+traced-is : (s : Session) (p : ℕ) → is_traced s p ≡ true → HasFlags s p
 traced-is s p h none = absurd (cc (sym (not_is _ h) ∙ set-none (flags_at s p) none))
 
-is-traced : (s : Session) (p : ℕ) → IsTraced s p → is_traced s p ≡ true
+is-traced : (s : Session) (p : ℕ) → HasFlags s p → is_traced s p ≡ true
 is-traced s p h = go (has_none (flags_at s p)) refl
   where
     go : (b : Bool) → has_none (flags_at s p) ≡ b → not b ≡ true

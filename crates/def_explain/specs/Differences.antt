@@ -176,12 +176,12 @@ EventDiffers s e x = ⊥
 -- ---- an event by a step of which this was known before it
 
 -- the process has a flag
-abbrev pub IsTraced : Session → (p : ℕ) → Type 0
-IsTraced s p = HasNone (flags_at s p) → ⊥
+abbrev pub HasFlags : Session → (p : ℕ) → Type 0
+HasFlags s p = HasNone (flags_at s p) → ⊥
 
 -- a run-time error ends a process that has a flag, and a catch step called one of its frames
 abbrev pub IsCaughtError : Session → Outlook → (p : ℕ) → Type 0
-IsCaughtError s l p = IsTraced s p × ((x : RuntimeError) × (l.error ≡ Some x)) × ((depth : ℕ) × (l.caught_at ≡ Some depth))
+IsCaughtError s l p = HasFlags s p × ((x : RuntimeError) × (l.error ≡ Some x)) × ((depth : ℕ) × (l.caught_at ≡ Some depth))
 
 -- the flag by which a node reports a step with this error before the error
 abbrev pub attempt_flag : RuntimeError → Option Flag
@@ -196,7 +196,7 @@ IsAttempt s l p = (x : RuntimeError) × (f : Flag) × (l.error ≡ Some x) × (a
 
 -- a process that has a flag links itself to one that isn't alive
 abbrev pub IsLinkToNoProcess : Session → (p other : ℕ) → Type 0
-IsLinkToNoProcess s p other = IsTraced s p × (is_alive s.alive other ≡ false)
+IsLinkToNoProcess s p other = HasFlags s p × (is_alive s.alive other ≡ false)
 
 -- a receive is reported whose process doesn't wait for a message
 abbrev pub IsReportedEarly : Session → Outlook → Event → Type 0

@@ -58,7 +58,8 @@ fn place_reason<'a, A: Allocator>(
     part: Position,
     called: Callee,
 ) -> Option<ExpressionReason<'a, A>>
-    ensures { expression_reasons_seen result ≡ place_reason (dialect_of dialect) (position_seen part) (called_seen called) }
+    ensures { expression_reasons_seen result
+        ≡ place_reason (dialect_of dialect) (position_seen part) (called_seen called) }
 {
     match called {
         Callee::Action(action) if !may_stand(dialect, part, called) => Some(
@@ -126,7 +127,8 @@ fn tuple_reason<'a, A: Allocator>(
     part: Position,
     head: &Variables<'_, A>,
 ) -> Option<ExpressionReason<'a, A>>
-    ensures { expression_reasons_seen result ≡ expression_reason_of dialect part head.now (tuple (trees_of terms.now.items)) }
+    ensures { expression_reasons_seen result
+        ≡ expression_reason_of dialect part head.now (tuple (trees_of terms.now.items)) }
 {
     if terms.len() == 0 {
         return Some(ExpressionReason::NoCall(terms));

@@ -21,7 +21,8 @@ fn put_reason_of<A: Allocator + Copy>(
     dialect: Dialect,
     out: &mut Vec<u8, A>,
 ) -> Result<(), AllocError>
-    ensures ok { OnOk result (out.new.items ≡ out.old.items ++ text_where_reason (spec_reason (dialect_of dialect) (tree_of term.now))) }
+    ensures ok { OnOk result
+        (out.new.items ≡ out.old.items ++ text_where_reason (spec_reason (dialect_of dialect) (tree_of term.now))) }
     ensures grows { Grows out.old.items out.new.items }
 {
     match spec_reason(alloc, term, dialect)? {

@@ -176,7 +176,7 @@ fn put_name_count<A: Allocator, B: Allocator>(
 
 /// The written name that is meant by a name of other languages.
 #[tactic(auto, unfolding(def_term::specs::Text::is_written_bare))]
-fn meant(text: &str) -> Option<&'static [u8]>
+fn written_name(text: &str) -> Option<&'static [u8]>
     ensures { names_seen result ≡ option_map atom_text (meant_in common_slips text.now) }
 {
     match text {
@@ -215,7 +215,7 @@ fn put_no_function<A: Allocator, B: Allocator>(
     ensures grows { Grows out.old.items out.new.items }
 {
     out.extend_from_slice(b"no function ")?;
-    if let Some(meant) = meant(name.text()) {
+    if let Some(meant) = written_name(name.text()) {
         return put_meant(name, meant, out);
     }
     put_name_count(name, terms, out)?;
@@ -314,7 +314,8 @@ fn put_expression_reason<A: Allocator, B: Allocator>(
     why: ExpressionReason<'_, A>,
     out: &mut Vec<u8, B>,
 ) -> Result<(), AllocError>
-    ensures ok { OnOk result (out.new.items ≡ out.old.items ++ expression_reason_text (expression_reason_seen why.entry)) }
+    ensures ok { OnOk result
+        (out.new.items ≡ out.old.items ++ expression_reason_text (expression_reason_seen why.entry)) }
     ensures grows { Grows out.old.items out.new.items }
 {
     match why {
@@ -339,7 +340,8 @@ fn put_head_term_reason<A: Allocator, B: Allocator>(
     why: HeadTermReason<'_, A>,
     out: &mut Vec<u8, B>,
 ) -> Result<(), AllocError>
-    ensures ok { OnOk result (out.new.items ≡ out.old.items ++ head_term_reason_text (head_term_reason_seen why.entry)) }
+    ensures ok { OnOk result
+        (out.new.items ≡ out.old.items ++ head_term_reason_text (head_term_reason_seen why.entry)) }
     ensures grows { Grows out.old.items out.new.items }
 {
     match why {
