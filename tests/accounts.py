@@ -153,6 +153,52 @@ END_OF_THE_OTHER = """16 101 <0.101.0> return_from {m,go,0} ok
   s1: <0.101.0> loses call loses procs loses arity
 """
 
+REFUSED = """{function,m,go,exported,[],[]}.
+{function,m,own,internal,[],[]}.
+{process,m,go,[]}.
+{control,[{session_create,s,t,[]},{process,s,m,true,[]},{process,s,<0.101.0>,true,[call]},
+  {process,s,all,yes,[call]},{process,s,all,true,call},{process,s,all,true,[call,recv]},
+  {function,s,{m,f},true,[]},{function,s,{m,go,0},true,[meta]},{function,s,{m,go,0},no,[]},
+  {function,s,{m,go,1},true,[]},{function,s,{m,own,0},true,[]},
+  {function,s,{m,go,0},[{'_',[],[]},{'_',[{'!=','$1',1}],[]}],[]},{recv,s,[{'_',[],[{caller}]}],[]},
+  {session_destroy,s},{send,s,true,[]}]}.
+"""
+
+REFUSED_PICKS = "0 0 0 0 0 0 0 0 0 0 0 0 0 0 0"
+
+REFUSALS = """1 0 {session_create,s,t,[]}
+  s: replies {session,s}
+2 0 {process,s,m,true,[]}
+  s: replies badarg: Procs is a pid, all, existing or new, found m
+3 0 {process,s,<0.101.0>,true,[call]}
+  s: replies badarg: <0.101.0> isn't alive
+4 0 {process,s,all,yes,[call]}
+  s: replies badarg: How is true or false, found yes
+5 0 {process,s,all,true,call}
+  s: replies badarg: Flags is a list of flags, found call
+6 0 {process,s,all,true,[call,recv]}
+  s: replies badarg: no flag recv; the flags are send, 'receive', call, procs, silent, arity, set_on_spawn, \
+set_on_first_spawn, set_on_link, set_on_first_link
+7 0 {function,s,{m,f},true,[]}
+  s: replies badarg: MFA is {M,F,A}, {M,F,'_'}, {M,'_','_'} or {'_','_','_'}, A from 0 to 255, found {m,f}
+8 0 {function,s,{m,go,0},true,[meta]}
+  s: replies badarg: Opts is [], [global] or [local], found [meta]
+9 0 {function,s,{m,go,0},no,[]}
+  s: replies badarg: Spec is true, false or a list of clauses, found no
+10 0 {function,s,{m,go,1},true,[]}
+  s: replies 0: no function matches
+11 0 {function,s,{m,own,0},true,[]}
+  s: replies 0: no exported function matches; [local] is for the others too
+12 0 {function,s,{m,go,0},[{'_',[],[]},{'_',[{'!=','$1',1}],[]}],[]}
+  s: replies badarg: clause 2: condition 1: no function '!='; '/=' is meant?
+13 0 {recv,s,[{'_',[],[{caller}]}],[]}
+  s: replies badarg: clause 1: body 1: caller stands in bodies of specifications for calls alone
+14 0 {session_destroy,s}
+  s: replies true
+15 0 {send,s,true,[]}
+  s: replies badarg: the session is destroyed
+"""
+
 # A script, its picks, further words of an explanation, and its text.
 ACCOUNTS = (
     (SENDS, PICKS, (), WHOLE),
@@ -167,4 +213,5 @@ ACCOUNTS = (
     (CHANGES, CHANGES_PICKS, ("--move", "11"), ENTRY_OF_THE_OTHER),
     (CHANGES, CHANGES_PICKS, ("--move", "12"), CHANGE_OF_THE_OTHER),
     (CHANGES, CHANGES_PICKS, ("--move", "16", "--session", "s1"), END_OF_THE_OTHER),
+    (REFUSED, REFUSED_PICKS, (), REFUSALS),
 )

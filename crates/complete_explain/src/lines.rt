@@ -2,9 +2,10 @@
 ghost use Rattle.std.specs.Prelude.{◌≡◌, OnOk};
 ghost use Rattle.tn_term.specs.Views.{tree_of};
 ghost use Rattle.tn_session.specs.Sessions.{value_in};
+ghost use Rattle.tn_explain.specs.CommandReasons.{command_reasons_seen};
 
 use std::alloc::{AllocError, Allocator};
-use tn_explain::{put_command_line, put_event_lines};
+use tn_explain::{CommandReason, put_command_line, put_event_lines};
 use tn_flags::Event;
 use tn_node::Outlook;
 use tn_session::Session;
@@ -39,21 +40,29 @@ pub fn event<A: Allocator + Copy>(
     )
 }
 
+/// A reply to a command, and why it is this one.
+#[derive_where(Clone, Copy)]
+pub struct SessionReply<'a, A: Allocator> {
+    pub reply: &'a Term<A>,
+    pub why: Option<CommandReason<'a, A>>,
+}
+
 /// `tn_explain::put_command_line` leaves one text. After a refusal nothing of it is said, but that the text
 /// that was there is still a front of it.
 pub fn command<A: Allocator, B: Allocator>(
     name: &Atom<A>,
-    one: &Term<A>,
-    other: &Term<A>,
+    one: SessionReply<'_, A>,
+    other: SessionReply<'_, A>,
     first: &mut Vec<u8, B>,
     second: &mut Vec<u8, B>,
 ) -> (Result<(), AllocError>, Result<(), AllocError>)
-    requires replies { tree_of one.now ≡ tree_of other.now }
+    requires replies { tree_of one.reply.now ≡ tree_of other.reply.now }
+    requires reasons { command_reasons_seen one.why ≡ command_reasons_seen other.why }
     requires texts { first.old.items ≡ second.old.items }
     ensures { OnOk result.0 (OnOk result.1 (first.new.items ≡ second.new.items)) }
 {
     (
-        put_command_line(name, one, first),
-        put_command_line(name, other, second),
+        put_command_line(name, one.reply, one.why, first),
+        put_command_line(name, other.reply, other.why, second),
     )
 }

@@ -8,13 +8,17 @@ use tn_program::Program;
 use tn_run::Denial;
 
 /// `tn_explain::can_differ` has one answer for one program.
-pub fn can_differ<A: Allocator>(first: &Program<A>, second: &Program<A>) -> (bool, bool)
+pub fn can_differ<A: Allocator + Copy>(
+    alloc: A,
+    first: &Program<A>,
+    second: &Program<A>,
+) -> (Result<bool, AllocError>, Result<bool, AllocError>)
     requires { program_of first.now ≡ program_of second.now }
-    ensures { result.0 ≡ result.1 }
+    ensures { IfOk result.0 (λ b. IfOk result.1 (λ c. b ≡ c)) }
 {
     (
-        tn_explain::can_differ(first),
-        tn_explain::can_differ(second),
+        tn_explain::can_differ(alloc, first),
+        tn_explain::can_differ(alloc, second),
     )
 }
 

@@ -1,5 +1,5 @@
 -- The lines of differences, one after another, and the marks of frames.
-use Rattle.std.proofs.Common.{◌≡◌, ◌∙◌, ℕ, suc, Bool, true, false, ◌&&◌, ◌||◌, Some, None, option_to_list, List, [], ◌∷◌, ◌++◌, map, refl, sym, ap, if◌then◌else◌}
+use Rattle.std.proofs.Common.{◌≡◌, ◌∙◌, ℕ, suc, Bool, true, false, ◌&&◌, ◌||◌, Some, None, not, option_to_list, Option, is_some, List, [], ◌∷◌, ◌++◌, map, refl, sym, ap, if◌then◌else◌}
 use Rattle.def_spec.specs.Expressions.{Dialect, Context, Effect}
 use Rattle.def_spec.specs.Outcome.{Clause}
 use Rattle.def_session.specs.State.{Session}
@@ -17,7 +17,7 @@ use Rattle.def_explain.specs.Accounts.{steps_otherwise}
 use Rattle.def_explain.specs.Differences.{catches_error, reports_attempt, raises_noproc, reports_later, step_differs, step_differences}
 use Rattle.tn_explain.specs.LineParts.{step_where}
 use Rattle.tn_explain.specs.Lines.{lines_text}
-use Rattle.tn_explain.specs.StepDifferences.{one_before, steps_seen, is_reported_later, AreBefore, AreAfter}
+use Rattle.tn_explain.specs.StepDifferences.{one_before, step_differences_seen, is_reported_later, AreBefore, AreAfterEvent}
 use Rattle.tn_explain.specs.declared.step_differences.StepDifferences.{StepDifferences}
 use Rattle.std.specs.Option.{option_map}
 
@@ -72,7 +72,7 @@ step-where : (b : Bool) (x : Difference) (xs : List Difference) → map steps_ot
 step-where true x xs = refl
 step-where false x xs = refl
 
-pub each_step : (d : StepDifferences) → map steps_otherwise (steps_seen d)
+pub each_step : (d : StepDifferences) → map steps_otherwise (step_differences_seen d)
     ≡ step_where d.attempt reports_attempt ++ (step_where d.caught catches_error ++ (step_where d.noproc raises_noproc ++ (step_where d.later reports_later ++ [])))
 each_step d =
     step-where d.attempt reports_attempt _
@@ -103,7 +103,7 @@ later-is s l (getting_linked p q) reported phase is = refl
 later-is s l (getting_unlinked p q) reported phase is = refl
 
 -- what is known before an event and what is known afterwards are all that a node does otherwise by the step
-pub all_known : (s : Session) (l : Outlook) (e : Event) (reported : Bool) (d f : StepDifferences) → s.phase ≡ live → reported ≡ is_some (event_reported s e).1 → AreBefore s l e d → AreAfter l e reported d f → steps_seen f ≡ step_differences s l e
+pub all_known : (s : Session) (l : Outlook) (e : Event) (reported : Bool) (d f : StepDifferences) → s.phase ≡ live → reported ≡ is_some (event_reported s e).1 → AreBefore s l e d → AreAfterEvent l e reported d f → step_differences_seen f ≡ step_differences s l e
 all_known s l e reported d f phase is before after =
     let last : Bool → List Difference = λ b. one_before b reports_later [] in
     ap (λ b. one_before b reports_attempt (one_before f.caught catches_error (one_before f.noproc raises_noproc (last f.later)))) (after.attempt ∙ before.attempt)

@@ -17,3 +17,4 @@ pub mod SessionDifferences
 pub mod NoteCounts
 pub mod NodeFlags
 pub mod NodeNotes
+pub mod CommandReasons

@@ -3,6 +3,7 @@ use Rattle.std.proofs.Common.{◌≡◌, ◌∙◌, ℕ, ◌+◌, ◌<◌, ◌�
 use Rattle.std.proofs.lemmas.List.{drop_more, drop_all}
 use Rattle.def_script.specs.Exports.{Exports}
 use Rattle.def_node.specs.Event.{Event}
+use Rattle.def_outlook.specs.Outlook.{Outlook}
 use Rattle.def_run.specs.Run.{HistoryItem, event_item}
 use Rattle.def_run.specs.History.{NamedSession, all_after, all_after_items}
 use Rattle.def_explain.specs.Runs.{shows, shows_nothing, made_by_all, entries_over, entries_of_move}
@@ -70,9 +71,9 @@ all_shown v step o ss us es i first now past h =
     )
 
 -- a move that shows something
-pub some_shown : (k pick : ℕ) (o : Exports) (ss : List NamedSession) (xs : List HistoryItem) → (xs ≡ [] → ⊥) → entries_over o k pick ss xs ≡ entries_of_move o k pick ss xs
-some_shown k pick o ss [] h = absurd (h refl)
-some_shown k pick o ss (x ∷ xs) h = refl
+pub some_shown : (l : Outlook) (k pick : ℕ) (o : Exports) (ss : List NamedSession) (xs : List HistoryItem) → (xs ≡ [] → ⊥) → entries_over o l k pick ss xs ≡ entries_of_move o l k pick ss xs
+some_shown l k pick o ss [] h = absurd (h refl)
+some_shown l k pick o ss (x ∷ xs) h = refl
 
 pub seen_all : {A E : Type 0} (v : E → Event) (step : Step) (o : Exports) (ss us : List NamedSession) (es fs : List E) (i : ℕ) (new : Sessions A) (first now : List ℕ) → es ≡ fs → length es ≤ i → AreNamedSessions o us new
     → IsPartway step o ss us (shown_of v es) (shown_of v (drop i es)) first now
@@ -106,5 +107,5 @@ pub something_seen : {A E : Type 0} (v : E → Event) (step : Step) (o : Exports
     → AreNamedSessions o (all_after_items o ss (shown_of v es)) new × (now ≡ first ++ text_by step (entries_of_move o (outlook_seen step.outlook) step.number step.pick ss (shown_of v es)))
 something_seen v step o ss es new first now some made = (
   made.0,
-  made.1 ∙ ap (λ l. first ++ text_by step l) (some_shown step.number step.pick o ss (shown_of v es) (λ e. some (none_of_none v es e))),
+  made.1 ∙ ap (λ l. first ++ text_by step l) (some_shown (outlook_seen step.outlook) step.number step.pick o ss (shown_of v es) (λ e. some (none_of_none v es e))),
 )

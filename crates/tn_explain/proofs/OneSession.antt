@@ -1,10 +1,9 @@
 -- One session: an event, and a command.
-use Rattle.std.proofs.Common.{◌≡◌, ◌∙◌, ℕ, Bool, true, false, if◌then◌else◌, List, [], ◌∷◌, ◌++◌, map, Option, Some, None, refl, sym, ap, subst, append-nil, codes}
+use Rattle.std.proofs.Common.{◌≡◌, ◌∙◌, ℕ, Bool, true, false, if◌then◌else◌, List, [], ◌++◌, map, Option, Some, None, refl, sym, ap, subst, append-nil}
 use Rattle.std.specs.Str.{bytes_eq}
 use Rattle.std.specs.Option.{IsSomeAnd}
 use Rattle.def_term.specs.Alive.{Alive}
 use Rattle.def_term.specs.Tree.{Tree}
-use Rattle.def_term.specs.Text.{w}
 use Rattle.def_script.specs.Program.{Command, session_of}
 use Rattle.def_script.specs.Exports.{Exports}
 use Rattle.def_node.specs.Event.{Event}
@@ -13,7 +12,8 @@ use Rattle.def_session.specs.Session.{event_reported}
 use Rattle.def_session.specs.Commands.{command_done}
 use Rattle.def_run.specs.Run.{event_item, command_item}
 use Rattle.def_run.specs.History.{NamedSession, after}
-use Rattle.def_explain.specs.Accounts.{said, event_lines, command_lines}
+use Rattle.def_explain.specs.Accounts.{event_lines, command_lines}
+use Rattle.def_explain.specs.CommandReasons.{CommandReason, command_reason}
 use Rattle.def_explain.specs.Runs.{session_lines, makes}
 use Rattle.tn_session.specs.Sessions.{SessionValue, value_in, next_session}
 use Rattle.tn_session.specs.declared.session.Session.{Session}
@@ -23,6 +23,7 @@ use Rattle.tn_trace.specs.Slots.{IsSession, IsTracked, ObeysOwn}
 use Rattle.tn_trace.specs.Tracks.{Track}
 use Rattle.tn_trace.specs.declared.slot.Slot.{Slot}
 use Rattle.tn_explain.specs.Filters.{selection_seen, is_asked, text_by}
+use Rattle.tn_explain.specs.LineParts.{reply_lines}
 use Rattle.tn_explain.specs.NamedSessions.{HasState}
 use Rattle.tn_explain.specs.declared.step.Step.{Step}
 use Rattle.tn_explain.specs.declared.discard.Discard.{Discard}
@@ -93,20 +94,22 @@ module _ {A : Type 0} (step : Step) (o : Exports) (living : Alive) (s : NamedSes
       sym (ap (λ b. text ++ text_by step (map (makes s.0) (if b then command_lines o s.1 c else []))) d.1 ∙ append-nil text),
     )
 
-    own_lines : (r : Tree) (new : Slot A Discard) → Obeyed new (Some r) → session_lines o (outlook_seen step.outlook) s (command_item c) ≡ said (codes "replies " ++ w r) ∷ []
-    own_lines r new d = ap (λ b. if b then command_lines o s.1 c else []) d.1.0 ∙ ap (λ t. said (codes "replies " ++ w t) ∷ []) (sym d.1.1)
+    own_lines : (r : Tree) (q : Option CommandReason) (new : Slot A Discard) → Obeyed new (Some r) → (bytes_eq s.0 (session_of c) ≡ true → q ≡ command_reason o s.1 c) → session_lines o (outlook_seen step.outlook) s (command_item c) ≡ reply_lines r q
+    own_lines r q new d why =
+        ap (λ b. if b then command_lines o s.1 c else []) d.1.0 ∙ ap (λ t. reply_lines t (command_reason o s.1 c)) (sym d.1.1) ∙ ap (reply_lines r) (sym (why d.1.0))
 
-    pub obeys_asked : (r : Tree) (new : Slot A Discard) (text' : List ℕ) → is_asked step new.name ≡ true → Obeyed new (Some r) → text' ≡ text ++ lines_text new.name (said (codes "replies " ++ w r) ∷ []) → HasReplied new text'
-    obeys_asked r new text' filter d written =
+    pub obeys_asked : (r : Tree) (q : Option CommandReason) (new : Slot A Discard) (text' : List ℕ) → is_asked step old.name ≡ true → Obeyed new (Some r) → (bytes_eq s.0 (session_of c) ≡ true → q ≡ command_reason o s.1 c)
+        → text' ≡ text ++ lines_text new.name (reply_lines r q) → HasReplied new text'
+    obeys_asked r q new text' filter d why written =
         let t = stands_after new (Some r) d in (
           t,
-          written ∙ ap (λ n. text ++ lines_text n (said (codes "replies " ++ w r) ∷ [])) t.name ∙ ap (λ ls. text ++ lines_text s.0 ls) (sym (own_lines r new d))
-              ∙ ap (λ l. text ++ l) (sym (lines_wanted (selection_seen step.selection.now) step.number s.0 (session_lines o (outlook_seen step.outlook) s (command_item c)) (ap (is_asked step) (sym t.name) ∙ filter))),
+          written ∙ ap (λ n. text ++ lines_text n (reply_lines r q)) t.name ∙ ap (λ ls. text ++ lines_text s.0 ls) (sym (own_lines r q new d why))
+              ∙ ap (λ l. text ++ l) (sym (lines_wanted (selection_seen step.selection.now) step.number s.0 (session_lines o (outlook_seen step.outlook) s (command_item c)) (asked_of true filter))),
         )
 
-    pub obeys_only : (r : Tree) (new : Slot A Discard) → is_asked step new.name ≡ false → Obeyed new (Some r) → HasReplied new text
-    obeys_only r new filter d =
-        let t = stands_after new (Some r) d in (
-          t,
-          sym (ap (λ l. text ++ l) (lines_not_wanted (selection_seen step.selection.now) step.number s.0 (session_lines o (outlook_seen step.outlook) s (command_item c)) (ap (is_asked step) (sym t.name) ∙ filter)) ∙ append-nil text),
-        )
+    -- a command of any session, where it isn't asked for
+    pub obeys_only : (r : Option Tree) (new : Slot A Discard) → is_asked step old.name ≡ false → Obeyed new r → HasReplied new text
+    obeys_only r new filter d = (
+      stands_after new r d,
+      sym (ap (λ l. text ++ l) (lines_not_wanted (selection_seen step.selection.now) step.number s.0 (session_lines o (outlook_seen step.outlook) s (command_item c)) (asked_of false filter)) ∙ append-nil text),
+    )

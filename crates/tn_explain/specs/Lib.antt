@@ -11,3 +11,4 @@ pub mod Explainers
 pub mod Accounts
 pub mod Comparisons
 pub mod Notes
+pub mod CommandReasons

@@ -9,6 +9,8 @@ use Rattle.def_node.specs.Event.{Event, spawned, getting_linked}
 use Rattle.def_session.specs.State.{Session}
 use Rattle.def_session.specs.Session.{effects_of}
 use Rattle.def_explain.specs.Reasons.{Reason}
+use Rattle.def_explain.specs.CommandReasons.{CommandReason}
+use Rattle.def_explain.specs.ReasonTexts.{reason_after_reply}
 use Rattle.def_explain.specs.Causes.{cause_of}
 use Rattle.def_explain.specs.Texts.{clause_text, reason_text, effects_text, said_of_each}
 use Rattle.def_explain.specs.Differences.{Difference, clears_spawn_flags, gives_no_flags, clause_differences, has_spawn_flag, difference_where}
@@ -99,9 +101,9 @@ lost_lines p f = line_where p (said_of_each (codes " loses ") f flags_by_name)
 abbrev pub uncovered_lines : Mfa → List Line
 uncovered_lines f = said (codes "no setting for " ++ mfa_text f) ∷ []
 
--- the reply to a command
-abbrev pub reply_lines : Tree → List Line
-reply_lines t = said (codes "replies " ++ w t) ∷ []
+-- the reply to a command, and why it is this one
+abbrev pub reply_lines : Tree → Option CommandReason → List Line
+reply_lines t r = said (codes "replies " ++ w t ++ reason_after_reply r) ∷ []
 
 -- the line of what is said, where it is
 abbrev pub said_where : Bool → List ℕ → List Line

@@ -1,12 +1,15 @@
 -- What the code's sessions of an account stand for, and what becomes of them.
-use Rattle.std.specs.Prelude.{◌≡◌, ℕ, List, [], ◌∷◌, ◌++◌, map, Result, OnOk}
+use Rattle.std.specs.Prelude.{◌≡◌, ℕ, true, List, [], ◌∷◌, ◌++◌, map, Option, Result, OnOk}
+use Rattle.std.specs.Str.{bytes_eq}
 use Rattle.std.specs.declared.alloc.AllocError.{AllocError}
 use Rattle.std.specs.declared.vec.Vec.{Vec}
 use Rattle.def_term.specs.Alive.{Alive}
+use Rattle.def_script.specs.Program.{session_of}
 use Rattle.def_script.specs.Exports.{Exports, exports_of, visible}
 use Rattle.def_session.specs.State.{alive_after}
 use Rattle.def_run.specs.Run.{HistoryItem, event_item, command_item}
 use Rattle.def_run.specs.History.{NamedSession, after, all_after, all_after_items, named_sessions}
+use Rattle.def_explain.specs.CommandReasons.{CommandReason, command_reason}
 use Rattle.def_explain.specs.Runs.{session_lines, shows, makes, made_by_all, entries_over, entries_of_move}
 use Rattle.tn_term.specs.Views.{alive_of}
 use Rattle.tn_flags.specs.Views.{event_of, command_of}
@@ -59,6 +62,12 @@ SlotSeesEvent step event old new text text' result =
 abbrev pub SlotsSeeEvent : {A : Type 0} → Step → Event A → List (Slot A Discard) → List (Slot A Discard) → List ℕ → List ℕ → Result (Unit {0}) AllocError → Type 0
 SlotsSeeEvent step event old new text text' result =
     (o : Exports) (living : Alive) → SlotsMake step o living (alive_after living (event_of event)) (event_item (event_of event)) old new text text' result
+
+-- why the session of the slot refuses a command that is its own, or matches no function by it
+abbrev pub SlotHasReason : {A : Type 0} → Order A → Slot A Discard → Option CommandReason → Type 0
+SlotHasReason order slot r =
+    (o : Exports) → o.functions ≡ visible (functions_of order.functions.now) → (s : NamedSession) → HasState o (alive_of order.living) s slot
+    → bytes_eq s.0 (session_of (command_of order.command.now)) ≡ true → r ≡ command_reason o s.1 (command_of order.command.now)
 
 -- where a session saw a command, what it makes of it was appended as far as it is asked for; nobody starts or ends by it
 abbrev pub SlotSeesCommand : {A : Type 0} → Step → Order A → Slot A Discard → Slot A Discard → List ℕ → List ℕ → Result (Unit {0}) AllocError → Type 0

@@ -10,8 +10,8 @@ use Rattle.tn_explain.specs.declared.step_differences.StepDifferences as code
 abbrev pub one_before : Bool → Difference → List Difference → List Difference
 one_before b x xs = if b then x ∷ xs else xs
 
-abbrev pub steps_seen : code.StepDifferences → List Difference
-steps_seen d = one_before d.attempt reports_attempt (one_before d.caught catches_error (one_before d.noproc raises_noproc (one_before d.later reports_later [])))
+abbrev pub step_differences_seen : code.StepDifferences → List Difference
+step_differences_seen d = one_before d.attempt reports_attempt (one_before d.caught catches_error (one_before d.noproc raises_noproc (one_before d.later reports_later [])))
 
 -- a receive that is reported, whose process doesn't wait
 abbrev pub is_reported_later : Outlook → Event → (reported : Bool) → Bool
@@ -25,7 +25,7 @@ pub record AreBefore (s : Session) (l : Outlook) (e : Event) (d : code.StepDiffe
   pub noproc : d.noproc ≡ step_differs s l e raises_noproc
 
 -- and these what is known afterwards
-pub record AreAfter (l : Outlook) (e : Event) (reported : Bool) (d f : code.StepDifferences) : Type 0 where
+pub record AreAfterEvent (l : Outlook) (e : Event) (reported : Bool) (d f : code.StepDifferences) : Type 0 where
   pub attempt : f.attempt ≡ d.attempt
   pub caught : f.caught ≡ d.caught
   pub noproc : f.noproc ≡ d.noproc

@@ -21,8 +21,8 @@ use tn_session::{Look, Message, Session};
 use tn_term::Atom;
 
 /// Appends, a line each, what the session of this name makes of an event of a step of which this was known before it,
-/// and has the session see the event. One that was destroyed makes nothing of it. After an `Err`, which is refused memory, a part of it may stand there, and
-/// the session is spent, as it was, or past the event.
+/// and has the session see the event. One that was destroyed makes nothing of it. After an `Err`, which is refused
+/// memory, a part of it may stand there, and the session is spent, as it was, or past the event.
 pub fn put_event_lines<A: Allocator + Copy>(
     alloc: A,
     name: &Atom<A>,
@@ -31,8 +31,8 @@ pub fn put_event_lines<A: Allocator + Copy>(
     event: &Event<A>,
     out: &mut Vec<u8, A>,
 ) -> Result<(), AllocError>
-    ensures ok { OnOk result (IsSomeAnd (value_in session.old) (λ s.
-        Makes (outlook_seen outlook) s (event_of event.now) name.now (value_in session.new) out.old.items out.new.items)) }
+    ensures ok { OnOk result (IsSomeAnd (value_in session.old) (λ s. Makes (outlook_seen outlook) s
+        (event_of event.now) name.now (value_in session.new) out.old.items out.new.items)) }
     ensures grows { Grows out.old.items out.new.items }
 {
     let lines = Lines { alloc, name };

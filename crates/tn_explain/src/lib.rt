@@ -2,15 +2,15 @@
 //! a script, a text of picks and a filter in, the bytes of an account out.
 //!
 //! Depends on tn_session and tn_trace (a run, which takes the picks, and its sessions, which are looked at before
-//! and after each step), tn_verdict (what becomes of a clause, and the texts of reasons and effects), tn_run (which
-//! reads, accepts and refuses scripts) and on the definitions of def_explain. Promises that `put_event_lines`
-//! appends the lines of the definition, each after the name of the session, and takes the session through the
-//! event; that `put_command_line` appends the line of a reply; that `put_account` appends the account of the
-//! program's run by some picks, as far as the filter asks for it, and nothing where memory is refused; and that
-//! `explain` writes exactly that account, or the line of the one refusal, or nothing where the session or the move
-//! that the filter names isn't there, and says which; and that a fault says which end failed, and how many bytes of
-//! it were taken; that the note of a run is the defined one, and that a run with its note writes what the run
-//! writes.
+//! and after each step), tn_verdict (what becomes of a clause, and the texts of reasons and effects), tn_run
+//! (which reads, accepts and refuses scripts) and on the definitions of def_explain. Promises that
+//! `put_event_lines` appends the lines of the definition, each after the name of the session, and takes the
+//! session through the event; that `put_command_line` appends the line of a reply, and why it is this one; that
+//! `put_account` appends the account of the program's run by some picks, as far as the filter asks for it, and
+//! nothing where memory is refused; and that `explain` writes exactly that account, or the line of the one
+//! refusal, or nothing where the session or the move that the filter names isn't there, and says which; and that a
+//! fault says which end failed, and how many bytes of it were taken; that the note of a run is the defined one,
+//! and that a run with its note writes what the run writes.
 #![tactic(auto)]
 
 mod account;
@@ -18,6 +18,8 @@ mod answers;
 mod calls;
 mod causes;
 mod clauses;
+mod command_reason_texts;
+mod command_reasons;
 mod creations;
 mod differences;
 mod discard;
@@ -45,6 +47,7 @@ mod step;
 mod step_differences;
 
 pub use account::put_account;
+pub use command_reasons::CommandReason;
 pub use event::put_event_lines;
 pub use filter::Filter;
 pub use job::explain;

@@ -4,9 +4,12 @@ ghost use Rattle.def_explain.specs.Accounts.{said, tells};
 ghost use Rattle.tn_term.specs.Views.{tree_of};
 ghost use Rattle.tn_session.specs.Messages.{message_seen};
 ghost use Rattle.tn_text.specs.Writes.{Grows};
+ghost use Rattle.tn_explain.specs.CommandReasons.{command_reasons_seen};
 ghost use Rattle.tn_explain.specs.LineParts.{reply_lines};
 ghost use Rattle.tn_explain.specs.Lines.{PutsLines, Adds, line_start};
 
+use crate::command_reason_texts::put_reason_after_reply;
+use crate::command_reasons::CommandReason;
 use std::alloc::{AllocError, Allocator};
 use tn_session::Message;
 use tn_term::{Atom, Term};
@@ -70,19 +73,22 @@ impl<A: Allocator> Lines<'_, A> {
     }
 }
 
-/// Appends the line of the reply to a command of the session of this name. After an `Err`, which is refused memory,
-/// a part of it may stand there.
+/// Appends the line of the reply to a command of the session of this name, and why it is this one. After an `Err`,
+/// which is refused memory, a part of it may stand there.
 pub fn put_command_line<A: Allocator, B: Allocator>(
     name: &Atom<A>,
     reply: &Term<A>,
+    why: Option<CommandReason<'_, A>>,
     out: &mut Vec<u8, B>,
 ) -> Result<(), AllocError>
-    ensures ok { OnOk result (PutsLines name.now (reply_lines (tree_of reply.now)) out.old.items out.new.items) }
+    ensures ok { OnOk result (PutsLines name.now
+        (reply_lines (tree_of reply.now) (command_reasons_seen why.entry)) out.old.items out.new.items) }
     ensures grows { Grows out.old.items out.new.items }
 {
     begin(name, out)?;
     out.extend_from_slice(b"replies ")?;
     write_term(reply, out)?;
+    put_reason_after_reply(why, out)?;
     out.push(b'\n')?;
     Ok(())
 }

@@ -1,7 +1,11 @@
 // The sessions of the control list side by side, each seeing what a move shows.
+ghost use Rattle.std.specs.Prelude.{IfOk};
 ghost use Rattle.tn_text.specs.Writes.{Grows};
-ghost use Rattle.tn_explain.specs.NamedSessions.{SlotSeesEvent, SlotsSeeEvent, SlotSeesCommand, SlotsSeeCommand};
+ghost use Rattle.tn_explain.specs.CommandReasons.{command_reasons_seen};
+ghost use Rattle.tn_explain.specs.NamedSessions.{SlotSeesEvent, SlotsSeeEvent, SlotHasReason, SlotSeesCommand};
+ghost use Rattle.tn_explain.specs.NamedSessions.{SlotsSeeCommand};
 
+use crate::command_reasons::{CommandReason, command_reason};
 use crate::discard::Discard;
 use crate::event::put_event_lines;
 use crate::line::put_command_line;
@@ -60,7 +64,23 @@ pub(crate) fn tell_each<A: Allocator + Copy>(
     Ok(())
 }
 
-/// A session does a command that is its own, and its reply is appended, where it is asked for.
+/// Why the session refuses a command that is its own, or matches no function by it. Of another's command nothing is
+/// said.
+fn reason_of_one<'a, A: Allocator + Copy>(
+    alloc: A,
+    slot: &Slot<A, Discard>,
+    order: &Order<'a, A>,
+) -> Result<Option<CommandReason<'a, A>>, AllocError>
+    ensures { IfOk result (λ r. SlotHasReason order.now slot.now (command_reasons_seen r)) }
+{
+    if slot.name.text() == order.command.session().text() {
+        Ok(command_reason(alloc, &slot.session, order.functions, order.command)?)
+    } else {
+        Ok(None)
+    }
+}
+
+/// A session does a command that is its own, and its reply and why it is this one are appended, where it is asked for.
 fn obey_one<A: Allocator + Copy>(
     alloc: A,
     step: &Step<'_>,
@@ -71,14 +91,15 @@ fn obey_one<A: Allocator + Copy>(
     ensures ok { SlotSeesCommand step.now order.now slot.old slot.new out.old.items out.new.items result }
     ensures grows { Grows out.old.items out.new.items }
 {
-    let reply = slot.obey(alloc, order.functions, order.living, order.command)?;
-    let Some(reply) = reply else {
+    if !step.is_asked_of(&slot.name) {
+        slot.obey(alloc, order.functions, order.living, order.command)?;
         return Ok(());
-    };
-    if step.is_asked_of(&slot.name) {
-        put_command_line(&slot.name, &reply, out)
-    } else {
-        Ok(())
+    }
+    let why = reason_of_one(alloc, slot, order)?;
+    let reply = slot.obey(alloc, order.functions, order.living, order.command)?;
+    match reply {
+        Some(reply) => put_command_line(&slot.name, &reply, why, out),
+        None => Ok(()),
     }
 }
 

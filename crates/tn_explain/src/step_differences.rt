@@ -13,7 +13,7 @@ ghost use Rattle.tn_text.specs.Writes.{Grows};
 ghost use Rattle.tn_verdict.specs.Differences.{difference_seen};
 ghost use Rattle.tn_explain.specs.LineParts.{step_where};
 ghost use Rattle.tn_explain.specs.Lines.{Adds};
-ghost use Rattle.tn_explain.specs.StepDifferences.{AreBefore, AreAfter, is_reported_later, steps_seen};
+ghost use Rattle.tn_explain.specs.StepDifferences.{AreBefore, AreAfterEvent, is_reported_later, step_differences_seen};
 
 use crate::line::Lines;
 use std::alloc::{AllocError, Allocator};
@@ -146,7 +146,7 @@ impl StepDifferences {
         event: &Event<A>,
         reported: bool,
     ) -> StepDifferences
-        ensures { AreAfter (outlook_seen outlook) (event_of event.now) reported self result }
+        ensures { AreAfterEvent (outlook_seen outlook) (event_of event.now) reported self result }
     {
         StepDifferences {
             attempt: self.attempt,
@@ -177,7 +177,7 @@ impl<A: Allocator + Copy> Lines<'_, A> {
         steps: StepDifferences,
         out: &mut Vec<u8, A>,
     ) -> Result<(), AllocError>
-        ensures ok { OnOk result (Adds self.now (map steps_otherwise (steps_seen steps)) out.old out.new) }
+        ensures ok { OnOk result (Adds self.now (map steps_otherwise (step_differences_seen steps)) out.old out.new) }
         ensures grows { Grows out.old.items out.new.items }
     {
         self.put_where_steps(steps.attempt, Difference::ReportsAttempt, out)?;

@@ -3,35 +3,37 @@ use Rattle.std.specs.Option.{option_map}
 use Rattle.std.proofs.lemmas.Result.{on_ok_weaker}
 use Rattle.tn_term.specs.Views.{tree_of, alive_of}
 use Rattle.tn_flags.specs.Views.{command_of}
+use Rattle.tn_explain.specs.CommandReasons.{command_reasons_seen}
 use Rattle.tn_explain.proofs.OneSession.{track, tracked, Obeyed, obeys_none, obeys_asked, obeys_only}
 use Rattle.tn_explain.proofs.slots.obey_one.Goals as goal
 
-pub returns-in_default-clause-ok : goal.returns-in_default-clause-ok
-returns-in_default-clause-ok g c = λ o fs s h.
+pub returns-then-not-is_asked_of-clause-ok : goal.returns-then-not-is_asked_of-clause-ok
+returns-then-not-is_asked_of-clause-ok g c = λ o fs s h.
     let step = c.args.step.now in
     let living = alive_of c.args.order.now.living in
     let old = c.args.slot.now in
     let k = command_of c.args.order.now.command.now in
-    obeys_none step o living s old h k c.args.out.now.items c.obey.new.self
-    (subst (Obeyed step o living s old h k c.args.out.now.items c.obey.new.self) (ap (option_map tree_of) c.in_default.is) (c.in_ok-reply.ensures o (track step o living s old h) fs (tracked step o living s old h)))
+    obeys_only step o living s old h k c.args.out.now.items (option_map tree_of c.in_ok-obey.field-0) c.obey.new.self (sym c.is_asked_of.ensures ∙ c.if-not-is_asked_of.true)
+    (c.in_ok-obey.ensures o (track step o living s old h) fs (tracked step o living s old h))
 
-pub returns-then-is_asked_of-clause-ok : goal.returns-then-is_asked_of-clause-ok
-returns-then-is_asked_of-clause-ok g c = λ o fs s h.
+pub returns-in-Some-clause-ok : goal.returns-in-Some-clause-ok
+returns-in-Some-clause-ok g c = λ o fs s h.
     let step = c.args.step.now in
     let living = alive_of c.args.order.now.living in
     let old = c.args.slot.now in
     let k = command_of c.args.order.now.command.now in
     on_ok_weaker c.put_command_line.result
-    (λ made. obeys_asked step o living s old h k c.args.out.now.items (tree_of c.in-Some.reply) c.obey.new.self c.put_command_line.new.out.items (sym c.is_asked_of.ensures ∙ c.if-is_asked_of.true)
-    (subst (Obeyed step o living s old h k c.args.out.now.items c.obey.new.self) (ap (option_map tree_of) c.in-Some.is) (c.in_ok-reply.ensures o (track step o living s old h) fs (tracked step o living s old h)))
-    made)
+    (λ made. obeys_asked step o living s old h k c.args.out.now.items (tree_of c.in-Some.reply) (command_reasons_seen c.in_ok-why.why) c.obey-2.new.self c.put_command_line.new.out.items
+    (sym c.is_asked_of.ensures ∙ c.if-not-is_asked_of.false)
+    (subst (Obeyed step o living s old h k c.args.out.now.items c.obey-2.new.self) (ap (option_map tree_of) c.in-Some.is) (c.in_ok-reply.ensures o (track step o living s old h) fs (tracked step o living s old h)))
+    (c.in_ok-why.ensures o fs s h) made)
     c.put_command_line.ensures.ok
 
-pub returns-clause-ok : goal.returns-clause-ok
-returns-clause-ok g c = λ o fs s h.
+pub returns-in-None-clause-ok : goal.returns-in-None-clause-ok
+returns-in-None-clause-ok g c = λ o fs s h.
     let step = c.args.step.now in
     let living = alive_of c.args.order.now.living in
     let old = c.args.slot.now in
     let k = command_of c.args.order.now.command.now in
-    obeys_only step o living s old h k c.args.out.now.items (tree_of c.in-Some.reply) c.obey.new.self (sym c.is_asked_of.ensures ∙ c.if-is_asked_of.false)
-    (subst (Obeyed step o living s old h k c.args.out.now.items c.obey.new.self) (ap (option_map tree_of) c.in-Some.is) (c.in_ok-reply.ensures o (track step o living s old h) fs (tracked step o living s old h)))
+    obeys_none step o living s old h k c.args.out.now.items c.obey-2.new.self
+    (subst (Obeyed step o living s old h k c.args.out.now.items c.obey-2.new.self) (ap (option_map tree_of) c.in-None.is) (c.in_ok-reply.ensures o (track step o living s old h) fs (tracked step o living s old h)))

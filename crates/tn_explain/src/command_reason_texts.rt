@@ -1,0 +1,113 @@
+// The texts of why a command is refused, or matches no function.
+ghost use Rattle.std.specs.Prelude.{◌≡◌, ◌++◌, OnOk};
+ghost use Rattle.def_spec.specs.Flags.{flags_by_name};
+ghost use Rattle.def_explain.specs.ReasonTexts.{found_text, flag_names, command_reason_text, reason_after_reply};
+ghost use Rattle.tn_term.specs.Views.{tree_of};
+ghost use Rattle.tn_text.specs.Writes.{Grows};
+ghost use Rattle.tn_explain.specs.CommandReasons.{command_reason_seen, command_reasons_seen, no_flag_text};
+ghost use Rattle.tn_explain.specs.CommandReasons.{not_alive_text};
+
+use crate::command_reasons::CommandReason;
+use std::alloc::{AllocError, Allocator};
+use tn_term::Term;
+use tn_text::write_term;
+use tn_verdict::{put_pid, put_setting_reason};
+
+/// Appends what should stand there, and what there is in its place.
+fn put_found<A: Allocator, B: Allocator>(
+    form: &'static [u8],
+    term: &Term<A>,
+    out: &mut Vec<u8, B>,
+) -> Result<(), AllocError>
+    ensures ok { OnOk result (out.new.items ≡ out.old.items ++ (form.now ++ found_text (tree_of term.now))) }
+    ensures grows { Grows out.old.items out.new.items }
+{
+    out.extend_from_slice(form)?;
+    out.extend_from_slice(b", found ")?;
+    write_term(term, out)
+}
+
+/// The written names of the flags, with a comma between any two.
+#[tactic(auto, unfolding(def_term::specs::Text::is_written_bare))]
+fn flag_names() -> &'static [u8]
+    ensures { result.now ≡ flag_names flags_by_name }
+{
+    b"send, 'receive', call, procs, silent, arity, set_on_spawn, set_on_first_spawn, set_on_link, set_on_first_link"
+}
+
+/// Appends that a term is no flag, and which flags there are.
+fn put_no_flag<A: Allocator, B: Allocator>(
+    term: &Term<A>,
+    out: &mut Vec<u8, B>,
+) -> Result<(), AllocError>
+    ensures ok { OnOk result (out.new.items ≡ out.old.items ++ no_flag_text (tree_of term.now)) }
+    ensures grows { Grows out.old.items out.new.items }
+{
+    out.extend_from_slice(b"no flag ")?;
+    write_term(term, out)?;
+    out.extend_from_slice(b"; the flags are ")?;
+    out.extend_from_slice(flag_names())?;
+    Ok(())
+}
+
+/// Appends that the process of a pid isn't alive.
+fn put_not_alive<B: Allocator>(pid: u32, out: &mut Vec<u8, B>) -> Result<(), AllocError>
+    ensures ok { OnOk result (out.new.items ≡ out.old.items ++ not_alive_text pid) }
+    ensures grows { Grows out.old.items out.new.items }
+{
+    put_pid(pid, out)?;
+    out.extend_from_slice(b" isn't alive")?;
+    Ok(())
+}
+
+/// Appends why a command is refused, or matches no function.
+fn put_command_reason<A: Allocator, B: Allocator>(
+    why: CommandReason<'_, A>,
+    out: &mut Vec<u8, B>,
+) -> Result<(), AllocError>
+    ensures ok { OnOk result (out.new.items ≡ out.old.items ++ command_reason_text (command_reason_seen why.entry)) }
+    ensures grows { Grows out.old.items out.new.items }
+{
+    match why {
+        CommandReason::NotCreated => out.extend_from_slice(b"the session isn't created yet"),
+        CommandReason::ExistsAlready => out.extend_from_slice(b"the session exists already"),
+        CommandReason::IsDestroyed => out.extend_from_slice(b"the session is destroyed"),
+        CommandReason::NoProcesses(term) => {
+            put_found(b"Procs is a pid, all, existing or new", term, out)
+        }
+        CommandReason::NotAlive(pid) => put_not_alive(pid, out),
+        CommandReason::NoHow(term) => put_found(b"How is true or false", term, out),
+        CommandReason::NoFlagList(term) => put_found(b"Flags is a list of flags", term, out),
+        CommandReason::NoFlag(term) => put_no_flag(term, out),
+        CommandReason::NoPattern(term) => put_found(
+            b"MFA is {M,F,A}, {M,F,'_'}, {M,'_','_'} or {'_','_','_'}, A from 0 to 255",
+            term,
+            out,
+        ),
+        CommandReason::NoOptions(term) => {
+            put_found(b"Opts is [], [global] or [local]", term, out)
+        }
+        CommandReason::NoSpecification(why) => put_setting_reason(why, out),
+        CommandReason::NoMatch => out.extend_from_slice(b"no function matches"),
+        CommandReason::NoExportedMatch => {
+            out.extend_from_slice(b"no exported function matches; [local] is for the others too")
+        }
+    }
+}
+
+/// Appends a reason after a reply, where there is one.
+pub(crate) fn put_reason_after_reply<A: Allocator, B: Allocator>(
+    why: Option<CommandReason<'_, A>>,
+    out: &mut Vec<u8, B>,
+) -> Result<(), AllocError>
+    ensures ok { OnOk result (out.new.items ≡ out.old.items ++ reason_after_reply (command_reasons_seen why.entry)) }
+    ensures grows { Grows out.old.items out.new.items }
+{
+    match why {
+        Some(why) => {
+            out.extend_from_slice(b": ")?;
+            put_command_reason(why, out)
+        }
+        None => Ok(()),
+    }
+}
