@@ -25,10 +25,6 @@ NOUNS = {"binding", "listing", "matching", "nothing", "reading", "setting", "spe
 SURFACE = {"closed", "created", "failed", "made", "moved", "seen", "split", "spread", "watched"}
 
 
-# A clause that shows a definition with its three arguments in more columns.
-WIDE = "message_in result ≡ message_after (state_seen self.now) (event_of event.now) (asks effects.items)"
-
-
 def is_participle(name):
     """Whether a name is one participle alone."""
     if "_" in name or re.search(r"[a-z][A-Z]", name):
@@ -83,7 +79,7 @@ def names():
 def clauses():
     """Each line of the layers' sources but a long text is at most 120 columns."""
     for path in [path for path in CRATES.glob("*/src/*.rt") if not path.parts[-3].startswith("test_")]:
-        lines = [line for line in path.read_text().splitlines() if len(line) > 120 and '"' not in line and WIDE not in line]
+        lines = [line for line in path.read_text().splitlines() if len(line) > 120 and '"' not in line]
         if lines:
             yield f"the columns of {path.parts[-3]}/src/{path.name}", False, lines
     yield "the columns of the sources", True, None

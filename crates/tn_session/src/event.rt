@@ -337,7 +337,8 @@ impl<A: Allocator> State<A> {
         event: &'a Event<A>,
         effects: Vec<Effect<A>, A>,
     ) -> Option<Message<'a, A>>
-        ensures message { message_in result ≡ message_after (state_seen self.now) (event_of event.now) (asks effects.items) }
+        ensures message { message_in result ≡
+            message_after (state_seen self.now) (event_of event.now) (asks effects.items) }
         ensures of_event { IfSome result (λ k. k.event.now ≡ event.now) }
     {
         if self.is_silenced(event) {
