@@ -10,7 +10,7 @@ use Rattle.def_session.specs.State.{Phase, absent, live, destroyed, MarkKind, fo
 use Rattle.def_session.specs.Session.{inherit, effects_of, context, reported_for, reported_in}
 use Rattle.def_explain.specs.Causes.{Cause, no_mark, marked_for_returns, no_flag, no_setting, of_named_calls, switched_off, no_clause, silenced, message_false, cause_of}
 use Rattle.def_explain.specs.Verdicts.{Verdict, fails, fires, verdict_of}
-use Rattle.def_explain.specs.Accounts.{Line, said, tells, reported_in_lines, line_where, changed_text, flag_lines, inheritance_lines, lines_by, clause_lines, setting_lines, evaluation_lines, cause_lines, marked_lines, mark_lines, end_lines, message_lines, live_lines, difference_lines, node_lines, event_lines_in, differs, steps_otherwise}
+use Rattle.def_explain.specs.Accounts.{Line, said, tells, reported_in_lines, line_where, changed_text, flag_lines, inheritance_lines, lines_by, clause_lines, setting_lines, evaluation_lines, cause_lines, marked_lines, mark_lines, end_lines, message_lines, live_lines, difference_lines, node_lines, event_lines_in, differs, differs_uncounted}
 use Rattle.def_explain.specs.Differences.{Difference, clause_differences, event_difference, step_differences}
 use Rattle.def_explain.specs.Laws.{LinesTellTheMessage}
 use Rattle.def_explain.proofs.CauseOfEvents.{cause_where_nothing_told, cause_is_computed}
@@ -23,7 +23,7 @@ pub joined-reported : (ls ms : List Line) → reported_in_lines (ls ++ ms) ≡ r
 joined-reported [] ms = refl
 joined-reported (said b ∷ ls) ms = joined-reported ls ms
 joined-reported (differs x ∷ ls) ms = joined-reported ls ms
-joined-reported (steps_otherwise x ∷ ls) ms = joined-reported ls ms
+joined-reported (differs_uncounted x ∷ ls) ms = joined-reported ls ms
 joined-reported (tells t ∷ ls) ms = ap (λ x. t ∷ x) (joined-reported ls ms)
 
 both-say : (ls ms : List Line) → Says ls → Says ms → Says (ls ++ ms)
@@ -64,7 +64,7 @@ clauses-say n d (k ∷ ks) c = go (verdict_of d k c) (clauses-say (suc n) d ks c
   where
     go : (v : Verdict) → Says (clause_lines (suc n) d ks c) → Says (lines_by n d k c v (clause_lines (suc n) d ks c))
     go (fails r) h = h
-    go (fires b es) h = differences-say (clause_differences d k c es)
+    go (fires b es) h = differences-say (clause_differences d k b c es)
 
 setting-says : (g : Setting) (c : Context) → Says (setting_lines g c)
 setting-says off c = refl
@@ -151,7 +151,12 @@ live-reported s e =
     ∙ message-reported s e (cause_of s e) (reported_for s e (effects_of s e)).1 refl refl
 
 -- nor does what is otherwise by the step
-steps-say : (xs : List Difference) (ls : List Line) → reported_in_lines (map steps_otherwise xs ++ ls) ≡ reported_in_lines ls
+-- what isn't counted
+pub uncounted_say : (xs : List Difference) → reported_in_lines (map differs_uncounted xs) ≡ []
+uncounted_say [] = refl
+uncounted_say (x ∷ xs) = uncounted_say xs
+
+steps-say : (xs : List Difference) (ls : List Line) → reported_in_lines (map differs_uncounted xs ++ ls) ≡ reported_in_lines ls
 steps-say [] ls = refl
 steps-say (x ∷ xs) ls = steps-say xs ls
 

@@ -14,7 +14,7 @@ use Rattle.def_session.specs.Laws.{needed_for}
 use Rattle.def_explain.specs.Causes.{Cause, no_mark, marked_for_returns, no_flag, no_setting, of_named_calls, switched_off, no_clause, silenced, message_false, IsCause, is_silent_after, is_false_message, cause_by, cause_of}
 use Rattle.def_explain.specs.Verdicts.{Verdict, fails, fires, verdict_of, outcome_after, outcome_by_verdicts}
 use Rattle.def_explain.specs.Differences.{Difference, clause_differences, differences_by, firing_differences, setting_differences, evaluation_differences, event_difference, step_differences}
-use Rattle.def_explain.specs.Accounts.{Line, said, tells, differs, differences_in_lines, line_where, changed_text, flag_lines, inheritance_lines, lines_by, clause_lines, setting_lines, evaluation_lines, cause_lines, marked_lines, mark_lines, end_lines, message_lines, live_lines, difference_lines, steps_otherwise, node_lines, event_lines_in}
+use Rattle.def_explain.specs.Accounts.{Line, said, tells, differs, differences_in_lines, line_where, changed_text, flag_lines, inheritance_lines, lines_by, clause_lines, setting_lines, evaluation_lines, cause_lines, marked_lines, mark_lines, end_lines, message_lines, live_lines, difference_lines, differs_uncounted, node_lines, event_lines_in}
 use Rattle.def_explain.specs.Laws.{LinesTellTheDifference}
 use Rattle.def_explain.proofs.ClauseVerdicts.{outcome_is_by_verdicts}
 use Rattle.def_explain.proofs.CauseOfEvents.{cause_where_nothing_told, cause_is_computed}
@@ -28,7 +28,7 @@ joined [] ms = refl
 joined (said b ∷ ls) ms = joined ls ms
 joined (tells t ∷ ls) ms = joined ls ms
 joined (differs x ∷ ls) ms = ap (λ y. x ∷ y) (joined ls ms)
-joined (steps_otherwise x ∷ ls) ms = joined ls ms
+joined (differs_uncounted x ∷ ls) ms = joined ls ms
 
 both : (ls ms : List Line) → IsSilent ls → IsSilent ms → IsSilent (ls ++ ms)
 both ls ms h k = joined ls ms ∙ ap (λ x. x ++ differences_in_lines ms) h ∙ k
@@ -49,7 +49,7 @@ clauses n d (k ∷ ks) c = go (verdict_of d k c) (clauses (suc n) d ks c)
     go : (v : Verdict) → differences_in_lines (clause_lines (suc n) d ks c) ≡ firing_differences d ks c
         → differences_in_lines (lines_by n d k c v (clause_lines (suc n) d ks c)) ≡ differences_by d k c v (firing_differences d ks c)
     go (fails r) h = h
-    go (fires b es) h = each (clause_differences d k c es)
+    go (fires b es) h = each (clause_differences d k b c es)
 
 of-setting : (g : Setting) (c : Context) → differences_in_lines (setting_lines g c) ≡ setting_differences g c
 of-setting off c = refl
@@ -226,7 +226,12 @@ inherited s (getting_linked p q) = refl
 inherited s (getting_unlinked p q) = refl
 
 -- what is otherwise by the step isn't among them
-steps-none : (xs : List Difference) (ls : List Line) → differences_in_lines (map steps_otherwise xs ++ ls) ≡ differences_in_lines ls
+-- what isn't counted
+pub uncounted_none : (xs : List Difference) → differences_in_lines (map differs_uncounted xs) ≡ []
+uncounted_none [] = refl
+uncounted_none (x ∷ xs) = uncounted_none xs
+
+steps-none : (xs : List Difference) (ls : List Line) → differences_in_lines (map differs_uncounted xs ++ ls) ≡ differences_in_lines ls
 steps-none [] ls = refl
 steps-none (x ∷ xs) ls = steps-none xs ls
 

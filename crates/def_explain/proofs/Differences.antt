@@ -16,12 +16,12 @@ use Rattle.def_session.specs.State.{MarkKind, for_returns, for_exceptions, Sessi
 use Rattle.def_session.specs.Session.{effects_of, reported_for, mark_asked, is_marked, is_for_exceptions, is_marked_for_exceptions}
 use Rattle.def_session.specs.Messages.{last_message}
 use Rattle.def_explain.specs.Causes.{is_false_message}
-use Rattle.def_explain.specs.Differences.{Difference, node_ends, finds_no_tracer, suppresses_message, leaves_no_mark, reports_end, reports_exceptions, clears_spawn_flags, gives_no_flags, evaluates_from_right, catches_error, reports_attempt, raises_noproc, reports_later, HasFlags, attempt_flag, StepDiffers, is_traced, has_that_flag, is_attempt_by, step_differs, CallsAction, OneCallsAction, TwoCallActions, ShowsOrder, OneShowsOrder, calls_action, one_calls_action, two_call_actions, shows_order, one_shows_order, HasNone, has_none, is_change, LosesLastFlag, loses_last_flag, ChangesWithoutFlags, changes_without_flags, is_of_sends, is_of_calls, has_mark_below, difference_where}
+use Rattle.def_explain.specs.Differences.{Difference, node_ends, finds_no_tracer, suppresses_message, leaves_no_mark, reports_end, reports_exceptions, clears_spawn_flags, gives_no_flags, evaluates_from_right, faults_in_logic, leaves_other_setting, takes_local_setting, catches_error, reports_attempt, raises_noproc, reports_later, HasFlags, attempt_flag, StepDiffers, is_traced, has_that_flag, is_attempt_by, step_differs, CallsAction, OneCallsAction, TwoCallActions, ShowsOrder, OneShowsOrder, calls_action, one_calls_action, two_call_actions, shows_order, one_shows_order, HasNone, has_none, is_change, LosesLastFlag, loses_last_flag, ChangesWithoutFlags, changes_without_flags, is_of_sends, is_of_calls, has_mark_below, difference_where}
 use Rattle.def_explain.specs.Laws.{BodyDifferenceIsComputed, OrderDifferenceIsComputed, EventDifferenceIsComputed, StepDifferenceIsComputed}
 
 -- ---- truth values
 
-both_are : (a b : Bool) → a ≡ true → b ≡ true → (a && b) ≡ true
+pub both_are : (a b : Bool) → a ≡ true → b ≡ true → (a && b) ≡ true
 both_are a b e f = ap (λ x. x && b) e ∙ f
 
 three_parts : (a b c : Bool) → (a && (b && c)) ≡ true → (a ≡ true) × (b ≡ true) × (c ≡ true)
@@ -33,7 +33,7 @@ three_parts a b c h =
 three_are : (a b c : Bool) → a ≡ true → b ≡ true → c ≡ true → (a && (b && c)) ≡ true
 three_are a b c x y z = both_are a _ x (both_are b c y z)
 
-not_is : (a : Bool) → not a ≡ true → a ≡ false
+pub not_is : (a : Bool) → not a ≡ true → a ≡ false
 not_is true h = absurd (cc h)
 not_is false h = refl
 
@@ -196,6 +196,9 @@ body_difference_is_computed d c es reports_exceptions = (λ h. absurd (cc h), λ
 body_difference_is_computed d c es clears_spawn_flags = (λ h. absurd (cc h), λ h. absurd h)
 body_difference_is_computed d c es gives_no_flags = (λ h. absurd (cc h), λ h. absurd h)
 body_difference_is_computed d c es evaluates_from_right = (λ h. absurd (cc h), λ h. absurd h)
+body_difference_is_computed d c es faults_in_logic = (λ h. absurd (cc h), λ h. absurd h)
+body_difference_is_computed d c es leaves_other_setting = (λ h. absurd (cc h), λ h. absurd h)
+body_difference_is_computed d c es takes_local_setting = (λ h. absurd (cc h), λ h. absurd h)
 body_difference_is_computed d c es catches_error = (λ h. absurd (cc h), λ h. absurd h)
 body_difference_is_computed d c es reports_attempt = (λ h. absurd (cc h), λ h. absurd h)
 body_difference_is_computed d c es raises_noproc = (λ h. absurd (cc h), λ h. absurd h)
@@ -414,6 +417,9 @@ at-exit s l p r reports_exceptions = (λ h. absurd (cc h), λ h. absurd h)
 at-exit s l p r clears_spawn_flags = (λ h. absurd (cc h), λ h. absurd h)
 at-exit s l p r gives_no_flags = (λ h. absurd (cc h), λ h. absurd h)
 at-exit s l p r evaluates_from_right = (λ h. absurd (cc h), λ h. absurd h)
+at-exit s l p r faults_in_logic = (λ h. absurd (cc h), λ h. absurd h)
+at-exit s l p r leaves_other_setting = (λ h. absurd (cc h), λ h. absurd h)
+at-exit s l p r takes_local_setting = (λ h. absurd (cc h), λ h. absurd h)
 at-exit s l p r raises_noproc = (λ h. absurd (cc h), λ h. absurd h)
 at-exit s l p r reports_later = (λ h. absurd (cc h), λ h. absurd h)
 
@@ -431,6 +437,9 @@ at-link s l p other reports_exceptions = (λ h. absurd (cc h), λ h. absurd h)
 at-link s l p other clears_spawn_flags = (λ h. absurd (cc h), λ h. absurd h)
 at-link s l p other gives_no_flags = (λ h. absurd (cc h), λ h. absurd h)
 at-link s l p other evaluates_from_right = (λ h. absurd (cc h), λ h. absurd h)
+at-link s l p other faults_in_logic = (λ h. absurd (cc h), λ h. absurd h)
+at-link s l p other leaves_other_setting = (λ h. absurd (cc h), λ h. absurd h)
+at-link s l p other takes_local_setting = (λ h. absurd (cc h), λ h. absurd h)
 at-link s l p other catches_error = (λ h. absurd (cc h), λ h. absurd h)
 at-link s l p other reports_attempt = (λ h. absurd (cc h), λ h. absurd h)
 at-link s l p other reports_later = (λ h. absurd (cc h), λ h. absurd h)
@@ -451,6 +460,9 @@ at-receive s l p sender t reports_exceptions = (λ h. absurd (cc h), λ h. absur
 at-receive s l p sender t clears_spawn_flags = (λ h. absurd (cc h), λ h. absurd h)
 at-receive s l p sender t gives_no_flags = (λ h. absurd (cc h), λ h. absurd h)
 at-receive s l p sender t evaluates_from_right = (λ h. absurd (cc h), λ h. absurd h)
+at-receive s l p sender t faults_in_logic = (λ h. absurd (cc h), λ h. absurd h)
+at-receive s l p sender t leaves_other_setting = (λ h. absurd (cc h), λ h. absurd h)
+at-receive s l p sender t takes_local_setting = (λ h. absurd (cc h), λ h. absurd h)
 at-receive s l p sender t catches_error = (λ h. absurd (cc h), λ h. absurd h)
 at-receive s l p sender t reports_attempt = (λ h. absurd (cc h), λ h. absurd h)
 at-receive s l p sender t raises_noproc = (λ h. absurd (cc h), λ h. absurd h)

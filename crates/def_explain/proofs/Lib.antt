@@ -13,9 +13,12 @@ mod CommandTerms
 mod RunRows
 pub mod AccountPicks
 mod RunMessages
+pub mod Logic
 mod Differences
+mod CommandDifferences
 pub mod DifferenceLines
 mod DifferenceRows
+mod LogicRows
 mod NodeBodies
 mod NodeSessions
 pub mod NodeCommands

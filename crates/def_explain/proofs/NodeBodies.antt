@@ -14,8 +14,10 @@ use Rattle.def_session.specs.State.{MarkKind, for_returns}
 use Rattle.def_session.specs.Session.{effects_of_outcome, evaluated_by, or_for_returns, mark_asked}
 use Rattle.def_explain.specs.Reasons.{Reason, reason_of}
 use Rattle.def_explain.specs.Verdicts.{verdict_by}
-use Rattle.def_explain.specs.Differences.{node_ends, finds_no_tracer, suppresses_message, leaves_no_mark, evaluates_from_right, later_silent, is_silent_by, has_none, loses_last_flag, changes_without_flags, one_shows_order, difference_where, is_of_sends, is_of_calls, body_differs, body_differences, clause_differences, differences_by, firing_differences, setting_differences}
-use Rattle.def_explain.specs.NodeCommands.{can_differ_by, expression_can_differ, one_can_differ, clause_can_differ, setting_can_differ}
+use Rattle.def_explain.specs.Differences.{node_ends, finds_no_tracer, suppresses_message, leaves_no_mark, evaluates_from_right, faults_in_logic, later_silent, is_silent_by, has_none, loses_last_flag, changes_without_flags, one_shows_order, difference_where, is_of_sends, is_of_calls, body_differs, body_differences, clause_differences, differences_by, firing_differences, setting_differences}
+use Rattle.def_explain.specs.Logic.{clause_has_logic_on_other}
+use Rattle.def_explain.specs.NodeCommands.{can_differ_by, expression_can_differ, one_can_differ, one_calls_logic, clause_can_differ, setting_can_differ}
+use Rattle.def_explain.proofs.Logic.{no_logic_in_clause}
 
 -- ---- effects
 
@@ -135,7 +137,7 @@ plain-outcome : (d : Dialect) (ks : List Clause) (c : Context) → list_any clau
 plain-outcome d [] c h = tt
 plain-outcome d (k ∷ ks) c h =
     let both : (clause_can_differ k ≡ false) × (list_any clause_can_differ ks ≡ false) = or_parts (clause_can_differ k) (list_any clause_can_differ ks) h in
-    go (firing_bindings d k c) (or_parts (one_can_differ k.body) (one_shows_order k.body) both.0).0 (plain-outcome d ks c both.1)
+    go (firing_bindings d k c) (or_parts (one_can_differ k.body) _ both.0).0 (plain-outcome d ks c both.1)
   where
     go : (o : Option Bindings) → one_can_differ k.body ≡ false → HasPlainEffects (effects_of_outcome (outcome_in d ks c))
         → HasPlainEffects (effects_of_outcome (or_next d o c k.body (outcome_in d ks c)))
@@ -231,20 +233,24 @@ module _ (c : Context) (some : has_none (flags_in c.flags c.self_pid) ≡ false)
       let of_mark : body_differs d c es leaves_no_mark ≡ false = and_right (is_of_calls d) _ (and_left (is_silent_by c es) _ silent_after) in
       filter-none (body_differs d c es) (node_ends ∷ finds_no_tracer ∷ suppresses_message ∷ leaves_no_mark ∷ []) (ends, (tracer, (of_message, (of_mark, tt))))
 
-  no-difference-by-clause : (d : Dialect) (k : Clause) (es : List Effect) → one_shows_order k.body ≡ false → ArePlainEffects es → clause_differences d k c es ≡ []
-  no-difference-by-clause d k es o h = ap₂ (λ a b. a ++ b) (ap (λ b. option_to_list (difference_where b evaluates_from_right)) o) (no-difference-by-body d es h)
+  no-difference-by-clause : (d : Dialect) (k : Clause) (b : Bindings) (es : List Effect) → one_shows_order k.body ≡ false → clause_has_logic_on_other d k b c ≡ false → ArePlainEffects es → clause_differences d k b c es ≡ []
+  no-difference-by-clause d k b es o l h =
+      ap₂ (λ a b. a ++ b) (ap (λ b. option_to_list (difference_where b evaluates_from_right)) o)
+      (ap₂ (λ a b. a ++ b) (ap (λ b. option_to_list (difference_where b faults_in_logic)) l) (no-difference-by-body d es h))
 
   no-difference-by-clauses : (d : Dialect) (ks : List Clause) → list_any clause_can_differ ks ≡ false → firing_differences d ks c ≡ []
   no-difference-by-clauses d [] h = refl
   no-difference-by-clauses d (k ∷ ks) h =
       let both : (clause_can_differ k ≡ false) × (list_any clause_can_differ ks ≡ false) = or_parts (clause_can_differ k) (list_any clause_can_differ ks) h in
-      let parts : (one_can_differ k.body ≡ false) × (one_shows_order k.body ≡ false) = or_parts (one_can_differ k.body) (one_shows_order k.body) both.0 in
-      go (reason_of d k c) parts.0 parts.1 (no-difference-by-clauses d ks both.1)
+      let parts : (one_can_differ k.body ≡ false) × _ = or_parts (one_can_differ k.body) _ both.0 in
+      let order : (one_shows_order k.body ≡ false) × _ = or_parts (one_shows_order k.body) _ parts.1 in
+      let logic : (one_calls_logic k.conditions ≡ false) × (one_calls_logic k.body ≡ false) = or_parts (one_calls_logic k.conditions) (one_calls_logic k.body) order.1 in
+      go (reason_of d k c) parts.0 order.0 (λ b. no_logic_in_clause d k b c logic.0 logic.1) (no-difference-by-clauses d ks both.1)
     where
-      go : (o : Option Reason) → one_can_differ k.body ≡ false → one_shows_order k.body ≡ false → firing_differences d ks c ≡ []
+      go : (o : Option Reason) → one_can_differ k.body ≡ false → one_shows_order k.body ≡ false → ((b : Bindings) → clause_has_logic_on_other d k b c ≡ false) → firing_differences d ks c ≡ []
           → differences_by d k c (verdict_by d k c o) (firing_differences d ks c) ≡ []
-      go (Some r) body order rest = rest
-      go None body order rest = no-difference-by-clause d k _ order (plain-body d _ c k.body body)
+      go (Some r) body order logic rest = rest
+      go None body order logic rest = no-difference-by-clause d k _ _ order (logic _) (plain-body d _ c k.body body)
 
   pub no_difference_by_setting : (g : Setting) → setting_can_differ g ≡ false → setting_differences g c ≡ []
   no_difference_by_setting off h = refl

@@ -1,5 +1,5 @@
 -- Where no command of a program can lead to one, a node does no move of any run otherwise: its sessions have no flag, setting or mark by which a node can differ.
-use Rattle.std.proofs.Common.{◌≡◌, ℕ, zero, suc, Bool, true, false, List, [], ◌∷◌, map, refl, ap, if◌then◌else◌}
+use Rattle.std.proofs.Common.{◌≡◌, ℕ, zero, suc, Bool, true, false, List, [], ◌∷◌, map, option_to_list, refl, ap, if◌then◌else◌}
 use Rattle.std.specs.List.{list_any, AllByRecursion}
 use Rattle.std.specs.Str.{bytes_eq}
 use Rattle.std.proofs.lemmas.Bool.{or_parts, or_from}
@@ -15,6 +15,8 @@ use Rattle.def_outlook.specs.Outlook.{Outlook, outlook}
 use Rattle.def_run.specs.Run.{HistoryItem, event_item, command_item, RunState, PickStep, takes_command, goes_to, pick_step_in, pick_step_with, pick_step, start}
 use Rattle.def_run.specs.History.{NamedSession, session_state_after, all_after, all_after_items, moments_from, move_history, move_histories_from}
 use Rattle.def_explain.specs.Accounts.{command_lines, differences_in_lines}
+use Rattle.def_explain.specs.CommandDifferences.{command_difference}
+use Rattle.def_explain.proofs.DifferenceLines.{uncounted_none}
 use Rattle.def_explain.specs.NodeMoves.{is_some_difference, session_differs, moment_differs, move_differs}
 use Rattle.def_explain.specs.NodeCommands.{command_can_differ}
 use Rattle.def_explain.specs.RunLaws.{NoCommandNoDifference}
@@ -59,7 +61,7 @@ module _ (o : Exports) where
   session-without-difference l (command_item c) s h = go (bytes_eq s.0 (session_of c))
     where
       go : (b : Bool) → is_some_difference (differences_in_lines (if b then command_lines o s.1 c else [])) ≡ false
-      go true = refl
+      go true = ap is_some_difference (uncounted_none (option_to_list (command_difference o s.1 c)))
       go false = refl
 
   sessions-without-difference : (l : Outlook) (x : HistoryItem) (ss : List NamedSession) → SessionsArePlain ss → list_any (session_differs o l x) ss ≡ false

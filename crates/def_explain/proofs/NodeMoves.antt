@@ -8,7 +8,8 @@ use Rattle.def_run.specs.Run.{HistoryItem}
 use Rattle.def_run.specs.History.{NamedSession, Moment}
 use Rattle.def_explain.specs.Accounts.{differences_in_lines}
 use Rattle.def_explain.specs.Differences.{Difference}
-use Rattle.def_explain.specs.NodeMoves.{One, SessionDiffers, MomentDiffers, is_some_difference, session_differs, moment_differs}
+use Rattle.def_explain.specs.Lists.{One}
+use Rattle.def_explain.specs.NodeMoves.{SessionDiffers, MomentDiffers, is_some_difference, session_differs, moment_differs}
 use Rattle.def_explain.specs.Runs.{session_lines}
 use Rattle.def_explain.specs.RunLaws.{MoveDifferenceIsComputed}
 

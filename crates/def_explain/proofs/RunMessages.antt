@@ -1,6 +1,6 @@
 -- The messages that a session reports in the account of a run are its listing's: both are projections of the history.
 use Rattle.std.proofs.Common.{◌≡◌, ◌≢◌, inl, inr, ℕ, Bool, true, false, List, [], ◌∷◌, ◌++◌, map, refl, sym, ap, ap₂, ◌∙◌, append-nil, if◌then◌else◌}
-use Rattle.std.specs.Prelude.{flat_map}
+use Rattle.std.specs.Prelude.{flat_map, option_to_list}
 use Rattle.std.specs.Str.{bytes_eq}
 use Rattle.std.proofs.lemmas.Slice.Eq.{bytes_eq-Decides}
 use Rattle.std.proofs.lemmas.List.Concat.{flat_map-append}
@@ -14,10 +14,11 @@ use Rattle.def_run.specs.Run.{HistoryItem, event_item, command_item}
 use Rattle.def_run.specs.History.{NamedSession, Moment, MoveHistory, move_histories, moments_of, session_in, item_message}
 use Rattle.def_run.specs.HistoryLaws.{sessions_by_view}
 use Rattle.def_run.proofs.Histories.{state_by_view, message_by_view, message-at, over-history, history_has_the_listing}
-use Rattle.def_explain.specs.Accounts.{Line, said, tells, differs, steps_otherwise, reported_in_lines, command_lines}
+use Rattle.def_explain.specs.CommandDifferences.{command_difference}
+use Rattle.def_explain.specs.Accounts.{Line, said, tells, differs, differs_uncounted, reported_in_lines, command_lines}
 use Rattle.def_explain.specs.Runs.{session_lines, AccountEntry, shows, shows_nothing, makes, made_by_all, entries_of_moment, entries_of_moments, reported_by}
 use Rattle.def_explain.specs.RunLaws.{IsNone, IsOnce, AccountTellsTheListing}
-use Rattle.def_explain.proofs.AccountLines.{lines_tell_the_message}
+use Rattle.def_explain.proofs.AccountLines.{lines_tell_the_message, uncounted_say}
 
 -- ---- names
 
@@ -39,7 +40,7 @@ module _ (o : Exports) (n : Name) where
   session-reports l s (command_item c) = go (bytes_eq s.0 (session_of c))
     where
       go : (b : Bool) → reported_in_lines (if b then command_lines o s.1 c else []) ≡ []
-      go true = refl
+      go true = uncounted_say (option_to_list (command_difference o s.1 c))
       go false = refl
 
   reported-both : (es fs : List AccountEntry) → reported_by n (es ++ fs) ≡ reported_by n es ++ reported_by n fs
@@ -48,7 +49,7 @@ module _ (o : Exports) (n : Name) where
   reported-both (shows_nothing k pick ∷ es) fs = reported-both es fs
   reported-both (makes m (said t) ∷ es) fs = reported-both es fs
   reported-both (makes m (differs x) ∷ es) fs = reported-both es fs
-  reported-both (makes m (steps_otherwise x) ∷ es) fs = reported-both es fs
+  reported-both (makes m (differs_uncounted x) ∷ es) fs = reported-both es fs
   reported-both (makes m (tells t) ∷ es) fs = go (bytes_eq n m) (reported-both es fs)
     where
       go : (b : Bool) → reported_by n (es ++ fs) ≡ reported_by n es ++ reported_by n fs → (if b then t ∷ reported_by n (es ++ fs) else reported_by n (es ++ fs)) ≡ (if b then t ∷ reported_by n es else reported_by n es) ++ reported_by n fs
@@ -59,14 +60,14 @@ module _ (o : Exports) (n : Name) where
   made-by-it m [] h = refl
   made-by-it m (said t ∷ ls) h = made-by-it m ls h
   made-by-it m (differs x ∷ ls) h = made-by-it m ls h
-  made-by-it m (steps_otherwise x ∷ ls) h = made-by-it m ls h
+  made-by-it m (differs_uncounted x ∷ ls) h = made-by-it m ls h
   made-by-it m (tells t ∷ ls) h = ap (λ b. if b then t ∷ reported_by n (map (makes m) ls) else reported_by n (map (makes m) ls)) (same-name n m h) ∙ ap (λ x. t ∷ x) (made-by-it m ls h)
 
   made-by-another : (m : Name) (ls : List Line) → n ≢ m → reported_by n (map (makes m) ls) ≡ []
   made-by-another m [] h = refl
   made-by-another m (said t ∷ ls) h = made-by-another m ls h
   made-by-another m (differs x ∷ ls) h = made-by-another m ls h
-  made-by-another m (steps_otherwise x ∷ ls) h = made-by-another m ls h
+  made-by-another m (differs_uncounted x ∷ ls) h = made-by-another m ls h
   made-by-another m (tells t ∷ ls) h = ap (λ b. if b then t ∷ reported_by n (map (makes m) ls) else reported_by n (map (makes m) ls)) (other-name n m h) ∙ made-by-another m ls h
 
   missed : (l : Outlook) (cs : List (Name × Name)) (past : List HistoryItem) (x : HistoryItem) → IsNone n cs → reported_by n (made_by_all o l (sessions_by_view o cs past) x) ≡ []

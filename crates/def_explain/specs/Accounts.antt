@@ -18,15 +18,16 @@ use Rattle.def_session.specs.Session.{inherit, effects_of, mark_asked, is_marked
 use Rattle.def_explain.specs.Causes.{Cause, no_mark, marked_for_returns, no_flag, no_setting, of_named_calls, switched_off, no_clause, silenced, message_false, cause_of}
 use Rattle.def_explain.specs.Verdicts.{Verdict, fails, fires, verdict_of}
 use Rattle.def_explain.specs.Differences.{Difference, clause_differences, event_difference, step_differences}
+use Rattle.def_explain.specs.CommandDifferences.{command_difference}
 use Rattle.def_explain.specs.Texts.{said_of_each, effects_text, reason_text, clause_text}
 use Rattle.def_explain.specs.ReasonTexts.{reply_text}
 
--- what is said, a message that is reported, what a running node does otherwise, or what it does otherwise by the step
+-- what is said, a message that is reported, what a running node does otherwise, or what it does otherwise and the note of a run doesn't count: by the step, or by a command
 pub data Line : Type 0 where
   said : List ℕ → Line
   tells : Tree → Line
   differs : Difference → Line
-  steps_otherwise : Difference → Line
+  differs_uncounted : Difference → Line
 
 -- the messages among these lines
 abbrev pub reported_in_lines : List Line → List Tree
@@ -34,15 +35,15 @@ reported_in_lines [] = []
 reported_in_lines (said text ∷ ls) = reported_in_lines ls
 reported_in_lines (tells t ∷ ls) = t ∷ reported_in_lines ls
 reported_in_lines (differs x ∷ ls) = reported_in_lines ls
-reported_in_lines (steps_otherwise x ∷ ls) = reported_in_lines ls
+reported_in_lines (differs_uncounted x ∷ ls) = reported_in_lines ls
 
--- what a node does otherwise among these lines, but for what it does otherwise by the step
+-- what a node does otherwise among these lines, but for what the note doesn't count
 abbrev pub differences_in_lines : List Line → List Difference
 differences_in_lines [] = []
 differences_in_lines (said text ∷ ls) = differences_in_lines ls
 differences_in_lines (tells t ∷ ls) = differences_in_lines ls
 differences_in_lines (differs x ∷ ls) = x ∷ differences_in_lines ls
-differences_in_lines (steps_otherwise x ∷ ls) = differences_in_lines ls
+differences_in_lines (differs_uncounted x ∷ ls) = differences_in_lines ls
 
 -- something said after them
 abbrev pub followed_by_line : List Line → List ℕ → List Line
@@ -74,7 +75,7 @@ inheritance_lines s e = []
 -- a clause that doesn't fire comes before those after it; below one that does there is what a node does otherwise
 abbrev pub lines_by : ℕ → Dialect → Clause → Context → Verdict → List Line → List Line
 lines_by n d k c (fails r) behind = said (clause_text n (codes ": " ++ reason_text r)) ∷ behind
-lines_by n d k c (fires b es) behind = said (clause_text n (codes " fires" ++ effects_text es)) ∷ map differs (clause_differences d k c es)
+lines_by n d k c (fires b es) behind = said (clause_text n (codes " fires" ++ effects_text es)) ∷ map differs (clause_differences d k b c es)
 
 -- the clauses after so many, up to the first that fires
 abbrev pub clause_lines : ℕ → Dialect → List Clause → Context → List Line
@@ -157,7 +158,7 @@ difference_lines s e = map differs (option_to_list (event_difference s e))
 
 -- what it does otherwise by the step
 abbrev pub step_lines : Session → Outlook → Event → List Line
-step_lines s l e = map steps_otherwise (step_differences s l e)
+step_lines s l e = map differs_uncounted (step_differences s l e)
 
 -- both
 abbrev pub node_lines : Session → Outlook → Event → List Line
@@ -175,6 +176,6 @@ event_lines s l e = event_lines_in s.phase s l e
 
 -- ---- one command
 
--- the reply to a command of its own, and why it is this one
+-- the reply to a command of its own, and why it is this one; and what a node does otherwise by it
 abbrev pub command_lines : Exports → Session → Command → List Line
-command_lines o s c = said (reply_text o s c) ∷ []
+command_lines o s c = said (reply_text o s c) ∷ map differs_uncounted (option_to_list (command_difference o s c))

@@ -7,6 +7,7 @@ use Rattle.def_term.specs.Alive.{is_alive}
 use Rattle.def_term.specs.Tree.{Tree, pid}
 use Rattle.def_term.specs.Names.{word}
 use Rattle.def_spec.specs.Flags.{Flag, Flags, no_flags, has_all, same_flags, FlagTable, flags_in, send_flag, receive_flag, call_flag, procs_flag, silent_flag, set_on_spawn, set_on_first_spawn}
+use Rattle.def_spec.specs.Matching.{Bindings}
 use Rattle.def_spec.specs.Expressions.{Dialect, for_calls, for_sends, Expr, bound_to, whole_list, all_bound, constant, tuple_of, list_of, call, and_also, or_else, perform, Exprs, no_exprs, and_expr, Context, Effect, silences, changes, flags_by, flags_after}
 use Rattle.def_node.specs.Process.{FRAMES}
 use Rattle.def_spec.specs.Outcome.{Clause}
@@ -17,6 +18,7 @@ use Rattle.def_session.specs.State.{MarkKind, for_exceptions, Session, flags_at,
 use Rattle.def_session.specs.Messages.{last_message}
 use Rattle.def_session.specs.Session.{inherit, context, effects_of, reported_for, mark_asked, is_marked, is_marked_for_exceptions}
 use Rattle.def_explain.specs.Causes.{IsOfMarked, is_false_message}
+use Rattle.def_explain.specs.Logic.{clause_has_logic_on_other}
 use Rattle.def_explain.specs.Verdicts.{Verdict, fails, fires, verdict_of}
 
 -- what a node does:
@@ -32,7 +34,10 @@ use Rattle.def_explain.specs.Verdicts.{Verdict, fails, fires, verdict_of}
 -- a catch step called one of the frames, and its catch catches the run-time error that ends the process here;
 -- the send, link or unlink of what is no pid is reported before its error;
 -- the error `noproc` is raised in the step of the link;
--- the receive is reported when the process next looks at its mailbox
+-- the receive is reported when the process next looks at its mailbox;
+-- logic on what is no boolean is a fault;
+-- a function keeps its setting of the other kind;
+-- a function that isn't exported loses its local setting
 pub data Difference : Type 0 where
   node_ends : Difference
   finds_no_tracer : Difference
@@ -47,6 +52,9 @@ pub data Difference : Type 0 where
   reports_attempt : Difference
   raises_noproc : Difference
   reports_later : Difference
+  faults_in_logic : Difference
+  leaves_other_setting : Difference
+  takes_local_setting : Difference
 
 -- ---- the body of a clause that fires
 
@@ -298,14 +306,18 @@ body_differs d c es x = false
 abbrev pub body_differences : Dialect → Context → List Effect → List Difference
 body_differences d c es = filter (body_differs d c es) (node_ends ∷ finds_no_tracer ∷ suppresses_message ∷ leaves_no_mark ∷ [])
 
--- all that a node does otherwise at a clause that fires
-abbrev pub clause_differences : Dialect → Clause → Context → List Effect → List Difference
-clause_differences d k c es = option_to_list (order_difference k.body) ++ body_differences d c es
+-- that of logic on what is no boolean
+abbrev pub logic_difference : Dialect → Clause → Bindings → Context → Option Difference
+logic_difference d k b c = difference_where (clause_has_logic_on_other d k b c) faults_in_logic
+
+-- all that a node does otherwise at a clause that fires with these bindings
+abbrev pub clause_differences : Dialect → Clause → Bindings → Context → List Effect → List Difference
+clause_differences d k b c es = option_to_list (order_difference k.body) ++ (option_to_list (logic_difference d k b c) ++ body_differences d c es)
 
 -- at a clause or, where it doesn't fire, at those after it
 abbrev pub differences_by : Dialect → Clause → Context → Verdict → List Difference → List Difference
 differences_by d k c (fails r) rest = rest
-differences_by d k c (fires b es) rest = clause_differences d k c es
+differences_by d k c (fires b es) rest = clause_differences d k b c es
 
 -- at the first clause that fires
 abbrev pub firing_differences : Dialect → List Clause → Context → List Difference
@@ -391,6 +403,9 @@ difference_text catches_error = codes "the end is by an error, which a catch cat
 difference_text reports_attempt = codes "the send, link or unlink is reported first, as one to a pid is"
 difference_text raises_noproc = codes "noproc is raised in this step"
 difference_text reports_later = codes "reported when the process next looks at its mailbox"
+difference_text faults_in_logic = codes "logic on what is no boolean is a fault"
+difference_text leaves_other_setting = codes "a function has a setting of the other kind, which stays"
+difference_text takes_local_setting = codes "a function that isn't exported loses its local setting"
 
 -- of a node
 abbrev pub on_node : Difference → List ℕ

@@ -11,9 +11,13 @@ use Rattle.def_spec.specs.Outcome.{Clause, Fires, outcome_in}
 use Rattle.def_explain.specs.Heads.{HeadReason, IsHeadReason}
 use Rattle.def_explain.specs.Values.{FaultsAt}
 use Rattle.def_explain.specs.Spellings.{function_name, action_name}
-use Rattle.def_explain.specs.Differences.{Difference, evaluates_from_right, OneShowsOrder, order_difference, BodyDiffers, body_differs, EventDiffers, event_difference, StepDiffers, step_differs, evaluation_differences}
+use Rattle.def_explain.specs.Differences.{Difference, evaluates_from_right, faults_in_logic, OneShowsOrder, order_difference, logic_difference, BodyDiffers, body_differs, EventDiffers, event_difference, StepDiffers, step_differs, evaluation_differences}
+use Rattle.def_explain.specs.Logic.{ClauseHasLogicOnOther}
+use Rattle.def_explain.specs.CommandDifferences.{CommandDiffers, command_difference}
 use Rattle.def_explain.specs.Accounts.{reported_in_lines, differences_in_lines, event_lines}
 use Rattle.def_explain.specs.Places.{StopsAtClause, stop_of}
+use Rattle.def_script.specs.Program.{Command}
+use Rattle.def_script.specs.Exports.{Exports}
 use Rattle.def_node.specs.Event.{Event}
 use Rattle.def_outlook.specs.Outlook.{Outlook}
 use Rattle.def_session.specs.State.{live, Session}
@@ -85,6 +89,11 @@ BodyDifferenceIsComputed = (d : Dialect) (c : Context) (es : List Effect) (x : D
 abbrev pub OrderDifferenceIsComputed : Type 0
 OrderDifferenceIsComputed = (body : Exprs) (x : Difference) → (order_difference body ≡ Some x) ↔ ((x ≡ evaluates_from_right) × OneShowsOrder body)
 
+-- and by logic on what is no boolean
+abbrev pub LogicDifferenceIsComputed : Type 0
+LogicDifferenceIsComputed =
+    (d : Dialect) (k : Clause) (b : Bindings) (c : Context) (x : Difference) → (logic_difference d k b c ≡ Some x) ↔ ((x ≡ faults_in_logic) × ClauseHasLogicOnOther d k b c)
+
 -- and at an event without a body
 abbrev pub EventDifferenceIsComputed : Type 0
 EventDifferenceIsComputed = (s : Session) (e : Event) (x : Difference) → (event_difference s e ≡ Some x) ↔ EventDiffers s e x
@@ -92,6 +101,10 @@ EventDifferenceIsComputed = (s : Session) (e : Event) (x : Difference) → (even
 -- and by the step at an event
 abbrev pub StepDifferenceIsComputed : Type 0
 StepDifferenceIsComputed = (s : Session) (l : Outlook) (e : Event) (x : Difference) → (step_differs s l e x ≡ true) ↔ StepDiffers s l e x
+
+-- and by a command
+abbrev pub CommandDifferenceIsComputed : Type 0
+CommandDifferenceIsComputed = (o : Exports) (s : Session) (c : Command) (x : Difference) → (command_difference o s c ≡ Some x) ↔ CommandDiffers o s c x
 
 -- among the lines of an event there is each that a node does otherwise, as the event is evaluated and at its end, and nothing else of a node
 abbrev pub LinesTellTheDifference : Type 0

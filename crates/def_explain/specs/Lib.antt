@@ -1,6 +1,9 @@
 pub mod Accounts
 pub mod Causes
+pub mod Lists
+pub mod Logic
 pub mod Differences
+pub mod CommandDifferences
 pub mod Heads
 pub mod Laws
 pub mod Places

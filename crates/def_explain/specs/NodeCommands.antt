@@ -1,5 +1,5 @@
 -- Which commands can lead to a move that a running node does otherwise (own).
--- Depends on the reading of flags and of specifications, and on the order that a body shows.
+-- Depends on the reading of flags and of specifications, on the order that a body shows and on the functions of logic.
 use Rattle.std.specs.Prelude.{Bool, true, false, ◌||◌, Option, Some, None, Ok, Err}
 use Rattle.std.specs.List.{list_any}
 use Rattle.def_script.specs.Program.{Command, create, destroy, set_processes, set_function, set_send, set_receive, Program}
@@ -8,6 +8,7 @@ use Rattle.def_spec.specs.Expressions.{Action, exception_trace, silent, enable_t
 use Rattle.def_spec.specs.Outcome.{Clause}
 use Rattle.def_spec.specs.Reading.{Reads}
 use Rattle.def_session.specs.Settings.{Setting, off, plain, by, setting_of}
+use Rattle.def_explain.specs.Logic.{is_logic}
 use Rattle.def_explain.specs.Differences.{one_shows_order}
 
 -- by this action a process can be silent, or have other flags, or a mark for exceptions
@@ -38,9 +39,28 @@ abbrev mutual
   one_can_differ no_exprs = false
   one_can_differ (and_expr e es) = expression_can_differ e || one_can_differ es
 
--- the body of a clause has such an action, or shows the order of evaluation
+abbrev mutual
+  -- a part of the expression is a call of a function of logic
+  pub calls_logic : Expr → Bool
+  calls_logic (perform a es) = one_calls_logic es
+  calls_logic (tuple_of es) = one_calls_logic es
+  calls_logic (list_of es) = one_calls_logic es
+  calls_logic (call f es) = is_logic f || one_calls_logic es
+  calls_logic (and_also es) = one_calls_logic es
+  calls_logic (or_else es) = one_calls_logic es
+  calls_logic (bound_to n) = false
+  calls_logic whole_list = false
+  calls_logic all_bound = false
+  calls_logic (constant t) = false
+
+  -- of one of several
+  pub one_calls_logic : Exprs → Bool
+  one_calls_logic no_exprs = false
+  one_calls_logic (and_expr e es) = calls_logic e || one_calls_logic es
+
+-- the body of a clause has such an action, or shows the order of evaluation; or its conditions or its body call logic
 abbrev pub clause_can_differ : Clause → Bool
-clause_can_differ k = one_can_differ k.body || one_shows_order k.body
+clause_can_differ k = one_can_differ k.body || (one_shows_order k.body || (one_calls_logic k.conditions || one_calls_logic k.body))
 
 -- a clause of the specification is such
 abbrev pub setting_can_differ : Setting → Bool

@@ -1,20 +1,16 @@
 -- Which moves of a run a running node does otherwise (own).
 -- Depends on the history of a run, and on what a session makes of an event or a command.
-use Rattle.std.specs.Prelude.{◌≢◌, ◌⊎◌, ℕ, Bool, true, false, if◌then◌else◌, List, [], ◌∷◌, map, length, Option, Some, None}
+use Rattle.std.specs.Prelude.{◌≢◌, ℕ, Bool, true, false, if◌then◌else◌, List, [], ◌∷◌, map, length, Option, Some, None}
 use Rattle.std.specs.List.{list_any, count_by}
 use Rattle.def_script.specs.Program.{Program}
 use Rattle.def_script.specs.Exports.{Exports, exports_of}
 use Rattle.def_outlook.specs.Outlook.{Outlook}
 use Rattle.def_run.specs.Run.{HistoryItem}
 use Rattle.def_run.specs.History.{NamedSession, Moment, MoveHistory, move_histories}
+use Rattle.def_explain.specs.Lists.{One}
 use Rattle.def_explain.specs.Differences.{Difference}
 use Rattle.def_explain.specs.Accounts.{differences_in_lines}
 use Rattle.def_explain.specs.Runs.{session_lines}
-
--- one of these is so
-abbrev pub One : {X : Type 0} → (X → Type 0) → List X → Type 0
-One P [] = ⊥
-One P (x ∷ xs) = P x ⊎ One P xs
 
 -- what this session makes of it has what a node does otherwise
 abbrev pub SessionDiffers : Exports → Outlook → HistoryItem → NamedSession → Type 0

@@ -10,7 +10,7 @@ use Rattle.def_script.specs.Program.{Command, create, destroy, set_processes, se
 use Rattle.def_session.specs.Messages.{elements_of}
 use Rattle.def_run.specs.Run.{HistoryItem, event_item, command_item}
 use Rattle.def_explain.specs.Differences.{on_node}
-use Rattle.def_explain.specs.Accounts.{Line, said, tells, differs, steps_otherwise}
+use Rattle.def_explain.specs.Accounts.{Line, said, tells, differs, differs_uncounted}
 use Rattle.def_explain.specs.Runs.{AccountEntry, shows, shows_nothing, makes, entries}
 use Rattle.def_explain.specs.NodeMoves.{differing_moves}
 
@@ -42,7 +42,7 @@ abbrev pub line_text : Line → List ℕ
 line_text (said text) = text
 line_text (tells t) = codes "=> " ++ w t
 line_text (differs x) = on_node x
-line_text (steps_otherwise x) = on_node x
+line_text (differs_uncounted x) = on_node x
 
 -- a line for each entry; what a session makes of it is indented, after its name
 abbrev pub entry_text : AccountEntry → List ℕ

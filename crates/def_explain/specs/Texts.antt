@@ -112,7 +112,7 @@ difference_line x = on_node x ++ 10 ∷ []
 -- a clause that fires in this context, its bindings by rising number, the message, and what a node does otherwise
 abbrev pub fires_text : Dialect → Clause → Context → ℕ → Bindings → List Effect → List ℕ
 fires_text d k c n b es =
-    clause_text n (codes " fires" ++ effects_text es ++ 10 ∷ flat_map binding_line b ++ codes "=> " ++ end_text d c.self_pid es ++ 10 ∷ flat_map difference_line (clause_differences d k c es))
+    clause_text n (codes " fires" ++ effects_text es ++ 10 ∷ flat_map binding_line b ++ codes "=> " ++ end_text d c.self_pid es ++ 10 ∷ flat_map difference_line (clause_differences d k b c es))
 
 -- a clause and, where it doesn't fire, those after it
 abbrev pub verdict_text : Dialect → Clause → Context → ℕ → Verdict → List ℕ → List ℕ

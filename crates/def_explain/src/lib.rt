@@ -18,6 +18,7 @@ ghost use Rattle.def_explain.specs.Laws.{HeadReasonWhereNotMatched, FaultWhereNo
 ghost use Rattle.def_explain.specs.Laws.{LinesTellTheMessage, LinesTellTheDifference};
 ghost use Rattle.def_explain.specs.Laws.{BodyDifferenceIsComputed, EventDifferenceIsComputed};
 ghost use Rattle.def_explain.specs.Laws.{OrderDifferenceIsComputed, StepDifferenceIsComputed};
+ghost use Rattle.def_explain.specs.Laws.{LogicDifferenceIsComputed, CommandDifferenceIsComputed};
 ghost use Rattle.def_explain.specs.Laws.{CauseWhereNothingTold, CauseIsOne, CauseIsComputed};
 ghost use Rattle.def_explain.specs.RunLaws.{AccountTellsTheListing, CommandTermIsRead};
 ghost use Rattle.def_explain.specs.RunLaws.{MoveDifferenceIsComputed, NoCommandNoDifference};
@@ -73,12 +74,14 @@ pub fn lines_tell_the_message()
 {}
 
 /// What a running node is known to do otherwise is what is computed: at a clause that fires, at an event without a
-/// body, and by the step at an event.
+/// body, by the step at an event, and by a command.
 pub fn a_difference_is_where_it_applies()
     ensures body { BodyDifferenceIsComputed }
     ensures order { OrderDifferenceIsComputed }
+    ensures logic { LogicDifferenceIsComputed }
     ensures event { EventDifferenceIsComputed }
     ensures step { StepDifferenceIsComputed }
+    ensures command { CommandDifferenceIsComputed }
 {}
 
 /// Among the lines of an event there is all that a running node does otherwise, and nothing else of a node.

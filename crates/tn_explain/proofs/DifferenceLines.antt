@@ -13,7 +13,7 @@ use Rattle.def_node.specs.Event.{Event, sent, received, called, returned, raised
 use Rattle.def_outlook.specs.Outlook.{Outlook}
 use Rattle.def_session.specs.State.{live}
 use Rattle.def_session.specs.Session.{reported_in, event_reported}
-use Rattle.def_explain.specs.Accounts.{steps_otherwise}
+use Rattle.def_explain.specs.Accounts.{differs_uncounted}
 use Rattle.def_explain.specs.Differences.{catches_error, reports_attempt, raises_noproc, reports_later, step_differs, step_differences}
 use Rattle.tn_explain.specs.LineParts.{step_where}
 use Rattle.tn_explain.specs.Lines.{lines_text}
@@ -68,11 +68,11 @@ pub first_fails : (a b both : Bool) → a ≡ false → both ≡ false → both 
 first_fails a b both h is = is ∙ sym (ap (λ x. x && b) h)
 
 -- the lines of the differences by the step
-step-where : (b : Bool) (x : Difference) (xs : List Difference) → map steps_otherwise (one_before b x xs) ≡ step_where b x ++ map steps_otherwise xs
+step-where : (b : Bool) (x : Difference) (xs : List Difference) → map differs_uncounted (one_before b x xs) ≡ step_where b x ++ map differs_uncounted xs
 step-where true x xs = refl
 step-where false x xs = refl
 
-pub each_step : (d : StepDifferences) → map steps_otherwise (step_differences_seen d)
+pub each_step : (d : StepDifferences) → map differs_uncounted (step_differences_seen d)
     ≡ step_where d.attempt reports_attempt ++ (step_where d.caught catches_error ++ (step_where d.noproc raises_noproc ++ (step_where d.later reports_later ++ [])))
 each_step d =
     step-where d.attempt reports_attempt _

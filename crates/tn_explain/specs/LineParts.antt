@@ -14,7 +14,7 @@ use Rattle.def_explain.specs.ReasonTexts.{reason_after_reply}
 use Rattle.def_explain.specs.Causes.{cause_of}
 use Rattle.def_explain.specs.Texts.{clause_text, reason_text, effects_text, said_of_each}
 use Rattle.def_explain.specs.Differences.{Difference, clears_spawn_flags, gives_no_flags, clause_differences, has_spawn_flag, difference_where}
-use Rattle.def_explain.specs.Accounts.{Line, said, tells, differs, steps_otherwise, line_where, changed_text, mfa_text, message_lines, evaluation_lines, mark_lines, end_lines}
+use Rattle.def_explain.specs.Accounts.{Line, said, tells, differs, differs_uncounted, line_where, changed_text, mfa_text, message_lines, evaluation_lines, mark_lines, end_lines}
 use Rattle.tn_flags.specs.Views.{flags_of}
 use Rattle.tn_spec.specs.Views.{dialect_of, clause_seen}
 use Rattle.tn_spec.specs.declared.spec.Clause as spec
@@ -38,7 +38,7 @@ differs_where holds x = if holds then differs x ∷ [] else []
 
 -- the line of a difference by the step, where it is one
 abbrev pub step_where : Bool → Difference → List Line
-step_where holds x = if holds then steps_otherwise x ∷ [] else []
+step_where holds x = if holds then differs_uncounted x ∷ [] else []
 
 -- the line of a difference at a clause that fires, where it is one
 abbrev pub body_difference_line : {A : Type 0} → code.Difference → func.Dialect → context.Context A → List (effect.Effect A) → List Line

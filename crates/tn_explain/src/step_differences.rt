@@ -1,7 +1,7 @@
 // What a running node does otherwise by the step at an event.
 ghost use Rattle.std.specs.Prelude.{◌≡◌, ◌∷◌, [], ◌&&◌, not, OnOk, None, map};
 ghost use Rattle.std.specs.Option.{is_some, option_map};
-ghost use Rattle.def_explain.specs.Accounts.{steps_otherwise};
+ghost use Rattle.def_explain.specs.Accounts.{differs_uncounted};
 ghost use Rattle.def_explain.specs.Differences.{is_traced, is_attempt_by, step_differs};
 ghost use Rattle.def_explain.specs.Differences.{reports_attempt, catches_error, raises_noproc};
 ghost use Rattle.def_term.specs.Alive.{is_alive};
@@ -177,7 +177,7 @@ impl<A: Allocator + Copy> Lines<'_, A> {
         steps: StepDifferences,
         out: &mut Vec<u8, A>,
     ) -> Result<(), AllocError>
-        ensures ok { OnOk result (Adds self.now (map steps_otherwise (step_differences_seen steps)) out.old out.new) }
+        ensures ok { OnOk result (Adds self.now (map differs_uncounted (step_differences_seen steps)) out.old out.new) }
         ensures grows { Grows out.old.items out.new.items }
     {
         self.put_where_steps(steps.attempt, Difference::ReportsAttempt, out)?;

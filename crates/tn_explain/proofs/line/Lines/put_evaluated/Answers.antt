@@ -1,6 +1,6 @@
 use Rattle.std.proofs.Common.{◌∙◌, ◌++◌, [], map, Option, option_to_list, is_some, ap, sym, subst}
 use Rattle.std.specs.Option.{option_map}
-use Rattle.def_explain.specs.Accounts.{differs, steps_otherwise, step_lines, difference_lines}
+use Rattle.def_explain.specs.Accounts.{differs, differs_uncounted, step_lines, difference_lines}
 use Rattle.def_explain.specs.Differences.{event_difference}
 use Rattle.def_term.specs.Tree.{Tree}
 use Rattle.tn_flags.specs.Views.{event_of}
@@ -40,7 +40,7 @@ returns-clause-ok g c =
     (there _ (record s { state = past }) _ (state s e n (value_in c.tell.new.self) m gives) c.in_ok-put_reported.ensures.ok)
     (c.in_ok-put_text.ensures.ok ∙ ap (λ x. c.put_reported.new.out.items ++ x) c.deref.ensures.value)
     (more n (step_lines s.state l e) (difference_lines s.state e) _ c.put_step_differences.new.out.items _
-    (other n _ (step_lines s.state l e) _ _ (ap (map steps_otherwise) (all_known s.state l e c.is_some.result c.of-before.result c.after-steps.result phase counted before c.after-steps.ensures)) c.in_ok-put_step_differences.ensures.ok)
+    (other n _ (step_lines s.state l e) _ _ (ap (map differs_uncounted) (all_known s.state l e c.is_some.result c.of-before.result c.after-steps.result phase counted before c.after-steps.ensures)) c.in_ok-put_step_differences.ensures.ok)
     (other n _ (difference_lines s.state e) _ _ (ap (λ x. map differs (option_to_list x)) (c.end_difference-at_end.ensures none ∙ ap (λ x. event_difference x e) same)) made))))
     c.put_event_difference.ensures.ok
 
