@@ -1,5 +1,5 @@
 -- What is computed is whether logic is called on what is no boolean; where no logic is called, it isn't.
-use Rattle.std.proofs.Common.{◌≡◌, ◌⊎◌, inl, inr, Bool, true, false, not, ◌&&◌, ◌||◌, List, [], ◌∷◌, Some, None, refl, sym, ap, ◌∙◌, if◌then◌else◌}
+use Rattle.std.proofs.Common.{◌≡◌, ◌⊎◌, inl, inr, Bool, true, false, not, ◌&&◌, ◌||◌, List, [], ◌∷◌, Some, refl, sym, ap, ◌∙◌, if◌then◌else◌}
 use Rattle.std.specs.List.{list_any}
 use Rattle.std.proofs.lemmas.Bool.{and_parts, or_parts, or_from}
 use Rattle.def_term.specs.Tree.{Tree}
@@ -9,7 +9,7 @@ use Rattle.def_spec.specs.Expressions.{Dialect, Expr, bound_to, whole_list, all_
 use Rattle.def_spec.specs.Outcome.{Clause}
 use Rattle.def_explain.specs.Lists.{One}
 use Rattle.def_explain.specs.Logic.{is_logic, OneIsNoBoolean, one_is_no_boolean, on_value, IsLogicOnOther, HasLogicOnOther, OneHasLogicOnOther, HasLogicOnOtherWhile, is_logic_on_other, has_logic_on_other, one_has_logic_on_other, has_logic_on_other_while, ClauseHasLogicOnOther, clause_has_logic_on_other}
-use Rattle.def_explain.specs.Differences.{Difference, faults_in_logic, difference_where, logic_difference}
+use Rattle.def_explain.specs.Differences.{faults_in_logic, difference_where, logic_difference}
 use Rattle.def_explain.specs.NodeCommands.{calls_logic, one_calls_logic}
 use Rattle.def_explain.specs.Laws.{LogicDifferenceIsComputed}
 use Rattle.def_explain.proofs.Differences.{both_are, not_is}
@@ -111,8 +111,8 @@ module _ (d : Dialect) (part : Position) (b : Bindings) (c : Context) where
     found-one (and_expr e es) x h =
         split (has_logic_on_other d part b c e x) _ (found e x)
         (λ k.
-            let v : (t : Tree) × (y : List Effect) × (evaluation d part b c e x ≡ comes_to t y) × (one_has_logic_on_other d part b c es y ≡ true) = value-there (evaluation d part b c e x) _ k in
-            (v.0, v.1, v.2, found-one es v.1 v.3))
+        let v : (t : Tree) × (y : List Effect) × (evaluation d part b c e x ≡ comes_to t y) × (one_has_logic_on_other d part b c es y ≡ true) = value-there (evaluation d part b c e x) _ k in
+        (v.0, v.1, v.2, found-one es v.1 v.3))
         h
 
     found-while : (q : Bool) (es : Exprs) (x : List Effect) → has_logic_on_other_while d part b c q es x ≡ true → HasLogicOnOtherWhile d part b c q es x
@@ -120,9 +120,9 @@ module _ (d : Dialect) (part : Position) (b : Bindings) (c : Context) where
     found-while q (and_expr e es) x h =
         split (has_logic_on_other d part b c e x) _ (found e x)
         (λ k.
-            let v : (t : Tree) × (y : List Effect) × (evaluation d part b c e x ≡ comes_to t y) × (goes (is_true t) q (has_logic_on_other_while d part b c q es y) ≡ true) = value-there (evaluation d part b c e x) _ k in
-            let g : (is_true v.0 ≡ q) × (has_logic_on_other_while d part b c q es v.1 ≡ true) = going (is_true v.0) q _ v.3 in
-            (v.0, v.1, v.2, g.0, found-while q es v.1 g.1))
+        let v : (t : Tree) × (y : List Effect) × (evaluation d part b c e x ≡ comes_to t y) × (goes (is_true t) q (has_logic_on_other_while d part b c q es y) ≡ true) = value-there (evaluation d part b c e x) _ k in
+        let g : (is_true v.0 ≡ q) × (has_logic_on_other_while d part b c q es v.1 ≡ true) = going (is_true v.0) q _ v.3 in
+        (v.0, v.1, v.2, g.0, found-while q es v.1 g.1))
         h
 
   mutual

@@ -1,5 +1,5 @@
 -- Rows: logic on what is no boolean, and on booleans; function commands about functions that have settings, and about others.
-use Rattle.std.proofs.Common.{◌≡◌, ℕ, Bool, true, false, List, [], ◌∷◌, Option, Some, None, pos, codes, refl}
+use Rattle.std.proofs.Common.{◌≡◌, Bool, true, false, List, [], ◌∷◌, Option, Some, None, pos, codes, refl}
 use Rattle.std.specs.Prelude.{replicate}
 use Rattle.def_term.specs.Tree.{Tree, int, atom, tuple, list, none, more}
 use Rattle.def_term.specs.Names.{Mfa, word}
@@ -10,7 +10,7 @@ use Rattle.def_spec.specs.Expressions.{for_calls, Expr, constant, tuple_of, call
 use Rattle.def_spec.specs.Outcome.{Clause}
 use Rattle.def_script.specs.Program.{Command, set_function, set_send}
 use Rattle.def_script.specs.Exports.{Exports}
-use Rattle.def_session.specs.Settings.{FunctionPattern, one, whole_module, FunctionSetting, Setting, off, plain}
+use Rattle.def_session.specs.Settings.{one, FunctionSetting, Setting, off, plain}
 use Rattle.def_session.specs.State.{live, destroyed, new_session, alive_at_start, Session}
 use Rattle.def_explain.specs.Differences.{Difference, faults_in_logic, leaves_other_setting, takes_local_setting, logic_difference}
 use Rattle.def_explain.specs.CommandDifferences.{command_difference}

@@ -1,10 +1,9 @@
 -- What a node does otherwise by a function command, since it has a global and a local setting for each function (own, as measured on OTP 25 (erts 13.1.5)).
 -- Depends on the function commands that a session accepted before, and on the functions of the program.
-use Rattle.std.specs.Prelude.{◌≡◌, ◌≢◌, Bool, true, false, not, ◌&&◌, if◌then◌else◌, List, [], ◌∷◌, Option, Some, None, Ok, Err}
+use Rattle.std.specs.Prelude.{◌≡◌, ◌≢◌, Bool, true, false, not, ◌&&◌, if◌then◌else◌, List, [], ◌∷◌, Option, Some, None, Ok}
 use Rattle.std.specs.List.{list_any}
-use Rattle.def_term.specs.Tree.{Tree}
 use Rattle.def_term.specs.Names.{Mfa}
-use Rattle.def_script.specs.Program.{Command, create, destroy, set_processes, set_function, set_send, set_receive}
+use Rattle.def_script.specs.Program.{Command, set_function}
 use Rattle.def_script.specs.Exports.{Exports}
 use Rattle.def_spec.specs.Expressions.{for_calls}
 use Rattle.def_spec.specs.Reading.{Reads}
