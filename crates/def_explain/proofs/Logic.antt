@@ -101,7 +101,7 @@ module _ (d : Dialect) (part : Position) (b : Bindings) (c : Context) where
     found (constant t) x h = absurd (cc h)
     found (tuple_of es) x h = found-one es x h
     found (list_of es) x h = found-one es x h
-    found (call f es) x h = split (one_has_logic_on_other d part b c es x) (is_logic_on_other d part b c f es x) (found-one es x) (call-found f es x) h
+    found (call f es) x h = split (is_logic_on_other d part b c f es x) (one_has_logic_on_other d part b c es x) (call-found f es x) (found-one es x) h
     found (and_also es) x h = found-while true es x h
     found (or_else es) x h = found-while false es x h
     found (perform a es) x h = found-one es x h
@@ -133,8 +133,8 @@ module _ (d : Dialect) (part : Position) (b : Bindings) (c : Context) where
     counted (constant t) x h = absurd h
     counted (tuple_of es) x h = counted-one es x h
     counted (list_of es) x h = counted-one es x h
-    counted (call f es) x (inl h) = left-is (one_has_logic_on_other d part b c es x) _ (counted-one es x h)
-    counted (call f es) x (inr h) = right-is (one_has_logic_on_other d part b c es x) _ (found-call f es x h)
+    counted (call f es) x (inl h) = left-is (is_logic_on_other d part b c f es x) _ (found-call f es x h)
+    counted (call f es) x (inr h) = right-is (is_logic_on_other d part b c f es x) _ (counted-one es x h)
     counted (and_also es) x h = counted-while true es x h
     counted (or_else es) x h = counted-while false es x h
     counted (perform a es) x h = counted-one es x h
@@ -165,7 +165,7 @@ module _ (d : Dialect) (part : Position) (b : Bindings) (c : Context) where
     no-logic (list_of es) x h = no_logic_in_one es x h
     no-logic (call f es) x h =
         let both : (is_logic f ≡ false) × (one_calls_logic es ≡ false) = or_parts (is_logic f) (one_calls_logic es) h in
-        or_from (one_has_logic_on_other d part b c es x) _ (no_logic_in_one es x both.1) (no-call f es x both.0)
+        or_from (is_logic_on_other d part b c f es x) _ (no-call f es x both.0) (no_logic_in_one es x both.1)
     no-logic (and_also es) x h = no-logic-while true es x h
     no-logic (or_else es) x h = no-logic-while false es x h
     no-logic (perform a es) x h = no_logic_in_one es x h

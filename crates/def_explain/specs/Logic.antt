@@ -47,7 +47,7 @@ module _ (d : Dialect) (part : Position) (b : Bindings) (c : Context) where
     HasLogicOnOther (constant t) x = ⊥
     HasLogicOnOther (tuple_of es) x = OneHasLogicOnOther es x
     HasLogicOnOther (list_of es) x = OneHasLogicOnOther es x
-    HasLogicOnOther (call f es) x = OneHasLogicOnOther es x ⊎ IsLogicOnOther f es x
+    HasLogicOnOther (call f es) x = IsLogicOnOther f es x ⊎ OneHasLogicOnOther es x
     HasLogicOnOther (and_also es) x = HasLogicOnOtherWhile true es x
     HasLogicOnOther (or_else es) x = HasLogicOnOtherWhile false es x
     HasLogicOnOther (perform a es) x = OneHasLogicOnOther es x
@@ -77,7 +77,7 @@ module _ (d : Dialect) (part : Position) (b : Bindings) (c : Context) where
     has_logic_on_other (constant t) x = false
     has_logic_on_other (tuple_of es) x = one_has_logic_on_other es x
     has_logic_on_other (list_of es) x = one_has_logic_on_other es x
-    has_logic_on_other (call f es) x = one_has_logic_on_other es x || is_logic_on_other f es x
+    has_logic_on_other (call f es) x = is_logic_on_other f es x || one_has_logic_on_other es x
     has_logic_on_other (and_also es) x = has_logic_on_other_while true es x
     has_logic_on_other (or_else es) x = has_logic_on_other_while false es x
     has_logic_on_other (perform a es) x = one_has_logic_on_other es x

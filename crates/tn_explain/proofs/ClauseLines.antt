@@ -70,7 +70,7 @@ module _ {A : Type 0} (n : Name) (d : Dialect) (c : Context) (ks : List (Clause 
     whole r = GivesBySetting n (by (record { dialect = d; clauses = map clause_seen ks })) c old after r
 
     -- the one that fires
-    pub ends : (k : Clause A) (b : Bindings) (es : List Effect) (mark : Option code.Kind) → i < length ks → k ≡ get_or ks i k → fires b es ≡ verdict_of d (clause_seen k) c → after ≡ now ++ lines_text n (firing_lines i es ++ map differs (clause_differences d (clause_seen k) c es)) → option_map mark_kind_seen mark ≡ mark_asked es
+    pub ends : (k : Clause A) (b : Bindings) (es : List Effect) (mark : Option code.Kind) → i < length ks → k ≡ get_or ks i k → fires b es ≡ verdict_of d (clause_seen k) c → after ≡ now ++ lines_text n (firing_lines i es ++ map differs (clause_differences d (clause_seen k) b c es)) → option_map mark_kind_seen mark ≡ mark_asked es
         → whole (Done mark)
     ends k b es mark below is of made marked = record {
       text = made ∙ ap (λ l. now ++ lines_text n l) (ap (λ v. lines_by i d (clause_seen k) c v (lines_from (i + 1))) of ∙ sym (lines_here k below is)) ∙ so_far.text;

@@ -1,11 +1,22 @@
 -- The lines of differences, one after another, and the marks of frames.
 use Rattle.std.proofs.Common.{◌≡◌, ◌∙◌, ℕ, suc, Bool, true, false, ◌&&◌, ◌||◌, Some, None, not, option_to_list, Option, is_some, List, [], ◌∷◌, ◌++◌, map, refl, sym, ap, if◌then◌else◌}
 use Rattle.def_spec.specs.Expressions.{Dialect, Context, Effect}
-use Rattle.def_spec.specs.Outcome.{Clause}
 use Rattle.def_session.specs.State.{Session}
 use Rattle.def_session.specs.Session.{is_marked_for_exceptions}
 use Rattle.def_explain.specs.Accounts.{differs}
-use Rattle.def_explain.specs.Differences.{Difference, node_ends, finds_no_tracer, suppresses_message, leaves_no_mark, evaluates_from_right, one_shows_order, body_differs, body_differences, clause_differences, has_mark_below}
+use Rattle.def_explain.specs.Differences.{Difference, node_ends, finds_no_tracer, suppresses_message, leaves_no_mark, evaluates_from_right, faults_in_logic, one_shows_order, difference_where, body_differs, body_differences, has_mark_below}
+use Rattle.def_explain.specs.Logic.{clause_has_logic_on_other}
+use Rattle.tn_head.specs.Views.{bindings_seen}
+use Rattle.tn_head.specs.declared.bindings.Bindings as code
+use Rattle.tn_spec.specs.Views.{dialect_of, clause_seen}
+use Rattle.tn_spec.specs.declared.spec.Clause as spec
+use Rattle.tn_spec.specs.declared.func.Dialect as func
+use Rattle.tn_action.specs.Views.{context_seen, effect_seen}
+use Rattle.tn_action.specs.declared.context.Context as action
+use Rattle.tn_action.specs.declared.effect.Effect as action_effect
+use Rattle.tn_explain.specs.ClauseDifferences.{AreOfClause, lines_with}
+use Rattle.tn_explain.specs.LineParts.{difference_lines_of}
+use Rattle.tn_explain.specs.declared.clause_differences.ClauseDifferences.{ClauseDifferences}
 use Rattle.tn_explain.specs.LineParts.{differs_where}
 use Rattle.def_term.specs.Names.{Name}
 use Rattle.def_term.specs.Tree.{Tree}
@@ -26,7 +37,7 @@ one-where true x xs = refl
 one-where false x xs = refl
 
 -- a line for each that there is by the effects of a clause that fires
-each_of_body : (d : Dialect) (c : Context) (es : List Effect) → map differs (body_differences d c es)
+pub each_of_body : (d : Dialect) (c : Context) (es : List Effect) → map differs (body_differences d c es)
     ≡ differs_where (body_differs d c es node_ends) node_ends ++ (differs_where (body_differs d c es finds_no_tracer) finds_no_tracer
     ++ (differs_where (body_differs d c es suppresses_message) suppresses_message ++ (differs_where (body_differs d c es leaves_no_mark) leaves_no_mark ++ [])))
 each_of_body d c es =
@@ -36,15 +47,20 @@ each_of_body d c es =
     ∙ ap (λ l. differs_where (f finds_no_tracer) finds_no_tracer ++ l) (one-where (f suppresses_message) suppresses_message _
     ∙ ap (λ l. differs_where (f suppresses_message) suppresses_message ++ l) (one-where (f leaves_no_mark) leaves_no_mark [])))
 
--- before them that of the order of evaluation
-order-where : (b : Bool) (xs : List Difference) → map differs (option_to_list (if b then Some evaluates_from_right else None) ++ xs) ≡ differs_where b evaluates_from_right ++ map differs xs
-order-where true xs = refl
-order-where false xs = refl
+-- before them those of the clause
+first-where : (q : Bool) (x : Difference) (xs : List Difference) → map differs (option_to_list (difference_where q x) ++ xs) ≡ differs_where q x ++ map differs xs
+first-where true x xs = refl
+first-where false x xs = refl
 
-pub each_where : (d : Dialect) (k : Clause) (c : Context) (es : List Effect) → map differs (clause_differences d k c es)
-    ≡ differs_where (one_shows_order k.body) evaluates_from_right ++ (differs_where (body_differs d c es node_ends) node_ends ++ (differs_where (body_differs d c es finds_no_tracer) finds_no_tracer
-    ++ (differs_where (body_differs d c es suppresses_message) suppresses_message ++ (differs_where (body_differs d c es leaves_no_mark) leaves_no_mark ++ []))))
-each_where d k c es = order-where (one_shows_order k.body) (body_differences d c es) ∙ ap (λ l. differs_where (one_shows_order k.body) evaluates_from_right ++ l) (each_of_body d c es)
+pub lines_of_clause : {A B : Type 0} (d : func.Dialect) (k : spec.Clause A) (b : code.Bindings A B) (c : action.Context A) (es : List (action_effect.Effect A)) (these : ClauseDifferences) → AreOfClause d k b c these
+    → lines_with these d c es ≡ difference_lines_of d k b c es
+lines_of_clause d k b c es these h =
+    let by_effects : List Difference = body_differences (dialect_of d) (context_seen c) (map effect_seen es) in
+    let l : Bool = clause_has_logic_on_other (dialect_of d) (clause_seen k) (bindings_seen b) (context_seen c) in
+    ap (λ q. differs_where q evaluates_from_right ++ (differs_where these.logic faults_in_logic ++ map differs by_effects)) h.order
+    ∙ ap (λ q. differs_where (one_shows_order (clause_seen k).body) evaluates_from_right ++ (differs_where q faults_in_logic ++ map differs by_effects)) h.logic
+    ∙ ap (λ ls. differs_where (one_shows_order (clause_seen k).body) evaluates_from_right ++ ls) (sym (first-where l faults_in_logic by_effects))
+    ∙ sym (first-where (one_shows_order (clause_seen k).body) evaluates_from_right (option_to_list (difference_where l faults_in_logic) ++ by_effects))
 
 -- the depths of a process, from the greatest down
 module _ (s : Session) (p n m : ℕ) (is : n ≡ suc m) where

@@ -13,11 +13,20 @@ use Rattle.def_session.specs.Settings.{FunctionSetting, Setting, off, setting_fo
 use Rattle.def_explain.specs.Reasons.{Reason}
 use Rattle.def_explain.specs.Verdicts.{fails, fires, verdict_of}
 use Rattle.def_explain.specs.Causes.{newest_of}
-use Rattle.def_explain.specs.Differences.{Difference, node_ends, finds_no_tracer, suppresses_message, leaves_no_mark, evaluates_from_right, one_shows_order, body_differs, body_differences, clause_differences, differences_by, firing_differences, setting_differences, evaluation_differences, differences_if}
+use Rattle.def_explain.specs.Differences.{Difference, node_ends, finds_no_tracer, suppresses_message, leaves_no_mark, evaluates_from_right, faults_in_logic, one_shows_order, difference_where, body_differs, body_differences, clause_differences, differences_by, firing_differences, setting_differences, evaluation_differences, differences_if}
 use Rattle.def_explain.specs.NodeMoves.{is_some_difference}
 use Rattle.tn_session.specs.Looks.{parts_of}
 use Rattle.tn_session.specs.Newest.{newest_with}
-use Rattle.tn_spec.specs.Views.{clause_seen}
+use Rattle.def_explain.specs.Logic.{clause_has_logic_on_other}
+use Rattle.tn_head.specs.Views.{bindings_seen}
+use Rattle.tn_head.specs.declared.bindings.Bindings as code
+use Rattle.tn_spec.specs.Views.{dialect_of, clause_seen}
+use Rattle.tn_spec.specs.declared.func.Dialect as func
+use Rattle.tn_action.specs.Views.{context_seen, effect_seen}
+use Rattle.tn_action.specs.declared.context.Context as action
+use Rattle.tn_action.specs.declared.effect.Effect as action_effect
+use Rattle.tn_explain.specs.ClauseDifferences.{AreOfClause, differs_with}
+use Rattle.tn_explain.specs.declared.clause_differences.ClauseDifferences.{ClauseDifferences}
 use Rattle.tn_spec.specs.declared.spec.Clause.{Clause}
 use Rattle.tn_explain.proofs.EarlierLines.{by_newest, newest_is, setting_is}
 
@@ -37,20 +46,30 @@ one-where : (b : Bool) (x : Difference) (xs : List Difference) → is_some_diffe
 one-where true x xs = refl
 one-where false x xs = refl
 
-order-where : (b : Bool) (xs : List Difference) → is_some_difference (option_to_list (if b then Some evaluates_from_right else None) ++ xs) ≡ (b || is_some_difference xs)
-order-where true xs = refl
-order-where false xs = refl
+first-where : (q : Bool) (x : Difference) (xs : List Difference) → is_some_difference (option_to_list (difference_where q x) ++ xs) ≡ (q || is_some_difference xs)
+first-where true x xs = refl
+first-where false x xs = refl
 
--- that of the order, or one of four by the effects
-pub one_of_five : (d : Dialect) (k : outcome.Clause) (c : Context) (es : List Effect) → is_some_difference (clause_differences d k c es)
-    ≡ (one_shows_order k.body || (body_differs d c es node_ends || (body_differs d c es finds_no_tracer || (body_differs d c es suppresses_message || (body_differs d c es leaves_no_mark || false)))))
-one_of_five d k c es =
+-- one of four by the effects
+pub one_of_four : (d : Dialect) (c : Context) (es : List Effect) → is_some_difference (body_differences d c es)
+    ≡ (body_differs d c es node_ends || (body_differs d c es finds_no_tracer || (body_differs d c es suppresses_message || (body_differs d c es leaves_no_mark || false))))
+one_of_four d c es =
     let f : Difference → Bool = body_differs d c es in
-    order-where (one_shows_order k.body) (body_differences d c es)
-    ∙ ap (λ b. one_shows_order k.body || b) (one-where (f node_ends) node_ends _
+    one-where (f node_ends) node_ends _
     ∙ ap (λ b. f node_ends || b) (one-where (f finds_no_tracer) finds_no_tracer _
     ∙ ap (λ b. f finds_no_tracer || b) (one-where (f suppresses_message) suppresses_message _
-    ∙ ap (λ b. f suppresses_message || b) (one-where (f leaves_no_mark) leaves_no_mark []))))
+    ∙ ap (λ b. f suppresses_message || b) (one-where (f leaves_no_mark) leaves_no_mark [])))
+
+-- that of the order or of logic, or one of these
+pub one_of_clause : {A B : Type 0} (d : func.Dialect) (k : Clause A) (b : code.Bindings A B) (c : action.Context A) (es : List (action_effect.Effect A)) (these : ClauseDifferences) → AreOfClause d k b c these
+    → differs_with these d c es ≡ is_some_difference (clause_differences (dialect_of d) (clause_seen k) (bindings_seen b) (context_seen c) (map effect_seen es))
+one_of_clause d k b c es these h =
+    let by_effects : List Difference = body_differences (dialect_of d) (context_seen c) (map effect_seen es) in
+    let l : Bool = clause_has_logic_on_other (dialect_of d) (clause_seen k) (bindings_seen b) (context_seen c) in
+    ap (λ q. q || (these.logic || is_some_difference by_effects)) h.order
+    ∙ ap (λ q. one_shows_order (clause_seen k).body || (q || is_some_difference by_effects)) h.logic
+    ∙ ap (λ q. one_shows_order (clause_seen k).body || q) (sym (first-where l faults_in_logic by_effects))
+    ∙ sym (first-where (one_shows_order (clause_seen k).body) evaluates_from_right (option_to_list (difference_where l faults_in_logic) ++ by_effects))
 
 -- ---- clauses, one after another
 
@@ -71,7 +90,7 @@ module _ {A : Type 0} (d : Dialect) (c : Context) (ks : List (Clause A)) where
 
     -- the one that fires
     pub fires_here : (k : Clause A) (b : Bindings) (es : List Effect) → i < length ks → k ≡ get_or ks i k → fires b es ≡ verdict_of d (clause_seen k) c
-        → is_some_difference (clause_differences d (clause_seen k) c es) ≡ is_some_difference (differences_from 0)
+        → is_some_difference (clause_differences d (clause_seen k) b c es) ≡ is_some_difference (differences_from 0)
     fires_here k b es below is of = ap is_some_difference (ap (λ v. differences_by d (clause_seen k) c v (differences_from (i + 1))) of ∙ sym (differences_here k below is) ∙ so_far)
 
     -- none of them

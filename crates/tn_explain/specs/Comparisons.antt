@@ -38,10 +38,6 @@ use Rattle.tn_explain.specs.declared.discard.Discard.{Discard}
 use Rattle.tn_explain.specs.declared.node_moves.NodeMoves.{NodeMoves}
 use Rattle.tn_explain.specs.declared.sessions.Sessions.{Sessions}
 
--- at a clause that fires in this context with these effects
-abbrev pub clause_differs_seen : {A : Type 0} → Dialect → Clause A → action.Context A → List (Effect A) → Bool
-clause_differs_seen d k c es = is_some_difference (clause_differences (dialect_of d) (clause_seen k) (context_seen c) (map effect_seen es))
-
 -- as this setting is evaluated
 abbrev pub DiffersBy : {A : Type 0} → Setting → action.Context A → Bool → Type 0
 DiffersBy g c b = b ≡ is_some_difference (setting_differences g (context_seen c))

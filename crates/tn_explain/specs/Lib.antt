@@ -12,3 +12,4 @@ pub mod Accounts
 pub mod Comparisons
 pub mod Notes
 pub mod CommandReasons
+pub mod ClauseDifferences

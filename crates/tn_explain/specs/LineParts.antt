@@ -16,6 +16,8 @@ use Rattle.def_explain.specs.Texts.{clause_text, reason_text, effects_text, said
 use Rattle.def_explain.specs.Differences.{Difference, clears_spawn_flags, gives_no_flags, clause_differences, has_spawn_flag, difference_where}
 use Rattle.def_explain.specs.Accounts.{Line, said, tells, differs, differs_uncounted, line_where, changed_text, mfa_text, message_lines, evaluation_lines, mark_lines, end_lines}
 use Rattle.tn_flags.specs.Views.{flags_of}
+use Rattle.tn_head.specs.Views.{bindings_seen}
+use Rattle.tn_head.specs.declared.bindings.Bindings.{Bindings}
 use Rattle.tn_spec.specs.Views.{dialect_of, clause_seen}
 use Rattle.tn_spec.specs.declared.spec.Clause as spec
 use Rattle.tn_spec.specs.declared.func.Dialect as func
@@ -45,8 +47,8 @@ abbrev pub body_difference_line : {A : Type 0} → code.Difference → func.Dial
 body_difference_line x d c es = differs_where (body_differs_seen x d c es) (difference_seen x)
 
 -- a line for each that a node does otherwise at a clause that fires
-abbrev pub difference_lines_of : {A : Type 0} → func.Dialect → spec.Clause A → context.Context A → List (effect.Effect A) → List Line
-difference_lines_of d k c es = map differs (clause_differences (dialect_of d) (clause_seen k) (context_seen c) (map effect_seen es))
+abbrev pub difference_lines_of : {A B : Type 0} → func.Dialect → spec.Clause A → Bindings A B → context.Context A → List (effect.Effect A) → List Line
+difference_lines_of d k b c es = map differs (clause_differences (dialect_of d) (clause_seen k) (bindings_seen b) (context_seen c) (map effect_seen es))
 
 -- the difference at an event by which one process inherits flags of another, by the flags of both
 abbrev pub inherited_by_flags : Event → (given_by giver had taker : Flags) → Option Difference

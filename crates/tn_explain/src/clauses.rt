@@ -10,6 +10,7 @@ ghost use Rattle.tn_explain.specs.Evaluations.{EvaluatesBy};
 ghost use Rattle.tn_explain.specs.LineParts.{failing_lines, firing_lines};
 ghost use Rattle.tn_explain.specs.Lines.{Adds};
 
+use crate::clause_differences::clause_differences;
 use crate::line::{Lines, begin};
 use bumpalo::Bump;
 use std::alloc::{AllocError, Allocator};
@@ -81,9 +82,13 @@ impl<A: Allocator + Copy> Lines<'_, A> {
             let clause = &clauses[i];
             match verdict(self.alloc, arena, spec.dialect, clause, context)? {
                 Verdict::Fails(reason) => self.put_failing(i, reason, out)?,
-                Verdict::Fires { effects, .. } => {
+                Verdict::Fires { bindings, effects } => {
+                    let dialect = spec.dialect;
+                    let these = clause_differences(
+                        self.alloc, arena, dialect, clause, bindings, context,
+                    )?;
                     self.put_firing(i, &effects, out)?;
-                    self.put_differences(spec.dialect, clause, context, &effects, out)?;
+                    self.put_differences(these, dialect, context, &effects, out)?;
                     let mark = mark_for(&effects);
                     return Ok(Evaluation::Done { mark });
                 }

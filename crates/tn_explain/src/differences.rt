@@ -8,17 +8,19 @@ ghost use Rattle.tn_flags.specs.Views.{event_of};
 ghost use Rattle.tn_session.specs.Looks.{look_seen};
 ghost use Rattle.tn_text.specs.Writes.{Grows};
 ghost use Rattle.tn_verdict.specs.Differences.{difference_seen};
-ghost use Rattle.tn_explain.specs.LineParts.{both_of, differs_where, body_difference_line, difference_lines_of};
+ghost use Rattle.tn_explain.specs.LineParts.{both_of, differs_where, body_difference_line};
+ghost use Rattle.tn_explain.specs.ClauseDifferences.{lines_with};
 ghost use Rattle.tn_explain.specs.LineParts.{inherited_difference};
 ghost use Rattle.tn_explain.specs.Lines.{Adds};
 
+use crate::clause_differences::ClauseDifferences;
 use crate::line::{Lines, begin};
 use std::alloc::{AllocError, Allocator};
 use tn_action::{Context, Effect};
 use tn_flags::{Event, Flags};
 use tn_session::{Kind, Look};
-use tn_spec::{Clause, Dialect};
-use tn_verdict::{Difference, body_differs, order_differs, put_difference};
+use tn_spec::Dialect;
+use tn_verdict::{Difference, body_differs, put_difference};
 
 /// The greatest depth of a frame.
 const FRAMES: usize = 64;
@@ -173,17 +175,18 @@ impl<A: Allocator + Copy> Lines<'_, A> {
     /// Appends a line for each that a node does otherwise at a clause that fires.
     pub(crate) fn put_differences(
         &self,
+        of_clause: ClauseDifferences,
         dialect: Dialect,
-        clause: &Clause<A>,
         context: &Context<'_, A>,
         effects: &[Effect<A>],
         out: &mut Vec<u8, A>,
     ) -> Result<(), AllocError>
         ensures ok { OnOk result
-            (Adds self.now (difference_lines_of dialect clause.now context.now effects.now) out.old out.new) }
+            (Adds self.now (lines_with of_clause dialect context.now effects.now) out.old out.new) }
         ensures grows { Grows out.old.items out.new.items }
     {
-        self.put_where_differs(order_differs(clause), Difference::EvaluatesFromRight, out)?;
+        self.put_where_differs(of_clause.order, Difference::EvaluatesFromRight, out)?;
+        self.put_where_differs(of_clause.logic, Difference::FaultsInLogic, out)?;
         self.put_body_difference(Difference::NodeEnds, dialect, context, effects, out)?;
         self.put_body_difference(Difference::FindsNoTracer, dialect, context, effects, out)?;
         self.put_body_difference(

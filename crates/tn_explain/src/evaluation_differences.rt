@@ -6,9 +6,11 @@ ghost use Rattle.tn_flags.specs.Views.{call_seen, event_of};
 ghost use Rattle.tn_spec.specs.Wholes.{spec_seen};
 ghost use Rattle.tn_session.specs.Looks.{look_setting};
 ghost use Rattle.tn_explain.specs.Events.{EachSend, receive_of};
-ghost use Rattle.tn_explain.specs.Comparisons.{clause_differs_seen, DiffersBy, DiffersOn, DiffersAt};
+ghost use Rattle.tn_explain.specs.ClauseDifferences.{differs_with};
+ghost use Rattle.tn_explain.specs.Comparisons.{DiffersBy, DiffersOn, DiffersAt};
 
 use crate::calls::concerns;
+use crate::clause_differences::{ClauseDifferences, clause_differences};
 use bumpalo::Bump;
 use std::alloc::{AllocError, Allocator};
 use tn_action::{Context, Effect};
@@ -16,20 +18,21 @@ use tn_flags::{Call, Event};
 use tn_guard::{AtomConst, ListView, Value};
 use tn_index::Setting;
 use tn_session::Look;
-use tn_spec::{Clause, Dialect, Spec};
+use tn_spec::{Dialect, Spec};
 use tn_term::Term;
-use tn_verdict::{Difference, Verdict, body_differs, order_differs, verdict};
+use tn_verdict::{Difference, Verdict, body_differs, verdict};
 
 /// Whether a node does otherwise at a clause that fires.
 fn clause_differs<A: Allocator>(
+    of_clause: ClauseDifferences,
     dialect: Dialect,
-    clause: &Clause<A>,
     context: &Context<'_, A>,
     effects: &[Effect<A>],
 ) -> bool
-    ensures { result ≡ clause_differs_seen dialect clause.now context.now effects.now }
+    ensures { result ≡ differs_with of_clause dialect context.now effects.now }
 {
-    order_differs(clause)
+    of_clause.order
+        || of_clause.logic
         || body_differs(Difference::NodeEnds, dialect, context, effects)
         || body_differs(Difference::FindsNoTracer, dialect, context, effects)
         || body_differs(Difference::SuppressesMessage, dialect, context, effects)
@@ -50,8 +53,10 @@ fn clauses_differ<'a, A: Allocator + Copy>(
         let clause = &clauses[i];
         match verdict(alloc, arena, spec.dialect, clause, context)? {
             Verdict::Fails(_) => {}
-            Verdict::Fires { effects, .. } => {
-                return Ok(clause_differs(spec.dialect, clause, context, &effects));
+            Verdict::Fires { bindings, effects } => {
+                let dialect = spec.dialect;
+                let these = clause_differences(alloc, arena, dialect, clause, bindings, context)?;
+                return Ok(clause_differs(these, dialect, context, &effects));
             }
         }
     }

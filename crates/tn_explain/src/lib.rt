@@ -17,6 +17,7 @@ mod account;
 mod answers;
 mod calls;
 mod causes;
+mod clause_differences;
 mod clauses;
 mod command_reason_texts;
 mod command_reasons;

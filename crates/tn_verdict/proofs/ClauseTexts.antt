@@ -6,7 +6,8 @@ use Rattle.def_spec.specs.Outcome as outcome
 use Rattle.def_spec.specs.Matching.{Bindings}
 use Rattle.def_explain.specs.Reasons.{Reason}
 use Rattle.def_explain.specs.Verdicts.{fails, fires, verdict_of}
-use Rattle.def_explain.specs.Differences.{Difference, node_ends, finds_no_tracer, suppresses_message, leaves_no_mark, evaluates_from_right, one_shows_order, body_differs, body_differences, clause_differences}
+use Rattle.def_explain.specs.Differences.{Difference, node_ends, finds_no_tracer, suppresses_message, leaves_no_mark, evaluates_from_right, faults_in_logic, one_shows_order, difference_where, body_differs, body_differences, clause_differences}
+use Rattle.def_explain.specs.Logic.{clause_has_logic_on_other}
 use Rattle.def_explain.specs.Texts.{binding_line, clause_text, reason_text, effects_text, end_text, difference_line, fires_text, verdict_text, spec_test_text_after}
 use Rattle.tn_spec.specs.Views.{clause_seen}
 use Rattle.tn_spec.specs.declared.spec.Clause.{Clause}
@@ -27,9 +28,9 @@ regroup effects bindings arrow end rest = simp append_assoc
 
 -- the lines of a clause that fires
 pub fired_is : (d : ex.Dialect) (k : outcome.Clause) (c : ex.Context) (n : ℕ) (b : Bindings) (es : List ex.Effect)
-    → fires_text d k c n b es ≡ fires_line n es ++ (flat_map binding_line b ++ (message_line d c.self_pid es ++ flat_map difference_line (clause_differences d k c es)))
+    → fires_text d k c n b es ≡ fires_line n es ++ (flat_map binding_line b ++ (message_line d c.self_pid es ++ flat_map difference_line (clause_differences d k b c es)))
 fired_is d k c n b es =
-    let others : List ℕ = flat_map difference_line (clause_differences d k c es) in
+    let others : List ℕ = flat_map difference_line (clause_differences d k b c es) in
     let rest : List ℕ = flat_map binding_line b ++ (message_line d c.self_pid es ++ others) in
     ap (λ l. codes "clause " ++ (decimal (suc n) ++ (codes " fires" ++ l))) (regroup (effects_text es) (flat_map binding_line b) (codes "=> ") (end_text d c.self_pid es) others)
     ∙ ap (λ l. codes "clause " ++ l) (sym (append_assoc (decimal (suc n)) (codes " fires" ++ effects_text es ++ 10 ∷ []) rest))
@@ -48,15 +49,17 @@ each_of_body d c es =
     ∙ ap (λ l. difference_line_where (f finds_no_tracer) finds_no_tracer ++ l) (one-where (f suppresses_message) suppresses_message _
     ∙ ap (λ l. difference_line_where (f suppresses_message) suppresses_message ++ l) (one-where (f leaves_no_mark) leaves_no_mark [])))
 
--- before them that of the order of evaluation
-order-where : (b : Bool) (xs : List Difference) → flat_map difference_line (option_to_list (if b then Some evaluates_from_right else None) ++ xs) ≡ difference_line_where b evaluates_from_right ++ flat_map difference_line xs
-order-where true xs = refl
-order-where false xs = refl
+-- before them those of the order of evaluation and of logic
+first-where : (q : Bool) (x : Difference) (xs : List Difference) → flat_map difference_line (option_to_list (difference_where q x) ++ xs) ≡ difference_line_where q x ++ flat_map difference_line xs
+first-where true x xs = refl
+first-where false x xs = refl
 
-pub each_where : (d : ex.Dialect) (k : outcome.Clause) (c : ex.Context) (es : List ex.Effect) → flat_map difference_line (clause_differences d k c es)
-    ≡ difference_line_where (one_shows_order k.body) evaluates_from_right ++ (difference_line_where (body_differs d c es node_ends) node_ends ++ (difference_line_where (body_differs d c es finds_no_tracer) finds_no_tracer ++ (difference_line_where (body_differs d c es suppresses_message) suppresses_message ++ (difference_line_where (body_differs d c es leaves_no_mark) leaves_no_mark ++ []))))
-each_where d k c es =
-    order-where (one_shows_order k.body) (body_differences d c es) ∙ ap (λ l. difference_line_where (one_shows_order k.body) evaluates_from_right ++ l) (each_of_body d c es)
+pub each_where : (d : ex.Dialect) (k : outcome.Clause) (b : Bindings) (c : ex.Context) (es : List ex.Effect) → flat_map difference_line (clause_differences d k b c es)
+    ≡ difference_line_where (one_shows_order k.body) evaluates_from_right ++ (difference_line_where (clause_has_logic_on_other d k b c) faults_in_logic ++ (difference_line_where (body_differs d c es node_ends) node_ends ++ (difference_line_where (body_differs d c es finds_no_tracer) finds_no_tracer ++ (difference_line_where (body_differs d c es suppresses_message) suppresses_message ++ (difference_line_where (body_differs d c es leaves_no_mark) leaves_no_mark ++ [])))))
+each_where d k b c es =
+    first-where (one_shows_order k.body) evaluates_from_right _
+    ∙ ap (λ l. difference_line_where (one_shows_order k.body) evaluates_from_right ++ l) (first-where (clause_has_logic_on_other d k b c) faults_in_logic (body_differences d c es)
+    ∙ ap (λ l. difference_line_where (clause_has_logic_on_other d k b c) faults_in_logic ++ l) (each_of_body d c es))
 
 module _ {A : Type 0} (d : ex.Dialect) (c : ex.Context) (ks : List (Clause A)) (i : ℕ) where
   abbrev pub text_after : ℕ → List ℕ

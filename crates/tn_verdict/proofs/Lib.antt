@@ -10,3 +10,4 @@ pub mod Stops
 pub mod SpecTestFlags
 pub mod SpecReasons
 pub mod SpecReasonTexts
+pub mod LogicSteps

@@ -11,7 +11,7 @@ use Rattle.tn_action.specs.Views.{context_seen, effect_seen}
 use Rattle.tn_action.specs.declared.context.Context.{Context}
 use Rattle.tn_action.specs.declared.effect.Effect as code
 use Rattle.tn_verdict.specs.declared.differences.Difference.{Difference}
-use Rattle.tn_verdict.specs.declared.differences.Difference.TheVariants.{NodeEnds, FindsNoTracer, SuppressesMessage, LeavesNoMark, ReportsEnd, ReportsExceptions, CatchesError, ReportsAttempt, RaisesNoproc, ReportsLater, ClearsSpawnFlags, GivesNoFlags, EvaluatesFromRight}
+use Rattle.tn_verdict.specs.declared.differences.Difference.TheVariants.{NodeEnds, FindsNoTracer, SuppressesMessage, LeavesNoMark, ReportsEnd, ReportsExceptions, CatchesError, ReportsAttempt, RaisesNoproc, ReportsLater, ClearsSpawnFlags, GivesNoFlags, EvaluatesFromRight, FaultsInLogic, LeavesOtherSetting, TakesLocalSetting}
 
 abbrev pub difference_seen : Difference → definition.Difference
 difference_seen NodeEnds = definition.node_ends
@@ -27,6 +27,9 @@ difference_seen ReportsLater = definition.reports_later
 difference_seen ClearsSpawnFlags = definition.clears_spawn_flags
 difference_seen GivesNoFlags = definition.gives_no_flags
 difference_seen EvaluatesFromRight = definition.evaluates_from_right
+difference_seen FaultsInLogic = definition.faults_in_logic
+difference_seen LeavesOtherSetting = definition.leaves_other_setting
+difference_seen TakesLocalSetting = definition.takes_local_setting
 
 -- an effect asks for a mark, or leaves it to those after it
 abbrev pub AsksOrLeaves : Effect → Bool → Type 0

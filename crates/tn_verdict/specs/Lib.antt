@@ -7,3 +7,4 @@ pub mod SpecTests
 pub mod Differences
 pub mod SpecReasons
 pub mod SpecReasonTexts
+pub mod Logic

@@ -62,8 +62,8 @@ module _ {A : Type 0} {G : Ghosts A} (t : SpecTest A G) where
   line_of_difference es x = difference_line_where (body_differs_seen x t.spec.now.dialect t.context.now es) (difference_seen x)
 
   -- a line for each
-  abbrev pub differences_text : Clause A → List (code.Effect A) → List ℕ
-  differences_text k es = flat_map difference_line (clause_differences (dialect_of t.spec.now.dialect) (clause_seen k) (context_seen t.context.now) (map effect_seen es))
+  abbrev pub differences_text : {B : Type 0} → Clause A → Bindings A B → List (code.Effect A) → List ℕ
+  differences_text k b es = flat_map difference_line (clause_differences (dialect_of t.spec.now.dialect) (clause_seen k) (bindings_seen b) (context_seen t.context.now) (map effect_seen es))
 
   -- all lines
   abbrev pub spec_test_in : List ℕ

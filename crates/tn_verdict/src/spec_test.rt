@@ -1,5 +1,5 @@
 // What becomes of the clauses of a specification.
-ghost use Rattle.std.specs.Prelude.{◌≡◌, ◌++◌, [], OnOk, OnErr, flat_map, map};
+ghost use Rattle.std.specs.Prelude.{◌≡◌, ◌++◌, [], OnOk, OnErr, IfOk, flat_map, map};
 ghost use Rattle.def_session.specs.Messages as messages;
 ghost use Rattle.def_explain.specs.Texts.{binding_line, ending_text, end_text, clause_text};
 ghost use Rattle.tn_guard.specs.Views.{value_seen};
@@ -8,6 +8,7 @@ ghost use Rattle.tn_spec.specs.Views.{dialect_of};
 ghost use Rattle.tn_action.specs.Views.{effect_seen};
 ghost use Rattle.tn_verdict.specs.Views.{reason_seen};
 ghost use Rattle.tn_text.specs.Writes.{Grows};
+ghost use Rattle.tn_verdict.specs.Logic.{logic_of_clause};
 ghost use Rattle.tn_verdict.specs.SpecTests.{lent_tree, later_message, spec_test_of};
 ghost use Rattle.tn_verdict.specs.SpecTests.{spec_test_in, failed_text, fired_text};
 ghost use Rattle.tn_verdict.specs.SpecTests.{fires_line, message_line, Appends};
@@ -19,6 +20,7 @@ use crate::clauses::verdict;
 use crate::differences::{Difference, body_differs, put_difference};
 use crate::effects::{is_silent, put_effects};
 use crate::expression_text::put_variable;
+use crate::logic::logic_differs;
 use crate::order::order_differs;
 use crate::reason::{Reason, Verdict};
 use crate::reason_text::{put_number, put_reason, put_value};
@@ -234,7 +236,7 @@ impl<'a, 'c, A: Allocator + Copy> SpecTest<'a, 'c, A> {
     fn put_fired<B: Allocator>(
         &self,
         before: usize,
-        clause: &Clause<A>,
+        clause: &'a Clause<A>,
         bindings: &Bindings<'a, A, &'a Bump<A>>,
         effects: &[Effect<A>],
         out: &mut Vec<u8, B>,
@@ -245,7 +247,7 @@ impl<'a, 'c, A: Allocator + Copy> SpecTest<'a, 'c, A> {
         put_fires(before, effects, out)?;
         put_bindings(self.alloc, bindings, out)?;
         put_message(self.spec.dialect, self.context.self_pid, effects, out)?;
-        self.put_differences(clause, effects, out)
+        self.put_differences(clause, bindings, effects, out)
     }
 
     /// Appends the line of what a running node does otherwise, by the effects of a clause that fires, where it does.
@@ -262,17 +264,38 @@ impl<'a, 'c, A: Allocator + Copy> SpecTest<'a, 'c, A> {
         put_where_differs(differs, difference, out)
     }
 
+    /// Whether a clause that fires calls logic on what is no boolean.
+    fn logic_differs(
+        &self,
+        clause: &'a Clause<A>,
+        bindings: &Bindings<'a, A, &'a Bump<A>>,
+    ) -> Result<bool, AllocError>
+        ensures { IfOk result (λ r. r ≡ logic_of_clause self.now.spec.now.dialect clause.now bindings.now self.now.context.now) }
+    {
+        Ok(logic_differs(
+            self.alloc,
+            self.arena,
+            self.spec.dialect,
+            clause,
+            bindings,
+            self.context,
+        )?)
+    }
+
     /// Appends a line for each that a running node does otherwise at a clause that fires.
     fn put_differences<B: Allocator>(
         &self,
-        clause: &Clause<A>,
+        clause: &'a Clause<A>,
+        bindings: &Bindings<'a, A, &'a Bump<A>>,
         effects: &[Effect<A>],
         out: &mut Vec<u8, B>,
     ) -> Result<(), AllocError>
-        ensures ok { Appends (differences_text self.now clause.now effects.now) result out.old out.new }
+        ensures ok { Appends (differences_text self.now clause.now bindings.now effects.now) result out.old out.new }
         ensures grows { Grows out.old.items out.new.items }
     {
         put_where_differs(order_differs(clause), Difference::EvaluatesFromRight, out)?;
+        let logic = self.logic_differs(clause, bindings)?;
+        put_where_differs(logic, Difference::FaultsInLogic, out)?;
         self.put_body_difference(Difference::NodeEnds, effects, out)?;
         self.put_body_difference(Difference::FindsNoTracer, effects, out)?;
         self.put_body_difference(Difference::SuppressesMessage, effects, out)?;

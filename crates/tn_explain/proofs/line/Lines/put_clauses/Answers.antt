@@ -5,7 +5,9 @@ use Rattle.tn_head.specs.Views.{bindings_seen}
 use Rattle.tn_spec.specs.Views.{dialect_of}
 use Rattle.tn_action.specs.Views.{context_seen, effect_seen}
 use Rattle.tn_verdict.specs.Views.{reason_seen, verdict_seen}
-use Rattle.tn_explain.specs.LineParts.{firing_lines, difference_lines_of}
+use Rattle.tn_explain.specs.ClauseDifferences.{lines_with}
+use Rattle.tn_explain.specs.LineParts.{firing_lines}
+use Rattle.tn_explain.proofs.DifferenceLines.{lines_of_clause}
 use Rattle.tn_explain.proofs.LineTexts.{more, other}
 use Rattle.tn_explain.proofs.ClauseLines.{goes_on, ends, none_fires}
 use Rattle.tn_explain.proofs.line.Lines.put_clauses.Goals as goal
@@ -17,11 +19,13 @@ returns-in-Fires-clause-ok g c =
     let size = c.len-i-end.ensures ∙ c.args.spec.now.clauses.ok.0 in
     let bs = bindings_seen c.in-Fires.bindings.now in
     let n = c.args.self.now.name.now in
+    let these = c.in_ok-these.these in
     ends c.args.self.now.name.now (dialect_of c.args.spec.now.dialect) (context_seen c.args.context.now) ks c.loop-i.i _ _ _ c.loop-i.invariant.so_far
     c.index-clause.result.now bs (map effect_seen c.deref.result.now) c.mark_for-mark.result (omega (arith, size)) c.index-clause.ensures
     (ap (λ xs. fires bs (map effect_seen xs)) c.deref.ensures.value ∙ sym (ap (λ v. verdict_seen v) c.in-Fires.is) ∙ c.in_ok-reason.ensures)
     (more n (firing_lines c.loop-i.i (map effect_seen c.deref.result.now)) _ _ _ _ c.in_ok-put_firing-in-Fires.ensures.ok
-    (other n _ _ _ _ (ap (λ xs. difference_lines_of c.args.spec.now.dialect c.index-clause.result.now c.args.context.now xs) (c.deref-in-Fires.ensures.value ∙ sym c.deref.ensures.value)) c.in_ok-put_differences-in-Fires.ensures.ok))
+    (other n _ _ _ _ (ap (λ xs. lines_with these c.args.spec.now.dialect c.args.context.now xs) (c.deref-in-Fires.ensures.value ∙ sym c.deref.ensures.value)
+    ∙ lines_of_clause c.args.spec.now.dialect c.index-clause.result.now c.in-Fires.bindings.now c.args.context.now c.deref.result.now these c.in_ok-these.ensures) c.in_ok-put_differences-in-Fires.ensures.ok))
     (c.mark_for-mark.ensures ∙ ap (λ xs. mark_asked (map effect_seen xs)) (c.deref-in-Fires-2.ensures.value ∙ sym c.deref.ensures.value))
 
 pub loop-i-preserved : goal.loop-i-preserved

@@ -1,10 +1,10 @@
 use Rattle.std.proofs.Common.{◌++◌, [], map, sym, ap, append-nil}
-use Rattle.def_explain.specs.Differences.{evaluates_from_right, one_shows_order}
-use Rattle.tn_spec.specs.Views.{dialect_of, clause_seen}
+use Rattle.def_explain.specs.Differences.{evaluates_from_right, faults_in_logic}
+use Rattle.tn_spec.specs.Views.{dialect_of}
 use Rattle.tn_action.specs.Views.{context_seen, effect_seen}
 use Rattle.tn_verdict.specs.declared.differences.Difference.TheVariants.{NodeEnds, FindsNoTracer, SuppressesMessage, LeavesNoMark}
 use Rattle.tn_explain.specs.LineParts.{differs_where, body_difference_line}
-use Rattle.tn_explain.proofs.DifferenceLines.{each_where}
+use Rattle.tn_explain.proofs.DifferenceLines.{each_of_body}
 use Rattle.tn_explain.proofs.LineTexts.{on_ok, more, other}
 use Rattle.tn_explain.proofs.line.Lines.put_differences.Goals as goal
 
@@ -12,19 +12,20 @@ pub returns-clause-ok : goal.returns-clause-ok
 returns-clause-ok g c =
     let n = c.args.self.now.name.now in
     let d = c.args.dialect in
-    let clause = clause_seen c.args.clause.now in
     let k = c.args.context.now in
     let es = c.args.effects.now in
-    let zero = differs_where (one_shows_order clause.body) evaluates_from_right in
+    let order = differs_where c.args.of_clause.order evaluates_from_right in
+    let logic = differs_where c.args.of_clause.logic faults_in_logic in
     let one = body_difference_line NodeEnds d k es in
     let two = body_difference_line FindsNoTracer d k es in
     let three = body_difference_line SuppressesMessage d k es in
     let four = body_difference_line LeavesNoMark d k es in
     on_ok c.put_body_difference-4.result _ _
-    (λ made. other n (zero ++ (one ++ (two ++ (three ++ (four ++ []))))) _ _ _ (sym (each_where (dialect_of d) clause (context_seen k) (map effect_seen es)))
-    (more n zero (one ++ (two ++ (three ++ (four ++ [])))) _ _ _ (other n _ zero _ _ (ap (λ b. differs_where b evaluates_from_right) c.order_differs.ensures) c.in_ok-put_where_differs.ensures.ok)
+    (λ made. other n (order ++ (logic ++ (one ++ (two ++ (three ++ (four ++ [])))))) _ _ _ (ap (λ ls. order ++ (logic ++ ls)) (sym (each_of_body (dialect_of d) (context_seen k) (map effect_seen es))))
+    (more n order (logic ++ (one ++ (two ++ (three ++ (four ++ []))))) _ _ _ c.in_ok-put_where_differs.ensures.ok
+    (more n logic (one ++ (two ++ (three ++ (four ++ [])))) _ _ _ c.in_ok-put_where_differs-2.ensures.ok
     (more n one (two ++ (three ++ (four ++ []))) _ _ _ c.in_ok-put_body_difference.ensures.ok
     (more n two (three ++ (four ++ [])) _ _ _ c.in_ok-put_body_difference-2.ensures.ok
     (more n three (four ++ []) _ _ _ c.in_ok-put_body_difference-3.ensures.ok
-    (other n four (four ++ []) _ _ (sym (append-nil four)) made))))))
+    (other n four (four ++ []) _ _ (sym (append-nil four)) made)))))))
     c.put_body_difference-4.ensures.ok

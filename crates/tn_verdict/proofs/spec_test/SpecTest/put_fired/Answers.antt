@@ -18,7 +18,7 @@ returns-clause-ok g c =
     let done = c.put_differences.result in
     let o = c.args.out.now.items in
     let last = c.put_differences.new.out.items in
-    let others = differences_text c.args.self.now clause c.args.effects.now in
+    let others = differences_text c.args.self.now clause c.args.bindings.now c.args.effects.now in
     read_as done o _ _ last (sym (fired_is d (clause_seen clause) k c.args.before bs es))
     (after_ok done o (fires_line c.args.before es) (flat_map binding_line bs ++ (message_line d k.self_pid es ++ others)) c.put_fires.new.out.items last c.in_ok-put_fires.ensures.ok
     (after_ok done c.put_fires.new.out.items (flat_map binding_line bs) (message_line d k.self_pid es ++ others) c.put_bindings.new.out.items last c.in_ok-put_bindings.ensures.ok

@@ -1,0 +1,33 @@
+// What a running node does otherwise at a clause that fires, whatever its effects are.
+ghost use Rattle.std.specs.Prelude.{IfOk};
+ghost use Rattle.tn_explain.specs.ClauseDifferences.{AreOfClause};
+
+use bumpalo::Bump;
+use std::alloc::{AllocError, Allocator};
+use tn_action::Context;
+use tn_head::Bindings;
+use tn_spec::{Clause, Dialect};
+use tn_verdict::{logic_differs, order_differs};
+
+/// Whether a running node does otherwise at a clause by the order of evaluation, and by logic on what is no boolean.
+#[derive(Clone, Copy)]
+pub(crate) struct ClauseDifferences {
+    pub order: bool,
+    pub logic: bool,
+}
+
+/// Those of a clause that fires with these bindings. An error is refused memory.
+pub(crate) fn clause_differences<'a, A: Allocator + Copy>(
+    alloc: A,
+    arena: &'a Bump<A>,
+    dialect: Dialect,
+    clause: &'a Clause<A>,
+    bindings: &Bindings<'a, A, &'a Bump<A>>,
+    context: &Context<'a, A>,
+) -> Result<ClauseDifferences, AllocError>
+    ensures { IfOk result (AreOfClause dialect clause.now bindings.now context.now) }
+{
+    let logic = logic_differs(alloc, arena, dialect, clause, bindings, context)?;
+    let order = order_differs(clause);
+    Ok(ClauseDifferences { order, logic })
+}
