@@ -11,6 +11,8 @@ use Rattle.def_run.specs.Run.{HistoryItem, command_item, RunState, PickStep, pic
 use Rattle.def_run.specs.History.{NamedSession, all_after, all_after_items, named_sessions, moments_from, move_history, move_histories_from}
 use Rattle.def_run.proofs.Replay.{pick_kept, moves_bounded}
 use Rattle.def_explain.specs.Accounts.{differences_in_lines, command_lines}
+use Rattle.def_explain.specs.CommandDifferences.{command_difference}
+use Rattle.def_explain.proofs.DifferenceLines.{uncounted_none}
 use Rattle.def_explain.specs.NodeMoves.{is_some_difference, session_differs, moment_differs, move_differs, differing_moves}
 use Rattle.tn_trace.specs.Observers.{IsNextMove, SeesMove}
 use Rattle.tn_trace.specs.Follows.{AddsEach, AddsFrom}
@@ -34,7 +36,7 @@ nothing-of-command : (o : Exports) (l : Outlook) (k : Command) (s : NamedSession
 nothing-of-command o l k s = go (bytes_eq s.0 (session_of k))
   where
     go : (b : Bool) → is_some_difference (differences_in_lines (if b then command_lines o s.1 k else [])) ≡ false
-    go true = refl
+    go true = ap is_some_difference (uncounted_none (option_to_list (command_difference o s.1 k)))
     go false = refl
 
 nothing-of-all : (o : Exports) (l : Outlook) (k : Command) (ss : List NamedSession) → list_any (session_differs o l (command_item k)) ss ≡ false

@@ -12,7 +12,7 @@ use Rattle.def_session.specs.Session.{event_reported}
 use Rattle.def_session.specs.Commands.{command_done}
 use Rattle.def_run.specs.Run.{event_item, command_item}
 use Rattle.def_run.specs.History.{NamedSession, after}
-use Rattle.def_explain.specs.Accounts.{event_lines, command_lines}
+use Rattle.def_explain.specs.Accounts.{Line, event_lines, command_lines}
 use Rattle.def_explain.specs.CommandReasons.{CommandReason, command_reason}
 use Rattle.def_explain.specs.Runs.{session_lines, makes}
 use Rattle.tn_session.specs.Sessions.{SessionValue, value_in, next_session}
@@ -23,7 +23,9 @@ use Rattle.tn_trace.specs.Slots.{IsSession, IsTracked, ObeysOwn}
 use Rattle.tn_trace.specs.Tracks.{Track}
 use Rattle.tn_trace.specs.declared.slot.Slot.{Slot}
 use Rattle.tn_explain.specs.Filters.{selection_seen, is_asked, text_by}
-use Rattle.tn_explain.specs.LineParts.{reply_lines}
+use Rattle.def_explain.specs.Differences.{Difference}
+use Rattle.def_explain.specs.CommandDifferences.{command_difference}
+use Rattle.tn_explain.specs.LineParts.{reply_lines, uncounted_lines}
 use Rattle.tn_explain.specs.NamedSessions.{HasState}
 use Rattle.tn_explain.specs.declared.step.Step.{Step}
 use Rattle.tn_explain.specs.declared.discard.Discard.{Discard}
@@ -94,16 +96,22 @@ module _ {A : Type 0} (step : Step) (o : Exports) (living : Alive) (s : NamedSes
       sym (ap (λ b. text ++ text_by step (map (makes s.0) (if b then command_lines o s.1 c else []))) d.1 ∙ append-nil text),
     )
 
-    own_lines : (r : Tree) (q : Option CommandReason) (new : Slot A Discard) → Obeyed new (Some r) → (bytes_eq s.0 (session_of c) ≡ true → q ≡ command_reason o s.1 c) → session_lines o (outlook_seen step.outlook) s (command_item c) ≡ reply_lines r q
-    own_lines r q new d why =
-        ap (λ b. if b then command_lines o s.1 c else []) d.1.0 ∙ ap (λ t. reply_lines t (command_reason o s.1 c)) (sym d.1.1) ∙ ap (reply_lines r) (sym (why d.1.0))
+    -- the reply, why it is this one, and what a node does otherwise
+    abbrev pub all_lines : Tree → Option CommandReason → Option Difference → List Line
+    all_lines r q x = reply_lines r q ++ uncounted_lines x
 
-    pub obeys_asked : (r : Tree) (q : Option CommandReason) (new : Slot A Discard) (text' : List ℕ) → is_asked step old.name ≡ true → Obeyed new (Some r) → (bytes_eq s.0 (session_of c) ≡ true → q ≡ command_reason o s.1 c)
-        → text' ≡ text ++ lines_text new.name (reply_lines r q) → HasReplied new text'
-    obeys_asked r q new text' filter d why written =
+    own_lines : (r : Tree) (q : Option CommandReason) (x : Option Difference) (new : Slot A Discard) → Obeyed new (Some r) → (bytes_eq s.0 (session_of c) ≡ true → q ≡ command_reason o s.1 c) → (bytes_eq s.0 (session_of c) ≡ true → x ≡ command_difference o s.1 c)
+        → session_lines o (outlook_seen step.outlook) s (command_item c) ≡ all_lines r q x
+    own_lines r q x new d why otherwise =
+        ap (λ b. if b then command_lines o s.1 c else []) d.1.0 ∙ ap (λ t. all_lines t (command_reason o s.1 c) (command_difference o s.1 c)) (sym d.1.1)
+        ∙ ap (λ y. all_lines r y (command_difference o s.1 c)) (sym (why d.1.0)) ∙ ap (all_lines r q) (sym (otherwise d.1.0))
+
+    pub obeys_asked : (r : Tree) (q : Option CommandReason) (x : Option Difference) (new : Slot A Discard) (text' : List ℕ) → is_asked step old.name ≡ true → Obeyed new (Some r) → (bytes_eq s.0 (session_of c) ≡ true → q ≡ command_reason o s.1 c)
+        → (bytes_eq s.0 (session_of c) ≡ true → x ≡ command_difference o s.1 c) → text' ≡ text ++ lines_text new.name (all_lines r q x) → HasReplied new text'
+    obeys_asked r q x new text' filter d why otherwise written =
         let t = stands_after new (Some r) d in (
           t,
-          written ∙ ap (λ n. text ++ lines_text n (reply_lines r q)) t.name ∙ ap (λ ls. text ++ lines_text s.0 ls) (sym (own_lines r q new d why))
+          written ∙ ap (λ n. text ++ lines_text n (all_lines r q x)) t.name ∙ ap (λ ls. text ++ lines_text s.0 ls) (sym (own_lines r q x new d why otherwise))
               ∙ ap (λ l. text ++ l) (sym (lines_wanted (selection_seen step.selection.now) step.number s.0 (session_lines o (outlook_seen step.outlook) s (command_item c)) (asked_of true filter))),
         )
 

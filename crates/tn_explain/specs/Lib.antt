@@ -13,3 +13,4 @@ pub mod Comparisons
 pub mod Notes
 pub mod CommandReasons
 pub mod ClauseDifferences
+pub mod CommandDifferences

@@ -1,5 +1,5 @@
 -- The lines of an event by when they are known: before the session sees the event, and afterwards.
-use Rattle.std.specs.Prelude.{ℕ, Bool, true, false, not, ◌&&◌, if◌then◌else◌, List, [], ◌∷◌, ◌++◌, map, Option, Some, None, codes}
+use Rattle.std.specs.Prelude.{ℕ, Bool, true, false, not, ◌&&◌, if◌then◌else◌, List, [], ◌∷◌, ◌++◌, map, Option, Some, None, option_to_list, codes}
 use Rattle.def_term.specs.Tree.{Tree}
 use Rattle.def_term.specs.Names.{Mfa}
 use Rattle.def_term.specs.Text.{w}
@@ -106,6 +106,10 @@ uncovered_lines f = said (codes "no setting for " ++ mfa_text f) ∷ []
 -- the reply to a command, and why it is this one
 abbrev pub reply_lines : Tree → Option CommandReason → List Line
 reply_lines t r = said (codes "replies " ++ w t ++ reason_after_reply r) ∷ []
+
+-- what a node does otherwise by a command, where there is such a thing
+abbrev pub uncounted_lines : Option Difference → List Line
+uncounted_lines x = map differs_uncounted (option_to_list x)
 
 -- the line of what is said, where it is
 abbrev pub said_where : Bool → List ℕ → List Line

@@ -10,6 +10,8 @@ use Rattle.def_session.specs.State.{alive_after}
 use Rattle.def_run.specs.Run.{HistoryItem, event_item, command_item}
 use Rattle.def_run.specs.History.{NamedSession, after, all_after, all_after_items, named_sessions}
 use Rattle.def_explain.specs.CommandReasons.{CommandReason, command_reason}
+use Rattle.def_explain.specs.Differences.{Difference}
+use Rattle.def_explain.specs.CommandDifferences.{command_difference}
 use Rattle.def_explain.specs.Runs.{session_lines, shows, makes, made_by_all, entries_over, entries_of_move}
 use Rattle.tn_term.specs.Views.{alive_of}
 use Rattle.tn_flags.specs.Views.{event_of, command_of}
@@ -68,6 +70,12 @@ abbrev pub SlotHasReason : {A : Type 0} → Order A → Slot A Discard → Optio
 SlotHasReason order slot r =
     (o : Exports) → o.functions ≡ visible (functions_of order.functions.now) → (s : NamedSession) → HasState o (alive_of order.living) s slot
     → bytes_eq s.0 (session_of (command_of order.command.now)) ≡ true → r ≡ command_reason o s.1 (command_of order.command.now)
+
+-- what a node does otherwise by the command, where it is of this session
+abbrev pub SlotHasDifference : {A : Type 0} → Order A → Slot A Discard → Option Difference → Type 0
+SlotHasDifference order slot r =
+    (o : Exports) → o.functions ≡ visible (functions_of order.functions.now) → (s : NamedSession) → HasState o (alive_of order.living) s slot
+    → bytes_eq s.0 (session_of (command_of order.command.now)) ≡ true → r ≡ command_difference o s.1 (command_of order.command.now)
 
 -- where a session saw a command, what it makes of it was appended as far as it is asked for; nobody starts or ends by it
 abbrev pub SlotSeesCommand : {A : Type 0} → Step → Order A → Slot A Discard → Slot A Discard → List ℕ → List ℕ → Result (Unit {0}) AllocError → Type 0

@@ -125,7 +125,7 @@ fn has_no_element<A: Allocator>(items: &Vec<Term<A>, A>) -> bool
 }
 
 /// Whether the term is `[]`.
-fn is_empty_list<A: Allocator>(term: &Term<A>) -> bool
+pub(crate) fn is_empty_list<A: Allocator>(term: &Term<A>) -> bool
     ensures { result ≡ same (tree_of term.now) (list none) }
 {
     match term {
@@ -162,7 +162,7 @@ fn is_named<A: Allocator>(function: &Function<A>, module: &Atom<A>, name: &Atom<
 }
 
 /// Whether the function is one of these. Nothing is copied for it.
-fn is_covered<A: Allocator>(covered: &FunctionPattern<A>, function: &Function<A>) -> bool
+pub(crate) fn is_covered<A: Allocator>(covered: &FunctionPattern<A>, function: &Function<A>) -> bool
     ensures { result ≡ is_covered (function_pattern_seen covered.now) (mfa_of (function_of function.now)) }
 {
     match covered {

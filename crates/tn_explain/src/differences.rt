@@ -33,7 +33,7 @@ pub(crate) struct Change {
 }
 
 /// A difference, where it is one.
-fn difference_where(holds: bool, difference: Difference) -> Option<Difference>
+pub(crate) fn difference_where(holds: bool, difference: Difference) -> Option<Difference>
     ensures { option_map difference_seen result ≡ difference_where holds (difference_seen difference) }
 {
     if holds { Some(difference) } else { None }

@@ -5,7 +5,8 @@ ghost use Rattle.tn_term.specs.Views.{tree_of};
 ghost use Rattle.tn_session.specs.Messages.{message_seen};
 ghost use Rattle.tn_text.specs.Writes.{Grows};
 ghost use Rattle.tn_explain.specs.CommandReasons.{command_reasons_seen};
-ghost use Rattle.tn_explain.specs.LineParts.{reply_lines};
+ghost use Rattle.tn_explain.specs.CommandDifferences.{differences_seen};
+ghost use Rattle.tn_explain.specs.LineParts.{reply_lines, uncounted_lines};
 ghost use Rattle.tn_explain.specs.Lines.{PutsLines, Adds, line_start};
 
 use crate::command_reason_texts::put_reason_after_reply;
@@ -14,6 +15,7 @@ use std::alloc::{AllocError, Allocator};
 use tn_session::Message;
 use tn_term::{Atom, Term};
 use tn_text::{write_atom, write_term};
+use tn_verdict::{Difference, put_difference};
 
 /// The lines of the session of a name.
 #[derive(Drop)]
@@ -89,6 +91,26 @@ pub fn put_command_line<A: Allocator, B: Allocator>(
     out.extend_from_slice(b"replies ")?;
     write_term(reply, out)?;
     put_reason_after_reply(why, out)?;
+    out.push(b'\n')?;
+    Ok(())
+}
+
+/// Appends the line of what a running node does otherwise by a command of the session of this name, where there is
+/// such a thing. After an `Err`, which is refused memory, a part of it may stand there.
+pub fn put_command_difference<A: Allocator, B: Allocator>(
+    name: &Atom<A>,
+    difference: Option<Difference>,
+    out: &mut Vec<u8, B>,
+) -> Result<(), AllocError>
+    ensures ok { OnOk result
+        (PutsLines name.now (uncounted_lines (differences_seen difference)) out.old.items out.new.items) }
+    ensures grows { Grows out.old.items out.new.items }
+{
+    let Some(difference) = difference else {
+        return Ok(());
+    };
+    begin(name, out)?;
+    put_difference(difference, out)?;
     out.push(b'\n')?;
     Ok(())
 }

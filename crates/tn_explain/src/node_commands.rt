@@ -4,6 +4,7 @@ ghost use Rattle.std.specs.List.{list_any};
 ghost use Rattle.def_spec.specs.Flags.{flags_named, flags_listed};
 ghost use Rattle.def_session.specs.Settings.{setting_of};
 ghost use Rattle.def_explain.specs.NodeCommands.{can_differ_by, expression_can_differ, one_can_differ};
+ghost use Rattle.def_explain.specs.NodeCommands.{calls_logic, one_calls_logic};
 ghost use Rattle.def_explain.specs.NodeCommands.{clause_can_differ, read_can_differ, flags_can_differ};
 ghost use Rattle.def_explain.specs.NodeCommands.{listed_can_differ, command_can_differ, can_differ};
 ghost use Rattle.tn_term.specs.Views.{tree_of, trees_of};
@@ -17,7 +18,7 @@ use tn_flags::{Command, Flags, flag_of};
 use tn_program::Program;
 use tn_spec::{Action, Clause, Dialect, Expr, Spec, SpecFault, spec_of};
 use tn_term::Term;
-use tn_verdict::order_differs;
+use tn_verdict::{is_logic, order_differs};
 
 /// Whether a process can be silent by an action, or have other flags, or a mark for exceptions.
 fn can_differ_by(action: Action) -> bool
@@ -65,11 +66,47 @@ fn one_can_differ<A: Allocator>(exprs: &Vec<Expr<A>, A>) -> bool
     false
 }
 
-/// Whether the body of a clause has such an action, or shows the order of evaluation.
+/// Whether a part of an expression is a call of a function of logic.
+#[cycle(logic)]
+fn calls_logic<A: Allocator>(expr: &Expr<A>) -> bool
+    ensures { result ≡ calls_logic (expr_seen expr.now) }
+{
+    match expr {
+        Expr::Variable(_) => false,
+        Expr::WholeList => false,
+        Expr::AllBound => false,
+        Expr::Constant(_) => false,
+        Expr::Tuple(exprs) => one_calls_logic(exprs),
+        Expr::List(exprs) => one_calls_logic(exprs),
+        Expr::Call(func, exprs) => is_logic(*func) || one_calls_logic(exprs),
+        Expr::AndAlso(exprs) => one_calls_logic(exprs),
+        Expr::OrElse(exprs) => one_calls_logic(exprs),
+        Expr::Perform(_, exprs) => one_calls_logic(exprs),
+    }
+}
+
+/// Whether that is so of one of several expressions.
+#[cycle(logic)]
+fn one_calls_logic<A: Allocator>(exprs: &Vec<Expr<A>, A>) -> bool
+    ensures { result ≡ one_calls_logic (exprs_seen exprs.now.items) }
+{
+    for i in 0..exprs.len() {
+        if calls_logic(&exprs[i]) {
+            return true;
+        }
+    }
+    false
+}
+
+/// Whether the body of a clause has such an action, or shows the order of evaluation; or its conditions or its body
+/// call logic.
 fn clause_can_differ<A: Allocator>(clause: &Clause<A>) -> bool
     ensures { result ≡ clause_can_differ (clause_seen clause.now) }
 {
-    one_can_differ(&clause.body) || order_differs(clause)
+    one_can_differ(&clause.body)
+        || order_differs(clause)
+        || one_calls_logic(&clause.conditions)
+        || one_calls_logic(&clause.body)
 }
 
 /// Whether that is so of one of the clauses of a specification.

@@ -2,19 +2,22 @@
 ghost use Rattle.std.specs.Prelude.{IfOk};
 ghost use Rattle.tn_text.specs.Writes.{Grows};
 ghost use Rattle.tn_explain.specs.CommandReasons.{command_reasons_seen};
+ghost use Rattle.tn_explain.specs.CommandDifferences.{differences_seen};
 ghost use Rattle.tn_explain.specs.NamedSessions.{SlotSeesEvent, SlotsSeeEvent, SlotHasReason, SlotSeesCommand};
-ghost use Rattle.tn_explain.specs.NamedSessions.{SlotsSeeCommand};
+ghost use Rattle.tn_explain.specs.NamedSessions.{SlotsSeeCommand, SlotHasDifference};
 
+use crate::command_differences::command_difference;
 use crate::command_reasons::{CommandReason, command_reason};
 use crate::discard::Discard;
 use crate::event::put_event_lines;
-use crate::line::put_command_line;
+use crate::line::{put_command_difference, put_command_line};
 use crate::step::Step;
 use std::alloc::{AllocError, Allocator};
 use tn_flags::{Command, Event};
 use tn_script::Function;
 use tn_term::Alive;
 use tn_trace::Slot;
+use tn_verdict::Difference;
 
 /// A command with what its session needs to know: the functions of the program, and who lives.
 #[derive(Drop)]
@@ -80,7 +83,23 @@ fn reason_of_one<'a, A: Allocator + Copy>(
     }
 }
 
-/// A session does a command that is its own, and its reply and why it is this one are appended, where it is asked for.
+/// What a running node does otherwise by a command of the session. Of another's command nothing is said.
+fn difference_of_one<A: Allocator + Copy>(
+    alloc: A,
+    slot: &Slot<A, Discard>,
+    order: &Order<'_, A>,
+) -> Result<Option<Difference>, AllocError>
+    ensures { IfOk result (λ r. SlotHasDifference order.now slot.now (differences_seen r)) }
+{
+    if slot.name.text() == order.command.session().text() {
+        Ok(command_difference(alloc, &slot.session, order.functions, order.command)?)
+    } else {
+        Ok(None)
+    }
+}
+
+/// A session does a command that is its own, and its reply, why it is this one and what a running node does otherwise are
+/// appended, where it is asked for.
 fn obey_one<A: Allocator + Copy>(
     alloc: A,
     step: &Step<'_>,
@@ -96,9 +115,13 @@ fn obey_one<A: Allocator + Copy>(
         return Ok(());
     }
     let why = reason_of_one(alloc, slot, order)?;
+    let difference = difference_of_one(alloc, slot, order)?;
     let reply = slot.obey(alloc, order.functions, order.living, order.command)?;
     match reply {
-        Some(reply) => put_command_line(&slot.name, &reply, why, out),
+        Some(reply) => {
+            put_command_line(&slot.name, &reply, why, out)?;
+            put_command_difference(&slot.name, difference, out)
+        }
         None => Ok(()),
     }
 }

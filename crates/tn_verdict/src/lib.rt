@@ -32,7 +32,7 @@ pub use differences::{Difference, body_differs, put_difference};
 pub use effects::{put_effects, put_flags, put_pid};
 pub use expression_reasons::ExpressionReason;
 pub use head_term_reasons::HeadTermReason;
-pub use logic::logic_differs;
+pub use logic::{is_logic, logic_differs};
 pub use no_specification::no_specification_text;
 pub use order::order_differs;
 pub use reason::{ConditionReason, HeadReason, Reason, Verdict};

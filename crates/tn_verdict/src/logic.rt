@@ -15,7 +15,7 @@ use tn_head::Bindings;
 use tn_spec::{Clause, Dialect, Expr, Func};
 
 /// Whether the function is one of logic: `and`, `or`, `xor` or `not`.
-fn is_logic(func: Func) -> bool
+pub fn is_logic(func: Func) -> bool
     ensures { result ≡ is_logic (func_of func) }
 {
     match func {

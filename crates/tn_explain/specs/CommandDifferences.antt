@@ -1,0 +1,69 @@
+-- What a node does otherwise by a command, of the code's functions and sessions.
+use Rattle.std.specs.Prelude.{◌≡◌, Bool, true, false, not, ◌&&◌, if◌then◌else◌, List, Option, Some, None, Ok, Err}
+use Rattle.std.specs.List.{list_any}
+use Rattle.std.specs.Option.{option_map}
+use Rattle.def_term.specs.Alive.{Alive}
+use Rattle.def_term.specs.Names.{Mfa}
+use Rattle.def_term.specs.Tree.{Tree}
+use Rattle.def_script.specs.Program.{Command, mfa_of}
+use Rattle.def_spec.specs.Expressions.{for_calls}
+use Rattle.def_spec.specs.Reading.{Reads}
+use Rattle.def_session.specs.Settings.{Setting, setting_of, trace_pattern_of, options_of}
+use Rattle.def_session.specs.State as definition
+use Rattle.def_explain.specs.Differences.{Difference}
+use Rattle.def_explain.specs.CommandDifferences.{is_on, is_set_by_kind, is_set_otherwise, is_internal_and_set, read_difference, live_difference, command_difference}
+use Rattle.tn_script.specs.Views.{function_of}
+use Rattle.tn_script.specs.declared.form.Function.{Function}
+use Rattle.tn_index.specs.Views.{function_pattern_seen}
+use Rattle.tn_index.specs.declared.function_setting.FunctionPattern.{FunctionPattern}
+use Rattle.tn_session.specs.Looks.{look_seen}
+use Rattle.tn_session.specs.declared.look.Look.{Look}
+use Rattle.tn_session.specs.declared.session.Session.{Session}
+use Rattle.tn_verdict.specs.Differences.{difference_seen}
+use Rattle.tn_verdict.specs.declared.differences.Difference as code
+use Rattle.tn_trace.specs.Slots.{IsSession}
+use Rattle.tn_explain.specs.CommandReasons.{OfFunctions}
+
+-- a difference, where there is one
+abbrev pub differences_seen : Option code.Difference → Option Difference
+differences_seen r = option_map difference_seen r
+
+-- a function with its visibility
+abbrev pub visible_of : {A : Type 0} → Function A → Mfa × Bool
+visible_of f = (mfa_of (function_of f), (function_of f).exported)
+
+-- of a setting and whether it is local: it is on, and of this kind
+abbrev pub is_on_by_parts : Bool → Option (Setting × Bool) → Bool
+is_on_by_parts local None = false
+is_on_by_parts local (Some k) = is_on k.0 && (if local then k.1 else not k.1)
+
+-- the newest command about the function is of this kind, and doesn't disable it
+abbrev pub is_set_seen : {A : Type 0} → Look A → Function A → Bool → Bool
+is_set_seen l f local = is_set_by_kind (look_seen l).functions local (visible_of f)
+
+-- a matching function has a setting of the other kind
+abbrev pub OneIsSetOtherwise : {A : Type 0} → Look A → List (Function A) → FunctionPattern A → Bool → Bool → Type 0
+OneIsSetOtherwise l functions covered local r = OfFunctions functions (λ o. r ≡ list_any (is_set_otherwise (look_seen l) (function_pattern_seen covered) local) o.functions)
+
+-- a function that isn't exported, and that the pattern covers, has a local setting
+abbrev pub OneIsInternalAndSet : {A : Type 0} → Look A → List (Function A) → FunctionPattern A → Bool → Type 0
+OneIsInternalAndSet l functions covered r = OfFunctions functions (λ o. r ≡ list_any (is_internal_and_set (look_seen l) (function_pattern_seen covered)) o.functions)
+
+-- whether what is read doesn't disable functions; a fault is none
+abbrev pub on_where_read : Reads Setting → Option Bool
+on_where_read (Ok setting) = Some (is_on setting)
+on_where_read (Err e) = None
+
+-- by a function command with these arguments to a session that is looked at
+abbrev pub HasFunctionDifference : {A : Type 0} → Look A → List (Function A) → (mfa spec options : Tree) → Option Difference → Type 0
+HasFunctionDifference l functions mfa spec options r =
+    OfFunctions functions (λ o. r ≡ read_difference o (look_seen l) (trace_pattern_of mfa) (options_of options) (setting_of for_calls spec))
+
+-- by a command to a live session
+abbrev pub HasLiveDifference : {A : Type 0} → Look A → List (Function A) → Command → Option Difference → Type 0
+HasLiveDifference l functions c r = OfFunctions functions (λ o. r ≡ live_difference o (look_seen l) c)
+
+-- by a command to a session, whoever lives
+abbrev pub HasCommandDifference : {A : Type 0} → List (Function A) → Option (Session A) → Command → Option Difference → Type 0
+HasCommandDifference functions session c r =
+    OfFunctions functions (λ o. (living : Alive) (s : definition.Session) → IsSession o.functions living s session → r ≡ command_difference o s c)

@@ -1,0 +1,188 @@
+// What a running node does otherwise by a function command.
+ghost use Rattle.std.specs.Prelude.{◌≡◌, IfOk};
+ghost use Rattle.def_spec.specs.Expressions.{for_calls};
+ghost use Rattle.def_session.specs.Settings.{setting_of};
+ghost use Rattle.tn_term.specs.Views.{tree_of};
+ghost use Rattle.tn_flags.specs.Views.{command_of};
+ghost use Rattle.tn_session.specs.Looks.{newest_seen};
+ghost use Rattle.tn_explain.specs.CommandDifferences.{differences_seen, is_on_by_parts, is_set_seen};
+ghost use Rattle.tn_explain.specs.CommandDifferences.{OneIsSetOtherwise, OneIsInternalAndSet, on_where_read};
+ghost use Rattle.tn_explain.specs.CommandDifferences.{HasFunctionDifference, HasLiveDifference};
+ghost use Rattle.tn_explain.specs.CommandDifferences.{HasCommandDifference};
+ghost use Rattle.std.specs.Option.{option_map};
+
+use crate::command_reasons::{is_covered, is_empty_list};
+use crate::differences::difference_where;
+use std::alloc::{AllocError, Allocator};
+use tn_flags::Command;
+use tn_index::{FunctionPattern, Setting};
+use tn_process::function_mfa;
+use tn_script::Function;
+use tn_session::{Look, NewestSetting, Session, options_of, pattern_of};
+use tn_spec::{Dialect, SpecFault, spec_of};
+use tn_term::Term;
+use tn_verdict::Difference;
+
+/// Whether there is a setting, local or global, that doesn't disable its function.
+fn is_on<A: Allocator>(newest: &Option<NewestSetting<'_, A>>, local: bool) -> bool
+    ensures { result ≡ is_on_by_parts local (option_map newest_seen newest.now) }
+{
+    let Some(newest) = newest else {
+        return false;
+    };
+    match newest.setting {
+        Setting::Disabled => false,
+        Setting::Always | Setting::Specification(_) => {
+            if local { newest.local } else { !newest.local }
+        }
+    }
+}
+
+/// Whether the newest command about a function is of this kind, and doesn't disable it. An error is refused memory.
+fn is_set<A: Allocator + Copy>(
+    alloc: A,
+    look: &Look<'_, A>,
+    function: &Function<A>,
+    local: bool,
+) -> Result<bool, AllocError>
+    ensures { IfOk result (λ r. r ≡ is_set_seen look.now function.now local) }
+{
+    let mfa = function_mfa(alloc, function)?;
+    let newest = look.newest_among(&mfa, function.exported);
+    Ok(is_on(&newest, local))
+}
+
+/// Whether a function that a command about these matches has a setting of the other kind.
+fn is_set_otherwise<A: Allocator + Copy>(
+    alloc: A,
+    look: &Look<'_, A>,
+    functions: &[Function<A>],
+    covered: &FunctionPattern<A>,
+    local: bool,
+) -> Result<bool, AllocError>
+    ensures { IfOk result (OneIsSetOtherwise look.now functions.now covered.now local) }
+{
+    for function in functions {
+        if is_covered(covered, function) && (local || function.exported) {
+            if is_set(alloc, look, function, !local)? {
+                return Ok(true);
+            }
+        }
+    }
+    Ok(false)
+}
+
+/// Whether one of these functions that isn't exported has a local setting.
+fn is_internal_and_set<A: Allocator + Copy>(
+    alloc: A,
+    look: &Look<'_, A>,
+    functions: &[Function<A>],
+    covered: &FunctionPattern<A>,
+) -> Result<bool, AllocError>
+    ensures { IfOk result (OneIsInternalAndSet look.now functions.now covered.now) }
+{
+    for function in functions {
+        if is_covered(covered, function) && !function.exported {
+            if is_set(alloc, look, function, true)? {
+                return Ok(true);
+            }
+        }
+    }
+    Ok(false)
+}
+
+/// Whether a Spec doesn't disable functions; None where it can't be read.
+fn is_on_where_read<A: Allocator + Copy>(
+    alloc: A,
+    term: &Term<A>,
+) -> Result<Option<bool>, AllocError>
+    ensures { IfOk result (λ r. r ≡ on_where_read (setting_of for_calls (tree_of term.now))) }
+{
+    if term.is_word("true") || is_empty_list(term) {
+        return Ok(Some(true));
+    }
+    if term.is_word("false") {
+        return Ok(Some(false));
+    }
+    match spec_of(alloc, term, Dialect::Call) {
+        Ok(_) => Ok(Some(true)),
+        Err(SpecFault::Badarg) | Err(SpecFault::Unsupported(_)) => Ok(None),
+        Err(SpecFault::TooLarge) | Err(SpecFault::OutOfMemory) => Err(AllocError),
+    }
+}
+
+/// What a node does otherwise by a function command with these arguments.
+fn function_difference<A: Allocator + Copy>(
+    alloc: A,
+    look: &Look<'_, A>,
+    functions: &[Function<A>],
+    mfa: &Term<A>,
+    specification: &Term<A>,
+    options: &Term<A>,
+) -> Result<Option<Difference>, AllocError>
+    ensures { IfOk result (λ r. HasFunctionDifference look.now functions.now (tree_of mfa.now)
+        (tree_of specification.now) (tree_of options.now) (differences_seen r)) }
+{
+    let Some(covered) = pattern_of(alloc, mfa)? else {
+        return Ok(None);
+    };
+    let Some(local) = options_of(options) else {
+        return Ok(None);
+    };
+    let Some(on) = is_on_where_read(alloc, specification)? else {
+        return Ok(None);
+    };
+    if !on {
+        let leaves = is_set_otherwise(alloc, look, functions, &covered, local)?;
+        return Ok(difference_where(leaves, Difference::LeavesOtherSetting));
+    }
+    if local {
+        return Ok(None);
+    }
+    let takes = is_internal_and_set(alloc, look, functions, &covered)?;
+    Ok(difference_where(takes, Difference::TakesLocalSetting))
+}
+
+/// What a node does otherwise by a command to a live session.
+fn live_difference<A: Allocator + Copy>(
+    alloc: A,
+    look: &Look<'_, A>,
+    functions: &[Function<A>],
+    command: &Command<A>,
+) -> Result<Option<Difference>, AllocError>
+    ensures { IfOk result (λ r.
+        HasLiveDifference look.now functions.now (command_of command.now) (differences_seen r)) }
+{
+    match command {
+        Command::Function {
+            mfa,
+            specification,
+            options,
+            ..
+        } => Ok(function_difference(alloc, look, functions, mfa, specification, options)?),
+        _ => Ok(None),
+    }
+}
+
+/// What a node does otherwise by a command to a session. An error is refused memory.
+pub(crate) fn command_difference<A: Allocator + Copy>(
+    alloc: A,
+    session: &Option<Session<A>>,
+    functions: &[Function<A>],
+    command: &Command<A>,
+) -> Result<Option<Difference>, AllocError>
+    ensures { IfOk result (λ r.
+        HasCommandDifference functions.now session.now (command_of command.now) (differences_seen r)) }
+{
+    let Some(session) = session else {
+        return Ok(None);
+    };
+    let Some(look) = session.look() else {
+        return Err(AllocError);
+    };
+    if look.is_live() {
+        Ok(live_difference(alloc, &look, functions, command)?)
+    } else {
+        Ok(None)
+    }
+}
