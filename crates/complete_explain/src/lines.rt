@@ -5,11 +5,12 @@ ghost use Rattle.tn_session.specs.Sessions.{value_in};
 ghost use Rattle.tn_explain.specs.CommandReasons.{command_reasons_seen};
 
 use std::alloc::{AllocError, Allocator};
-use tn_explain::{CommandReason, put_command_line, put_event_lines};
+use tn_explain::{CommandReason, put_command_difference, put_command_line, put_event_lines};
 use tn_flags::Event;
 use tn_node::Outlook;
 use tn_session::Session;
 use tn_term::{Atom, Term};
+use tn_verdict::Difference;
 
 /// An event, what was known of its step before it, and the name of the session that sees it.
 #[derive(Clone, Copy)]
@@ -64,5 +65,22 @@ pub fn command<A: Allocator, B: Allocator>(
     (
         put_command_line(name, one.reply, one.why, first),
         put_command_line(name, other.reply, other.why, second),
+    )
+}
+
+/// `tn_explain::put_command_difference` leaves one text. After a refusal nothing of it is said, but that the text that
+/// was there is still a front of it.
+pub fn command_difference<A: Allocator, B: Allocator>(
+    name: &Atom<A>,
+    difference: Option<Difference>,
+    first: &mut Vec<u8, B>,
+    second: &mut Vec<u8, B>,
+) -> (Result<(), AllocError>, Result<(), AllocError>)
+    requires { first.old.items ≡ second.old.items }
+    ensures { OnOk result.0 (OnOk result.1 (first.new.items ≡ second.new.items)) }
+{
+    (
+        put_command_difference(name, difference, first),
+        put_command_difference(name, difference, second),
     )
 }

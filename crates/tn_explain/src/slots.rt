@@ -98,8 +98,8 @@ fn difference_of_one<A: Allocator + Copy>(
     }
 }
 
-/// A session does a command that is its own, and its reply, why it is this one and what a running node does otherwise are
-/// appended, where it is asked for.
+/// A session does a command that is its own, and its reply, why it is this one and what a running node does otherwise
+/// are appended, where it is asked for.
 fn obey_one<A: Allocator + Copy>(
     alloc: A,
     step: &Step<'_>,

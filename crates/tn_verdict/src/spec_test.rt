@@ -270,7 +270,8 @@ impl<'a, 'c, A: Allocator + Copy> SpecTest<'a, 'c, A> {
         clause: &'a Clause<A>,
         bindings: &Bindings<'a, A, &'a Bump<A>>,
     ) -> Result<bool, AllocError>
-        ensures { IfOk result (λ r. r ≡ logic_of_clause self.now.spec.now.dialect clause.now bindings.now self.now.context.now) }
+        ensures { IfOk result (λ r.
+            r ≡ logic_of_clause self.now.spec.now.dialect clause.now bindings.now self.now.context.now) }
     {
         Ok(logic_differs(
             self.alloc,
