@@ -23,3 +23,5 @@ mod NodeMoves
 mod ReasonRows
 pub mod SpecReasons
 pub mod CommandReasons
+pub mod Remarks
+mod RemarkRows

@@ -18,3 +18,6 @@ pub mod SpecReasons
 pub mod CommandReasons
 pub mod ReasonTexts
 pub mod ReasonLaws
+pub mod Remarks
+pub mod RemarkLaws
+pub mod CommandPlaces
