@@ -25,3 +25,4 @@ pub mod SpecReasons
 pub mod CommandReasons
 pub mod Remarks
 mod RemarkRows
+pub mod EmptyScripts

@@ -34,7 +34,7 @@ module _ (o : Exports) (fs : List Function) where
   reasons_from q ss [] = []
   reasons_from q ss (pick ∷ picks) = let t : PickStep = pick_step fs q pick in reasons_by ss t.shown ++ reasons_from t.after (all_after_items o ss t.shown) picks
 
-  of_moments : (k pick : ℕ) (ss : List NamedSession) (xs : List HistoryItem) → reasons_in o (moments_from o k pick ss xs) ≡ reasons_by ss xs
+  pub of_moments : (k pick : ℕ) (ss : List NamedSession) (xs : List HistoryItem) → reasons_in o (moments_from o k pick ss xs) ≡ reasons_by ss xs
   of_moments k pick ss [] = refl
   of_moments k pick ss (x ∷ xs) = ap (item_reasons o ss x ++◌) (of_moments k pick (all_after o ss x) xs)
 
@@ -52,7 +52,7 @@ module _ (o : Exports) (fs : List Function) where
       go t false e none again = again t.after k ss ∙ ap (λ xs. reasons_by ss xs ++ reasons_from t.after (all_after_items o ss xs) picks) (sym (none e))
 
   -- picks that don't move can be left out
-  from_again : (q : RunState) (ss : List NamedSession) (picks : List ℕ) → reasons_from q ss (moves_from fs q picks) ≡ reasons_from q ss picks
+  pub from_again : (q : RunState) (ss : List NamedSession) (picks : List ℕ) → reasons_from q ss (moves_from fs q picks) ≡ reasons_from q ss picks
   from_again q ss [] = refl
   from_again q ss (pick ∷ picks) = go (pick_step fs q pick).moved refl (λ r us. from_again r us picks)
     where
@@ -70,7 +70,7 @@ module _ (o : Exports) (fs : List Function) where
 
   -- ---- events
 
-  of_events : (ss : List NamedSession) (es : List Event) → reasons_by ss (map event_item es) ≡ []
+  pub of_events : (ss : List NamedSession) (es : List Event) → reasons_by ss (map event_item es) ≡ []
   of_events ss [] = refl
   of_events ss (e ∷ es) = of_events (all_after o ss (event_item e)) es
 

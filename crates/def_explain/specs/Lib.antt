@@ -21,3 +21,4 @@ pub mod ReasonLaws
 pub mod Remarks
 pub mod RemarkLaws
 pub mod CommandPlaces
+pub mod EmptyScripts

@@ -5,6 +5,7 @@ use Rattle.std.specs.List.{AllByRecursion}
 use Rattle.def_script.specs.Program.{Program}
 use Rattle.def_run.specs.Run.{moves}
 use Rattle.def_run.specs.Listing.{replies, lines_of}
+use Rattle.def_explain.specs.EmptyScripts.{HasNoForms, is_gap}
 use Rattle.def_explain.specs.CommandReasons.{CommandReason, reply_of}
 use Rattle.def_explain.specs.Remarks.{Remark, run_reasons, remarks, has_reason_line}
 
@@ -40,3 +41,7 @@ NothingAfterCommands = (p : Program) (picks rest : List ℕ) → AllByRecursion 
 -- the same is remarked by the picks that moved
 abbrev pub MovesHaveTheRemarks : Type 0
 MovesHaveTheRemarks = (p : Program) (picks : List ℕ) → remarks p (moves p picks) ≡ remarks p picks
+
+-- a script has no forms exactly where its text is blanks and comments
+abbrev pub EmptyScriptIsGap : Type 0
+EmptyScriptIsGap = (bytes : List ℕ) → (is_gap false bytes ≡ true) ↔ HasNoForms bytes

@@ -1,7 +1,7 @@
 -- What is remarked of a run: which of the commands that it took are refused or match no function, and why (own).
 -- Depends on the history of a run, on why a command is refused, and on the texts of reasons.
-use Rattle.std.specs.Prelude.{ℕ, suc, ◌==◌, Bool, false, ◌&&◌, ◌||◌, List, [], ◌∷◌, ◌++◌, flat_map, take, Option, Some, None, codes, decimal}
-use Rattle.std.specs.Str.{bytes_eq}
+use Rattle.std.specs.Prelude.{ℕ, suc, ◌==◌, Bool, true, false, ◌&&◌, ◌||◌, List, [], ◌∷◌, ◌++◌, flat_map, nat_eq, Option, Some, None, codes, decimal}
+use Rattle.std.specs.List.{starts_with}
 use Rattle.def_term.specs.Text.{w}
 use Rattle.def_script.specs.Program.{session_of, Program}
 use Rattle.def_script.specs.Exports.{Exports, exports_of}
@@ -38,21 +38,34 @@ remarks_after n (Some r ∷ rs) = record { command = suc n; reason = r } ∷ rem
 abbrev pub remarks : Program → List ℕ → List Remark
 remarks p picks = remarks_after 0 (run_reasons p picks)
 
+-- there is one
+abbrev pub is_some_remark : List Remark → Bool
+is_some_remark [] = false
+is_some_remark (r ∷ rs) = true
+
+-- something is remarked of a run
+abbrev pub has_remarks : Program → List ℕ → Bool
+has_remarks p picks = is_some_remark (remarks p picks)
+
 -- ---- texts
 
 -- the reply, and why it is this one
 abbrev pub reply_and_reason : CommandReason → List ℕ
 reply_and_reason r = codes "replies " ++ w (reply_of r) ++ codes ": " ++ command_reason_text r
 
+-- of the command of this number
+abbrev pub command_text : ℕ → List ℕ → List ℕ
+command_text n text = codes "command " ++ decimal n ++ 32 ∷ text
+
 abbrev pub remark_text : Remark → List ℕ
-remark_text r = codes "command " ++ decimal r.command ++ 32 ∷ reply_and_reason r.reason
+remark_text r = command_text r.command (reply_and_reason r.reason)
 
 -- ---- where nothing is remarked
 
 -- the text begins with the line of such a reply: `badarg`, 0 or {unsupported,Name}
 abbrev pub begins_reason : List ℕ → Bool
 begins_reason text =
-    bytes_eq (take 7 text) (codes "badarg\n") || (bytes_eq (take 2 text) (codes "0\n") || bytes_eq (take 13 text) (codes "{unsupported,"))
+    starts_with nat_eq text (codes "badarg\n") || (starts_with nat_eq text (codes "0\n") || starts_with nat_eq text (codes "{unsupported,"))
 
 -- one of the lines of a text does; whether the text itself begins with a line is given
 abbrev pub has_reason_line : (at_start : Bool) → List ℕ → Bool

@@ -22,7 +22,7 @@ ghost use Rattle.def_explain.specs.Laws.{CauseWhereNothingTold, CauseIsOne, Caus
 ghost use Rattle.def_explain.specs.RunLaws.{AccountTellsTheListing, CommandTermIsRead};
 ghost use Rattle.def_explain.specs.RunLaws.{MoveDifferenceIsComputed, NoCommandNoDifference};
 ghost use Rattle.def_explain.specs.RemarkLaws.{RemarkIsOfReason, RemarkHasItsReply, MovesHaveTheRemarks};
-ghost use Rattle.def_explain.specs.RemarkLaws.{NothingAfterCommands, NoReasonLineNoRemark};
+ghost use Rattle.def_explain.specs.RemarkLaws.{NothingAfterCommands, NoReasonLineNoRemark, EmptyScriptIsGap};
 ghost use Rattle.def_explain.specs.ReasonLaws.{SpecFaultHasReason, SpecReasonIsComputed, CommandReasonIsComputed};
 ghost use Rattle.def_explain.specs.ReasonLaws.{ReplyIsOfReason, FaultHasReason, ZeroHasReason, RefusalChangesNothing};
 
@@ -130,4 +130,9 @@ pub fn a_remark_has_a_reason()
     ensures moves { MovesHaveTheRemarks }
     ensures later { NothingAfterCommands }
     ensures none { NoReasonLineNoRemark }
+{}
+
+/// A script has no forms exactly where its text is blanks and comments.
+pub fn a_script_without_forms_is_a_gap()
+    ensures { EmptyScriptIsGap }
 {}
