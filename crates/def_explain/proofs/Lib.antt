@@ -26,3 +26,6 @@ mod NodeMoves
 mod ReasonRows
 pub mod SpecReasons
 pub mod CommandReasons
+pub mod Remarks
+mod RemarkRows
+pub mod EmptyScripts

@@ -21,3 +21,7 @@ pub mod SpecReasons
 pub mod CommandReasons
 pub mod ReasonTexts
 pub mod ReasonLaws
+pub mod Remarks
+pub mod RemarkLaws
+pub mod CommandPlaces
+pub mod EmptyScripts

@@ -22,6 +22,8 @@ ghost use Rattle.def_explain.specs.Laws.{LogicDifferenceIsComputed, CommandDiffe
 ghost use Rattle.def_explain.specs.Laws.{CauseWhereNothingTold, CauseIsOne, CauseIsComputed};
 ghost use Rattle.def_explain.specs.RunLaws.{AccountTellsTheListing, CommandTermIsRead};
 ghost use Rattle.def_explain.specs.RunLaws.{MoveDifferenceIsComputed, NoCommandNoDifference};
+ghost use Rattle.def_explain.specs.RemarkLaws.{RemarkIsOfReason, RemarkHasItsReply, MovesHaveTheRemarks};
+ghost use Rattle.def_explain.specs.RemarkLaws.{NothingAfterCommands, NoReasonLineNoRemark, EmptyScriptIsGap};
 ghost use Rattle.def_explain.specs.ReasonLaws.{SpecFaultHasReason, SpecReasonIsComputed, CommandReasonIsComputed};
 ghost use Rattle.def_explain.specs.ReasonLaws.{ReplyIsOfReason, FaultHasReason, ZeroHasReason, RefusalChangesNothing};
 
@@ -121,4 +123,19 @@ pub fn a_refusal_has_a_reason()
     ensures fault { FaultHasReason }
     ensures zero { ZeroHasReason }
     ensures unchanged { RefusalChangesNothing }
+{}
+
+/// A command of a run is remarked of exactly where it has a reason, and has the reply of that; the same is remarked by
+/// the picks that moved, and up to the last command; and nothing where no line of the replies begins as one of those.
+pub fn a_remark_has_a_reason()
+    ensures exactly { RemarkIsOfReason }
+    ensures reply { RemarkHasItsReply }
+    ensures moves { MovesHaveTheRemarks }
+    ensures later { NothingAfterCommands }
+    ensures none { NoReasonLineNoRemark }
+{}
+
+/// A script has no forms exactly where its text is blanks and comments.
+pub fn a_script_without_forms_is_a_gap()
+    ensures { EmptyScriptIsGap }
 {}
