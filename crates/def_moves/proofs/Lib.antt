@@ -1,0 +1,2 @@
+pub mod Picks
+mod Rests
