@@ -1,2 +1,3 @@
 pub mod Picks
 mod Rests
+mod Texts

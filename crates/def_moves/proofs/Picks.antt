@@ -1,12 +1,12 @@
 -- The picks of directives are the moves of some picks, which are tried in order.
-use Rattle.std.proofs.Common.{◌≡◌, ◌+◌, ◌<◌, ◌≤◌, min, ℕ, zero, suc, List, [], ◌∷◌, ◌++◌, length, take, Bool, true, false, if◌then◌else◌, refl, sym, ap, ◌∙◌, arith, append-nil, append_assoc, subst}
+use Rattle.std.proofs.Common.{◌≡◌, ◌+◌, ◌≤◌, min, ℕ, zero, suc, List, [], ◌∷◌, ◌++◌, length, take, Bool, true, false, if◌then◌else◌, refl, sym, ap, ◌∙◌, arith, append_assoc, subst}
 use Rattle.std.proofs.lemmas.List.{take_all}
 use Rattle.def_script.specs.Program.{Function, Program}
 use Rattle.def_node.specs.Node.{opening_world}
-use Rattle.def_run.specs.Run.{RunState, PickStep, pick_step, moves_from, run_state_after, start, moves, run_state_of}
+use Rattle.def_run.specs.Run.{RunState, pick_step, moves_from, run_state_after, start, moves, run_state_of}
 use Rattle.def_run.specs.Round.{is_empty, pass, passes}
 use Rattle.def_run.specs.Laws.{repeat_picks}
-use Rattle.def_run.proofs.Appends.{moves-append, place-append}
+use Rattle.def_run.proofs.Appends.{moves-append}
 use Rattle.def_run.proofs.Replay.{moves_again, place_again, room_spent}
 use Rattle.def_run.proofs.Rounds.{less_room, passes_by, passes_move}
 use Rattle.def_moves.specs.Directives.{Directive, times, until_idle, everybody, picks_until_idle, picks_of_directive, picks_from, picks_of_directives}

@@ -2,7 +2,7 @@
 use Rattle.std.proofs.Common.{◌≡◌, ◌+◌, ◌<◌, ◌≤◌, min, ℕ, zero, suc, List, [], ◌∷◌, ◌++◌, length, take, Bool, true, false, if◌then◌else◌, refl, sym, ap, ◌∙◌, arith, append-nil, append_assoc, length-append, subst}
 use Rattle.def_script.specs.Program.{Function, Program, Command}
 use Rattle.def_node.specs.Node.{World, opening_world}
-use Rattle.def_run.specs.Run.{RunState, PickStep, pick_step, pick_step_after, moves_from, run_state_after, start, moves}
+use Rattle.def_run.specs.Run.{RunState, pick_step, pick_step_after, moves_from, run_state_after, start, moves}
 use Rattle.def_run.specs.Round.{pass, round}
 use Rattle.def_run.specs.Laws.{IsIdleAfter, repeat_picks}
 use Rattle.def_run.proofs.Appends.{moves-append, place-append}
@@ -10,7 +10,7 @@ use Rattle.def_run.proofs.Replay.{moves_again, place_again}
 use Rattle.def_run.proofs.Rounds.{ends_at_rest}
 use Rattle.def_moves.specs.Directives.{Directive, times, until_idle, everybody, picks_until_idle, picks_of_directive, picks_from, picks_of_directives}
 use Rattle.def_moves.specs.Laws.{TimesTakesSoMany, UntilIdleTakesOne, UntilIdleStopsThere, EverybodyRests, EverybodyIsARound, ControlTakesEachCommand, DirectivesGrow}
-use Rattle.def_moves.proofs.Picks.{tries, tries_of_directive, tries-append, moves_after, room, opening, by_tries, first_moves, in_order, few_move, directives_move}
+use Rattle.def_moves.proofs.Picks.{tries, tries_of_directive, tries-append, moves_after, room, opening, by_tries, first_moves, few_move, directives_move}
 
 -- ---- one directive more
 
