@@ -3,9 +3,9 @@ use Rattle.std.proofs.Common.{◌≡◌, ◌∙◌, ◌+◌, ◌<◌, ℕ, List,
 use Rattle.std.proofs.lemmas.Fmt.{decimal_injective}
 use Rattle.def_text.specs.Tokens.{gap_len}
 use Rattle.def_script.specs.Program.{Program}
-use Rattle.def_moves.specs.Directives.{Directive, times, until_idle, everybody}
-use Rattle.def_moves.specs.Texts.{MovesPiece, IsMover, IsCount, IsPieceOf, StandsFor, IsFaultAfter, after_gap, after_piece, first_piece, piece_len}
-use Rattle.def_moves.specs.TextLaws.{MovesAreOne, MovesFaultIsAlone, MovesFaultIsOne}
+use Rattle.def_moves.specs.Directives.{Directive, times, until_idle, everybody, picks_of_directives}
+use Rattle.def_moves.specs.Texts.{MovesPiece, IsMover, IsCount, IsPieceOf, StandsFor, HasMoves, IsFaultAfter, after_gap, after_piece, first_piece, piece_len}
+use Rattle.def_moves.specs.TextLaws.{MovesAreOne, PicksOfMovesAreOne, MovesFaultIsAlone, MovesFaultIsOne}
 
 head_of : (x y : ℕ) (xs ys : List ℕ) → x ∷ xs ≡ y ∷ ys → x ≡ y
 head_of x y xs ys e = cc
@@ -48,6 +48,9 @@ moves_are_one p text [] [] a b = refl
 moves_are_one p text [] (e ∷ es) a b = absurd (some_left (after_gap text) b.0 a)
 moves_are_one p text (d ∷ ds) [] a b = absurd (some_left (after_gap text) a.0 b)
 moves_are_one p text (d ∷ ds) (e ∷ es) a b = ap₂ (λ x xs. x ∷ xs) (one_directive p (first_piece (after_gap text)) d e a.1 b.1) (moves_are_one p (after_piece text) ds es a.2 b.2)
+
+pub picks_of_moves_are_one : PicksOfMovesAreOne
+picks_of_moves_are_one p text picks others a b = a.made ∙ ap (picks_of_directives p 65536) (moves_are_one p text a.directives b.directives a.stands b.stands) ∙ sym b.made
 
 no_fault_in : (p : Program) (at : ℕ) (text : List ℕ) (front : List Directive) (place : ℕ) (ds : List Directive) → IsFaultAfter p at text front place → StandsFor p text ds → ⊥
 no_fault_in p at text [] place [] a b = some_left (after_gap text) a.0 b

@@ -3,11 +3,15 @@
 use Rattle.std.specs.Prelude.{◌≡◌, ℕ, List}
 use Rattle.def_script.specs.Program.{Program}
 use Rattle.def_moves.specs.Directives.{Directive}
-use Rattle.def_moves.specs.Texts.{StandsFor, IsMovesFault}
+use Rattle.def_moves.specs.Texts.{StandsFor, HasMoves, IsMovesFault}
 
 -- a text stands for one list of directives at most
 abbrev pub MovesAreOne : Type 0
 MovesAreOne = (p : Program) (text : List ℕ) (ds es : List Directive) → StandsFor p text ds → StandsFor p text es → ds ≡ es
+
+-- so it has one list of picks at most
+abbrev pub PicksOfMovesAreOne : Type 0
+PicksOfMovesAreOne = (p : Program) (text picks others : List ℕ) → HasMoves p text picks → HasMoves p text others → picks ≡ others
 
 -- and for none where a piece of it stands for no directive
 abbrev pub MovesFaultIsAlone : Type 0

@@ -1,13 +1,15 @@
 -- Texts of moves: which directives a text stands for in a run of a program (own).
 -- Depends on blanks and comments of texts, on the written text of atoms, and on the initial processes of a program.
-use Rattle.std.specs.Prelude.{◌≡◌, ◌⊎◌, ℕ, suc, ◌+◌, ◌<◌, ◌^◌, List, [], ◌∷◌, length, take, drop, Bool, true, false, not, ◌||◌, ◌==◌, if◌then◌else◌, decimal, codes}
+use Rattle.std.specs.Prelude.{◌≡◌, ◌⊎◌, ℕ, suc, ◌+◌, ◌<◌, ◌≤◌, ◌^◌, List, [], ◌∷◌, length, take, drop, Bool, true, false, not, ◌||◌, ◌==◌, if◌then◌else◌, decimal, codes}
 use Rattle.std.specs.Str.{bytes_eq}
 use Rattle.def_term.specs.Alive.{FIRST_PID}
 use Rattle.def_term.specs.Text.{is_digit, atom_text}
 use Rattle.def_text.specs.Tokens.{is_blank, gap_len}
 use Rattle.def_text.specs.Scan.{run_len}
+use Rattle.def_text.specs.Spelling.{LENGTH}
 use Rattle.def_script.specs.Program.{Entry, Program}
-use Rattle.def_moves.specs.Directives.{Directive, times, until_idle, everybody}
+use Rattle.def_run.specs.Run.{JOURNAL}
+use Rattle.def_moves.specs.Directives.{Directive, times, until_idle, everybody, picks_of_directives}
 
 -- ---- pieces of a text
 
@@ -85,6 +87,13 @@ IsPieceOf p x everybody = (x.mover ≡ []) × (x.amount ≡ codes "*")
 abbrev pub StandsFor : Program → List ℕ → List Directive → Type 0
 StandsFor p text [] = after_gap text ≡ []
 StandsFor p text (d ∷ ds) = (0 < length (after_gap text)) × IsPieceOf p (first_piece (after_gap text)) d × StandsFor p (after_piece text) ds
+
+-- the picks of a text of moves, which has at most as many bytes as a script may have, in a run of a program
+pub record HasMoves (p : Program) (text picks : List ℕ) : Type 0 where
+  pub directives : List Directive
+  pub short : length text ≤ LENGTH
+  pub stands : StandsFor p text directives
+  pub made : picks ≡ picks_of_directives p JOURNAL directives
 
 -- ---- texts that stand for none
 

@@ -12,7 +12,7 @@
 ghost use Rattle.def_moves.specs.Laws.{DirectivesMove, DirectivesAreBounded, DirectivesGrow, TimesTakesSoMany};
 ghost use Rattle.def_moves.specs.Laws.{UntilIdleTakesOne, UntilIdleStopsThere, EverybodyRests, EverybodyIsARound};
 ghost use Rattle.def_moves.specs.Laws.{ControlTakesEachCommand};
-ghost use Rattle.def_moves.specs.TextLaws.{MovesAreOne, MovesFaultIsAlone, MovesFaultIsOne};
+ghost use Rattle.def_moves.specs.TextLaws.{MovesAreOne, PicksOfMovesAreOne, MovesFaultIsAlone, MovesFaultIsOne};
 
 /// Each pick that directives make moves, they are at most the limit's number, and later directives only add to them.
 pub fn directives_make_moves()
@@ -44,6 +44,7 @@ pub fn everybody_goes_on_until_nothing_moves()
 /// the first of which is at one place.
 pub fn a_text_of_moves_has_one_reading()
     ensures one { MovesAreOne }
+    ensures picks { PicksOfMovesAreOne }
     ensures alone { MovesFaultIsAlone }
     ensures place { MovesFaultIsOne }
 {}
