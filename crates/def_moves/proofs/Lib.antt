@@ -1,3 +1,4 @@
 pub mod Picks
 mod Rests
-mod Texts
+pub mod Texts
+mod Rows

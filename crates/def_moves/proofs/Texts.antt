@@ -4,7 +4,7 @@ use Rattle.std.proofs.lemmas.Fmt.{decimal_injective}
 use Rattle.def_text.specs.Tokens.{gap_len}
 use Rattle.def_script.specs.Program.{Program}
 use Rattle.def_moves.specs.Directives.{Directive, times, until_idle, everybody, picks_of_directives}
-use Rattle.def_moves.specs.Texts.{MovesPiece, IsMover, IsCount, IsPieceOf, StandsFor, HasMoves, IsFaultAfter, after_gap, after_piece, first_piece, piece_len}
+use Rattle.def_moves.specs.Texts.{MovesPiece, IsMover, IsCount, IsPieceOf, StandsFor, IsFaultAfter, after_gap, after_piece, first_piece, piece_len}
 use Rattle.def_moves.specs.TextLaws.{MovesAreOne, PicksOfMovesAreOne, MovesFaultIsAlone, MovesFaultIsOne}
 
 head_of : (x y : ℕ) (xs ys : List ℕ) → x ∷ xs ≡ y ∷ ys → x ≡ y

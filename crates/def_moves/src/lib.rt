@@ -1,12 +1,12 @@
 //! Directives, which say what should run, the picks that they make of a program, and the texts of moves that stand for
 //! them.
 //!
-//! Depends on def_term, def_text, def_script and def_run. Promises, as laws: each pick that directives make moves, and they are at most
-//! the limit's number; so many picks of one are those of them that move; until one is idle there are picks of it
-//! alone, after which it is idle, or the limit is reached; after everybody no pick of a pass moves, or the limit is
-//! reached; everybody alone is a round; the control list until it is idle is one pick 0 for each command; and later
-//! directives change nothing in the picks of those before them. A text of moves stands for one list of directives, or
-//! for none, and then it has one first piece that stands for no directive.
+//! Depends on def_term, def_text, def_script and def_run. Promises, as laws: each pick that directives make moves, and
+//! they are at most the limit's number; so many picks of one are those of them that move; until one is idle there are
+//! picks of it alone, after which it is idle, or the limit is reached; after everybody no pick of a pass moves, or the
+//! limit is reached; everybody alone is a round; the control list until it is idle is one pick 0 for each command; and
+//! later directives change nothing in the picks of those before them. A text of moves stands for one list of
+//! directives, or for none, and then it has one first piece that stands for no directive.
 #![tactic(auto)]
 
 ghost use Rattle.def_moves.specs.Laws.{DirectivesMove, DirectivesAreBounded, DirectivesGrow, TimesTakesSoMany};
