@@ -14,7 +14,7 @@ use Rattle.tn_trace.specs.Runs.{IsRun}
 use Rattle.tn_trace.specs.declared.run.Run.{Run}
 use Rattle.tn_trace.proofs.Passes.{ended}
 use Rattle.tn_moves.specs.Directives.{directive_seen}
-use Rattle.tn_moves.specs.PickLogs.{AddsPick, SeesNothing, IsLogOf, tries_for}
+use Rattle.tn_moves.specs.PickLogs.{AddsPick, SeesNothing, IsPickLog, tries_for}
 use Rattle.tn_moves.specs.declared.directive.Directive.{Directive}
 use Rattle.tn_moves.specs.declared.directive.Directive.TheVariants.{Times, UntilIdle, Everybody}
 use Rattle.tn_moves.specs.declared.picks.Tries.{Tries}
@@ -28,8 +28,8 @@ all_added p picks (pick ∷ more) old new out out' h =
 
 module _ {A : Type 0} (p : Program) (limit : ℕ) where
   -- after more picks the list is the journal again
-  pub logs_more : (before more : List ℕ) (r r' : Run A PickLog) (out out' : Vec ℕ A) → IsLogOf p limit before r out.items → Follows SeesNothing p limit (before ++ more) r'
-      → AddsFrom AddsPick p (take limit (moves p before)) (take limit (moves p (before ++ more))) r.observer r'.observer out out' → IsLogOf p limit (before ++ more) r' out'.items
+  pub logs_more : (before more : List ℕ) (r r' : Run A PickLog) (out out' : Vec ℕ A) → IsPickLog p limit before r out.items → Follows SeesNothing p limit (before ++ more) r'
+      → AddsFrom AddsPick p (take limit (moves p before)) (take limit (moves p (before ++ more))) r.observer r'.observer out out' → IsPickLog p limit (before ++ more) r' out'.items
   logs_more before more r r' out out' was is added = record {
     follows = is;
     logged = all_added p (take limit (moves p before)) added.more r.observer r'.observer out out' added.added
@@ -38,7 +38,7 @@ module _ {A : Type 0} (p : Program) (limit : ℕ) where
 
   -- where none of some picks was added, the run is that of all their times
   pub logged_to_the_end : (turn count : ℕ) (before once : List ℕ) (r r' : Run A PickLog) (picks picks' : List ℕ) → turn ≤ count → length picks' ≡ length picks
-      → IsLogOf p limit (before ++ repeat_picks once turn) r picks → IsLogOf p limit ((before ++ repeat_picks once turn) ++ once) r' picks' → IsLogOf p limit (before ++ repeat_picks once count) r' picks'
+      → IsPickLog p limit (before ++ repeat_picks once turn) r picks → IsPickLog p limit ((before ++ repeat_picks once turn) ++ once) r' picks' → IsPickLog p limit (before ++ repeat_picks once count) r' picks'
   logged_to_the_end turn count before once r r' picks picks' below same was is = record {
     follows = ended SeesNothing p limit turn count before once r r' below (sym (ap length is.logged) ∙ same ∙ ap length was.logged) was.follows is.follows;
     logged = is.logged;
@@ -56,15 +56,15 @@ tried_more most ds d = ap (λ l. tries most ds ++ l) (sym (append-nil (tries_of_
 
 -- the same of the code's directives
 pub one_more_directive : {A : Type 0} (p : Program) (most : ℕ) (ds : List Directive) (i : ℕ) (d : Directive) (t : Tries) (r : Run A PickLog) (picks : List ℕ) → i < length ds → t.most ≡ most + 1 → t.pass.now ≡ pass
-    → IsLogOf p most (tries most (map directive_seen (take i ds)) ++ tries_for (get_or ds i d) t) r picks → IsLogOf p most (tries most (map directive_seen (take (i + 1) ds))) r picks
+    → IsPickLog p most (tries most (map directive_seen (take i ds)) ++ tries_for (get_or ds i d) t) r picks → IsPickLog p most (tries most (map directive_seen (take (i + 1) ds))) r picks
 one_more_directive p most ds i d t r picks below m q log =
     let here : Directive = get_or ds i d in
     let before : List definition.Directive = map directive_seen (take i ds) in
     let grown : map directive_seen (take (i + 1) ds) ≡ before ++ directive_seen here ∷ [] = ap (map directive_seen) (take_more ds i d below) ∙ map-append directive_seen (take i ds) (here ∷ []) in
     let tried : tries most before ++ tries_for here t ≡ tries most (map directive_seen (take (i + 1) ds)) =
     ap (λ l. tries most before ++ l) (tries_are most t here m q) ∙ tried_more most before (directive_seen here) ∙ ap (tries most) (sym grown) in
-    subst (λ l. IsLogOf p most l r picks) tried log
+    subst (λ l. IsPickLog p most l r picks) tried log
 
 -- the list of all directives is that of their picks
-pub all_logged : {A : Type 0} (p : Program) (limit : ℕ) (ds : List definition.Directive) (r : Run A PickLog) (picks : List ℕ) → IsLogOf p (min limit 65536) (tries (min limit 65536) ds) r picks → picks ≡ picks_of_directives p limit ds
+pub all_logged : {A : Type 0} (p : Program) (limit : ℕ) (ds : List definition.Directive) (r : Run A PickLog) (picks : List ℕ) → IsPickLog p (min limit 65536) (tries (min limit 65536) ds) r picks → picks ≡ picks_of_directives p limit ds
 all_logged p limit ds r picks h = h.logged ∙ h.follows.journaled ∙ sym (in_order p limit ds)

@@ -22,14 +22,14 @@ abbrev pub SeesNothing : PickLog → Program → List ℕ → Type 0
 SeesNothing log p picks = Unit {0}
 
 -- the run is that of the first of these picks that move, at most the limit's number of them, and the list is its journal
-pub record IsLogOf {A : Type 0} (p : Program) (limit : ℕ) (tried : List ℕ) (r : Run A PickLog) (picks : List ℕ) : Type 0 where
+pub record IsPickLog {A : Type 0} (p : Program) (limit : ℕ) (tried : List ℕ) (r : Run A PickLog) (picks : List ℕ) : Type 0 where
   pub follows : Follows SeesNothing p limit tried r
   pub logged : picks ≡ r.journal.items
 
 -- whatever picks were tried before, more were tried
 abbrev pub LogsMore : {A : Type 0} → code.Program A → List ℕ → Run A PickLog → Run A PickLog → List ℕ → List ℕ → Result (Unit {0}) AllocError → Type 0
 LogsMore program more old new picks picks' result =
-    (limit : ℕ) (before : List ℕ) → IsLogOf (program_of program) limit before old picks → OnOk result (IsLogOf (program_of program) limit (before ++ more) new picks')
+    (limit : ℕ) (before : List ℕ) → IsPickLog (program_of program) limit before old picks → OnOk result (IsPickLog (program_of program) limit (before ++ more) new picks')
 
 -- which picks are tried for a directive
 abbrev pub tries_for : Directive → Tries → List ℕ

@@ -1,20 +1,17 @@
 // A run by moves that is explained.
 ghost use Rattle.std.specs.Prelude.{◌≡◌, IfOk};
 ghost use Rattle.tn_program.specs.Views.{program_of};
-ghost use Rattle.tn_run.specs.Jobs.{Meets};
 ghost use Rattle.tn_explain.specs.Accounts.{is_account};
 ghost use Rattle.tn_explain.specs.Filters.{filter_seen};
-ghost use Rattle.tn_moves.specs.Jobs.{IsAccountByMoves, IsExplainedBy, explain_by_moves};
+ghost use Rattle.tn_moves.specs.Jobs.{IsAccountByMoves, IsExplainedBy};
 
 use crate::moves::{Moves, picks_of_moves};
 use crate::text::{MovesFault, MovesRefusal};
 use std::alloc::{AllocError, Allocator};
-use std::io::{Read, Write};
 use tn_explain::{ExplainOutcome, Filter, account_of};
 use tn_listing::PicksFault;
 use tn_program::Program;
-use tn_run::{DirectJob, Job, Refusal, RunFault, transact};
-use tn_text::Watched;
+use tn_run::{DirectJob, Job, Refusal, RunFault};
 
 /// What is asked of a run by moves.
 #[derive(Clone, Copy)]
@@ -121,18 +118,4 @@ impl<A: Allocator + Copy> DirectJob<A> for ExplainByMoves<'_> {
             Err(_) => Err(RunFault::OutOfMemory),
         }
     }
-}
-
-/// Explains the run by the moves of the script that the reader holds: writes what each of its moves showed and what
-/// each session made of it, or the line of the refusal, or nothing where the session or the move that is asked for
-/// isn't there, as `tn_run::transact` says.
-pub fn explain_by_moves<A: Allocator + Copy, R: Read, W: Write>(
-    alloc: A,
-    reader: &mut Watched<R>,
-    writer: &mut Watched<W>,
-    job: &ExplainByMoves<'_>,
-) -> Result<MovesAccount, RunFault>
-    ensures { Meets (explain_by_moves job.now) R.remaining reader.old reader.new W.contents writer.old writer.new result }
-{
-    transact(alloc, job, reader, writer)
 }

@@ -33,7 +33,8 @@ fn take_times<A: Allocator + Copy>(
     run: &mut Run<A, PickLog>,
     picks: &mut Vec<u32, A>,
 ) -> Result<(), AllocError>
-    ensures { LogsMore program.now (repeat_picks once.now count) run.old run.new picks.old.items picks.new.items result }
+    ensures { LogsMore program.now (repeat_picks once.now count)
+        run.old run.new picks.old.items picks.new.items result }
 {
     for turn in 0..count {
         let before = picks.len();

@@ -1,18 +1,15 @@
 // A run by moves, with the note of what a running node does otherwise where it is wanted.
-ghost use Rattle.std.specs.Prelude.{◌≡◌, IfOk};
+ghost use Rattle.std.specs.Prelude.{IfOk};
 ghost use Rattle.tn_program.specs.Views.{program_of};
-ghost use Rattle.tn_run.specs.Jobs.{Meets};
-ghost use Rattle.tn_moves.specs.Jobs.{IsListedBy, IsNoteWanted, IsRunByMoves, run_by_moves};
+ghost use Rattle.tn_moves.specs.Jobs.{IsListedBy, IsNoteWanted, IsRunByMoves};
 
 use crate::moves::{Moves, picks_of_moves};
 use crate::text::{MovesFault, MovesRefusal};
 use std::alloc::{AllocError, Allocator};
-use std::io::{Read, Write};
 use tn_explain::{NodeNote, node_note};
 use tn_listing::{PicksFault, replay};
 use tn_program::Program;
-use tn_run::{DirectJob, Job, Refusal, RunFault, transact};
-use tn_text::Watched;
+use tn_run::{DirectJob, Job, Refusal, RunFault};
 
 /// A run by moves.
 #[derive(Clone, Copy)]
@@ -122,17 +119,4 @@ impl<A: Allocator + Copy> DirectJob<A> for RunByMoves<'_> {
             Err(_) => Err(RunFault::OutOfMemory),
         }
     }
-}
-
-/// Runs the script that the reader holds by the moves, and writes the output, or the line of the refusal, as
-/// `tn_run::transact` says.
-pub fn run_by_moves<A: Allocator + Copy, R: Read, W: Write>(
-    alloc: A,
-    reader: &mut Watched<R>,
-    writer: &mut Watched<W>,
-    job: &RunByMoves<'_>,
-) -> Result<MovesEnd, RunFault>
-    ensures { Meets (run_by_moves job.now) R.remaining reader.old reader.new W.contents writer.old writer.new result }
-{
-    transact(alloc, job, reader, writer)
 }

@@ -3,7 +3,7 @@ use Rattle.std.proofs.lemmas.List.{take_all}
 use Rattle.def_moves.proofs.Picks.{tries}
 use Rattle.tn_program.specs.Views.{program_of}
 use Rattle.tn_moves.specs.Directives.{directive_seen}
-use Rattle.tn_moves.specs.PickLogs.{IsLogOf}
+use Rattle.tn_moves.specs.PickLogs.{IsPickLog}
 use Rattle.tn_moves.proofs.PickLogs.{one_more_directive, all_logged}
 use Rattle.tn_moves.proofs.picks.picks_of_directives.Goals as goal
 
@@ -22,4 +22,4 @@ returns g c =
     let ds = c.args.directives.now in
     let past = c.loop-directive-test.false in
     all_logged p c.args.limit (map directive_seen ds) l.run l.picks.items
-    (subst (λ xs. IsLogOf p most (tries most (map directive_seen xs)) l.run l.picks.items) (take_all l.directive-index ds (omega arith)) l.invariant)
+    (subst (λ xs. IsPickLog p most (tries most (map directive_seen xs)) l.run l.picks.items) (take_all l.directive-index ds (omega arith)) l.invariant)

@@ -2,12 +2,12 @@ use Rattle.std.proofs.Common.{◌≡◌, ◌++◌, length, sym, subst, append-ni
 use Rattle.def_run.specs.Laws.{repeat_picks}
 use Rattle.tn_program.specs.Views.{program_of}
 use Rattle.tn_trace.proofs.Passes.{passes_more}
-use Rattle.tn_moves.specs.PickLogs.{IsLogOf}
+use Rattle.tn_moves.specs.PickLogs.{IsPickLog}
 use Rattle.tn_moves.proofs.PickLogs.{logs_more, logged_to_the_end}
 use Rattle.tn_moves.proofs.picks.take_times.Goals as goal
 
 pub loop-turn-init : goal.loop-turn-init
-loop-turn-init g c = λ limit before log. subst (λ xs. IsLogOf (program_of c.args.program.now) limit xs c.args.run.now c.args.picks.now.items) (sym (append-nil before)) log
+loop-turn-init g c = λ limit before log. subst (λ xs. IsPickLog (program_of c.args.program.now) limit xs c.args.run.now c.args.picks.now.items) (sym (append-nil before)) log
 
 pub loop-turn-preserved : goal.loop-turn-preserved
 loop-turn-preserved g c = λ limit before log.
@@ -18,7 +18,7 @@ loop-turn-preserved g c = λ limit before log.
     let was = l.invariant limit before log in
     let new = c.take_all.new.self in
     let out = c.take_all.new.out in
-    subst (λ xs. IsLogOf p limit xs new out.items) (passes_more before once l.turn)
+    subst (λ xs. IsPickLog p limit xs new out.items) (passes_more before once l.turn)
     (logs_more p limit reached once l.run new l.picks out was (c.in_ok-take_all.ensures.follows limit reached was.follows) (c.in_ok-take_all.ensures.adds limit reached was.follows))
 
 pub returns : goal.returns
@@ -27,7 +27,7 @@ returns g c = λ limit before log.
     let past = c.loop-turn-test.false in
     let within = l.auto.turn-end in
     let all : l.turn ≡ c.args.count = omega arith in
-    subst (λ k. IsLogOf (program_of c.args.program.now) limit (before ++ repeat_picks c.args.once.now k) l.run l.picks.items) all (l.invariant limit before log)
+    subst (λ k. IsPickLog (program_of c.args.program.now) limit (before ++ repeat_picks c.args.once.now k) l.run l.picks.items) all (l.invariant limit before log)
 
 pub returns-then-after-before : goal.returns-then-after-before
 returns-then-after-before g c = λ limit before log.
