@@ -18,23 +18,30 @@ _tracenode() {
         esac
     else
         case $before in
-            --picks | --limit | --n | --turns | --spread | --session | --move | --list | --me | --caller) return ;;
+            --picks | --moves | --limit | --n | --turns | --spread | --session | --move | --list | --me | --caller) return ;;
             --expect-line | --reject-line) return ;;
             --for)
                 COMPREPLY=($(compgen -W 'call send receive' -- "$word"))
                 return
                 ;;
-            --picks-file | --expect | --install)
+            --control)
+                COMPREPLY=($(compgen -W 'first' -- "$word"))
+                return
+                ;;
+            --picks-file | --moves-file | --expect | --install)
                 _tracenode_files "$word"
                 return
                 ;;
         esac
         case $command in
-            replay) words='--picks --picks-file --quiet --expect --expect-line --reject-line -h --help' ;;
-            round) words='--limit --quiet --expect --expect-line --reject-line -h --help' ;;
+            replay)
+                words='--picks --picks-file --moves --moves-file --quiet --expect --expect-line --reject-line -h --help'
+                ;;
+            round) words='--limit --control --quiet --expect --expect-line --reject-line -h --help' ;;
             workers) words='--n --turns --spread --quiet --expect --expect-line --reject-line -h --help' ;;
             explain)
-                words='--picks --picks-file --session --move --node --expect --expect-line --reject-line -h --help'
+                words='--picks --picks-file --moves --moves-file --round --limit --control --session --move --node'
+                words+=' --expect --expect-line --reject-line -h --help'
                 ;;
             spec) words='--list --for --me --caller -h --help' ;;
             help) words='replay round workers explain spec' ;;

@@ -37,6 +37,9 @@ exit 7
             ["replay", "--picks", "0", "--quiet"],
             ["round", "--quiet"],
             ["round", "--expect-line", "x"],
+            ["round", "--control", "first"],
+            ["replay", "--moves", "0! *"],
+            ["explain", "--round", "--limit", "5"],
         ),
     }
     with tempfile.TemporaryDirectory() as folder:
@@ -171,12 +174,12 @@ def command_lines():
     for text in ("-1", "--help", "0 00", "0  0", " 0", "4294967296", "x"):
         wants(f"picks {text!r}", run(["replay", "--picks", text], SEND_HI), 2, bad_picks)
     wants("the greatest pick", run(["replay", "--picks", "4294967295"]), 0, EMPTY)
-    either = b"<--picks <TEXT>|--picks-file <FILE>>"
-    for command in ("replay", "explain"):
+    texts = b"<--picks <TEXT>|--picks-file <FILE>|--moves <TEXT>|--moves-file <FILE>"
+    for command, either in (("replay", texts + b">"), ("explain", texts + b"|--round>")):
         ran = run([command])
         usage = f"Usage: tracenode {command} ".encode() + either + b" [SCRIPT]\n"
-        check(f"{command} without picks names both options of picks", usage in ran.stderr, ran)
-        check(f"the help of {command} names both options of picks", either in run([command, "--help"]).stdout)
+        check(f"{command} without picks names all sources of picks", usage in ran.stderr, ran)
+        check(f"the help of {command} names all sources of picks", either in run([command, "--help"]).stdout)
     spellings_of_processes()
     spellings_of_sessions()
     quiet_runs()

@@ -21,6 +21,7 @@ import document_cases
 import explanation_cases
 import failure_cases
 import harness
+import moves_cases
 import run_cases
 import specification_cases
 import text_cases
@@ -36,6 +37,7 @@ SUBJECTS = {
         run_cases.passes,
         run_cases.limits,
     ),
+    "moves": (moves_cases.rounds, moves_cases.moves, moves_cases.bad_moves),
     "text": (
         text_cases.refusals,
         text_cases.long_texts,

@@ -1,4 +1,5 @@
 mod SameJobs
+mod SameMoves
 mod SamePicks
 mod SameSpecTests
 mod SameWords

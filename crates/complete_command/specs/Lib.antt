@@ -1,3 +1,4 @@
 pub mod Jobs
+pub mod Moves
 pub mod SpecTests
 pub mod Words

@@ -1,14 +1,16 @@
-//! The contracts of tn_command are complete. Each function calls one of theirs twice on equal values. It knows no
-//! more than the contract, so its proof shows that the contract leaves one answer.
+//! The contracts of tn_command and tn_moves are complete. Each function calls one of theirs twice on equal values. It
+//! knows no more than the contract, so its proof shows that the contract leaves one answer.
 //!
-//! Depends on tn_command, and on complete_code, complete_workers and complete_explain for why a question, a run
-//! and an explanation have one answer. That a job has one is a premise of `jobs::perform_over`; `jobs::run`,
-//! `jobs::run_and_note` and `jobs::explain` show it of the jobs that a command does. Promises nothing to other crates.
+//! Depends on tn_command and tn_moves, and on complete_code, complete_workers and complete_explain for why a question,
+//! a run and an explanation have one answer. That a job has one is a premise of `jobs::perform_over`; `jobs::run`,
+//! `jobs::run_and_note`, `jobs::explain`, `jobs::run_by_moves` and `jobs::explain_by_moves` show it of the jobs that a
+//! command does. Promises nothing to other crates.
 #![tactic(auto)]
 
 mod expectation;
 mod jobs;
 mod last_error;
+mod moves;
 mod number;
 mod picks;
 mod source;

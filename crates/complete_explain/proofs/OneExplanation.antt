@@ -41,7 +41,7 @@ node_asks a h = ap (λ b. b || is_some a.move) h
 not_both_ways : (b : Bool) → b ≡ false → b ≡ true → ⊥
 not_both_ways b h i = cc (sym h ∙ i)
 
-one_answer : (p : Program) (picks : List ℕ) (a : Filter) (o u : ExplainOutcome) (x y : List ℕ) → IsAnswer p picks a o x → IsAnswer p picks a u y → (o ≡ u) × (x ≡ y)
+pub one_answer : (p : Program) (picks : List ℕ) (a : Filter) (o u : ExplainOutcome) (x y : List ℕ) → IsAnswer p picks a o x → IsAnswer p picks a u y → (o ≡ u) × (x ≡ y)
 one_answer p picks a Account Account x y h i = (refl, h.2 ∙ sym i.2)
 one_answer p picks a Account NoSession x y h i = absurd (no_session a.session p h.0 i.0)
 one_answer p picks a Account NoMove x y h i = absurd (no_line (asks_for_moves a) x (account_text a p picks) (number_asks a i.2) h.2 h.1 i.3)

@@ -1,8 +1,8 @@
 // The account of a run.
-ghost use Rattle.std.specs.Prelude.{◌≡◌, OnOk, OnErr};
+ghost use Rattle.std.specs.Prelude.{◌≡◌, IfOk, OnOk, OnErr};
 
 use std::alloc::{AllocError, Allocator};
-use tn_explain::{Filter, put_account};
+use tn_explain::{ExplainOutcome, Filter, account_of, put_account};
 use tn_program::Program;
 
 /// What is explained: a program's run by these picks, and what is asked of it.
@@ -11,6 +11,22 @@ pub struct ExplainedProgram<'a, A: Allocator> {
     pub program: &'a Program<A>,
     pub picks: &'a [u32],
     pub filter: Filter<'a>,
+}
+
+/// `tn_explain::account_of` has one outcome and one text.
+pub fn outcome<A: Allocator + Copy>(
+    alloc: A,
+    of: ExplainedProgram<'_, A>,
+) -> (
+    Result<(ExplainOutcome, Vec<u8, A>), AllocError>,
+    Result<(ExplainOutcome, Vec<u8, A>), AllocError>,
+)
+    ensures { IfOk result.0 (λ x. IfOk result.1 (λ y. (x.0 ≡ y.0) × (x.1.items ≡ y.1.items))) }
+{
+    (
+        account_of(alloc, of.program, of.picks, &of.filter),
+        account_of(alloc, of.program, of.picks, &of.filter),
+    )
 }
 
 /// `tn_explain::put_account` leaves one text, and after a refusal the text that was there.

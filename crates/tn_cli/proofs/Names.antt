@@ -8,7 +8,7 @@ use Rattle.clap.specs.declared.builder.command.Command.{Command}
 use Rattle.clap.specs.Facts.{args_of, groups_of, subcommands_of}
 use Rattle.clap.specs.Built.{AddsArg, AddsGroup, AddsSubcommand, subcommand_names}
 use Rattle.clap.specs.Simple.{Shape, shape_of}
-use Rattle.tn_cli.specs.Line.{EXPECTATION, IsCommand, IsOneOf, IsWithExpectation, PICKS, WantsPicks}
+use Rattle.tn_cli.specs.Line.{EXPECTATION, IsCommand, IsOneOf, IsWithExpectation, NeedsRound, WantsBy, WantsOneOf}
 
 pub one_more : (name : List ℕ) (arguments : List (List ℕ)) (word : List ℕ) (old new : Command) (a : Arg)
     → IsCommand name arguments old → a.id.now ≡ word → AddsArg old a new → IsCommand name (arguments ++ word ∷ []) new
@@ -33,13 +33,17 @@ one_group name arguments old new g is added = record {
   takes = ap (λ f. map (λ a. a.id.now) f.args.items) added.0 ∙ is.takes;
 }
 
--- where it is the only one, and is that of the picks, the command wants its picks by it
-pub wants_picks : (old new : Command) (g : ArgGroup) → groups_of old ≡ [] → IsOneOf PICKS g → AddsGroup old g new → WantsPicks new
-wants_picks old new g none one added = (g, added.1 ∙ ap (λ gs. gs ++ g ∷ []) none, one)
+-- where it is the only one, it is the command's only rule
+pub wants_it : (old new : Command) (g : ArgGroup) → groups_of old ≡ [] → AddsGroup old g new → WantsBy g new
+wants_it old new g none added = added.1 ∙ ap (λ gs. gs ++ g ∷ []) none
 
--- so it does with an argument more
-pub still_wants : (old new : Command) (a : Arg) → WantsPicks old → AddsArg old a new → WantsPicks new
-still_wants old new a wants added = (wants.0, added.groups ∙ wants.1, wants.2)
+-- so it is with an argument more
+pub still_wants : (g : ArgGroup) (old new : Command) (a : Arg) → WantsBy g old → AddsArg old a new → WantsBy g new
+still_wants g old new a wants added = added.groups ∙ wants
+
+-- an argument that is given with `--round` alone has the same name
+pub same_name : (word : List ℕ) (old new : Arg) → old.id.now ≡ word → NeedsRound old new → new.id.now ≡ word
+same_name word old new is needs = ap (λ (a : Arg). a.id.now) needs.2.0 ∙ is
 
 -- three arguments, one after the other
 three_after : (xs : List (List ℕ)) (a b d : List ℕ) → ((xs ++ a ∷ []) ++ b ∷ []) ++ d ∷ [] ≡ xs ++ a ∷ b ∷ d ∷ []
@@ -55,7 +59,7 @@ expectation_more old second third new a b d is_a is_b is_d with_a with_b with_d 
       let two = one_more name _ (codes "expect-line") second third b one is_b with_b in
       let three = one_more name _ (codes "reject-line") third new d two is_d with_d in
       subst (λ l. IsCommand name l new) (three_after arguments (codes "expect") (codes "expect-line") (codes "reject-line")) three;
-  wants_so = λ wants. still_wants third new d (still_wants second third b (still_wants old second a wants with_a) with_b) with_d;
+  wants_so = λ g wants. still_wants g third new d (still_wants g second third b (still_wants g old second a wants with_a) with_b) with_d;
 }
 
 -- a command with these after its own arguments, where there was memory for that

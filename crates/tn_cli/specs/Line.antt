@@ -6,6 +6,9 @@ use Rattle.clap.specs.declared.builder.action.ArgAction.TheVariants.{Set, SetTru
 use Rattle.clap.specs.declared.builder.value_parser.ValueParser.TheVariants.{Signed}
 use Rattle.clap.specs.declared.builder.command.Command.{Command}
 use Rattle.clap.specs.declared.builder.command.Command.TheViews.{out-Command}
+use Rattle.std.specs.Borrow.{Bor}
+use Rattle.clap.specs.declared.builder.arg.ArgPredicate.TheVariants.{IsPresent}
+use Rattle.clap.specs.Adds.{AddsRequirements}
 use Rattle.clap.specs.Facts.{args_of, groups_of}
 use Rattle.clap.specs.Walk.{rule_of}
 
@@ -44,17 +47,29 @@ pub record IsOneOf (arguments : List (List ℕ)) (g : ArgGroup) : Type 0 where
   pub alone : g.multiple ≡ false
   pub members : map (λ a. a.now) g.args.items ≡ arguments
 
--- the arguments that give the picks
+-- the arguments that give the picks or the moves
 abbrev pub PICKS : List (List ℕ)
-PICKS = codes "picks" ∷ codes "picks-file" ∷ []
+PICKS = codes "picks" ∷ codes "picks-file" ∷ codes "moves" ∷ codes "moves-file" ∷ []
 
--- the command wants its picks by one argument, and has no other such rule
-abbrev pub WantsPicks : Command → Type 0
-WantsPicks c = (g : ArgGroup) × (groups_of c ≡ g ∷ []) × IsOneOf PICKS g
+-- the same, or that there are none since the run is a round
+abbrev pub PICKS_OR_ROUND : List (List ℕ)
+PICKS_OR_ROUND = codes "picks" ∷ codes "picks-file" ∷ codes "moves" ∷ codes "moves-file" ∷ codes "round" ∷ []
+
+-- the command has this rule on which arguments are given, and no other
+abbrev pub WantsBy : ArgGroup → Command → Type 0
+WantsBy g c = groups_of c ≡ g ∷ []
+
+-- the command wants one of these arguments, and has no other such rule
+abbrev pub WantsOneOf : List (List ℕ) → Command → Type 0
+WantsOneOf arguments c = (g : ArgGroup) × WantsBy g c × IsOneOf arguments g
+
+-- the argument is the same, and is given with `--round` alone
+abbrev pub NeedsRound : Arg → Arg → Type 0
+NeedsRound old new = (w : Bor (List ℕ)) × (w.now ≡ codes "round") × AddsRequirements old new ((IsPresent, w) ∷ [])
 
 -- the arguments of each command that runs a script by picks
 abbrev pub BY_PICKS : List (List ℕ)
-BY_PICKS = codes "script" ∷ codes "picks" ∷ codes "picks-file" ∷ []
+BY_PICKS = codes "script" ∷ codes "picks" ∷ codes "picks-file" ∷ codes "moves" ∷ codes "moves-file" ∷ []
 
 -- the arguments that say what the output must be
 abbrev pub EXPECTATION : List (List ℕ)
@@ -63,19 +78,21 @@ EXPECTATION = codes "expect" ∷ codes "expect-line" ∷ codes "reject-line" ∷
 -- the command has these arguments after its own, and wants its picks as it did
 pub record IsWithExpectation (old new : Command) : Type 0 where
   pub takes_more : (name : List ℕ) (arguments : List (List ℕ)) → IsCommand name arguments old → IsCommand name (arguments ++ EXPECTATION) new
-  pub wants_so : WantsPicks old → WantsPicks new
+  pub wants_so : (g : ArgGroup) → WantsBy g old → WantsBy g new
 
 -- the arguments of `replay`
 abbrev pub REPLAY : List (List ℕ)
-REPLAY = codes "script" ∷ codes "picks" ∷ codes "picks-file" ∷ codes "quiet" ∷ EXPECTATION
+REPLAY = codes "script" ∷ codes "picks" ∷ codes "picks-file" ∷ codes "moves" ∷ codes "moves-file" ∷ codes "quiet" ∷ EXPECTATION
 
 -- the arguments of `explain`
 abbrev pub EXPLAIN : List (List ℕ)
-EXPLAIN = codes "script" ∷ codes "picks" ∷ codes "picks-file" ∷ codes "session" ∷ codes "move" ∷ codes "node" ∷ EXPECTATION
+EXPLAIN =
+    codes "script" ∷ codes "picks" ∷ codes "picks-file" ∷ codes "moves" ∷ codes "moves-file" ∷ codes "round" ∷ codes "limit" ∷ codes "control"
+    ∷ codes "session" ∷ codes "move" ∷ codes "node" ∷ EXPECTATION
 
 -- the arguments of `round`
 abbrev pub ROUND : List (List ℕ)
-ROUND = codes "script" ∷ codes "limit" ∷ codes "quiet" ∷ EXPECTATION
+ROUND = codes "script" ∷ codes "limit" ∷ codes "control" ∷ codes "quiet" ∷ EXPECTATION
 
 -- the arguments of `workers`
 abbrev pub WORKERS : List (List ℕ)

@@ -1,6 +1,6 @@
 -- What the words of the command line ask for (own).
 -- Depends on what `clap` found in the words: the text that each option and each word without a name has.
-use Rattle.std.specs.Prelude.{◌≡◌, ◌≢◌, ◌≤◌, ◌-◌, ◌==◌, ◌&&◌, ◌++◌, ℕ, Bool, false, not, List, [], Option, Some, None, Result, Ok}
+use Rattle.std.specs.Prelude.{◌≡◌, ◌≢◌, ◌≤◌, ◌-◌, ◌==◌, ◌&&◌, ◌++◌, ℕ, Bool, true, false, not, List, [], Option, Some, None, Result, Ok}
 use Rattle.std.specs.Prelude.{MatchResult, IsSomeAnd, ◌⊎◌, option_map, unwrap_or, if◌then◌else◌, take, drop, length, codes}
 use Rattle.std.specs.List.{list_all}
 use Rattle.std.specs.Option.{option_map_or}
@@ -16,7 +16,9 @@ use Rattle.tn_command.specs.Numbers.{IsPlainNumber}
 use Rattle.tn_spec.specs.declared.func.Dialect.{Dialect}
 use Rattle.tn_spec.specs.declared.func.Dialect.TheVariants.{Call, Send, Recv}
 use Rattle.tn_cli.specs.declared.request.PicksSource.{PicksSource}
-use Rattle.tn_cli.specs.declared.request.PicksSource.TheVariants.{Text, In}
+use Rattle.tn_cli.specs.declared.request.PicksSource.TheVariants.{Text, In, Moves, MovesIn}
+use Rattle.tn_cli.specs.declared.request.RunSource.{RunSource}
+use Rattle.tn_cli.specs.declared.request.RunSource.TheVariants.{ByPicks, ByRound}
 use Rattle.tn_cli.specs.declared.request.ExpectationArgs.{ExpectationArgs}
 use Rattle.tn_cli.specs.declared.request.SpecTestArgs.{SpecTestArgs}
 use Rattle.tn_cli.specs.declared.request.Request.{Request}
@@ -101,10 +103,27 @@ dialect_named event =
     else if bytes_eq event (codes "receive") then Recv
     else Call
 
--- the picks are in the file that `--picks-file` names, else they are the text of `--picks`
+-- the picks are in the file that `--picks-file` names, else the moves are in that of `--moves-file` or the text of
+-- `--moves`, else the picks are the text of `--picks`
 abbrev pub ArePicksOf : ArgMatches → PicksSource → Type 0
 ArePicksOf m (In source) = IsSomeAnd (argument m (codes "picks-file")) (λ path. IsSourceNamed (Some path) source)
-ArePicksOf m (Text text) = (argument m (codes "picks-file") ≡ None) × (text.now ≡ unwrap_or (argument m (codes "picks")) [])
+ArePicksOf m (MovesIn source) =
+    (argument m (codes "picks-file") ≡ None) × IsSomeAnd (argument m (codes "moves-file")) (λ path. IsSourceNamed (Some path) source)
+ArePicksOf m (Moves text) =
+    (argument m (codes "picks-file") ≡ None) × (argument m (codes "moves-file") ≡ None) × (argument m (codes "moves") ≡ Some text.now)
+ArePicksOf m (Text text) =
+    (argument m (codes "picks-file") ≡ None) × (argument m (codes "moves-file") ≡ None) × (argument m (codes "moves") ≡ None)
+    × (text.now ≡ unwrap_or (argument m (codes "picks")) [])
+
+-- all commands of the control list are taken before the rounds
+abbrev pub takes_control_first : ArgMatches → Bool
+takes_control_first m = option_map_or (λ text. bytes_eq text (codes "first")) (argument m (codes "control")) false
+
+-- the run is the round of `--limit` and `--control` where `--round` is given, else that by the picks
+abbrev pub IsRunOf : ArgMatches → RunSource → Type 0
+IsRunOf m (ByPicks picks) = (is_given m (codes "round") ≡ false) × ArePicksOf m picks
+IsRunOf m (ByRound limit control_first) =
+    (is_given m (codes "round") ≡ true) × IsGiven 1 65536 (argument m (codes "limit")) limit × (control_first ≡ takes_control_first m)
 
 -- ---- commands
 
@@ -134,8 +153,8 @@ IsExpectationOf m e =
 -- what the output of a request must be: anything, of a trial
 abbrev pub request_expectation : Request → ExpectationArgs
 request_expectation (Replay script picks quiet e) = e
-request_expectation (Explain script picks filter e) = e
-request_expectation (Round script limit quiet e) = e
+request_expectation (Explain script run filter e) = e
+request_expectation (Round script limit control_first quiet e) = e
 request_expectation (Workers script count turns spread quiet e) = e
 request_expectation (Spec trial) = record { file = None; line = None; no_line = None }
 
@@ -144,12 +163,12 @@ abbrev pub Asks : List ℕ → ArgMatches → Request → Type 0
 Asks name m (Replay script picks quiet expectation) =
     (name ≡ codes "replay") × IsSourceNamed (argument m (codes "script")) script × ArePicksOf m picks
     × (quiet ≡ is_given m (codes "quiet")) × IsExpectationOf m expectation
-Asks name m (Explain script picks filter expectation) =
-    (name ≡ codes "explain") × IsSourceNamed (argument m (codes "script")) script × ArePicksOf m picks × IsAskedOf m filter
+Asks name m (Explain script run filter expectation) =
+    (name ≡ codes "explain") × IsSourceNamed (argument m (codes "script")) script × IsRunOf m run × IsAskedOf m filter
     × IsExpectationOf m expectation
-Asks name m (Round script limit quiet expectation) =
+Asks name m (Round script limit control_first quiet expectation) =
     (name ≡ codes "round") × IsSourceNamed (argument m (codes "script")) script × IsGiven 1 65536 (argument m (codes "limit")) limit
-    × (quiet ≡ is_given m (codes "quiet")) × IsExpectationOf m expectation
+    × (control_first ≡ takes_control_first m) × (quiet ≡ is_given m (codes "quiet")) × IsExpectationOf m expectation
 Asks name m (Workers script count turns spread quiet expectation) =
     (name ≡ codes "workers") × IsSourceNamed (argument m (codes "script")) script
     × IsGiven 1 16 (argument m (codes "n")) count × IsGiven 1 65536 (argument m (codes "turns")) turns
@@ -157,10 +176,15 @@ Asks name m (Workers script count turns spread quiet expectation) =
     × (quiet ≡ is_given m (codes "quiet")) × IsExpectationOf m expectation
 Asks name m (Spec trial) = (name ≡ codes "spec") × IsTrialOf m trial
 
+-- the run is a round, whose limit is no number or is out of its bounds
+abbrev pub LacksLimit : ArgMatches → Type 0
+LacksLimit m = (is_given m (codes "round") ≡ true) × (¬ (IsBetween 1 65536 (argument m (codes "limit"))))
+
 -- a number that the subcommand of this name was given isn't one, or is out of its bounds; for `spec` also no pid
 abbrev pub LacksNumber : List ℕ → ArgMatches → Type 0
 LacksNumber name m =
     ((name ≡ codes "explain") × IsSomeAnd (argument m (codes "move")) (λ text. ¬ (IsPlainNumber text)))
+    ⊎ ((name ≡ codes "explain") × LacksLimit m)
     ⊎ ((name ≡ codes "round") × (¬ (IsBetween 1 65536 (argument m (codes "limit")))))
     ⊎ ((name ≡ codes "workers") × (¬ (IsBetween 1 16 (argument m (codes "n")) × IsBetween 1 65536 (argument m (codes "turns")))))
     ⊎ ((name ≡ codes "workers") × IsSomeAnd (argument m (codes "spread")) (λ text. ¬ (IsPlainNumber text)))

@@ -1,9 +1,10 @@
 // What the command line may say.
 ghost use Rattle.std.specs.Prelude.{◌≡◌, codes, true, IfOk, IsOkAnd};
 ghost use Rattle.clap.specs.Built.{AddsSubcommand, subcommand_names};
-ghost use Rattle.tn_cli.specs.Line.{IsOption, IsFlag, IsWord, IsElse, IsFromTo, IsOneOf};
-ghost use Rattle.tn_cli.specs.Line.{IsCommand, IsWithExpectation, WantsPicks};
-ghost use Rattle.tn_cli.specs.Line.{PICKS, BY_PICKS, REPLAY, EXPLAIN, ROUND, WORKERS, TRIAL, COMMAND_NAMES};
+ghost use Rattle.tn_cli.specs.Line.{IsOption, IsFlag, IsWord, IsElse, IsFromTo, IsOneOf, NeedsRound};
+ghost use Rattle.tn_cli.specs.Line.{IsCommand, IsWithExpectation, WantsBy, WantsOneOf};
+ghost use Rattle.tn_cli.specs.Line.{PICKS, PICKS_OR_ROUND, BY_PICKS, COMMAND_NAMES};
+ghost use Rattle.tn_cli.specs.Line.{REPLAY, EXPLAIN, ROUND, WORKERS, TRIAL};
 
 use clap::{Arg, ArgAction, ArgGroup, Command, value_parser};
 use std::alloc::{AllocError, Global};
@@ -58,28 +59,73 @@ fn picks_file<'a>(alloc: Global) -> Arg<'a>
         .action(ArgAction::Set)
 }
 
-/// Just one of `--picks` and `--picks-file` must be given; the usage names both.
+/// `--moves TEXT`. TEXT may begin with a hyphen: the run refuses it, not the command line.
+fn moves<'a>(alloc: Global) -> Arg<'a>
+    ensures { IsOption (codes "moves") result }
+{
+    Arg::new(alloc, "moves")
+        .long("moves")
+        .value_name("TEXT")
+        .help("The moves: N, N*K, N!, where N is a number or a function, and * for everybody")
+        .allow_hyphen_values(true)
+        .action(ArgAction::Set)
+}
+
+/// `--moves-file FILE`.
+fn moves_file<'a>(alloc: Global) -> Arg<'a>
+    ensures { IsOption (codes "moves-file") result }
+{
+    Arg::new(alloc, "moves-file")
+        .long("moves-file")
+        .value_name("FILE")
+        .help("The file of the moves; standard input where it is -")
+        .action(ArgAction::Set)
+}
+
+/// Just one of `--picks`, `--picks-file`, `--moves` and `--moves-file` must be given; the usage names all.
 fn one_of_picks<'a>(alloc: Global) -> Result<ArgGroup<'a>, AllocError>
     ensures { IfOk result (IsOneOf PICKS) }
 {
     ArgGroup::new(alloc, "picks-source")
         .required(true)
         .arg("picks")?
-        .arg("picks-file")
+        .arg("picks-file")?
+        .arg("moves")?
+        .arg("moves-file")
 }
 
-/// A command that runs the script by picks, with `--picks TEXT` or `--picks-file FILE`.
-fn by_picks<'a>(alloc: Global, name: &'a str, about: &'a str) -> Result<Command<'a>, AllocError>
-    ensures arguments { IfOk result (IsCommand name.entry.now BY_PICKS) }
-    ensures picks { IfOk result WantsPicks }
+/// Just one of these and `--round` must be given; the usage names all.
+fn picks_or_round<'a>(alloc: Global) -> Result<ArgGroup<'a>, AllocError>
+    ensures { IfOk result (IsOneOf PICKS_OR_ROUND) }
 {
-    let one_of_picks = one_of_picks(alloc)?;
+    ArgGroup::new(alloc, "picks-source")
+        .required(true)
+        .arg("picks")?
+        .arg("picks-file")?
+        .arg("moves")?
+        .arg("moves-file")?
+        .arg("round")
+}
+
+/// A command that runs the script by picks or moves, with `--picks TEXT`, `--picks-file FILE`, `--moves TEXT` or
+/// `--moves-file FILE`, where these are among the sources of picks.
+fn by_picks<'a>(
+    alloc: Global,
+    name: &'a str,
+    about: &'a str,
+    sources: ArgGroup<'a>,
+) -> Result<Command<'a>, AllocError>
+    ensures arguments { IfOk result (IsCommand name.entry.now BY_PICKS) }
+    ensures picks { IfOk result (WantsBy sources.entry) }
+{
     Command::new(alloc, name)
         .about(about)
         .arg(script(alloc))?
         .arg(picks(alloc))?
         .arg(picks_file(alloc))?
-        .group(one_of_picks)
+        .arg(moves(alloc))?
+        .arg(moves_file(alloc))?
+        .group(sources)
 }
 
 /// `--quiet`.
@@ -138,13 +184,14 @@ fn with_expectation<'a>(alloc: Global, command: Command<'a>) -> Result<Command<'
         .arg(reject_line(alloc))
 }
 
-/// The subcommand `replay [SCRIPT] [--quiet]` with picks, and with what its output must be.
+/// The subcommand `replay [SCRIPT] [--quiet]` with picks or moves, and with what its output must be.
 fn replay<'a>(alloc: Global) -> Result<Command<'a>, AllocError>
     ensures arguments { IfOk result (IsCommand (codes "replay") REPLAY) }
-    ensures picks { IfOk result WantsPicks }
+    ensures picks { IfOk result (WantsOneOf PICKS) }
 {
-    let about = "Runs the script by the given picks, and prints what its sessions saw";
-    let command = by_picks(alloc, "replay", about)?.arg(quiet(alloc))?;
+    let about = "Runs the script by the given picks or moves, and prints what its sessions saw";
+    let sources = one_of_picks(alloc)?;
+    let command = by_picks(alloc, "replay", about, sources)?.arg(quiet(alloc))?;
     with_expectation(alloc, command)
 }
 
@@ -184,19 +231,6 @@ fn node<'a>(alloc: Global) -> Arg<'a>
         .action(ArgAction::SetTrue)
 }
 
-/// The subcommand `explain [SCRIPT] [--session NAME] [--move N] [--node]` with picks, and with what its output must be.
-fn explain<'a>(alloc: Global) -> Result<Command<'a>, AllocError>
-    ensures arguments { IfOk result (IsCommand (codes "explain") EXPLAIN) }
-    ensures picks { IfOk result WantsPicks }
-{
-    let about = "Runs the script by the given picks, and prints why each session tells or doesn't";
-    let command = by_picks(alloc, "explain", about)?
-        .arg(session(alloc))?
-        .arg(move_number(alloc))?
-        .arg(node(alloc))?;
-    with_expectation(alloc, command)
-}
-
 /// `--limit N`.
 fn limit<'a>(alloc: Global) -> Arg<'a>
     ensures named { IsOption (codes "limit") result }
@@ -212,7 +246,60 @@ fn limit<'a>(alloc: Global) -> Arg<'a>
         .action(ArgAction::Set)
 }
 
-/// The subcommand `round [SCRIPT] [--limit N] [--quiet]`, with what its output must be.
+/// When the control list may be taken.
+const ORDERS: &[&str] = &["first"];
+
+/// `--control first`.
+fn control<'a>(alloc: Global) -> Arg<'a>
+    ensures { IsOption (codes "control") result }
+{
+    Arg::new(alloc, "control")
+        .long("control")
+        .value_name("ORDER")
+        .help("When all commands of the control list are taken: first, before the rounds")
+        .value_parser(ORDERS)
+        .action(ArgAction::Set)
+}
+
+/// `--round`.
+fn in_rounds<'a>(alloc: Global) -> Arg<'a>
+    ensures { IsFlag (codes "round") result }
+{
+    Arg::new(alloc, "round")
+        .long("round")
+        .help("Explains the run that the command round makes")
+        .action(ArgAction::SetTrue)
+}
+
+/// The argument, which is given with `--round` alone.
+fn with_round<'a>(arg: Arg<'a>) -> Result<Arg<'a>, AllocError>
+    ensures { IfOk result (NeedsRound arg.entry) }
+{
+    arg.requires_arg("round")
+}
+
+/// The subcommand `explain [SCRIPT] [--session NAME] [--move N] [--node]` with picks, moves or
+/// `--round [--limit N] [--control first]`, and with what its output must be.
+fn explain<'a>(alloc: Global) -> Result<Command<'a>, AllocError>
+    ensures arguments { IfOk result (IsCommand (codes "explain") EXPLAIN) }
+    ensures picks { IfOk result (WantsOneOf PICKS_OR_ROUND) }
+{
+    let about =
+        "Runs the script by picks, moves or rounds, and prints why each session tells or doesn't";
+    let sources = picks_or_round(alloc)?;
+    let limit = with_round(limit(alloc))?;
+    let control = with_round(control(alloc))?;
+    let command = by_picks(alloc, "explain", about, sources)?
+        .arg(in_rounds(alloc))?
+        .arg(limit)?
+        .arg(control)?
+        .arg(session(alloc))?
+        .arg(move_number(alloc))?
+        .arg(node(alloc))?;
+    with_expectation(alloc, command)
+}
+
+/// The subcommand `round [SCRIPT] [--limit N] [--control first] [--quiet]`, with what its output must be.
 fn round<'a>(alloc: Global) -> Result<Command<'a>, AllocError>
     ensures { IfOk result (IsCommand (codes "round") ROUND) }
 {
@@ -220,6 +307,7 @@ fn round<'a>(alloc: Global) -> Result<Command<'a>, AllocError>
         .about("Runs the script in rounds of all processes, until nothing moves")
         .arg(script(alloc))?
         .arg(limit(alloc))?
+        .arg(control(alloc))?
         .arg(quiet(alloc))?;
     with_expectation(alloc, command)
 }

@@ -15,7 +15,9 @@ mod value;
 use clap::ArgMatches;
 use clap::error::ErrorKind;
 use line::command;
-use request::{BadNumber, ExpectationArgs, PicksSource, Request, SpecTestArgs, request_of};
+use request::{
+    BadNumber, ExpectationArgs, PicksSource, Request, RunSource, SpecTestArgs, request_of,
+};
 use std::io;
 use std::process::ExitCode;
 use std::rt::{Env, Files};
@@ -26,17 +28,25 @@ use tn_command::{
     perform, picks_of, report, tell_fault, test_spec,
 };
 use tn_explain::{ExplainRequest, Filter, RunAndNote};
+use tn_moves::{ExplainByMoves, Moves, RunByMoves};
 use tn_run::{RunFault, Schedule, Workers, write_output};
 use tn_text::Watched;
 use tn_verdict::SpecTestInput;
 
-/// What is done with a script and a text of picks.
+/// What is done with a script and a text of picks or of moves.
 #[derive(Clone, Copy)]
 enum Task<'a> {
     /// The run's output is printed, and its note where there is one, unless nothing is asked for on standard error.
     Replay { quiet: bool },
     /// The run is explained: the session and the move that are asked for.
     Explain(Filter<'a>),
+}
+
+/// What a text says.
+#[derive(Clone, Copy)]
+enum TextKind {
+    Picks,
+    Moves,
 }
 
 /// Runs the script by a schedule, with the note of what a running node does otherwise, or without.
@@ -76,27 +86,72 @@ fn run_task<R: Input + Files + Print + Eprint + AllocGlobal>(
     }
 }
 
-/// Does the task with a file of picks, or with standard input for one.
-fn run_from<R: Input + Files + Print + Eprint + AllocGlobal>(
+/// Does the task by these moves.
+fn run_moves<R: Input + Files + Print + Eprint + AllocGlobal>(
     rt: &R,
     task: Task<'_>,
     script: Source<'_>,
-    picks: Source<'_>,
+    moves: Moves<'_>,
     expectation: &Expectation<'_>,
 ) -> ExitCode
     ensures { IsStatus (exit_status result) }
 {
-    if let (Source::Input, Source::Input) = (script, picks) {
-        let _ = rt.eprintln("error: the script and the picks can't both be standard input");
+    match task {
+        Task::Replay { quiet } => {
+            let has_note = !quiet;
+            perform(rt, script, &RunByMoves { moves, has_note }, expectation)
+        }
+        Task::Explain(filter) => {
+            perform(rt, script, &ExplainByMoves { moves, filter }, expectation)
+        }
+    }
+}
+
+/// Does the task with a text of picks or of moves.
+fn run_text<R: Input + Files + Print + Eprint + AllocGlobal>(
+    rt: &R,
+    task: Task<'_>,
+    script: Source<'_>,
+    kind: TextKind,
+    text: &[u8],
+    expectation: &Expectation<'_>,
+) -> ExitCode
+    ensures { IsStatus (exit_status result) }
+{
+    match kind {
+        TextKind::Picks => run_task(rt, task, script, text, expectation),
+        TextKind::Moves => run_moves(rt, task, script, Moves::Text(text), expectation),
+    }
+}
+
+/// Does the task with a file of picks or of moves, or with standard input for one.
+fn run_from<R: Input + Files + Print + Eprint + AllocGlobal>(
+    rt: &R,
+    task: Task<'_>,
+    script: Source<'_>,
+    kind: TextKind,
+    source: Source<'_>,
+    expectation: &Expectation<'_>,
+) -> ExitCode
+    ensures { IsStatus (exit_status result) }
+{
+    if let (Source::Input, Source::Input) = (script, source) {
+        let what = match kind {
+            TextKind::Picks => "picks",
+            TextKind::Moves => "moves",
+        };
+        let _ = rt.eprintln(format_args!(
+            "error: the script and the {what} can't both be standard input"
+        ));
         return ExitCode::from(REFUSED);
     }
-    match picks_of(rt, picks) {
-        Ok(text) => run_task(rt, task, script, &text, expectation),
+    match picks_of(rt, source) {
+        Ok(text) => run_text(rt, task, script, kind, &text, expectation),
         Err(status) => status,
     }
 }
 
-/// Does the task with a script and picks.
+/// Does the task with a script and picks or moves.
 fn run_by_picks<R: Input + Files + Print + Eprint + AllocGlobal>(
     rt: &R,
     task: Task<'_>,
@@ -107,8 +162,50 @@ fn run_by_picks<R: Input + Files + Print + Eprint + AllocGlobal>(
     ensures { IsStatus (exit_status result) }
 {
     match picks {
-        PicksSource::In(source) => run_from(rt, task, script, source, expectation),
+        PicksSource::In(source) => {
+            run_from(rt, task, script, TextKind::Picks, source, expectation)
+        }
         PicksSource::Text(text) => run_task(rt, task, script, text.as_bytes(), expectation),
+        PicksSource::MovesIn(source) => {
+            run_from(rt, task, script, TextKind::Moves, source, expectation)
+        }
+        PicksSource::Moves(text) => {
+            let moves = Moves::Text(text.as_bytes());
+            run_moves(rt, task, script, moves, expectation)
+        }
+    }
+}
+
+/// The moves of a round, in which so many picks may move.
+fn round_moves(limit: u32, control_first: bool) -> Moves<'static> {
+    if control_first {
+        Moves::ControlFirst(limit)
+    } else {
+        Moves::Round(limit)
+    }
+}
+
+/// Explains a run.
+fn run_explain<R: Input + Files + Print + Eprint + AllocGlobal>(
+    rt: &R,
+    script: Source<'_>,
+    run: RunSource<'_>,
+    filter: Filter<'_>,
+    expectation: &Expectation<'_>,
+) -> ExitCode
+    ensures { IsStatus (exit_status result) }
+{
+    match run {
+        RunSource::ByPicks(picks) => {
+            run_by_picks(rt, Task::Explain(filter), script, picks, expectation)
+        }
+        RunSource::ByRound {
+            limit,
+            control_first,
+        } => {
+            let moves = round_moves(limit, control_first);
+            run_moves(rt, Task::Explain(filter), script, moves, expectation)
+        }
     }
 }
 
@@ -183,16 +280,23 @@ fn run_so<R: Input + Files + Print + Eprint + AllocGlobal + Threads + Wait + Syn
         } => run_by_picks(rt, Task::Replay { quiet }, script, picks, expectation),
         Request::Explain {
             script,
-            picks,
+            run,
             filter,
             ..
-        } => run_by_picks(rt, Task::Explain(filter), script, picks, expectation),
+        } => run_explain(rt, script, run, filter, expectation),
         Request::Round {
             script,
             limit,
+            control_first,
             quiet,
             ..
-        } => run_schedule(rt, script, Schedule::Round(limit), quiet, expectation),
+        } => {
+            if control_first {
+                let moves = Moves::ControlFirst(limit);
+                return run_moves(rt, Task::Replay { quiet }, script, moves, expectation);
+            }
+            run_schedule(rt, script, Schedule::Round(limit), quiet, expectation)
+        }
         Request::Workers {
             script,
             count,

@@ -2,7 +2,8 @@
 ghost use Rattle.std.specs.Prelude.{◌≡◌, [], OkIff, IfOk, IfErr, IfSome, IfNone, unwrap_or, codes};
 ghost use Rattle.tn_cli.specs.Requests.{argument, is_given, dialect_named, IsBetween, number_given, IsNumberOrNone};
 ghost use Rattle.tn_cli.specs.Requests.{NamesProcess, NamesNoProcess, ArePicksOf, IsSourceNamed, Asks, IsAskedBy};
-ghost use Rattle.tn_cli.specs.Requests.{LacksNumber, IsWithoutNumber, NamesNoCommand};
+ghost use Rattle.tn_cli.specs.Requests.{LacksLimit, LacksNumber, IsWithoutNumber, NamesNoCommand};
+ghost use Rattle.tn_cli.specs.Requests.{IsRunOf, takes_control_first};
 ghost use Rattle.tn_cli.specs.Requests.{IsExpectationOf, request_expectation};
 
 use crate::value::{process_number, session_name};
@@ -11,13 +12,30 @@ use tn_command::{Source, plain_number, source_of};
 use tn_explain::Filter;
 use tn_spec::Dialect;
 
-/// Where the text of picks is.
+/// Where the text of picks or of moves is.
 #[derive(Clone, Copy)]
 pub enum PicksSource<'a> {
-    /// The text is given.
+    /// The text of picks is given.
     Text(&'a str),
     /// It is in a file, or is standard input.
     In(Source<'a>),
+    /// The text of moves is given.
+    Moves(&'a str),
+    /// It is in a file, or is standard input.
+    MovesIn(Source<'a>),
+}
+
+/// Which run is explained.
+#[derive(Clone, Copy)]
+pub enum RunSource<'a> {
+    /// The run by picks.
+    ByPicks(PicksSource<'a>),
+    /// The round in which so many picks may move.
+    ByRound {
+        limit: u32,
+        /// Whether all commands of the control list are taken before it.
+        control_first: bool,
+    },
 }
 
 /// What a trial is of, in the words of `spec`.
@@ -53,10 +71,10 @@ pub enum Request<'a> {
         quiet: bool,
         expectation: ExpectationArgs<'a>,
     },
-    /// An explanation of a run by picks.
+    /// An explanation of a run.
     Explain {
         script: Source<'a>,
-        picks: PicksSource<'a>,
+        run: RunSource<'a>,
         filter: Filter<'a>,
         expectation: ExpectationArgs<'a>,
     },
@@ -64,6 +82,8 @@ pub enum Request<'a> {
     Round {
         script: Source<'a>,
         limit: u32,
+        /// Whether all commands of the control list are taken before it.
+        control_first: bool,
         /// Whether no notes are printed on standard error.
         quiet: bool,
         expectation: ExpectationArgs<'a>,
@@ -189,14 +209,42 @@ fn script<'a>(matches: &ArgMatches<'a>) -> Source<'a>
     source_of(matches.get_str("script"))
 }
 
-/// Where the picks of a subcommand are: in a file, where one is named, else in the words.
+/// Where the picks or the moves of a subcommand are: in a file, where one is named, else in the words.
 fn picks<'a>(matches: &ArgMatches<'a>) -> PicksSource<'a>
     ensures { ArePicksOf matches.now result }
 {
-    match matches.get_str("picks-file") {
-        Some(file) => PicksSource::In(source_of(Some(file))),
+    if let Some(file) = matches.get_str("picks-file") {
+        return PicksSource::In(source_of(Some(file)));
+    }
+    if let Some(file) = matches.get_str("moves-file") {
+        return PicksSource::MovesIn(source_of(Some(file)));
+    }
+    match matches.get_str("moves") {
+        Some(text) => PicksSource::Moves(text),
         None => PicksSource::Text(matches.get_str("picks").unwrap_or("")),
     }
+}
+
+/// Whether all commands of the control list are taken before the rounds.
+fn control_first(matches: &ArgMatches<'_>) -> bool
+    ensures { result ≡ takes_control_first matches.now }
+{
+    matches!(matches.get_str("control"), Some("first"))
+}
+
+/// Which run is explained.
+fn run_source<'a>(matches: &ArgMatches<'a>) -> Result<RunSource<'a>, BadNumber<'a>>
+    ensures run { IfOk result (IsRunOf matches.now) }
+    ensures refused { IfErr result (λ e. LacksLimit matches.now) }
+{
+    if !flag(matches, "round") {
+        return Ok(RunSource::ByPicks(picks(matches)));
+    }
+    let limit = number(matches, "limit", "--limit <N>", 1, 65536)?;
+    Ok(RunSource::ByRound {
+        limit,
+        control_first: control_first(matches),
+    })
 }
 
 /// What the specification of this event is for.
@@ -239,9 +287,10 @@ fn explain<'a>(matches: &ArgMatches<'a>) -> Result<Request<'a>, BadNumber<'a>>
     ensures refused { IfErr result (λ e. LacksNumber (codes "explain") matches.now) }
 {
     let move_number = number_or_none(matches, "move", "--move <N>")?;
+    let run = run_source(matches)?;
     Ok(Request::Explain {
         script: script(matches),
-        picks: picks(matches),
+        run,
         filter: Filter {
             session: matches.get_str("session").map(session_name),
             move_number,
@@ -260,6 +309,7 @@ fn round<'a>(matches: &ArgMatches<'a>) -> Result<Request<'a>, BadNumber<'a>>
     Ok(Request::Round {
         script: script(matches),
         limit,
+        control_first: control_first(matches),
         quiet: flag(matches, "quiet"),
         expectation: expectation(matches),
     })

@@ -17,6 +17,7 @@ mod expectation_file;
 mod jobs;
 mod judgement;
 mod last_error;
+mod moves_line;
 mod number;
 mod picks;
 mod source;

@@ -11,7 +11,12 @@ use crate::request::ExplainOutcome;
 use std::alloc::{AllocError, Allocator};
 use tn_program::Program;
 
-/// The account of a run by these picks, where the session and the move that are asked for are there.
+/// The account of the program's run by these picks, where the session and the move that are asked for are there; else
+/// no text, and which of them isn't there.
+///
+/// # Errors
+///
+/// AllocError where memory was refused.
 pub fn account_of<A: Allocator + Copy>(
     alloc: A,
     program: &Program<A>,

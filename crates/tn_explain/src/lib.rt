@@ -49,6 +49,7 @@ mod step;
 mod step_differences;
 
 pub use account::put_account;
+pub use answers::account_of;
 pub use command_reasons::CommandReason;
 pub use event::put_event_lines;
 pub use filter::Filter;

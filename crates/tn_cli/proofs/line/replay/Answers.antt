@@ -12,5 +12,6 @@ returns-clause-arguments c =
 
 pub returns-clause-picks : goal.returns-clause-picks
 returns-clause-picks c =
-    let wants = still_wants c.in_ok-by_picks.field-0 c.in_ok-command.command c.quiet.result c.in_ok-by_picks.ensures.picks c.in_ok-command.ensures in
-    IfOk-weaker c.with_expectation.result _ _ (λ new more. more.wants_so wants) c.with_expectation.ensures
+    let sources = c.in_ok-sources.sources in
+    let wants = still_wants sources c.in_ok-by_picks.field-0 c.in_ok-command.command c.quiet.result c.in_ok-by_picks.ensures.picks c.in_ok-command.ensures in
+    IfOk-weaker c.with_expectation.result _ _ (λ new more. (sources, more.wants_so sources wants, c.in_ok-sources.ensures)) c.with_expectation.ensures

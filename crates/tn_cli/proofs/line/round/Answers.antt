@@ -10,6 +10,8 @@ returns c =
     let first = one_more name [] (codes "script") c.about.result c.in_ok-arg.field-0 c.script.result bare c.script.ensures.0 c.in_ok-arg.ensures in
     let second = one_more name _ (codes "limit") c.in_ok-arg.field-0 c.in_ok-arg-2.field-0 c.limit.result first c.limit.ensures.named.0
     c.in_ok-arg-2.ensures in
-    let third = one_more name _ (codes "quiet") c.in_ok-arg-2.field-0 c.in_ok-command.command c.quiet.result second c.quiet.ensures.0
+    let third = one_more name _ (codes "control") c.in_ok-arg-2.field-0 c.in_ok-arg-3.field-0 c.control.result second c.control.ensures.0
+    c.in_ok-arg-3.ensures in
+    let fourth = one_more name _ (codes "quiet") c.in_ok-arg-3.field-0 c.in_ok-command.command c.quiet.result third c.quiet.ensures.0
     c.in_ok-command.ensures in
-    expectation_so name _ c.in_ok-command.command c.with_expectation.result third c.with_expectation.ensures
+    expectation_so name _ c.in_ok-command.command c.with_expectation.result fourth c.with_expectation.ensures

@@ -1,0 +1,4 @@
+pub mod Picks
+mod Rests
+pub mod Texts
+mod Rows

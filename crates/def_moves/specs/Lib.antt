@@ -1,0 +1,4 @@
+pub mod Directives
+pub mod Laws
+pub mod Texts
+pub mod TextLaws

@@ -1,0 +1,6 @@
+pub mod Directives
+pub mod PickLogs
+pub mod Pieces
+pub mod Readings
+pub mod Moves
+pub mod Jobs

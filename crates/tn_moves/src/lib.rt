@@ -1,0 +1,29 @@
+//! What should run, said otherwise than by picks: in a text of moves, or as a round, before which the control list may
+//! be taken.
+//!
+//! Depends on tn_text, tn_program, tn_trace (a run, which takes the picks), tn_listing, tn_run (jobs, and what they
+//! write) and tn_explain (accounts and notes), and on the definitions of def_moves. Promises that `directives_of_text`
+//! gives the directives that a text stands for in a run of the program, or the place of the first piece that stands for
+//! none; that `picks_of_directives` and `picks_of_moves` give the picks that are defined for them; that the job
+//! `RunByMoves` writes the output that is defined for these, or the line of the one refusal, and `ExplainByMoves` the
+//! account of the run by them, and both nothing where the text of moves is refused.
+#![tactic(auto)]
+
+mod directive;
+mod explanation;
+mod mover;
+mod moves;
+mod pick_log;
+mod picks;
+mod piece;
+mod run;
+mod text;
+
+pub use directive::Directive;
+pub use explanation::{ExplainByMoves, MovesAccount};
+pub use mover::pids_named;
+pub use moves::{Moves, picks_of_moves};
+pub use picks::picks_of_directives;
+pub use piece::mover_len;
+pub use run::{MovesEnd, RunByMoves};
+pub use text::{MovesFault, MovesRefusal, directives_of_text};
