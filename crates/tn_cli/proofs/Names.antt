@@ -8,7 +8,7 @@ use Rattle.clap.specs.declared.builder.command.Command.{Command}
 use Rattle.clap.specs.Facts.{args_of, groups_of, subcommands_of}
 use Rattle.clap.specs.Built.{AddsArg, AddsGroup, AddsSubcommand, subcommand_names}
 use Rattle.clap.specs.Simple.{Shape, shape_of}
-use Rattle.tn_cli.specs.Line.{EXPECTATION, IsCommand, IsOneOf, IsWithExpectation, NeedsRound, WantsBy, WantsOneOf}
+use Rattle.tn_cli.specs.Line.{EXPECTATION, IsCommand, IsWithExpectation, NeedsRound, WantsBy}
 
 pub one_more : (name : List ℕ) (arguments : List (List ℕ)) (word : List ℕ) (old new : Command) (a : Arg)
     → IsCommand name arguments old → a.id.now ≡ word → AddsArg old a new → IsCommand name (arguments ++ word ∷ []) new

@@ -1,5 +1,5 @@
 -- A text that writes a number is a text of that one pick.
-use Rattle.std.proofs.Common.{◌≡◌, ◌≢◌, ◌∙◌, ◌<◌, ◌≤◌, ◌^◌, ℕ, zero, suc, List, [], ◌∷◌, length, All, Option, Some, None, refl, sym, ap, subst, decimal, arith}
+use Rattle.std.proofs.Common.{◌≡◌, ◌<◌, ◌≤◌, ◌^◌, ℕ, zero, suc, List, [], ◌∷◌, length, All, Option, Some, None, sym, ap, subst, decimal, arith}
 use Rattle.std.proofs.lemmas.Fmt.{length-decimal-le}
 use Rattle.std.proofs.lemmas.List.Elements.{All-head}
 use Rattle.def_run.specs.Picks.{SpellsPicks}

@@ -1,5 +1,5 @@
 -- A run whose journal is kept in a list, through more picks.
-use Rattle.std.proofs.Common.{◌≡◌, ◌∙◌, ◌+◌, ◌≤◌, ℕ, min, List, [], ◌∷◌, ◌++◌, length, map, take, get_or, ◌<◌, refl, sym, ap, subst, append-nil, append_assoc, arith}
+use Rattle.std.proofs.Common.{◌≡◌, ◌∙◌, ◌+◌, ◌≤◌, ℕ, min, List, [], ◌∷◌, ◌++◌, length, map, take, get_or, ◌<◌, refl, sym, ap, subst, append-nil, append_assoc}
 use Rattle.std.proofs.lemmas.List.{map-append, take_more}
 use Rattle.std.specs.declared.vec.Vec.{Vec}
 use Rattle.def_script.specs.Program.{Program}
@@ -10,7 +10,6 @@ use Rattle.def_moves.specs.Directives as definition
 use Rattle.def_moves.specs.Directives.{picks_of_directives}
 use Rattle.def_moves.proofs.Picks.{tries, tries_of_directive, tries-append, in_order}
 use Rattle.tn_trace.specs.Follows.{Follows, AddsEach, AddsFrom}
-use Rattle.tn_trace.specs.Runs.{IsRun}
 use Rattle.tn_trace.specs.declared.run.Run.{Run}
 use Rattle.tn_trace.proofs.Passes.{ended}
 use Rattle.tn_moves.specs.Directives.{directive_seen}

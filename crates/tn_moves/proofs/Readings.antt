@@ -1,5 +1,5 @@
 -- What is read of a text of moves so far, and of a piece.
-use Rattle.std.proofs.Common.{◌≡◌, ◌≢◌, ◌∙◌, ◌+◌, ◌<◌, ◌≤◌, ◌^◌, ℕ, suc, List, [], ◌∷◌, ◌++◌, map, codes, length, take, drop, get_or, ◌-◌, Bool, true, false, not, ◌==◌, if◌then◌else◌, refl, sym, ap, ap₂, subst, inl, inr, arith, decimal, append-nil, append_assoc}
+use Rattle.std.proofs.Common.{◌≡◌, ◌≢◌, ◌∙◌, ◌+◌, ◌<◌, ◌≤◌, ℕ, suc, List, [], ◌∷◌, ◌++◌, map, codes, length, take, drop, get_or, ◌-◌, Bool, true, false, not, ◌==◌, if◌then◌else◌, refl, sym, ap, ap₂, subst, inl, inr, arith, decimal, append-nil, append_assoc}
 use Rattle.std.proofs.lemmas.Fmt.{decimal_injective}
 use Rattle.std.proofs.lemmas.List.{drop-drop, at_drop_more, drop_all, take_rest, length-map, get_or-map}
 use Rattle.def_text.specs.Tokens.{gap_len}

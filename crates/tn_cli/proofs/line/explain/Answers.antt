@@ -7,8 +7,8 @@ use Rattle.tn_cli.proofs.line.explain.Goals as goal
 pub returns-clause-arguments : goal.returns-clause-arguments
 returns-clause-arguments c =
     let name = codes "explain" in
-    let limit_is = same_name (codes "limit") c.limit-2.result c.in_ok-limit.limit c.limit-2.ensures.named.0 c.in_ok-limit.ensures in
-    let control_is = same_name (codes "control") c.control-2.result c.in_ok-control.control c.control-2.ensures.0 c.in_ok-control.ensures in
+    let limit_is = same_name (codes "limit") c.limit.result c.in_ok-limit.limit c.limit.ensures.named.0 c.in_ok-limit.ensures in
+    let control_is = same_name (codes "control") c.control.result c.in_ok-control.control c.control.ensures.0 c.in_ok-control.ensures in
     let first = one_more name BY_PICKS (codes "round") c.in_ok-by_picks.field-0 c.in_ok-arg.field-0 c.in_rounds.result c.in_ok-by_picks.ensures.arguments
     c.in_rounds.ensures.0 c.in_ok-arg.ensures in
     let second = one_more name _ (codes "limit") c.in_ok-arg.field-0 c.in_ok-arg-2.field-0 c.in_ok-limit.limit first limit_is c.in_ok-arg-2.ensures in

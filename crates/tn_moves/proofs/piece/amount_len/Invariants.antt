@@ -1,4 +1,4 @@
-use Rattle.std.proofs.Common.{◌≡◌, ◌+◌, drop, false}
+use Rattle.std.proofs.Common.{◌≡◌, ◌+◌, drop}
 use Rattle.def_moves.specs.Texts.{amount_len}
 use Rattle.tn_moves.proofs.piece.amount_len.Given as goal
 

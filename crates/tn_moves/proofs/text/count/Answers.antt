@@ -1,6 +1,6 @@
-use Rattle.std.proofs.Common.{subst, refl, Some}
+use Rattle.std.proofs.Common.{subst, refl}
 use Rattle.tn_moves.specs.Readings.{IsNumberRead}
-use Rattle.tn_moves.proofs.Readings.{no_count, no_large_count}
+use Rattle.tn_moves.proofs.Readings.{no_large_count}
 use Rattle.tn_moves.proofs.text.count.Goals as goal
 
 pub returns-then-count-ge65536 : goal.returns-then-count-ge65536
