@@ -1,0 +1,2 @@
+mod RowMessages
+mod Contents
