@@ -1,12 +1,17 @@
--- Texts with numbers in them, and texts inside an element of XML ("Extensible Markup Language 1.0", "Character Data and Markup").
+-- Texts with numbers in them, texts of several things, and texts inside an element of XML ("Extensible Markup Language 1.0", "Character Data and Markup").
 -- Depends on nothing.
-use Rattle.std.specs.Prelude.{ℕ, ◌==◌, if◌then◌else◌, List, [], ◌∷◌, ◌++◌, flat_map, codes, decimal}
+use Rattle.std.specs.Prelude.{ℕ, ◌+◌, ◌==◌, if◌then◌else◌, List, [], ◌∷◌, ◌++◌, flat_map, codes, decimal}
 
 -- the template with each `@` replaced by the next number; one for which no number is left stays
-abbrev pub fill : (template numbers : List ℕ) → List ℕ
+unfoldable pub fill : (template numbers : List ℕ) → List ℕ
 fill [] ns = []
 fill (b ∷ bs) [] = b ∷ fill bs []
 fill (b ∷ bs) (n ∷ ns) = if b == 64 then decimal n ++ fill bs ns else b ∷ fill bs (n ∷ ns)
+
+-- the texts of some things, which are numbered from n
+abbrev pub each_numbered : {X : Type 0} → (ℕ → X → List ℕ) → ℕ → List X → List ℕ
+each_numbered f n [] = []
+each_numbered f n (x ∷ xs) = f n x ++ each_numbered f (n + 1) xs
 
 -- a byte of a text: `<`, `>`, `&` and `"` have names
 abbrev pub xml_byte : ℕ → List ℕ

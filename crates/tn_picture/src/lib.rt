@@ -1,0 +1,17 @@
+//! The picture of a run.
+#![tactic(auto)]
+
+mod life;
+mod picture;
+mod plain;
+mod row;
+mod shape;
+mod svg;
+mod templates;
+
+pub use life::Life;
+pub use picture::Picture;
+pub use plain::plain_text;
+pub use row::{Report, Row};
+pub use shape::Shape;
+pub use svg::svg_text;
