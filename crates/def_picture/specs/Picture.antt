@@ -86,9 +86,13 @@ abbrev pub reports_of : ℕ → List NamedSession → HistoryItem → List Repor
 reports_of n [] x = []
 reports_of n (s ∷ ss) x = map (report_of n) (item_message s.1 x) ++ reports_of (suc n) ss x
 
+-- the row of an event or a command of the move of this number, with the sessions in their states before it
+abbrev pub row_at : (move : ℕ) → List NamedSession → HistoryItem → PictureRow
+row_at move ss x = record { move = move; shape = shape_of x; label = label_of x; reports = reports_of 1 ss x }
+
 -- a moment of the history is a row
 abbrev pub row_of : Moment → PictureRow
-row_of m = record { move = m.move; shape = shape_of m.item; label = label_of m.item; reports = reports_of 1 m.before m.item }
+row_of m = row_at m.move m.before m.item
 
 -- ---- life lines
 

@@ -1,2 +1,4 @@
 pub mod Places
 pub mod Numbered
+pub mod SlotMessages
+pub mod PaintedMoves

@@ -1,2 +1,4 @@
 pub mod Views
 pub mod Cells
+pub mod Slots
+pub mod Painters

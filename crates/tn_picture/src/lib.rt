@@ -1,11 +1,15 @@
 //! The picture of a run.
 #![tactic(auto)]
 
+mod discard;
+mod label;
 mod life;
+mod painter;
 mod picture;
 mod plain;
 mod row;
 mod shape;
+mod slots;
 mod svg;
 mod templates;
 

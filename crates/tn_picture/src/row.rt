@@ -5,7 +5,7 @@ use std::alloc::Allocator;
 /// A message that a session reports: the session's number, from 1, and the line of its listing.
 #[derive(Drop)]
 pub struct Report<A: Allocator> {
-    pub session: u32,
+    pub session: u64,
     pub text: Vec<u8, A>,
 }
 

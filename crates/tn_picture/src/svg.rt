@@ -136,10 +136,10 @@ fn put_shape<A: Allocator>(
 
 /// Appends the start of a group in the colour of a session, and of its tooltip.
 #[tactic(auto, unfolding(def_picture::specs::Svg::group_svg))]
-fn put_group<A: Allocator>(session: u32, out: &mut Vec<u8, A>) -> Result<(), AllocError>
+fn put_group<A: Allocator>(session: u64, out: &mut Vec<u8, A>) -> Result<(), AllocError>
     ensures { OnOk result (out.new.items ≡ out.old.items ++ group_svg session) }
 {
-    let hue = hue_of(session as u64);
+    let hue = hue_of(session);
     put_filled(
         b"<g fill=\"none\" stroke=\"hsl(@,90%,35%)\" stroke-width=\"2\"><title>",
         &[hue],
@@ -151,14 +151,14 @@ fn put_group<A: Allocator>(session: u32, out: &mut Vec<u8, A>) -> Result<(), All
 #[tactic(auto, unfolding(def_picture::specs::Svg::spot_svg))]
 fn put_spot<A: Allocator>(
     columns: usize,
-    session: u32,
+    session: u64,
     y: u128,
     out: &mut Vec<u8, A>,
 ) -> Result<(), AllocError>
     ensures { OnOk result (out.new.items ≡ out.old.items ++ spot_svg columns session y) }
 {
-    let x = session_x(columns, session as u64);
-    let hue = hue_of(session as u64);
+    let x = session_x(columns, session);
+    let hue = hue_of(session);
     put_filled(
         b"<circle cx=\"@\" cy=\"@\" r=\"4\" fill=\"hsl(@,90%,35%)\"/></g>\n",
         &[x, y, hue],
