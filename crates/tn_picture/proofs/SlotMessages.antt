@@ -27,32 +27,6 @@ use Rattle.tn_picture.specs.declared.discard.Discard.{Discard}
 -- ---- one session
 
 module _ {A : Type 0} (o : Exports) (living : Alive) (s : NamedSession) (old : Slot A Discard) (h : IsSlotOf o living s old) where
-  there : (session : Session A) → old.session ≡ Some session → value_in session ≡ Some (record { functions = o.functions; state = s.1 })
-  there session is = subst (IsSession o.functions living s.1) is h.session
-
-  absent_is : old.session ≡ None → s.1 ≡ new_session absent living
-  absent_is is = subst (IsSession o.functions living s.1) is h.session
-
-  module _ (n : ℕ) (e : Event) (reports : List Report) where
-    -- the session reports what is between two lists
-    abbrev pub HasReported : Slot A Discard → List Report → Type 0
-    HasReported new reports' = IsSlotOf o (alive_after living e) (after o s (event_item e)) new × (reports' ≡ reports ++ map (report_of n) (item_message s.1 (event_item e)))
-
-    pub absent_reports : old.session ≡ None → HasReported old reports
-    absent_reports is = (
-      record { name = h.name; session = subst (IsSession o.functions (alive_after living e) (event_reported s.1 e).0) (sym is) (ap (λ q. (event_reported q e).0) (absent_is is)) },
-      sym (ap (λ q. reports ++ map (report_of n) (option_to_list (event_reported q e).1)) (absent_is is) ∙ append-nil reports),
-    )
-
-    pub present_reports : (before session : Session A) (m : Option Tree) (reports' : List Report) → old.session ≡ Some before
-        → IsSomeAnd (value_in before) (λ v. next_session v (event_reported v.state e) ≡ (value_in session, m)) → reports' ≡ reports ++ map (report_of n) (option_to_list m)
-        → HasReported (record old { session = Some session }) reports'
-    present_reports before session m reports' is tells written =
-        let both : next_session (record { functions = o.functions; state = s.1 }) (event_reported s.1 e) ≡ (value_in session, m) = subst (λ v. IsSomeAnd v (λ u. next_session u (event_reported u.state e) ≡ (value_in session, m))) (there before is) tells in (
-          record { name = h.name; session = sym (ap (λ (p : Option SessionValue × Option Tree). p.0) both) },
-          written ∙ ap (λ t. reports ++ map (report_of n) (option_to_list t)) (sym (ap (λ (p : Option SessionValue × Option Tree). p.1) both)),
-        )
-
   abbrev pub track : Track
   track = record { number = old.number; name = s.0; session = s.1; messages = [] }
 

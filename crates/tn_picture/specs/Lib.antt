@@ -2,3 +2,4 @@ pub mod Views
 pub mod Cells
 pub mod Slots
 pub mod Painters
+pub mod Requests

@@ -3,7 +3,7 @@ use Rattle.tn_text.proofs.Growth.{on_done}
 use Rattle.def_term.specs.Text.{atom_text}
 use Rattle.def_picture.specs.Templates.{fill}
 use Rattle.def_picture.specs.Plain.{session_plain}
-use Rattle.tn_picture.proofs.Numbered.{three_texts}
+use Rattle.tn_picture.proofs.Texts.{three_texts}
 use Rattle.tn_picture.proofs.plain.put_session.Goals as goal
 
 pub returns : goal.returns

@@ -2,7 +2,7 @@ use Rattle.std.proofs.Common.{map, codes}
 use Rattle.tn_text.proofs.Growth.{on_done}
 use Rattle.def_picture.specs.Svg.{shape_svg, dashed_svg}
 use Rattle.tn_picture.specs.Views.{life_seen, shape_seen}
-use Rattle.tn_picture.proofs.Numbered.{three_texts}
+use Rattle.tn_picture.proofs.Texts.{three_texts}
 use Rattle.tn_picture.proofs.svg.put_dashed.Goals as goal
 
 pub returns : goal.returns
