@@ -35,7 +35,7 @@ shape_cell ls n (frame_end p d) other = mark_cell (column_of ls p) n (fill (code
 shape_cell ls n (birth p) other = mark_cell (column_of ls p) n (codes "+") other
 shape_cell ls n (death p) other = mark_cell (column_of ls p) n (codes "x") other
 shape_cell ls n (dot p) other = mark_cell (column_of ls p) n (codes "o") other
-shape_cell ls n command_line other = pad 12 61 []
+shape_cell ls n command_line other = pad 12 32 (codes "===========")
 
 -- ---- lines
 

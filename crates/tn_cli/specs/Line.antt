@@ -73,6 +73,10 @@ REPLAY = codes "script" ∷ codes "picks" ∷ codes "picks-file" ∷ codes "quie
 abbrev pub EXPLAIN : List (List ℕ)
 EXPLAIN = codes "script" ∷ codes "picks" ∷ codes "picks-file" ∷ codes "session" ∷ codes "move" ∷ codes "node" ∷ EXPECTATION
 
+-- the arguments of `draw`
+abbrev pub DRAW : List (List ℕ)
+DRAW = codes "script" ∷ codes "picks" ∷ codes "picks-file" ∷ codes "text" ∷ EXPECTATION
+
 -- the arguments of `round`
 abbrev pub ROUND : List (List ℕ)
 ROUND = codes "script" ∷ codes "limit" ∷ codes "quiet" ∷ EXPECTATION
@@ -87,4 +91,4 @@ TRIAL = codes "list" ∷ codes "for" ∷ codes "me" ∷ codes "caller" ∷ codes
 
 -- the commands of the program
 abbrev pub COMMAND_NAMES : List (List ℕ)
-COMMAND_NAMES = codes "replay" ∷ codes "round" ∷ codes "workers" ∷ codes "explain" ∷ codes "spec" ∷ []
+COMMAND_NAMES = codes "replay" ∷ codes "round" ∷ codes "workers" ∷ codes "explain" ∷ codes "draw" ∷ codes "spec" ∷ []

@@ -15,12 +15,14 @@ use Rattle.tn_command.specs.declared.source.Source.TheVariants.{Input, File}
 use Rattle.tn_command.specs.Numbers.{IsPlainNumber}
 use Rattle.tn_spec.specs.declared.func.Dialect.{Dialect}
 use Rattle.tn_spec.specs.declared.func.Dialect.TheVariants.{Call, Send, Recv}
+use Rattle.tn_picture.specs.declared.request.PictureFormat.{PictureFormat}
+use Rattle.tn_picture.specs.declared.request.PictureFormat.TheVariants.{Svg, Plain}
 use Rattle.tn_cli.specs.declared.request.PicksSource.{PicksSource}
 use Rattle.tn_cli.specs.declared.request.PicksSource.TheVariants.{Text, In}
 use Rattle.tn_cli.specs.declared.request.ExpectationArgs.{ExpectationArgs}
 use Rattle.tn_cli.specs.declared.request.SpecTestArgs.{SpecTestArgs}
 use Rattle.tn_cli.specs.declared.request.Request.{Request}
-use Rattle.tn_cli.specs.declared.request.Request.TheVariants.{Replay, Explain, Round, Workers, Spec}
+use Rattle.tn_cli.specs.declared.request.Request.TheVariants.{Replay, Explain, Draw, Round, Workers, Spec}
 
 -- the text that the command line gives for this name
 abbrev pub argument : ArgMatches → List ℕ → Option (List ℕ)
@@ -106,6 +108,10 @@ abbrev pub ArePicksOf : ArgMatches → PicksSource → Type 0
 ArePicksOf m (In source) = IsSomeAnd (argument m (codes "picks-file")) (λ path. IsSourceNamed (Some path) source)
 ArePicksOf m (Text text) = (argument m (codes "picks-file") ≡ None) × (text.now ≡ unwrap_or (argument m (codes "picks")) [])
 
+-- a picture is lines for a terminal where `--text` is given, else a graphic
+abbrev pub format_named : Bool → PictureFormat
+format_named is_text = if is_text then Plain else Svg
+
 -- ---- commands
 
 -- the session that `--session` names, the move that `--move` gives, and whether `--node` is given
@@ -135,6 +141,7 @@ IsExpectationOf m e =
 abbrev pub request_expectation : Request → ExpectationArgs
 request_expectation (Replay script picks quiet e) = e
 request_expectation (Explain script picks filter e) = e
+request_expectation (Draw script picks format e) = e
 request_expectation (Round script limit quiet e) = e
 request_expectation (Workers script count turns spread quiet e) = e
 request_expectation (Spec trial) = record { file = None; line = None; no_line = None }
@@ -147,6 +154,9 @@ Asks name m (Replay script picks quiet expectation) =
 Asks name m (Explain script picks filter expectation) =
     (name ≡ codes "explain") × IsSourceNamed (argument m (codes "script")) script × ArePicksOf m picks × IsAskedOf m filter
     × IsExpectationOf m expectation
+Asks name m (Draw script picks format expectation) =
+    (name ≡ codes "draw") × IsSourceNamed (argument m (codes "script")) script × ArePicksOf m picks
+    × (format ≡ format_named (is_given m (codes "text"))) × IsExpectationOf m expectation
 Asks name m (Round script limit quiet expectation) =
     (name ≡ codes "round") × IsSourceNamed (argument m (codes "script")) script × IsGiven 1 65536 (argument m (codes "limit")) limit
     × (quiet ≡ is_given m (codes "quiet")) × IsExpectationOf m expectation
@@ -177,7 +187,7 @@ pub record IsWithoutNumber (m : ArgMatches) : Type 0 where
 -- no subcommand was found, or one of another name
 abbrev pub NamesNoCommand : ArgMatches → Type 0
 NamesNoCommand m =
-    (subcommand_name_of m ≢ Some (codes "replay")) × (subcommand_name_of m ≢ Some (codes "explain")) × (subcommand_name_of m ≢ Some (codes "round"))
+    (subcommand_name_of m ≢ Some (codes "replay")) × (subcommand_name_of m ≢ Some (codes "explain")) × (subcommand_name_of m ≢ Some (codes "draw")) × (subcommand_name_of m ≢ Some (codes "round"))
     × (subcommand_name_of m ≢ Some (codes "workers")) × (subcommand_name_of m ≢ Some (codes "spec"))
 
 -- the subcommand that was found asks for it

@@ -3,7 +3,7 @@ ghost use Rattle.std.specs.Prelude.{◌≡◌, codes, true, IfOk, IsOkAnd};
 ghost use Rattle.clap.specs.Built.{AddsSubcommand, subcommand_names};
 ghost use Rattle.tn_cli.specs.Line.{IsOption, IsFlag, IsWord, IsElse, IsFromTo, IsOneOf};
 ghost use Rattle.tn_cli.specs.Line.{IsCommand, IsWithExpectation, WantsPicks};
-ghost use Rattle.tn_cli.specs.Line.{PICKS, BY_PICKS, REPLAY, EXPLAIN, ROUND, WORKERS, TRIAL, COMMAND_NAMES};
+ghost use Rattle.tn_cli.specs.Line.{PICKS, BY_PICKS, REPLAY, EXPLAIN, DRAW, ROUND, WORKERS, TRIAL, COMMAND_NAMES};
 
 use clap::{Arg, ArgAction, ArgGroup, Command, value_parser};
 use std::alloc::{AllocError, Global};
@@ -194,6 +194,26 @@ fn explain<'a>(alloc: Global) -> Result<Command<'a>, AllocError>
         .arg(session(alloc))?
         .arg(move_number(alloc))?
         .arg(node(alloc))?;
+    with_expectation(alloc, command)
+}
+
+/// `--text`.
+fn text<'a>(alloc: Global) -> Arg<'a>
+    ensures { IsFlag (codes "text") result }
+{
+    Arg::new(alloc, "text")
+        .long("text")
+        .help("Writes lines for a terminal, and no SVG")
+        .action(ArgAction::SetTrue)
+}
+
+/// The subcommand `draw [SCRIPT] [--text]` with picks, and with what its output must be.
+fn draw<'a>(alloc: Global) -> Result<Command<'a>, AllocError>
+    ensures arguments { IfOk result (IsCommand (codes "draw") DRAW) }
+    ensures picks { IfOk result WantsPicks }
+{
+    let about = "Runs the script by the given picks, and prints a sequence diagram of it as SVG";
+    let command = by_picks(alloc, "draw", about)?.arg(text(alloc))?;
     with_expectation(alloc, command)
 }
 
@@ -392,5 +412,6 @@ pub fn command<'a>(alloc: Global) -> Result<Command<'a>, AllocError>
     let command = with_subcommand(command, round(alloc))?;
     let command = with_subcommand(command, workers(alloc))?;
     let command = with_subcommand(command, explain(alloc))?;
+    let command = with_subcommand(command, draw(alloc))?;
     with_subcommand(command, spec(alloc))
 }

@@ -26,6 +26,7 @@ use tn_command::{
     perform, picks_of, report, tell_fault, test_spec,
 };
 use tn_explain::{ExplainRequest, Filter, RunAndNote};
+use tn_picture::{DrawRequest, PictureFormat};
 use tn_run::{RunFault, Schedule, Workers, write_output};
 use tn_text::Watched;
 use tn_verdict::SpecTestInput;
@@ -37,6 +38,8 @@ enum Task<'a> {
     Replay { quiet: bool },
     /// The run is explained: the session and the move that are asked for.
     Explain(Filter<'a>),
+    /// The run is drawn.
+    Draw(PictureFormat),
 }
 
 /// Runs the script by a schedule, with the note of what a running node does otherwise, or without.
@@ -73,6 +76,7 @@ fn run_task<R: Input + Files + Print + Eprint + AllocGlobal>(
         Task::Explain(filter) => {
             perform(rt, script, &ExplainRequest { picks, filter }, expectation)
         }
+        Task::Draw(format) => perform(rt, script, &DrawRequest { picks, format }, expectation),
     }
 }
 
@@ -187,6 +191,12 @@ fn run_so<R: Input + Files + Print + Eprint + AllocGlobal + Threads + Wait + Syn
             filter,
             ..
         } => run_by_picks(rt, Task::Explain(filter), script, picks, expectation),
+        Request::Draw {
+            script,
+            picks,
+            format,
+            ..
+        } => run_by_picks(rt, Task::Draw(format), script, picks, expectation),
         Request::Round {
             script,
             limit,

@@ -1,6 +1,6 @@
 // What the command line asks for: a command, made of what was read of its words.
 ghost use Rattle.std.specs.Prelude.{◌≡◌, [], OkIff, IfOk, IfErr, IfSome, IfNone, unwrap_or, codes};
-ghost use Rattle.tn_cli.specs.Requests.{argument, is_given, dialect_named, IsBetween, number_given, IsNumberOrNone};
+ghost use Rattle.tn_cli.specs.Requests.{argument, is_given, format_named, dialect_named, IsBetween, number_given, IsNumberOrNone};
 ghost use Rattle.tn_cli.specs.Requests.{NamesProcess, NamesNoProcess, ArePicksOf, IsSourceNamed, Asks, IsAskedBy};
 ghost use Rattle.tn_cli.specs.Requests.{LacksNumber, IsWithoutNumber, NamesNoCommand};
 ghost use Rattle.tn_cli.specs.Requests.{IsExpectationOf, request_expectation};
@@ -9,6 +9,7 @@ use crate::value::{process_number, session_name};
 use clap::ArgMatches;
 use tn_command::{Source, plain_number, source_of};
 use tn_explain::Filter;
+use tn_picture::PictureFormat;
 use tn_spec::Dialect;
 
 /// Where the text of picks is.
@@ -60,6 +61,13 @@ pub enum Request<'a> {
         filter: Filter<'a>,
         expectation: ExpectationArgs<'a>,
     },
+    /// A picture of a run by picks.
+    Draw {
+        script: Source<'a>,
+        picks: PicksSource<'a>,
+        format: PictureFormat,
+        expectation: ExpectationArgs<'a>,
+    },
     /// A round, in which so many picks may move.
     Round {
         script: Source<'a>,
@@ -91,6 +99,7 @@ impl<'a> Request<'a> {
         match *self {
             Request::Replay { expectation, .. } => expectation,
             Request::Explain { expectation, .. } => expectation,
+            Request::Draw { expectation, .. } => expectation,
             Request::Round { expectation, .. } => expectation,
             Request::Workers { expectation, .. } => expectation,
             Request::Spec(_) => ExpectationArgs {
@@ -251,6 +260,29 @@ fn explain<'a>(matches: &ArgMatches<'a>) -> Result<Request<'a>, BadNumber<'a>>
     })
 }
 
+/// What a picture is written as.
+fn format<'a>(matches: &ArgMatches<'a>) -> PictureFormat
+    ensures { result ≡ format_named (is_given matches.now (codes "text")) }
+{
+    if flag(matches, "text") {
+        PictureFormat::Plain
+    } else {
+        PictureFormat::Svg
+    }
+}
+
+/// What `draw` asks for.
+fn draw<'a>(matches: &ArgMatches<'a>) -> Request<'a>
+    ensures { Asks (codes "draw") matches.now result }
+{
+    Request::Draw {
+        script: script(matches),
+        picks: picks(matches),
+        format: format(matches),
+        expectation: expectation(matches),
+    }
+}
+
 /// What `round` asks for.
 fn round<'a>(matches: &ArgMatches<'a>) -> Result<Request<'a>, BadNumber<'a>>
     ensures asks { IfOk result (Asks (codes "round") matches.now) }
@@ -307,6 +339,7 @@ pub fn request_of<'a>(matches: &ArgMatches<'a>) -> Result<Option<Request<'a>>, B
     match matches.subcommand() {
         Some(("replay", given)) => Ok(Some(replay(given))),
         Some(("explain", given)) => Ok(Some(explain(given)?)),
+        Some(("draw", given)) => Ok(Some(draw(given))),
         Some(("round", given)) => Ok(Some(round(given)?)),
         Some(("workers", given)) => Ok(Some(workers(given)?)),
         Some(("spec", given)) => Ok(Some(spec(given)?)),

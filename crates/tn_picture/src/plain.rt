@@ -174,7 +174,7 @@ impl Cell {
             Shape::Birth { pid } => self.put_mark(column_of(lives, pid), b"+", out),
             Shape::Death { pid } => self.put_mark(column_of(lives, pid), b"x", out),
             Shape::Dot { pid } => self.put_mark(column_of(lives, pid), b"o", out),
-            Shape::CommandLine => put_padded(12, b'=', b"", out),
+            Shape::CommandLine => put_padded(12, b' ', b"===========", out),
         }
     }
 }
