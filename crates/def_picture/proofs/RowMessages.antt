@@ -5,7 +5,7 @@ use Rattle.std.specs.Str.{bytes_eq}
 use Rattle.std.proofs.lemmas.Slice.Eq.{bytes_eq-Decides}
 use Rattle.std.proofs.lemmas.Bool.{eq-eqb, ne_eqb}
 use Rattle.std.proofs.lemmas.List.{map-append}
-use Rattle.std.proofs.lemmas.List.Elements.{filter-append, All-append, All-nil, All-cons, All-map}
+use Rattle.std.proofs.lemmas.List.Elements.{filter-append, All-append, All-nil, All-map}
 use Rattle.def_term.specs.Names.{Name}
 use Rattle.def_term.specs.Text.{w}
 use Rattle.def_term.specs.Tree.{Tree}
@@ -13,11 +13,10 @@ use Rattle.def_script.specs.Program.{Program}
 use Rattle.def_script.specs.Exports.{Exports, exports_of}
 use Rattle.def_script.specs.Script.{creations}
 use Rattle.def_run.specs.Run.{HistoryItem, events}
-use Rattle.def_run.specs.Listing.{messages}
 use Rattle.def_run.specs.History.{NamedSession, Moment, history, session_in, item_message}
 use Rattle.def_run.specs.HistoryLaws.{sessions_by_view}
 use Rattle.def_run.proofs.Histories.{state_by_view, message_by_view, message-at, over, over-history, history_has_the_listing}
-use Rattle.def_picture.specs.Picture.{Report, PictureRow, report_of, reports_of, row_of, rows_of, shape_of, label_of, texts_by, texts_in_rows}
+use Rattle.def_picture.specs.Picture.{Report, PictureRow, report_of, reports_of, row_of, rows_of, shape_of, label_of, texts_by}
 use Rattle.def_picture.specs.Laws.{IsNameAt, IsNumbered, PictureShowsTheListing, PictureShowsSessionsAlone, PictureShowsTheEvents}
 
 -- ---- names

@@ -1,6 +1,6 @@
 -- The picture of a run: its rows, the life lines of its processes, and the messages that its sessions report (own).
 -- Depends on the history of a run and on the text of terms. It knows nothing of where anything is drawn.
-use Rattle.std.specs.Prelude.{ℕ, suc, ◌+◌, ◌==◌, Bool, false, List, [], ◌∷◌, ◌++◌, map, filter, flat_map, position, length, codes}
+use Rattle.std.specs.Prelude.{ℕ, suc, ◌==◌, Bool, false, List, [], ◌∷◌, ◌++◌, map, filter, flat_map, position, length, codes}
 use Rattle.std.specs.Option.{unwrap_or}
 use Rattle.def_term.specs.Alive.{FIRST_PID}
 use Rattle.def_term.specs.Names.{Name}

@@ -1,6 +1,6 @@
 -- The text of a picture for a terminal (own).
 -- Depends on pictures. A process is a column of 12 letters, an event is a line.
-use Rattle.std.specs.Prelude.{ℕ, ◌+◌, ◌-◌, ◌==◌, nat_lt, nat_le, Bool, ◌&&◌, ◌||◌, if◌then◌else◌, List, [], ◌∷◌, ◌++◌, flat_map, length, replicate, codes, decimal}
+use Rattle.std.specs.Prelude.{ℕ, ◌-◌, ◌==◌, nat_lt, nat_le, ◌&&◌, ◌||◌, if◌then◌else◌, List, [], ◌∷◌, ◌++◌, flat_map, length, replicate, codes, decimal}
 use Rattle.def_term.specs.Names.{Name}
 use Rattle.def_term.specs.Text.{atom_text}
 use Rattle.def_picture.specs.Picture.{Shape, arrow, frame_start, frame_end, birth, death, dot, command_line, Report, PictureRow, Life, Picture, column_of}

@@ -8,7 +8,7 @@ use Rattle.def_node.specs.Event.{Event}
 use Rattle.def_outlook.specs.Outlook.{outlook}
 use Rattle.def_run.specs.Run.{HistoryItem, event_item, RunState, PickStep, pick_step, events, moves, moves_from, start, run_state_of, pick_step_after}
 use Rattle.def_run.proofs.Replay.{pick_kept, moves_bounded}
-use Rattle.def_run.specs.History.{NamedSession, Moment, all_after, all_after_items, named_sessions, moments_from, move_history, move_histories_from, moments_of, history}
+use Rattle.def_run.specs.History.{NamedSession, all_after, all_after_items, named_sessions, moments_from, move_history, move_histories_from, moments_of}
 use Rattle.def_picture.specs.Picture as picture
 use Rattle.def_picture.specs.Picture.{PictureRow, Report, reports_of, row_at, row_of, rows_of, shape_of, label_of}
 use Rattle.tn_trace.specs.Observers.{IsNextMove, SeesMove}

@@ -1,23 +1,18 @@
 -- What the sessions make of an event and of a command, one after the other.
-use Rattle.std.proofs.Common.{◌≡◌, ◌∙◌, ℕ, suc, ◌+◌, ◌<◌, ◌≤◌, Bool, true, false, if◌then◌else◌, List, [], ◌∷◌, ◌++◌, map, length, drop, get_or, Option, Some, None, option_to_list, refl, sym, ap, subst, add-one, append-nil, append_assoc}
+use Rattle.std.proofs.Common.{◌≡◌, ◌∙◌, ℕ, suc, ◌+◌, ◌<◌, ◌≤◌, Bool, true, false, if◌then◌else◌, List, [], ◌∷◌, ◌++◌, map, length, drop, get_or, Option, refl, sym, ap, add-one, append-nil, append_assoc}
 use Rattle.std.proofs.Math.ListN.{set}
 use Rattle.std.specs.Str.{bytes_eq}
-use Rattle.std.specs.Option.{IsSomeAnd}
 use Rattle.def_term.specs.Alive.{Alive}
 use Rattle.def_term.specs.Names.{Name}
 use Rattle.def_term.specs.Tree.{Tree}
 use Rattle.def_script.specs.Program.{Command, session_of}
 use Rattle.def_script.specs.Exports.{Exports}
-use Rattle.def_node.specs.Event.{Event}
-use Rattle.def_session.specs.State.{absent, new_session, absent_session, alive_after}
-use Rattle.def_session.specs.Session.{event_reported}
+use Rattle.def_session.specs.State.{absent_session}
 use Rattle.def_session.specs.Commands.{command_done}
-use Rattle.def_run.specs.Run.{HistoryItem, event_item, command_item}
+use Rattle.def_run.specs.Run.{HistoryItem, command_item}
 use Rattle.def_run.specs.History.{NamedSession, after, all_after, item_message}
 use Rattle.def_picture.specs.Picture.{Report, report_of, reports_of}
-use Rattle.tn_session.specs.Sessions.{SessionValue, value_in, next_session}
-use Rattle.tn_session.specs.declared.session.Session.{Session}
-use Rattle.tn_trace.specs.Slots.{IsSession, IsTracked, ObeysOwn, EachPair, EachUpTo}
+use Rattle.tn_trace.specs.Slots.{IsTracked, ObeysOwn, EachPair, EachUpTo}
 use Rattle.tn_trace.specs.Tracks.{Track, tracks_from}
 use Rattle.tn_trace.specs.declared.slot.Slot.{Slot}
 use Rattle.tn_trace.proofs.Places.{up_to_none, up_to_all, all_dropped, each_mapped, place_here}

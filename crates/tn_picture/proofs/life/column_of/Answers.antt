@@ -1,4 +1,4 @@
-use Rattle.std.proofs.Common.{◌≡◌, ◌∙◌, ◌==◌, length, map, sym, ap, ap₂}
+use Rattle.std.proofs.Common.{◌∙◌, ◌==◌, sym, ap₂}
 use Rattle.std.specs.Option.{unwrap_or}
 use Rattle.std.proofs.lemmas.List.{length-map}
 use Rattle.tn_picture.specs.Views.{life_seen}

@@ -1,4 +1,4 @@
-use Rattle.std.proofs.Common.{◌≡◌, ◌∙◌, ◌∷◌, [], ◌++◌, ◌+◌, ◌-◌, map, sym, ap, arith}
+use Rattle.std.proofs.Common.{◌∙◌, ◌∷◌, ◌++◌, ◌+◌, ◌-◌, map, sym, ap, arith}
 use Rattle.def_run.specs.Round.{pass_from}
 use Rattle.def_picture.specs.Picture.{life_of}
 use Rattle.tn_picture.specs.Views.{life_seen, row_seen}

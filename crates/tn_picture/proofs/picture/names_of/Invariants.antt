@@ -1,4 +1,4 @@
-use Rattle.std.proofs.Common.{◌≡◌, map, take}
+use Rattle.std.proofs.Common.{◌≡◌, take}
 use Rattle.def_script.specs.Script.{creations}
 use Rattle.tn_program.specs.Views.{program_of}
 use Rattle.tn_picture.proofs.SessionNames.{names_among}

@@ -1,4 +1,4 @@
-use Rattle.std.proofs.Common.{◌≡◌, ◌<◌, ◌≤◌, ◌∙◌, length, refl, arith}
+use Rattle.std.proofs.Common.{◌<◌, ◌≤◌, ◌∙◌, length, refl, arith}
 use Rattle.std.proofs.Math.ListN.{length-set}
 use Rattle.def_run.specs.Run.{command_item}
 use Rattle.tn_term.specs.Views.{alive_of}

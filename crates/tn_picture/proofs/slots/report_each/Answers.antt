@@ -1,4 +1,4 @@
-use Rattle.std.proofs.Common.{◌≡◌, ◌<◌, ◌≤◌, ◌∙◌, length, refl, arith}
+use Rattle.std.proofs.Common.{◌<◌, ◌≤◌, ◌∙◌, length, refl, arith}
 use Rattle.std.proofs.Math.ListN.{length-set}
 use Rattle.def_session.specs.State.{alive_after}
 use Rattle.def_run.specs.Run.{event_item}
