@@ -21,10 +21,7 @@ pub fn draw<A: Allocator + Copy, R: Read, W: Write>(
     out: &mut Watched<W>,
     same_out: &mut Watched<W>,
     request: &DrawRequest<'_>,
-) -> (
-    Result<DrawOutcome, RunFault>,
-    Result<DrawOutcome, RunFault>,
-)
+) -> (Result<DrawOutcome, RunFault>, Result<DrawOutcome, RunFault>)
     requires reported { TellAlike R.remaining one.old other.old }
     requires failed { has_failed one.old ≡ has_failed other.old }
     requires outs { SeenAlike W.contents out.old same_out.old }

@@ -11,7 +11,10 @@ pub fn picture_of<A: Allocator + Copy>(
     alloc: A,
     program: &Program<A>,
     picks: &[u32],
-) -> (Result<Picture<A>, AllocError>, Result<Picture<A>, AllocError>)
+) -> (
+    Result<Picture<A>, AllocError>,
+    Result<Picture<A>, AllocError>,
+)
     ensures { IfOk result.0 (λ a. IfOk result.1 (λ b. picture_seen a ≡ picture_seen b)) }
 {
     (
@@ -25,11 +28,17 @@ pub fn svg_text<A: Allocator + Copy>(
     alloc: A,
     one: &Picture<A>,
     other: &Picture<A>,
-) -> (Result<Vec<u8, A>, AllocError>, Result<Vec<u8, A>, AllocError>)
+) -> (
+    Result<Vec<u8, A>, AllocError>,
+    Result<Vec<u8, A>, AllocError>,
+)
     requires { picture_seen one.now ≡ picture_seen other.now }
     ensures { IfOk result.0 (λ a. IfOk result.1 (λ b. a.items ≡ b.items)) }
 {
-    (tn_picture::svg_text(alloc, one), tn_picture::svg_text(alloc, other))
+    (
+        tn_picture::svg_text(alloc, one),
+        tn_picture::svg_text(alloc, other),
+    )
 }
 
 /// `tn_picture::plain_text` has one text.
@@ -37,11 +46,17 @@ pub fn plain_text<A: Allocator + Copy>(
     alloc: A,
     one: &Picture<A>,
     other: &Picture<A>,
-) -> (Result<Vec<u8, A>, AllocError>, Result<Vec<u8, A>, AllocError>)
+) -> (
+    Result<Vec<u8, A>, AllocError>,
+    Result<Vec<u8, A>, AllocError>,
+)
     requires { picture_seen one.now ≡ picture_seen other.now }
     ensures { IfOk result.0 (λ a. IfOk result.1 (λ b. a.items ≡ b.items)) }
 {
-    (tn_picture::plain_text(alloc, one), tn_picture::plain_text(alloc, other))
+    (
+        tn_picture::plain_text(alloc, one),
+        tn_picture::plain_text(alloc, other),
+    )
 }
 
 /// `tn_picture::PictureFormat::text_of` has one text.
@@ -50,7 +65,10 @@ pub fn text_of<A: Allocator + Copy>(
     format: PictureFormat,
     one: &Picture<A>,
     other: &Picture<A>,
-) -> (Result<Vec<u8, A>, AllocError>, Result<Vec<u8, A>, AllocError>)
+) -> (
+    Result<Vec<u8, A>, AllocError>,
+    Result<Vec<u8, A>, AllocError>,
+)
     requires { picture_seen one.now ≡ picture_seen other.now }
     ensures { IfOk result.0 (λ a. IfOk result.1 (λ b. a.items ≡ b.items)) }
 {
@@ -63,7 +81,10 @@ pub fn picture_text<A: Allocator + Copy>(
     program: &Program<A>,
     picks: &[u32],
     format: PictureFormat,
-) -> (Result<Vec<u8, A>, AllocError>, Result<Vec<u8, A>, AllocError>)
+) -> (
+    Result<Vec<u8, A>, AllocError>,
+    Result<Vec<u8, A>, AllocError>,
+)
     ensures { IfOk result.0 (λ a. IfOk result.1 (λ b. a.items ≡ b.items)) }
 {
     (

@@ -16,8 +16,8 @@ use Rattle.def_run.specs.Run.{HistoryItem, events}
 use Rattle.def_run.specs.History.{NamedSession, Moment, history, session_in, item_message}
 use Rattle.def_run.specs.HistoryLaws.{sessions_by_view}
 use Rattle.def_run.proofs.Histories.{state_by_view, message_by_view, message-at, over, over-history, history_has_the_listing}
-use Rattle.def_picture.specs.Picture.{Report, PictureRow, report_of, reports_of, row_of, rows_of, shape_of, label_of, texts_by}
-use Rattle.def_picture.specs.Laws.{IsNameAt, IsNumbered, PictureShowsTheListing, PictureShowsSessionsAlone, PictureShowsTheEvents}
+use Rattle.def_picture.specs.Picture.{Report, PictureRow, report_of, reports_of, moment_row, rows_of, shape_of, label_of, texts_by}
+use Rattle.def_picture.specs.Laws.{IsNameAt, IsOfOneSession, PictureShowsTheListing, PictureShowsSessionsAlone, PictureShowsTheEvents}
 
 -- ---- names
 
@@ -72,9 +72,9 @@ module _ (o : Exports) (n : Name) (past : List HistoryItem) (x : HistoryItem) wh
 
 -- ---- all rows
 
-flat-row : {B : Type 0} (f : PictureRow → List B) (ms : List Moment) → flat_map f (map row_of ms) ≡ flat_map (λ m. f (row_of m)) ms
+flat-row : {B : Type 0} (f : PictureRow → List B) (ms : List Moment) → flat_map f (map moment_row ms) ≡ flat_map (λ m. f (moment_row m)) ms
 flat-row f [] = refl
-flat-row f (m ∷ ms) = ap (λ l. f (row_of m) ++ l) (flat-row f ms)
+flat-row f (m ∷ ms) = ap (λ l. f (moment_row m) ++ l) (flat-row f ms)
 
 flat-written : (f : Moment → List Tree) (ms : List Moment) → flat_map (λ m. map w (f m)) ms ≡ map w (flat_map f ms)
 flat-written f [] = refl
@@ -93,27 +93,27 @@ picture_shows_the_listing p picks k n named =
 
 -- ---- no other message
 
-numbered-by : (count j : ℕ) → 1 ≤ j → j ≤ count → (ms : List Tree) → All (IsNumbered count) (map (report_of j) ms)
-numbered-by count j low high ms = All-map (IsNumbered count) (report_of j) ms (λ k d lt. (low, high))
+numbered-by : (count j : ℕ) → 1 ≤ j → j ≤ count → (ms : List Tree) → All (IsOfOneSession count) (map (report_of j) ms)
+numbered-by count j low high ms = All-map (IsOfOneSession count) (report_of j) ms (λ k d lt. (low, high))
 
-numbered-reports : (o : Exports) (count j : ℕ) (cs : List (Name × Name)) (past : List HistoryItem) (x : HistoryItem) → 1 ≤ j → j + length cs ≤ suc count → All (IsNumbered count) (reports_of j (sessions_by_view o cs past) x)
-numbered-reports o count j [] past x low fits = All-nil (IsNumbered count)
+numbered-reports : (o : Exports) (count j : ℕ) (cs : List (Name × Name)) (past : List HistoryItem) (x : HistoryItem) → 1 ≤ j → j + length cs ≤ suc count → All (IsOfOneSession count) (reports_of j (sessions_by_view o cs past) x)
+numbered-reports o count j [] past x low fits = All-nil (IsOfOneSession count)
 numbered-reports o count j (s ∷ cs) past x low fits =
-    All-append (IsNumbered count) (map (report_of j) (item_message (state_by_view o s.0 past) x)) (reports_of (suc j) (sessions_by_view o cs past) x)
+    All-append (IsOfOneSession count) (map (report_of j) (item_message (state_by_view o s.0 past) x)) (reports_of (suc j) (sessions_by_view o cs past) x)
     (numbered-by count j low (omega arith) (item_message (state_by_view o s.0 past) x))
     (numbered-reports o count (suc j) cs past x (omega arith) (omega arith))
 
-numbered-over : (o : Exports) (cs : List (Name × Name)) (past xs : List HistoryItem) → All (IsNumbered (length cs)) (over (λ past x. reports_of 1 (sessions_by_view o cs past) x) past xs)
-numbered-over o cs past [] = All-nil (IsNumbered (length cs))
+numbered-over : (o : Exports) (cs : List (Name × Name)) (past xs : List HistoryItem) → All (IsOfOneSession (length cs)) (over (λ past x. reports_of 1 (sessions_by_view o cs past) x) past xs)
+numbered-over o cs past [] = All-nil (IsOfOneSession (length cs))
 numbered-over o cs past (x ∷ xs) =
-    All-append (IsNumbered (length cs)) (reports_of 1 (sessions_by_view o cs past) x) (over (λ past x. reports_of 1 (sessions_by_view o cs past) x) (past ++ x ∷ []) xs)
+    All-append (IsOfOneSession (length cs)) (reports_of 1 (sessions_by_view o cs past) x) (over (λ past x. reports_of 1 (sessions_by_view o cs past) x) (past ++ x ∷ []) xs)
     (numbered-reports o (length cs) 1 cs past x (omega arith) (omega arith)) (numbered-over o cs (past ++ x ∷ []) xs)
 
 pub picture_shows_sessions_alone : PictureShowsSessionsAlone
 picture_shows_sessions_alone p picks =
     let o : Exports = exports_of p in
     let cs : List (Name × Name) = creations p.commands in
-    subst (All (IsNumbered (length cs)))
+    subst (All (IsOfOneSession (length cs)))
     (sym (flat-row (λ r. r.reports) (history p picks) ∙ over-history p picks (λ m. reports_of 1 m.before m.item) (λ past x. reports_of 1 (sessions_by_view o cs past) x) (λ j pick past x known. refl)))
     (numbered-over o cs [] (events p picks))
 
@@ -124,11 +124,11 @@ module _ {B : Type 0} (f : HistoryItem → B) where
   one-each past [] = refl
   one-each past (x ∷ xs) = ap (λ l. f x ∷ l) (one-each (past ++ x ∷ []) xs)
 
-  rows-each : (g : PictureRow → B) → ((m : Moment) → g (row_of m) ≡ f m.item) → (ms : List Moment) → map g (map row_of ms) ≡ flat_map (λ m. f m.item ∷ []) ms
+  rows-each : (g : PictureRow → B) → ((m : Moment) → g (moment_row m) ≡ f m.item) → (ms : List Moment) → map g (map moment_row ms) ≡ flat_map (λ m. f m.item ∷ []) ms
   rows-each g same [] = refl
   rows-each g same (m ∷ ms) = ap₂ (λ a b. a ∷ b) (same m) (rows-each g same ms)
 
-  pub of-events : (p : Program) (picks : List ℕ) (g : PictureRow → B) → ((m : Moment) → g (row_of m) ≡ f m.item) → map g (rows_of p picks) ≡ map f (events p picks)
+  pub of-events : (p : Program) (picks : List ℕ) (g : PictureRow → B) → ((m : Moment) → g (moment_row m) ≡ f m.item) → map g (rows_of p picks) ≡ map f (events p picks)
   of-events p picks g same = rows-each g same (history p picks) ∙ over-history p picks (λ m. f m.item ∷ []) (λ past x. f x ∷ []) (λ j pick past x known. refl) ∙ one-each [] (events p picks)
 
 pub picture_shows_the_events : PictureShowsTheEvents

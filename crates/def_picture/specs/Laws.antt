@@ -22,12 +22,12 @@ PictureShowsTheListing =
     (p : Program) (picks : List ℕ) (k : ℕ) (n : Name) → IsNameAt k n (creations p.commands) → texts_in_rows (suc k) (rows_of p picks) ≡ map w (messages n p picks)
 
 -- the number is one of so many, from 1
-abbrev pub IsNumbered : ℕ → Report → Type 0
-IsNumbered count r = (1 ≤ r.session) × (r.session ≤ count)
+abbrev pub IsOfOneSession : ℕ → Report → Type 0
+IsOfOneSession count r = (1 ≤ r.session) × (r.session ≤ count)
 
 -- and each message in a row is of a session of the control list, so that there is no other
 abbrev pub PictureShowsSessionsAlone : Type 0
-PictureShowsSessionsAlone = (p : Program) (picks : List ℕ) → All (IsNumbered (length (creations p.commands))) (flat_map (λ r. r.reports) (rows_of p picks))
+PictureShowsSessionsAlone = (p : Program) (picks : List ℕ) → All (IsOfOneSession (length (creations p.commands))) (flat_map (λ r. r.reports) (rows_of p picks))
 
 -- each event and command has a row, in their order
 abbrev pub PictureShowsTheEvents : Type 0

@@ -91,8 +91,8 @@ abbrev pub row_at : (move : ℕ) → List NamedSession → HistoryItem → Pictu
 row_at move ss x = record { move = move; shape = shape_of x; label = label_of x; reports = reports_of 1 ss x }
 
 -- a moment of the history is a row
-abbrev pub row_of : Moment → PictureRow
-row_of m = row_at m.move m.before m.item
+abbrev pub moment_row : Moment → PictureRow
+moment_row m = row_at m.move m.before m.item
 
 -- ---- life lines
 
@@ -139,7 +139,7 @@ pub record Picture : Type 0 where
 
 -- the rows of a run
 abbrev pub rows_of : Program → List ℕ → List PictureRow
-rows_of p picks = map row_of (history p picks)
+rows_of p picks = map moment_row (history p picks)
 
 -- the picture of a program with these rows
 abbrev pub picture_of_rows : Program → List PictureRow → Picture

@@ -1,8 +1,8 @@
 //! The picture of a run, and its text as a graphic and for a terminal.
 //!
-//! Depends on the runs of `def_run`. Promises, as laws: each event and command of a run has a row of its picture, in their order; the messages of a
-//! session in the rows are the lines of its listing, each once and in their order, and there is no other; and the
-//! content of an element of the graphic has no markup. There is no code.
+//! Depends on the runs of `def_run`. Promises, as laws: each event and command of a run has a row of its picture,
+//! in their order; the messages of a session in the rows are the lines of its listing, each once and in their
+//! order, and there is no other; and the content of an element of the graphic has no markup. There is no code.
 #![tactic(auto)]
 
 ghost use Rattle.def_picture.specs.Laws.{PictureShowsTheEvents, PictureShowsTheListing, PictureShowsSessionsAlone};

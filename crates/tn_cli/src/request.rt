@@ -1,6 +1,7 @@
 // What the command line asks for: a command, made of what was read of its words.
 ghost use Rattle.std.specs.Prelude.{◌≡◌, [], OkIff, IfOk, IfErr, IfSome, IfNone, unwrap_or, codes};
-ghost use Rattle.tn_cli.specs.Requests.{argument, is_given, format_named, dialect_named, IsBetween, number_given, IsNumberOrNone};
+ghost use Rattle.tn_cli.specs.Requests.{argument, is_given, format_named, dialect_named, IsBetween};
+ghost use Rattle.tn_cli.specs.Requests.{number_given, IsNumberOrNone};
 ghost use Rattle.tn_cli.specs.Requests.{NamesProcess, NamesNoProcess, ArePicksOf, IsSourceNamed, Asks, IsAskedBy};
 ghost use Rattle.tn_cli.specs.Requests.{LacksNumber, IsWithoutNumber, NamesNoCommand};
 ghost use Rattle.tn_cli.specs.Requests.{IsExpectationOf, request_expectation};

@@ -10,13 +10,13 @@ use Rattle.def_run.specs.Run.{HistoryItem, event_item, RunState, PickStep, pick_
 use Rattle.def_run.proofs.Replay.{pick_kept, moves_bounded}
 use Rattle.def_run.specs.History.{NamedSession, all_after, all_after_items, named_sessions, moments_from, move_history, move_histories_from, moments_of}
 use Rattle.def_picture.specs.Picture as picture
-use Rattle.def_picture.specs.Picture.{PictureRow, Report, reports_of, row_at, row_of, rows_of, shape_of, label_of}
+use Rattle.def_picture.specs.Picture.{PictureRow, Report, reports_of, row_at, moment_row, rows_of, shape_of, label_of}
 use Rattle.tn_trace.specs.Observers.{IsNextMove, SeesMove}
 use Rattle.tn_trace.specs.Follows.{AddsEach, AddsFrom}
 use Rattle.tn_trace.specs.declared.journal.JournalEntry.{JournalEntry}
 use Rattle.tn_trace.proofs.Moves.{place_more, events_more, moves_more}
 use Rattle.tn_picture.specs.Slots.{reports_seen}
-use Rattle.tn_picture.specs.Views.{row_seen, shape_seen}
+use Rattle.tn_picture.specs.Views.{picture_row_seen, row_shape_seen}
 use Rattle.tn_picture.specs.Painters.{ArePainterSessions, sessions_at, HasPainted, rows_seen, rows_over, rows_of_pick, AddsRows}
 use Rattle.tn_picture.specs.declared.row.Row.{Row}
 use Rattle.tn_picture.specs.declared.painter.Painter.{Painter}
@@ -26,16 +26,16 @@ use Rattle.tn_picture.specs.declared.painter.Painter.{Painter}
 row-with : ℕ → picture.Shape → List ℕ → List Report → PictureRow
 row-with k shape label reports = record { move = k; shape = shape; label = label; reports = reports }
 
-pub row_is : {A : Type 0} (k : ℕ) (ss : List NamedSession) (x : HistoryItem) (row : Row A) → row.move_number ≡ k → shape_seen row.shape ≡ shape_of x → row.label.items ≡ label_of x → reports_seen row.reports ≡ reports_of 1 ss x → row_seen row ≡ row_at k ss x
+pub row_is : {A : Type 0} (k : ℕ) (ss : List NamedSession) (x : HistoryItem) (row : Row A) → row.move_number ≡ k → row_shape_seen row.shape ≡ shape_of x → row.label.items ≡ label_of x → reports_seen row.reports ≡ reports_of 1 ss x → picture_row_seen row ≡ row_at k ss x
 unfolding row-with
 row_is k ss x row number shape label reports =
-    ap (λ n. row-with n (shape_seen row.shape) row.label.items (reports_seen row.reports)) number
+    ap (λ n. row-with n (row_shape_seen row.shape) row.label.items (reports_seen row.reports)) number
     ∙ ap (λ s. row-with k s row.label.items (reports_seen row.reports)) shape
     ∙ ap (λ l. row-with k (shape_of x) l (reports_seen row.reports)) label
     ∙ ap (λ rs. row-with k (shape_of x) (label_of x) rs) reports
 
-pub row_added : {A : Type 0} (k : ℕ) (ss : List NamedSession) (x : HistoryItem) (row : Row A) (rows rows' : Vec (Row A) A) → rows'.items ≡ rows.items ++ row ∷ [] → row_seen row ≡ row_at k ss x → rows_seen rows' ≡ rows_seen rows ++ row_at k ss x ∷ []
-row_added k ss x row rows rows' pushed is = ap (map row_seen) pushed ∙ map-append row_seen rows.items (row ∷ []) ∙ ap (λ r. rows_seen rows ++ r ∷ []) is
+pub row_added : {A : Type 0} (k : ℕ) (ss : List NamedSession) (x : HistoryItem) (row : Row A) (rows rows' : Vec (Row A) A) → rows'.items ≡ rows.items ++ row ∷ [] → picture_row_seen row ≡ row_at k ss x → rows_seen rows' ≡ rows_seen rows ++ row_at k ss x ∷ []
+row_added k ss x row rows rows' pushed is = ap (map picture_row_seen) pushed ∙ map-append picture_row_seen rows.items (row ∷ []) ∙ ap (λ r. rows_seen rows ++ r ∷ []) is
 
 -- ---- one move
 
@@ -107,21 +107,21 @@ rows_from o fs q k ss (pick ∷ picks) =
     let t : PickStep = pick_step fs q pick in
     rows_over o (suc k) ss t.shown ++ rows_from o fs t.after (if t.moved then suc k else k) (all_after_items o ss t.shown) picks
 
-rows-of-moments : (o : Exports) (k pick : ℕ) (ss : List NamedSession) (xs : List HistoryItem) → map row_of (moments_from o k pick ss xs) ≡ rows_over o k ss xs
+rows-of-moments : (o : Exports) (k pick : ℕ) (ss : List NamedSession) (xs : List HistoryItem) → map moment_row (moments_from o k pick ss xs) ≡ rows_over o k ss xs
 rows-of-moments o k pick ss [] = refl
 rows-of-moments o k pick ss (x ∷ xs) = ap (λ l. row_at k ss x ∷ l) (rows-of-moments o k pick (all_after o ss x) xs)
 
-from-history : (o : Exports) (fs : List Function) (q : RunState) (k : ℕ) (ss : List NamedSession) (picks : List ℕ) → map row_of (moments_of (move_histories_from o fs q k ss picks)) ≡ rows_from o fs q k ss picks
+from-history : (o : Exports) (fs : List Function) (q : RunState) (k : ℕ) (ss : List NamedSession) (picks : List ℕ) → map moment_row (moments_of (move_histories_from o fs q k ss picks)) ≡ rows_from o fs q k ss picks
 from-history o fs q k ss [] = refl
 from-history o fs q k ss (pick ∷ picks) =
     go (pick_step fs q pick) (pick_step fs q pick).moved (λ e. ap (λ (u : PickStep). u.shown) (pick_kept fs q pick e)) refl (λ r j vs. from-history o fs r j vs picks)
   where
-    go : (t : PickStep) (b : Bool) → (t.moved ≡ false → t.shown ≡ []) → t.moved ≡ b → ((r : RunState) (j : ℕ) (vs : List NamedSession) → map row_of (moments_of (move_histories_from o fs r j vs picks)) ≡ rows_from o fs r j vs picks)
-        → map row_of (moments_of (if b then move_history o (suc k) pick (outlook fs q.world pick) ss t.shown ∷ move_histories_from o fs t.after (suc k) (all_after_items o ss t.shown) picks else move_histories_from o fs t.after k ss picks))
+    go : (t : PickStep) (b : Bool) → (t.moved ≡ false → t.shown ≡ []) → t.moved ≡ b → ((r : RunState) (j : ℕ) (vs : List NamedSession) → map moment_row (moments_of (move_histories_from o fs r j vs picks)) ≡ rows_from o fs r j vs picks)
+        → map moment_row (moments_of (if b then move_history o (suc k) pick (outlook fs q.world pick) ss t.shown ∷ move_histories_from o fs t.after (suc k) (all_after_items o ss t.shown) picks else move_histories_from o fs t.after k ss picks))
         ≡ rows_over o (suc k) ss t.shown ++ rows_from o fs t.after (if b then suc k else k) (all_after_items o ss t.shown) picks
     go t true none e again =
-        map-append row_of (moments_from o (suc k) pick ss t.shown) (moments_of (move_histories_from o fs t.after (suc k) (all_after_items o ss t.shown) picks))
-        ∙ ap (λ l. l ++ map row_of (moments_of (move_histories_from o fs t.after (suc k) (all_after_items o ss t.shown) picks))) (rows-of-moments o (suc k) pick ss t.shown)
+        map-append moment_row (moments_from o (suc k) pick ss t.shown) (moments_of (move_histories_from o fs t.after (suc k) (all_after_items o ss t.shown) picks))
+        ∙ ap (λ l. l ++ map moment_row (moments_of (move_histories_from o fs t.after (suc k) (all_after_items o ss t.shown) picks))) (rows-of-moments o (suc k) pick ss t.shown)
         ∙ ap (λ l. rows_over o (suc k) ss t.shown ++ l) (again t.after (suc k) (all_after_items o ss t.shown))
     go t false none e again = again t.after k ss ∙ ap (λ xs. rows_over o (suc k) ss xs ++ rows_from o fs t.after k (all_after_items o ss xs) picks) (sym (none e))
 

@@ -13,7 +13,7 @@ use Rattle.tn_flags.specs.declared.event.Event.{Event}
 use Rattle.tn_flags.specs.declared.command.Command.{Command}
 use Rattle.tn_trace.specs.Slots.{EachPair}
 use Rattle.tn_picture.specs.Slots.{IsSlotOf}
-use Rattle.tn_picture.specs.Views.{row_seen}
+use Rattle.tn_picture.specs.Views.{picture_row_seen}
 use Rattle.tn_picture.specs.declared.row.Row.{Row}
 use Rattle.tn_picture.specs.declared.painter.Painter.{Painter}
 
@@ -31,7 +31,7 @@ HasPainted c p picks = ArePainterSessions (exports_of p) (sessions_at p picks) c
 
 -- the rows of a vector
 abbrev pub rows_seen : {A : Type 0} → Vec (Row A) A → List PictureRow
-rows_seen v = map row_seen v.items
+rows_seen v = map picture_row_seen v.items
 
 -- the rows of a move that shows these
 abbrev pub rows_over : Exports → ℕ → List NamedSession → List HistoryItem → List PictureRow

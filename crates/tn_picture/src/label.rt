@@ -28,7 +28,7 @@ pub(crate) fn event_label<A: Allocator + Copy>(
 }
 
 /// A word and a name after it.
-fn named<A: Allocator + Copy>(
+fn label_with_name<A: Allocator + Copy>(
     alloc: A,
     word: &'static [u8],
     name: &Atom<A>,
@@ -49,11 +49,15 @@ pub(crate) fn command_label<A: Allocator + Copy>(
     ensures { IfOk result (λ v. v.items ≡ command_label (command_of command.now)) }
 {
     match command {
-        Command::SessionCreate { session, .. } => named(alloc, b"session_create ", session),
-        Command::SessionDestroy { session } => named(alloc, b"session_destroy ", session),
-        Command::Process { session, .. } => named(alloc, b"process ", session),
-        Command::Function { session, .. } => named(alloc, b"function ", session),
-        Command::Send { session, .. } => named(alloc, b"send ", session),
-        Command::Recv { session, .. } => named(alloc, b"recv ", session),
+        Command::SessionCreate { session, .. } => label_with_name(
+            alloc,
+            b"session_create ",
+            session,
+        ),
+        Command::SessionDestroy { session } => label_with_name(alloc, b"session_destroy ", session),
+        Command::Process { session, .. } => label_with_name(alloc, b"process ", session),
+        Command::Function { session, .. } => label_with_name(alloc, b"function ", session),
+        Command::Send { session, .. } => label_with_name(alloc, b"send ", session),
+        Command::Recv { session, .. } => label_with_name(alloc, b"recv ", session),
     }
 }

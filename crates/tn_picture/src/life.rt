@@ -3,7 +3,7 @@ ghost use Rattle.std.specs.Prelude.{◌≡◌, ◌==◌, ◌<◌, ◌++◌, map,
 ghost use Rattle.std.specs.List.{position};
 ghost use Rattle.def_run.specs.Round.{pass_from};
 ghost use Rattle.def_picture.specs.Picture.{births, is_birth, is_death, life_of, column_of, pids_of};
-ghost use Rattle.tn_picture.specs.Views.{life_seen, row_seen, shape_seen};
+ghost use Rattle.tn_picture.specs.Views.{life_seen, picture_row_seen, row_shape_seen};
 
 use crate::row::Row;
 use crate::shape::Shape;
@@ -19,14 +19,14 @@ pub struct Life {
 
 /// The row of the birth of a process.
 fn birth_row<A: Allocator>(rows: &[Row<A>], pid: u32) -> Option<usize>
-    ensures { result ≡ position (λ r. is_birth pid (shape_seen r.shape)) rows.now }
+    ensures { result ≡ position (λ r. is_birth pid (row_shape_seen r.shape)) rows.now }
 {
     rows.iter().position(|row| row.shape.is_birth(pid))
 }
 
 /// The row of its death.
 fn death_row<A: Allocator>(rows: &[Row<A>], pid: u32) -> Option<usize>
-    ensures { result ≡ position (λ r. is_death pid (shape_seen r.shape)) rows.now }
+    ensures { result ≡ position (λ r. is_death pid (row_shape_seen r.shape)) rows.now }
 {
     rows.iter().position(|row| row.shape.is_death(pid))
 }
@@ -40,7 +40,7 @@ fn place_of(lives: &[Life], pid: u32) -> Option<usize>
 
 /// The life of a process in these rows.
 fn life_of<A: Allocator>(rows: &[Row<A>], pid: u32) -> Life
-    ensures { life_seen result ≡ life_of (map row_seen rows.now) pid }
+    ensures { life_seen result ≡ life_of (map picture_row_seen rows.now) pid }
 {
     Life {
         pid,
@@ -64,7 +64,7 @@ pub(crate) fn lives_of<A: Allocator + Copy>(
 ) -> Result<Vec<Life, A>, AllocError>
     requires { entries < 65536 }
     ensures { IfOk result (λ v. map life_seen v.items ≡
-        map (life_of (map row_seen rows.now)) (pids_of entries (map row_seen rows.now))) }
+        map (life_of (map picture_row_seen rows.now)) (pids_of entries (map picture_row_seen rows.now))) }
 {
     let mut lives = Vec::new(alloc);
     put_entries(entries, rows, &mut lives)?;
@@ -80,7 +80,7 @@ fn put_entries<A: Allocator>(
 ) -> Result<(), AllocError>
     requires { entries < 65536 }
     ensures { OnOk result (map life_seen lives.new.items ≡ map life_seen lives.old.items ++
-        map (life_of (map row_seen rows.now)) (pass_from entries 100)) }
+        map (life_of (map picture_row_seen rows.now)) (pass_from entries 100)) }
 {
     let end = 100 + entries as u32;
     for pid in 100..end {
@@ -96,7 +96,7 @@ fn put_birth<A: Allocator>(
     lives: &mut Vec<Life, A>,
 ) -> Result<(), AllocError>
     ensures { OnOk result (map life_seen lives.new.items ≡ map life_seen lives.old.items ++
-        map (life_of (map row_seen rows.now)) (births (shape_seen shape))) }
+        map (life_of (map picture_row_seen rows.now)) (births (row_shape_seen shape))) }
 {
     if let Shape::Birth { pid } = shape {
         lives.push(life_of(rows, pid))?;
@@ -107,7 +107,8 @@ fn put_birth<A: Allocator>(
 /// Appends the lives of the processes that are spawned.
 fn put_births<A: Allocator>(rows: &[Row<A>], lives: &mut Vec<Life, A>) -> Result<(), AllocError>
     ensures { OnOk result (map life_seen lives.new.items ≡ map life_seen lives.old.items ++
-        map (life_of (map row_seen rows.now)) (flat_map (λ r. births r.shape) (map row_seen rows.now))) }
+        map (life_of (map picture_row_seen rows.now))
+        (flat_map (λ r. births r.shape) (map picture_row_seen rows.now))) }
 {
     for row in rows {
         put_birth(row.shape, rows, lives)?;

@@ -2,7 +2,7 @@
 ghost use Rattle.std.specs.Prelude.{◌≡◌, IfOk, map};
 ghost use Rattle.def_picture.specs.Picture.{rows_of};
 ghost use Rattle.tn_program.specs.Views.{program_of};
-ghost use Rattle.tn_picture.specs.Views.{row_seen};
+ghost use Rattle.tn_picture.specs.Views.{picture_row_seen};
 
 use crate::discard::Discard;
 use crate::label::{command_label, event_label};
@@ -149,7 +149,7 @@ pub(crate) fn rows_of<A: Allocator + Copy>(
     program: &Program<A>,
     picks: &[u32],
 ) -> Result<Vec<Row<A>, A>, AllocError>
-    ensures { IfOk result (λ v. map row_seen v.items ≡ rows_of (program_of program.now) picks.now) }
+    ensures { IfOk result (λ v. map picture_row_seen v.items ≡ rows_of (program_of program.now) picks.now) }
 {
     let painter = Painter::new(alloc, program)?;
     let mut run = Run::new(alloc, program, painter, JOURNAL)?;

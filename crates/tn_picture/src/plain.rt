@@ -5,7 +5,7 @@ ghost use Rattle.def_picture.specs.Plain.{pad, life_cell, arrow_cell, mark_cell,
 ghost use Rattle.def_picture.specs.Plain.{reporters_text, row_plain, session_plain};
 ghost use Rattle.def_picture.specs.Plain.{lives_plain, plain_text};
 ghost use Rattle.def_picture.specs.Templates.{each_numbered, fill};
-ghost use Rattle.tn_picture.specs.Views.{life_seen, report_seen, row_seen, shape_seen, picture_seen};
+ghost use Rattle.tn_picture.specs.Views.{life_seen, report_seen, picture_row_seen, row_shape_seen, picture_seen};
 
 use crate::life::{Life, column_of};
 use crate::picture::Picture;
@@ -72,7 +72,7 @@ impl Cell {
     ghost use Rattle.std.specs.Prelude.{◌≡◌, ◌++◌, ◌∷◌, [], OnOk, map};
     ghost use Rattle.def_picture.specs.Plain.{life_cell, arrow_cell, mark_cell, shape_cell};
     ghost use Rattle.def_picture.specs.Templates.{fill};
-    ghost use Rattle.tn_picture.specs.Views.{life_seen, shape_seen};
+    ghost use Rattle.tn_picture.specs.Views.{life_seen, row_shape_seen};
     ghost use Rattle.tn_picture.specs.Cells.{cell_life};
 
     /// Appends the life line of the process, where it lives.
@@ -159,7 +159,7 @@ impl Cell {
         out: &mut Vec<u8, A>,
     ) -> Result<(), AllocError>
         ensures { OnOk result (out.new.items ≡ out.old.items ++
-            shape_cell (map life_seen lives.now) self.now.column (shape_seen shape) (cell_life self.now)) }
+            shape_cell (map life_seen lives.now) self.now.column (row_shape_seen shape) (cell_life self.now)) }
     {
         match shape {
             Shape::Arrow { source, target } => {
@@ -189,7 +189,7 @@ fn put_cells<A: Allocator + Copy>(
     out: &mut Vec<u8, A>,
 ) -> Result<(), AllocError>
     ensures { OnOk result (out.new.items ≡ out.old.items ++
-        each_numbered (cell_text (map life_seen lives.now) row (shape_seen shape)) 0 (map life_seen lives.now)) }
+        each_numbered (cell_text (map life_seen lives.now) row (row_shape_seen shape)) 0 (map life_seen lives.now)) }
 {
     for column in 0..lives.len() {
         let life = lives[column];
@@ -223,7 +223,7 @@ fn put_row<A: Allocator + Copy>(
     out: &mut Vec<u8, A>,
 ) -> Result<(), AllocError>
     ensures { OnOk result (out.new.items ≡ out.old.items ++
-        row_plain (map life_seen lives.now) number (row_seen row.now)) }
+        row_plain (map life_seen lives.now) number (picture_row_seen row.now)) }
 {
     let mut buffer = Buffer::new();
     put_padded(8, b' ', buffer.format(row.move_number).as_bytes(), out)?;
@@ -241,7 +241,7 @@ fn put_rows<A: Allocator + Copy>(
     out: &mut Vec<u8, A>,
 ) -> Result<(), AllocError>
     ensures { OnOk result (out.new.items ≡ out.old.items ++
-        each_numbered (row_plain (map life_seen lives.now)) 0 (map row_seen rows.now)) }
+        each_numbered (row_plain (map life_seen lives.now)) 0 (map picture_row_seen rows.now)) }
 {
     for number in 0..rows.len() {
         put_row(alloc, lives, number, &rows[number], out)?;

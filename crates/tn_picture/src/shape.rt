@@ -2,7 +2,7 @@
 ghost use Rattle.std.specs.Prelude.{◌≡◌};
 ghost use Rattle.def_picture.specs.Picture.{shape_of_event};
 ghost use Rattle.tn_flags.specs.Views.{event_of};
-ghost use Rattle.tn_picture.specs.Views.{shape_seen};
+ghost use Rattle.tn_picture.specs.Views.{row_shape_seen};
 
 use std::alloc::Allocator;
 use tn_flags::Event;
@@ -29,11 +29,11 @@ pub enum Shape {
 impl Shape {
     ghost use Rattle.std.specs.Prelude.{◌≡◌};
     ghost use Rattle.def_picture.specs.Picture.{is_birth, is_death};
-    ghost use Rattle.tn_picture.specs.Views.{shape_seen};
+    ghost use Rattle.tn_picture.specs.Views.{row_shape_seen};
 
     /// Whether it is the birth of this process.
     pub(crate) fn is_birth(&self, wanted: u32) -> bool
-        ensures { result ≡ is_birth wanted (shape_seen self.now) }
+        ensures { result ≡ is_birth wanted (row_shape_seen self.now) }
     {
         match self {
             Shape::Birth { pid } => *pid == wanted,
@@ -43,7 +43,7 @@ impl Shape {
 
     /// Whether it is the death of this process.
     pub(crate) fn is_death(&self, wanted: u32) -> bool
-        ensures { result ≡ is_death wanted (shape_seen self.now) }
+        ensures { result ≡ is_death wanted (row_shape_seen self.now) }
     {
         match self {
             Shape::Death { pid } => *pid == wanted,
@@ -54,7 +54,7 @@ impl Shape {
 
 /// What an event looks like.
 pub(crate) fn shape_of_event<A: Allocator>(event: &Event<A>) -> Shape
-    ensures { shape_seen result ≡ shape_of_event (event_of event.now) }
+    ensures { row_shape_seen result ≡ shape_of_event (event_of event.now) }
 {
     match event {
         Event::Sent { pid, to, .. } => Shape::Arrow {

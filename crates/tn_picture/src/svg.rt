@@ -2,10 +2,11 @@
 ghost use Rattle.std.specs.Prelude.{◌≡◌, ◌++◌, ◌<◌, ◌^◌, OnOk, IfOk, codes, flat_map, length, map};
 ghost use Rattle.def_term.specs.Text.{atom_text};
 ghost use Rattle.def_picture.specs.Svg.{column_x, row_y, session_x, label_x, hue_of, longest_label};
-ghost use Rattle.def_picture.specs.Svg.{arrow_svg, shape_svg, group_svg, spot_svg, report_svg, dashed_svg, marks_svg, move_svg, row_svg};
+ghost use Rattle.def_picture.specs.Svg.{arrow_svg, shape_svg, group_svg, spot_svg, report_svg, dashed_svg};
+ghost use Rattle.def_picture.specs.Svg.{marks_svg, move_svg, row_svg};
 ghost use Rattle.def_picture.specs.Svg.{legend_svg, session_svg, life_svg, width_of, height_of, head_svg, svg_text};
 ghost use Rattle.def_picture.specs.Templates.{each_numbered};
-ghost use Rattle.tn_picture.specs.Views.{life_seen, report_seen, row_seen, shape_seen, picture_seen};
+ghost use Rattle.tn_picture.specs.Views.{life_seen, report_seen, picture_row_seen, row_shape_seen, picture_seen};
 
 use crate::life::{Life, column_of};
 use crate::picture::Picture;
@@ -36,7 +37,7 @@ fn columns_of(lives: &[Life]) -> usize
 /// How many rows there are.
 #[tactic(auto, using(crate::proofs::Places::seen_count))]
 fn count_of<A: Allocator>(rows: &[Row<A>]) -> usize
-    ensures { result ≡ length (map row_seen rows.now) }
+    ensures { result ≡ length (map picture_row_seen rows.now) }
 {
     rows.len()
 }
@@ -97,7 +98,7 @@ fn put_shape<A: Allocator>(
     out: &mut Vec<u8, A>,
 ) -> Result<(), AllocError>
     ensures { OnOk result (out.new.items ≡ out.old.items ++
-        shape_svg (map life_seen lives.now) y (shape_seen shape)) }
+        shape_svg (map life_seen lives.now) y (row_shape_seen shape)) }
 {
     match shape {
         Shape::Arrow { source, target } => {
@@ -176,7 +177,7 @@ fn put_report<A: Allocator>(
     out: &mut Vec<u8, A>,
 ) -> Result<(), AllocError>
     ensures { OnOk result (out.new.items ≡ out.old.items ++
-        report_svg (map life_seen lives.now) y (shape_seen shape) (report_seen report.now)) }
+        report_svg (map life_seen lives.now) y (row_shape_seen shape) (report_seen report.now)) }
 {
     put_group(report.session, out)?;
     put_xml(&report.text, out)?;
@@ -194,7 +195,7 @@ fn put_reports<A: Allocator>(
     out: &mut Vec<u8, A>,
 ) -> Result<(), AllocError>
     ensures { OnOk result (out.new.items ≡ out.old.items ++
-        flat_map (report_svg (map life_seen lives.now) y (shape_seen shape)) (map report_seen reports.now)) }
+        flat_map (report_svg (map life_seen lives.now) y (row_shape_seen shape)) (map report_seen reports.now)) }
 {
     for report in reports {
         put_report(lives, y, shape, report, out)?;
@@ -219,7 +220,7 @@ fn put_dashed<A: Allocator>(
     out: &mut Vec<u8, A>,
 ) -> Result<(), AllocError>
     ensures { OnOk result (out.new.items ≡ out.old.items ++
-        dashed_svg (map life_seen lives.now) y (shape_seen shape)) }
+        dashed_svg (map life_seen lives.now) y (row_shape_seen shape)) }
 {
     put_text(
         b"<g fill=\"none\" stroke=\"#777\" stroke-dasharray=\"4 3\">",
@@ -239,7 +240,7 @@ fn put_marks<A: Allocator>(
     out: &mut Vec<u8, A>,
 ) -> Result<(), AllocError>
     ensures { OnOk result (out.new.items ≡ out.old.items ++
-        marks_svg (map life_seen lives.now) y (shape_seen shape) (map report_seen reports.now)) }
+        marks_svg (map life_seen lives.now) y (row_shape_seen shape) (map report_seen reports.now)) }
 {
     if reporters_of(reports) == 0 {
         put_dashed(lives, y, shape, out)?;
@@ -277,7 +278,7 @@ fn put_row<A: Allocator>(
     out: &mut Vec<u8, A>,
 ) -> Result<(), AllocError>
     ensures { OnOk result (out.new.items ≡ out.old.items ++
-        row_svg sessions (map life_seen lives.now) number (row_seen row.now)) }
+        row_svg sessions (map life_seen lives.now) number (picture_row_seen row.now)) }
 {
     let y = row_y(sessions, number);
     put_marks(lives, y, row.shape, &row.reports, out)?;
@@ -294,7 +295,7 @@ fn put_rows<A: Allocator>(
     out: &mut Vec<u8, A>,
 ) -> Result<(), AllocError>
     ensures { OnOk result (out.new.items ≡ out.old.items ++
-        each_numbered (row_svg sessions (map life_seen lives.now)) 0 (map row_seen rows.now)) }
+        each_numbered (row_svg sessions (map life_seen lives.now)) 0 (map picture_row_seen rows.now)) }
 {
     for number in 0..rows.len() {
         put_row(sessions, lives, number, &rows[number], out)?;
@@ -386,7 +387,8 @@ fn put_lives<A: Allocator>(
     lives: &[Life],
     out: &mut Vec<u8, A>,
 ) -> Result<(), AllocError>
-    ensures { OnOk result (out.new.items ≡ out.old.items ++ each_numbered (life_svg sessions) 0 (map life_seen lives.now)) }
+    ensures { OnOk result (out.new.items ≡ out.old.items ++
+        each_numbered (life_svg sessions) 0 (map life_seen lives.now)) }
 {
     for column in 0..lives.len() {
         put_life(sessions, column, &lives[column], out)?;
@@ -398,7 +400,7 @@ fn put_lives<A: Allocator>(
 
 /// The length of the longest label.
 fn longest_label<A: Allocator>(rows: &[Row<A>]) -> usize
-    ensures { result ≡ longest_label (map row_seen rows.now) }
+    ensures { result ≡ longest_label (map picture_row_seen rows.now) }
 {
     let mut longest = 0;
     for row in rows {

@@ -1,7 +1,7 @@
 use Rattle.std.proofs.Common.{◌∙◌, ◌∷◌, ◌++◌, ◌+◌, ◌-◌, map, sym, ap, arith}
 use Rattle.def_run.specs.Round.{pass_from}
 use Rattle.def_picture.specs.Picture.{life_of}
-use Rattle.tn_picture.specs.Views.{life_seen, row_seen}
+use Rattle.tn_picture.specs.Views.{life_seen, picture_row_seen}
 use Rattle.tn_picture.proofs.Places.{pass-next, one-more}
 use Rattle.tn_picture.proofs.life.put_entries.Goals as goal
 
@@ -10,7 +10,7 @@ loop-pid-preserved g c =
     let l = c.loop-pid in
     let below = c.loop-pid-test.true in
     let end = 100 + c.args.entries in
-    let life = life_of (map row_seen c.args.rows.now) in
+    let life = life_of (map picture_row_seen c.args.rows.now) in
     let rest = map life (pass_from (end - (l.pid + 1)) (l.pid + 1)) in
     record {
       within = omega (arith, l.invariant.within);
