@@ -131,7 +131,7 @@ def command_lines():
         wants(f"version by {word}", run([word]), 0, f"tracenode {said_version()}\n".encode() + logic)
     for word in ("--help", "-h"):
         ran = run([word])
-        names = (b"replay", b"round", b"workers", b"explain", b"spec", b"Example:", b"Exit status:", b"A pick says")
+        names = (b"replay", b"round", b"workers", b"explain", b"draw", b"spec", b"Example:", b"Exit status:", b"A pick says")
         good = ran.returncode == 0 and all(name in ran.stdout for name in names)
         check(f"help by {word}", good and not ran.stderr, ran)
     wrong = {
@@ -172,7 +172,7 @@ def command_lines():
         wants(f"picks {text!r}", run(["replay", "--picks", text], SEND_HI), 2, bad_picks)
     wants("the greatest pick", run(["replay", "--picks", "4294967295"]), 0, EMPTY)
     either = b"<--picks <TEXT>|--picks-file <FILE>>"
-    for command in ("replay", "explain"):
+    for command in ("replay", "explain", "draw"):
         ran = run([command])
         usage = f"Usage: tracenode {command} ".encode() + either + b" [SCRIPT]\n"
         check(f"{command} without picks names both options of picks", usage in ran.stderr, ran)
