@@ -12,7 +12,7 @@ _tracenode() {
     local word=${COMP_WORDS[COMP_CWORD]} before=${COMP_WORDS[COMP_CWORD - 1]} command=${COMP_WORDS[1]} words=
     COMPREPLY=()
     if [ "$COMP_CWORD" -eq 1 ]; then
-        words='replay round workers explain spec help -h --help -V --version'
+        words='replay round workers explain draw spec help -h --help -V --version'
         case ${COMP_WORDS[0]} in
             */*) words+=' --prove --install' ;;
         esac
@@ -43,14 +43,15 @@ _tracenode() {
                 words='--picks --picks-file --moves --moves-file --round --limit --control --session --move --node'
                 words+=' --expect --expect-line --reject-line -h --help'
                 ;;
+            draw) words='--picks --picks-file --text --expect --expect-line --reject-line -h --help' ;;
             spec) words='--list --for --me --caller -h --help' ;;
-            help) words='replay round workers explain spec' ;;
+            help) words='replay round workers explain draw spec' ;;
         esac
     fi
     COMPREPLY=($(compgen -W "$words" -- "$word"))
     [ "$COMP_CWORD" -gt 1 ] || return
     case $command in
-        replay | round | workers | explain) _tracenode_files "$word" ;;
+        replay | round | workers | explain | draw) _tracenode_files "$word" ;;
     esac
 }
 

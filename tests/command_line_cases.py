@@ -134,7 +134,7 @@ def command_lines():
         wants(f"version by {word}", run([word]), 0, f"tracenode {said_version()}\n".encode() + logic)
     for word in ("--help", "-h"):
         ran = run([word])
-        names = (b"replay", b"round", b"workers", b"explain", b"spec", b"Example:", b"Exit status:", b"A pick says")
+        names = (b"replay", b"round", b"workers", b"explain", b"draw", b"spec", b"Example:", b"Exit status:", b"A pick says")
         good = ran.returncode == 0 and all(name in ran.stdout for name in names)
         check(f"help by {word}", good and not ran.stderr, ran)
     wrong = {
@@ -174,8 +174,9 @@ def command_lines():
     for text in ("-1", "--help", "0 00", "0  0", " 0", "4294967296", "x"):
         wants(f"picks {text!r}", run(["replay", "--picks", text], SEND_HI), 2, bad_picks)
     wants("the greatest pick", run(["replay", "--picks", "4294967295"]), 0, EMPTY)
+    one_of_two = b"<--picks <TEXT>|--picks-file <FILE>>"
     texts = b"<--picks <TEXT>|--picks-file <FILE>|--moves <TEXT>|--moves-file <FILE>"
-    for command, either in (("replay", texts + b">"), ("explain", texts + b"|--round>")):
+    for command, either in (("replay", texts + b">"), ("explain", texts + b"|--round>"), ("draw", one_of_two)):
         ran = run([command])
         usage = f"Usage: tracenode {command} ".encode() + either + b" [SCRIPT]\n"
         check(f"{command} without picks names all sources of picks", usage in ran.stderr, ran)

@@ -19,7 +19,7 @@ from harness import SECONDS, TOP, check, run
 # The options of ./tracenode, which are not the program's.
 STARTS = {"--prove", "--install"}
 
-COMMANDS = (("replay",), ("round",), ("workers",), ("explain",), ("spec",))
+COMMANDS = (("replay",), ("round",), ("workers",), ("explain",), ("draw",), ("spec",))
 
 
 def documents():

@@ -22,6 +22,7 @@ import explanation_cases
 import failure_cases
 import harness
 import moves_cases
+import picture_cases
 import run_cases
 import specification_cases
 import text_cases
@@ -47,6 +48,7 @@ SUBJECTS = {
         text_cases.numbers_in_terms,
     ),
     "explanation": (explanation_cases.explanations, explanation_cases.differences),
+    "picture": (picture_cases.pictures, picture_cases.drawings, picture_cases.life_lines),
     "specification": (specification_cases.trials, specification_cases.functions, specification_cases.specifications),
     "command_line": (
         command_line_cases.tries,

@@ -51,7 +51,11 @@ pub record IsOneOf (arguments : List (List ℕ)) (g : ArgGroup) : Type 0 where
 abbrev pub PICKS : List (List ℕ)
 PICKS = codes "picks" ∷ codes "picks-file" ∷ codes "moves" ∷ codes "moves-file" ∷ []
 
--- the same, or that there are none since the run is a round
+-- the arguments that give the picks alone
+abbrev pub PICKS_ALONE : List (List ℕ)
+PICKS_ALONE = codes "picks" ∷ codes "picks-file" ∷ []
+
+-- the arguments that give the picks or the moves, or that there are none since the run is a round
 abbrev pub PICKS_OR_ROUND : List (List ℕ)
 PICKS_OR_ROUND = codes "picks" ∷ codes "picks-file" ∷ codes "moves" ∷ codes "moves-file" ∷ codes "round" ∷ []
 
@@ -90,6 +94,10 @@ EXPLAIN =
     codes "script" ∷ codes "picks" ∷ codes "picks-file" ∷ codes "moves" ∷ codes "moves-file" ∷ codes "round" ∷ codes "limit" ∷ codes "control"
     ∷ codes "session" ∷ codes "move" ∷ codes "node" ∷ EXPECTATION
 
+-- the arguments of `draw`
+abbrev pub DRAW : List (List ℕ)
+DRAW = codes "script" ∷ codes "picks" ∷ codes "picks-file" ∷ codes "text" ∷ EXPECTATION
+
 -- the arguments of `round`
 abbrev pub ROUND : List (List ℕ)
 ROUND = codes "script" ∷ codes "limit" ∷ codes "control" ∷ codes "quiet" ∷ EXPECTATION
@@ -104,4 +112,4 @@ TRIAL = codes "list" ∷ codes "for" ∷ codes "me" ∷ codes "caller" ∷ codes
 
 -- the commands of the program
 abbrev pub COMMAND_NAMES : List (List ℕ)
-COMMAND_NAMES = codes "replay" ∷ codes "round" ∷ codes "workers" ∷ codes "explain" ∷ codes "spec" ∷ []
+COMMAND_NAMES = codes "replay" ∷ codes "round" ∷ codes "workers" ∷ codes "explain" ∷ codes "draw" ∷ codes "spec" ∷ []

@@ -15,14 +15,18 @@ use Rattle.tn_command.specs.declared.source.Source.TheVariants.{Input, File}
 use Rattle.tn_command.specs.Numbers.{IsPlainNumber}
 use Rattle.tn_spec.specs.declared.func.Dialect.{Dialect}
 use Rattle.tn_spec.specs.declared.func.Dialect.TheVariants.{Call, Send, Recv}
+use Rattle.tn_picture.specs.declared.request.PictureFormat.{PictureFormat}
+use Rattle.tn_picture.specs.declared.request.PictureFormat.TheVariants.{Svg, Plain}
 use Rattle.tn_cli.specs.declared.request.PicksSource.{PicksSource}
 use Rattle.tn_cli.specs.declared.request.PicksSource.TheVariants.{Text, In, Moves, MovesIn}
+use Rattle.tn_cli.specs.declared.request.PicksText.{PicksText}
+use Rattle.tn_cli.specs.declared.request.PicksText.TheVariants as texts
 use Rattle.tn_cli.specs.declared.request.RunSource.{RunSource}
 use Rattle.tn_cli.specs.declared.request.RunSource.TheVariants.{ByPicks, ByRound}
 use Rattle.tn_cli.specs.declared.request.ExpectationArgs.{ExpectationArgs}
 use Rattle.tn_cli.specs.declared.request.SpecTestArgs.{SpecTestArgs}
 use Rattle.tn_cli.specs.declared.request.Request.{Request}
-use Rattle.tn_cli.specs.declared.request.Request.TheVariants.{Replay, Explain, Round, Workers, Spec}
+use Rattle.tn_cli.specs.declared.request.Request.TheVariants.{Replay, Explain, Draw, Round, Workers, Spec}
 
 -- the text that the command line gives for this name
 abbrev pub argument : ArgMatches → List ℕ → Option (List ℕ)
@@ -115,6 +119,11 @@ ArePicksOf m (Text text) =
     (argument m (codes "picks-file") ≡ None) × (argument m (codes "moves-file") ≡ None) × (argument m (codes "moves") ≡ None)
     × (text.now ≡ unwrap_or (argument m (codes "picks")) [])
 
+-- the picks are in the file that `--picks-file` names, else they are the text of `--picks`
+abbrev pub IsTextOfPicks : ArgMatches → PicksText → Type 0
+IsTextOfPicks m (texts.In source) = IsSomeAnd (argument m (codes "picks-file")) (λ path. IsSourceNamed (Some path) source)
+IsTextOfPicks m (texts.Text text) = (argument m (codes "picks-file") ≡ None) × (text.now ≡ unwrap_or (argument m (codes "picks")) [])
+
 -- all commands of the control list are taken before the rounds
 abbrev pub takes_control_first : ArgMatches → Bool
 takes_control_first m = option_map_or (λ text. bytes_eq text (codes "first")) (argument m (codes "control")) false
@@ -124,6 +133,10 @@ abbrev pub IsRunOf : ArgMatches → RunSource → Type 0
 IsRunOf m (ByPicks picks) = (is_given m (codes "round") ≡ false) × ArePicksOf m picks
 IsRunOf m (ByRound limit control_first) =
     (is_given m (codes "round") ≡ true) × IsGiven 1 65536 (argument m (codes "limit")) limit × (control_first ≡ takes_control_first m)
+
+-- a picture is lines for a terminal where `--text` is given, else a graphic
+abbrev pub format_named : Bool → PictureFormat
+format_named is_text = if is_text then Plain else Svg
 
 -- ---- commands
 
@@ -154,6 +167,7 @@ IsExpectationOf m e =
 abbrev pub request_expectation : Request → ExpectationArgs
 request_expectation (Replay script picks quiet e) = e
 request_expectation (Explain script run filter e) = e
+request_expectation (Draw script picks format e) = e
 request_expectation (Round script limit control_first quiet e) = e
 request_expectation (Workers script count turns spread quiet e) = e
 request_expectation (Spec trial) = record { file = None; line = None; no_line = None }
@@ -166,6 +180,9 @@ Asks name m (Replay script picks quiet expectation) =
 Asks name m (Explain script run filter expectation) =
     (name ≡ codes "explain") × IsSourceNamed (argument m (codes "script")) script × IsRunOf m run × IsAskedOf m filter
     × IsExpectationOf m expectation
+Asks name m (Draw script picks format expectation) =
+    (name ≡ codes "draw") × IsSourceNamed (argument m (codes "script")) script × IsTextOfPicks m picks
+    × (format ≡ format_named (is_given m (codes "text"))) × IsExpectationOf m expectation
 Asks name m (Round script limit control_first quiet expectation) =
     (name ≡ codes "round") × IsSourceNamed (argument m (codes "script")) script × IsGiven 1 65536 (argument m (codes "limit")) limit
     × (control_first ≡ takes_control_first m) × (quiet ≡ is_given m (codes "quiet")) × IsExpectationOf m expectation
@@ -201,7 +218,7 @@ pub record IsWithoutNumber (m : ArgMatches) : Type 0 where
 -- no subcommand was found, or one of another name
 abbrev pub NamesNoCommand : ArgMatches → Type 0
 NamesNoCommand m =
-    (subcommand_name_of m ≢ Some (codes "replay")) × (subcommand_name_of m ≢ Some (codes "explain")) × (subcommand_name_of m ≢ Some (codes "round"))
+    (subcommand_name_of m ≢ Some (codes "replay")) × (subcommand_name_of m ≢ Some (codes "explain")) × (subcommand_name_of m ≢ Some (codes "draw")) × (subcommand_name_of m ≢ Some (codes "round"))
     × (subcommand_name_of m ≢ Some (codes "workers")) × (subcommand_name_of m ≢ Some (codes "spec"))
 
 -- the subcommand that was found asks for it

@@ -3,8 +3,8 @@ ghost use Rattle.std.specs.Prelude.{◌≡◌, codes, true, IfOk, IsOkAnd};
 ghost use Rattle.clap.specs.Built.{AddsSubcommand, subcommand_names};
 ghost use Rattle.tn_cli.specs.Line.{IsOption, IsFlag, IsWord, IsElse, IsFromTo, IsOneOf, NeedsRound};
 ghost use Rattle.tn_cli.specs.Line.{IsCommand, IsWithExpectation, WantsBy, WantsOneOf};
-ghost use Rattle.tn_cli.specs.Line.{PICKS, PICKS_OR_ROUND, BY_PICKS, COMMAND_NAMES};
-ghost use Rattle.tn_cli.specs.Line.{REPLAY, EXPLAIN, ROUND, WORKERS, TRIAL};
+ghost use Rattle.tn_cli.specs.Line.{PICKS, PICKS_ALONE, PICKS_OR_ROUND, BY_PICKS, COMMAND_NAMES};
+ghost use Rattle.tn_cli.specs.Line.{REPLAY, EXPLAIN, DRAW, ROUND, WORKERS, TRIAL};
 
 use clap::{Arg, ArgAction, ArgGroup, Command, value_parser};
 use std::alloc::{AllocError, Global};
@@ -229,6 +229,42 @@ fn node<'a>(alloc: Global) -> Arg<'a>
         .long("node")
         .help("Explains the moves alone that a running node does otherwise")
         .action(ArgAction::SetTrue)
+}
+
+/// Just one of `--picks` and `--picks-file` must be given; the usage names both.
+fn picks_alone<'a>(alloc: Global) -> Result<ArgGroup<'a>, AllocError>
+    ensures { IfOk result (IsOneOf PICKS_ALONE) }
+{
+    ArgGroup::new(alloc, "picks-source")
+        .required(true)
+        .arg("picks")?
+        .arg("picks-file")
+}
+
+/// `--text`.
+fn text<'a>(alloc: Global) -> Arg<'a>
+    ensures { IsFlag (codes "text") result }
+{
+    Arg::new(alloc, "text")
+        .long("text")
+        .help("Writes lines for a terminal, and no SVG")
+        .action(ArgAction::SetTrue)
+}
+
+/// The subcommand `draw [SCRIPT] [--text]` with picks, and with what its output must be.
+fn draw<'a>(alloc: Global) -> Result<Command<'a>, AllocError>
+    ensures arguments { IfOk result (IsCommand (codes "draw") DRAW) }
+    ensures picks { IfOk result (WantsOneOf PICKS_ALONE) }
+{
+    let sources = picks_alone(alloc)?;
+    let command = Command::new(alloc, "draw")
+        .about("Runs the script by the given picks, and prints a sequence diagram of it as SVG")
+        .arg(script(alloc))?
+        .arg(picks(alloc))?
+        .arg(picks_file(alloc))?
+        .arg(text(alloc))?
+        .group(sources)?;
+    with_expectation(alloc, command)
 }
 
 /// `--limit N`.
@@ -480,5 +516,6 @@ pub fn command<'a>(alloc: Global) -> Result<Command<'a>, AllocError>
     let command = with_subcommand(command, round(alloc))?;
     let command = with_subcommand(command, workers(alloc))?;
     let command = with_subcommand(command, explain(alloc))?;
+    let command = with_subcommand(command, draw(alloc))?;
     with_subcommand(command, spec(alloc))
 }

@@ -5,6 +5,7 @@
 //! a refused script, text of picks or command line, and 3 for a fault, with one line on standard error.
 #![tactic(auto)]
 
+ghost use Rattle.std.specs.Prelude.{IfErr};
 ghost use Rattle.std.specs.Process.{exit_status};
 ghost use Rattle.tn_command.specs.Status.{IsStatus};
 
@@ -29,6 +30,7 @@ use tn_command::{
 };
 use tn_explain::{ExplainRequest, Filter, RunAndNote};
 use tn_moves::{ExplainByMoves, Moves, RunByMoves};
+use tn_picture::{DrawRequest, PictureFormat};
 use tn_run::{RunFault, Schedule, Workers, write_output};
 use tn_text::Watched;
 use tn_verdict::SpecTestInput;
@@ -124,6 +126,28 @@ fn run_text<R: Input + Files + Print + Eprint + AllocGlobal>(
     }
 }
 
+/// The text of picks or of moves in a file, or in standard input where that isn't the script.
+fn text_in<R: Input + Files + Eprint + AllocGlobal>(
+    rt: &R,
+    script: Source<'_>,
+    kind: TextKind,
+    source: Source<'_>,
+) -> Result<Vec<u8>, ExitCode>
+    ensures { IfErr result (λ s. IsStatus (exit_status s)) }
+{
+    if let (Source::Input, Source::Input) = (script, source) {
+        let what = match kind {
+            TextKind::Picks => "picks",
+            TextKind::Moves => "moves",
+        };
+        let _ = rt.eprintln(format_args!(
+            "error: the script and the {what} can't both be standard input"
+        ));
+        return Err(ExitCode::from(REFUSED));
+    }
+    picks_of(rt, source)
+}
+
 /// Does the task with a file of picks or of moves, or with standard input for one.
 fn run_from<R: Input + Files + Print + Eprint + AllocGlobal>(
     rt: &R,
@@ -135,17 +159,7 @@ fn run_from<R: Input + Files + Print + Eprint + AllocGlobal>(
 ) -> ExitCode
     ensures { IsStatus (exit_status result) }
 {
-    if let (Source::Input, Source::Input) = (script, source) {
-        let what = match kind {
-            TextKind::Picks => "picks",
-            TextKind::Moves => "moves",
-        };
-        let _ = rt.eprintln(format_args!(
-            "error: the script and the {what} can't both be standard input"
-        ));
-        return ExitCode::from(REFUSED);
-    }
-    match picks_of(rt, source) {
+    match text_in(rt, script, kind, source) {
         Ok(text) => run_text(rt, task, script, kind, &text, expectation),
         Err(status) => status,
     }
@@ -172,6 +186,31 @@ fn run_by_picks<R: Input + Files + Print + Eprint + AllocGlobal>(
         PicksSource::Moves(text) => {
             let moves = Moves::Text(text.as_bytes());
             run_moves(rt, task, script, moves, expectation)
+        }
+    }
+}
+
+/// Draws a run by picks.
+fn run_draw<R: Input + Files + Print + Eprint + AllocGlobal>(
+    rt: &R,
+    script: Source<'_>,
+    picks: PicksText<'_>,
+    format: PictureFormat,
+    expectation: &Expectation<'_>,
+) -> ExitCode
+    ensures { IsStatus (exit_status result) }
+{
+    match picks {
+        PicksText::In(source) => match text_in(rt, script, TextKind::Picks, source) {
+            Ok(text) => {
+                let picks = &text;
+                perform(rt, script, &DrawRequest { picks, format }, expectation)
+            }
+            Err(status) => status,
+        },
+        PicksText::Text(text) => {
+            let picks = text.as_bytes();
+            perform(rt, script, &DrawRequest { picks, format }, expectation)
         }
     }
 }
@@ -284,6 +323,12 @@ fn run_so<R: Input + Files + Print + Eprint + AllocGlobal + Threads + Wait + Syn
             filter,
             ..
         } => run_explain(rt, script, run, filter, expectation),
+        Request::Draw {
+            script,
+            picks,
+            format,
+            ..
+        } => run_draw(rt, script, picks, format, expectation),
         Request::Round {
             script,
             limit,

@@ -1,15 +1,17 @@
 // What the command line asks for: a command, made of what was read of its words.
 ghost use Rattle.std.specs.Prelude.{◌≡◌, [], OkIff, IfOk, IfErr, IfSome, IfNone, unwrap_or, codes};
-ghost use Rattle.tn_cli.specs.Requests.{argument, is_given, dialect_named, IsBetween, number_given, IsNumberOrNone};
+ghost use Rattle.tn_cli.specs.Requests.{argument, is_given, format_named, dialect_named, IsBetween};
+ghost use Rattle.tn_cli.specs.Requests.{number_given, IsNumberOrNone};
 ghost use Rattle.tn_cli.specs.Requests.{NamesProcess, NamesNoProcess, ArePicksOf, IsSourceNamed, Asks, IsAskedBy};
 ghost use Rattle.tn_cli.specs.Requests.{LacksLimit, LacksNumber, IsWithoutNumber, NamesNoCommand};
-ghost use Rattle.tn_cli.specs.Requests.{IsRunOf, takes_control_first};
+ghost use Rattle.tn_cli.specs.Requests.{IsRunOf, IsTextOfPicks, takes_control_first};
 ghost use Rattle.tn_cli.specs.Requests.{IsExpectationOf, request_expectation};
 
 use crate::value::{process_number, session_name};
 use clap::ArgMatches;
 use tn_command::{Source, plain_number, source_of};
 use tn_explain::Filter;
+use tn_picture::PictureFormat;
 use tn_spec::Dialect;
 
 /// Where the text of picks or of moves is.
@@ -23,6 +25,15 @@ pub enum PicksSource<'a> {
     Moves(&'a str),
     /// It is in a file, or is standard input.
     MovesIn(Source<'a>),
+}
+
+/// Where the text of picks is.
+#[derive(Clone, Copy)]
+pub enum PicksText<'a> {
+    /// It is given.
+    Text(&'a str),
+    /// It is in a file, or is standard input.
+    In(Source<'a>),
 }
 
 /// Which run is explained.
@@ -78,6 +89,13 @@ pub enum Request<'a> {
         filter: Filter<'a>,
         expectation: ExpectationArgs<'a>,
     },
+    /// A picture of a run by picks.
+    Draw {
+        script: Source<'a>,
+        picks: PicksText<'a>,
+        format: PictureFormat,
+        expectation: ExpectationArgs<'a>,
+    },
     /// A round, in which so many picks may move.
     Round {
         script: Source<'a>,
@@ -111,6 +129,7 @@ impl<'a> Request<'a> {
         match *self {
             Request::Replay { expectation, .. } => expectation,
             Request::Explain { expectation, .. } => expectation,
+            Request::Draw { expectation, .. } => expectation,
             Request::Round { expectation, .. } => expectation,
             Request::Workers { expectation, .. } => expectation,
             Request::Spec(_) => ExpectationArgs {
@@ -225,6 +244,16 @@ fn picks<'a>(matches: &ArgMatches<'a>) -> PicksSource<'a>
     }
 }
 
+/// Where the picks of a picture are.
+fn picks_text<'a>(matches: &ArgMatches<'a>) -> PicksText<'a>
+    ensures { IsTextOfPicks matches.now result }
+{
+    if let Some(file) = matches.get_str("picks-file") {
+        return PicksText::In(source_of(Some(file)));
+    }
+    PicksText::Text(matches.get_str("picks").unwrap_or(""))
+}
+
 /// Whether all commands of the control list are taken before the rounds.
 fn control_first(matches: &ArgMatches<'_>) -> bool
     ensures { result ≡ takes_control_first matches.now }
@@ -300,6 +329,29 @@ fn explain<'a>(matches: &ArgMatches<'a>) -> Result<Request<'a>, BadNumber<'a>>
     })
 }
 
+/// What a picture is written as.
+fn format<'a>(matches: &ArgMatches<'a>) -> PictureFormat
+    ensures { result ≡ format_named (is_given matches.now (codes "text")) }
+{
+    if flag(matches, "text") {
+        PictureFormat::Plain
+    } else {
+        PictureFormat::Svg
+    }
+}
+
+/// What `draw` asks for.
+fn draw<'a>(matches: &ArgMatches<'a>) -> Request<'a>
+    ensures { Asks (codes "draw") matches.now result }
+{
+    Request::Draw {
+        script: script(matches),
+        picks: picks_text(matches),
+        format: format(matches),
+        expectation: expectation(matches),
+    }
+}
+
 /// What `round` asks for.
 fn round<'a>(matches: &ArgMatches<'a>) -> Result<Request<'a>, BadNumber<'a>>
     ensures asks { IfOk result (Asks (codes "round") matches.now) }
@@ -357,6 +409,7 @@ pub fn request_of<'a>(matches: &ArgMatches<'a>) -> Result<Option<Request<'a>>, B
     match matches.subcommand() {
         Some(("replay", given)) => Ok(Some(replay(given))),
         Some(("explain", given)) => Ok(Some(explain(given)?)),
+        Some(("draw", given)) => Ok(Some(draw(given))),
         Some(("round", given)) => Ok(Some(round(given)?)),
         Some(("workers", given)) => Ok(Some(workers(given)?)),
         Some(("spec", given)) => Ok(Some(spec(given)?)),

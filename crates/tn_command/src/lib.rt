@@ -1,17 +1,18 @@
-//! What a command of the command line does once its words are read: the run over a script from standard
-//! input or a file, to standard output, and its exit status.
+//! What a command of the command line does once its words are read: the run over a script from standard input or a
+//! file, to standard output, and its exit status.
 //!
 //! Depends on tn_run, which promises what is written, and on tn_refusal, which promises the line of a refusal.
 //! Promises of each job that it is done as tn_run says, that the status is that of its answer, 0 for what was asked
 //! for, 2 for a refusal and 3 for a fault, and that what was written is what the status says; so it is with an
-//! explained run and the trial of one specification. Promises of an output that is held against an expectation that
-//! the status is 1 where it would be 0 and the output doesn't meet it, and else what it would be. Promises of a text
-//! of picks that it is what the reader holds, without a line feed at its end. A refusal or a fault has one line on
-//! standard error: how the text can be fixed, or what failed. A pipe that was closed has none. So has a run that a
-//! running node is known to do otherwise: at how many of its moves.
+//! explained run, a run that is drawn and the trial of one specification. Promises of an output that is held
+//! against an expectation that the status is 1 where it would be 0 and the output doesn't meet it, and else what it
+//! would be. Promises of a text of picks that it is what the reader holds, without a line feed at its end. A
+//! refusal or a fault has one line on standard error: how the text can be fixed, or what failed. A pipe that was
+//! closed has none. So has a run that a running node is known to do otherwise: at how many of its moves.
 #![tactic(auto)]
 
 mod command;
+mod draw;
 mod expectation;
 mod expectation_file;
 mod jobs;

@@ -1,7 +1,7 @@
 use Rattle.std.proofs.Common.{◌≡◌, rules, codes, []}
 use Rattle.std.proofs.lemmas.Result.{IfOk-weaker}
 use Rattle.clap.specs.Built.{subcommand_names}
-use Rattle.tn_cli.specs.Line.{REPLAY, EXPLAIN, ROUND, WORKERS, TRIAL}
+use Rattle.tn_cli.specs.Line.{REPLAY, EXPLAIN, DRAW, ROUND, WORKERS, TRIAL}
 use Rattle.tn_cli.proofs.Names.{command_made}
 use Rattle.tn_cli.proofs.line.command.Goals as goal
 
@@ -16,6 +16,8 @@ returns c =
     c.workers.ensures c.in_ok-command-3.ensures in
     let fourth = command_made _ (codes "explain") EXPLAIN c.in_ok-command-3.command c.in_ok-command-4.command c.explain.result third
     c.explain.ensures.arguments c.in_ok-command-4.ensures in
-    IfOk-weaker c.with_subcommand-5.result _ _
-    (λ new added. command_made _ (codes "spec") TRIAL c.in_ok-command-4.command new c.spec.result fourth c.spec.ensures added)
-    c.with_subcommand-5.ensures
+    let fifth = command_made _ (codes "draw") DRAW c.in_ok-command-4.command c.in_ok-command-5.command c.draw.result fourth
+    c.draw.ensures.arguments c.in_ok-command-5.ensures in
+    IfOk-weaker c.with_subcommand-6.result _ _
+    (λ new added. command_made _ (codes "spec") TRIAL c.in_ok-command-5.command new c.spec.result fifth c.spec.ensures added)
+    c.with_subcommand-6.ensures

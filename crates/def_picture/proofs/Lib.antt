@@ -1,0 +1,3 @@
+mod RowMessages
+mod Contents
+mod PictureRows

@@ -1,0 +1,5 @@
+pub mod Picture
+pub mod Templates
+pub mod Svg
+pub mod Plain
+pub mod Laws

@@ -1,0 +1,120 @@
+-- The text of a picture as a graphic ("Scalable Vector Graphics 2").
+-- Depends on pictures and on templates. Lengths are in pixels; a process is a column, an event is a row.
+use Rattle.std.specs.Prelude.{ℕ, ◌+◌, ◌*◌, ◌==◌, nat_lt, max, if◌then◌else◌, List, [], ◌∷◌, ◌++◌, fold, flat_map, length, codes}
+use Rattle.def_term.specs.Names.{Name}
+use Rattle.def_term.specs.Text.{atom_text}
+use Rattle.def_picture.specs.Picture.{Shape, arrow, frame_start, frame_end, birth, death, dot, command_line, Report, PictureRow, Life, Picture, column_of}
+use Rattle.def_picture.specs.Templates.{fill, each_numbered, xml_text}
+
+-- ---- places
+
+-- the line of a column
+abbrev pub column_x : ℕ → ℕ
+column_x column = 80 + 110 * column
+
+-- the line of a row, below the header, which has a line for each session
+abbrev pub row_y : (sessions row : ℕ) → ℕ
+row_y sessions row = 80 + 20 * sessions + 24 * row
+
+-- the line of a session's messages, right of the columns
+abbrev pub session_x : (columns session : ℕ) → ℕ
+session_x columns session = column_x columns + 20 * session
+
+-- where the labels begin
+abbrev pub label_x : (columns sessions : ℕ) → ℕ
+label_x columns sessions = session_x columns sessions + 20
+
+-- the colour of a session is an angle of the circle of hues; neighbours are far apart
+abbrev pub hue_of : ℕ → ℕ
+hue_of session = 137 * session
+
+-- ---- shapes
+
+-- an arrow to the right or to the left
+unfoldable pub arrow_svg : (x1 x2 y : ℕ) → List ℕ
+arrow_svg x1 x2 y =
+    if nat_lt x1 x2
+    then fill (codes "<path d=\"M@ @H@l-8 -4m8 4l-8 4\"/>") (x1 ∷ y ∷ x2 ∷ [])
+    else fill (codes "<path d=\"M@ @H@l8 -4m-8 4l8 4\"/>") (x1 ∷ y ∷ x2 ∷ [])
+
+-- a shape at this height; the deeper a frame, the farther to the right
+unfoldable pub shape_svg : List Life → ℕ → Shape → List ℕ
+shape_svg ls y (arrow p q) = arrow_svg (column_x (column_of ls p)) (column_x (column_of ls q)) y
+shape_svg ls y (frame_start p d) = fill (codes "<path d=\"M@ @v-6l9 6l-9 6z\"/>") ((column_x (column_of ls p) + 8 * d) ∷ y ∷ [])
+shape_svg ls y (frame_end p d) = fill (codes "<path d=\"M@ @l9 -6v12z\"/>") ((column_x (column_of ls p) + 8 * d) ∷ y ∷ [])
+shape_svg ls y (birth p) = fill (codes "<circle cx=\"@\" cy=\"@\" r=\"6\"/>") (column_x (column_of ls p) ∷ y ∷ [])
+shape_svg ls y (death p) = fill (codes "<path d=\"M@ @m-6 -6l12 12m0 -12l-12 12\"/>") (column_x (column_of ls p) ∷ y ∷ [])
+shape_svg ls y (dot p) = fill (codes "<circle cx=\"@\" cy=\"@\" r=\"3\"/>") (column_x (column_of ls p) ∷ y ∷ [])
+shape_svg ls y command_line = fill (codes "<path d=\"M50 @H@\"/>") (y ∷ column_x (length ls) ∷ [])
+
+-- ---- rows
+
+-- the start of a group in the colour of a session, and of its tooltip
+unfoldable pub group_svg : (session : ℕ) → List ℕ
+group_svg session = fill (codes "<g fill=\"none\" stroke=\"hsl(@,90%,35%)\" stroke-width=\"2\"><title>") (hue_of session ∷ [])
+
+-- a spot on the line of a session, and the end of its group
+unfoldable pub spot_svg : (columns session y : ℕ) → List ℕ
+spot_svg columns session y = fill (codes "<circle cx=\"@\" cy=\"@\" r=\"4\" fill=\"hsl(@,90%,35%)\"/></g>\n") (session_x columns session ∷ y ∷ hue_of session ∷ [])
+
+-- a message: the row's shape and a spot in the colour of the session, with the message as tooltip
+unfoldable pub report_svg : List Life → ℕ → Shape → Report → List ℕ
+report_svg ls y shape r = group_svg r.session ++ xml_text r.text ++ codes "</title>" ++ shape_svg ls y shape ++ spot_svg (length ls) r.session y
+
+-- a shape that no session reports is dashed
+unfoldable pub dashed_svg : List Life → ℕ → Shape → List ℕ
+dashed_svg ls y shape = codes "<g fill=\"none\" stroke=\"#777\" stroke-dasharray=\"4 3\">" ++ shape_svg ls y shape ++ codes "</g>\n"
+
+-- the marks of a row
+unfoldable pub marks_svg : List Life → ℕ → Shape → List Report → List ℕ
+marks_svg ls y shape rs = (if length rs == 0 then dashed_svg ls y shape else []) ++ flat_map (report_svg ls y shape) rs
+
+-- the number of a move, and the start of the label beside it
+unfoldable pub move_svg : (columns sessions y move : ℕ) → List ℕ
+move_svg columns sessions y move = fill (codes "<text x=\"8\" y=\"@\">@</text><text x=\"@\" y=\"@\">") ((y + 4) ∷ move ∷ label_x columns sessions ∷ (y + 4) ∷ [])
+
+-- a row: its marks, the number of its move and its label
+unfoldable pub row_svg : (sessions : ℕ) → List Life → ℕ → PictureRow → List ℕ
+row_svg sessions ls n row =
+    marks_svg ls (row_y sessions n) row.shape row.reports ++ move_svg (length ls) sessions (row_y sessions n) row.move ++ xml_text row.label ++ codes "</text>\n"
+
+-- ---- the header
+
+-- the start of the name of a session, in its colour
+unfoldable pub legend_svg : ℕ → List ℕ
+legend_svg n = fill (codes "<text x=\"80\" y=\"@\" fill=\"hsl(@,90%,35%)\">session ") ((10 + 20 * n) ∷ hue_of n ∷ [])
+
+-- the name of a session
+unfoldable pub session_svg : ℕ → Name → List ℕ
+session_svg n s = legend_svg n ++ xml_text (atom_text s) ++ codes "</text>\n"
+
+-- the pid of a process over its life line
+unfoldable pub life_svg : (sessions column : ℕ) → Life → List ℕ
+life_svg sessions column l =
+    fill (codes "<text x=\"@\" y=\"@\" text-anchor=\"middle\">&lt;0.@.0&gt;</text><path d=\"M@ @V@\" stroke=\"#bbb\"/>\n")
+    (column_x column ∷ (50 + 20 * sessions) ∷ l.pid ∷ column_x column ∷ row_y sessions l.first ∷ row_y sessions l.last ∷ [])
+
+-- ---- the whole
+
+-- the longest label
+abbrev pub longest_label : List PictureRow → ℕ
+longest_label rs = fold (λ n r. max n (length r.label)) 0 rs
+
+-- the width, with room for the longest label, of letters that are 8 pixels wide
+unfoldable pub width_of : Picture → ℕ
+width_of p = label_x (length p.lives) (length p.sessions) + 8 * longest_label p.rows
+
+-- the height
+unfoldable pub height_of : Picture → ℕ
+height_of p = row_y (length p.sessions) (length p.rows)
+
+-- the root element
+unfoldable pub head_svg : (width height : ℕ) → List ℕ
+head_svg width height =
+    fill (codes "<svg xmlns=\"http://www.w3.org/2000/svg\" width=\"@\" height=\"@\" font-family=\"monospace\" font-size=\"13\">\n<rect width=\"100%\" height=\"100%\" fill=\"#fff\"/>\n") (width ∷ height ∷ [])
+
+-- the sessions, which are numbered from 1, the life lines and the rows, which are numbered from 0
+abbrev pub svg_text : Picture → List ℕ
+svg_text p =
+    let sessions : ℕ = length p.sessions in
+    head_svg (width_of p) (height_of p) ++ each_numbered session_svg 1 p.sessions ++ each_numbered (life_svg sessions) 0 p.lives ++ each_numbered (row_svg sessions p.lives) 0 p.rows ++ codes "</svg>\n"

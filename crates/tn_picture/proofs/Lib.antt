@@ -1,0 +1,5 @@
+pub mod Places
+pub mod Texts
+pub mod SlotMessages
+pub mod PaintedMoves
+pub mod SessionNames

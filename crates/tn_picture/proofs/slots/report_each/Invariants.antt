@@ -1,0 +1,18 @@
+use Rattle.std.proofs.Common.{◌≡◌, List, length}
+use Rattle.def_term.specs.Alive.{Alive}
+use Rattle.def_script.specs.Exports.{Exports}
+use Rattle.def_session.specs.State.{alive_after}
+use Rattle.def_run.specs.Run.{event_item}
+use Rattle.def_run.specs.History.{NamedSession}
+use Rattle.tn_flags.specs.Views.{event_of}
+use Rattle.tn_trace.specs.Slots.{EachPair}
+use Rattle.tn_picture.specs.Slots.{IsSlotOf, reports_seen}
+use Rattle.tn_picture.proofs.SlotMessages.{HasReportedUpTo}
+use Rattle.tn_picture.proofs.slots.report_each.Given as goal
+
+abbrev pub invariant-loop-place : goal.invariant-loop-place
+invariant-loop-place g l = record {
+  size : length l.slots.items ≡ length l.fn.slots.items;
+  made : (o : Exports) (living : Alive) (ss : List NamedSession) → EachPair (IsSlotOf o living) ss l.fn.slots.items →
+      HasReportedUpTo o living (alive_after living (event_of l.event)) (event_item (event_of l.event)) ss l.place l.slots.items (reports_seen l.fn.reports) (reports_seen l.reports);
+}

@@ -1,0 +1,5 @@
+pub mod Views
+pub mod Cells
+pub mod Slots
+pub mod Painters
+pub mod Requests

@@ -1,0 +1,58 @@
+-- What is written of a run that is drawn.
+use Rattle.std.specs.Prelude.{◌≡◌, ℕ, Bool, true, false, List, Option, Some, None}
+use Rattle.def_script.specs.Program.{Program}
+use Rattle.def_script.specs.Script.{Refusal}
+use Rattle.def_run.specs.Picks.{SpellsPicks}
+use Rattle.def_picture.specs.Picture.{Picture, picture_of}
+use Rattle.def_picture.specs.Plain.{plain_text}
+use Rattle.def_picture.specs.Svg.{svg_text}
+use Rattle.tn_refusal.specs.Refusals.{refusal_of}
+use Rattle.tn_run.specs.Answers.{by_picks, HasPicks}
+use Rattle.tn_run.specs.Jobs.{JobView, failed_end}
+use Rattle.tn_run.specs.declared.fault.RunFault.{RunFault}
+use Rattle.tn_picture.specs.declared.request.PictureFormat.{PictureFormat}
+use Rattle.tn_picture.specs.declared.request.PictureFormat.TheVariants.{Svg, Plain}
+use Rattle.tn_picture.specs.declared.request.DrawRequest.{DrawRequest}
+use Rattle.tn_picture.specs.declared.request.DrawOutcome.{DrawOutcome}
+use Rattle.tn_picture.specs.declared.request.DrawOutcome.TheVariants.{Drawn, Refused}
+
+-- the text of a picture
+abbrev pub format_text : PictureFormat → Picture → List ℕ
+format_text Svg picture = svg_text picture
+format_text Plain picture = plain_text picture
+
+-- the text of the picture of a program's run by these picks
+abbrev pub picture_text : PictureFormat → Program → List ℕ → List ℕ
+picture_text format p picks = format_text format (picture_of p picks)
+
+-- what is reported of a program's run by these picks, and what is written
+abbrev pub IsDrawing : PictureFormat → Program → List ℕ → DrawOutcome → List ℕ → Type 0
+IsDrawing format p picks Drawn text = text ≡ picture_text format p picks
+IsDrawing format p picks (Refused r) text = ⊥
+
+-- the same for the picks that a text spells
+pub record IsSpelledDrawing (spelled : List ℕ) (format : PictureFormat) (p : Program) (outcome : DrawOutcome) (text : List ℕ) : Type 0 where
+  pub picks : List ℕ
+  pub given : SpellsPicks spelled picks
+  pub drawing : IsDrawing format p picks outcome text
+
+-- the refusal that an outcome is
+abbrev pub draw_refusal : DrawOutcome → Option Refusal
+draw_refusal Drawn = None
+draw_refusal (Refused r) = Some (refusal_of r)
+
+-- the outcome is the picture that is asked for
+abbrev pub is_drawing : DrawOutcome → Bool
+is_drawing Drawn = true
+is_drawing (Refused r) = false
+
+-- the picture that is asked for
+abbrev pub draw_by : DrawRequest → JobView DrawOutcome RunFault
+draw_by q = record {
+  of_program = IsSpelledDrawing q.picks.now q.format;
+  refusal_in = draw_refusal;
+  succeeds = is_drawing;
+  has = λ outcome. Unit {0};
+  reads = HasPicks (by_picks q.picks.now);
+  end_of = failed_end;
+}

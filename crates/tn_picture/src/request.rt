@@ -1,0 +1,61 @@
+// What is drawn of a run, and what was written.
+ghost use Rattle.std.specs.Prelude.{IfOk};
+ghost use Rattle.tn_picture.specs.Requests.{format_text};
+ghost use Rattle.tn_picture.specs.Views.{picture_seen};
+
+use crate::picture::Picture;
+use crate::plain::plain_text;
+use crate::svg::svg_text;
+use std::alloc::{AllocError, Allocator};
+use tn_run::Refusal;
+
+/// What a picture is written as.
+#[derive(Clone, Copy, Debug, PartialEq, Eq)]
+pub enum PictureFormat {
+    /// A graphic.
+    Svg,
+    /// Lines for a terminal.
+    Plain,
+}
+
+/// What is drawn: a run by the picks of a text.
+#[derive(Clone, Copy)]
+pub struct DrawRequest<'a> {
+    /// The text of its picks.
+    pub picks: &'a [u8],
+    /// What the picture is written as.
+    pub format: PictureFormat,
+}
+
+/// What was written.
+#[derive(Clone, Copy, Debug, PartialEq, Eq, Drop)]
+pub enum DrawOutcome {
+    /// The picture of an accepted script's run.
+    Drawn,
+    /// The refusal's line.
+    Refused(Refusal),
+}
+
+impl PictureFormat {
+    ghost use Rattle.std.specs.Prelude.{◌≡◌, IfOk};
+    ghost use Rattle.tn_picture.specs.Requests.{format_text};
+    ghost use Rattle.tn_picture.specs.Views.{picture_seen};
+
+    /// The text of a picture.
+    ///
+    /// # Errors
+    ///
+    /// AllocError where memory was refused.
+    pub fn text_of<A: Allocator + Copy>(
+        self,
+        alloc: A,
+        picture: &Picture<A>,
+    ) -> Result<Vec<u8, A>, AllocError>
+        ensures { IfOk result (λ v. v.items ≡ format_text self (picture_seen picture.now)) }
+    {
+        match self {
+            PictureFormat::Svg => svg_text(alloc, picture),
+            PictureFormat::Plain => plain_text(alloc, picture),
+        }
+    }
+}

@@ -1,0 +1,94 @@
+// What an event looks like in a picture.
+ghost use Rattle.std.specs.Prelude.{◌≡◌};
+ghost use Rattle.def_picture.specs.Picture.{shape_of_event};
+ghost use Rattle.tn_flags.specs.Views.{event_of};
+ghost use Rattle.tn_picture.specs.Views.{row_shape_seen};
+
+use std::alloc::Allocator;
+use tn_flags::Event;
+
+/// The shape of a row.
+#[derive(Clone, Copy)]
+pub enum Shape {
+    /// An arrow between two processes.
+    Arrow { source: u32, target: u32 },
+    /// The start of a call's frame at a depth.
+    FrameStart { pid: u32, depth: usize },
+    /// Its end.
+    FrameEnd { pid: u32, depth: usize },
+    /// The birth of a process.
+    Birth { pid: u32 },
+    /// Its death.
+    Death { pid: u32 },
+    /// Another event of a process.
+    Dot { pid: u32 },
+    /// A command of the control list.
+    CommandLine,
+}
+
+impl Shape {
+    ghost use Rattle.std.specs.Prelude.{◌≡◌};
+    ghost use Rattle.def_picture.specs.Picture.{is_birth, is_death};
+    ghost use Rattle.tn_picture.specs.Views.{row_shape_seen};
+
+    /// Whether it is the birth of this process.
+    pub(crate) fn is_birth(&self, wanted: u32) -> bool
+        ensures { result ≡ is_birth wanted (row_shape_seen self.now) }
+    {
+        match self {
+            Shape::Birth { pid } => *pid == wanted,
+            _ => false,
+        }
+    }
+
+    /// Whether it is the death of this process.
+    pub(crate) fn is_death(&self, wanted: u32) -> bool
+        ensures { result ≡ is_death wanted (row_shape_seen self.now) }
+    {
+        match self {
+            Shape::Death { pid } => *pid == wanted,
+            _ => false,
+        }
+    }
+}
+
+/// What an event looks like.
+pub(crate) fn shape_of_event<A: Allocator>(event: &Event<A>) -> Shape
+    ensures { row_shape_seen result ≡ shape_of_event (event_of event.now) }
+{
+    match event {
+        Event::Sent { pid, to, .. } => Shape::Arrow {
+            source: *pid,
+            target: *to,
+        },
+        Event::Received { pid, .. } => Shape::Dot { pid: *pid },
+        Event::Called { pid, call } => Shape::FrameStart {
+            pid: *pid,
+            depth: call.depth,
+        },
+        Event::Returned { pid, depth, .. } => Shape::FrameEnd {
+            pid: *pid,
+            depth: *depth,
+        },
+        Event::Raised { pid, depth, .. } => Shape::FrameEnd {
+            pid: *pid,
+            depth: *depth,
+        },
+        Event::Spawn { pid, child, .. } => Shape::Arrow {
+            source: *pid,
+            target: *child,
+        },
+        Event::Spawned { pid, .. } => Shape::Birth { pid: *pid },
+        Event::Exited { pid, .. } => Shape::Death { pid: *pid },
+        Event::Linked { pid, other } => Shape::Arrow {
+            source: *pid,
+            target: *other,
+        },
+        Event::Unlinked { pid, other } => Shape::Arrow {
+            source: *pid,
+            target: *other,
+        },
+        Event::GettingLinked { pid, .. } => Shape::Dot { pid: *pid },
+        Event::GettingUnlinked { pid, .. } => Shape::Dot { pid: *pid },
+    }
+}

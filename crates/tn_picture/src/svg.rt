@@ -1,0 +1,460 @@
+// The text of a picture as a graphic.
+ghost use Rattle.std.specs.Prelude.{◌≡◌, ◌++◌, ◌<◌, ◌^◌, OnOk, IfOk, codes, flat_map, length, map};
+ghost use Rattle.def_term.specs.Text.{atom_text};
+ghost use Rattle.def_picture.specs.Svg.{column_x, row_y, session_x, label_x, hue_of, longest_label};
+ghost use Rattle.def_picture.specs.Svg.{arrow_svg, shape_svg, group_svg, spot_svg, report_svg, dashed_svg};
+ghost use Rattle.def_picture.specs.Svg.{marks_svg, move_svg, row_svg};
+ghost use Rattle.def_picture.specs.Svg.{legend_svg, session_svg, life_svg, width_of, height_of, head_svg, svg_text};
+ghost use Rattle.def_picture.specs.Templates.{each_numbered};
+ghost use Rattle.tn_picture.specs.Views.{life_seen, report_seen, picture_row_seen, row_shape_seen, picture_seen};
+
+use crate::life::{Life, column_of};
+use crate::picture::Picture;
+use crate::row::{Report, Row};
+use crate::shape::Shape;
+use crate::templates::{put_filled, put_text, put_xml};
+use std::alloc::{AllocError, Allocator};
+use tn_term::Atom;
+use tn_text::write_atom;
+
+// ---- places
+
+/// The line of a column.
+fn column_x(column: usize) -> u128
+    ensures { result ≡ column_x column }
+{
+    80 + 110 * column as u128
+}
+
+/// How many columns there are.
+#[tactic(auto, using(crate::proofs::Places::seen_count))]
+fn columns_of(lives: &[Life]) -> usize
+    ensures { result ≡ length (map life_seen lives.now) }
+{
+    lives.len()
+}
+
+/// How many rows there are.
+#[tactic(auto, using(crate::proofs::Places::seen_count))]
+fn count_of<A: Allocator>(rows: &[Row<A>]) -> usize
+    ensures { result ≡ length (map picture_row_seen rows.now) }
+{
+    rows.len()
+}
+
+/// The line of a row.
+fn row_y(sessions: usize, row: usize) -> u128
+    ensures { result ≡ row_y sessions row }
+{
+    80 + 20 * sessions as u128 + 24 * row as u128
+}
+
+/// The line of a session's messages.
+fn session_x(columns: usize, session: u64) -> u128
+    ensures { result ≡ session_x columns session }
+{
+    column_x(columns) + 20 * session as u128
+}
+
+/// Where the labels begin.
+fn label_x(columns: usize, sessions: usize) -> u128
+    ensures { result ≡ label_x columns sessions }
+{
+    session_x(columns, sessions as u64) + 20
+}
+
+/// The colour of a session.
+fn hue_of(session: u64) -> u128
+    ensures { result ≡ hue_of session }
+{
+    137 * session as u128
+}
+
+// ---- shapes
+
+/// Appends an arrow to the right or to the left.
+#[tactic(auto, unfolding(def_picture::specs::Svg::arrow_svg))]
+fn put_arrow<A: Allocator>(
+    x1: u128,
+    x2: u128,
+    y: u128,
+    out: &mut Vec<u8, A>,
+) -> Result<(), AllocError>
+    ensures { OnOk result (out.new.items ≡ out.old.items ++ arrow_svg x1 x2 y) }
+{
+    if x1 < x2 {
+        put_filled(b"<path d=\"M@ @H@l-8 -4m8 4l-8 4\"/>", &[x1, y, x2], out)
+    } else {
+        put_filled(b"<path d=\"M@ @H@l8 -4m-8 4l8 4\"/>", &[x1, y, x2], out)
+    }
+}
+
+/// Appends a shape at this height.
+#[tactic(auto, unfolding(def_picture::specs::Svg::shape_svg))]
+fn put_shape<A: Allocator>(
+    lives: &[Life],
+    y: u128,
+    shape: Shape,
+    out: &mut Vec<u8, A>,
+) -> Result<(), AllocError>
+    ensures { OnOk result (out.new.items ≡ out.old.items ++
+        shape_svg (map life_seen lives.now) y (row_shape_seen shape)) }
+{
+    match shape {
+        Shape::Arrow { source, target } => {
+            let x1 = column_x(column_of(lives, source));
+            let x2 = column_x(column_of(lives, target));
+            put_arrow(x1, x2, y, out)
+        }
+        Shape::FrameStart { pid, depth } => {
+            let x = column_x(column_of(lives, pid)) + 8 * depth as u128;
+            put_filled(b"<path d=\"M@ @v-6l9 6l-9 6z\"/>", &[x, y], out)
+        }
+        Shape::FrameEnd { pid, depth } => {
+            let x = column_x(column_of(lives, pid)) + 8 * depth as u128;
+            put_filled(b"<path d=\"M@ @l9 -6v12z\"/>", &[x, y], out)
+        }
+        Shape::Birth { pid } => {
+            let x = column_x(column_of(lives, pid));
+            put_filled(b"<circle cx=\"@\" cy=\"@\" r=\"6\"/>", &[x, y], out)
+        }
+        Shape::Death { pid } => {
+            let x = column_x(column_of(lives, pid));
+            put_filled(b"<path d=\"M@ @m-6 -6l12 12m0 -12l-12 12\"/>", &[x, y], out)
+        }
+        Shape::Dot { pid } => {
+            let x = column_x(column_of(lives, pid));
+            put_filled(b"<circle cx=\"@\" cy=\"@\" r=\"3\"/>", &[x, y], out)
+        }
+        Shape::CommandLine => {
+            let x = column_x(columns_of(lives));
+            put_filled(b"<path d=\"M50 @H@\"/>", &[y, x], out)
+        }
+    }
+}
+
+// ---- rows
+
+/// Appends the start of a group in the colour of a session, and of its tooltip.
+#[tactic(auto, unfolding(def_picture::specs::Svg::group_svg))]
+fn put_group<A: Allocator>(session: u64, out: &mut Vec<u8, A>) -> Result<(), AllocError>
+    ensures { OnOk result (out.new.items ≡ out.old.items ++ group_svg session) }
+{
+    let hue = hue_of(session);
+    put_filled(
+        b"<g fill=\"none\" stroke=\"hsl(@,90%,35%)\" stroke-width=\"2\"><title>",
+        &[hue],
+        out,
+    )
+}
+
+/// Appends a spot on the line of a session, and the end of its group.
+#[tactic(auto, unfolding(def_picture::specs::Svg::spot_svg))]
+fn put_spot<A: Allocator>(
+    columns: usize,
+    session: u64,
+    y: u128,
+    out: &mut Vec<u8, A>,
+) -> Result<(), AllocError>
+    ensures { OnOk result (out.new.items ≡ out.old.items ++ spot_svg columns session y) }
+{
+    let x = session_x(columns, session);
+    let hue = hue_of(session);
+    put_filled(
+        b"<circle cx=\"@\" cy=\"@\" r=\"4\" fill=\"hsl(@,90%,35%)\"/></g>\n",
+        &[x, y, hue],
+        out,
+    )
+}
+
+/// Appends a message: the row's shape and a spot in the colour of the session, with the message as tooltip.
+#[tactic(auto, unfolding(def_picture::specs::Svg::report_svg))]
+fn put_report<A: Allocator>(
+    lives: &[Life],
+    y: u128,
+    shape: Shape,
+    report: &Report<A>,
+    out: &mut Vec<u8, A>,
+) -> Result<(), AllocError>
+    ensures { OnOk result (out.new.items ≡ out.old.items ++
+        report_svg (map life_seen lives.now) y (row_shape_seen shape) (report_seen report.now)) }
+{
+    put_group(report.session, out)?;
+    put_xml(&report.text, out)?;
+    put_text(b"</title>", out)?;
+    put_shape(lives, y, shape, out)?;
+    put_spot(columns_of(lives), report.session, y, out)
+}
+
+/// Appends the messages of a row.
+fn put_reports<A: Allocator>(
+    lives: &[Life],
+    y: u128,
+    shape: Shape,
+    reports: &[Report<A>],
+    out: &mut Vec<u8, A>,
+) -> Result<(), AllocError>
+    ensures { OnOk result (out.new.items ≡ out.old.items ++
+        flat_map (report_svg (map life_seen lives.now) y (row_shape_seen shape)) (map report_seen reports.now)) }
+{
+    for report in reports {
+        put_report(lives, y, shape, report, out)?;
+    }
+    Ok(())
+}
+
+/// How many sessions report a row.
+#[tactic(auto, using(crate::proofs::Places::seen_count))]
+fn reporters_of<A: Allocator>(reports: &[Report<A>]) -> usize
+    ensures { result ≡ length (map report_seen reports.now) }
+{
+    reports.len()
+}
+
+/// Appends a shape that no session reports: it is dashed.
+#[tactic(auto, unfolding(def_picture::specs::Svg::dashed_svg))]
+fn put_dashed<A: Allocator>(
+    lives: &[Life],
+    y: u128,
+    shape: Shape,
+    out: &mut Vec<u8, A>,
+) -> Result<(), AllocError>
+    ensures { OnOk result (out.new.items ≡ out.old.items ++
+        dashed_svg (map life_seen lives.now) y (row_shape_seen shape)) }
+{
+    put_text(
+        b"<g fill=\"none\" stroke=\"#777\" stroke-dasharray=\"4 3\">",
+        out,
+    )?;
+    put_shape(lives, y, shape, out)?;
+    put_text(b"</g>\n", out)
+}
+
+/// Appends the marks of a row.
+#[tactic(auto, unfolding(def_picture::specs::Svg::marks_svg))]
+fn put_marks<A: Allocator>(
+    lives: &[Life],
+    y: u128,
+    shape: Shape,
+    reports: &[Report<A>],
+    out: &mut Vec<u8, A>,
+) -> Result<(), AllocError>
+    ensures { OnOk result (out.new.items ≡ out.old.items ++
+        marks_svg (map life_seen lives.now) y (row_shape_seen shape) (map report_seen reports.now)) }
+{
+    if reporters_of(reports) == 0 {
+        put_dashed(lives, y, shape, out)?;
+    }
+    put_reports(lives, y, shape, reports, out)
+}
+
+/// Appends the number of a move, and the start of the label beside it.
+#[tactic(auto, unfolding(def_picture::specs::Svg::move_svg))]
+fn put_move<A: Allocator>(
+    columns: usize,
+    sessions: usize,
+    y: u128,
+    move_number: u64,
+    out: &mut Vec<u8, A>,
+) -> Result<(), AllocError>
+    requires { y < 2 ^ 127 }
+    ensures { OnOk result (out.new.items ≡ out.old.items ++ move_svg columns sessions y move_number) }
+{
+    let x = label_x(columns, sessions);
+    put_filled(
+        b"<text x=\"8\" y=\"@\">@</text><text x=\"@\" y=\"@\">",
+        &[y + 4, move_number as u128, x, y + 4],
+        out,
+    )
+}
+
+/// Appends a row: its marks, the number of its move and its label.
+#[tactic(auto, unfolding(def_picture::specs::Svg::row_svg))]
+fn put_row<A: Allocator>(
+    sessions: usize,
+    lives: &[Life],
+    number: usize,
+    row: &Row<A>,
+    out: &mut Vec<u8, A>,
+) -> Result<(), AllocError>
+    ensures { OnOk result (out.new.items ≡ out.old.items ++
+        row_svg sessions (map life_seen lives.now) number (picture_row_seen row.now)) }
+{
+    let y = row_y(sessions, number);
+    put_marks(lives, y, row.shape, &row.reports, out)?;
+    put_move(columns_of(lives), sessions, y, row.move_number, out)?;
+    put_xml(&row.label, out)?;
+    put_text(b"</text>\n", out)
+}
+
+/// Appends the rows.
+fn put_rows<A: Allocator>(
+    sessions: usize,
+    lives: &[Life],
+    rows: &[Row<A>],
+    out: &mut Vec<u8, A>,
+) -> Result<(), AllocError>
+    ensures { OnOk result (out.new.items ≡ out.old.items ++
+        each_numbered (row_svg sessions (map life_seen lives.now)) 0 (map picture_row_seen rows.now)) }
+{
+    for number in 0..rows.len() {
+        put_row(sessions, lives, number, &rows[number], out)?;
+    }
+    Ok(())
+}
+
+// ---- the header
+
+/// Appends the start of the name of a session, in its colour.
+#[tactic(auto, unfolding(def_picture::specs::Svg::legend_svg))]
+fn put_legend<A: Allocator>(number: u64, out: &mut Vec<u8, A>) -> Result<(), AllocError>
+    ensures { OnOk result (out.new.items ≡ out.old.items ++ legend_svg number) }
+{
+    put_filled(
+        b"<text x=\"80\" y=\"@\" fill=\"hsl(@,90%,35%)\">session ",
+        &[10 + 20 * number as u128, hue_of(number)],
+        out,
+    )
+}
+
+/// The written text of an atom.
+fn atom_text<A: Allocator>(alloc: A, name: &Atom<A>) -> Result<Vec<u8, A>, AllocError>
+    ensures { IfOk result (λ v. v.items ≡ atom_text name.now) }
+{
+    let mut text = Vec::new(alloc);
+    write_atom(name, &mut text)?;
+    Ok(text)
+}
+
+/// Appends the name of a session.
+#[tactic(auto, unfolding(def_picture::specs::Svg::session_svg))]
+fn put_session<A: Allocator>(
+    alloc: A,
+    number: u64,
+    name: &Atom<A>,
+    out: &mut Vec<u8, A>,
+) -> Result<(), AllocError>
+    ensures { OnOk result (out.new.items ≡ out.old.items ++ session_svg number name.now) }
+{
+    let text = atom_text(alloc, name)?;
+    put_legend(number, out)?;
+    put_xml(&text, out)?;
+    put_text(b"</text>\n", out)
+}
+
+/// Appends the names of the sessions.
+fn put_sessions<A: Allocator + Copy>(
+    alloc: A,
+    sessions: &[Atom<A>],
+    out: &mut Vec<u8, A>,
+) -> Result<(), AllocError>
+    ensures { OnOk result (out.new.items ≡ out.old.items ++ each_numbered session_svg 1 sessions.now) }
+{
+    for place in 0..sessions.len() {
+        put_session(alloc, place as u64 + 1, &sessions[place], out)?;
+    }
+    Ok(())
+}
+
+/// Appends the pid of a process over its life line.
+#[tactic(auto, unfolding(def_picture::specs::Svg::life_svg))]
+fn put_life<A: Allocator>(
+    sessions: usize,
+    column: usize,
+    life: &Life,
+    out: &mut Vec<u8, A>,
+) -> Result<(), AllocError>
+    ensures { OnOk result (out.new.items ≡ out.old.items ++ life_svg sessions column (life_seen life.now)) }
+{
+    let x = column_x(column);
+    put_filled(
+        b"<text x=\"@\" y=\"@\" text-anchor=\"middle\">&lt;0.@.0&gt;</text><path d=\"M@ @V@\" stroke=\"#bbb\"/>\n",
+        &[
+            x,
+            50 + 20 * sessions as u128,
+            life.pid as u128,
+            x,
+            row_y(sessions, life.first),
+            row_y(sessions, life.last),
+        ],
+        out,
+    )
+}
+
+/// Appends the life lines.
+fn put_lives<A: Allocator>(
+    sessions: usize,
+    lives: &[Life],
+    out: &mut Vec<u8, A>,
+) -> Result<(), AllocError>
+    ensures { OnOk result (out.new.items ≡ out.old.items ++
+        each_numbered (life_svg sessions) 0 (map life_seen lives.now)) }
+{
+    for column in 0..lives.len() {
+        put_life(sessions, column, &lives[column], out)?;
+    }
+    Ok(())
+}
+
+// ---- the whole
+
+/// The length of the longest label.
+fn longest_label<A: Allocator>(rows: &[Row<A>]) -> usize
+    ensures { result ≡ longest_label (map picture_row_seen rows.now) }
+{
+    let mut longest = 0;
+    for row in rows {
+        longest = longest.max(row.label.len());
+    }
+    longest
+}
+
+/// The width, with room for the longest label.
+#[tactic(auto, unfolding(def_picture::specs::Svg::width_of))]
+fn width_of<A: Allocator>(picture: &Picture<A>) -> u128
+    ensures { result ≡ width_of (picture_seen picture.now) }
+{
+    let columns = columns_of(&picture.lives);
+    label_x(columns, picture.sessions.len()) + 8 * longest_label(&picture.rows) as u128
+}
+
+/// The height.
+#[tactic(auto, unfolding(def_picture::specs::Svg::height_of))]
+fn height_of<A: Allocator>(picture: &Picture<A>) -> u128
+    ensures { result ≡ height_of (picture_seen picture.now) }
+{
+    row_y(picture.sessions.len(), count_of(&picture.rows))
+}
+
+/// Appends the root element.
+#[tactic(auto, unfolding(def_picture::specs::Svg::head_svg))]
+fn put_head<A: Allocator>(width: u128, height: u128, out: &mut Vec<u8, A>) -> Result<(), AllocError>
+    ensures { OnOk result (out.new.items ≡ out.old.items ++ head_svg width height) }
+{
+    put_filled(
+        b"<svg xmlns=\"http://www.w3.org/2000/svg\" width=\"@\" height=\"@\" font-family=\"monospace\" font-size=\"13\">\n<rect width=\"100%\" height=\"100%\" fill=\"#fff\"/>\n",
+        &[width, height],
+        out,
+    )
+}
+
+/// The text of a picture as a graphic.
+///
+/// # Errors
+///
+/// AllocError where memory was refused.
+pub fn svg_text<A: Allocator + Copy>(
+    alloc: A,
+    picture: &Picture<A>,
+) -> Result<Vec<u8, A>, AllocError>
+    ensures { IfOk result (λ v. v.items ≡ svg_text (picture_seen picture.now)) }
+{
+    let mut out = Vec::new(alloc);
+    let sessions = picture.sessions.len();
+    put_head(width_of(picture), height_of(picture), &mut out)?;
+    put_sessions(alloc, &picture.sessions, &mut out)?;
+    put_lives(sessions, &picture.lives, &mut out)?;
+    put_rows(sessions, &picture.lives, &picture.rows, &mut out)?;
+    put_text(b"</svg>\n", &mut out)?;
+    Ok(out)
+}

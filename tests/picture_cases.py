@@ -1,0 +1,110 @@
+"""Cases of the command `draw`, and of the manual's chapter on it."""
+import re
+import shlex
+import tempfile
+import xml.etree.ElementTree as ElementTree
+
+from explanation_cases import blocks, chapter
+from harness import EXAMPLES, SEND_HI, TOP, check, run, wants
+from run_cases import notes_of
+
+SVG = "{http://www.w3.org/2000/svg}"
+
+# The pictures in docs, each of the example of its name.
+PICTURES = ("worker_pool", "exceptions")
+
+# A process that starts another, links itself to it, and sends to a process that never was.
+FAMILY = b"""{function,m,go,exported,[],[{spawn,'X',{m,child},[]},{link,'X'},{send,<0.7.0>,hi}]}.
+{function,m,child,exported,[],[{'receive','X'}]}.
+{process,m,go,[]}.
+{control,[{session_create,s,t,[]},{process,s,all,true,[procs]}]}.
+"""
+
+
+def picks_of(script):
+    """The picks by which an example's listing is made."""
+    words = shlex.split(notes_of(script)[0][0].partition(" < ")[0])[1:]
+    return words[words.index("--picks") + 1]
+
+
+def listings(script, picks):
+    """The lines of each session's listing, in the order of the sessions."""
+    text = run(["replay", "--picks", picks, "--quiet"], script).stdout.decode().partition("== replies\n")[0]
+    return [part.splitlines()[1:] for part in re.split(r"^(?=== session )", text, flags=re.M) if part]
+
+
+def hue(session):
+    """The colour of a session by its number."""
+    return f"hsl({137 * session},90%,35%)"
+
+
+def tooltips(picture):
+    """Each mark that has a tooltip, by its colour, in order."""
+    for group in picture.iter(f"{SVG}g"):
+        titles = group.findall(f"{SVG}title")
+        if titles:
+            yield group.get("stroke"), [title.text for title in titles]
+
+
+def pictures():
+    """The picture of each example parses; each line of a listing is one tooltip, in order, in its session's colour."""
+    for script in sorted(EXAMPLES.glob("*.term")):
+        text, picks = script.read_bytes(), picks_of(script)
+        ran = run(["draw", "--picks", picks], text)
+        check(f"the picture of example {script.stem}", ran.returncode == 0 and not ran.stderr, ran)
+        picture = ElementTree.fromstring(ran.stdout)
+        marks = list(tooltips(picture))
+        wanted = listings(text, picks)
+        numbers = range(1, len(wanted) + 1)
+        seen = [[title for colour, titles in marks if colour == hue(number) for title in titles] for number in numbers]
+        check(f"the tooltips of example {script.stem}", seen == wanted, (seen, wanted))
+        titles = sum(1 for _ in picture.iter(f"{SVG}title"))
+        check(f"the number of tooltips of example {script.stem}", titles == sum(map(len, wanted)) == len(marks), titles)
+        plain = run(["draw", "--picks", picks, "--text"], text).stdout.decode().splitlines()
+        counts = [sum(line.split().count(f"=>{number}") for line in plain[len(wanted) :]) for number in numbers]
+        check(f"the lines of example {script.stem}", counts == list(map(len, wanted)), counts)
+        if script.stem in PICTURES:
+            check(f"docs/{script.stem}.svg", (TOP / "docs" / f"{script.stem}.svg").read_bytes() == ran.stdout)
+
+
+def drawings():
+    """The manual's sample, refusals, a text with markup, and files."""
+    sample = blocks(chapter("Drawing a run"))[1]
+    words = shlex.split(sample[0])[1:]
+    words[words.index("examples/send_hi.term")] = str(EXAMPLES / "send_hi.term")
+    wants("the manual's picture", run(words), 0, ("\n".join(sample[1:]) + "\n").encode())
+    wants("a picture by bad picks", run(["draw", "--picks", "0 00"], SEND_HI), 2, b"refused 20 bad picks\n")
+    wants("a picture of no script", run(["draw", "--picks", "0"], b"{"), 2, run(["replay", "--picks", "0"], b"{").stdout)
+    one = ["draw", "--picks", "0", "--text"]
+    wants("a picture that is expected", run([*one, "--expect-line", "=>1 session s1"], SEND_HI), 0, run(one, SEND_HI).stdout)
+    wants("an empty picture", run(["draw", "--picks", "", "--text"]), 0, b"        \n")
+    marked = SEND_HI.replace(b"hi,", b"'<&\">',")
+    ran = run(["draw", "--picks", "0 0 100 100"], marked)
+    titles = [title for _, titles in tooltips(ElementTree.fromstring(ran.stdout)) for title in titles]
+    check("a tooltip with markup", titles == ["{trace,<0.100.0>,send,{'<&\">',1},<0.101.0>}"], ran)
+    with tempfile.NamedTemporaryFile(suffix=".term") as script:
+        script.write(SEND_HI)
+        script.flush()
+        of_file = run(["draw", script.name, "--picks", "0 0 100 100"])
+        wants("a picture from a file", run(["draw", "--picks", "0 0 100 100"], SEND_HI), 0, of_file.stdout)
+    for name, words in {"a picture without picks": ["draw"], "a picture of a session": [*one, "--session", "s1"]}.items():
+        ran = run(words, SEND_HI)
+        check(name, ran.returncode == 2 and not ran.stdout and ran.stderr, ran)
+
+
+def life_lines():
+    """A process that is spawned has its column from its birth, and none after its exit; worked by hand."""
+    ran = run(["draw", "--picks", "0 0 100 100 100 100 100", "--text"], FAMILY)
+    lines = [line[8:32] for line in ran.stdout.decode().splitlines()[2:]]
+    shaft, blank = "-" * 11, " " * 11
+    wanted = [
+        "=========== =========== ",  # the session is created
+        "=========== =========== ",  # it sets its flags
+        f"[1{blank[1:]}{' ' * 12}",  # the entry call, before the other is born
+        f"*{shaft}>{blank}",  # the spawn
+        f"|{blank}+{blank}",  # the birth
+        f"*{shaft}>{blank}",  # the link
+        f"|{blank}o{blank}",  # what the other has of it
+        f"*{shaft}-{shaft}",  # the send to no process
+    ]
+    check("the life lines of a family", lines[: len(wanted)] == wanted, lines)
