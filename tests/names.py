@@ -97,7 +97,7 @@ def once():
     performs = [name for path in CRATES.glob("tn_command/src/*.rt") for name in re.findall(r"\bfn (perform\w*)", path.read_text())]
     yield "at most two functions perform commands", len(performs) <= 2, performs
     layers = [path.name for path in CRATES.iterdir() if path.name.startswith(("def_", "tn_"))]
-    yield "at most 38 crates beside those of completeness and callers", len(layers) <= 38, len(layers)
+    yield "at most 40 crates beside those of completeness and callers", len(layers) <= 40, len(layers)
 
 
 def findings():

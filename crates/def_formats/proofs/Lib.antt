@@ -1,0 +1,2 @@
+pub mod SummaryRows
+mod JsonRows
