@@ -1,5 +1,5 @@
 -- The lines of a text, and the parts of a line (own).
-use Rattle.std.specs.Prelude.{ℕ, suc, ◌==◌, Bool, true, false, if◌then◌else◌, List, [], ◌∷◌}
+use Rattle.std.specs.Prelude.{ℕ, suc, ◌==◌, Bool, false, not, ◌&&◌, if◌then◌else◌, List, [], ◌∷◌}
 use Rattle.std.specs.List.{slice_split, before_first, after_first, prefix_len}
 use Rattle.def_term.specs.Text.{is_name_byte}
 
@@ -43,8 +43,7 @@ message_kind line = before_byte 44 (past_byte 44 (past_byte 44 line))
 -- the length of what ends with the first quote that has no backslash before it; whether a backslash is before the text
 abbrev pub quoted_length : Bool → List ℕ → ℕ
 quoted_length escapes [] = 0
-quoted_length true (c ∷ cs) = suc (quoted_length false cs)
-quoted_length false (c ∷ cs) = if c == 39 then 1 else suc (quoted_length (c == 92) cs)
+quoted_length escapes (c ∷ cs) = if not escapes && (c == 39) then 1 else suc (quoted_length (not escapes && (c == 92)) cs)
 
 -- the length of the atom's text: up to its closing quote, or all its letters, digits, `_` and `@`
 abbrev pub atom_length : List ℕ → ℕ

@@ -6,11 +6,18 @@ use Rattle.std.specs.Str.{bytes_eq}
 use Rattle.def_formats.specs.Lines.{text_lines, message_kind}
 use Rattle.def_formats.specs.Sections.{by_sections, Section, section_of, session_section, replies_section, journal_section}
 
--- the kinds of trace messages, as a message's text has them
-abbrev pub message_kinds : List (List ℕ)
-message_kinds =
-    codes "send" ∷ codes "send_to_non_existing_process" ∷ codes "'receive'" ∷ codes "call" ∷ codes "return_from" ∷ codes "exception_from"
-    ∷ codes "spawn" ∷ codes "spawned" ∷ codes "exit" ∷ codes "link" ∷ codes "unlink" ∷ codes "getting_linked" ∷ codes "getting_unlinked" ∷ []
+-- the kinds of trace messages, as a message's text has them: of messages that are sent and that arrive, of calls, and of processes
+abbrev pub kinds_of_signals : List (List ℕ)
+kinds_of_signals = codes "send" ∷ codes "send_to_non_existing_process" ∷ codes "'receive'" ∷ []
+
+abbrev pub kinds_of_calls : List (List ℕ)
+kinds_of_calls = codes "call" ∷ codes "return_from" ∷ codes "exception_from" ∷ []
+
+abbrev pub kinds_of_processes : List (List ℕ)
+kinds_of_processes = codes "spawn" ∷ codes "spawned" ∷ codes "exit" ∷ []
+
+abbrev pub kinds_of_links : List (List ℕ)
+kinds_of_links = codes "link" ∷ codes "unlink" ∷ codes "getting_linked" ∷ codes "getting_unlinked" ∷ []
 
 -- ---- load
 
@@ -59,9 +66,15 @@ longest_line m =
 
 -- ---- sections
 
+-- a line for each of these kinds of which there are messages
+abbrev pub kind_lines : List (List ℕ) → List (List ℕ) → List ℕ
+kind_lines kinds lines = flat_map (kind_line lines) kinds
+
 -- the load of a session's messages by kind and in total, and the greatest of them
 abbrev pub session_summary : List (List ℕ) → List ℕ
-session_summary lines = flat_map (kind_line lines) message_kinds ++ load_line (codes "total") (load_of None lines) ++ longest_line (longest lines)
+session_summary lines =
+    kind_lines kinds_of_signals lines ++ kind_lines kinds_of_calls lines ++ kind_lines kinds_of_processes lines ++ kind_lines kinds_of_links lines
+    ++ load_line (codes "total") (load_of None lines) ++ longest_line (longest lines)
 
 -- the picks of a journal's line
 abbrev pub picks_in : List ℕ → List (List ℕ)

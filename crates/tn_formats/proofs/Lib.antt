@@ -1,1 +1,3 @@
 mod LineLemmas
+mod PickLemmas
+mod Appends

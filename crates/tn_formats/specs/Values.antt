@@ -1,5 +1,4 @@
 -- What the code's values stand for (own).
-use Rattle.std.specs.Prelude.{ℕ, List}
 use Rattle.def_formats.specs.Sections as definition
 use Rattle.def_formats.specs.Sections.{session_section, replies_section, journal_section}
 use Rattle.def_formats.specs.Summaries as summaries

@@ -1,5 +1,5 @@
 // The text of an atom at the front of a text, and the first line of a section.
-ghost use Rattle.std.specs.Prelude.{◌≡◌, ◌≤◌, ◌+◌, false, length, take, drop, suc};
+ghost use Rattle.std.specs.Prelude.{◌≡◌, ◌≤◌, ◌+◌, ◌==◌, ◌&&◌, not, false, length, take, drop};
 ghost use Rattle.std.specs.List.{prefix_len};
 ghost use Rattle.def_term.specs.Text.{is_name_byte};
 ghost use Rattle.def_formats.specs.Lines.{atom_length, quoted_length};
@@ -8,6 +8,13 @@ ghost use Rattle.tn_formats.specs.Values.{section_seen};
 
 use crate::parts::without_front;
 
+/// Whether a byte is this one, with no backslash before it.
+fn is_unescaped(escapes: bool, byte: u8, wanted: u8) -> bool
+    ensures { result ≡ (not escapes && (byte == wanted)) }
+{
+    !escapes && byte == wanted
+}
+
 /// The length of what ends with the first quote that has no backslash before it.
 fn quoted_length(text: &[u8]) -> usize
     ensures value { result ≡ quoted_length false text.now }
@@ -15,13 +22,10 @@ fn quoted_length(text: &[u8]) -> usize
 {
     let mut escapes = false;
     for (i, byte) in text.iter().enumerate() {
-        if escapes {
-            escapes = false;
-        } else if *byte == b'\'' {
+        if is_unescaped(escapes, *byte, b'\'') {
             return i + 1;
-        } else {
-            escapes = *byte == b'\\';
         }
+        escapes = is_unescaped(escapes, *byte, b'\\');
     }
     text.len()
 }
@@ -69,6 +73,7 @@ pub(crate) fn cut_atom(text: &[u8], more: u8) -> (&[u8], &[u8])
 }
 
 /// What a section is of.
+#[derive(Clone, Copy)]
 pub(crate) enum Section<'a> {
     /// A session, with the texts of its name and of its tracer.
     Session { name: &'a [u8], tracer: &'a [u8] },
@@ -82,10 +87,10 @@ pub(crate) enum Section<'a> {
 pub(crate) fn section_of(head: &[u8]) -> Section<'_>
     ensures { section_seen result ≡ section_of head.now }
 {
-    if head == b"== replies" {
+    if head == b"== replies".as_slice() {
         return Section::Replies;
     }
-    if head == b"== journal" {
+    if head == b"== journal".as_slice() {
         return Section::Journal;
     }
     let (name, tracer) = cut_atom(without_front(head, 11), 8);

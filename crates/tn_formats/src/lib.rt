@@ -10,6 +10,8 @@ mod lines;
 mod load;
 mod longest;
 mod parts;
+mod picks;
 mod section;
+mod summary;
 
 pub use lines::first_line;

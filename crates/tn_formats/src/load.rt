@@ -17,7 +17,7 @@ pub(crate) struct Load {
 
 /// Whether a message is of this kind, where one is given.
 fn is_of_kind(line: &[u8], kind: Option<&[u8]>) -> bool
-    ensures { result ≡ is_of_kind (option_map (λ k. k.now) kind) line.now }
+    ensures { result ≡ is_of_kind (option_map (λ k. k.now) kind.entry) line.now }
 {
     match kind {
         Some(kind) => message_parts(line).1 == kind,
@@ -27,7 +27,7 @@ fn is_of_kind(line: &[u8], kind: Option<&[u8]>) -> bool
 
 /// The load of the messages of a section that are of this kind, or of all where none is given.
 pub(crate) fn load_of(text: &[u8], kind: Option<&[u8]>) -> Load
-    ensures { load_seen result ≡ load_of (option_map (λ k. k.now) kind) (section_lines text.now) }
+    ensures { load_seen result ≡ load_of (option_map (λ k. k.now) kind.entry) (section_lines text.now) }
 {
     let mut load = Load {
         messages: 0,

@@ -28,3 +28,16 @@ pub(crate) fn next_line(text: &[u8]) -> Option<(&[u8], &[u8])>
         Some((line, after))
     }
 }
+
+/// How many lines a section has.
+pub(crate) fn line_count(text: &[u8]) -> usize
+    ensures { result ≡ length (section_lines text.now) }
+{
+    let mut count = 0;
+    let mut rest = text;
+    while let Some((_, after)) = next_line(rest) {
+        count += 1;
+        rest = after;
+    }
+    count
+}
