@@ -1,3 +1,5 @@
+mod SplitLemmas
 mod LineLemmas
 mod PickLemmas
 mod Appends
+mod AsciiLemmas

@@ -162,7 +162,7 @@ fn put_section<A: Allocator>(
 /// # Errors
 ///
 /// AllocError where memory was refused.
-pub fn summary_of<A: Allocator>(alloc: A, output: &[u8]) -> Result<Vec<u8, A>, AllocError>
+pub(crate) fn summary_of<A: Allocator>(alloc: A, output: &[u8]) -> Result<Vec<u8, A>, AllocError>
     ensures { IfOk result (λ v. v.items ≡ summary_of output.now) }
 {
     let mut out = Vec::new(alloc);
