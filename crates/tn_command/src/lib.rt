@@ -5,7 +5,8 @@
 //! Promises of each job that it is done as tn_run says, that the status is that of its answer, 0 for what was asked
 //! for, 2 for a refusal and 3 for a fault, and that what was written is what the status says; so it is with an
 //! explained run and the trial of one specification. Promises of an output that is held against an expectation that
-//! the status is 1 where it would be 0 and the output doesn't meet it, and else what it would be. Promises of a text
+//! the status is 1 where it would be 0 and the output doesn't meet it, and else what it would be. Promises of a job in
+//! a format that it writes the text in that format of what the job writes. Promises of a text
 //! of picks that it is what the reader holds, without a line feed at its end. A refusal or a fault has one line on
 //! standard error: how the text can be fixed, or what failed. A pipe that was closed has none. So has a run that a
 //! running node is known to do otherwise: at how many of its moves.
@@ -14,6 +15,7 @@
 mod command;
 mod expectation;
 mod expectation_file;
+mod in_format;
 mod jobs;
 mod judgement;
 mod last_error;
@@ -31,6 +33,7 @@ mod workers;
 pub use command::Command;
 pub use expectation::Expectation;
 pub use expectation_file::output_of;
+pub use in_format::InFormat;
 pub use jobs::{perform, perform_over};
 pub use last_error::LastError;
 pub use number::plain_number;
