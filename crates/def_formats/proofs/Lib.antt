@@ -1,2 +1,3 @@
 pub mod SummaryRows
 mod JsonRows
+mod OutputSections

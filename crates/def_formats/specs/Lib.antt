@@ -3,3 +3,4 @@ pub mod Sections
 pub mod Summaries
 pub mod JsonRows
 pub mod Formats
+pub mod Laws
