@@ -1,3 +1,6 @@
 pub mod SummaryRows
 mod JsonRows
 mod OutputSections
+mod AtomTexts
+mod Longest
+mod ReadRows
