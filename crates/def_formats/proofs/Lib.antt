@@ -4,3 +4,4 @@ mod OutputSections
 mod AtomTexts
 mod Longest
 mod ReadRows
+mod MessageTexts

@@ -96,7 +96,7 @@ module _ (f : List ℕ → List (List ℕ) → List ℕ) where
         ap (λ t. by_sections f (text_lines t)) (append_assoc ((session_head s.0 s.1 ++ 10 ∷ []) ++ lines_of (ms s.0)) (listings_text ms ss) rest)
         ∙ ap (by_sections f) (listing_cut s (listings_text ms ss ++ rest) (All-head IsHead s ss one) (All-head HasContent s ss h))
         ∙ section_cut (session_head s.0 s.1) (ms s.0) (text_lines (listings_text ms ss ++ rest)) refl (All-head HasContent s ss h)
-          (listings_begin ss rest (All-tail IsHead s ss one) (All-tail HasContent s ss h) ends)
+        (listings_begin ss rest (All-tail IsHead s ss one) (All-tail HasContent s ss h) ends)
         ∙ ap (λ r. f (session_head s.0 s.1) (map w (ms s.0)) ++ r) (listings_cut ss rest (All-tail IsHead s ss one) (All-tail HasContent s ss h) ends)
         ∙ sym (append_assoc (f (session_head s.0 s.1) (map w (ms s.0))) (flat_map (λ s. f (session_head s.0 s.1) (map w (ms s.0))) ss) (by_sections f (text_lines rest)))
 

@@ -5,16 +5,17 @@ use Rattle.std.specs.List.{list_all}
 use Rattle.json.specs.Json.{Json, document}
 use Rattle.json.specs.Print.{print}
 use Rattle.json.specs.Tree.{json_tokens}
-use Rattle.def_term.specs.Names.{Name}
-use Rattle.def_term.specs.Text.{w, atom_text, is_name_byte}
+use Rattle.def_term.specs.Names.{Name, word}
+use Rattle.def_term.specs.Tree.{Tree, atom, pid, tuple, Trees, more}
+use Rattle.def_term.specs.Text.{w, atom_text, pid_text, is_name_byte}
 use Rattle.def_script.specs.Program.{Program}
 use Rattle.def_script.specs.Script.{creations}
 use Rattle.def_run.specs.Run.{moves}
 use Rattle.def_run.specs.Picks.{picks_text}
 use Rattle.def_run.specs.Listing.{messages, replies, program_output}
-use Rattle.def_formats.specs.Lines.{text_lines, atom_length}
+use Rattle.def_formats.specs.Lines.{text_lines, atom_length, message_pid, message_kind}
 use Rattle.def_formats.specs.Sections.{is_section_head, by_sections, Section, section_of, session_section}
-use Rattle.def_formats.specs.Summaries.{NumberedLine, longest}
+use Rattle.def_formats.specs.Summaries.{NumberedLine, longest, kinds_of_signals, kinds_of_calls, kinds_of_processes, kinds_of_links}
 use Rattle.def_formats.specs.JsonRows.{rows_by, account_rows, numbered_rows, line_row}
 
 -- ---- names
@@ -55,6 +56,26 @@ SectionsAreOfTheRun =
     ≡ flat_map (λ s. f (session_head s.0 s.1) (map w (messages s.0 p picks))) (creations p.commands)
     ++ (f (codes "== replies") (map w (replies p picks)) ++ f (codes "== journal") (picks_text (moves p picks) ∷ []))
 
+-- ---- messages
+
+-- the text has no comma
+abbrev pub HasNoComma : List ℕ → Type 0
+HasNoComma text = list_all (λ b. not (b == 44)) text ≡ true
+
+-- a trace message of this process and kind, with this term after the kind, and more
+abbrev pub message_text : ℕ → Name → Tree → Trees → List ℕ
+message_text p kind t ts = w (tuple (more (word "trace") (more (pid p) (more (atom kind) (more t ts)))))
+
+-- its pid and its kind are those that are read of it
+abbrev pub MessageIsRead : Type 0
+MessageIsRead =
+    (p : ℕ) (kind : Name) (t : Tree) (ts : Trees) → p < 2 ^ 64 → HasNoComma (atom_text kind)
+    → (message_pid (message_text p kind t ts) ≡ pid_text p) × (message_kind (message_text p kind t ts) ≡ atom_text kind)
+
+-- the kinds that a summary counts have none
+abbrev pub KindsHaveNoComma : Type 0
+KindsHaveNoComma = list_all (λ kind. list_all (λ b. not (b == 44)) kind) (kinds_of_signals ++ kinds_of_calls ++ kinds_of_processes ++ kinds_of_links) ≡ true
+
 -- ---- the greatest message
 
 -- no message is longer, and it is the one of its number, if there is a message that isn't empty
@@ -68,17 +89,17 @@ LongestIsLongest = (lines : List (List ℕ)) → IsLongest lines (longest lines)
 -- ---- JSON
 
 -- the text of the value is one JSON text, which is read as that value
-abbrev pub IsRead : Json → Type 0
-IsRead v = document (print (json_tokens v)) ≡ Some v
+abbrev pub IsReadBack : Json → Type 0
+IsReadBack v = document (print (json_tokens v)) ≡ Some v
 
 -- each row of an output with fewer than 2^64 lines is
 abbrev pub OutputRowsAreRead : Type 0
-OutputRowsAreRead = (s : Section) (lines : List (List ℕ)) → length lines + 1 < 2 ^ 64 → All IsRead (rows_by s lines)
+OutputRowsAreRead = (s : Section) (lines : List (List ℕ)) → length lines + 1 < 2 ^ 64 → All IsReadBack (rows_by s lines)
 
 -- and each row of an account
 abbrev pub AccountRowsAreRead : Type 0
-AccountRowsAreRead = (move : List ℕ) (lines : List (List ℕ)) → All IsRead (account_rows move lines)
+AccountRowsAreRead = (move : List ℕ) (lines : List (List ℕ)) → All IsReadBack (account_rows move lines)
 
 -- and each row of any other text with fewer than 2^64 lines
 abbrev pub TextRowsAreRead : Type 0
-TextRowsAreRead = (lines : List (List ℕ)) → length lines + 1 < 2 ^ 64 → All IsRead (numbered_rows line_row 1 lines)
+TextRowsAreRead = (lines : List (List ℕ)) → length lines + 1 < 2 ^ 64 → All IsReadBack (numbered_rows line_row 1 lines)

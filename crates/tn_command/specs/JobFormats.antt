@@ -7,15 +7,15 @@ use Rattle.tn_formats.specs.declared.format.Format.{Format}
 use Rattle.tn_run.specs.Jobs.{JobView}
 
 -- the text in a format, or as it is where none is given
-abbrev pub text_in : Option Format → List ℕ → List ℕ
-text_in None text = text
-text_in (Some format) text = in_format (format_seen format) text
+abbrev pub text_in_format : Option Format → List ℕ → List ℕ
+text_in_format None text = text
+text_in_format (Some format) text = in_format (format_seen format) text
 
 -- the text in a format of a plain text of which this holds
 pub record IsTextIn (format : Option Format) (IsPlain : List ℕ → Type 0) (text : List ℕ) : Type 0 where
   pub plain : List ℕ
   pub is_plain : IsPlain plain
-  pub text_is : text ≡ text_in format plain
+  pub text_is : text ≡ text_in_format format plain
 
 -- the job that gives what another one gives, with its output in a format
 abbrev pub job_in : {O F : Type 0} → Option Format → JobView O F → JobView O F

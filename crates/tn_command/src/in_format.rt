@@ -1,6 +1,6 @@
 // A job whose output is written in a format.
 ghost use Rattle.std.specs.Prelude.{◌≡◌, IfOk};
-ghost use Rattle.tn_command.specs.JobFormats.{text_in};
+ghost use Rattle.tn_command.specs.JobFormats.{text_in_format};
 
 use crate::command::Command;
 use crate::stderr::NamedText;
@@ -18,12 +18,12 @@ pub struct InFormat<'a, J> {
 }
 
 /// The text in a format, or as it is where none is given.
-pub(crate) fn text_in<A: Allocator>(
+pub(crate) fn text_in_format<A: Allocator>(
     alloc: A,
     format: Option<Format>,
     text: Vec<u8, A>,
 ) -> Result<Vec<u8, A>, AllocError>
-    ensures { IfOk result (λ v. v.items ≡ text_in format text.items) }
+    ensures { IfOk result (λ v. v.items ≡ text_in_format format text.items) }
 {
     match format {
         Some(format) => in_format(alloc, format, &text),
@@ -67,7 +67,7 @@ impl<A: Allocator + Copy, J: DirectJob<A>> DirectJob<A> for InFormat<'_, J> {
         program: &Program<A>,
     ) -> Result<(J::Outcome, Vec<u8, A>), J::Fault> {
         let (outcome, plain) = self.job.answer(alloc, picks, program)?;
-        match text_in(alloc, self.format, plain) {
+        match text_in_format(alloc, self.format, plain) {
             Ok(output) => Ok((outcome, output)),
             Err(_) => Err(self.job.fault_of(RunFault::OutOfMemory)),
         }

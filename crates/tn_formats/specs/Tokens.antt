@@ -7,12 +7,12 @@ use Rattle.def_formats.specs.Lines.{message_kind, message_pid}
 use Rattle.def_formats.specs.JsonRows.{text_value, numeral_value}
 
 -- these tokens after the ones before
-pub record Gains (old new : Written) (ts : List Token) : Type 0 where
+pub record GainsTokens (old new : Written) (ts : List Token) : Type 0 where
   pub tokens : new.tokens ≡ old.tokens ++ ts
   pub before : new.before ≡ old.before
 
 abbrev pub AddsTokens : {T E : Type 0} → Result T E → Written → Written → List Token → Type 0
-AddsTokens r old new ts = OnOk r (Gains old new ts)
+AddsTokens r old new ts = OnOk r (GainsTokens old new ts)
 
 -- ---- the tokens of members
 

@@ -3,7 +3,8 @@ ghost use Rattle.std.specs.Prelude.{◌≡◌, ◌++◌, ◌∷◌, [], IfOk};
 ghost use Rattle.json.specs.Token.{begin_object, end_object};
 ghost use Rattle.json.specs.Print.{print};
 ghost use Rattle.def_formats.specs.Lines.{before_byte, past_byte};
-ghost use Rattle.def_formats.specs.JsonRows.{json_line, session_row, message_row, reply_row, line_row, move_row, made_row};
+ghost use Rattle.def_formats.specs.JsonRows.{json_line, session_row, message_row, reply_row, line_row};
+ghost use Rattle.def_formats.specs.JsonRows.{move_row, made_row};
 ghost use Rattle.tn_formats.specs.Tokens.{AddsTokens, session_tokens, message_tokens, move_tokens};
 
 use crate::atom::cut_atom;

@@ -2,7 +2,7 @@
 ghost use Rattle.std.specs.Prelude.{◌≡◌, ◌++◌, ◌∷◌, [], OnOk, IfOk, length, codes, decimal};
 ghost use Rattle.def_formats.specs.Sections.{by_sections, section_lines, section_of};
 ghost use Rattle.def_formats.specs.Lines.{text_lines};
-ghost use Rattle.def_formats.specs.Summaries.{load_line, kind_line, kind_lines, longest_line, session_summary, summary_by};
+ghost use Rattle.def_formats.specs.Summaries.{load_line, kind_line, kind_lines, longest_line, session_summary};
 ghost use Rattle.def_formats.specs.Summaries.{kinds_of_signals, kinds_of_calls, kinds_of_processes, kinds_of_links};
 ghost use Rattle.def_formats.specs.Summaries.{section_summary, summary_of};
 ghost use Rattle.tn_formats.specs.Values.{load_seen, line_seen, section_seen};
