@@ -30,13 +30,15 @@ _tracenode() {
                 ;;
         esac
         case $command in
-            replay) words='--picks --picks-file --quiet --expect --expect-line --reject-line -h --help' ;;
-            round) words='--limit --quiet --expect --expect-line --reject-line -h --help' ;;
-            workers) words='--n --turns --spread --quiet --expect --expect-line --reject-line -h --help' ;;
-            explain)
-                words='--picks --picks-file --session --move --node --expect --expect-line --reject-line -h --help'
+            replay) words='--picks --picks-file --quiet --summary --json --expect --expect-line --reject-line -h --help' ;;
+            round) words='--limit --quiet --summary --json --expect --expect-line --reject-line -h --help' ;;
+            workers)
+                words='--n --turns --spread --quiet --summary --json --expect --expect-line --reject-line -h --help'
                 ;;
-            spec) words='--list --for --me --caller -h --help' ;;
+            explain)
+                words='--picks --picks-file --session --move --node --json --expect --expect-line --reject-line -h --help'
+                ;;
+            spec) words='--list --for --me --caller --json -h --help' ;;
             help) words='replay round workers explain spec' ;;
         esac
     fi

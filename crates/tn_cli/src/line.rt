@@ -2,7 +2,7 @@
 ghost use Rattle.std.specs.Prelude.{◌≡◌, codes, true, IfOk, IsOkAnd};
 ghost use Rattle.clap.specs.Built.{AddsSubcommand, subcommand_names};
 ghost use Rattle.tn_cli.specs.Line.{IsOption, IsFlag, IsWord, IsElse, IsFromTo, IsOneOf};
-ghost use Rattle.tn_cli.specs.Line.{IsCommand, IsWithExpectation, WantsPicks};
+ghost use Rattle.tn_cli.specs.Line.{IsCommand, IsWithFormats, IsWithExpectation, WantsPicks};
 ghost use Rattle.tn_cli.specs.Line.{PICKS, BY_PICKS, REPLAY, EXPLAIN, ROUND, WORKERS, TRIAL, COMMAND_NAMES};
 
 use clap::{Arg, ArgAction, ArgGroup, Command, value_parser};
@@ -92,6 +92,33 @@ fn quiet<'a>(alloc: Global) -> Arg<'a>
         .action(ArgAction::SetTrue)
 }
 
+/// `--summary`.
+fn summary<'a>(alloc: Global) -> Arg<'a>
+    ensures { IsFlag (codes "summary") result }
+{
+    Arg::new(alloc, "summary")
+        .long("summary")
+        .help("Prints how many messages and bytes each session has, in place of the messages")
+        .action(ArgAction::SetTrue)
+}
+
+/// `--json`.
+fn json<'a>(alloc: Global) -> Arg<'a>
+    ensures { IsFlag (codes "json") result }
+{
+    Arg::new(alloc, "json")
+        .long("json")
+        .help("Prints JSON, a value a line")
+        .action(ArgAction::SetTrue)
+}
+
+/// `--json`, which no command takes beside `--summary`.
+fn json_alone<'a>(alloc: Global) -> Result<Arg<'a>, AllocError>
+    ensures { IfOk result (IsFlag (codes "json")) }
+{
+    json(alloc).conflicts_with("summary")
+}
+
 /// `--expect FILE`.
 fn expect<'a>(alloc: Global) -> Arg<'a>
     ensures { IsOption (codes "expect") result }
@@ -127,6 +154,13 @@ fn reject_line<'a>(alloc: Global) -> Arg<'a>
         .action(ArgAction::Set)
 }
 
+/// The command with `[--summary] [--json]` more, which say in which format its output is.
+fn with_formats<'a>(alloc: Global, command: Command<'a>) -> Result<Command<'a>, AllocError>
+    ensures { IfOk result (IsWithFormats command.entry) }
+{
+    command.arg(summary(alloc))?.arg(json_alone(alloc)?)
+}
+
 /// The command with `[--expect FILE] [--expect-line TEXT] [--reject-line TEXT]` more, which say what its output must
 /// be.
 fn with_expectation<'a>(alloc: Global, command: Command<'a>) -> Result<Command<'a>, AllocError>
@@ -138,13 +172,14 @@ fn with_expectation<'a>(alloc: Global, command: Command<'a>) -> Result<Command<'
         .arg(reject_line(alloc))
 }
 
-/// The subcommand `replay [SCRIPT] [--quiet]` with picks, and with what its output must be.
+/// The subcommand `replay [SCRIPT] [--quiet]` with picks, in a format, and with what its output must be.
 fn replay<'a>(alloc: Global) -> Result<Command<'a>, AllocError>
     ensures arguments { IfOk result (IsCommand (codes "replay") REPLAY) }
     ensures picks { IfOk result WantsPicks }
 {
     let about = "Runs the script by the given picks, and prints what its sessions saw";
     let command = by_picks(alloc, "replay", about)?.arg(quiet(alloc))?;
+    let command = with_formats(alloc, command)?;
     with_expectation(alloc, command)
 }
 
@@ -184,7 +219,8 @@ fn node<'a>(alloc: Global) -> Arg<'a>
         .action(ArgAction::SetTrue)
 }
 
-/// The subcommand `explain [SCRIPT] [--session NAME] [--move N] [--node]` with picks, and with what its output must be.
+/// The subcommand `explain [SCRIPT] [--session NAME] [--move N] [--node] [--json]` with picks, and with what its output
+/// must be.
 fn explain<'a>(alloc: Global) -> Result<Command<'a>, AllocError>
     ensures arguments { IfOk result (IsCommand (codes "explain") EXPLAIN) }
     ensures picks { IfOk result WantsPicks }
@@ -193,7 +229,8 @@ fn explain<'a>(alloc: Global) -> Result<Command<'a>, AllocError>
     let command = by_picks(alloc, "explain", about)?
         .arg(session(alloc))?
         .arg(move_number(alloc))?
-        .arg(node(alloc))?;
+        .arg(node(alloc))?
+        .arg(json(alloc))?;
     with_expectation(alloc, command)
 }
 
@@ -212,7 +249,7 @@ fn limit<'a>(alloc: Global) -> Arg<'a>
         .action(ArgAction::Set)
 }
 
-/// The subcommand `round [SCRIPT] [--limit N] [--quiet]`, with what its output must be.
+/// The subcommand `round [SCRIPT] [--limit N] [--quiet]`, in a format, with what its output must be.
 fn round<'a>(alloc: Global) -> Result<Command<'a>, AllocError>
     ensures { IfOk result (IsCommand (codes "round") ROUND) }
 {
@@ -221,6 +258,7 @@ fn round<'a>(alloc: Global) -> Result<Command<'a>, AllocError>
         .arg(script(alloc))?
         .arg(limit(alloc))?
         .arg(quiet(alloc))?;
+    let command = with_formats(alloc, command)?;
     with_expectation(alloc, command)
 }
 
@@ -266,7 +304,8 @@ fn spread<'a>(alloc: Global) -> Arg<'a>
         .action(ArgAction::Set)
 }
 
-/// The subcommand `workers [SCRIPT] --n N [--turns T] [--spread SEED] [--quiet]`, with what its output must be.
+/// The subcommand `workers [SCRIPT] --n N [--turns T] [--spread SEED] [--quiet]`, in a format, with what its output
+/// must be.
 fn workers<'a>(alloc: Global) -> Result<Command<'a>, AllocError>
     ensures { IfOk result (IsCommand (codes "workers") WORKERS) }
 {
@@ -277,6 +316,7 @@ fn workers<'a>(alloc: Global) -> Result<Command<'a>, AllocError>
         .arg(turns(alloc))?
         .arg(spread(alloc))?
         .arg(quiet(alloc))?;
+    let command = with_formats(alloc, command)?;
     with_expectation(alloc, command)
 }
 
@@ -353,7 +393,7 @@ fn specification<'a>(alloc: Global) -> Arg<'a>
         .action(ArgAction::Set)
 }
 
-/// The subcommand `spec --list TERM [--for EVENT] [--me N] [--caller TERM] [SPECIFICATION]`.
+/// The subcommand `spec --list TERM [--for EVENT] [--me N] [--caller TERM] [--json] [SPECIFICATION]`.
 fn spec<'a>(alloc: Global) -> Result<Command<'a>, AllocError>
     ensures { IfOk result (IsCommand (codes "spec") TRIAL) }
 {
@@ -365,6 +405,7 @@ fn spec<'a>(alloc: Global) -> Result<Command<'a>, AllocError>
         .arg(event(alloc))?
         .arg(own_process(alloc))?
         .arg(caller(alloc))?
+        .arg(json(alloc))?
         .arg(specification(alloc))
 }
 

@@ -8,12 +8,14 @@
 ghost use Rattle.std.specs.Process.{exit_status};
 ghost use Rattle.tn_command.specs.Status.{IsStatus};
 
+mod format;
 mod line;
 mod request;
 mod value;
 
 use clap::ArgMatches;
 use clap::error::ErrorKind;
+use format::format_of;
 use line::command;
 use request::{BadNumber, ExpectationArgs, PicksSource, Request, SpecTestArgs, request_of};
 use std::io;
@@ -22,10 +24,11 @@ use std::rt::{Env, Files};
 use std::sync::Wait;
 use std::thread::Threads;
 use tn_command::{
-    Expectation, FAULT, LastError, REFUSED, Source, Start, WorkersRun, arguments, output_of,
-    perform, picks_of, report, tell_fault, test_spec,
+    Expectation, FAULT, InFormat, LastError, REFUSED, Source, Start, WorkersRun, arguments,
+    output_of, perform, picks_of, report, tell_fault, test_spec,
 };
 use tn_explain::{ExplainRequest, Filter, RunAndNote};
+use tn_formats::Format;
 use tn_run::{RunFault, Schedule, Workers, write_output};
 use tn_text::Watched;
 use tn_verdict::SpecTestInput;
@@ -34,9 +37,19 @@ use tn_verdict::SpecTestInput;
 #[derive(Clone, Copy)]
 enum Task<'a> {
     /// The run's output is printed, and its note where there is one, unless nothing is asked for on standard error.
-    Replay { quiet: bool },
-    /// The run is explained: the session and the move that are asked for.
-    Explain(Filter<'a>),
+    Replay(Printing),
+    /// The run is explained, in a format: the session and the move that are asked for.
+    Explain {
+        filter: Filter<'a>,
+        format: Option<Format>,
+    },
+}
+
+/// What is printed of a run: in which format, and whether notes are printed on standard error.
+#[derive(Clone, Copy)]
+struct Printing {
+    format: Option<Format>,
+    quiet: bool,
 }
 
 /// Runs the script by a schedule, with the note of what a running node does otherwise, or without.
@@ -44,15 +57,18 @@ fn run_schedule<R: Input + Files + Print + Eprint + AllocGlobal>(
     rt: &R,
     script: Source<'_>,
     schedule: Schedule<'_>,
-    quiet: bool,
+    printing: Printing,
     expectation: &Expectation<'_>,
 ) -> ExitCode
     ensures { IsStatus (exit_status result) }
 {
+    let Printing { format, quiet } = printing;
     if quiet {
-        perform(rt, script, &schedule, expectation)
+        let job = &schedule;
+        perform(rt, script, &InFormat { job, format }, expectation)
     } else {
-        perform(rt, script, &RunAndNote { schedule }, expectation)
+        let job = &RunAndNote { schedule };
+        perform(rt, script, &InFormat { job, format }, expectation)
     }
 }
 
@@ -67,11 +83,12 @@ fn run_task<R: Input + Files + Print + Eprint + AllocGlobal>(
     ensures { IsStatus (exit_status result) }
 {
     match task {
-        Task::Replay { quiet } => {
-            run_schedule(rt, script, Schedule::Picks(picks), quiet, expectation)
+        Task::Replay(printing) => {
+            run_schedule(rt, script, Schedule::Picks(picks), printing, expectation)
         }
-        Task::Explain(filter) => {
-            perform(rt, script, &ExplainRequest { picks, filter }, expectation)
+        Task::Explain { filter, format } => {
+            let job = &ExplainRequest { picks, filter };
+            perform(rt, script, &InFormat { job, format }, expectation)
         }
     }
 }
@@ -132,11 +149,12 @@ fn run_workers<R: Input + Files + Print + Eprint + AllocGlobal + Threads + Wait 
     tn_command::run_workers(rt, script, &workers, job)
 }
 
-/// Makes a trial of a specification.
+/// Makes a trial of a specification, whose answer is printed in a format.
 fn try_spec<R: Print + Eprint + AllocGlobal>(
     rt: &R,
     trial: &SpecTestArgs<'_>,
     spec: &[u8],
+    format: Option<Format>,
 ) -> ExitCode
     ensures { IsStatus (exit_status result) }
 {
@@ -147,29 +165,31 @@ fn try_spec<R: Print + Eprint + AllocGlobal>(
         caller: trial.caller.map(|text| text.as_bytes()),
         spec,
     };
-    test_spec(rt, &question)
+    test_spec(rt, &question, format)
 }
 
 /// Makes a trial, of standard input where no specification is given or `-` is.
 fn run_spec<R: Input + Files + Print + Eprint + AllocGlobal>(
     rt: &R,
     trial: &SpecTestArgs<'_>,
+    format: Option<Format>,
 ) -> ExitCode
     ensures { IsStatus (exit_status result) }
 {
     match trial.specification {
         None | Some("-") => match picks_of(rt, Source::Input) {
-            Ok(text) => try_spec(rt, trial, &text),
+            Ok(text) => try_spec(rt, trial, &text, format),
             Err(status) => status,
         },
-        Some(text) => try_spec(rt, trial, text.as_bytes()),
+        Some(text) => try_spec(rt, trial, text.as_bytes(), format),
     }
 }
 
-/// Does what is asked for, whose output must be what is expected.
+/// Does what is asked for, in a format, whose output must be what is expected.
 fn run_so<R: Input + Files + Print + Eprint + AllocGlobal + Threads + Wait + Sync>(
     rt: &R,
     ask: Request<'_>,
+    format: Option<Format>,
     expectation: &Expectation<'_>,
 ) -> ExitCode
     ensures { IsStatus (exit_status result) }
@@ -180,19 +200,28 @@ fn run_so<R: Input + Files + Print + Eprint + AllocGlobal + Threads + Wait + Syn
             picks,
             quiet,
             ..
-        } => run_by_picks(rt, Task::Replay { quiet }, script, picks, expectation),
+        } => {
+            let task = Task::Replay(Printing { format, quiet });
+            run_by_picks(rt, task, script, picks, expectation)
+        }
         Request::Explain {
             script,
             picks,
             filter,
             ..
-        } => run_by_picks(rt, Task::Explain(filter), script, picks, expectation),
+        } => {
+            let task = Task::Explain { filter, format };
+            run_by_picks(rt, task, script, picks, expectation)
+        }
         Request::Round {
             script,
             limit,
             quiet,
             ..
-        } => run_schedule(rt, script, Schedule::Round(limit), quiet, expectation),
+        } => {
+            let printing = Printing { format, quiet };
+            run_schedule(rt, script, Schedule::Round(limit), printing, expectation)
+        }
         Request::Workers {
             script,
             count,
@@ -203,18 +232,20 @@ fn run_so<R: Input + Files + Print + Eprint + AllocGlobal + Threads + Wait + Syn
         } => {
             let job = WorkersRun {
                 has_note: !quiet,
+                format,
                 expectation,
             };
             run_workers(rt, script, count, turns, spread, &job)
         }
-        Request::Spec(trial) => run_spec(rt, &trial),
+        Request::Spec(trial) => run_spec(rt, &trial, format),
     }
 }
 
-/// Does what is asked for. The file that has the output that is expected is read first.
+/// Does what is asked for, in a format. The file that has the output that is expected is read first.
 fn run_request<R: Input + Files + Print + Eprint + AllocGlobal + Threads + Wait + Sync>(
     rt: &R,
     ask: Request<'_>,
+    format: Option<Format>,
 ) -> ExitCode
     ensures { IsStatus (exit_status result) }
 {
@@ -232,7 +263,7 @@ fn run_request<R: Input + Files + Print + Eprint + AllocGlobal + Threads + Wait 
         line: line.map(|text| text.as_bytes()),
         no_line: no_line.map(|text| text.as_bytes()),
     };
-    run_so(rt, ask, &expectation)
+    run_so(rt, ask, format, &expectation)
 }
 
 /// Says that a value is no number, as other wrong values are refused.
@@ -258,7 +289,7 @@ fn run_command<R: Input + Files + Print + Eprint + AllocGlobal + Threads + Wait 
     ensures { IsStatus (exit_status result) }
 {
     match request_of(matches) {
-        Ok(Some(ask)) => run_request(rt, ask),
+        Ok(Some(ask)) => run_request(rt, ask, format_of(matches)),
         Ok(None) => ExitCode::from(REFUSED),
         Err(bad) => refuse_number(rt, bad),
     }

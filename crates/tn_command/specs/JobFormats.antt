@@ -5,6 +5,8 @@ use Rattle.def_formats.specs.Formats.{in_format}
 use Rattle.tn_formats.specs.Values.{format_seen}
 use Rattle.tn_formats.specs.declared.format.Format.{Format}
 use Rattle.tn_run.specs.Jobs.{JobView}
+use Rattle.tn_run.specs.declared.outcome.Outcome.{Outcome}
+use Rattle.tn_run.specs.declared.outcome.Outcome.TheVariants.{Listed, Refused}
 
 -- the text in a format, or as it is where none is given
 abbrev pub text_in_format : Option Format → List ℕ → List ℕ
@@ -27,3 +29,8 @@ job_in format job = record {
   reads = job.reads;
   end_of = job.end_of;
 }
+
+-- the text in a format where the outcome is a listing; a refusal's line as it is
+abbrev pub text_where_listed : Format → Outcome → List ℕ → List ℕ
+text_where_listed format Listed text = in_format (format_seen format) text
+text_where_listed format (Refused r) text = text

@@ -11,13 +11,16 @@ returns-clause-arguments c =
     c.session.ensures.0 c.in_ok-arg.ensures in
     let second = one_more name _ (codes "move") c.in_ok-arg.field-0 c.in_ok-arg-2.field-0 c.move_number.result first c.move_number.ensures.0
     c.in_ok-arg-2.ensures in
-    let third = one_more name _ (codes "node") c.in_ok-arg-2.field-0 c.in_ok-command.command c.node.result second c.node.ensures.0
+    let third = one_more name _ (codes "node") c.in_ok-arg-2.field-0 c.in_ok-arg-3.field-0 c.node.result second c.node.ensures.0
+    c.in_ok-arg-3.ensures in
+    let fourth = one_more name _ (codes "json") c.in_ok-arg-3.field-0 c.in_ok-command.command c.json.result third c.json.ensures.0
     c.in_ok-command.ensures in
-    expectation_so name _ c.in_ok-command.command c.with_expectation.result third c.with_expectation.ensures
+    expectation_so name _ c.in_ok-command.command c.with_expectation.result fourth c.with_expectation.ensures
 
 pub returns-clause-picks : goal.returns-clause-picks
 returns-clause-picks c =
     let first = still_wants c.in_ok-by_picks.field-0 c.in_ok-arg.field-0 c.session.result c.in_ok-by_picks.ensures.picks c.in_ok-arg.ensures in
     let second = still_wants c.in_ok-arg.field-0 c.in_ok-arg-2.field-0 c.move_number.result first c.in_ok-arg-2.ensures in
-    let third = still_wants c.in_ok-arg-2.field-0 c.in_ok-command.command c.node.result second c.in_ok-command.ensures in
-    IfOk-weaker c.with_expectation.result _ _ (λ new more. more.wants_so third) c.with_expectation.ensures
+    let third = still_wants c.in_ok-arg-2.field-0 c.in_ok-arg-3.field-0 c.node.result second c.in_ok-arg-3.ensures in
+    let fourth = still_wants c.in_ok-arg-3.field-0 c.in_ok-command.command c.json.result third c.in_ok-command.ensures in
+    IfOk-weaker c.with_expectation.result _ _ (λ new more. more.wants_so fourth) c.with_expectation.ensures

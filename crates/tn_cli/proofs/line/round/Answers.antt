@@ -12,4 +12,5 @@ returns c =
     c.in_ok-arg-2.ensures in
     let third = one_more name _ (codes "quiet") c.in_ok-arg-2.field-0 c.in_ok-command.command c.quiet.result second c.quiet.ensures.0
     c.in_ok-command.ensures in
-    expectation_so name _ c.in_ok-command.command c.with_expectation.result third c.with_expectation.ensures
+    let fourth = c.in_ok-command-2.ensures.takes_formats name _ third in
+    expectation_so name _ c.in_ok-command-2.command c.with_expectation.result fourth c.with_expectation.ensures
