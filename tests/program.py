@@ -20,6 +20,7 @@ import command_line_cases
 import document_cases
 import explanation_cases
 import failure_cases
+import format_cases
 import harness
 import run_cases
 import specification_cases
@@ -46,6 +47,7 @@ SUBJECTS = {
     ),
     "explanation": (explanation_cases.explanations, explanation_cases.differences),
     "specification": (specification_cases.trials, specification_cases.functions, specification_cases.specifications),
+    "format": (format_cases.formats,),
     "command_line": (
         command_line_cases.tries,
         command_line_cases.files,
