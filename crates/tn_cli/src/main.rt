@@ -37,7 +37,7 @@ use tn_verdict::SpecTestInput;
 #[derive(Clone, Copy)]
 enum Task<'a> {
     /// The run's output is printed, and its note where there is one, unless nothing is asked for on standard error.
-    Replay(Printing),
+    Replay(PrintArgs),
     /// The run is explained, in a format: the session and the move that are asked for.
     Explain {
         filter: Filter<'a>,
@@ -47,7 +47,7 @@ enum Task<'a> {
 
 /// What is printed of a run: in which format, and whether notes are printed on standard error.
 #[derive(Clone, Copy)]
-struct Printing {
+struct PrintArgs {
     format: Option<Format>,
     quiet: bool,
 }
@@ -57,12 +57,12 @@ fn run_schedule<R: Input + Files + Print + Eprint + AllocGlobal>(
     rt: &R,
     script: Source<'_>,
     schedule: Schedule<'_>,
-    printing: Printing,
+    print_args: PrintArgs,
     expectation: &Expectation<'_>,
 ) -> ExitCode
     ensures { IsStatus (exit_status result) }
 {
-    let Printing { format, quiet } = printing;
+    let PrintArgs { format, quiet } = print_args;
     if quiet {
         let job = &schedule;
         perform(rt, script, &InFormat { job, format }, expectation)
@@ -83,8 +83,8 @@ fn run_task<R: Input + Files + Print + Eprint + AllocGlobal>(
     ensures { IsStatus (exit_status result) }
 {
     match task {
-        Task::Replay(printing) => {
-            run_schedule(rt, script, Schedule::Picks(picks), printing, expectation)
+        Task::Replay(print_args) => {
+            run_schedule(rt, script, Schedule::Picks(picks), print_args, expectation)
         }
         Task::Explain { filter, format } => {
             let job = &ExplainRequest { picks, filter };
@@ -201,7 +201,7 @@ fn run_so<R: Input + Files + Print + Eprint + AllocGlobal + Threads + Wait + Syn
             quiet,
             ..
         } => {
-            let task = Task::Replay(Printing { format, quiet });
+            let task = Task::Replay(PrintArgs { format, quiet });
             run_by_picks(rt, task, script, picks, expectation)
         }
         Request::Explain {
@@ -219,8 +219,8 @@ fn run_so<R: Input + Files + Print + Eprint + AllocGlobal + Threads + Wait + Syn
             quiet,
             ..
         } => {
-            let printing = Printing { format, quiet };
-            run_schedule(rt, script, Schedule::Round(limit), printing, expectation)
+            let print_args = PrintArgs { format, quiet };
+            run_schedule(rt, script, Schedule::Round(limit), print_args, expectation)
         }
         Request::Workers {
             script,

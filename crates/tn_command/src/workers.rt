@@ -50,8 +50,8 @@ pub fn run_workers_over<T: Threads + Wait + Sync, R: Read, W: Write, G: Gate>(
     JobEnd { status, answer }
 }
 
-/// A run by workers, in which format its output is, what that must be, and whether its note is printed: how many moves a running node does
-/// otherwise.
+/// A run by workers: in which format its output is, what that must be, and whether its note is printed, at how many
+/// moves a running node does otherwise.
 #[derive(Clone, Copy)]
 pub struct WorkersRun<'a> {
     pub has_note: bool,
