@@ -35,16 +35,21 @@ _tracenode() {
         esac
         case $command in
             replay)
-                words='--picks --picks-file --moves --moves-file --quiet --expect --expect-line --reject-line -h --help'
-                ;;
-            round) words='--limit --control --quiet --expect --expect-line --reject-line -h --help' ;;
-            workers) words='--n --turns --spread --quiet --expect --expect-line --reject-line -h --help' ;;
-            explain)
-                words='--picks --picks-file --moves --moves-file --round --limit --control --session --move --node'
+                words='--picks --picks-file --moves --moves-file --quiet --summary --json'
                 words+=' --expect --expect-line --reject-line -h --help'
                 ;;
+            round)
+                words='--limit --control --quiet --summary --json --expect --expect-line --reject-line -h --help'
+                ;;
+            workers)
+                words='--n --turns --spread --quiet --summary --json --expect --expect-line --reject-line -h --help'
+                ;;
+            explain)
+                words='--picks --picks-file --moves --moves-file --round --limit --control --session --move --node'
+                words+=' --json --expect --expect-line --reject-line -h --help'
+                ;;
             draw) words='--picks --picks-file --text --expect --expect-line --reject-line -h --help' ;;
-            spec) words='--list --for --me --caller -h --help' ;;
+            spec) words='--list --for --me --caller --json -h --help' ;;
             help) words='replay round workers explain draw spec' ;;
         esac
     fi

@@ -20,6 +20,7 @@ import command_line_cases
 import document_cases
 import explanation_cases
 import failure_cases
+import format_cases
 import harness
 import moves_cases
 import picture_cases
@@ -50,6 +51,7 @@ SUBJECTS = {
     "explanation": (explanation_cases.explanations, explanation_cases.differences),
     "picture": (picture_cases.pictures, picture_cases.drawings, picture_cases.life_lines),
     "specification": (specification_cases.trials, specification_cases.functions, specification_cases.specifications),
+    "format": (format_cases.formats,),
     "command_line": (
         command_line_cases.tries,
         command_line_cases.files,

@@ -8,7 +8,7 @@ use Rattle.clap.specs.declared.builder.command.Command.{Command}
 use Rattle.clap.specs.Facts.{args_of, groups_of, subcommands_of}
 use Rattle.clap.specs.Built.{AddsArg, AddsGroup, AddsSubcommand, subcommand_names}
 use Rattle.clap.specs.Simple.{Shape, shape_of}
-use Rattle.tn_cli.specs.Line.{EXPECTATION, IsCommand, IsWithExpectation, NeedsRound, WantsBy}
+use Rattle.tn_cli.specs.Line.{EXPECTATION, IsCommand, IsWithFormats, IsWithExpectation, NeedsRound, WantsBy}
 
 pub one_more : (name : List ℕ) (arguments : List (List ℕ)) (word : List ℕ) (old new : Command) (a : Arg)
     → IsCommand name arguments old → a.id.now ≡ word → AddsArg old a new → IsCommand name (arguments ++ word ∷ []) new
@@ -49,6 +49,21 @@ same_name word old new is needs = ap (λ (a : Arg). a.id.now) needs.2.0 ∙ is
 three_after : (xs : List (List ℕ)) (a b d : List ℕ) → ((xs ++ a ∷ []) ++ b ∷ []) ++ d ∷ [] ≡ xs ++ a ∷ b ∷ d ∷ []
 three_after [] a b d = refl
 three_after (x ∷ xs) a b d = ap (λ l. x ∷ l) (three_after xs a b d)
+
+-- two arguments, one after the other
+two_after : (xs : List (List ℕ)) (a b : List ℕ) → (xs ++ a ∷ []) ++ b ∷ [] ≡ xs ++ a ∷ b ∷ []
+two_after [] a b = refl
+two_after (x ∷ xs) a b = ap (λ l. x ∷ l) (two_after xs a b)
+
+-- the two arguments that say in which format the output is
+pub formats_more : (old second new : Command) (a b : Arg) → a.id.now ≡ codes "summary" → b.id.now ≡ codes "json" → AddsArg old a second → AddsArg second b new → IsWithFormats old new
+formats_more old second new a b is_a is_b with_a with_b = record {
+  takes_formats = λ name arguments is.
+      let one = one_more name arguments (codes "summary") old second a is is_a with_a in
+      let two = one_more name _ (codes "json") second new b one is_b with_b in
+      subst (λ l. IsCommand name l new) (two_after arguments (codes "summary") (codes "json")) two;
+  wants_picks_so = λ g wants. still_wants g second new b (still_wants g old second a wants with_a) with_b;
+}
 
 -- the three arguments that say what the output must be
 pub expectation_more : (old second third new : Command) (a b d : Arg) → a.id.now ≡ codes "expect" → b.id.now ≡ codes "expect-line"

@@ -75,6 +75,15 @@ NeedsRound old new = (w : Bor (List ℕ)) × (w.now ≡ codes "round") × AddsRe
 abbrev pub BY_PICKS : List (List ℕ)
 BY_PICKS = codes "script" ∷ codes "picks" ∷ codes "picks-file" ∷ codes "moves" ∷ codes "moves-file" ∷ []
 
+-- the arguments that say in which format the output is
+abbrev pub FORMATS : List (List ℕ)
+FORMATS = codes "summary" ∷ codes "json" ∷ []
+
+-- the command has these arguments after its own, and wants its picks as it did
+pub record IsWithFormats (old new : Command) : Type 0 where
+  pub takes_formats : (name : List ℕ) (arguments : List (List ℕ)) → IsCommand name arguments old → IsCommand name (arguments ++ FORMATS) new
+  pub wants_picks_so : (g : ArgGroup) → WantsBy g old → WantsBy g new
+
 -- the arguments that say what the output must be
 abbrev pub EXPECTATION : List (List ℕ)
 EXPECTATION = codes "expect" ∷ codes "expect-line" ∷ codes "reject-line" ∷ []
@@ -86,13 +95,13 @@ pub record IsWithExpectation (old new : Command) : Type 0 where
 
 -- the arguments of `replay`
 abbrev pub REPLAY : List (List ℕ)
-REPLAY = codes "script" ∷ codes "picks" ∷ codes "picks-file" ∷ codes "moves" ∷ codes "moves-file" ∷ codes "quiet" ∷ EXPECTATION
+REPLAY = codes "script" ∷ codes "picks" ∷ codes "picks-file" ∷ codes "moves" ∷ codes "moves-file" ∷ codes "quiet" ∷ codes "summary" ∷ codes "json" ∷ EXPECTATION
 
 -- the arguments of `explain`
 abbrev pub EXPLAIN : List (List ℕ)
 EXPLAIN =
     codes "script" ∷ codes "picks" ∷ codes "picks-file" ∷ codes "moves" ∷ codes "moves-file" ∷ codes "round" ∷ codes "limit" ∷ codes "control"
-    ∷ codes "session" ∷ codes "move" ∷ codes "node" ∷ EXPECTATION
+    ∷ codes "session" ∷ codes "move" ∷ codes "node" ∷ codes "json" ∷ EXPECTATION
 
 -- the arguments of `draw`
 abbrev pub DRAW : List (List ℕ)
@@ -100,15 +109,15 @@ DRAW = codes "script" ∷ codes "picks" ∷ codes "picks-file" ∷ codes "text" 
 
 -- the arguments of `round`
 abbrev pub ROUND : List (List ℕ)
-ROUND = codes "script" ∷ codes "limit" ∷ codes "control" ∷ codes "quiet" ∷ EXPECTATION
+ROUND = codes "script" ∷ codes "limit" ∷ codes "control" ∷ codes "quiet" ∷ codes "summary" ∷ codes "json" ∷ EXPECTATION
 
 -- the arguments of `workers`
 abbrev pub WORKERS : List (List ℕ)
-WORKERS = codes "script" ∷ codes "n" ∷ codes "turns" ∷ codes "spread" ∷ codes "quiet" ∷ EXPECTATION
+WORKERS = codes "script" ∷ codes "n" ∷ codes "turns" ∷ codes "spread" ∷ codes "quiet" ∷ codes "summary" ∷ codes "json" ∷ EXPECTATION
 
 -- the arguments of `spec`
 abbrev pub TRIAL : List (List ℕ)
-TRIAL = codes "list" ∷ codes "for" ∷ codes "me" ∷ codes "caller" ∷ codes "specification" ∷ []
+TRIAL = codes "list" ∷ codes "for" ∷ codes "me" ∷ codes "caller" ∷ codes "json" ∷ codes "specification" ∷ []
 
 -- the commands of the program
 abbrev pub COMMAND_NAMES : List (List ℕ)

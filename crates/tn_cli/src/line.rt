@@ -2,7 +2,7 @@
 ghost use Rattle.std.specs.Prelude.{◌≡◌, codes, true, IfOk, IsOkAnd};
 ghost use Rattle.clap.specs.Built.{AddsSubcommand, subcommand_names};
 ghost use Rattle.tn_cli.specs.Line.{IsOption, IsFlag, IsWord, IsElse, IsFromTo, IsOneOf, NeedsRound};
-ghost use Rattle.tn_cli.specs.Line.{IsCommand, IsWithExpectation, WantsBy, WantsOneOf};
+ghost use Rattle.tn_cli.specs.Line.{IsCommand, IsWithFormats, IsWithExpectation, WantsBy, WantsOneOf};
 ghost use Rattle.tn_cli.specs.Line.{PICKS, PICKS_ALONE, PICKS_OR_ROUND, BY_PICKS, COMMAND_NAMES};
 ghost use Rattle.tn_cli.specs.Line.{REPLAY, EXPLAIN, DRAW, ROUND, WORKERS, TRIAL};
 
@@ -138,6 +138,33 @@ fn quiet<'a>(alloc: Global) -> Arg<'a>
         .action(ArgAction::SetTrue)
 }
 
+/// `--summary`.
+fn summary<'a>(alloc: Global) -> Arg<'a>
+    ensures { IsFlag (codes "summary") result }
+{
+    Arg::new(alloc, "summary")
+        .long("summary")
+        .help("Prints how many messages and bytes each session has, in place of the messages")
+        .action(ArgAction::SetTrue)
+}
+
+/// `--json`.
+fn json<'a>(alloc: Global) -> Arg<'a>
+    ensures { IsFlag (codes "json") result }
+{
+    Arg::new(alloc, "json")
+        .long("json")
+        .help("Prints JSON, a value a line")
+        .action(ArgAction::SetTrue)
+}
+
+/// `--json`, which no command takes beside `--summary`.
+fn json_alone<'a>(alloc: Global) -> Result<Arg<'a>, AllocError>
+    ensures { IfOk result (IsFlag (codes "json")) }
+{
+    json(alloc).conflicts_with("summary")
+}
+
 /// `--expect FILE`.
 fn expect<'a>(alloc: Global) -> Arg<'a>
     ensures { IsOption (codes "expect") result }
@@ -173,6 +200,13 @@ fn reject_line<'a>(alloc: Global) -> Arg<'a>
         .action(ArgAction::Set)
 }
 
+/// The command with `[--summary] [--json]` more, which say in which format its output is.
+fn with_formats<'a>(alloc: Global, command: Command<'a>) -> Result<Command<'a>, AllocError>
+    ensures { IfOk result (IsWithFormats command.entry) }
+{
+    command.arg(summary(alloc))?.arg(json_alone(alloc)?)
+}
+
 /// The command with `[--expect FILE] [--expect-line TEXT] [--reject-line TEXT]` more, which say what its output must
 /// be.
 fn with_expectation<'a>(alloc: Global, command: Command<'a>) -> Result<Command<'a>, AllocError>
@@ -184,7 +218,7 @@ fn with_expectation<'a>(alloc: Global, command: Command<'a>) -> Result<Command<'
         .arg(reject_line(alloc))
 }
 
-/// The subcommand `replay [SCRIPT] [--quiet]` with picks or moves, and with what its output must be.
+/// The subcommand `replay [SCRIPT] [--quiet]` with picks or moves, in a format, and with what its output must be.
 fn replay<'a>(alloc: Global) -> Result<Command<'a>, AllocError>
     ensures arguments { IfOk result (IsCommand (codes "replay") REPLAY) }
     ensures picks { IfOk result (WantsOneOf PICKS) }
@@ -192,6 +226,7 @@ fn replay<'a>(alloc: Global) -> Result<Command<'a>, AllocError>
     let about = "Runs the script by the given picks or moves, and prints what its sessions saw";
     let sources = one_of_picks(alloc)?;
     let command = by_picks(alloc, "replay", about, sources)?.arg(quiet(alloc))?;
+    let command = with_formats(alloc, command)?;
     with_expectation(alloc, command)
 }
 
@@ -314,7 +349,7 @@ fn with_round<'a>(arg: Arg<'a>) -> Result<Arg<'a>, AllocError>
     arg.requires_arg("round")
 }
 
-/// The subcommand `explain [SCRIPT] [--session NAME] [--move N] [--node]` with picks, moves or
+/// The subcommand `explain [SCRIPT] [--session NAME] [--move N] [--node] [--json]` with picks, moves or
 /// `--round [--limit N] [--control first]`, and with what its output must be.
 fn explain<'a>(alloc: Global) -> Result<Command<'a>, AllocError>
     ensures arguments { IfOk result (IsCommand (codes "explain") EXPLAIN) }
@@ -331,11 +366,12 @@ fn explain<'a>(alloc: Global) -> Result<Command<'a>, AllocError>
         .arg(control)?
         .arg(session(alloc))?
         .arg(move_number(alloc))?
-        .arg(node(alloc))?;
+        .arg(node(alloc))?
+        .arg(json(alloc))?;
     with_expectation(alloc, command)
 }
 
-/// The subcommand `round [SCRIPT] [--limit N] [--control first] [--quiet]`, with what its output must be.
+/// The subcommand `round [SCRIPT] [--limit N] [--control first] [--quiet]`, in a format, with what its output must be.
 fn round<'a>(alloc: Global) -> Result<Command<'a>, AllocError>
     ensures { IfOk result (IsCommand (codes "round") ROUND) }
 {
@@ -345,6 +381,7 @@ fn round<'a>(alloc: Global) -> Result<Command<'a>, AllocError>
         .arg(limit(alloc))?
         .arg(control(alloc))?
         .arg(quiet(alloc))?;
+    let command = with_formats(alloc, command)?;
     with_expectation(alloc, command)
 }
 
@@ -390,7 +427,8 @@ fn spread<'a>(alloc: Global) -> Arg<'a>
         .action(ArgAction::Set)
 }
 
-/// The subcommand `workers [SCRIPT] --n N [--turns T] [--spread SEED] [--quiet]`, with what its output must be.
+/// The subcommand `workers [SCRIPT] --n N [--turns T] [--spread SEED] [--quiet]`, in a format, with what its output
+/// must be.
 fn workers<'a>(alloc: Global) -> Result<Command<'a>, AllocError>
     ensures { IfOk result (IsCommand (codes "workers") WORKERS) }
 {
@@ -401,6 +439,7 @@ fn workers<'a>(alloc: Global) -> Result<Command<'a>, AllocError>
         .arg(turns(alloc))?
         .arg(spread(alloc))?
         .arg(quiet(alloc))?;
+    let command = with_formats(alloc, command)?;
     with_expectation(alloc, command)
 }
 
@@ -477,7 +516,7 @@ fn specification<'a>(alloc: Global) -> Arg<'a>
         .action(ArgAction::Set)
 }
 
-/// The subcommand `spec --list TERM [--for EVENT] [--me N] [--caller TERM] [SPECIFICATION]`.
+/// The subcommand `spec --list TERM [--for EVENT] [--me N] [--caller TERM] [--json] [SPECIFICATION]`.
 fn spec<'a>(alloc: Global) -> Result<Command<'a>, AllocError>
     ensures { IfOk result (IsCommand (codes "spec") TRIAL) }
 {
@@ -489,6 +528,7 @@ fn spec<'a>(alloc: Global) -> Result<Command<'a>, AllocError>
         .arg(event(alloc))?
         .arg(own_process(alloc))?
         .arg(caller(alloc))?
+        .arg(json(alloc))?
         .arg(specification(alloc))
 }
 

@@ -9,12 +9,14 @@ ghost use Rattle.std.specs.Prelude.{IfErr};
 ghost use Rattle.std.specs.Process.{exit_status};
 ghost use Rattle.tn_command.specs.Status.{IsStatus};
 
+mod format;
 mod line;
 mod request;
 mod value;
 
 use clap::ArgMatches;
 use clap::error::ErrorKind;
+use format::format_of;
 use line::command;
 use request::{
     BadNumber, ExpectationArgs, PicksSource, Request, RunSource, SpecTestArgs, request_of,
@@ -25,10 +27,11 @@ use std::rt::{Env, Files};
 use std::sync::Wait;
 use std::thread::Threads;
 use tn_command::{
-    Expectation, FAULT, LastError, REFUSED, Source, Start, WorkersRun, arguments, output_of,
-    perform, picks_of, report, tell_fault, test_spec,
+    Expectation, FAULT, InFormat, LastError, REFUSED, Source, Start, WorkersRun, arguments,
+    output_of, perform, picks_of, report, tell_fault, test_spec,
 };
 use tn_explain::{ExplainRequest, Filter, RunAndNote};
+use tn_formats::Format;
 use tn_moves::{ExplainByMoves, Moves, RunByMoves};
 use tn_picture::{DrawRequest, PictureFormat};
 use tn_run::{RunFault, Schedule, Workers, write_output};
@@ -39,9 +42,19 @@ use tn_verdict::SpecTestInput;
 #[derive(Clone, Copy)]
 enum Task<'a> {
     /// The run's output is printed, and its note where there is one, unless nothing is asked for on standard error.
-    Replay { quiet: bool },
-    /// The run is explained: the session and the move that are asked for.
-    Explain(Filter<'a>),
+    Replay(PrintArgs),
+    /// The run is explained, in a format: the session and the move that are asked for.
+    Explain {
+        filter: Filter<'a>,
+        format: Option<Format>,
+    },
+}
+
+/// What is printed of a run: in which format, and whether notes are printed on standard error.
+#[derive(Clone, Copy)]
+struct PrintArgs {
+    format: Option<Format>,
+    quiet: bool,
 }
 
 /// What a text says.
@@ -56,15 +69,18 @@ fn run_schedule<R: Input + Files + Print + Eprint + AllocGlobal>(
     rt: &R,
     script: Source<'_>,
     schedule: Schedule<'_>,
-    quiet: bool,
+    print_args: PrintArgs,
     expectation: &Expectation<'_>,
 ) -> ExitCode
     ensures { IsStatus (exit_status result) }
 {
+    let PrintArgs { format, quiet } = print_args;
     if quiet {
-        perform(rt, script, &schedule, expectation)
+        let job = &schedule;
+        perform(rt, script, &InFormat { job, format }, expectation)
     } else {
-        perform(rt, script, &RunAndNote { schedule }, expectation)
+        let job = &RunAndNote { schedule };
+        perform(rt, script, &InFormat { job, format }, expectation)
     }
 }
 
@@ -79,11 +95,12 @@ fn run_task<R: Input + Files + Print + Eprint + AllocGlobal>(
     ensures { IsStatus (exit_status result) }
 {
     match task {
-        Task::Replay { quiet } => {
-            run_schedule(rt, script, Schedule::Picks(picks), quiet, expectation)
+        Task::Replay(print_args) => {
+            run_schedule(rt, script, Schedule::Picks(picks), print_args, expectation)
         }
-        Task::Explain(filter) => {
-            perform(rt, script, &ExplainRequest { picks, filter }, expectation)
+        Task::Explain { filter, format } => {
+            let job = &ExplainRequest { picks, filter };
+            perform(rt, script, &InFormat { job, format }, expectation)
         }
     }
 }
@@ -99,12 +116,14 @@ fn run_moves<R: Input + Files + Print + Eprint + AllocGlobal>(
     ensures { IsStatus (exit_status result) }
 {
     match task {
-        Task::Replay { quiet } => {
+        Task::Replay(PrintArgs { format, quiet }) => {
             let has_note = !quiet;
-            perform(rt, script, &RunByMoves { moves, has_note }, expectation)
+            let job = RunByMoves { moves, has_note };
+            perform(rt, script, &InFormat { job, format }, expectation)
         }
-        Task::Explain(filter) => {
-            perform(rt, script, &ExplainByMoves { moves, filter }, expectation)
+        Task::Explain { filter, format } => {
+            let job = ExplainByMoves { moves, filter };
+            perform(rt, script, &InFormat { job, format }, expectation)
         }
     }
 }
@@ -224,26 +243,24 @@ fn round_moves(limit: u32, control_first: bool) -> Moves<'static> {
     }
 }
 
-/// Explains a run.
+/// Does the task, which is an explanation, by picks or in a round.
 fn run_explain<R: Input + Files + Print + Eprint + AllocGlobal>(
     rt: &R,
     script: Source<'_>,
     run: RunSource<'_>,
-    filter: Filter<'_>,
+    task: Task<'_>,
     expectation: &Expectation<'_>,
 ) -> ExitCode
     ensures { IsStatus (exit_status result) }
 {
     match run {
-        RunSource::ByPicks(picks) => {
-            run_by_picks(rt, Task::Explain(filter), script, picks, expectation)
-        }
+        RunSource::ByPicks(picks) => run_by_picks(rt, task, script, picks, expectation),
         RunSource::ByRound {
             limit,
             control_first,
         } => {
             let moves = round_moves(limit, control_first);
-            run_moves(rt, Task::Explain(filter), script, moves, expectation)
+            run_moves(rt, task, script, moves, expectation)
         }
     }
 }
@@ -268,11 +285,12 @@ fn run_workers<R: Input + Files + Print + Eprint + AllocGlobal + Threads + Wait 
     tn_command::run_workers(rt, script, &workers, job)
 }
 
-/// Makes a trial of a specification.
+/// Makes a trial of a specification, whose answer is printed in a format.
 fn try_spec<R: Print + Eprint + AllocGlobal>(
     rt: &R,
     trial: &SpecTestArgs<'_>,
     spec: &[u8],
+    format: Option<Format>,
 ) -> ExitCode
     ensures { IsStatus (exit_status result) }
 {
@@ -283,29 +301,31 @@ fn try_spec<R: Print + Eprint + AllocGlobal>(
         caller: trial.caller.map(|text| text.as_bytes()),
         spec,
     };
-    test_spec(rt, &question)
+    test_spec(rt, &question, format)
 }
 
 /// Makes a trial, of standard input where no specification is given or `-` is.
 fn run_spec<R: Input + Files + Print + Eprint + AllocGlobal>(
     rt: &R,
     trial: &SpecTestArgs<'_>,
+    format: Option<Format>,
 ) -> ExitCode
     ensures { IsStatus (exit_status result) }
 {
     match trial.specification {
         None | Some("-") => match picks_of(rt, Source::Input) {
-            Ok(text) => try_spec(rt, trial, &text),
+            Ok(text) => try_spec(rt, trial, &text, format),
             Err(status) => status,
         },
-        Some(text) => try_spec(rt, trial, text.as_bytes()),
+        Some(text) => try_spec(rt, trial, text.as_bytes(), format),
     }
 }
 
-/// Does what is asked for, whose output must be what is expected.
+/// Does what is asked for, in a format, whose output must be what is expected.
 fn run_so<R: Input + Files + Print + Eprint + AllocGlobal + Threads + Wait + Sync>(
     rt: &R,
     ask: Request<'_>,
+    format: Option<Format>,
     expectation: &Expectation<'_>,
 ) -> ExitCode
     ensures { IsStatus (exit_status result) }
@@ -316,13 +336,22 @@ fn run_so<R: Input + Files + Print + Eprint + AllocGlobal + Threads + Wait + Syn
             picks,
             quiet,
             ..
-        } => run_by_picks(rt, Task::Replay { quiet }, script, picks, expectation),
+        } => {
+            let task = Task::Replay(PrintArgs { format, quiet });
+            run_by_picks(rt, task, script, picks, expectation)
+        }
         Request::Explain {
             script,
             run,
             filter,
             ..
-        } => run_explain(rt, script, run, filter, expectation),
+        } => run_explain(
+            rt,
+            script,
+            run,
+            Task::Explain { filter, format },
+            expectation,
+        ),
         Request::Draw {
             script,
             picks,
@@ -336,11 +365,12 @@ fn run_so<R: Input + Files + Print + Eprint + AllocGlobal + Threads + Wait + Syn
             quiet,
             ..
         } => {
+            let print_args = PrintArgs { format, quiet };
             if control_first {
                 let moves = Moves::ControlFirst(limit);
-                return run_moves(rt, Task::Replay { quiet }, script, moves, expectation);
+                return run_moves(rt, Task::Replay(print_args), script, moves, expectation);
             }
-            run_schedule(rt, script, Schedule::Round(limit), quiet, expectation)
+            run_schedule(rt, script, Schedule::Round(limit), print_args, expectation)
         }
         Request::Workers {
             script,
@@ -352,18 +382,20 @@ fn run_so<R: Input + Files + Print + Eprint + AllocGlobal + Threads + Wait + Syn
         } => {
             let job = WorkersRun {
                 has_note: !quiet,
+                format,
                 expectation,
             };
             run_workers(rt, script, count, turns, spread, &job)
         }
-        Request::Spec(trial) => run_spec(rt, &trial),
+        Request::Spec(trial) => run_spec(rt, &trial, format),
     }
 }
 
-/// Does what is asked for. The file that has the output that is expected is read first.
+/// Does what is asked for, in a format. The file that has the output that is expected is read first.
 fn run_request<R: Input + Files + Print + Eprint + AllocGlobal + Threads + Wait + Sync>(
     rt: &R,
     ask: Request<'_>,
+    format: Option<Format>,
 ) -> ExitCode
     ensures { IsStatus (exit_status result) }
 {
@@ -381,7 +413,7 @@ fn run_request<R: Input + Files + Print + Eprint + AllocGlobal + Threads + Wait 
         line: line.map(|text| text.as_bytes()),
         no_line: no_line.map(|text| text.as_bytes()),
     };
-    run_so(rt, ask, &expectation)
+    run_so(rt, ask, format, &expectation)
 }
 
 /// Says that a value is no number, as other wrong values are refused.
@@ -407,7 +439,7 @@ fn run_command<R: Input + Files + Print + Eprint + AllocGlobal + Threads + Wait 
     ensures { IsStatus (exit_status result) }
 {
     match request_of(matches) {
-        Ok(Some(ask)) => run_request(rt, ask),
+        Ok(Some(ask)) => run_request(rt, ask, format_of(matches)),
         Ok(None) => ExitCode::from(REFUSED),
         Err(bad) => refuse_number(rt, bad),
     }

@@ -215,7 +215,7 @@ fn own_process<'a>(matches: &ArgMatches<'a>) -> Result<u32, BadNumber<'a>>
 }
 
 /// Whether the flag of this name is given.
-fn flag(matches: &ArgMatches<'_>, id: &str) -> bool
+pub(crate) fn flag(matches: &ArgMatches<'_>, id: &str) -> bool
     ensures { result ≡ is_given matches.now id.now }
 {
     matches!(matches.get_str(id), Some("true"))

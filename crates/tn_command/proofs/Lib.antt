@@ -1,3 +1,2 @@
-mod LineLemmas
 mod NumberLemmas
 mod StatusLemmas

@@ -1,5 +1,6 @@
 pub mod Ends
 pub mod Expectations
+pub mod JobFormats
 pub mod Numbers
 pub mod PickTexts
 pub mod Sources

@@ -1,9 +1,10 @@
 // What the output of a command must be, and whether it is.
-ghost use Rattle.std.specs.Prelude.{◌≡◌, ◌==◌, ◌∷◌, ◌<◌, ℕ, List, true, not, length};
-ghost use Rattle.std.specs.List.{position};
+ghost use Rattle.std.specs.Prelude.{◌≡◌, ℕ, List, true, not};
 ghost use Rattle.std.specs.Option.{option_map_or};
 ghost use Rattle.std.specs.Str.{bytes_eq};
-ghost use Rattle.tn_command.specs.Expectations.{has_line, text_lines, meets_expectation};
+ghost use Rattle.tn_command.specs.Expectations.{has_line, meets_expectation};
+
+use tn_formats::first_line;
 
 /// What an output must be. Where it names none of the three, each output meets it.
 #[derive(Clone, Copy)]
@@ -14,25 +15,6 @@ pub struct Expectation<'a> {
     pub line: Option<&'a [u8]>,
     /// The output must not have this line.
     pub no_line: Option<&'a [u8]>,
-}
-
-/// Where the first line feed stands.
-fn line_feed_at(text: &[u8]) -> Option<usize>
-    ensures { result ≡ position (λ b. b == 10) text.now }
-{
-    text.iter().position(|b| *b == b'\n')
-}
-
-/// The first line of a text that isn't empty, and what stands after its line feed.
-pub(crate) fn first_line(text: &[u8]) -> (&[u8], &[u8])
-    requires { 0 < length text.now }
-    ensures cut { text_lines text.now ≡ result.0.now ∷ text_lines result.1.now }
-    ensures shorter { length result.1.now < length text.now }
-{
-    match line_feed_at(text) {
-        None => (text, b""),
-        Some(end) => (&text[..end], &text[end + 1..]),
-    }
 }
 
 /// Whether one of the lines of a text is this one.

@@ -4,9 +4,10 @@ ghost use Rattle.std.specs.Process.{exit_status};
 ghost use Rattle.tn_command.specs.Expectations.{meets_expectation};
 ghost use Rattle.tn_command.specs.Status.{status_after_judgement};
 
-use crate::expectation::{Expectation, first_line};
+use crate::expectation::Expectation;
 use crate::status::judge_status;
 use std::process::ExitCode;
+use tn_formats::first_line;
 
 /// A line as it is printed: None where it is no text, or has control characters.
 fn printable(line: &[u8]) -> Option<&str> {

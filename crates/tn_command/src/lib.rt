@@ -6,15 +6,17 @@
 //! for, 2 for a refusal and 3 for a fault, and that what was written is what the status says; so it is with an
 //! explained run, a run that is drawn and the trial of one specification. Promises of an output that is held
 //! against an expectation that the status is 1 where it would be 0 and the output doesn't meet it, and else what it
-//! would be. Promises of a text of picks that it is what the reader holds, without a line feed at its end. A
-//! refusal or a fault has one line on standard error: how the text can be fixed, or what failed. A pipe that was
-//! closed has none. So has a run that a running node is known to do otherwise: at how many of its moves.
+//! would be. Promises of a job in a format that it writes the text in that format of what the job writes. Promises
+//! of a text of picks that it is what the reader holds, without a line feed at its end. A refusal or a fault has one
+//! line on standard error: how the text can be fixed, or what failed. A pipe that was closed has none. So has a run
+//! that a running node is known to do otherwise: at how many of its moves.
 #![tactic(auto)]
 
 mod command;
 mod draw;
 mod expectation;
 mod expectation_file;
+mod in_format;
 mod jobs;
 mod judgement;
 mod last_error;
@@ -22,6 +24,7 @@ mod moves_line;
 mod number;
 mod picks;
 mod source;
+mod spec_format;
 mod spec_test;
 mod start;
 mod status;
@@ -29,18 +32,22 @@ mod stderr;
 mod tee;
 mod words;
 mod workers;
+mod workers_format;
 
 pub use command::Command;
 pub use expectation::Expectation;
 pub use expectation_file::output_of;
+pub use in_format::InFormat;
 pub use jobs::{perform, perform_over};
 pub use last_error::LastError;
 pub use number::plain_number;
 pub use picks::{picks_of, picks_over};
 pub use source::{Source, source_of};
+pub use spec_format::test_spec_in_format_over;
 pub use spec_test::{SpecTestRunFault, test_spec, test_spec_over};
 pub use start::Start;
 pub use status::{FAULT, JobEnd, REFUSED, UNMET, report};
 pub use stderr::{NamedText, tell_fault};
 pub use words::arguments;
 pub use workers::{WorkersRun, run_workers, run_workers_over};
+pub use workers_format::run_workers_in_format_over;

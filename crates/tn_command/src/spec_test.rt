@@ -5,12 +5,14 @@ ghost use Rattle.tn_command.specs.Status.{IsStatus, OnFaultUntouchedOrFailed};
 ghost use Rattle.tn_command.specs.SpecTests.{HasAnswerIfListed, MeetsSpecTest, TriedAs, spec_test_status_of};
 
 use crate::last_error::LastError;
+use crate::spec_format::test_spec_by;
 use crate::status::{FAULT, JobEnd, REFUSED};
 use crate::stderr::tell_fault;
 use std::alloc::Allocator;
 use std::io;
 use std::io::Write;
 use std::process::ExitCode;
+use tn_formats::Format;
 use tn_refusal::line_column_of;
 use tn_run::{RunFault, write_output};
 use tn_text::{MAX_TEXT, TextFault, Watched};
@@ -26,7 +28,7 @@ pub enum SpecTestRunFault<A: Allocator> {
 }
 
 /// How a trial with this answer ended.
-fn spec_test_end<A: Allocator>(
+pub(crate) fn spec_test_end<A: Allocator>(
     answer: Result<(), SpecTestRunFault<A>>,
 ) -> JobEnd<(), SpecTestRunFault<A>>
     ensures status { exit_status result.status ≡ spec_test_status_of answer }
@@ -125,13 +127,17 @@ fn tell_question<A: Allocator + Copy>(
     }
 }
 
-/// Answers the question on standard output.
-pub fn test_spec<R: Print + Eprint + AllocGlobal>(rt: &R, question: &SpecTestInput<'_>) -> ExitCode
+/// Answers the question on standard output, in a format where one is given.
+pub fn test_spec<R: Print + Eprint + AllocGlobal>(
+    rt: &R,
+    question: &SpecTestInput<'_>,
+    format: Option<Format>,
+) -> ExitCode
     ensures status { IsStatus (exit_status result) }
     ensures listed { HasAnswerIfListed question.now (exit_status result) }
 {
     let mut writer = Watched::of(LastError::of(io::writer(rt)));
-    let JobEnd { status, answer } = test_spec_over(rt.alloc(), &mut writer, question);
+    let JobEnd { status, answer } = test_spec_by(rt.alloc(), &mut writer, question, format);
     let (_, reason) = writer.into_inner().into_parts();
     match answer {
         Ok(()) => {}

@@ -14,6 +14,7 @@ use crate::source::{Source, open};
 use crate::status::{JobEnd, job_status};
 use crate::stderr::{NamedText, tell_note, tell_refusal};
 use crate::tee::Tee;
+use crate::workers_format::run_workers_in_format_over;
 use std::alloc::Global;
 use std::io;
 use std::io::{Read, Write};
@@ -23,6 +24,7 @@ use std::rt::Files;
 use std::sync::Wait;
 use std::thread::Threads;
 use tn_explain::text_note;
+use tn_formats::Format;
 use tn_listing::PicksFault;
 use tn_pool::Gate;
 use tn_run::{Job, LiveFault, LiveRun, Outcome, Ran, Refusal, RunFault, Workers, run_live};
@@ -48,11 +50,12 @@ pub fn run_workers_over<T: Threads + Wait + Sync, R: Read, W: Write, G: Gate>(
     JobEnd { status, answer }
 }
 
-/// A run by workers, what its output must be, and whether its note is printed: how many moves a running node does
-/// otherwise.
+/// A run by workers: in which format its output is, what that must be, and whether its note is printed, at how many
+/// moves a running node does otherwise.
 #[derive(Clone, Copy)]
 pub struct WorkersRun<'a> {
     pub has_note: bool,
+    pub format: Option<Format>,
     pub expectation: &'a Expectation<'a>,
 }
 
@@ -98,6 +101,24 @@ impl Command for WorkersRun<'_> {
     }
 }
 
+/// Runs the script that a reader holds by workers, and writes the output in a format, where one is given.
+fn run_over<T: Threads + Wait + Sync, R: Read, W: Write, G: Gate>(
+    rt: &T,
+    alloc: Global,
+    reader: &mut Watched<R>,
+    writer: &mut Watched<W>,
+    workers: &Workers<'_, G>,
+    format: Option<Format>,
+) -> JobEnd<Ran, LiveFault>
+    requires { IsWorkerCount workers.now.count }
+    ensures { IsStatus (exit_status result.status) }
+{
+    match format {
+        None => run_workers_over(rt, alloc, reader, writer, workers),
+        Some(format) => run_workers_in_format_over(rt, alloc, reader, writer, workers, format),
+    }
+}
+
 /// Runs the script that a reader with this name holds by workers, and writes to standard output.
 fn print_run<R: Print + Eprint + AllocGlobal + Threads + Wait + Sync, S: Read + Drop, G: Gate>(
     rt: &R,
@@ -112,11 +133,27 @@ fn print_run<R: Print + Eprint + AllocGlobal + Threads + Wait + Sync, S: Read + 
     let mut script = script_of(rt.alloc(), name, reader);
     if job.expectation.is_none() {
         let mut writer = Watched::of(LastError::of(io::writer(rt)));
-        let end = run_workers_over(rt, rt.alloc(), &mut script.reader, &mut writer, workers);
+        let script_reader = &mut script.reader;
+        let end = run_over(
+            rt,
+            rt.alloc(),
+            script_reader,
+            &mut writer,
+            workers,
+            job.format,
+        );
         return print_end(rt, job, end, script, write_error(writer));
     }
     let mut writer = Watched::of(LastError::of(Tee::of(rt.alloc(), io::writer(rt))));
-    let end = run_workers_over(rt, rt.alloc(), &mut script.reader, &mut writer, workers);
+    let script_reader = &mut script.reader;
+    let end = run_over(
+        rt,
+        rt.alloc(),
+        script_reader,
+        &mut writer,
+        workers,
+        job.format,
+    );
     print_judgement(rt, job, end, script, writer, job.expectation)
 }
 

@@ -16,9 +16,11 @@ returns-clause-arguments c =
     let fourth = one_more name _ (codes "session") c.in_ok-arg-3.field-0 c.in_ok-arg-4.field-0 c.session.result third c.session.ensures.0 c.in_ok-arg-4.ensures in
     let fifth = one_more name _ (codes "move") c.in_ok-arg-4.field-0 c.in_ok-arg-5.field-0 c.move_number.result fourth c.move_number.ensures.0
     c.in_ok-arg-5.ensures in
-    let sixth = one_more name _ (codes "node") c.in_ok-arg-5.field-0 c.in_ok-command.command c.node.result fifth c.node.ensures.0
+    let sixth = one_more name _ (codes "node") c.in_ok-arg-5.field-0 c.in_ok-arg-6.field-0 c.node.result fifth c.node.ensures.0
+    c.in_ok-arg-6.ensures in
+    let seventh = one_more name _ (codes "json") c.in_ok-arg-6.field-0 c.in_ok-command.command c.json.result sixth c.json.ensures.0
     c.in_ok-command.ensures in
-    expectation_so name _ c.in_ok-command.command c.with_expectation.result sixth c.with_expectation.ensures
+    expectation_so name _ c.in_ok-command.command c.with_expectation.result seventh c.with_expectation.ensures
 
 pub returns-clause-picks : goal.returns-clause-picks
 returns-clause-picks c =
@@ -28,5 +30,6 @@ returns-clause-picks c =
     let third = still_wants g c.in_ok-arg-2.field-0 c.in_ok-arg-3.field-0 c.in_ok-control.control second c.in_ok-arg-3.ensures in
     let fourth = still_wants g c.in_ok-arg-3.field-0 c.in_ok-arg-4.field-0 c.session.result third c.in_ok-arg-4.ensures in
     let fifth = still_wants g c.in_ok-arg-4.field-0 c.in_ok-arg-5.field-0 c.move_number.result fourth c.in_ok-arg-5.ensures in
-    let sixth = still_wants g c.in_ok-arg-5.field-0 c.in_ok-command.command c.node.result fifth c.in_ok-command.ensures in
-    IfOk-weaker c.with_expectation.result _ _ (λ new more. (g, more.wants_so g sixth, c.in_ok-sources.ensures)) c.with_expectation.ensures
+    let sixth = still_wants g c.in_ok-arg-5.field-0 c.in_ok-arg-6.field-0 c.node.result fifth c.in_ok-arg-6.ensures in
+    let seventh = still_wants g c.in_ok-arg-6.field-0 c.in_ok-command.command c.json.result sixth c.in_ok-command.ensures in
+    IfOk-weaker c.with_expectation.result _ _ (λ new more. (g, more.wants_so g seventh, c.in_ok-sources.ensures)) c.with_expectation.ensures

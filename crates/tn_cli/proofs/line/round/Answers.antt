@@ -14,4 +14,5 @@ returns c =
     c.in_ok-arg-3.ensures in
     let fourth = one_more name _ (codes "quiet") c.in_ok-arg-3.field-0 c.in_ok-command.command c.quiet.result third c.quiet.ensures.0
     c.in_ok-command.ensures in
-    expectation_so name _ c.in_ok-command.command c.with_expectation.result fourth c.with_expectation.ensures
+    let fifth = c.in_ok-command-2.ensures.takes_formats name _ fourth in
+    expectation_so name _ c.in_ok-command-2.command c.with_expectation.result fifth c.with_expectation.ensures

@@ -12,4 +12,5 @@ returns c =
     let third = one_more name _ (codes "me") c.in_ok-arg-2.field-0 c.in_ok-arg-3.field-0 c.own_process.result second c.own_process.ensures.named.0
     c.in_ok-arg-3.ensures in
     let fourth = one_more name _ (codes "caller") c.in_ok-arg-3.field-0 c.in_ok-arg-4.field-0 c.caller.result third c.caller.ensures.0 c.in_ok-arg-4.ensures in
-    one_more_so name _ (codes "specification") c.in_ok-arg-4.field-0 c.specification.result c.arg-5.result fourth c.specification.ensures.0 c.arg-5.ensures
+    let fifth = one_more name _ (codes "json") c.in_ok-arg-4.field-0 c.in_ok-arg-5.field-0 c.json.result fourth c.json.ensures.0 c.in_ok-arg-5.ensures in
+    one_more_so name _ (codes "specification") c.in_ok-arg-5.field-0 c.specification.result c.arg-6.result fifth c.specification.ensures.0 c.arg-6.ensures

@@ -16,4 +16,5 @@ returns c =
     c.in_ok-arg-4.ensures in
     let fifth = one_more name _ (codes "quiet") c.in_ok-arg-4.field-0 c.in_ok-command.command c.quiet.result fourth c.quiet.ensures.0
     c.in_ok-command.ensures in
-    expectation_so name _ c.in_ok-command.command c.with_expectation.result fifth c.with_expectation.ensures
+    let sixth = c.in_ok-command-2.ensures.takes_formats name _ fifth in
+    expectation_so name _ c.in_ok-command-2.command c.with_expectation.result sixth c.with_expectation.ensures

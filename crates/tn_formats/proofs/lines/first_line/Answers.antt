@@ -1,8 +1,8 @@
 use Rattle.std.proofs.Common.{◌∷◌, ◌+◌, ◌∙◌, ap, sym, take}
 use Rattle.std.proofs.lemmas.List.{take_rest}
-use Rattle.tn_command.specs.Expectations.{text_lines}
-use Rattle.tn_command.proofs.LineLemmas.{line_alone, line_first}
-use Rattle.tn_command.proofs.expectation.first_line.Goals as goal
+use Rattle.def_formats.specs.Lines.{text_lines}
+use Rattle.tn_formats.proofs.LineLemmas.{line_alone, line_first}
+use Rattle.tn_formats.proofs.lines.first_line.Goals as goal
 
 pub returns-in-None-clause-cut : goal.returns-in-None-clause-cut
 returns-in-None-clause-cut c = line_alone c.args.text.now c.requires (sym c.in-None.ensures)

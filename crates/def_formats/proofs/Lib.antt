@@ -1,0 +1,7 @@
+pub mod SummaryRows
+mod JsonRows
+mod OutputSections
+mod AtomTexts
+mod Longest
+mod ReadRows
+mod MessageTexts

@@ -1,0 +1,128 @@
+-- An output, an account and the answer of a trial as JSON, a value a line (own).
+-- Depends on the sections of an output, on the parts of a trace message's text and on the JSON of RFC 8259, by the kit's `json`.
+use Rattle.std.specs.Prelude.{ℕ, suc, ◌+◌, nat_eq, nat_lt, Bool, true, false, ◌&&◌, if◌then◌else◌, List, [], ◌∷◌, ◌++◌, length, map, flat_map, take, drop, Option, Some, None, codes, decimal}
+use Rattle.std.specs.List.{list_all, starts_with}
+use Rattle.json.specs.Json.{Json, null, number, string, array, object, Items, no_items, item, Members, no_members, member}
+use Rattle.json.specs.Word.{after_number}
+use Rattle.json.specs.Print.{print}
+use Rattle.json.specs.Tree.{json_tokens}
+use Rattle.def_formats.specs.Lines.{text_lines, message_pid, message_kind, before_byte, past_byte, atom_length}
+use Rattle.def_formats.specs.Sections.{by_sections, Section, section_of, session_section, replies_section, journal_section}
+use Rattle.def_formats.specs.Summaries.{journal_picks}
+
+-- ---- values
+
+abbrev pub are_ascii : List ℕ → Bool
+are_ascii text = list_all (λ b. nat_lt b 128) text
+
+-- the text as a string; null for one that isn't ASCII, which no output has
+abbrev pub text_value : List ℕ → Json
+text_value text = if are_ascii text then string text else null
+
+abbrev pub number_value : ℕ → Json
+number_value n = number (decimal n)
+
+-- nothing is after the number
+abbrev pub is_whole : Option (List ℕ) → Bool
+is_whole None = false
+is_whole (Some []) = true
+is_whole (Some (c ∷ cs)) = false
+
+-- the text of a number as that number, and any other as a string
+abbrev pub numeral_value : List ℕ → Json
+numeral_value text = if are_ascii text && is_whole (after_number text) then number text else text_value text
+
+abbrev pub items_from : List Json → Items
+items_from [] = no_items
+items_from (v ∷ vs) = item v (items_from vs)
+
+abbrev pub members_from : List (List ℕ × Json) → Members
+members_from [] = no_members
+members_from (m ∷ ms) = member m.0 m.1 (members_from ms)
+
+abbrev pub object_from : List (List ℕ × Json) → Json
+object_from ms = object (members_from ms)
+
+-- the value on a line of its own
+abbrev pub json_line : Json → List ℕ
+json_line v = print (json_tokens v) ++ 10 ∷ []
+
+abbrev pub json_lines : List Json → List ℕ
+json_lines vs = flat_map json_line vs
+
+-- ---- an output
+
+-- {"session":NAME,"tracer":TRACER,"messages":N}
+abbrev pub session_row : (name tracer : List ℕ) → ℕ → Json
+session_row name tracer count =
+    object_from ((codes "session", text_value name) ∷ (codes "tracer", text_value tracer) ∷ (codes "messages", number_value count) ∷ [])
+
+-- {"session":NAME,"tracer":TRACER,"message":N,"kind":KIND,"pid":PID,"text":TEXT}
+abbrev pub message_row : (name tracer : List ℕ) → ℕ → List ℕ → Json
+message_row name tracer n line =
+    object_from ((codes "session", text_value name) ∷ (codes "tracer", text_value tracer) ∷ (codes "message", number_value n)
+    ∷ (codes "kind", text_value (message_kind line)) ∷ (codes "pid", text_value (message_pid line)) ∷ (codes "text", text_value line) ∷ [])
+
+-- {"reply":N,"text":TEXT}
+abbrev pub reply_row : ℕ → List ℕ → Json
+reply_row n line = object_from ((codes "reply", number_value n) ∷ (codes "text", text_value line) ∷ [])
+
+-- {"journal":[PICK,..]}
+abbrev pub journal_row : List (List ℕ) → Json
+journal_row picks = object_from ((codes "journal", array (items_from (map numeral_value picks))) ∷ [])
+
+-- a row for each line, with its number, from n
+abbrev pub numbered_rows : (ℕ → List ℕ → Json) → ℕ → List (List ℕ) → List Json
+numbered_rows row n [] = []
+numbered_rows row n (l ∷ ls) = row n l ∷ numbered_rows row (suc n) ls
+
+abbrev pub rows_by : Section → List (List ℕ) → List Json
+rows_by (session_section name tracer) lines = session_row name tracer (length lines) ∷ numbered_rows (message_row name tracer) 1 lines
+rows_by replies_section lines = numbered_rows reply_row 1 lines
+rows_by journal_section lines = journal_row (journal_picks lines) ∷ []
+
+abbrev pub section_json : List ℕ → List (List ℕ) → List ℕ
+section_json head lines = json_lines (rows_by (section_of head) lines)
+
+-- the output of a run
+abbrev pub output_json : List ℕ → List ℕ
+output_json output = by_sections section_json (text_lines output)
+
+-- ---- an account
+
+-- what a session makes of a move is indented
+abbrev pub is_indented : List ℕ → Bool
+is_indented line = starts_with nat_eq line (codes "  ")
+
+-- the line of a move: its number, its pick, and what it shows
+abbrev pub move_members : List ℕ → List (List ℕ × Json)
+move_members line =
+    (codes "move", numeral_value (before_byte 32 line)) ∷ (codes "pick", numeral_value (before_byte 32 (past_byte 32 line)))
+    ∷ (codes "event", text_value (past_byte 32 (past_byte 32 line))) ∷ []
+
+-- {"move":N,"pick":PICK,"event":EVENT}
+abbrev pub move_row : List ℕ → Json
+move_row line = object_from (move_members line)
+
+-- {"move":N,"pick":PICK,"event":EVENT,"session":NAME,"line":LINE}: what the session makes of it is after its name and `: `
+abbrev pub made_row : (move line : List ℕ) → Json
+made_row move line =
+    let rest : List ℕ = drop 2 line in
+    object_from (move_members move ++ (codes "session", text_value (take (atom_length rest) rest)) ∷ (codes "line", text_value (drop (atom_length rest + 2) rest)) ∷ [])
+
+-- a row for each line, with the move before it
+abbrev pub account_rows : List ℕ → List (List ℕ) → List Json
+account_rows move [] = []
+account_rows move (l ∷ ls) = if is_indented l then made_row move l ∷ account_rows move ls else move_row l ∷ account_rows l ls
+
+abbrev pub account_json : List ℕ → List ℕ
+account_json text = json_lines (account_rows [] (text_lines text))
+
+-- ---- any other text
+
+-- {"line":N,"text":TEXT}
+abbrev pub line_row : ℕ → List ℕ → Json
+line_row n line = object_from ((codes "line", number_value n) ∷ (codes "text", text_value line) ∷ [])
+
+abbrev pub text_json : List ℕ → List ℕ
+text_json text = json_lines (numbered_rows line_row 1 (text_lines text))

@@ -1,0 +1,15 @@
+use Rattle.std.proofs.Common.{Some}
+use Rattle.tn_run.specs.Answers.{live_run}
+use Rattle.tn_command.specs.JobFormats.{job_in}
+use Rattle.tn_command.proofs.StatusLemmas.{has_status, untouched_or_failed, written_so}
+use Rattle.tn_command.proofs.workers_format.run_workers_in_format_over.Goals as goal
+
+pub returns-clause-written : goal.returns-clause-written
+returns-clause-written g c = written_so _ _ _ _ _ c.run_live_in_format-answer.result c.job_status-status.ensures c.run_live_in_format-answer.ensures.written
+
+pub returns-clause-failed : goal.returns-clause-failed
+returns-clause-failed g c =
+    untouched_or_failed (job_in (Some c.args.format) live_run) _ _ _ _ _ _ _ c.run_live_in_format-answer.result c.job_status-status.ensures c.run_live_in_format-answer.ensures
+
+pub returns-clause-status : goal.returns-clause-status
+returns-clause-status g c = has_status (job_in (Some c.args.format) live_run) _ c.run_live_in_format-answer.result c.job_status-status.ensures

@@ -1,0 +1,5 @@
+mod SplitLemmas
+mod LineLemmas
+mod PickLemmas
+mod Appends
+mod AsciiLemmas

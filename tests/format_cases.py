@@ -1,0 +1,176 @@
+"""Cases of the built program: summaries and JSON, worked out by hand and read by Python's json."""
+import json
+
+from harness import EXAMPLES, SEND_HI, SEND_HI_PICKS, check, run, wants
+
+KINDS = """send send_to_non_existing_process 'receive' call return_from exception_from spawn spawned exit link unlink
+    getting_linked getting_unlinked""".split()
+
+# Names that need quotes and backslashes, and a message with both.
+QUOTED = rb"""{function,m,go,exported,['To'],[{send,'To',{'a"b','c\\d','it\'s'}}]}.
+{function,m,rest,exported,[],[{'receive','X'}]}.
+{process,m,go,[<0.101.0>]}.
+{process,m,rest,[]}.
+{control,[{session_create,'a b: tracer c','d \'e',[]},{process,'a b: tracer c',all,true,[send]},{session_create,n,o,[]}]}.
+"""
+
+NO_MESSAGE = b"""== session s1 tracer t1
+total: messages 0, bytes 0
+== run
+commands: 1
+moves: 1
+"""
+
+SEND_HI_SUMMARY = b"""== session s1 tracer t1
+send: messages 1, bytes 39
+total: messages 1, bytes 39
+greatest: bytes 39, line 1, {trace,<0.100.0>,send,{hi,1},<0.101.0>}
+== run
+commands: 2
+moves: 4
+"""
+
+SEND_HI_JSON = b"""{"session":"s1","tracer":"t1","messages":1}
+{"session":"s1","tracer":"t1","message":1,"kind":"send","pid":"<0.100.0>","text":"{trace,<0.100.0>,send,{hi,1},<0.101.0>}"}
+{"reply":1,"text":"{session,s1}"}
+{"reply":2,"text":"2"}
+{"journal":[0,0,100,100]}
+"""
+
+SEND_HI_MOVE = b"""{"move":4,"pick":100,"event":"<0.100.0> send {hi,1} <0.101.0>"}
+{"move":4,"pick":100,"event":"<0.100.0> send {hi,1} <0.101.0>","session":"s1","line":"=> {trace,<0.100.0>,send,{hi,1},<0.101.0>}"}
+{"move":4,"pick":100,"event":"<0.101.0> 'receive' {hi,1}"}
+{"move":4,"pick":100,"event":"<0.101.0> 'receive' {hi,1}","session":"s1","line":"no flag 'receive'"}
+"""
+
+QUOTED_JSON = rb"""{"session":"'a b: tracer c'","tracer":"'d \\'e'","messages":1}
+{"session":"'a b: tracer c'","tracer":"'d \\'e'","message":1,"kind":"send","pid":"<0.100.0>","text":"{trace,<0.100.0>,send,{'a\"b','c\\\\d','it\\'s'},<0.101.0>}"}
+{"session":"n","tracer":"o","messages":0}
+{"reply":1,"text":"{session,'a b: tracer c'}"}
+{"reply":2,"text":"2"}
+{"reply":3,"text":"{session,n}"}
+{"journal":[0,0,0,100,100]}
+"""
+
+
+def sections(output):
+    """The sections of an output: each first line, with the lines after it."""
+    found = []
+    for line in output.decode().splitlines():
+        if line.startswith("== "):
+            found.append((line, []))
+        else:
+            found[-1][1].append(line)
+    return found
+
+
+def summary(output):
+    """The summary of an output, as the manual says."""
+    told = []
+    for head, lines in sections(output):
+        if head == "== replies":
+            told += ["== run", f"commands: {len(lines)}"]
+        elif head == "== journal":
+            told += [f"moves: {len(lines[0].split())}"]
+        else:
+            kinds = [line.split(",")[2] for line in lines]
+            sizes = [len(line) for line in lines]
+            told.append(head)
+            for kind in KINDS:
+                own = [size for size, of in zip(sizes, kinds) if of == kind]
+                told += [f"{kind}: messages {len(own)}, bytes {sum(own)}"] if own else []
+            told.append(f"total: messages {len(lines)}, bytes {sum(sizes)}")
+            if lines:
+                at = sizes.index(max(sizes))
+                told.append(f"greatest: bytes {sizes[at]}, line {at + 1}, {lines[at]}")
+    return "".join(f"{line}\n" for line in told).encode()
+
+
+def values(output):
+    """The values of JSON that an output of bare names is, as the manual says."""
+    found = []
+    for head, lines in sections(output):
+        if head == "== replies":
+            found += [{"reply": at, "text": line} for at, line in enumerate(lines, 1)]
+        elif head == "== journal":
+            found.append({"journal": [int(pick) for pick in lines[0].split()]})
+        else:
+            _, _, name, _, tracer = head.split()
+            session = {"session": name, "tracer": tracer}
+            found.append({**session, "messages": len(lines)})
+            for at, line in enumerate(lines, 1):
+                pid, kind = line.split(",")[1:3]
+                found.append({**session, "message": at, "kind": kind, "pid": pid, "text": line})
+    return found
+
+
+def account(text):
+    """The values of JSON that an account of sessions with bare names is, as the manual says."""
+    found = []
+    for line in text.decode().splitlines():
+        if line.startswith("  "):
+            name, _, said = line[2:].partition(": ")
+            found.append({**moved, "session": name, "line": said})
+        else:
+            number, pick, event = line.split(" ", 2)
+            moved = {"move": int(number), "pick": int(pick), "event": event}
+            found.append(moved)
+    return found
+
+
+def holds(name, ran, wanted):
+    """Each line of a run is one JSON value, these in order, with their keys in order."""
+    pairs = [json.loads(line, object_pairs_hook=list) for line in ran.stdout.splitlines()]
+    check(name, ran.returncode == 0 and pairs == [list(value.items()) for value in wanted], ran)
+
+
+def formats():
+    """Summaries and JSON: of worked runs, of all examples, and of what is refused."""
+    wants("the summary of a send", run([*SEND_HI_PICKS, "--summary"], SEND_HI), 0, SEND_HI_SUMMARY)
+    wants("a summary without messages", run(["replay", "--picks", "0", "--summary"], SEND_HI), 0, NO_MESSAGE)
+    wants("the JSON of a send", run([*SEND_HI_PICKS, "--json"], SEND_HI), 0, SEND_HI_JSON)
+    wants("the JSON of no run", run(["round", "--json"]), 0, b'{"journal":[]}\n')
+    ran = run(["replay", "--picks", "0 0 0 100 100", "--json"], QUOTED)
+    wants("the JSON of names in quotes", ran, 0, QUOTED_JSON)
+    ran = run(["explain", "--picks", "0 0 100 100", "--move", "4", "--json"], SEND_HI)
+    wants("the JSON of a move", ran, 0, SEND_HI_MOVE)
+    trial = ["spec", "--list", "[]", "[{'_',[],[{message,{self}}]}]"]
+    told = b"""{"line":1,"text":"clause 1 fires: message <0.100.0>"}
+{"line":2,"text":"=> a message that ends in <0.100.0>"}
+"""
+    wants("the JSON of a trial", run([*trial, "--json"]), 0, told)
+    of_examples()
+    of_workers()
+    for flag in ("--summary", "--json"):
+        wants(f"a refused script with {flag}", run(["round", flag], b"{"), 2, b"refused 2 token at 1\n")
+        wants(f"refused picks with {flag}", run(["replay", "--picks", "x", flag], SEND_HI), 2, b"refused 20 bad picks\n")
+    for words in ([*SEND_HI_PICKS, "--summary", "--json"], ["explain", "--picks", "0", "--summary"], [*trial, "--summary"]):
+        ran = run(words, SEND_HI)
+        check(f"{' '.join(words)} is refused", ran.returncode == 2 and not ran.stdout and ran.stderr, ran)
+    ran = run([*SEND_HI_PICKS, "--summary", "--expect-line", "moves: 4"], SEND_HI)
+    wants("a summary with a line that is expected", ran, 0, SEND_HI_SUMMARY, b"")
+    ran = run([*SEND_HI_PICKS, "--json", "--reject-line", '{"reply":2,"text":"2"}'], SEND_HI)
+    check("JSON with a line that is rejected", ran.returncode == 1 and ran.stdout == SEND_HI_JSON, ran)
+
+
+def of_examples():
+    """The summary and the JSON of each example's round, against its plain output; and the JSON of its account."""
+    for path in sorted(EXAMPLES.glob("*.term")):
+        script = path.read_bytes()
+        plain = run(["round", "--quiet"], script)
+        wants(f"the summary of {path.name}", run(["round", "--quiet", "--summary"], script), 0, summary(plain.stdout))
+        holds(f"the JSON of {path.name}", run(["round", "--quiet", "--json"], script), values(plain.stdout))
+        picks = plain.stdout.decode().splitlines()[-1]
+        told = run(["explain", "--picks", picks], script)
+        holds(f"the JSON of the account of {path.name}", run(["explain", "--picks", picks, "--json"], script), account(told.stdout))
+
+
+def of_workers():
+    """A run by workers in a format is that of the replay of its journal."""
+    ran = run(["workers", "--n", "2", "--quiet", "--json"], SEND_HI)
+    journal = json.loads(ran.stdout.splitlines()[-1])["journal"]
+    picks = " ".join(str(pick) for pick in journal)
+    again = run(["replay", "--picks", picks, "--json"], SEND_HI)
+    check("the JSON of a run by workers", ran.returncode == 0 and ran.stdout == again.stdout, (ran, again))
+    ran = run(["workers", "--n", "1", "--quiet", "--summary"], SEND_HI)
+    check("the summary of a run by workers", ran.returncode == 0 and b"send: messages 1, bytes 39\n" in ran.stdout, ran)
