@@ -1,6 +1,5 @@
 -- Moves have one list of picks or one refusal, and a run by moves one outcome and one output.
-use Rattle.std.proofs.Common.{◌≡◌, ◌∙◌, ◌⊎◌, inl, inr, MatchOption, ◌<◌, ◌≤◌, ℕ, Bool, if◌then◌else◌, List, [], ◌∷◌, map, length, Option, Some, None, Result, Ok, Err, refl, sym, ap, ap₂, subst, arith}
-use Rattle.std.specs.Option.{option_map}
+use Rattle.std.proofs.Common.{◌≡◌, ◌∙◌, ◌⊎◌, inl, inr, MatchOption, ◌≤◌, ℕ, if◌then◌else◌, List, [], ◌∷◌, map, length, None, Result, Ok, Err, refl, sym, ap, ap₂, subst, arith}
 use Rattle.std.specs.declared.vec.Vec.{Vec}
 use Rattle.def_script.specs.Program.{Program}
 use Rattle.def_script.specs.Script.{IsScript}
@@ -12,7 +11,6 @@ use Rattle.def_moves.specs.Directives as definition
 use Rattle.def_moves.specs.Directives.{times, until_idle, everybody}
 use Rattle.def_moves.specs.Texts.{StandsFor}
 use Rattle.def_moves.proofs.Texts.{moves_are_one, picks_of_moves_are_one, moves_fault_is_alone, moves_fault_is_one}
-use Rattle.tn_refusal.specs.Refusals.{refusal_of}
 use Rattle.tn_run.specs.Answers.{by_round, run_for}
 use Rattle.def_run.specs.Output.{refusal_text}
 use Rattle.tn_run.specs.Jobs.{Gives, IsJobRefusal, OfScript}
@@ -20,9 +18,6 @@ use Rattle.tn_run.specs.declared.outcome.Outcome.TheVariants as run
 use Rattle.tn_refusal.specs.declared.refusal.Refusal.{Refusal}
 use Rattle.tn_explain.specs.Accounts.{IsAnswer}
 use Rattle.tn_explain.specs.Filters.{filter_seen}
-use Rattle.tn_explain.specs.Notes.{note_seen}
-use Rattle.tn_explain.specs.declared.note.NodeNote.{NodeNote}
-use Rattle.tn_explain.specs.declared.request.ExplainOutcome.{ExplainOutcome}
 use Rattle.tn_explain.specs.declared.request.ExplainOutcome.TheVariants as explained
 use Rattle.tn_moves.specs.Directives.{directive_seen}
 use Rattle.tn_moves.specs.Readings.{IsMovesRefusal, AreDirectives}
@@ -51,7 +46,7 @@ use Rattle.complete_command.specs.Moves.{MovesAlike}
 -- ---- a text
 
 -- the code's directive that stands for one
-directive_back : definition.Directive → Directive
+abbrev directive_back : definition.Directive → Directive
 directive_back (times count pick) = Times count pick
 directive_back (until_idle pick) = UntilIdle pick
 directive_back everybody = Everybody

@@ -2,7 +2,7 @@
 use Rattle.std.specs.Prelude.{◌≡◌, Result, Ok, Err}
 use Rattle.std.specs.declared.vec.Vec.{Vec}
 use Rattle.tn_moves.specs.declared.text.MovesFault.{MovesFault}
-use Rattle.tn_moves.specs.declared.text.MovesFault.TheVariants.{Refused, OutOfMemory}
+use Rattle.tn_moves.specs.declared.text.MovesFault.TheVariants.{Refused}
 
 -- the same values, or the same refusal; a lack of memory may come in either
 abbrev pub MovesAlike : {X A : Type 0} → Result (Vec X A) MovesFault → Result (Vec X A) MovesFault → Type 0

@@ -1,6 +1,5 @@
 -- The bytes of a script and the picks have one picture.
 use Rattle.std.proofs.Common.{◌≡◌, ◌∙◌, ◌⊎◌, ℕ, List, refl, sym, ap, ap₂}
-use Rattle.def_script.specs.Program.{Program}
 use Rattle.def_script.proofs.OneScript.{one_program}
 use Rattle.def_run.specs.Listing.{program_output}
 use Rattle.def_run.proofs.Outputs.{picks_are_one}

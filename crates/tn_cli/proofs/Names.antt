@@ -5,10 +5,12 @@ use Rattle.std.proofs.lemmas.Result.{IfOk-weaker}
 use Rattle.clap.specs.declared.builder.arg.Arg.{Arg}
 use Rattle.clap.specs.declared.builder.arg_group.ArgGroup.{ArgGroup}
 use Rattle.clap.specs.declared.builder.command.Command.{Command}
+use Rattle.std.specs.Borrow.{Bor}
+use Rattle.clap.specs.Adds.{AddsConflicts}
 use Rattle.clap.specs.Facts.{args_of, groups_of, subcommands_of}
 use Rattle.clap.specs.Built.{AddsArg, AddsGroup, AddsSubcommand, subcommand_names}
 use Rattle.clap.specs.Simple.{Shape, shape_of}
-use Rattle.tn_cli.specs.Line.{EXPECTATION, IsCommand, IsWithFormats, IsWithExpectation, NeedsRound, WantsBy}
+use Rattle.tn_cli.specs.Line.{EXPECTATION, IsCommand, IsWithFormats, IsWithExpectation, ExcludesPicks, PICKS, WantsBy}
 
 pub one_more : (name : List ℕ) (arguments : List (List ℕ)) (word : List ℕ) (old new : Command) (a : Arg)
     → IsCommand name arguments old → a.id.now ≡ word → AddsArg old a new → IsCommand name (arguments ++ word ∷ []) new
@@ -41,9 +43,16 @@ wants_it old new g none added = added.1 ∙ ap (λ gs. gs ++ g ∷ []) none
 pub still_wants : (g : ArgGroup) (old new : Command) (a : Arg) → WantsBy g old → AddsArg old a new → WantsBy g new
 still_wants g old new a wants added = added.groups ∙ wants
 
--- an argument that is given with `--round` alone has the same name
-pub same_name : (word : List ℕ) (old new : Arg) → old.id.now ≡ word → NeedsRound old new → new.id.now ≡ word
-same_name word old new is needs = ap (λ (a : Arg). a.id.now) needs.2.0 ∙ is
+-- an argument that can't be given with picks has the same name
+pub same_name : (word : List ℕ) (old new : Arg) → old.id.now ≡ word → ExcludesPicks old new → new.id.now ≡ word
+same_name word old new is excludes = ap (λ (a : Arg). a.id.now) excludes.same ∙ is
+
+-- some references more, of these texts
+pub excluded : (old new : Arg) (ids : List (Bor (List ℕ))) → map (λ w. w.now) ids ≡ PICKS → AddsConflicts old new ids → ExcludesPicks old new
+excluded old new ids are added = record {
+  same = added.0;
+  excludes = ap (map (λ w. w.now)) added.1 ∙ map-append (λ w. w.now) old.conflicts.items ids ∙ ap (λ l. map (λ w. w.now) old.conflicts.items ++ l) are;
+}
 
 -- three arguments, one after the other
 three_after : (xs : List (List ℕ)) (a b d : List ℕ) → ((xs ++ a ∷ []) ++ b ∷ []) ++ d ∷ [] ≡ xs ++ a ∷ b ∷ d ∷ []

@@ -6,9 +6,6 @@ use Rattle.clap.specs.declared.builder.action.ArgAction.TheVariants.{Set, SetTru
 use Rattle.clap.specs.declared.builder.value_parser.ValueParser.TheVariants.{Signed}
 use Rattle.clap.specs.declared.builder.command.Command.{Command}
 use Rattle.clap.specs.declared.builder.command.Command.TheViews.{out-Command}
-use Rattle.std.specs.Borrow.{Bor}
-use Rattle.clap.specs.declared.builder.arg.ArgPredicate.TheVariants.{IsPresent}
-use Rattle.clap.specs.Adds.{AddsRequirements}
 use Rattle.clap.specs.Facts.{args_of, groups_of}
 use Rattle.clap.specs.Walk.{rule_of}
 
@@ -67,9 +64,10 @@ WantsBy g c = groups_of c ≡ g ∷ []
 abbrev pub WantsOneOf : List (List ℕ) → Command → Type 0
 WantsOneOf arguments c = (g : ArgGroup) × WantsBy g c × IsOneOf arguments g
 
--- the argument is the same, and is given with `--round` alone
-abbrev pub NeedsRound : Arg → Arg → Type 0
-NeedsRound old new = (w : Bor (List ℕ)) × (w.now ≡ codes "round") × AddsRequirements old new ((IsPresent, w) ∷ [])
+-- the argument is the same, but that it can't be given with picks or moves
+pub record ExcludesPicks (old new : Arg) : Type 0 where
+  pub same : new ≡ record old { conflicts = new.conflicts }
+  pub excludes : map (λ w. w.now) new.conflicts.items ≡ map (λ w. w.now) old.conflicts.items ++ PICKS
 
 -- the arguments of each command that runs a script by picks
 abbrev pub BY_PICKS : List (List ℕ)

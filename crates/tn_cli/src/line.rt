@@ -1,7 +1,7 @@
 // What the command line may say.
 ghost use Rattle.std.specs.Prelude.{◌≡◌, codes, true, IfOk, IsOkAnd};
 ghost use Rattle.clap.specs.Built.{AddsSubcommand, subcommand_names};
-ghost use Rattle.tn_cli.specs.Line.{IsOption, IsFlag, IsWord, IsElse, IsFromTo, IsOneOf, NeedsRound};
+ghost use Rattle.tn_cli.specs.Line.{IsOption, IsFlag, IsWord, IsElse, IsFromTo, IsOneOf, ExcludesPicks};
 ghost use Rattle.tn_cli.specs.Line.{IsCommand, IsWithFormats, IsWithExpectation, WantsBy, WantsOneOf};
 ghost use Rattle.tn_cli.specs.Line.{PICKS, PICKS_ALONE, PICKS_OR_ROUND, BY_PICKS, COMMAND_NAMES};
 ghost use Rattle.tn_cli.specs.Line.{REPLAY, EXPLAIN, DRAW, ROUND, WORKERS, TRIAL};
@@ -342,11 +342,11 @@ fn in_rounds<'a>(alloc: Global) -> Arg<'a>
         .action(ArgAction::SetTrue)
 }
 
-/// The argument, which is given with `--round` alone.
-fn with_round<'a>(arg: Arg<'a>) -> Result<Arg<'a>, AllocError>
-    ensures { IfOk result (NeedsRound arg.entry) }
+/// The argument, which can't be given with picks or moves.
+fn without_picks<'a>(arg: Arg<'a>) -> Result<Arg<'a>, AllocError>
+    ensures { IfOk result (ExcludesPicks arg.entry) }
 {
-    arg.requires_arg("round")
+    arg.conflicts_with_all(&["picks", "picks-file", "moves", "moves-file"])
 }
 
 /// The subcommand `explain [SCRIPT] [--session NAME] [--move N] [--node] [--json]` with picks, moves or
@@ -358,8 +358,8 @@ fn explain<'a>(alloc: Global) -> Result<Command<'a>, AllocError>
     let about =
         "Runs the script by picks, moves or rounds, and prints why each session tells or doesn't";
     let sources = picks_or_round(alloc)?;
-    let limit = with_round(limit(alloc))?;
-    let control = with_round(control(alloc))?;
+    let limit = without_picks(limit(alloc))?;
+    let control = without_picks(control(alloc))?;
     let command = by_picks(alloc, "explain", about, sources)?
         .arg(in_rounds(alloc))?
         .arg(limit)?

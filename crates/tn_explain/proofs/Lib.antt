@@ -18,3 +18,4 @@ pub mod NoteCounts
 pub mod NodeFlags
 pub mod NodeNotes
 pub mod CommandReasons
+mod CommandDifferences

@@ -7,6 +7,7 @@ ghost use Rattle.tn_flags.specs.Views.{command_of};
 ghost use Rattle.tn_session.specs.Looks.{newest_seen};
 ghost use Rattle.tn_explain.specs.CommandDifferences.{differences_seen, is_on_by_parts, is_set_seen};
 ghost use Rattle.tn_explain.specs.CommandDifferences.{OneIsSetOtherwise, OneIsInternalAndSet, on_where_read};
+ghost use Rattle.tn_explain.specs.CommandDifferences.{is_among_seen, HasPatternDifference};
 ghost use Rattle.tn_explain.specs.CommandDifferences.{HasFunctionDifference, HasLiveDifference};
 ghost use Rattle.tn_explain.specs.CommandDifferences.{HasCommandDifference};
 ghost use Rattle.std.specs.Option.{option_map};
@@ -52,6 +53,13 @@ fn is_set<A: Allocator + Copy>(
     Ok(is_on(&newest, local))
 }
 
+/// Whether a function is among those that a command about these matches: exported ones alone, if it is global.
+fn is_among<A: Allocator>(covered: &FunctionPattern<A>, function: &Function<A>, local: bool) -> bool
+    ensures { result ≡ is_among_seen covered.now function.now local }
+{
+    is_covered(covered, function) && (local || function.exported)
+}
+
 /// Whether a function that a command about these matches has a setting of the other kind.
 fn is_set_otherwise<A: Allocator + Copy>(
     alloc: A,
@@ -63,10 +71,9 @@ fn is_set_otherwise<A: Allocator + Copy>(
     ensures { IfOk result (OneIsSetOtherwise look.now functions.now covered.now local) }
 {
     for function in functions {
-        if is_covered(covered, function) && (local || function.exported) {
-            if is_set(alloc, look, function, !local)? {
-                return Ok(true);
-            }
+        let among = is_among(covered, function, local);
+        if among && is_set(alloc, look, function, !local)? {
+            return Ok(true);
         }
     }
     Ok(false)
@@ -82,10 +89,9 @@ fn is_internal_and_set<A: Allocator + Copy>(
     ensures { IfOk result (OneIsInternalAndSet look.now functions.now covered.now) }
 {
     for function in functions {
-        if is_covered(covered, function) && !function.exported {
-            if is_set(alloc, look, function, true)? {
-                return Ok(true);
-            }
+        let internal = is_covered(covered, function) && !function.exported;
+        if internal && is_set(alloc, look, function, true)? {
+            return Ok(true);
         }
     }
     Ok(false)
@@ -111,6 +117,29 @@ fn is_on_where_read<A: Allocator + Copy>(
     }
 }
 
+/// What a node does otherwise by a function command about these, which disables them or doesn't.
+fn pattern_difference<A: Allocator + Copy>(
+    alloc: A,
+    look: &Look<'_, A>,
+    functions: &[Function<A>],
+    covered: &FunctionPattern<A>,
+    local: bool,
+    on: bool,
+) -> Result<Option<Difference>, AllocError>
+    ensures { IfOk result (λ r.
+        HasPatternDifference look.now functions.now covered.now local on (differences_seen r)) }
+{
+    if !on {
+        let leaves = is_set_otherwise(alloc, look, functions, covered, local)?;
+        return Ok(difference_where(leaves, Difference::LeavesOtherSetting));
+    }
+    if local {
+        return Ok(None);
+    }
+    let takes = is_internal_and_set(alloc, look, functions, covered)?;
+    Ok(difference_where(takes, Difference::TakesLocalSetting))
+}
+
 /// What a node does otherwise by a function command with these arguments.
 fn function_difference<A: Allocator + Copy>(
     alloc: A,
@@ -132,15 +161,7 @@ fn function_difference<A: Allocator + Copy>(
     let Some(on) = is_on_where_read(alloc, specification)? else {
         return Ok(None);
     };
-    if !on {
-        let leaves = is_set_otherwise(alloc, look, functions, &covered, local)?;
-        return Ok(difference_where(leaves, Difference::LeavesOtherSetting));
-    }
-    if local {
-        return Ok(None);
-    }
-    let takes = is_internal_and_set(alloc, look, functions, &covered)?;
-    Ok(difference_where(takes, Difference::TakesLocalSetting))
+    Ok(pattern_difference(alloc, look, functions, &covered, local, on)?)
 }
 
 /// What a node does otherwise by a command to a live session.

@@ -1,6 +1,7 @@
 // One line of a session.
 ghost use Rattle.std.specs.Prelude.{◌≡◌, ◌++◌, ◌∷◌, [], OnOk};
-ghost use Rattle.def_explain.specs.Accounts.{said, tells};
+ghost use Rattle.def_explain.specs.Accounts.{said, tells, differs_uncounted};
+ghost use Rattle.tn_verdict.specs.Differences.{difference_seen};
 ghost use Rattle.tn_term.specs.Views.{tree_of};
 ghost use Rattle.tn_session.specs.Messages.{message_seen};
 ghost use Rattle.tn_text.specs.Writes.{Grows};
@@ -95,6 +96,22 @@ pub fn put_command_line<A: Allocator, B: Allocator>(
     Ok(())
 }
 
+/// Appends the line of what a running node does otherwise, which no note counts.
+fn put_uncounted<A: Allocator, B: Allocator>(
+    name: &Atom<A>,
+    difference: Difference,
+    out: &mut Vec<u8, B>,
+) -> Result<(), AllocError>
+    ensures ok { OnOk result
+        (PutsLines name.now (differs_uncounted (difference_seen difference) ∷ []) out.old.items out.new.items) }
+    ensures grows { Grows out.old.items out.new.items }
+{
+    begin(name, out)?;
+    put_difference(difference, out)?;
+    out.push(b'\n')?;
+    Ok(())
+}
+
 /// Appends the line of what a running node does otherwise by a command of the session of this name, where there is
 /// such a thing. After an `Err`, which is refused memory, a part of it may stand there.
 pub fn put_command_difference<A: Allocator, B: Allocator>(
@@ -106,11 +123,8 @@ pub fn put_command_difference<A: Allocator, B: Allocator>(
         (PutsLines name.now (uncounted_lines (differences_seen difference)) out.old.items out.new.items) }
     ensures grows { Grows out.old.items out.new.items }
 {
-    let Some(difference) = difference else {
-        return Ok(());
-    };
-    begin(name, out)?;
-    put_difference(difference, out)?;
-    out.push(b'\n')?;
-    Ok(())
+    match difference {
+        Some(difference) => put_uncounted(name, difference, out),
+        None => Ok(()),
+    }
 }

@@ -19,8 +19,8 @@ returns-then-not-is_asked_of-clause-ok g c = λ o fs s h.
     obeys_only step o living s old h k c.args.out.now.items (option_map tree_of c.in_ok-obey.field-0) c.obey.new.self (sym c.is_asked_of.ensures ∙ c.if-not-is_asked_of.true)
     (c.in_ok-obey.ensures o (track step o living s old h) fs (tracked step o living s old h))
 
-pub returns-in-Some-clause-ok : goal.returns-in-Some-clause-ok
-returns-in-Some-clause-ok g c = λ o fs s h.
+pub returns-in_ok-put_command_line-in-Some-clause-ok : goal.returns-in_ok-put_command_line-in-Some-clause-ok
+returns-in_ok-put_command_line-in-Some-clause-ok g c = λ o fs s h.
     let step = c.args.step.now in
     let living = alive_of c.args.order.now.living in
     let old = c.args.slot.now in
@@ -32,7 +32,7 @@ returns-in-Some-clause-ok g c = λ o fs s h.
     (sym c.is_asked_of.ensures ∙ c.if-not-is_asked_of.false)
     (subst (Obeyed step o living s old h k c.args.out.now.items c.obey-2.new.self) (ap (option_map tree_of) c.in-Some.is) (c.in_ok-reply.ensures o (track step o living s old h) fs (tracked step o living s old h)))
     (c.in_ok-why.ensures o fs s h) (c.in_ok-difference.ensures o fs s h)
-    (more c.obey-2.new.self.name (reply_lines (tree_of c.in-Some.reply) q) (uncounted_lines x) c.args.out.now.items c.put_command_line.new.out.items c.put_command_difference.new.out.items c.in_ok-put_command_line.ensures.ok made))
+    (more c.obey-2.new.self.name (reply_lines (tree_of c.in-Some.reply) q) (uncounted_lines x) c.args.out.now.items c.put_command_line.new.out.items c.put_command_difference.new.out.items c.in_ok-put_command_line-in-Some.ensures.ok made))
     c.put_command_difference.ensures.ok
 
 pub returns-in-None-clause-ok : goal.returns-in-None-clause-ok

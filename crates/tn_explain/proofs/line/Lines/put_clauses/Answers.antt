@@ -19,13 +19,13 @@ returns-in-Fires-clause-ok g c =
     let size = c.len-i-end.ensures ∙ c.args.spec.now.clauses.ok.0 in
     let bs = bindings_seen c.in-Fires.bindings.now in
     let n = c.args.self.now.name.now in
-    let these = c.in_ok-these.these in
+    let these = c.in_ok-these-in-Fires.these in
     ends c.args.self.now.name.now (dialect_of c.args.spec.now.dialect) (context_seen c.args.context.now) ks c.loop-i.i _ _ _ c.loop-i.invariant.so_far
     c.index-clause.result.now bs (map effect_seen c.deref.result.now) c.mark_for-mark.result (omega (arith, size)) c.index-clause.ensures
     (ap (λ xs. fires bs (map effect_seen xs)) c.deref.ensures.value ∙ sym (ap (λ v. verdict_seen v) c.in-Fires.is) ∙ c.in_ok-reason.ensures)
     (more n (firing_lines c.loop-i.i (map effect_seen c.deref.result.now)) _ _ _ _ c.in_ok-put_firing-in-Fires.ensures.ok
     (other n _ _ _ _ (ap (λ xs. lines_with these c.args.spec.now.dialect c.args.context.now xs) (c.deref-in-Fires.ensures.value ∙ sym c.deref.ensures.value)
-    ∙ lines_of_clause c.args.spec.now.dialect c.index-clause.result.now c.in-Fires.bindings.now c.args.context.now c.deref.result.now these c.in_ok-these.ensures) c.in_ok-put_differences-in-Fires.ensures.ok))
+    ∙ lines_of_clause c.args.spec.now.dialect c.index-clause.result.now c.in-Fires.bindings.now c.args.context.now c.deref.result.now these c.in_ok-these-in-Fires.ensures) c.in_ok-put_differences-in-Fires.ensures.ok))
     (c.mark_for-mark.ensures ∙ ap (λ xs. mark_asked (map effect_seen xs)) (c.deref-in-Fires-2.ensures.value ∙ sym c.deref.ensures.value))
 
 pub loop-i-preserved : goal.loop-i-preserved

@@ -4,6 +4,7 @@ use Rattle.tn_spec.specs.Views.{dialect_of}
 use Rattle.tn_action.specs.Views.{context_seen, effect_seen}
 use Rattle.tn_verdict.specs.declared.differences.Difference.TheVariants.{NodeEnds, FindsNoTracer, SuppressesMessage, LeavesNoMark}
 use Rattle.tn_explain.specs.LineParts.{differs_where, body_difference_line}
+use Rattle.tn_text.proofs.Growth.{grows_on}
 use Rattle.tn_explain.proofs.DifferenceLines.{each_of_body}
 use Rattle.tn_explain.proofs.LineTexts.{on_ok, more, other}
 use Rattle.tn_explain.proofs.line.Lines.put_differences.Goals as goal
@@ -29,3 +30,8 @@ returns-clause-ok g c =
     (more n three (four ++ []) _ _ _ c.in_ok-put_body_difference-3.ensures.ok
     (other n four (four ++ []) _ _ (sym (append-nil four)) made)))))))
     c.put_body_difference-4.ensures.ok
+
+pub returns-clause-grows : goal.returns-clause-grows
+returns-clause-grows g c =
+    grows_on (grows_on c.put_where_differs.ensures.grows c.put_where_differs-2.ensures.grows)
+    (grows_on (grows_on c.put_body_difference.ensures.grows c.put_body_difference-2.ensures.grows) (grows_on c.put_body_difference-3.ensures.grows c.put_body_difference-4.ensures.grows))

@@ -1,0 +1,13 @@
+use Rattle.std.proofs.Common.{◌∙◌, sym, ap}
+use Rattle.std.specs.Option.{option_map}
+use Rattle.tn_flags.specs.Views.{command_of}
+use Rattle.tn_session.specs.Looks.{look_seen}
+use Rattle.tn_explain.proofs.CommandReasons.{look_is}
+use Rattle.tn_explain.proofs.CommandDifferences.{of_live_session}
+use Rattle.tn_explain.proofs.command_differences.command_difference.Goals as goal
+
+pub returns-in_ok-live_difference : goal.returns-in_ok-live_difference
+returns-in_ok-live_difference g c = λ o fs living s is.
+    let l = look_seen c.in-Some-look.look in
+    let same = look_is c.args.session.now c.in-Some.session o.functions living s l c.in-Some.is is (sym (ap (option_map look_seen) c.in-Some-look.is) ∙ c.look.ensures) in
+    c.in_ok-live_difference.ensures o fs ∙ of_live_session o s l (command_of c.args.command.now) same (sym c.is_live.ensures ∙ c.if-is_live.true)
