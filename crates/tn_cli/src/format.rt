@@ -1,7 +1,7 @@
 // In which format the output is.
-ghost use Rattle.std.specs.Prelude.{◌≡◌, IfNone, IfSome};
+ghost use Rattle.std.specs.Prelude.{◌≡◌};
 ghost use Rattle.tn_cli.specs.Formats.{IsFormatOf, format_named, json_named};
-ghost use Rattle.tn_cli.specs.Requests.{is_given, NamesNoCommand};
+ghost use Rattle.tn_cli.specs.Requests.{is_given};
 
 use crate::request::flag;
 use clap::ArgMatches;

@@ -1,2 +1,3 @@
 mod NumberLemmas
 mod StatusLemmas
+mod FormatLemmas

@@ -5,6 +5,9 @@ use Rattle.def_formats.specs.Formats.{in_format}
 use Rattle.tn_formats.specs.Values.{format_seen}
 use Rattle.tn_formats.specs.declared.format.Format.{Format}
 use Rattle.tn_run.specs.Jobs.{JobView}
+use Rattle.tn_run.specs.declared.fault.RunFault.TheVariants.{Read, Write, OutOfMemory}
+use Rattle.tn_run.specs.declared.fault.LiveFault.{LiveFault}
+use Rattle.tn_run.specs.declared.fault.LiveFault.TheVariants.{Run, Pool}
 use Rattle.tn_run.specs.declared.outcome.Outcome.{Outcome}
 use Rattle.tn_run.specs.declared.outcome.Outcome.TheVariants.{Listed, Refused}
 
@@ -34,3 +37,10 @@ job_in format job = record {
 abbrev pub text_where_listed : Format → Outcome → List ℕ → List ℕ
 text_where_listed format Listed text = in_format (format_seen format) text
 text_where_listed format (Refused r) text = text
+
+-- a write to memory that failed is refused memory
+abbrev pub without_write : LiveFault → LiveFault
+without_write (Run Read) = Run Read
+without_write (Run (Write n)) = Run OutOfMemory
+without_write (Run OutOfMemory) = Run OutOfMemory
+without_write (Pool f) = Pool f

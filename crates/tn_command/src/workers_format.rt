@@ -4,7 +4,7 @@ ghost use Rattle.std.specs.Process.{exit_status};
 ghost use Rattle.tn_run.specs.Answers.{live_run};
 ghost use Rattle.tn_run.specs.Jobs.{Meets, Prepares};
 ghost use Rattle.tn_run.specs.Workers.{IsWorkerCount};
-ghost use Rattle.tn_command.specs.JobFormats.{job_in, text_where_listed};
+ghost use Rattle.tn_command.specs.JobFormats.{job_in, text_where_listed, without_write};
 ghost use Rattle.tn_command.specs.Status.{IsStatus, OnFaultUntouchedOrFailed, WroteAs, status_of};
 
 use crate::status::{JobEnd, job_status};
@@ -38,6 +38,17 @@ fn run_in_format(
     }
 }
 
+/// The fault of a run that writes to memory: a write that fails is refused memory.
+fn without_write(fault: LiveFault) -> LiveFault
+    ensures { result ≡ without_write fault }
+{
+    match fault {
+        LiveFault::Run(RunFault::Write { .. }) => LiveFault::Run(RunFault::OutOfMemory),
+        LiveFault::Run(fault) => LiveFault::Run(fault),
+        LiveFault::Pool(fault) => LiveFault::Pool(fault),
+    }
+}
+
 /// The outcome, the picks and the output in a format of a run by workers, before any of it is written.
 fn prepare_in_format<R: Read, T: Threads + Wait + Sync, G: Gate>(
     rt: &T,
@@ -52,10 +63,7 @@ fn prepare_in_format<R: Read, T: Threads + Wait + Sync, G: Gate>(
     let mut buffer = Watched::of(Vec::new(alloc));
     match run_live(rt, alloc, reader, &mut buffer, workers) {
         Ok(ran) => run_in_format(alloc, format, ran, buffer.into_inner()),
-        Err(LiveFault::Run(RunFault::Write { .. })) => {
-            Err(LiveFault::Run(RunFault::OutOfMemory))
-        }
-        Err(fault) => Err(fault),
+        Err(fault) => Err(without_write(fault)),
     }
 }
 
