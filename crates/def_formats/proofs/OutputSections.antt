@@ -14,7 +14,7 @@ use Rattle.def_run.specs.Picks.{picks_text}
 use Rattle.def_run.specs.Listing.{messages, replies, lines_of, listings_text, program_output}
 use Rattle.def_formats.specs.Lines.{text_lines, without_empty_end}
 use Rattle.def_formats.specs.Sections.{is_section_head, before_section, by_sections}
-use Rattle.def_formats.specs.Laws.{session_head, IsOneLine, IsContent, SectionsAreOfTheRun}
+use Rattle.def_formats.specs.Laws.{session_head, IsOneLine, IsContentLine, SectionsAreOfTheRun}
 
 -- a piece before others is a line
 line_before : (piece : List ℕ) (pieces : List (List ℕ)) → 0 < length pieces → without_empty_end (piece ∷ pieces) ≡ piece ∷ without_empty_end pieces
@@ -38,7 +38,7 @@ line_cut l rest one =
     ap without_empty_end (slice_split_at (λ b. b == 10) l 10 rest (all_within l one) refl) ∙ line_before l (slice_split (λ b. b == 10) rest) (omega (arith, count))
 
 abbrev IsTermContent : Tree → Type 0
-IsTermContent t = IsContent (w t)
+IsTermContent t = IsContentLine (w t)
 
 -- so are the lines of terms
 lines_cut : (ts : List Tree) (rest : List ℕ) → All IsTermContent ts → text_lines (lines_of ts ++ rest) ≡ map w ts ++ text_lines rest
@@ -104,21 +104,21 @@ module _ (f : List ℕ → List (List ℕ) → List ℕ) where
 abbrev after_listings : List Tree → List ℕ → List ℕ
 after_listings ts journal = codes "== replies\n" ++ (lines_of ts ++ (codes "== journal\n" ++ (journal ++ 10 ∷ [])))
 
-journal_lines : (journal : List ℕ) → IsContent journal → text_lines (codes "== journal\n" ++ (journal ++ 10 ∷ [])) ≡ codes "== journal" ∷ journal ∷ []
+journal_lines : (journal : List ℕ) → IsContentLine journal → text_lines (codes "== journal\n" ++ (journal ++ 10 ∷ [])) ≡ codes "== journal" ∷ journal ∷ []
 journal_lines journal h =
     line_cut (codes "== journal") (journal ++ 10 ∷ []) refl ∙ ap (λ ls. codes "== journal" ∷ ls) (line_cut journal [] h.0)
 
-after_lines : (ts : List Tree) (journal : List ℕ) → All IsTermContent ts → IsContent journal
+after_lines : (ts : List Tree) (journal : List ℕ) → All IsTermContent ts → IsContentLine journal
     → text_lines (after_listings ts journal) ≡ codes "== replies" ∷ (map w ts ++ codes "== journal" ∷ journal ∷ [])
 after_lines ts journal h j =
     line_cut (codes "== replies") (lines_of ts ++ (codes "== journal\n" ++ (journal ++ 10 ∷ []))) refl
     ∙ ap (λ ls. codes "== replies" ∷ ls) (lines_cut ts (codes "== journal\n" ++ (journal ++ 10 ∷ [])) h ∙ ap (λ ls. map w ts ++ ls) (journal_lines journal j))
 
-journal_section : (f : List ℕ → List (List ℕ) → List ℕ) (journal : List ℕ) → IsContent journal → by_sections f (codes "== journal" ∷ journal ∷ []) ≡ f (codes "== journal") (journal ∷ [])
+journal_section : (f : List ℕ → List (List ℕ) → List ℕ) (journal : List ℕ) → IsContentLine journal → by_sections f (codes "== journal" ∷ journal ∷ []) ≡ f (codes "== journal") (journal ∷ [])
 journal_section f journal j =
     ap (λ (b : Bool). f (codes "== journal") (if b then [] else journal ∷ []) ++ ((if b then f journal [] else []) ++ [])) j.1 ∙ append-nil (f (codes "== journal") (journal ∷ []))
 
-after_sections : (f : List ℕ → List (List ℕ) → List ℕ) (ts : List Tree) (journal : List ℕ) → All IsTermContent ts → IsContent journal
+after_sections : (f : List ℕ → List (List ℕ) → List ℕ) (ts : List Tree) (journal : List ℕ) → All IsTermContent ts → IsContentLine journal
     → by_sections f (text_lines (after_listings ts journal)) ≡ f (codes "== replies") (map w ts) ++ f (codes "== journal") (journal ∷ [])
 after_sections f ts journal h j =
     ap (by_sections f) (after_lines ts journal h j)

@@ -39,15 +39,15 @@ abbrev pub IsOneLine : List ℕ → Type 0
 IsOneLine text = list_all (λ b. not (b == 10)) text ≡ true
 
 -- and it begins no section
-abbrev pub IsContent : List ℕ → Type 0
-IsContent text = IsOneLine text × (is_section_head text ≡ false)
+abbrev pub IsContentLine : List ℕ → Type 0
+IsContentLine text = IsOneLine text × (is_section_head text ≡ false)
 
 -- each text of a run is a line of its output
 pub record HasLines (p : Program) (picks : List ℕ) : Type 0 where
   pub names : All (λ s. IsOneLine (session_head s.0 s.1)) (creations p.commands)
-  pub listed : All (λ s. All (λ m. IsContent (w m)) (messages s.0 p picks)) (creations p.commands)
-  pub replied : All (λ t. IsContent (w t)) (replies p picks)
-  pub moved : IsContent (picks_text (moves p picks))
+  pub listed : All (λ s. All (λ m. IsContentLine (w m)) (messages s.0 p picks)) (creations p.commands)
+  pub replied : All (λ t. IsContentLine (w t)) (replies p picks)
+  pub moved : IsContentLine (picks_text (moves p picks))
 
 -- what is made of the sections of a run's output is made of its messages, its replies and its moves
 abbrev pub SectionsAreOfTheRun : Type 0

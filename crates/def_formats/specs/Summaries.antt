@@ -27,13 +27,13 @@ pub record Load : Type 0 where
   pub bytes : ℕ
 
 -- the message is of this kind, where one is given
-abbrev pub is_of_kind : Option (List ℕ) → List ℕ → Bool
-is_of_kind None line = true
-is_of_kind (Some kind) line = bytes_eq (message_kind line) kind
+abbrev pub is_message_of_kind : Option (List ℕ) → List ℕ → Bool
+is_message_of_kind None line = true
+is_message_of_kind (Some kind) line = bytes_eq (message_kind line) kind
 
 -- that of the messages of this kind, or of all where none is given
 abbrev pub load_of : Option (List ℕ) → List (List ℕ) → Load
-load_of kind lines = let own : List (List ℕ) = filter (is_of_kind kind) lines in record { messages = length own; bytes = sum (map length own) }
+load_of kind lines = let own : List (List ℕ) = filter (is_message_of_kind kind) lines in record { messages = length own; bytes = sum (map length own) }
 
 -- LABEL: messages N, bytes N
 abbrev pub load_line : List ℕ → Load → List ℕ

@@ -135,8 +135,8 @@ IsRunOf m (ByRound limit control_first) =
     (is_given m (codes "round") ≡ true) × IsGiven 1 65536 (argument m (codes "limit")) limit × (control_first ≡ takes_control_first m)
 
 -- a picture is lines for a terminal where `--text` is given, else a graphic
-abbrev pub format_named : Bool → PictureFormat
-format_named is_text = if is_text then Plain else Svg
+abbrev pub picture_format_named : Bool → PictureFormat
+picture_format_named is_text = if is_text then Plain else Svg
 
 -- ---- commands
 
@@ -182,7 +182,7 @@ Asks name m (Explain script run filter expectation) =
     × IsExpectationOf m expectation
 Asks name m (Draw script picks format expectation) =
     (name ≡ codes "draw") × IsSourceNamed (argument m (codes "script")) script × IsTextOfPicks m picks
-    × (format ≡ format_named (is_given m (codes "text"))) × IsExpectationOf m expectation
+    × (format ≡ picture_format_named (is_given m (codes "text"))) × IsExpectationOf m expectation
 Asks name m (Round script limit control_first quiet expectation) =
     (name ≡ codes "round") × IsSourceNamed (argument m (codes "script")) script × IsGiven 1 65536 (argument m (codes "limit")) limit
     × (control_first ≡ takes_control_first m) × (quiet ≡ is_given m (codes "quiet")) × IsExpectationOf m expectation

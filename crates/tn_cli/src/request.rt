@@ -1,6 +1,6 @@
 // What the command line asks for: a command, made of what was read of its words.
 ghost use Rattle.std.specs.Prelude.{◌≡◌, [], OkIff, IfOk, IfErr, IfSome, IfNone, unwrap_or, codes};
-ghost use Rattle.tn_cli.specs.Requests.{argument, is_given, format_named, dialect_named, IsBetween};
+ghost use Rattle.tn_cli.specs.Requests.{argument, is_given, picture_format_named, dialect_named, IsBetween};
 ghost use Rattle.tn_cli.specs.Requests.{number_given, IsNumberOrNone};
 ghost use Rattle.tn_cli.specs.Requests.{NamesProcess, NamesNoProcess, ArePicksOf, IsSourceNamed, Asks, IsAskedBy};
 ghost use Rattle.tn_cli.specs.Requests.{LacksLimit, LacksNumber, IsWithoutNumber, NamesNoCommand};
@@ -331,7 +331,7 @@ fn explain<'a>(matches: &ArgMatches<'a>) -> Result<Request<'a>, BadNumber<'a>>
 
 /// What a picture is written as.
 fn format<'a>(matches: &ArgMatches<'a>) -> PictureFormat
-    ensures { result ≡ format_named (is_given matches.now (codes "text")) }
+    ensures { result ≡ picture_format_named (is_given matches.now (codes "text")) }
 {
     if flag(matches, "text") {
         PictureFormat::Plain

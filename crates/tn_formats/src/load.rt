@@ -2,7 +2,7 @@
 ghost use Rattle.std.specs.Prelude.{◌≡◌};
 ghost use Rattle.std.specs.Option.{option_map};
 ghost use Rattle.def_formats.specs.Sections.{section_lines};
-ghost use Rattle.def_formats.specs.Summaries.{is_of_kind, load_of};
+ghost use Rattle.def_formats.specs.Summaries.{is_message_of_kind, load_of};
 ghost use Rattle.tn_formats.specs.Values.{load_seen};
 
 use crate::parts::message_parts;
@@ -16,8 +16,8 @@ pub(crate) struct Load {
 }
 
 /// Whether a message is of this kind, where one is given.
-fn is_of_kind(line: &[u8], kind: Option<&[u8]>) -> bool
-    ensures { result ≡ is_of_kind (option_map (λ k. k.now) kind.entry) line.now }
+fn is_message_of_kind(line: &[u8], kind: Option<&[u8]>) -> bool
+    ensures { result ≡ is_message_of_kind (option_map (λ k. k.now) kind.entry) line.now }
 {
     match kind {
         Some(kind) => message_parts(line).1 == kind,
@@ -35,7 +35,7 @@ pub(crate) fn load_of(text: &[u8], kind: Option<&[u8]>) -> Load
     };
     let mut rest = text;
     while let Some((line, after)) = next_line(rest) {
-        if is_of_kind(line, kind) {
+        if is_message_of_kind(line, kind) {
             load.messages += 1;
             load.bytes += line.len();
         }
