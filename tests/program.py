@@ -21,6 +21,7 @@ import document_cases
 import explanation_cases
 import failure_cases
 import harness
+import mistake_cases
 import run_cases
 import specification_cases
 import text_cases
@@ -45,6 +46,7 @@ SUBJECTS = {
         text_cases.numbers_in_terms,
     ),
     "explanation": (explanation_cases.explanations, explanation_cases.differences),
+    "mistake": (mistake_cases.mistakes,),
     "specification": (specification_cases.trials, specification_cases.functions, specification_cases.specifications),
     "command_line": (
         command_line_cases.tries,

@@ -56,9 +56,9 @@ WantsPicks c = (g : ArgGroup) × (groups_of c ≡ g ∷ []) × IsOneOf PICKS g
 abbrev pub BY_PICKS : List (List ℕ)
 BY_PICKS = codes "script" ∷ codes "picks" ∷ codes "picks-file" ∷ []
 
--- the arguments that say what the output must be
+-- the arguments that say what the output must be, and whether each command must be done
 abbrev pub EXPECTATION : List (List ℕ)
-EXPECTATION = codes "expect" ∷ codes "expect-line" ∷ codes "reject-line" ∷ []
+EXPECTATION = codes "expect" ∷ codes "expect-line" ∷ codes "reject-line" ∷ codes "strict" ∷ []
 
 -- the command has these arguments after its own, and wants its picks as it did
 pub record IsWithExpectation (old new : Command) : Type 0 where

@@ -49,10 +49,10 @@ fn run_schedule<R: Input + Files + Print + Eprint + AllocGlobal>(
 ) -> ExitCode
     ensures { IsStatus (exit_status result) }
 {
-    if quiet {
+    if quiet && !expectation.strict {
         perform(rt, script, &schedule, expectation)
     } else {
-        perform(rt, script, &RunAndNote { schedule }, expectation)
+        perform(rt, script, &RunAndNote { schedule, quiet }, expectation)
     }
 }
 
@@ -222,6 +222,7 @@ fn run_request<R: Input + Files + Print + Eprint + AllocGlobal + Threads + Wait 
         file,
         line,
         no_line,
+        strict,
     } = ask.expectation();
     let output = match output_of(rt, file) {
         Ok(output) => output,
@@ -231,6 +232,7 @@ fn run_request<R: Input + Files + Print + Eprint + AllocGlobal + Threads + Wait 
         output: output.as_deref(),
         line: line.map(|text| text.as_bytes()),
         no_line: no_line.map(|text| text.as_bytes()),
+        strict,
     };
     run_so(rt, ask, &expectation)
 }

@@ -5,3 +5,4 @@ pub mod PickTexts
 pub mod Sources
 pub mod Status
 pub mod SpecTests
+pub mod PlainTexts

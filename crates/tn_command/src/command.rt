@@ -1,7 +1,12 @@
 // The jobs of the commands, and what is said of their outcomes.
+use crate::plain_text::{escape_controls, plain_name};
+use crate::remarks::{tell_empty_script, tell_schedule_remarks};
 use crate::stderr::{NamedText, tell_note, tell_refusal};
 use std::alloc::Global;
-use tn_explain::{ExplainOutcome, ExplainRequest, RunAndNote, RunEnd};
+use tn_explain::{
+    ExplainOutcome, ExplainRequest, RunAndNote, RunEnd, has_no_forms, text_has_remarks,
+};
+use tn_listing::read_picks;
 use tn_run::{Job, Outcome, Schedule};
 
 /// A job that a command does.
@@ -13,6 +18,16 @@ pub trait Command: Job<Global> {
         outcome: Self::Outcome,
         script: NamedText<'_>,
     );
+
+    /// Whether a strict command line takes the outcome as a fault of the script: a command is refused or matches no
+    /// function, or there are no forms.
+    fn is_flawed(&self, alloc: Global, outcome: &Self::Outcome, script: NamedText<'_>) -> bool;
+}
+
+/// Whether a command of a script's run by these picks is refused or matches no function, as far as there is memory to
+/// say so.
+pub(crate) fn is_remarked(alloc: Global, script: NamedText<'_>, picks: &[u32]) -> bool {
+    has_no_forms(script.bytes) || matches!(text_has_remarks(alloc, script.bytes, picks), Ok(true))
 }
 
 impl Command for Schedule<'_> {
@@ -31,6 +46,10 @@ impl Command for Schedule<'_> {
             Outcome::Refused(refusal) => tell_refusal(rt, refusal, script, picks),
         }
     }
+
+    fn is_flawed(&self, _alloc: Global, _outcome: &Outcome, script: NamedText<'_>) -> bool {
+        has_no_forms(script.bytes)
+    }
 }
 
 impl Command for RunAndNote<'_> {
@@ -40,9 +59,24 @@ impl Command for RunAndNote<'_> {
             Schedule::Round(_) => (b"", "explain --node, by the picks of the journal,"),
         };
         match end {
-            RunEnd::Listed(None) => {}
-            RunEnd::Listed(Some(note)) => tell_note(rt, note, how),
+            RunEnd::Listed(_) if self.quiet => {}
+            RunEnd::Listed(notes) => {
+                tell_empty_script(rt, script);
+                if notes.has_remarks {
+                    tell_schedule_remarks(rt, script, self.schedule);
+                }
+                if let Some(note) = notes.node {
+                    tell_note(rt, note, how);
+                }
+            }
             RunEnd::Refused(refusal) => tell_refusal(rt, refusal, script, picks),
+        }
+    }
+
+    fn is_flawed(&self, _alloc: Global, end: &RunEnd, script: NamedText<'_>) -> bool {
+        match end {
+            RunEnd::Listed(notes) => notes.has_remarks || has_no_forms(script.bytes),
+            RunEnd::Refused(_) => false,
         }
     }
 }
@@ -58,7 +92,8 @@ impl Command for ExplainRequest<'_> {
             ExplainOutcome::Account => {}
             ExplainOutcome::Refused(refusal) => tell_refusal(rt, refusal, script, self.picks),
             ExplainOutcome::NoSession => {
-                let name = self.filter.session.unwrap_or("");
+                let plain = escape_controls(rt.alloc(), self.filter.session.unwrap_or(""));
+                let name = plain_name(&plain, "of this name");
                 let _ = rt.eprintln(format_args!("error: the script creates no session {name}"));
             }
             ExplainOutcome::NoMove => {
@@ -68,6 +103,16 @@ impl Command for ExplainRequest<'_> {
             ExplainOutcome::NoDifference => {
                 let _ = rt.eprintln("note: a running node is known to do nothing otherwise there");
             }
+        }
+    }
+
+    fn is_flawed(&self, alloc: Global, outcome: &ExplainOutcome, script: NamedText<'_>) -> bool {
+        match outcome {
+            ExplainOutcome::Refused(_) => false,
+            _ => match read_picks(alloc, self.picks) {
+                Ok(picks) => is_remarked(alloc, script, &picks),
+                Err(_) => false,
+            },
         }
     }
 }

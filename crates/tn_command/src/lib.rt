@@ -8,7 +8,9 @@
 //! the status is 1 where it would be 0 and the output doesn't meet it, and else what it would be. Promises of a text
 //! of picks that it is what the reader holds, without a line feed at its end. A refusal or a fault has one line on
 //! standard error: how the text can be fixed, or what failed. A pipe that was closed has none. So has a run that a
-//! running node is known to do otherwise: at how many of its moves.
+//! running node is known to do otherwise: at how many of its moves; and each of its commands that is refused or matches
+//! no function. Names are printed without control characters, which `escape_controls` replaces. Where a command line is
+//! strict, the status is 1 where it would be 0 and a command is refused or matches no function.
 #![tactic(auto)]
 
 mod command;
@@ -19,6 +21,8 @@ mod judgement;
 mod last_error;
 mod number;
 mod picks;
+mod plain_text;
+mod remarks;
 mod source;
 mod spec_test;
 mod start;
@@ -35,6 +39,7 @@ pub use jobs::{perform, perform_over};
 pub use last_error::LastError;
 pub use number::plain_number;
 pub use picks::{picks_of, picks_over};
+pub use plain_text::escape_controls;
 pub use source::{Source, source_of};
 pub use spec_test::{SpecTestRunFault, test_spec, test_spec_over};
 pub use start::Start;

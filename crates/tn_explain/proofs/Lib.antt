@@ -18,3 +18,6 @@ pub mod NoteCounts
 pub mod NodeFlags
 pub mod NodeNotes
 pub mod CommandReasons
+pub mod CommandStarts
+pub mod Remarks
+pub mod ReplyTexts

@@ -12,3 +12,6 @@ pub mod Accounts
 pub mod Comparisons
 pub mod Notes
 pub mod CommandReasons
+pub mod CommandStarts
+pub mod RemarkedSessions
+pub mod RemarkLines
