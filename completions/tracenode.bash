@@ -1,9 +1,10 @@
 # Completion of tracenode's command line for bash: source this file, as ~/.bashrc may do.
 
-# Files and folders that begin so. A folder is followed by a slash, and a name with blanks is quoted.
+# Files and folders that begin so, which may begin with a quote. A folder is followed by a slash, and a name with blanks
+# is quoted.
 _tracenode_files() {
-    local names
-    mapfile -t names < <(compgen -f -- "${1//\\/}")
+    local names begun=${1//\\/}
+    mapfile -t names < <(compgen -f -- "${begun#[\"\']}")
     COMPREPLY+=("${names[@]}")
     compopt -o filenames 2>/dev/null
 }
@@ -11,6 +12,11 @@ _tracenode_files() {
 _tracenode() {
     local word=${COMP_WORDS[COMP_CWORD]} before=${COMP_WORDS[COMP_CWORD - 1]} command=${COMP_WORDS[1]} words=
     COMPREPLY=()
+    # --expect=FILE is three words here
+    case $before,$word in
+        =,*) before=${COMP_WORDS[COMP_CWORD - 2]} ;;
+        *,=) before=${COMP_WORDS[COMP_CWORD - 1]} word= ;;
+    esac
     if [ "$COMP_CWORD" -eq 1 ]; then
         words='replay round workers explain draw spec help -h --help -V --version'
         case ${COMP_WORDS[0]} in
@@ -36,19 +42,19 @@ _tracenode() {
         case $command in
             replay)
                 words='--picks --picks-file --moves --moves-file --quiet --summary --json'
-                words+=' --expect --expect-line --reject-line -h --help'
+                words+=' --expect --expect-line --reject-line --strict -h --help'
                 ;;
             round)
-                words='--limit --control --quiet --summary --json --expect --expect-line --reject-line -h --help'
+                words='--limit --control --quiet --summary --json --expect --expect-line --reject-line --strict -h --help'
                 ;;
             workers)
-                words='--n --turns --spread --quiet --summary --json --expect --expect-line --reject-line -h --help'
+                words='--n --turns --spread --quiet --summary --json --expect --expect-line --reject-line --strict -h --help'
                 ;;
             explain)
                 words='--picks --picks-file --moves --moves-file --round --limit --control --session --move --node'
-                words+=' --json --expect --expect-line --reject-line -h --help'
+                words+=' --json --expect --expect-line --reject-line --strict -h --help'
                 ;;
-            draw) words='--picks --picks-file --text --expect --expect-line --reject-line -h --help' ;;
+            draw) words='--picks --picks-file --text --expect --expect-line --reject-line --strict -h --help' ;;
             spec) words='--list --for --me --caller --json -h --help' ;;
             help) words='replay round workers explain draw spec' ;;
         esac

@@ -24,6 +24,7 @@ import format_cases
 import harness
 import moves_cases
 import picture_cases
+import mistake_cases
 import run_cases
 import specification_cases
 import text_cases
@@ -50,6 +51,7 @@ SUBJECTS = {
     ),
     "explanation": (explanation_cases.explanations, explanation_cases.differences),
     "picture": (picture_cases.pictures, picture_cases.drawings, picture_cases.life_lines),
+    "mistake": (mistake_cases.mistakes,),
     "specification": (specification_cases.trials, specification_cases.functions, specification_cases.specifications),
     "format": (format_cases.formats,),
     "command_line": (

@@ -12,11 +12,13 @@ from harness import EMPTY, EXAMPLES, PLAIN, PROBE, ROWS, SEND_HI, check, run, wa
 DIFFERING_ROWS = {"badarg-is-no-exception": (1, 7), "exceptions-in-silence": (4, 7), "set-on-link": (1, 7)}
 
 
-def note_of(name):
-    """What a worked run that isn't refused has on standard error."""
-    if name not in DIFFERING_ROWS:
+def note_of(row):
+    """What a worked run that isn't refused has on standard error: its own file, or the note of a running node."""
+    if (row / "stderr").exists():
+        return (row / "stderr").read_bytes()
+    if row.name not in DIFFERING_ROWS:
         return None
-    differing, moves = DIFFERING_ROWS[name]
+    differing, moves = DIFFERING_ROWS[row.name]
     return f"note: a running node differs at {differing} of {moves} moves; explain --node shows where\n".encode()
 
 
@@ -27,7 +29,7 @@ def rows():
         words = (row / "args").read_text().removesuffix("\n").split("\n")
         ran = run(words, (row / "stdin").read_bytes())
         wanted = int(status.read_text()) if status.exists() else 0
-        wants(f"row {row.name}", ran, wanted, (row / "stdout").read_bytes(), note_of(row.name))
+        wants(f"row {row.name}", ran, wanted, (row / "stdout").read_bytes(), note_of(row))
 
 
 def plain():

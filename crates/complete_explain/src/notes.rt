@@ -1,6 +1,7 @@
-// What a running node does otherwise in a run.
+// What a running node does otherwise in a run, and what is remarked of its commands.
 ghost use Rattle.std.specs.Prelude.{◌≡◌, IfOk};
 ghost use Rattle.tn_program.specs.Views.{program_of};
+ghost use Rattle.tn_refusal.specs.Starts.{IsListable};
 
 use std::alloc::{AllocError, Allocator};
 use tn_explain::NodeNote;
@@ -74,5 +75,59 @@ pub fn text_note<A: Allocator + Copy>(
     (
         tn_explain::text_note(alloc, text, picks),
         tn_explain::text_note(alloc, text, picks),
+    )
+}
+
+/// `tn_explain::text_has_remarks` has one answer for one text and the same picks.
+pub fn text_has_remarks<A: Allocator + Copy>(
+    alloc: A,
+    text: &[u8],
+    picks: &[u32],
+) -> (Result<bool, Denial>, Result<bool, Denial>)
+    ensures { IfOk result.0 (λ b. IfOk result.1 (λ c. b ≡ c)) }
+{
+    (
+        tn_explain::text_has_remarks(alloc, text, picks),
+        tn_explain::text_has_remarks(alloc, text, picks),
+    )
+}
+
+/// `tn_explain::remark_lines` has one answer for one text of tokens, its name and the same picks.
+pub fn remark_lines<A: Allocator + Copy>(
+    alloc: A,
+    name: &str,
+    text: &[u8],
+    picks: &[u32],
+) -> (Result<Vec<u8, A>, Denial>, Result<Vec<u8, A>, Denial>)
+    ensures { IsListable text.now → IfOk result.0 (λ v. IfOk result.1 (λ w. v.items ≡ w.items)) }
+{
+    (
+        tn_explain::remark_lines(alloc, name, text, picks),
+        tn_explain::remark_lines(alloc, name, text, picks),
+    )
+}
+
+/// `tn_explain::round_remark_lines` has one answer for one text of tokens, its name and the same limit.
+pub fn round_remark_lines<A: Allocator + Copy>(
+    alloc: A,
+    name: &str,
+    text: &[u8],
+    limit: u32,
+) -> (Result<Vec<u8, A>, Denial>, Result<Vec<u8, A>, Denial>)
+    ensures { IsListable text.now → IfOk result.0 (λ v. IfOk result.1 (λ w. v.items ≡ w.items)) }
+{
+    (
+        tn_explain::round_remark_lines(alloc, name, text, limit),
+        tn_explain::round_remark_lines(alloc, name, text, limit),
+    )
+}
+
+/// `tn_explain::has_no_forms` has one answer for one text.
+pub fn has_no_forms(text: &[u8]) -> (bool, bool)
+    ensures { result.0 ≡ result.1 }
+{
+    (
+        tn_explain::has_no_forms(text),
+        tn_explain::has_no_forms(text),
     )
 }

@@ -156,12 +156,13 @@ IsTrialOf m t =
     × IsTextOf (argument m (codes "caller")) t.caller
     × IsTextOf (argument m (codes "specification")) t.specification
 
--- the file that `--expect` names, and the lines of `--expect-line` and `--reject-line`
+-- the file that `--expect` names, the lines of `--expect-line` and `--reject-line`, and whether `--strict` is given
 abbrev pub IsExpectationOf : ArgMatches → ExpectationArgs → Type 0
 IsExpectationOf m e =
     IsTextOf (argument m (codes "expect")) e.file
     × IsTextOf (argument m (codes "expect-line")) e.line
     × IsTextOf (argument m (codes "reject-line")) e.no_line
+    × (e.strict ≡ is_given m (codes "strict"))
 
 -- what the output of a request must be: anything, of a trial
 abbrev pub request_expectation : Request → ExpectationArgs
@@ -170,7 +171,7 @@ request_expectation (Explain script run filter e) = e
 request_expectation (Draw script picks format e) = e
 request_expectation (Round script limit control_first quiet e) = e
 request_expectation (Workers script count turns spread quiet e) = e
-request_expectation (Spec trial) = record { file = None; line = None; no_line = None }
+request_expectation (Spec trial) = record { file = None; line = None; no_line = None; strict = false }
 
 -- what the subcommand of this name asks for, by what was found after it
 abbrev pub Asks : List ℕ → ArgMatches → Request → Type 0

@@ -22,7 +22,8 @@ Example:
 
 Exit status:
   0  the output was written
-  1  the output was written, and isn't what --expect, --expect-line or --reject-line says
+  1  the output was written, and isn't what --expect, --expect-line or --reject-line says, or a command
+     is refused or matches no function under --strict
   2  the script, the picks or the command line is refused
   3  a fault: a failed read or write, or want of memory";
 
@@ -207,15 +208,28 @@ fn with_formats<'a>(alloc: Global, command: Command<'a>) -> Result<Command<'a>, 
     command.arg(summary(alloc))?.arg(json_alone(alloc)?)
 }
 
-/// The command with `[--expect FILE] [--expect-line TEXT] [--reject-line TEXT]` more, which say what its output must
-/// be.
+/// `--strict`.
+fn strict<'a>(alloc: Global) -> Arg<'a>
+    ensures { IsFlag (codes "strict") result }
+{
+    Arg::new(alloc, "strict")
+        .long("strict")
+        .help(
+            "Each command must be done, and the script must have forms, or else the exit status is 1",
+        )
+        .action(ArgAction::SetTrue)
+}
+
+/// The command with `[--expect FILE] [--expect-line TEXT] [--reject-line TEXT] [--strict]` more, which say what its
+/// output must be, and its commands.
 fn with_expectation<'a>(alloc: Global, command: Command<'a>) -> Result<Command<'a>, AllocError>
     ensures { IfOk result (IsWithExpectation command.entry) }
 {
     command
         .arg(expect(alloc))?
         .arg(expect_line(alloc))?
-        .arg(reject_line(alloc))
+        .arg(reject_line(alloc))?
+        .arg(strict(alloc))
 }
 
 /// The subcommand `replay [SCRIPT] [--quiet]` with picks or moves, in a format, and with what its output must be.

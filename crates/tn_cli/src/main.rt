@@ -75,11 +75,11 @@ fn run_schedule<R: Input + Files + Print + Eprint + AllocGlobal>(
     ensures { IsStatus (exit_status result) }
 {
     let PrintArgs { format, quiet } = print_args;
-    if quiet {
+    if quiet && !expectation.strict {
         let job = &schedule;
         perform(rt, script, &InFormat { job, format }, expectation)
     } else {
-        let job = &RunAndNote { schedule };
+        let job = &RunAndNote { schedule, quiet };
         perform(rt, script, &InFormat { job, format }, expectation)
     }
 }
@@ -403,6 +403,7 @@ fn run_request<R: Input + Files + Print + Eprint + AllocGlobal + Threads + Wait 
         file,
         line,
         no_line,
+        strict,
     } = ask.expectation();
     let output = match output_of(rt, file) {
         Ok(output) => output,
@@ -412,6 +413,7 @@ fn run_request<R: Input + Files + Print + Eprint + AllocGlobal + Threads + Wait 
         output: output.as_deref(),
         line: line.map(|text| text.as_bytes()),
         no_line: no_line.map(|text| text.as_bytes()),
+        strict,
     };
     run_so(rt, ask, format, &expectation)
 }

@@ -69,6 +69,8 @@ pub struct ExpectationArgs<'a> {
     pub line: Option<&'a str>,
     /// The line that it must not have.
     pub no_line: Option<&'a str>,
+    /// Whether each command must be done.
+    pub strict: bool,
 }
 
 /// What the command line asks for.
@@ -136,6 +138,7 @@ impl<'a> Request<'a> {
                 file: None,
                 line: None,
                 no_line: None,
+                strict: false,
             },
         }
     }
@@ -295,6 +298,7 @@ fn expectation<'a>(matches: &ArgMatches<'a>) -> ExpectationArgs<'a>
         file: matches.get_str("expect"),
         line: matches.get_str("expect-line"),
         no_line: matches.get_str("reject-line"),
+        strict: flag(matches, "strict"),
     }
 }
 

@@ -6,3 +6,4 @@ pub mod PickTexts
 pub mod Sources
 pub mod Status
 pub mod SpecTests
+pub mod PlainTexts

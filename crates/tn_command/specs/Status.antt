@@ -31,6 +31,14 @@ IsStatus n = (n ≡ LISTED_STATUS) ⊎ ((n ≡ REFUSED_STATUS) ⊎ ((n ≡ FAULT
 abbrev pub status_after_judgement : ℕ → Bool → ℕ
 status_after_judgement n is_met = if n == LISTED_STATUS && not is_met then UNMET_STATUS else n
 
+-- the status of a strict command line, which may be 1 where it would be 0; of another the same
+abbrev pub IsStrictStatus : (strict : Bool) → ℕ → ℕ → Type 0
+IsStrictStatus strict n m = (flawed : Bool) × (m ≡ status_after_judgement n (not (strict && flawed)))
+
+-- and then after what the output must be
+abbrev pub IsStrictJudgement : (strict : Bool) → ℕ → (is_met : Bool) → ℕ → Type 0
+IsStrictJudgement strict n is_met m = (k : ℕ) × IsStrictStatus strict n k × (m ≡ status_after_judgement k is_met)
+
 -- none that tells of success
 abbrev pub IsFailure : ℕ → Type 0
 IsFailure n = (n ≡ REFUSED_STATUS) ⊎ (n ≡ FAULT_STATUS)

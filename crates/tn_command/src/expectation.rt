@@ -15,6 +15,8 @@ pub struct Expectation<'a> {
     pub line: Option<&'a [u8]>,
     /// The output must not have this line.
     pub no_line: Option<&'a [u8]>,
+    /// No command may be refused or match no function, and the script must have forms. This isn't about the output.
+    pub strict: bool,
 }
 
 /// Whether one of the lines of a text is this one.
@@ -38,6 +40,7 @@ impl Expectation<'_> {
         output: None,
         line: None,
         no_line: None,
+        strict: false,
     };
 
     /// Whether nothing is expected, so that each output meets it.

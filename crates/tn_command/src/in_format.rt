@@ -4,7 +4,7 @@ ghost use Rattle.tn_command.specs.JobFormats.{text_in_format};
 
 use crate::command::Command;
 use crate::stderr::NamedText;
-use std::alloc::{AllocError, Allocator};
+use std::alloc::{AllocError, Allocator, Global};
 use tn_formats::{Format, in_format};
 use tn_listing::PicksFault;
 use tn_program::Program;
@@ -82,5 +82,9 @@ impl<J: Command> Command for InFormat<'_, J> {
         script: NamedText<'_>,
     ) {
         self.job.tell_outcome(rt, outcome, script)
+    }
+
+    fn is_flawed(&self, alloc: Global, outcome: &J::Outcome, script: NamedText<'_>) -> bool {
+        self.job.is_flawed(alloc, outcome, script)
     }
 }

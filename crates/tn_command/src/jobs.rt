@@ -6,14 +6,15 @@ ghost use Rattle.tn_text.specs.Watch.{watched_inner};
 ghost use Rattle.tn_command.specs.Ends.{last_error_inner, tee_text};
 ghost use Rattle.tn_command.specs.Expectations.{meets_expectation};
 ghost use Rattle.tn_command.specs.Status.{IsStatus, OnFaultUntouchedOrFailed, WroteAs};
-ghost use Rattle.tn_command.specs.Status.{status_after_judgement, status_of};
+ghost use Rattle.tn_command.specs.Status.{IsStrictStatus, IsStrictJudgement, status_of};
 
 use crate::command::Command;
 use crate::expectation::Expectation;
 use crate::judgement::judge;
 use crate::last_error::LastError;
+use crate::plain_text::{escape_controls, plain_name};
 use crate::source::{Source, open};
-use crate::status::{JobEnd, job_status};
+use crate::status::{JobEnd, job_status, judge_status};
 use crate::stderr::{NamedText, tell_fault};
 use crate::tee::Tee;
 use std::alloc::{Allocator, Global};
@@ -64,29 +65,38 @@ pub(crate) fn script_of<'a, R>(alloc: Global, name: &'a str, reader: R) -> Named
     NamedScript { name, reader }
 }
 
-/// The status of a job, after a line on standard error where its answer isn't what was asked for.
+/// The status of a job, after a line on standard error where its answer isn't what was asked for. Where a strict
+/// command line takes the outcome as a fault of the script, it is 1 in place of 0.
 pub(crate) fn print_end<R: Eprint + AllocGlobal, J: Command, S: Drop>(
     rt: &R,
     job: &J,
     end: JobEnd<J::Outcome, J::Fault>,
     script: NamedScript<'_, S>,
     unwritten: Option<Error>,
+    strict: bool,
 ) -> ExitCode
-    ensures { exit_status result ≡ exit_status end.status }
+    ensures { IsStrictStatus strict (exit_status end.status) (exit_status result) }
 {
     let JobEnd { status, answer } = end;
     let NamedScript { name, reader } = script;
     let (reader, unread) = reader.into_inner().into_parts();
     let (_, bytes) = reader.into_parts();
+    let plain = escape_controls(rt.alloc(), name);
     let text = NamedText {
-        name,
+        name: plain_name(&plain, INPUT),
         bytes: &bytes,
     };
     match answer {
-        Ok(outcome) => job.tell_outcome(rt, outcome, text),
-        Err(fault) => tell_fault(rt, &fault, unread.or(unwritten)),
+        Ok(outcome) => {
+            let flawed = strict && job.is_flawed(rt.alloc(), &outcome, text);
+            job.tell_outcome(rt, outcome, text);
+            judge_status(status, !flawed)
+        }
+        Err(fault) => {
+            tell_fault(rt, &fault, unread.or(unwritten));
+            status
+        }
     }
-    status
 }
 
 /// Why a writer failed, where it did.
@@ -104,12 +114,12 @@ pub(crate) fn print_judgement<R: Eprint + AllocGlobal, J: Command, S: Drop, W: D
     writer: Recorder<W>,
     expectation: &Expectation<'_>,
 ) -> ExitCode
-    ensures { exit_status result ≡ status_after_judgement (exit_status end.status)
-        (meets_expectation expectation.now (tee_text (last_error_inner (watched_inner writer)))) }
+    ensures { IsStrictJudgement expectation.now.strict (exit_status end.status)
+        (meets_expectation expectation.now (tee_text (last_error_inner (watched_inner writer)))) (exit_status result) }
 {
     let (tee, error) = writer.into_inner().into_parts();
     let (_, output) = tee.into_parts();
-    let status = print_end(rt, job, end, script, error);
+    let status = print_end(rt, job, end, script, error, expectation.strict);
     judge(rt, status, &output, expectation)
 }
 
@@ -127,7 +137,14 @@ fn print_job<R: Print + Eprint + AllocGlobal, S: Read + Drop, J: Command + Direc
     if expectation.is_none() {
         let mut writer = Watched::of(LastError::of(io::writer(rt)));
         let end = perform_over(rt.alloc(), job, &mut script.reader, &mut writer);
-        return print_end(rt, job, end, script, write_error(writer));
+        return print_end(
+            rt,
+            job,
+            end,
+            script,
+            write_error(writer),
+            expectation.strict,
+        );
     }
     let mut writer = Watched::of(LastError::of(Tee::of(rt.alloc(), io::writer(rt))));
     let end = perform_over(rt.alloc(), job, &mut script.reader, &mut writer);

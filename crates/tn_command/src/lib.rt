@@ -9,7 +9,9 @@
 //! would be. Promises of a job in a format that it writes the text in that format of what the job writes. Promises
 //! of a text of picks that it is what the reader holds, without a line feed at its end. A refusal or a fault has one
 //! line on standard error: how the text can be fixed, or what failed. A pipe that was closed has none. So has a run
-//! that a running node is known to do otherwise: at how many of its moves.
+//! that a running node is known to do otherwise: at how many of its moves; and each of its commands that is refused
+//! or matches no function. Names are printed without control characters, which `escape_controls` replaces. Where a
+//! command line is strict, the status is 1 where it would be 0 and a command is refused or matches no function.
 #![tactic(auto)]
 
 mod command;
@@ -23,6 +25,8 @@ mod last_error;
 mod moves_line;
 mod number;
 mod picks;
+mod plain_text;
+mod remarks;
 mod source;
 mod spec_format;
 mod spec_test;
@@ -42,6 +46,7 @@ pub use jobs::{perform, perform_over};
 pub use last_error::LastError;
 pub use number::plain_number;
 pub use picks::{picks_of, picks_over};
+pub use plain_text::escape_controls;
 pub use source::{Source, source_of};
 pub use spec_format::test_spec_in_format_over;
 pub use spec_test::{SpecTestRunFault, test_spec, test_spec_over};

@@ -4,6 +4,7 @@ ghost use Rattle.std.specs.Process.{exit_status};
 ghost use Rattle.tn_command.specs.Sources.{IsSourceOf};
 ghost use Rattle.tn_command.specs.Status.{IsFailure};
 
+use crate::plain_text::{escape_controls, plain_name};
 use crate::status::{FAULT, REFUSED};
 use std::fs::OpenFile;
 use std::io::ErrorKind;
@@ -57,13 +58,15 @@ fn is_mistaken(kind: ErrorKind) -> bool {
 ///
 /// The status, after a line on standard error: that of a refusal where the path names no file that may be
 /// read, that of a fault where the system failed.
-pub fn open<R: Files + Eprint>(rt: &R, path: &str) -> Result<R::File, ExitCode>
+pub fn open<R: Files + Eprint + AllocGlobal>(rt: &R, path: &str) -> Result<R::File, ExitCode>
     ensures { IfErr result (λ status. IsFailure (exit_status status)) }
 {
     match open_file(rt, path) {
         Ok(file) => Ok(file),
         Err(error) => {
-            let _ = rt.eprintln(format_args!("error: {path}: {error}"));
+            let plain = escape_controls(rt.alloc(), path);
+            let name = plain_name(&plain, "the file");
+            let _ = rt.eprintln(format_args!("error: {name}: {error}"));
             let status = if is_mistaken(error.kind()) {
                 REFUSED
             } else {

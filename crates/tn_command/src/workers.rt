@@ -6,10 +6,11 @@ ghost use Rattle.tn_run.specs.Jobs.{Meets};
 ghost use Rattle.tn_run.specs.Workers.{IsWorkerCount};
 ghost use Rattle.tn_command.specs.Status.{IsStatus, OnFaultUntouchedOrFailed, WroteAs, status_of};
 
-use crate::command::Command;
+use crate::command::{Command, is_remarked};
 use crate::expectation::Expectation;
 use crate::jobs::{INPUT, print_end, print_judgement, script_of, write_error};
 use crate::last_error::LastError;
+use crate::remarks::{tell_empty_script, tell_remarks};
 use crate::source::{Source, open};
 use crate::status::{JobEnd, job_status};
 use crate::stderr::{NamedText, tell_note, tell_refusal};
@@ -93,10 +94,19 @@ impl Command for WorkersRun<'_> {
             Outcome::Refused(refusal) => tell_refusal(rt, refusal, script, b""),
             Outcome::Listed if !self.has_note => {}
             Outcome::Listed => {
+                tell_empty_script(rt, script);
+                tell_remarks(rt, script, &ran.picks);
                 if let Ok(Some(note)) = text_note(rt.alloc(), script.bytes, &ran.picks) {
                     tell_note(rt, note, "explain --node, by the picks of the journal,");
                 }
             }
+        }
+    }
+
+    fn is_flawed(&self, alloc: Global, ran: &Ran, script: NamedText<'_>) -> bool {
+        match ran.outcome {
+            Outcome::Refused(_) => false,
+            Outcome::Listed => is_remarked(alloc, script, &ran.picks),
         }
     }
 }
@@ -142,7 +152,14 @@ fn print_run<R: Print + Eprint + AllocGlobal + Threads + Wait + Sync, S: Read + 
             workers,
             job.format,
         );
-        return print_end(rt, job, end, script, write_error(writer));
+        return print_end(
+            rt,
+            job,
+            end,
+            script,
+            write_error(writer),
+            job.expectation.strict,
+        );
     }
     let mut writer = Watched::of(LastError::of(Tee::of(rt.alloc(), io::writer(rt))));
     let script_reader = &mut script.reader;

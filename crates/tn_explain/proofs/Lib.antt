@@ -19,3 +19,6 @@ pub mod NodeFlags
 pub mod NodeNotes
 pub mod CommandReasons
 mod CommandDifferences
+pub mod CommandStarts
+pub mod Remarks
+pub mod ReplyTexts

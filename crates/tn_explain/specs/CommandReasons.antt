@@ -1,11 +1,12 @@
 -- What the code's reasons why a command is refused stand for, and those of the code's sessions and functions.
-use Rattle.std.specs.Prelude.{◌≡◌, ℕ, ◌==◌, Bool, List, length, drop, filter, Option, Some}
+use Rattle.std.specs.Prelude.{◌≡◌, ℕ, ◌==◌, Bool, List, length, drop, filter, Option, Some, None}
 use Rattle.std.specs.Option.{option_map}
 use Rattle.std.specs.Borrow.{Bor}
 use Rattle.def_term.specs.Alive.{Alive}
 use Rattle.def_term.specs.Tree.{Tree}
 use Rattle.def_script.specs.Program.{Command}
 use Rattle.def_script.specs.Exports.{Exports, visible}
+use Rattle.def_spec.specs.Reading.{SpecFault, badarg, unsupported}
 use Rattle.def_session.specs.Settings.{FunctionSetting, has_among}
 use Rattle.def_session.specs.State as definition
 use Rattle.def_session.specs.Commands.{matching_count}
@@ -57,6 +58,11 @@ no_flag_text t = command_reason_text (reasons.no_flag t)
 -- that a process isn't alive
 abbrev pub not_alive_text : ℕ → List ℕ
 not_alive_text n = command_reason_text (reasons.not_alive n)
+
+-- the fault of a specification that uses an unsupported function of this name, or another
+abbrev pub fault_of_name : Option (Bor (List ℕ)) → SpecFault
+fault_of_name None = badarg
+fault_of_name (Some s) = unsupported s.now
 
 -- ---- of the code's functions and sessions
 

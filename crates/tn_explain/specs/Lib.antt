@@ -14,3 +14,6 @@ pub mod Notes
 pub mod CommandReasons
 pub mod ClauseDifferences
 pub mod CommandDifferences
+pub mod CommandStarts
+pub mod RemarkedSessions
+pub mod RemarkLines

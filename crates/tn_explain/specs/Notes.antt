@@ -5,6 +5,8 @@ use Rattle.def_script.specs.Program.{Program}
 use Rattle.def_script.specs.Script.{Refusal}
 use Rattle.def_explain.specs.NodeMoves as definition
 use Rattle.def_explain.specs.NodeMoves.{node_note}
+use Rattle.def_explain.specs.Remarks.{has_remarks}
+use Rattle.tn_trace.specs.Transcripts.{TranscriptValue, transcript_of}
 use Rattle.tn_refusal.specs.Refusals.{refusal_of}
 use Rattle.tn_run.specs.Answers.{ScheduleView, schedule_seen, ArePicks, HasPicks, IsRunListing, run_by}
 use Rattle.tn_run.specs.Jobs.{JobView, Gives, failed_end}
@@ -12,6 +14,7 @@ use Rattle.tn_run.specs.declared.outcome.Outcome.{Outcome}
 use Rattle.tn_run.specs.declared.outcome.Outcome.TheVariants as run
 use Rattle.tn_run.specs.declared.fault.RunFault.{RunFault}
 use Rattle.tn_explain.specs.declared.note.NodeNote.{NodeNote}
+use Rattle.tn_explain.specs.declared.note.RunNotes.{RunNotes}
 use Rattle.tn_explain.specs.declared.run_and_note.RunAndNote.{RunAndNote}
 use Rattle.tn_explain.specs.declared.run_and_note.RunEnd.{RunEnd}
 use Rattle.tn_explain.specs.declared.run_and_note.RunEnd.TheVariants.{Listed, Refused}
@@ -19,31 +22,42 @@ use Rattle.tn_explain.specs.declared.run_and_note.RunEnd.TheVariants.{Listed, Re
 abbrev pub note_seen : NodeNote → definition.NodeNote
 note_seen n = record { differing = n.differing; moves = n.moves }
 
--- the note of the program's run by the picks that are asked for
-pub record HasNote (a : ScheduleView) (p : Program) (note : Option NodeNote) : Type 0 where
+-- the notes of the program's run by these picks: what a running node does otherwise, and whether a command is refused or matches no function
+pub record AreNotes (p : Program) (picks : List ℕ) (notes : RunNotes) : Type 0 where
+  pub node : option_map note_seen notes.node ≡ node_note p picks
+  pub remarks : notes.has_remarks ≡ has_remarks p picks
+
+-- the transcript of the program's run by the picks that are asked for
+pub record IsTranscriptBy (a : ScheduleView) (p : Program) (t : TranscriptValue) : Type 0 where
   pub picks : List ℕ
   pub given : ArePicks a p picks
-  pub is : option_map note_seen note ≡ node_note p picks
+  pub is : t ≡ transcript_of p picks
 
--- the output is that of the program, and the note that of its run, where the outcome is its listing
-abbrev pub IsListedWithNote : ScheduleView → Program → RunEnd → List ℕ → Type 0
-IsListedWithNote a p (Listed note) output = IsRunListing a p output × HasNote a p note
-IsListedWithNote a p (Refused r) output = ⊥
+-- the notes of the program's run by the picks that are asked for
+pub record HasNotes (a : ScheduleView) (p : Program) (notes : RunNotes) : Type 0 where
+  pub picks : List ℕ
+  pub given : ArePicks a p picks
+  pub are : AreNotes p picks notes
+
+-- the output is that of the program, and the notes those of its run, where the outcome is its listing
+abbrev pub IsListedWithNotes : ScheduleView → Program → RunEnd → List ℕ → Type 0
+IsListedWithNotes a p (Listed notes) output = IsRunListing a p output × HasNotes a p notes
+IsListedWithNotes a p (Refused r) output = ⊥
 
 -- the refusal that an outcome is
 abbrev pub end_refusal : RunEnd → Option Refusal
-end_refusal (Listed n) = None
+end_refusal (Listed notes) = None
 end_refusal (Refused r) = Some (refusal_of r)
 
 -- the outcome is the listing of an accepted script
 abbrev pub is_listing : RunEnd → Bool
-is_listing (Listed n) = true
+is_listing (Listed notes) = true
 is_listing (Refused r) = false
 
 -- a run by a schedule, with its note
 abbrev pub run_and_note : RunAndNote → JobView RunEnd RunFault
 run_and_note q = record {
-  of_program = IsListedWithNote (schedule_seen q.schedule);
+  of_program = IsListedWithNotes (schedule_seen q.schedule);
   refusal_in = end_refusal;
   succeeds = is_listing;
   has = λ end. Unit {0};
@@ -53,7 +67,7 @@ run_and_note q = record {
 
 -- what it is without its note
 abbrev pub run_outcome : RunEnd → Outcome
-run_outcome (Listed n) = run.Listed
+run_outcome (Listed notes) = run.Listed
 run_outcome (Refused r) = run.Refused r
 
 -- what it gives is what the run by its schedule gives

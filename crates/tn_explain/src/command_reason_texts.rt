@@ -1,17 +1,25 @@
 // The texts of why a command is refused, or matches no function.
-ghost use Rattle.std.specs.Prelude.{◌≡◌, ◌++◌, OnOk};
+ghost use Rattle.std.specs.Prelude.{◌≡◌, ◌++◌, IfOk, OnOk};
+ghost use Rattle.std.specs.Option.{option_map};
+ghost use Rattle.def_term.specs.Text.{w};
 ghost use Rattle.def_spec.specs.Flags.{flags_by_name};
+ghost use Rattle.def_session.specs.Commands.{fault_term};
+ghost use Rattle.def_explain.specs.SpecReasons.{reason_fault};
+ghost use Rattle.def_explain.specs.CommandReasons.{reply_of};
+ghost use Rattle.def_explain.specs.Remarks.{reply_and_reason};
 ghost use Rattle.def_explain.specs.ReasonTexts.{found_text, flag_names, command_reason_text, reason_after_reply};
 ghost use Rattle.tn_term.specs.Views.{tree_of};
 ghost use Rattle.tn_text.specs.Writes.{Grows};
 ghost use Rattle.tn_explain.specs.CommandReasons.{command_reason_seen, command_reasons_seen, no_flag_text};
-ghost use Rattle.tn_explain.specs.CommandReasons.{not_alive_text};
+ghost use Rattle.tn_explain.specs.RemarkedSessions.{text_seen};
+ghost use Rattle.tn_explain.specs.CommandReasons.{not_alive_text, fault_of_name};
+ghost use Rattle.tn_verdict.specs.SpecReasons.{spec_reason_seen};
 
 use crate::command_reasons::CommandReason;
 use std::alloc::{AllocError, Allocator};
-use tn_term::Term;
-use tn_text::write_term;
-use tn_verdict::{put_pid, put_setting_reason};
+use tn_term::{Atom, Term};
+use tn_text::{write_atom, write_term};
+use tn_verdict::{ClauseReason, ExpressionReason, SpecReason, put_pid, put_setting_reason};
 
 /// Appends what should stand there, and what there is in its place.
 fn put_found<A: Allocator, B: Allocator>(
@@ -110,4 +118,85 @@ pub(crate) fn put_reason_after_reply<A: Allocator, B: Allocator>(
         }
         None => Ok(()),
     }
+}
+
+/// The name that a specification uses and that isn't supported, where that is why it is none.
+fn unsupported_name<'a, A: Allocator>(why: SpecReason<'a, A>) -> Option<&'a Atom<A>>
+    ensures { reason_fault (spec_reason_seen why.entry) ≡ fault_of_name result }
+{
+    let why = match why {
+        SpecReason::AtClause(_, ClauseReason::OfCondition(_, why)) => why,
+        SpecReason::AtClause(_, ClauseReason::OfBody(_, why)) => why,
+        _ => return None,
+    };
+    match why {
+        ExpressionReason::NotSupported(name) => Some(name),
+        _ => None,
+    }
+}
+
+/// Appends the reply to a command whose specification is none.
+fn put_fault<A: Allocator, B: Allocator>(
+    why: SpecReason<'_, A>,
+    out: &mut Vec<u8, B>,
+) -> Result<(), AllocError>
+    ensures ok { OnOk result (out.new.items ≡
+        out.old.items ++ w (fault_term (reason_fault (spec_reason_seen why.entry)))) }
+    ensures grows { Grows out.old.items out.new.items }
+{
+    match unsupported_name(why) {
+        Some(name) => {
+            out.extend_from_slice(b"{unsupported,")?;
+            write_atom(name, out)?;
+            out.extend_from_slice(b"}")
+        }
+        None => out.extend_from_slice(b"badarg"),
+    }
+}
+
+/// Appends the reply to a command that is refused, or matches no function.
+#[tactic(auto, unfolding(def_term::specs::Text::is_written_bare))]
+fn put_reply<A: Allocator, B: Allocator>(
+    why: CommandReason<'_, A>,
+    out: &mut Vec<u8, B>,
+) -> Result<(), AllocError>
+    ensures ok { OnOk result (out.new.items ≡ out.old.items ++ w (reply_of (command_reason_seen why.entry))) }
+    ensures grows { Grows out.old.items out.new.items }
+{
+    match why {
+        CommandReason::NoSpecification(why) => put_fault(why, out),
+        CommandReason::NoMatch => out.extend_from_slice(b"0"),
+        CommandReason::NoExportedMatch => out.extend_from_slice(b"0"),
+        _ => out.extend_from_slice(b"badarg"),
+    }
+}
+
+/// Appends the reply to a command that is refused, or matches no function, and why it is this one.
+fn put_reply_and_reason<A: Allocator, B: Allocator>(
+    why: CommandReason<'_, A>,
+    out: &mut Vec<u8, B>,
+) -> Result<(), AllocError>
+    ensures ok { OnOk result (out.new.items ≡ out.old.items ++ reply_and_reason (command_reason_seen why.entry)) }
+    ensures grows { Grows out.old.items out.new.items }
+{
+    out.extend_from_slice(b"replies ")?;
+    put_reply(why, out)?;
+    out.extend_from_slice(b": ")?;
+    put_command_reason(why, out)
+}
+
+/// The reply to a command with why it is this one, where there is a reason.
+pub(crate) fn reason_text<A: Allocator + Copy>(
+    alloc: A,
+    why: Option<CommandReason<'_, A>>,
+) -> Result<Option<Vec<u8, A>>, AllocError>
+    ensures { IfOk result (λ t. text_seen t ≡
+        option_map reply_and_reason (command_reasons_seen why.entry)) }
+{
+    let Some(why) = why else {
+        return Ok(None);
+    };
+    let mut text = Vec::new(alloc);
+    put_reply_and_reason(why, &mut text)?;
+    Ok(Some(text))
 }

@@ -268,7 +268,7 @@ fn live_reason<'a, A: Allocator + Copy>(
 }
 
 /// Why a session that isn't there refuses the command.
-fn absent_reason<'a, A: Allocator>(command: &Command<A>) -> Option<CommandReason<'a, A>>
+pub(crate) fn absent_reason<'a, A: Allocator>(command: &Command<A>) -> Option<CommandReason<'a, A>>
     ensures { command_reasons_seen result ≡ absent_reason (command_of command.now) }
 {
     match command {

@@ -10,7 +10,8 @@
 //! nothing where memory is refused; and that `explain` writes exactly that account, or the line of the one
 //! refusal, or nothing where the session or the move that the filter names isn't there, and says which; and that a
 //! fault says which end failed, and how many bytes of it were taken; that the note of a run is the defined one,
-//! and that a run with its note writes what the run writes.
+//! and that a run with its notes writes what the run writes; and that the lines of what is remarked of a run are the
+//! defined ones: of each command that is refused or matches no function where it begins, its reply and why.
 #![tactic(auto)]
 
 mod account;
@@ -22,9 +23,11 @@ mod clauses;
 mod command_differences;
 mod command_reason_texts;
 mod command_reasons;
+mod command_starts;
 mod creations;
 mod differences;
 mod discard;
+mod empty_scripts;
 mod ends;
 mod evaluation_differences;
 mod event;
@@ -39,8 +42,12 @@ mod messages;
 mod node_commands;
 mod node_moves;
 mod note;
+mod remark_observer;
+mod reply_lines;
 mod request;
 mod run_and_note;
+mod run_output;
+mod run_remarks;
 mod selection;
 mod session_differences;
 mod sessions;
@@ -51,6 +58,7 @@ mod step_differences;
 pub use account::put_account;
 pub use answers::account_of;
 pub use command_reasons::CommandReason;
+pub use empty_scripts::has_no_forms;
 pub use event::put_event_lines;
 pub use filter::Filter;
 pub use job::explain;
@@ -58,6 +66,7 @@ pub use laws::a_run_with_a_note_is_a_run;
 pub use line::{put_command_difference, put_command_line};
 pub use node_commands::can_differ;
 pub use node_moves::differing_moves;
-pub use note::{NodeNote, node_note, text_note};
+pub use note::{NodeNote, RunNotes, node_note, text_note};
 pub use request::{ExplainOutcome, ExplainRequest};
 pub use run_and_note::{RunAndNote, RunEnd};
+pub use run_remarks::{remark_lines, round_remark_lines, text_has_remarks};

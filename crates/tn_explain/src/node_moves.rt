@@ -20,7 +20,7 @@ pub(crate) struct NodeMoves<A: Allocator> {
 }
 
 /// What selects no move.
-const NOTHING: Selection<'static> = Selection {
+pub(crate) const NOTHING: Selection<'static> = Selection {
     session: None,
     move_number: None,
     among: Some(&[]),

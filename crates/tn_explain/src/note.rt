@@ -21,6 +21,15 @@ pub struct NodeNote {
     pub moves: usize,
 }
 
+/// What is said of a run on standard error.
+#[derive(Clone, Copy, Debug, PartialEq, Eq, Drop)]
+pub struct RunNotes {
+    /// That a running node does some of its moves otherwise.
+    pub node: Option<NodeNote>,
+    /// Whether one of its commands is refused, or matches no function.
+    pub has_remarks: bool,
+}
+
 /// The note of these moves, each with whether a node does it otherwise; None where it does none so.
 fn note_of(differs: &[bool]) -> Option<NodeNote>
     ensures { option_map note_seen result ≡ note_of differs.now }

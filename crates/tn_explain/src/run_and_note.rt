@@ -1,66 +1,99 @@
-// A run by a schedule, with the note of what a running node does otherwise.
+// A run by a schedule, with the notes of it.
 ghost use Rattle.std.specs.Prelude.{◌≡◌, IfOk};
-ghost use Rattle.std.specs.Option.{option_map};
+ghost use Rattle.def_explain.specs.Remarks.{has_remarks};
 ghost use Rattle.tn_program.specs.Views.{program_of};
+ghost use Rattle.tn_listing.specs.Outputs.{OnItsPicks};
 ghost use Rattle.tn_run.specs.Answers.{IsSpelledBy, schedule_seen};
-ghost use Rattle.def_run.specs.Round.{round};
-ghost use Rattle.def_explain.specs.NodeMoves.{node_note};
-ghost use Rattle.tn_explain.specs.Notes.{HasNote, note_seen};
+ghost use Rattle.tn_explain.specs.Notes.{AreNotes, IsTranscriptBy, IsListedWithNotes};
 
-use crate::node_commands::can_differ;
-use crate::note::{NodeNote, node_note};
+use crate::note::{RunNotes, node_note};
+use crate::remark_observer::program_has_remarks;
+use crate::reply_lines::has_reason_line;
+use crate::run_output::transcript_output;
+use crate::run_remarks::front_of_picks;
 use std::alloc::{AllocError, Allocator};
 use tn_listing::PicksFault;
 use tn_program::Program;
-use tn_run::{DirectJob, Job, Outcome, Refusal, RunFault, Schedule};
+use tn_run::{DirectJob, Job, Refusal, RunFault, Schedule};
 use tn_trace::Transcript;
 
-/// A run by a schedule, whose outcome has the note of what a running node does otherwise.
+/// A run by a schedule, whose outcome has the notes of the run.
 #[derive(Clone, Copy)]
 pub struct RunAndNote<'a> {
     pub schedule: Schedule<'a>,
+    /// Whether the notes are for the exit status alone.
+    pub quiet: bool,
 }
 
 /// What was written.
 #[derive(Clone, Copy, Debug, PartialEq, Eq, Drop)]
 pub enum RunEnd {
-    /// The output of an accepted script, whose run has this note.
-    Listed(Option<NodeNote>),
+    /// The output of an accepted script, whose run has these notes.
+    Listed(RunNotes),
     /// The refusal's line.
     Refused(Refusal),
 }
 
-/// The note of a program's round, in which so many picks may move. Where no command can lead to a difference nothing
-/// is run.
-fn round_note<A: Allocator + Copy>(
-    alloc: A,
-    program: &Program<A>,
-    limit: u32,
-) -> Result<Option<NodeNote>, AllocError>
-    ensures { IfOk result (λ n. option_map note_seen n ≡
-        node_note (program_of program.now) (round (program_of program.now) limit)) }
-{
-    if !can_differ(alloc, program)? {
-        return Ok(None);
-    }
-    let transcript = Transcript::of_round(alloc, program, limit)?;
-    node_note(alloc, program, transcript.journal())
-}
-
-/// The note of a program's run by a schedule, whose text of picks spells these.
-fn schedule_note<A: Allocator + Copy>(
+/// The transcript of a program's run by a schedule, whose text of picks spells these.
+fn transcript_by<A: Allocator + Copy>(
     alloc: A,
     program: &Program<A>,
     schedule: &Schedule<'_>,
     picks: &[u32],
-) -> Result<Option<NodeNote>, AllocError>
+) -> Result<Transcript<A>, AllocError>
     requires { IsSpelledBy (schedule_seen schedule.now) picks.now }
-    ensures { IfOk result (HasNote (schedule_seen schedule.now) (program_of program.now)) }
+    ensures { IfOk result (IsTranscriptBy (schedule_seen schedule.now) (program_of program.now)) }
 {
     match schedule {
-        Schedule::Picks(_) => node_note(alloc, program, picks),
-        Schedule::Round(limit) => round_note(alloc, program, *limit),
+        Schedule::Picks(_) => Ok(Transcript::of_picks(alloc, program, picks)?),
+        Schedule::Round(limit) => Ok(Transcript::of_round(alloc, program, *limit)?),
     }
+}
+
+/// Whether something is remarked of the run of this transcript. Where no line of the replies
+/// begins as one that has a reason nothing is run, and else up to the last command.
+fn has_remarks<A: Allocator + Copy>(
+    alloc: A,
+    program: &Program<A>,
+    transcript: &Transcript<A>,
+) -> Result<bool, AllocError>
+    ensures { OnItsPicks program.now transcript.now (λ p picks. IfOk result (λ b. b ≡ has_remarks p picks)) }
+{
+    if !has_reason_line(transcript.replies()) {
+        return Ok(false);
+    }
+    program_has_remarks(alloc, program, front_of_picks(transcript.journal()))
+}
+
+/// The notes of the run of this transcript.
+fn notes_of<A: Allocator + Copy>(
+    alloc: A,
+    program: &Program<A>,
+    transcript: &Transcript<A>,
+) -> Result<RunNotes, AllocError>
+    ensures { OnItsPicks program.now transcript.now (λ p picks. IfOk result (AreNotes p picks)) }
+{
+    Ok(RunNotes {
+        node: node_note(alloc, program, transcript.journal())?,
+        has_remarks: has_remarks(alloc, program, transcript)?,
+    })
+}
+
+/// The output of a program by a schedule, whose text of picks spells these, and the notes of its run.
+fn listing_and_notes<A: Allocator + Copy>(
+    alloc: A,
+    program: &Program<A>,
+    schedule: &Schedule<'_>,
+    picks: &[u32],
+) -> Result<(RunEnd, Vec<u8, A>), AllocError>
+    requires { IsSpelledBy (schedule_seen schedule.now) picks.now }
+    ensures { IfOk result (λ r.
+        IsListedWithNotes (schedule_seen schedule.now) (program_of program.now) r.0 r.1.items) }
+{
+    let transcript = transcript_by(alloc, program, schedule, picks)?;
+    let output = transcript_output(alloc, &transcript, program)?;
+    let notes = notes_of(alloc, program, &transcript)?;
+    Ok((RunEnd::Listed(notes), output))
 }
 
 impl<A: Allocator + Copy> Job<A> for RunAndNote<'_> {
@@ -102,12 +135,8 @@ impl<A: Allocator + Copy> DirectJob<A> for RunAndNote<'_> {
         picks: &[u32],
         program: &Program<A>,
     ) -> Result<(RunEnd, Vec<u8, A>), RunFault> {
-        let (outcome, output) = self.schedule.answer(alloc, picks, program)?;
-        if let Outcome::Refused(refusal) = outcome {
-            return Ok((RunEnd::Refused(refusal), output));
-        }
-        match schedule_note(alloc, program, &self.schedule, picks) {
-            Ok(note) => Ok((RunEnd::Listed(note), output)),
+        match listing_and_notes(alloc, program, &self.schedule, picks) {
+            Ok(answer) => Ok(answer),
             Err(_) => Err(RunFault::OutOfMemory),
         }
     }

@@ -66,7 +66,10 @@ fn start<R: Env + Input + Files + Print + Eprint + AllocGlobal>(rt: &R) -> ExitC
         Some(schedule) => perform(
             rt,
             Source::Input,
-            &RunAndNote { schedule },
+            &RunAndNote {
+                schedule,
+                quiet: false,
+            },
             &Expectation::NONE,
         ),
         None => {

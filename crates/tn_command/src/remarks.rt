@@ -1,0 +1,52 @@
+// What is remarked of a run on standard error.
+use crate::stderr::NamedText;
+use std::alloc::Global;
+use tn_explain::{has_no_forms, remark_lines, round_remark_lines};
+use tn_listing::read_picks;
+use tn_run::{Denial, Schedule};
+
+/// Prints lines, where there was memory for them.
+fn print_lines<R: Eprint>(rt: &R, lines: Result<Vec<u8>, Denial>) {
+    let Ok(lines) = lines else {
+        return;
+    };
+    if let Ok(text) = str::from_utf8(&lines) {
+        if let Some(text) = text.strip_suffix("\n") {
+            let _ = rt.eprintln(text);
+        }
+    }
+}
+
+/// Says of a script that it has no forms, where it has none.
+pub(crate) fn tell_empty_script<R: Eprint>(rt: &R, script: NamedText<'_>) {
+    if has_no_forms(script.bytes) {
+        let _ = rt.eprintln("note: the script has no forms");
+    }
+}
+
+/// Says of each command of the run by these picks that is refused or matches no function why, in a line.
+pub(crate) fn tell_remarks<R: Eprint + AllocGlobal>(rt: &R, script: NamedText<'_>, picks: &[u32]) {
+    print_lines(
+        rt,
+        remark_lines::<Global>(rt.alloc(), script.name, script.bytes, picks),
+    );
+}
+
+/// The same of the run by a schedule.
+pub(crate) fn tell_schedule_remarks<R: Eprint + AllocGlobal>(
+    rt: &R,
+    script: NamedText<'_>,
+    schedule: Schedule<'_>,
+) {
+    match schedule {
+        Schedule::Picks(text) => {
+            if let Ok(picks) = read_picks::<Global>(rt.alloc(), text) {
+                tell_remarks(rt, script, &picks);
+            }
+        }
+        Schedule::Round(limit) => print_lines(
+            rt,
+            round_remark_lines::<Global>(rt.alloc(), script.name, script.bytes, limit),
+        ),
+    }
+}

@@ -1,0 +1,8 @@
+use Rattle.std.proofs.Common.{◌≡◌, ◌++◌, drop}
+use Rattle.tn_explain.specs.RemarkedSessions.{texts_seen}
+use Rattle.tn_explain.specs.RemarkLines.{lines_of_texts}
+use Rattle.tn_explain.proofs.run_remarks.put_lines.Given as goal
+
+abbrev pub invariant-loop-place : goal.invariant-loop-place
+invariant-loop-place g l =
+    l.out.items ++ lines_of_texts l.name l.text l.starts l.place (texts_seen (drop l.place l.texts.items)) ≡ l.initial.out.items ++ lines_of_texts l.name l.text l.starts 0 (texts_seen l.texts.items)

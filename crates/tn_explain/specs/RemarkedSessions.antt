@@ -1,0 +1,49 @@
+-- What the code's observer of remarks stands for, and what it adds of one more pick.
+use Rattle.std.specs.Prelude.{◌≡◌, ℕ, Bool, List, ◌++◌, map, Option}
+use Rattle.std.specs.List.{list_any}
+use Rattle.std.specs.Option.{option_map, is_some}
+use Rattle.std.specs.declared.vec.Vec.{Vec}
+use Rattle.def_script.specs.Program.{Program, session_of}
+use Rattle.def_script.specs.Exports.{Exports, exports_of, visible}
+use Rattle.def_run.specs.Run.{pick_step_after}
+use Rattle.def_run.specs.History.{NamedSession, moments_from, session_in}
+use Rattle.def_explain.specs.CommandReasons.{CommandReason, command_reason}
+use Rattle.def_explain.specs.Remarks.{reasons_in, reply_and_reason}
+use Rattle.tn_term.specs.Views.{alive_of}
+use Rattle.tn_flags.specs.Views.{command_of}
+use Rattle.tn_script.specs.Views.{functions_of}
+use Rattle.tn_trace.specs.Slots.{EachPair}
+use Rattle.tn_trace.specs.declared.slot.Slot.{Slot}
+use Rattle.tn_explain.specs.Explainers.{sessions_after}
+use Rattle.tn_explain.specs.NamedSessions.{HasState, AreNamedSessions}
+use Rattle.tn_explain.specs.declared.slots.Order.{Order}
+use Rattle.tn_explain.specs.declared.discard.Discard.{Discard}
+use Rattle.tn_explain.specs.declared.remark_observer.RemarkObserver.{RemarkObserver}
+
+-- why the session of a command among these refuses it, or matches no function by it
+abbrev pub SlotsHaveReason : {A : Type 0} → Order A → List (Slot A Discard) → Option CommandReason → Type 0
+SlotsHaveReason order slots r =
+    (o : Exports) → o.functions ≡ visible (functions_of order.functions.now) → (ss : List NamedSession) → EachPair (HasState o (alive_of order.living)) ss slots
+    → r ≡ command_reason o (session_in o (session_of (command_of order.command.now)) ss) (command_of order.command.now)
+
+-- the text, where there is one
+abbrev pub text_seen : {A : Type 0} → Option (Vec ℕ A) → Option (List ℕ)
+text_seen t = option_map (λ v. v.items) t
+
+-- of each
+abbrev pub texts_seen : {A : Type 0} → List (Option (Vec ℕ A)) → List (Option (List ℕ))
+texts_seen ts = map text_seen ts
+
+-- one of these is there
+abbrev pub has_some : List (Option (List ℕ)) → Bool
+has_some ts = list_any is_some ts
+
+-- the observer's sessions are those of the program after these picks
+abbrev pub HasRemarked : {A : Type 0} → RemarkObserver A → Program → List ℕ → Type 0
+HasRemarked c p picks = AreNamedSessions (exports_of p) (sessions_after p picks) c.sessions
+
+-- the replies of the commands that one more pick takes, with why they are these, were appended
+abbrev pub AddsReasons : {A : Type 0} → Program → List ℕ → ℕ → RemarkObserver A → RemarkObserver A → Vec (Option (Vec ℕ A)) A → Vec (Option (Vec ℕ A)) A → Type 0
+AddsReasons p picks pick old new out out' =
+    texts_seen out'.items
+    ≡ texts_seen out.items ++ map (option_map reply_and_reason) (reasons_in (exports_of p) (moments_from (exports_of p) 0 0 (sessions_after p picks) (pick_step_after p picks pick).shown))
