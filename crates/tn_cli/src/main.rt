@@ -19,7 +19,8 @@ use clap::error::ErrorKind;
 use format::format_of;
 use line::command;
 use request::{
-    BadNumber, ExpectationArgs, PicksSource, Request, RunSource, SpecTestArgs, request_of,
+    BadNumber, ExpectationArgs, PicksSource, PicksText, Request, RunSource, SpecTestArgs,
+    request_of,
 };
 use std::io;
 use std::process::ExitCode;
@@ -118,11 +119,11 @@ fn run_moves<R: Input + Files + Print + Eprint + AllocGlobal>(
     match task {
         Task::Replay(PrintArgs { format, quiet }) => {
             let has_note = !quiet;
-            let job = RunByMoves { moves, has_note };
+            let job = &RunByMoves { moves, has_note };
             perform(rt, script, &InFormat { job, format }, expectation)
         }
         Task::Explain { filter, format } => {
-            let job = ExplainByMoves { moves, filter };
+            let job = &ExplainByMoves { moves, filter };
             perform(rt, script, &InFormat { job, format }, expectation)
         }
     }
