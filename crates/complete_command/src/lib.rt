@@ -11,6 +11,7 @@ mod jobs;
 mod last_error;
 mod number;
 mod picks;
+mod plain_text;
 mod source;
 mod spec_test;
 mod status;
