@@ -13,6 +13,7 @@ mod last_error;
 mod moves;
 mod number;
 mod picks;
+mod plain_text;
 mod source;
 mod spec_test;
 mod status;
