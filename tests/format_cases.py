@@ -129,7 +129,7 @@ def formats():
     wants("the summary of a send", run([*SEND_HI_PICKS, "--summary"], SEND_HI), 0, SEND_HI_SUMMARY)
     wants("a summary without messages", run(["replay", "--picks", "0", "--summary"], SEND_HI), 0, NO_MESSAGE)
     wants("the JSON of a send", run([*SEND_HI_PICKS, "--json"], SEND_HI), 0, SEND_HI_JSON)
-    wants("the JSON of no run", run(["round", "--json"]), 0, b'{"journal":[]}\n')
+    wants("the JSON of no run", run(["round", "--json"]), 0, b'{"journal":[]}\n', b"note: the script has no forms\n")
     ran = run(["replay", "--picks", "0 0 0 100 100", "--json"], QUOTED)
     wants("the JSON of names in quotes", ran, 0, QUOTED_JSON)
     ran = run(["explain", "--picks", "0 0 100 100", "--move", "4", "--json"], SEND_HI)

@@ -149,10 +149,10 @@ def workers():
             picks = ran.stdout.decode().removesuffix("\n").rpartition("\n")[2]
             again = run(["replay", "--picks", picks], script.read_bytes())
             name = f"workers {' '.join(words)} on {script.stem}"
-            good = ran.returncode == 0 and picks and not ran.stderr and ran.stdout == again.stdout
+            good = ran.returncode == 0 and picks and ran.stderr == again.stderr and ran.stdout == again.stdout
             check(name, good, (ran, again))
     wants("workers on a refused script", run(["workers", "--n", "2"], b"7."), 2, b"refused 5 form 1\n")
-    wants("workers on no script", run(["workers", "--n", "2"]), 0, EMPTY)
+    wants("workers on no script", run(["workers", "--n", "2"]), 0, EMPTY, b"note: the script has no forms\n")
 
 
 def limits():

@@ -358,6 +358,9 @@ CONSTANTS = ("0", "-1", "a", "'$_'", "'$$'", "<0.0.0>", "{}", "{a}", "[]", "[a]"
 ELEMENTS, FIELDS, DEEPEST = 4096, 255, 29
 
 
+LOGIC = "on a node: logic on what is no boolean is a fault"
+
+
 def fires(bindings, asks=(), end=""):
     """The lines of a first clause that fires, with what its body asks for and the message's last element."""
     yield "clause 1 fires" + (f": {', '.join(asks)}" if asks else "")
@@ -410,7 +413,8 @@ def of_depth():
         expression = nested(before, inner, behind, levels)
         lines = fires({"$1": "false"}) if value == "true" else fails(f"condition 1 is {value}")
         yield "[false]", f"[{{['$1'],[{expression}],[]}}]", lines
-        yield "[false]", f"[{{['$1'],[],[{expression}]}}]", fires({"$1": "false"})
+        lines = fires({"$1": "false"})
+        yield "[false]", f"[{{['$1'],[],[{expression}]}}]", (*lines, LOGIC) if "'$_'" in inner else lines
     asks = ["return_trace", *["message true"] * (DEEPEST - 1)]
     action = nested("{message,", "{return_trace}", "}", DEEPEST - 1)
     yield "[]", f"[{{'_',[],[{action}]}}]", fires({}, asks)
