@@ -4,7 +4,7 @@ import pathlib
 import subprocess
 import tempfile
 
-from harness import EMPTY, EXAMPLES, PROGRAM, SEND_HI, SEND_HI_OUTPUT, SEND_HI_PICKS, START, TEXT_BYTES, TOP
+from harness import EMPTY, EXAMPLES, NO_FORMS, PROGRAM, SEND_HI, SEND_HI_OUTPUT, SEND_HI_PICKS, START, TEXT_BYTES, TOP
 from harness import check, run, wants
 from inventories import said_version
 
@@ -173,7 +173,7 @@ def command_lines():
     bad_picks = b"refused 20 bad picks\n"
     for text in ("-1", "--help", "0 00", "0  0", " 0", "4294967296", "x"):
         wants(f"picks {text!r}", run(["replay", "--picks", text], SEND_HI), 2, bad_picks)
-    wants("the greatest pick", run(["replay", "--picks", "4294967295"]), 0, EMPTY)
+    wants("the greatest pick", run(["replay", "--picks", "4294967295"]), 0, EMPTY, NO_FORMS)
     one_of_two = b"<--picks <TEXT>|--picks-file <FILE>>"
     texts = b"<--picks <TEXT>|--picks-file <FILE>|--moves <TEXT>|--moves-file <FILE>"
     for command, either in (("replay", texts + b">"), ("explain", texts + b"|--round>"), ("draw", one_of_two)):

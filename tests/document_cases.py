@@ -47,10 +47,10 @@ def completed_options(command):
     zsh = (TOP / "completions" / "_tracenode").read_text()
     part = re.search(rf"^        {command}\)(.*?);;", zsh, re.M | re.S)
     fish = (TOP / "completions" / "tracenode.fish").read_text()
-    condition = rf"(?: -n '__fish_seen_subcommand_from {command}')?"
+    condition = rf"(?: -n '__fish_seen_subcommand_from {command}')?(?: -s h)?"
     return {
         "bash": {word for word in completed(("tracenode", command, "--"), TOP) if word.startswith("--")},
-        "zsh": set(re.findall(r"'(--[a-z-]+)\[", part[1] if part else "")),
+        "zsh": set(re.findall(r"['},](--[a-z-]+)}?'?\[", part[1] if part else "")),
         "fish": {f"--{name}" for name in re.findall(rf"^complete -c tracenode{condition} -l ([a-z-]+)", fish, re.M)},
     }
 
@@ -155,12 +155,12 @@ def completions():
             (("tracenode", "explain", "--q"), [""]),
             (("tracenode", "explain", "--j"), ["--json"]),
             (("tracenode", "replay", "--q"), ["--quiet"]),
-            (("tracenode", "replay", "--s"), ["--summary"]),
+            (("tracenode", "replay", "--s"), ["--strict", "--summary"]),
             (("tracenode", "spec", "--j"), ["--json"]),
             (("tracenode", "round", "--e"), ["--expect", "--expect-line"]),
             (("tracenode", "round", "--expect", "scripts/twi"), ["scripts/twice.term"]),
             (("tracenode", "round", "--expect", "=", "scripts/twi"), ["scripts/twice.term"]),
-            (("tracenode", "round", "--s"), ["--strict"]),
+            (("tracenode", "round", "--s"), ["--strict", "--summary"]),
             (("tracenode", "explain", "--st"), ["--strict"]),
             (("tracenode", "replay", "\"scripts/two w"), ["scripts/two words.term"]),
             (("tracenode", "workers", "--quiet", "scr"), ["scripts"]),

@@ -1,7 +1,7 @@
 """Cases of the built program: summaries and JSON, worked out by hand and read by Python's json."""
 import json
 
-from harness import EXAMPLES, SEND_HI, SEND_HI_PICKS, check, run, wants
+from harness import EXAMPLES, NO_FORMS, SEND_HI, SEND_HI_PICKS, check, run, wants
 
 KINDS = """send send_to_non_existing_process 'receive' call return_from exception_from spawn spawned exit link unlink
     getting_linked getting_unlinked""".split()
@@ -129,7 +129,7 @@ def formats():
     wants("the summary of a send", run([*SEND_HI_PICKS, "--summary"], SEND_HI), 0, SEND_HI_SUMMARY)
     wants("a summary without messages", run(["replay", "--picks", "0", "--summary"], SEND_HI), 0, NO_MESSAGE)
     wants("the JSON of a send", run([*SEND_HI_PICKS, "--json"], SEND_HI), 0, SEND_HI_JSON)
-    wants("the JSON of no run", run(["round", "--json"]), 0, b'{"journal":[]}\n', b"note: the script has no forms\n")
+    wants("the JSON of no run", run(["round", "--json"]), 0, b'{"journal":[]}\n', NO_FORMS)
     ran = run(["replay", "--picks", "0 0 0 100 100", "--json"], QUOTED)
     wants("the JSON of names in quotes", ran, 0, QUOTED_JSON)
     ran = run(["explain", "--picks", "0 0 100 100", "--move", "4", "--json"], SEND_HI)

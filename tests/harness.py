@@ -17,6 +17,7 @@ SECONDS = 60
 TEXT_BYTES = 1_048_576
 
 EMPTY = b"== replies\n== journal\n\n"
+NO_FORMS = b"note: the script has no forms\n"
 SEND_HI = (ROWS / "send-hi" / "stdin").read_bytes()
 SEND_HI_OUTPUT = (ROWS / "send-hi" / "stdout").read_bytes()
 SEND_HI_PICKS = ["replay", "--picks", "0 0 100 100"]

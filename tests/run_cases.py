@@ -3,7 +3,7 @@ import shlex
 import tempfile
 
 import layers
-from harness import EMPTY, EXAMPLES, PLAIN, PROBE, ROWS, SEND_HI, check, run, wants
+from harness import EMPTY, EXAMPLES, NO_FORMS, PLAIN, PROBE, ROWS, SEND_HI, check, run, wants
 
 
 # The worked runs of which a running node does some moves otherwise: how many, and how many moves there are. `badarg`
@@ -64,7 +64,9 @@ def examples():
             if words[0] == "replay":
                 listings = ran.stdout.decode().partition("== replies\n")[0].splitlines()
                 lines = [line for line in listings if not line.startswith("== session ")] if shown else []
-            check(f"{words[0]} of example {script.stem}", ran.returncode == 0 and lines == shown and not ran.stderr, ran)
+            remarks = ran.stdout.splitlines().count(b"badarg") if words[0] == "replay" else 0
+            good = ran.returncode == 0 and lines == shown and ran.stderr.count(b" replies badarg: ") == ran.stderr.count(b"\n") == remarks
+            check(f"{words[0]} of example {script.stem}", good, ran)
         check(f"the commands of example {script.stem}", commands == ["replay", "explain"], commands)
 
 
@@ -152,7 +154,7 @@ def workers():
             good = ran.returncode == 0 and picks and ran.stderr == again.stderr and ran.stdout == again.stdout
             check(name, good, (ran, again))
     wants("workers on a refused script", run(["workers", "--n", "2"], b"7."), 2, b"refused 5 form 1\n")
-    wants("workers on no script", run(["workers", "--n", "2"]), 0, EMPTY, b"note: the script has no forms\n")
+    wants("workers on no script", run(["workers", "--n", "2"]), 0, EMPTY, NO_FORMS)
 
 
 def limits():

@@ -1,10 +1,11 @@
 """Cases of texts: refused scripts, long texts, prefixes of scripts, and numbers."""
 import pathlib
+import re
 import tempfile
 
 import scripts
 from explanation_cases import EXPLAIN_ALL
-from harness import EMPTY, PLAIN, ROWS, SEND_HI, SEND_HI_PICKS, TEXT_BYTES, check, run, wants
+from harness import EMPTY, NO_FORMS, PLAIN, ROWS, SEND_HI, SEND_HI_PICKS, TEXT_BYTES, check, run, wants
 from refusals import REFUSALS
 
 
@@ -31,7 +32,7 @@ def refusals():
 def long_texts():
     """A script of 1 MiB, and one of a byte more."""
     replay = ["replay", "--picks", ""]
-    wants("1,048,576 blanks", run(replay, b" " * TEXT_BYTES), 0, EMPTY)
+    wants("1,048,576 blanks", run(replay, b" " * TEXT_BYTES), 0, EMPTY, NO_FORMS)
     wants("1,048,577 blanks", run(replay, b" " * (TEXT_BYTES + 1)), 2, b"refused 1 too long\n")
 
 
@@ -39,9 +40,11 @@ def fronts():
     """Each front of three scripts: the line of its refusal, or its output where it is whole forms."""
     for text in (SEND_HI, *scripts.TEXTS):
         for end in range(len(text) + 1):
-            output = scripts.output_of(text[:end])
+            front = text[:end]
+            output = scripts.output_of(front)
             status = 2 if output.startswith("refused") else 0
-            wants(f"the first {end} bytes of {text[:40]}", run(["replay", "--picks", ""], text[:end]), status, output.encode())
+            note = None if status == 2 or b"{" in re.sub(rb"%.*", b"", front) else NO_FORMS
+            wants(f"the first {end} bytes of {text[:40]}", run(["replay", "--picks", ""], front), status, output.encode(), note)
 
 
 def readings_of_scripts():
