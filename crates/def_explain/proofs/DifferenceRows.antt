@@ -10,7 +10,7 @@ use Rattle.def_outlook.specs.Outlook.{RuntimeError, passes_limit, sends_to_no_pi
 use Rattle.def_session.specs.Settings.{off}
 use Rattle.def_node.specs.Event.{Event, received, returned, raised, spawned, exited, linked, getting_linked}
 use Rattle.def_session.specs.State.{for_returns, for_exceptions, live, new_session, alive_at_start, Session, MarkKind, with_flags, with_marks}
-use Rattle.def_explain.specs.Differences.{node_ends, finds_no_tracer, suppresses_message, leaves_no_mark, reports_end, reports_exceptions, clears_spawn_flags, gives_no_flags, evaluates_from_right, catches_error, reports_attempt, raises_noproc, reports_later, order_difference, body_differences, event_difference, step_differences, has_mark_below}
+use Rattle.def_explain.specs.Differences.{node_ends, finds_no_tracer, suppresses_message, leaves_no_mark, reports_end, reports_exceptions, clears_spawn_flags, gives_no_flags, evaluates_from_right, catches_error, reports_attempt, raises_noproc, reports_later, adds_calls, order_difference, body_differences, event_difference, step_differences, has_mark_below}
 
 -- ---- bodies, in the process 100
 
@@ -212,10 +212,10 @@ link_of_the_giver = refl
 abbrev ahead : RuntimeError → Option ℕ → Outlook
 ahead x depth = record { error = Some x; caught_at = depth; is_awaited = false }
 
-pub caught_error : step_differences (with_these (only procs_flag)) (ahead passes_limit (Some 2)) (exited 100 (word "system_limit")) ≡ catches_error ∷ []
+pub caught_error : step_differences (with_these (only procs_flag)) (ahead passes_limit (Some 2)) (exited 100 (word "system_limit")) ≡ catches_error ∷ adds_calls ∷ []
 caught_error = refl
 
-pub error_without_catch : step_differences (with_these (only procs_flag)) (ahead passes_limit None) (exited 100 (word "system_limit")) ≡ []
+pub error_without_catch : step_differences (with_these (only procs_flag)) (ahead passes_limit None) (exited 100 (word "system_limit")) ≡ adds_calls ∷ []
 error_without_catch = refl
 
 pub caught_error_without_flag : step_differences (with_these no_flags) (ahead passes_limit (Some 2)) (exited 100 (word "system_limit")) ≡ []
@@ -225,19 +225,19 @@ pub caught_signal : step_differences (with_these (only procs_flag)) (record noth
 caught_signal = refl
 
 -- a send, a link and an unlink of what is no pid, with the flag and without
-pub send_to_no_pid : step_differences (with_these (only send_flag)) (ahead sends_to_no_pid None) (exited 100 (word "badarg")) ≡ reports_attempt ∷ []
+pub send_to_no_pid : step_differences (with_these (only send_flag)) (ahead sends_to_no_pid None) (exited 100 (word "badarg")) ≡ reports_attempt ∷ adds_calls ∷ []
 send_to_no_pid = refl
 
-pub send_to_no_pid_without_flag : step_differences (with_these (only procs_flag)) (ahead sends_to_no_pid None) (exited 100 (word "badarg")) ≡ []
+pub send_to_no_pid_without_flag : step_differences (with_these (only procs_flag)) (ahead sends_to_no_pid None) (exited 100 (word "badarg")) ≡ adds_calls ∷ []
 send_to_no_pid_without_flag = refl
 
-pub link_to_no_pid : step_differences (with_these (only procs_flag)) (ahead links_to_no_pid None) (exited 100 (word "badarg")) ≡ reports_attempt ∷ []
+pub link_to_no_pid : step_differences (with_these (only procs_flag)) (ahead links_to_no_pid None) (exited 100 (word "badarg")) ≡ reports_attempt ∷ adds_calls ∷ []
 link_to_no_pid = refl
 
-pub unlink_from_no_pid : step_differences (with_these (only procs_flag)) (ahead unlinks_from_no_pid (Some 1)) (exited 100 (word "badarg")) ≡ reports_attempt ∷ catches_error ∷ []
+pub unlink_from_no_pid : step_differences (with_these (only procs_flag)) (ahead unlinks_from_no_pid (Some 1)) (exited 100 (word "badarg")) ≡ reports_attempt ∷ catches_error ∷ adds_calls ∷ []
 unlink_from_no_pid = refl
 
-pub unlink_from_no_pid_without_flag : step_differences (with_these (only send_flag)) (ahead unlinks_from_no_pid None) (exited 100 (word "badarg")) ≡ []
+pub unlink_from_no_pid_without_flag : step_differences (with_these (only send_flag)) (ahead unlinks_from_no_pid None) (exited 100 (word "badarg")) ≡ adds_calls ∷ []
 unlink_from_no_pid_without_flag = refl
 
 -- a link to a process that isn't alive, with a flag and without
@@ -246,6 +246,16 @@ link_to_no_process = refl
 
 pub link_to_no_process_without_flag : step_differences (with_these no_flags) nothing_ahead (linked 100 163) ≡ []
 link_to_no_process_without_flag = refl
+
+-- an exit signal with the reason `noproc`, with a flag and without; and one with the reason `boom`
+pub signal_of_an_error : step_differences (with_these (only send_flag)) nothing_ahead (exited 100 (word "noproc")) ≡ adds_calls ∷ []
+signal_of_an_error = refl
+
+pub signal_of_an_error_without_flag : step_differences (with_these no_flags) nothing_ahead (exited 100 (word "noproc")) ≡ []
+signal_of_an_error_without_flag = refl
+
+pub signal_of_no_error : step_differences (with_these (only send_flag)) nothing_ahead (exited 100 (word "boom")) ≡ []
+signal_of_no_error = refl
 
 -- a receive while its process does something else; while it waits; and one that isn't reported
 abbrev a_receive : Event

@@ -1,7 +1,7 @@
 -- A text of blanks and comments has no token, and another has one.
-use Rattle.std.proofs.Common.{◌≡◌, ◌↔◌, ◌∙◌, ℕ, ◌+◌, ◌==◌, Bool, true, false, not, ◌&&◌, List, [], ◌∷◌, drop, refl, sym, ap, subst, add-one, if◌then◌else◌}
-use Rattle.def_text.specs.Tokens.{is_blank, gap_len, Tokens}
-use Rattle.def_explain.specs.EmptyScripts.{HasNoForms, is_gap}
+use Rattle.std.proofs.Common.{◌≡◌, ◌∙◌, ℕ, ◌+◌, ◌==◌, Bool, true, false, not, ◌&&◌, List, [], ◌∷◌, drop, refl, sym, ap, add-one, if◌then◌else◌}
+use Rattle.def_text.specs.Tokens.{is_blank, gap_len}
+use Rattle.def_explain.specs.EmptyScripts.{is_gap}
 use Rattle.def_explain.specs.RemarkLaws.{EmptyScriptIsGap}
 
 -- one byte more of the gap

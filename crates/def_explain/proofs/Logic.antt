@@ -75,11 +75,10 @@ gone true false more e h = absurd (cc e)
 gone false true more e h = absurd (cc e)
 gone false false more e h = h
 
-none-goes : (s q more : Bool) → more ≡ false → goes s q more ≡ false
-none-goes true true more h = h
-none-goes true false more h = refl
-none-goes false true more h = refl
-none-goes false false more h = h
+-- one is no boolean itself, or one after it is such
+here_or_later : {P : Type 0} (is_boolean s q more : Bool) → (is_boolean ≡ false) ⊎ ((s ≡ q) × P) → (P → more ≡ true) → (not is_boolean || goes s q more) ≡ true
+here_or_later is_boolean s q more (inl h) f = left-is (not is_boolean) _ (ap not h)
+here_or_later is_boolean s q more (inr h) f = right-is (not is_boolean) _ (gone s q more h.0 (f h.1))
 
 -- ---- expressions
 
@@ -120,9 +119,16 @@ module _ (d : Dialect) (part : Position) (b : Bindings) (c : Context) where
     found-while q (and_expr e es) x h =
         split (has_logic_on_other d part b c e x) _ (found e x)
         (λ k.
-        let v : (t : Tree) × (y : List Effect) × (evaluation d part b c e x ≡ comes_to t y) × (goes (is_true t) q (has_logic_on_other_while d part b c q es y) ≡ true) = value-there (evaluation d part b c e x) _ k in
-        let g : (is_true v.0 ≡ q) × (has_logic_on_other_while d part b c q es v.1 ≡ true) = going (is_true v.0) q _ v.3 in
-        (v.0, v.1, v.2, g.0, found-while q es v.1 g.1))
+        let v : (t : Tree) × (y : List Effect) × (evaluation d part b c e x ≡ comes_to t y) × ((not (boolean_test t) || goes (is_true t) q (has_logic_on_other_while d part b c q es y)) ≡ true) = value-there (evaluation d part b c e x) _ k in (
+          v.0,
+          v.1,
+          v.2,
+          split (not (boolean_test v.0)) _ (not_is (boolean_test v.0))
+              (λ more.
+              let g : (is_true v.0 ≡ q) × (has_logic_on_other_while d part b c q es v.1 ≡ true) = going (is_true v.0) q _ more in
+              (g.0, found-while q es v.1 g.1))
+              v.3,
+        ))
         h
 
   mutual
@@ -147,8 +153,7 @@ module _ (d : Dialect) (part : Position) (b : Bindings) (c : Context) where
     counted-while : (q : Bool) (es : Exprs) (x : List Effect) → HasLogicOnOtherWhile d part b c q es x → has_logic_on_other_while d part b c q es x ≡ true
     counted-while q no_exprs x h = absurd h
     counted-while q (and_expr e es) x (inl h) = left-is (has_logic_on_other d part b c e x) _ (counted e x h)
-    counted-while q (and_expr e es) x (inr h) =
-        right-is (has_logic_on_other d part b c e x) _ (there-value (evaluation d part b c e x) _ h.0 h.1 h.2 (gone (is_true h.0) q _ h.3 (counted-while q es h.1 h.4)))
+    counted-while q (and_expr e es) x (inr h) = right-is (has_logic_on_other d part b c e x) _ (there-value (evaluation d part b c e x) _ h.0 h.1 h.2 (here_or_later (boolean_test h.0) (is_true h.0) q _ h.3 (λ k. counted-while q es h.1 k)))
 
   -- ---- where no logic is called
 
@@ -166,8 +171,8 @@ module _ (d : Dialect) (part : Position) (b : Bindings) (c : Context) where
     no-logic (call f es) x h =
         let both : (is_logic f ≡ false) × (one_calls_logic es ≡ false) = or_parts (is_logic f) (one_calls_logic es) h in
         or_from (is_logic_on_other d part b c f es x) _ (no-call f es x both.0) (no_logic_in_one es x both.1)
-    no-logic (and_also es) x h = no-logic-while true es x h
-    no-logic (or_else es) x h = no-logic-while false es x h
+    no-logic (and_also es) x h = absurd (cc h)
+    no-logic (or_else es) x h = absurd (cc h)
     no-logic (perform a es) x h = no_logic_in_one es x h
 
     pub no_logic_in_one : (es : Exprs) (x : List Effect) → one_calls_logic es ≡ false → one_has_logic_on_other d part b c es x ≡ false
@@ -175,13 +180,6 @@ module _ (d : Dialect) (part : Position) (b : Bindings) (c : Context) where
     no_logic_in_one (and_expr e es) x h =
         let both : (calls_logic e ≡ false) × (one_calls_logic es ≡ false) = or_parts (calls_logic e) (one_calls_logic es) h in
         or_from (has_logic_on_other d part b c e x) _ (no-logic e x both.0) (no-value-there (evaluation d part b c e x) _ (λ t y. no_logic_in_one es y both.1))
-
-    no-logic-while : (q : Bool) (es : Exprs) (x : List Effect) → one_calls_logic es ≡ false → has_logic_on_other_while d part b c q es x ≡ false
-    no-logic-while q no_exprs x h = refl
-    no-logic-while q (and_expr e es) x h =
-        let both : (calls_logic e ≡ false) × (one_calls_logic es ≡ false) = or_parts (calls_logic e) (one_calls_logic es) h in
-        or_from (has_logic_on_other d part b c e x) _ (no-logic e x both.0)
-        (no-value-there (evaluation d part b c e x) _ (λ t y. none-goes (is_true t) q (has_logic_on_other_while d part b c q es y) (no-logic-while q es y both.1)))
 
 -- ---- a clause
 

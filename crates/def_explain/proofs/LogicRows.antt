@@ -51,15 +51,31 @@ not_of_a_number = refl
 pub xor_of_a_number : differs_in_body (call fn.just_one_of (both yes seven)) ≡ Some faults_in_logic
 xor_of_a_number = refl
 
--- of booleans; another function of a number; `andalso` of one
+-- of booleans; another function of a number
 pub and_of_booleans : differs_in_body (call fn.all_of (both yes (constant (word "false")))) ≡ None
 and_of_booleans = refl
 
 pub size_of_a_number : differs_in_body (call fn.is_boolean (just seven)) ≡ None
 size_of_a_number = refl
 
-pub andalso_of_a_number : differs_in_body (and_also (both yes seven)) ≡ None
+-- {'andalso',7,true}, {'orelse',7,true}, and {'andalso',true,7}, whose value is 7 on a node; {'orelse',true,7} and {'andalso',false,7} don't come to the number
+pub andalso_of_a_number : differs_in_body (and_also (both seven yes)) ≡ Some faults_in_logic
 andalso_of_a_number = refl
+
+pub orelse_of_a_number : differs_in_body (or_else (both seven yes)) ≡ Some faults_in_logic
+orelse_of_a_number = refl
+
+pub last_of_andalso : differs_in_body (and_also (both yes seven)) ≡ Some faults_in_logic
+last_of_andalso = refl
+
+pub after_one_that_is_true : differs_in_body (or_else (both yes seven)) ≡ None
+after_one_that_is_true = refl
+
+pub after_one_that_is_false : differs_in_body (and_also (both (constant (word "false")) seven)) ≡ None
+after_one_that_is_false = refl
+
+pub andalso_of_booleans : differs_in_body (and_also (both yes (constant (word "false")))) ≡ None
+andalso_of_booleans = refl
 
 -- in an element of a tuple, and in the second test of `andalso` where the first is true; not where it is false
 pub in_a_tuple : differs_in_body (tuple_of (both yes (call fn.is_false (just seven)))) ≡ Some faults_in_logic

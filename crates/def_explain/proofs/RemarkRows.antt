@@ -3,9 +3,9 @@ use Rattle.std.proofs.Common.{◌≡◌, ℕ, true, false, List, [], ◌∷◌, 
 use Rattle.std.specs.Fmt.{digits}
 use Rattle.def_term.specs.Names.{word}
 use Rattle.def_term.specs.Text.{is_written_bare}
-use Rattle.def_text.specs.Tokens.{Token, open_brace, close_brace, open_bracket, close_bracket, comma, stop, integer, atom, TokenSpan}
+use Rattle.def_text.specs.Tokens.{Token, open_brace, close_brace, open_bracket, close_bracket, comma, stop, atom, TokenSpan}
 use Rattle.def_explain.specs.CommandReasons.{not_created, no_how, no_match}
-use Rattle.def_explain.specs.Remarks.{Remark, remarks_after, remark_text, has_reason_line}
+use Rattle.def_explain.specs.Remarks.{remarks_after, remark_text, has_reason_line}
 use Rattle.def_explain.specs.CommandPlaces.{before_form, command_starts}
 
 -- the second and the fourth of four commands

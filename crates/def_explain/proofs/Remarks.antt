@@ -1,5 +1,5 @@
 -- What is remarked of a run, pick by pick: by the picks that moved, up to the last command, and nothing where no reply's line begins so.
-use Rattle.std.proofs.Common.{◌≡◌, ◌≢◌, ◌↔◌, ◌⊎◌, inl, inr, ◌∙◌, ℕ, zero, suc, ◌==◌, Bool, true, false, ◌||◌, ◌&&◌, List, [], ◌∷◌, ◌++◌, map, Option, Some, None, slice_get, refl, sym, ap, ap₂, subst, append-nil, append_assoc, if◌then◌else◌, flat_map, ◌+◌, arith}
+use Rattle.std.proofs.Common.{◌≡◌, ◌≢◌, inl, inr, ◌∙◌, ℕ, zero, suc, ◌==◌, Bool, true, false, ◌||◌, ◌&&◌, List, [], ◌∷◌, ◌++◌, map, Option, Some, None, slice_get, refl, sym, ap, ap₂, subst, append_assoc, if◌then◌else◌, ◌+◌, arith}
 use Rattle.std.proofs.lemmas.Grind.{flat_map-append}
 use Rattle.std.specs.List.{AllByRecursion}
 use Rattle.def_term.specs.Tree.{Tree}
@@ -10,16 +10,16 @@ use Rattle.def_script.specs.Exports.{Exports, exports_of}
 use Rattle.def_node.specs.Event.{Event}
 use Rattle.def_node.specs.Node.{Move, moved, idle, next_of}
 use Rattle.def_outlook.specs.Outlook.{outlook}
-use Rattle.def_session.specs.Commands.{command_done, number_term, fault_term}
-use Rattle.def_run.specs.Run.{HistoryItem, event_item, command_item, RunState, PickStep, stays, goes_to, pick_step_in, pick_step_with, pick_step, moves, moves_from, start}
+use Rattle.def_session.specs.Commands.{command_done, fault_term}
+use Rattle.def_run.specs.Run.{HistoryItem, event_item, command_item, RunState, PickStep, goes_to, pick_step_with, pick_step, moves, moves_from, start}
 use Rattle.def_run.specs.History.{NamedSession, Moment, session_in, all_after, all_after_items, named_sessions, moments_from, move_history, move_histories_from, moments_of, history, item_reply, history_replies}
-use Rattle.def_run.specs.Listing.{replies, lines_of}
+use Rattle.def_run.specs.Listing.{lines_of}
 use Rattle.def_run.proofs.Replay.{pick_kept}
 use Rattle.def_run.proofs.Histories.{history_has_the_replies}
 use Rattle.def_spec.specs.Reading.{SpecFault, badarg, unsupported}
-use Rattle.def_explain.specs.SpecReasons.{SpecReason, reason_fault}
+use Rattle.def_explain.specs.SpecReasons.{reason_fault}
 use Rattle.def_explain.specs.CommandReasons.{CommandReason, not_created, exists_already, is_destroyed, no_processes, not_alive, no_how, no_flag_list, no_flag, no_pattern, no_options, no_specification, no_match, no_exported_match, reply_of, command_reason}
-use Rattle.def_explain.specs.Remarks.{item_reasons, reasons_in, run_reasons, Remark, remarks_after, remarks, begins_reason, has_reason_line}
+use Rattle.def_explain.specs.Remarks.{item_reasons, reasons_in, run_reasons, Remark, remarks_after, begins_reason, has_reason_line}
 use Rattle.def_explain.specs.RemarkLaws.{IsRemarked, RemarkIsOfReason, RemarkHasItsReply, NoReasonLineNoRemark, TakesNoCommand, NothingAfterCommands, MovesHaveTheRemarks}
 use Rattle.def_explain.proofs.CommandReasons.{reply_is_of_reason}
 

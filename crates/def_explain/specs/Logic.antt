@@ -1,4 +1,5 @@
--- Logic on what is no boolean: `false` here, and a fault on a node (own, as measured on OTP 25 (erts 13.1.5)).
+-- Logic on what is no boolean: it counts as `false` here. On a node it is a fault, but the last argument of `andalso` and `orelse` is their value
+-- (own, as measured on OTP 25 (erts 13.1.5)).
 -- Depends on what expressions come to after the effects before them, and on the functions of logic.
 use Rattle.std.specs.Prelude.{◌≡◌, Bool, true, false, not, ◌&&◌, ◌||◌, ◌⊎◌, if◌then◌else◌, List, []}
 use Rattle.std.specs.List.{list_any}
@@ -57,11 +58,11 @@ module _ (d : Dialect) (part : Position) (b : Bindings) (c : Context) where
     OneHasLogicOnOther no_exprs x = ⊥
     OneHasLogicOnOther (and_expr e es) x = HasLogicOnOther e x ⊎ ((t : Tree) × (y : List Effect) × (evaluation d part b c e x ≡ comes_to t y) × OneHasLogicOnOther es y)
 
-    -- a part of the first, or of one after it where the first is true, or isn't
+    -- a part of the first, or the first is no boolean itself, or one after it is such where the first is true, or isn't
     pub HasLogicOnOtherWhile : Bool → Exprs → List Effect → Type 0
     HasLogicOnOtherWhile q no_exprs x = ⊥
     HasLogicOnOtherWhile q (and_expr e es) x =
-        HasLogicOnOther e x ⊎ ((t : Tree) × (y : List Effect) × (evaluation d part b c e x ≡ comes_to t y) × (is_true t ≡ q) × HasLogicOnOtherWhile q es y)
+        HasLogicOnOther e x ⊎ ((t : Tree) × (y : List Effect) × (evaluation d part b c e x ≡ comes_to t y) × ((boolean_test t ≡ false) ⊎ ((is_true t ≡ q) × HasLogicOnOtherWhile q es y)))
 
   -- ---- the same, computed
 
@@ -91,7 +92,7 @@ module _ (d : Dialect) (part : Position) (b : Bindings) (c : Context) where
     pub has_logic_on_other_while : Bool → Exprs → List Effect → Bool
     has_logic_on_other_while q no_exprs x = false
     has_logic_on_other_while q (and_expr e es) x =
-        has_logic_on_other e x || on_value (evaluation d part b c e x) (λ t y. if is_true t then (q && has_logic_on_other_while q es y) else (not q && has_logic_on_other_while q es y))
+        has_logic_on_other e x || on_value (evaluation d part b c e x) (λ t y. not (boolean_test t) || (if is_true t then (q && has_logic_on_other_while q es y) else (not q && has_logic_on_other_while q es y)))
 
 -- ---- a clause that fires with these bindings
 

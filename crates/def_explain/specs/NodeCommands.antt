@@ -40,14 +40,14 @@ abbrev mutual
   one_can_differ (and_expr e es) = expression_can_differ e || one_can_differ es
 
 abbrev mutual
-  -- a part of the expression is a call of a function of logic
+  -- a part of the expression is a call of a function of logic, `andalso` or `orelse`
   pub calls_logic : Expr → Bool
   calls_logic (perform a es) = one_calls_logic es
   calls_logic (tuple_of es) = one_calls_logic es
   calls_logic (list_of es) = one_calls_logic es
   calls_logic (call f es) = is_logic f || one_calls_logic es
-  calls_logic (and_also es) = one_calls_logic es
-  calls_logic (or_else es) = one_calls_logic es
+  calls_logic (and_also es) = true
+  calls_logic (or_else es) = true
   calls_logic (bound_to n) = false
   calls_logic whole_list = false
   calls_logic all_bound = false

@@ -34,6 +34,12 @@ further-same true false more h = absurd (cc h)
 further-same false true more h = absurd (cc h)
 further-same false false more h = refl
 
+further-other : (q holds more : Bool) → not (beq holds q) ≡ true → further q holds more ≡ false
+further-other true true more h = absurd (cc h)
+further-other true false more h = refl
+further-other false true more h = refl
+further-other false false more h = absurd (cc h)
+
 -- two are the same where they don't differ
 pub same_by : (a b : Bool) → not (beq a b) ≡ false → a ≡ b
 same_by true true h = refl
@@ -95,12 +101,28 @@ module _ {A : Type 0} {G : Ghosts A} (s : EvalContext A G) where
 
     -- ---- in turn
 
-    here-turn : (q : Bool) (r : Evaluation Tree) (whole : Bool) → logic_in s e old ≡ false → r ≡ evaluation_in s e old → logic_in_turn s q all old ≡ whole → on_value r (λ t y. further q (is_true t) (logic_in_turn s q es y)) ≡ whole
+    -- what is found of a value, and of those after it
+    abbrev at : Bool → Tree → List Effect → Bool
+    at q t y = not (boolean_test t) || further q (is_true t) (logic_in_turn s q es y)
+
+    here-turn : (q : Bool) (r : Evaluation Tree) (whole : Bool) → logic_in s e old ≡ false → r ≡ evaluation_in s e old → logic_in_turn s q all old ≡ whole → on_value r (at q) ≡ whole
     here-turn q r whole none is h =
-        sym (ap (λ xs. logic_in_turn s q xs old) here ∙ ap (λ b. b || on_value (evaluation_in s e old) (λ t y. further q (is_true t) (logic_in_turn s q es y))) none ∙ ap (λ p. on_value p (λ t y. further q (is_true t) (logic_in_turn s q es y))) (sym is)) ∙ h
+        sym (ap (λ xs. logic_in_turn s q xs old) here ∙ ap (λ b. b || on_value (evaluation_in s e old) (at q)) none ∙ ap (λ p. on_value p (at q)) (sym is)) ∙ h
 
     pub turn_faults : (q : Bool) (new : List Effect) (whole : Bool) → logic_in s e old ≡ false → faults new ≡ evaluation_in s e old → logic_in_turn s q all old ≡ whole → false ≡ whole
     turn_faults q new whole none is h = here-turn q (faults new) whole none is h
 
-    pub turn_goes_on : (q : Bool) (t : Tree) (new : List Effect) (whole : Bool) → logic_in s e old ≡ false → comes_to t new ≡ evaluation_in s e old → is_true t ≡ q → logic_in_turn s q all old ≡ whole → logic_in_turn s q es new ≡ whole
-    turn_goes_on q t new whole none is holds h = sym (further-same q (is_true t) (logic_in_turn s q es new) holds) ∙ here-turn q (comes_to t new) whole none is h
+    -- the value is a boolean
+    boolean-turn : (q : Bool) (t : Tree) (new : List Effect) (whole : Bool) → logic_in s e old ≡ false → comes_to t new ≡ evaluation_in s e old → boolean_test t ≡ true → logic_in_turn s q all old ≡ whole → further q (is_true t) (logic_in_turn s q es new) ≡ whole
+    boolean-turn q t new whole none is boolean h = sym (ap (λ b. not b || further q (is_true t) (logic_in_turn s q es new)) boolean) ∙ here-turn q (comes_to t new) whole none is h
+
+    pub turn_goes_on : (q : Bool) (t : Tree) (new : List Effect) (whole : Bool) → logic_in s e old ≡ false → comes_to t new ≡ evaluation_in s e old → boolean_test t ≡ true → is_true t ≡ q → logic_in_turn s q all old ≡ whole → logic_in_turn s q es new ≡ whole
+    turn_goes_on q t new whole none is boolean holds h = sym (further-same q (is_true t) (logic_in_turn s q es new) holds) ∙ boolean-turn q t new whole none is boolean h
+
+    -- or it is none
+    pub turn_is_other : (q : Bool) (t : Tree) (new : List Effect) (whole : Bool) → logic_in s e old ≡ false → comes_to t new ≡ evaluation_in s e old → boolean_test t ≡ false → logic_in_turn s q all old ≡ whole → true ≡ whole
+    turn_is_other q t new whole none is other h = sym (ap (λ b. not b || further q (is_true t) (logic_in_turn s q es new)) other) ∙ here-turn q (comes_to t new) whole none is h
+
+    -- or it ends the turn
+    pub turn_stops : (q : Bool) (t : Tree) (new : List Effect) (whole : Bool) → logic_in s e old ≡ false → comes_to t new ≡ evaluation_in s e old → boolean_test t ≡ true → not (beq (is_true t) q) ≡ true → logic_in_turn s q all old ≡ whole → false ≡ whole
+    turn_stops q t new whole none is boolean stops h = sym (further-other q (is_true t) (logic_in_turn s q es new) stops) ∙ boolean-turn q t new whole none is boolean h

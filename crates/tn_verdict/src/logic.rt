@@ -146,7 +146,7 @@ fn logic_of_one<'a, A: Allocator + Copy>(
     Ok(false)
 }
 
-/// Whether one does, in turn, as long as those before it are true, or aren't.
+/// Whether one does or is no boolean itself, in turn, as long as those before it are true, or aren't.
 #[cycle(logic)]
 fn logic_of_turn<'a, A: Allocator + Copy>(
     goes_on: bool,
@@ -164,6 +164,9 @@ fn logic_of_turn<'a, A: Allocator + Copy>(
         }
         match value(expr, scene, effects)? {
             Some(part) => {
+                if !is_boolean(part) {
+                    return Ok(true);
+                }
                 if part.is_true() != goes_on {
                     return Ok(false);
                 }
@@ -175,7 +178,7 @@ fn logic_of_turn<'a, A: Allocator + Copy>(
 }
 
 /// Whether a clause that fires with these bindings calls logic on what is no boolean, in its conditions or its body. A
-/// running node has a fault there. An error is refused memory.
+/// running node has a fault there, or gives the last argument of `andalso` or `orelse`. An error is refused memory.
 pub fn logic_differs<'a, A: Allocator + Copy>(
     alloc: A,
     arena: &'a Bump<A>,
