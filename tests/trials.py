@@ -358,7 +358,9 @@ CONSTANTS = ("0", "-1", "a", "'$_'", "'$$'", "<0.0.0>", "{}", "{a}", "[]", "[a]"
 ELEMENTS, FIELDS, DEEPEST = 4096, 255, 29
 
 
-LOGIC = "on a node: logic on what is no boolean is a fault"
+LOGIC = (
+    "on a node: logic on what is no boolean is a fault, but the last argument of andalso or orelse is its value"
+)
 
 
 def fires(bindings, asks=(), end=""):
@@ -411,10 +413,9 @@ def of_depth():
         ("{const,", "{const,[]}", "}", DEEPEST - 2, nested("{const,", "{const,[]}", "}", DEEPEST - 3)),
     ):
         expression = nested(before, inner, behind, levels)
-        lines = fires({"$1": "false"}) if value == "true" else fails(f"condition 1 is {value}")
-        yield "[false]", f"[{{['$1'],[{expression}],[]}}]", lines
-        lines = fires({"$1": "false"})
-        yield "[false]", f"[{{['$1'],[],[{expression}]}}]", (*lines, LOGIC) if "'$_'" in inner else lines
+        fired = (*fires({"$1": "false"}), *([LOGIC] if inner in ("'$_'", "'$$'") else []))
+        yield "[false]", f"[{{['$1'],[{expression}],[]}}]", fired if value == "true" else fails(f"condition 1 is {value}")
+        yield "[false]", f"[{{['$1'],[],[{expression}]}}]", fired
     asks = ["return_trace", *["message true"] * (DEEPEST - 1)]
     action = nested("{message,", "{return_trace}", "}", DEEPEST - 1)
     yield "[]", f"[{{'_',[],[{action}]}}]", fires({}, asks)

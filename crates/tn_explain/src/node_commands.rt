@@ -66,7 +66,7 @@ fn one_can_differ<A: Allocator>(exprs: &Vec<Expr<A>, A>) -> bool
     false
 }
 
-/// Whether a part of an expression is a call of a function of logic.
+/// Whether a part of an expression is a call of a function of logic, `andalso` or `orelse`.
 #[cycle(logic)]
 fn calls_logic<A: Allocator>(expr: &Expr<A>) -> bool
     ensures { result ≡ calls_logic (expr_seen expr.now) }
@@ -79,8 +79,8 @@ fn calls_logic<A: Allocator>(expr: &Expr<A>) -> bool
         Expr::Tuple(exprs) => one_calls_logic(exprs),
         Expr::List(exprs) => one_calls_logic(exprs),
         Expr::Call(func, exprs) => is_logic(*func) || one_calls_logic(exprs),
-        Expr::AndAlso(exprs) => one_calls_logic(exprs),
-        Expr::OrElse(exprs) => one_calls_logic(exprs),
+        Expr::AndAlso(_) => true,
+        Expr::OrElse(_) => true,
         Expr::Perform(_, exprs) => one_calls_logic(exprs),
     }
 }

@@ -2,10 +2,11 @@
 ghost use Rattle.std.specs.Prelude.{◌≡◌, ◌∷◌, [], ◌&&◌, not, OnOk, None, map};
 ghost use Rattle.std.specs.Option.{is_some, option_map};
 ghost use Rattle.def_explain.specs.Accounts.{differs_uncounted};
-ghost use Rattle.def_explain.specs.Differences.{is_traced, is_attempt_by, step_differs};
-ghost use Rattle.def_explain.specs.Differences.{reports_attempt, catches_error, raises_noproc};
+ghost use Rattle.def_explain.specs.Differences.{is_traced, is_attempt_by, is_error_reason, step_differs};
+ghost use Rattle.def_explain.specs.Differences.{reports_attempt, catches_error, raises_noproc, adds_calls};
 ghost use Rattle.def_term.specs.Alive.{is_alive};
 ghost use Rattle.tn_flags.specs.Views.{event_of};
+ghost use Rattle.tn_term.specs.Views.{tree_of};
 ghost use Rattle.tn_process.specs.Outlooks.{error_seen};
 ghost use Rattle.tn_node.specs.Outlooks.{outlook_seen};
 ghost use Rattle.tn_session.specs.Looks.{look_seen};
@@ -21,6 +22,7 @@ use tn_flags::{Event, Flags};
 use tn_node::Outlook;
 use tn_process::RuntimeError;
 use tn_session::Look;
+use tn_term::Term;
 use tn_verdict::Difference;
 
 /// Whether a process has a flag.
@@ -102,6 +104,27 @@ fn is_caught<A: Allocator + Copy>(look: &Look<'_, A>, outlook: Outlook, event: &
     }
 }
 
+/// Whether it is the reason of a run-time error, or of a link to a process that isn't alive.
+fn is_error_reason<A: Allocator>(reason: &Term<A>) -> bool
+    ensures { result ≡ is_error_reason (tree_of reason.now) }
+{
+    reason.is_word("undef")
+        || reason.is_word("system_limit")
+        || reason.is_word("badarg")
+        || reason.is_word("noproc")
+}
+
+/// Whether a process that has a flag ends with the reason of an error.
+fn adds_calls<A: Allocator + Copy>(look: &Look<'_, A>, outlook: Outlook, event: &Event<A>) -> bool
+    ensures { result ≡
+        step_differs (look_seen look.now) (outlook_seen outlook) (event_of event.now) adds_calls }
+{
+    match event {
+        Event::Exited { pid, reason } => is_traced(look, *pid) && is_error_reason(reason),
+        _ => false,
+    }
+}
+
 /// Whether a receive is reported whose process doesn't wait.
 fn is_reported_later<A: Allocator>(outlook: Outlook, event: &Event<A>, reported: bool) -> bool
     ensures { result ≡ is_reported_later (outlook_seen outlook) (event_of event.now) reported }
@@ -113,13 +136,15 @@ fn is_reported_later<A: Allocator>(outlook: Outlook, event: &Event<A>, reported:
 }
 
 /// What a node does otherwise by the step at an event: whether it reports the step before its error, whether a catch
-/// catches the error, whether the step of a link raises `noproc`, and whether a receive is reported later.
+/// catches the error, whether the step of a link raises `noproc`, whether a receive is reported later, and whether the
+/// reason of the end has the list of calls.
 #[derive(Clone, Copy)]
 pub(crate) struct StepDifferences {
     pub attempt: bool,
     pub caught: bool,
     pub noproc: bool,
     pub later: bool,
+    pub calls: bool,
 }
 
 impl StepDifferences {
@@ -136,6 +161,7 @@ impl StepDifferences {
             caught: is_caught(look, outlook, event),
             noproc: raises_noproc(look, outlook, event),
             later: false,
+            calls: adds_calls(look, outlook, event),
         }
     }
 
@@ -153,6 +179,7 @@ impl StepDifferences {
             caught: self.caught,
             noproc: self.noproc,
             later: is_reported_later(outlook, event, reported),
+            calls: self.calls,
         }
     }
 }
@@ -183,6 +210,7 @@ impl<A: Allocator + Copy> Lines<'_, A> {
         self.put_where_steps(steps.attempt, Difference::ReportsAttempt, out)?;
         self.put_where_steps(steps.caught, Difference::CatchesError, out)?;
         self.put_where_steps(steps.noproc, Difference::RaisesNoproc, out)?;
-        self.put_where_steps(steps.later, Difference::ReportsLater, out)
+        self.put_where_steps(steps.later, Difference::ReportsLater, out)?;
+        self.put_where_steps(steps.calls, Difference::AddsCalls, out)
     }
 }

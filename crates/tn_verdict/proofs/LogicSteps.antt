@@ -119,10 +119,6 @@ module _ {A : Type 0} {G : Ghosts A} (s : EvalContext A G) where
     pub turn_goes_on : (q : Bool) (t : Tree) (new : List Effect) (whole : Bool) → logic_in s e old ≡ false → comes_to t new ≡ evaluation_in s e old → boolean_test t ≡ true → is_true t ≡ q → logic_in_turn s q all old ≡ whole → logic_in_turn s q es new ≡ whole
     turn_goes_on q t new whole none is boolean holds h = sym (further-same q (is_true t) (logic_in_turn s q es new) holds) ∙ boolean-turn q t new whole none is boolean h
 
-    -- or it is none
-    pub turn_is_other : (q : Bool) (t : Tree) (new : List Effect) (whole : Bool) → logic_in s e old ≡ false → comes_to t new ≡ evaluation_in s e old → boolean_test t ≡ false → logic_in_turn s q all old ≡ whole → true ≡ whole
-    turn_is_other q t new whole none is other h = sym (ap (λ b. not b || further q (is_true t) (logic_in_turn s q es new)) other) ∙ here-turn q (comes_to t new) whole none is h
-
     -- or it ends the turn
     pub turn_stops : (q : Bool) (t : Tree) (new : List Effect) (whole : Bool) → logic_in s e old ≡ false → comes_to t new ≡ evaluation_in s e old → boolean_test t ≡ true → not (beq (is_true t) q) ≡ true → logic_in_turn s q all old ≡ whole → false ≡ whole
     turn_stops q t new whole none is boolean stops h = sym (further-other q (is_true t) (logic_in_turn s q es new) stops) ∙ boolean-turn q t new whole none is boolean h

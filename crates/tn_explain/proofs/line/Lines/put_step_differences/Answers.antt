@@ -1,5 +1,5 @@
 use Rattle.std.proofs.Common.{◌++◌, [], sym}
-use Rattle.def_explain.specs.Differences.{reports_attempt, catches_error, raises_noproc, reports_later}
+use Rattle.def_explain.specs.Differences.{reports_attempt, catches_error, raises_noproc, reports_later, adds_calls}
 use Rattle.tn_explain.specs.LineParts.{step_where}
 use Rattle.tn_explain.proofs.DifferenceLines.{each_step}
 use Rattle.tn_explain.proofs.LineTexts.{on_ok, more, nothing, other}
@@ -13,9 +13,11 @@ returns-clause-ok g c =
     let two = step_where d.caught catches_error in
     let three = step_where d.noproc raises_noproc in
     let four = step_where d.later reports_later in
-    on_ok c.put_where_steps-4.result _ _
-    (λ made. other n (one ++ (two ++ (three ++ (four ++ [])))) _ _ _ (sym (each_step d))
-    (more n one (two ++ (three ++ (four ++ []))) _ _ _ c.in_ok-put_where_steps.ensures.ok
-    (more n two (three ++ (four ++ [])) _ _ _ c.in_ok-put_where_steps-2.ensures.ok
-    (more n three (four ++ []) _ _ _ c.in_ok-put_where_steps-3.ensures.ok (more n four [] _ _ _ made (nothing n _))))))
-    c.put_where_steps-4.ensures.ok
+    let five = step_where d.calls adds_calls in
+    on_ok c.put_where_steps-5.result _ _
+    (λ made. other n (one ++ (two ++ (three ++ (four ++ (five ++ []))))) _ _ _ (sym (each_step d))
+    (more n one (two ++ (three ++ (four ++ (five ++ [])))) _ _ _ c.in_ok-put_where_steps.ensures.ok
+    (more n two (three ++ (four ++ (five ++ []))) _ _ _ c.in_ok-put_where_steps-2.ensures.ok
+    (more n three (four ++ (five ++ [])) _ _ _ c.in_ok-put_where_steps-3.ensures.ok
+    (more n four (five ++ []) _ _ _ c.in_ok-put_where_steps-4.ensures.ok (more n five [] _ _ _ made (nothing n _)))))))
+    c.put_where_steps-5.ensures.ok
