@@ -10,7 +10,7 @@ use tn_flags::Event;
 use tn_node::Outlook;
 use tn_session::Session;
 use tn_term::{Atom, Term};
-use tn_verdict::Difference;
+use tn_difference::Difference;
 
 /// An event, what was known of its step before it, and the name of the session that sees it.
 #[derive(Clone, Copy)]

@@ -10,7 +10,7 @@ use Rattle.tn_spec.specs.declared.func.Dialect.{Dialect}
 use Rattle.tn_action.specs.Views.{context_seen, effect_seen}
 use Rattle.tn_action.specs.declared.context.Context.{Context}
 use Rattle.tn_action.specs.declared.effect.Effect.{Effect}
-use Rattle.tn_verdict.specs.Logic.{logic_of_clause}
+use Rattle.tn_difference.specs.Logic.{logic_of_clause}
 use Rattle.tn_explain.specs.LineParts.{differs_where}
 use Rattle.tn_explain.specs.declared.clause_differences.ClauseDifferences.{ClauseDifferences}
 

@@ -23,8 +23,8 @@ use Rattle.tn_index.specs.declared.function_setting.FunctionPattern.{FunctionPat
 use Rattle.tn_session.specs.Looks.{look_seen}
 use Rattle.tn_session.specs.declared.look.Look.{Look}
 use Rattle.tn_session.specs.declared.session.Session.{Session}
-use Rattle.tn_verdict.specs.Differences.{difference_seen}
-use Rattle.tn_verdict.specs.declared.differences.Difference as code
+use Rattle.tn_difference.specs.Differences.{difference_seen}
+use Rattle.tn_difference.specs.declared.differences.Difference as code
 use Rattle.tn_trace.specs.Slots.{IsSession}
 use Rattle.tn_explain.specs.CommandReasons.{OfFunctions}
 

@@ -24,8 +24,8 @@ use Rattle.tn_spec.specs.declared.func.Dialect as func
 use Rattle.tn_action.specs.Views.{context_seen, effect_seen}
 use Rattle.tn_action.specs.declared.context.Context as context
 use Rattle.tn_action.specs.declared.effect.Effect as effect
-use Rattle.tn_verdict.specs.Differences.{difference_seen, body_differs_seen}
-use Rattle.tn_verdict.specs.declared.differences.Difference as code
+use Rattle.tn_difference.specs.Differences.{difference_seen, body_differs_seen}
+use Rattle.tn_difference.specs.declared.differences.Difference as code
 use Rattle.tn_explain.specs.declared.differences.Change.{Change}
 
 -- the process that gives flags and the one that inherits them, where the event is of that

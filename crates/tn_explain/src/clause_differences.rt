@@ -7,7 +7,7 @@ use std::alloc::{AllocError, Allocator};
 use tn_action::Context;
 use tn_head::Bindings;
 use tn_spec::{Clause, Dialect};
-use tn_verdict::{logic_differs, order_differs};
+use tn_difference::{logic_differs, order_differs};
 
 /// Whether a running node does otherwise at a clause by the order of evaluation, and by logic on what is no boolean.
 #[derive(Clone, Copy)]

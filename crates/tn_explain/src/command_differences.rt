@@ -22,7 +22,7 @@ use tn_script::Function;
 use tn_session::{Look, NewestSetting, Session, options_of, pattern_of};
 use tn_spec::{Dialect, SpecFault, spec_of};
 use tn_term::Term;
-use tn_verdict::Difference;
+use tn_difference::Difference;
 
 /// Whether there is a setting, local or global, that doesn't disable its function.
 fn is_on<A: Allocator>(newest: &Option<NewestSetting<'_, A>>, local: bool) -> bool

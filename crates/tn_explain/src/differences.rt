@@ -7,7 +7,7 @@ ghost use Rattle.def_explain.specs.Differences.{event_difference, difference_whe
 ghost use Rattle.tn_flags.specs.Views.{event_of};
 ghost use Rattle.tn_session.specs.Looks.{look_seen};
 ghost use Rattle.tn_text.specs.Writes.{Grows};
-ghost use Rattle.tn_verdict.specs.Differences.{difference_seen};
+ghost use Rattle.tn_difference.specs.Differences.{difference_seen};
 ghost use Rattle.tn_explain.specs.LineParts.{both_of, differs_where, body_difference_line};
 ghost use Rattle.tn_explain.specs.ClauseDifferences.{lines_with};
 ghost use Rattle.tn_explain.specs.LineParts.{inherited_difference};
@@ -20,7 +20,7 @@ use tn_action::{Context, Effect};
 use tn_flags::{Event, Flags};
 use tn_session::{Kind, Look};
 use tn_spec::Dialect;
-use tn_verdict::{Difference, body_differs, put_difference};
+use tn_difference::{Difference, body_differs, put_difference};
 
 /// The greatest depth of a frame.
 const FRAMES: usize = 64;

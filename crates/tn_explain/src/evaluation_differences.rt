@@ -20,7 +20,8 @@ use tn_index::Setting;
 use tn_session::Look;
 use tn_spec::{Dialect, Spec};
 use tn_term::Term;
-use tn_verdict::{Difference, Verdict, body_differs, verdict};
+use tn_difference::{Difference, body_differs};
+use tn_verdict::{Verdict, verdict};
 
 /// Whether a node does otherwise at a clause that fires.
 fn clause_differs<A: Allocator>(

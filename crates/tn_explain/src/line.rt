@@ -1,7 +1,7 @@
 // One line of a session.
 ghost use Rattle.std.specs.Prelude.{◌≡◌, ◌++◌, ◌∷◌, [], OnOk};
 ghost use Rattle.def_explain.specs.Accounts.{said, tells, differs_uncounted};
-ghost use Rattle.tn_verdict.specs.Differences.{difference_seen};
+ghost use Rattle.tn_difference.specs.Differences.{difference_seen};
 ghost use Rattle.tn_term.specs.Views.{tree_of};
 ghost use Rattle.tn_session.specs.Messages.{message_seen};
 ghost use Rattle.tn_text.specs.Writes.{Grows};
@@ -16,7 +16,7 @@ use std::alloc::{AllocError, Allocator};
 use tn_session::Message;
 use tn_term::{Atom, Term};
 use tn_text::{write_atom, write_term};
-use tn_verdict::{Difference, put_difference};
+use tn_difference::{Difference, put_difference};
 
 /// The lines of the session of a name.
 #[derive(Drop)]

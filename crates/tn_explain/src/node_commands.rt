@@ -18,7 +18,7 @@ use tn_flags::{Command, Flags, flag_of};
 use tn_program::Program;
 use tn_spec::{Action, Clause, Dialect, Expr, Spec, SpecFault, spec_of};
 use tn_term::Term;
-use tn_verdict::{is_logic, order_differs};
+use tn_difference::{is_logic, order_differs};
 
 /// Whether a process can be silent by an action, or have other flags, or a mark for exceptions.
 fn can_differ_by(action: Action) -> bool

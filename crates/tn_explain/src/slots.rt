@@ -17,7 +17,7 @@ use tn_flags::{Command, Event};
 use tn_script::Function;
 use tn_term::Alive;
 use tn_trace::Slot;
-use tn_verdict::Difference;
+use tn_difference::Difference;
 
 /// A command with what its session needs to know: the functions of the program, and who lives.
 #[derive(Drop)]

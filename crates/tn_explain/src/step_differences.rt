@@ -11,7 +11,7 @@ ghost use Rattle.tn_process.specs.Outlooks.{error_seen};
 ghost use Rattle.tn_node.specs.Outlooks.{outlook_seen};
 ghost use Rattle.tn_session.specs.Looks.{look_seen};
 ghost use Rattle.tn_text.specs.Writes.{Grows};
-ghost use Rattle.tn_verdict.specs.Differences.{difference_seen};
+ghost use Rattle.tn_difference.specs.Differences.{difference_seen};
 ghost use Rattle.tn_explain.specs.LineParts.{step_where};
 ghost use Rattle.tn_explain.specs.Lines.{Adds};
 ghost use Rattle.tn_explain.specs.StepDifferences.{AreBefore, AreAfterEvent, is_reported_later, step_differences_seen};
@@ -23,7 +23,7 @@ use tn_node::Outlook;
 use tn_process::RuntimeError;
 use tn_session::Look;
 use tn_term::Term;
-use tn_verdict::Difference;
+use tn_difference::Difference;
 
 /// Whether a process has a flag.
 fn is_traced<A: Allocator + Copy>(look: &Look<'_, A>, pid: u32) -> bool

@@ -11,7 +11,7 @@ use Rattle.def_explain.specs.Logic.{clause_has_logic_on_other}
 use Rattle.def_explain.specs.Texts.{binding_line, clause_text, reason_text, effects_text, end_text, difference_line, fires_text, verdict_text, spec_test_text_after}
 use Rattle.tn_spec.specs.Views.{clause_seen}
 use Rattle.tn_spec.specs.declared.spec.Clause.{Clause}
-use Rattle.tn_verdict.specs.Differences.{difference_line_where}
+use Rattle.tn_difference.specs.Differences.{difference_line_where}
 use Rattle.tn_verdict.specs.SpecTests.{failed_text, fires_line, message_line}
 
 -- a clause's number, and then the rest

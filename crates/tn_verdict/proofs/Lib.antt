@@ -10,4 +10,3 @@ pub mod Stops
 pub mod SpecTestFlags
 pub mod SpecReasons
 pub mod SpecReasonTexts
-pub mod LogicSteps

@@ -1,4 +1,4 @@
--- The parts of the texts of effects, and what one effect does.
+-- The parts of the texts of effects.
 use Rattle.std.specs.Prelude.{◌≡◌, ℕ, Bool, if◌then◌else◌, List, [], ◌∷◌, ◌++◌, codes}
 use Rattle.std.specs.Borrow.{Bor}
 use Rattle.def_spec.specs.Expressions.{Effect}
@@ -16,7 +16,3 @@ said_of verb (e ∷ es) = text_where e.1 verb e.0.now ++ said_of verb es
 -- an effect after a comma
 abbrev pub next_effect_text : Effect → List ℕ
 next_effect_text e = codes ", " ++ effect_text e
-
--- one effect makes the new state of the old one: whichever effects are after it, they end the same
-abbrev pub FoldsTo : {S : Type 0} → (S → List Effect → S) → S → Effect → S → Type 0
-FoldsTo behind old e new = (es : List Effect) → behind old (e ∷ es) ≡ behind new es

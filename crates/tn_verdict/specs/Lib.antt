@@ -4,7 +4,5 @@ pub mod Effects
 pub mod SpecTestInputs
 pub mod ExpressionTexts
 pub mod SpecTests
-pub mod Differences
 pub mod SpecReasons
 pub mod SpecReasonTexts
-pub mod Logic

@@ -6,7 +6,6 @@ use Rattle.std.specs.declared.alloc.Allocator.{Ghosts}
 use Rattle.std.specs.declared.vec.Vec.{Vec}
 use Rattle.def_term.specs.Tree.{Tree}
 use Rattle.def_spec.specs.Expressions.{Dialect, Effect}
-use Rattle.def_session.specs.Messages.{last_message, later}
 use Rattle.def_explain.specs.Reasons.{Reason}
 use Rattle.def_explain.specs.Differences.{clause_differences}
 use Rattle.def_explain.specs.Texts.{clause_text, reason_text, effects_text, end_text, difference_line, fires_text, spec_test_text}
@@ -20,21 +19,13 @@ use Rattle.tn_spec.specs.declared.spec.Spec.{Spec}
 use Rattle.tn_action.specs.Views.{context_seen, effect_seen}
 use Rattle.tn_action.specs.declared.context.Context.{Context}
 use Rattle.tn_action.specs.declared.effect.Effect as code
-use Rattle.tn_verdict.specs.Differences.{difference_seen, difference_line_where, body_differs_seen}
-use Rattle.tn_verdict.specs.declared.differences.Difference.{Difference}
+use Rattle.tn_difference.specs.Differences.{difference_seen, difference_line_where, body_differs_seen}
+use Rattle.tn_difference.specs.declared.differences.Difference.{Difference}
 use Rattle.tn_verdict.specs.declared.spec_test.SpecTest.{SpecTest}
 
 -- a call that went well left these bytes after the old text
 abbrev pub Appends : {A X E : Type 0} → List ℕ → Result X E → Vec ℕ A → Vec ℕ A → Type 0
 Appends bytes result old new = OnOk result (new.items ≡ old.items ++ bytes)
-
--- the term that is lent, where there is one
-abbrev pub lent_tree : {A : Type 0} → Option (Bor (Term A)) → Option Tree
-lent_tree t = option_map (λ b. tree_of b.now) t
-
--- the last message of these effects, else the one before them
-abbrev pub later_message : Option Tree → List Effect → Option Tree
-later_message before es = later before (last_message es)
 
 -- what becomes of the clauses of a specification in a context
 abbrev pub spec_test_of : {A : Type 0} → Spec A → Context A → List ℕ

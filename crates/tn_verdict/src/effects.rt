@@ -4,11 +4,10 @@ ghost use Rattle.def_term.specs.Text.{pid_text};
 ghost use Rattle.def_spec.specs.Expressions.{changes};
 ghost use Rattle.def_spec.specs.Flags.{flags_by_name};
 ghost use Rattle.def_explain.specs.Texts.{silent_text, effect_text, effects_text, said_of_each};
-ghost use Rattle.def_explain.specs.Differences.{later_silent};
 ghost use Rattle.tn_flags.specs.Views.{flags_of};
 ghost use Rattle.tn_action.specs.Views.{effect_seen};
 ghost use Rattle.tn_text.specs.Writes.{Grows};
-ghost use Rattle.tn_verdict.specs.Effects.{text_where, said_of, next_effect_text, FoldsTo};
+ghost use Rattle.tn_verdict.specs.Effects.{text_where, said_of, next_effect_text};
 
 use std::alloc::{AllocError, Allocator};
 use tn_action::Effect;
@@ -153,32 +152,4 @@ pub fn put_effects<A: Allocator, B: Allocator>(
         put_next_effect(&effects[i], out)?;
     }
     Ok(())
-}
-
-/// Whether the process has the flag `silent` after these effects, where it had it before or didn't.
-pub fn is_silent<A: Allocator>(self_pid: u32, before: bool, effects: &[Effect<A>]) -> bool
-    ensures { result ≡ later_silent self_pid before (map effect_seen effects.now) }
-{
-    let mut silent = before;
-    for effect in effects {
-        silent = silent_after(self_pid, silent, effect);
-    }
-    silent
-}
-
-/// The same after one effect.
-fn silent_after<A: Allocator>(self_pid: u32, silent: bool, effect: &Effect<A>) -> bool
-    ensures { FoldsTo (later_silent self_pid) silent (effect_seen effect.now) result }
-{
-    match effect {
-        Effect::Silent(on) => *on,
-        Effect::Change { pid, off, on } => {
-            if *pid == self_pid {
-                on.silent || (silent && !off.silent)
-            } else {
-                silent
-            }
-        }
-        Effect::Message(_) | Effect::ReturnTrace | Effect::ExceptionTrace => silent,
-    }
 }

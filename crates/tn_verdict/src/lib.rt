@@ -1,25 +1,21 @@
 //! What becomes of a clause and of a specification, and its text: why a clause doesn't fire, or what its body asks
-//! for; what a running node does otherwise there; the lines of the clauses of one specification on one list; and why a
-//! term is no specification.
+//! for; the lines of the clauses of one specification on one list; and why a term is no specification.
 //!
-//! Depends on tn_spec, tn_head, tn_guard and tn_action, on tn_text, and on the definitions of def_explain. Promises
-//! that `verdict` is the defined one, that `body_differs` says of a node what is defined, that `spec_reason` is the
-//! defined reason, and that `put_spec_test` appends the defined lines, and nothing where memory is refused. What a
-//! reason names is lent from the specification or the term, or lies in the arena: no term is copied.
+//! Depends on tn_spec, tn_head, tn_guard and tn_action, on tn_difference, on tn_text, and on the definitions of
+//! def_explain. Promises that `verdict` is the defined one, that `spec_reason` is the defined reason, and that
+//! `put_spec_test` appends the defined lines, and nothing where memory is refused. What a reason names is lent from the
+//! specification or the term, or lies in the arena: no term is copied.
 #![tactic(auto)]
 
 mod clauses;
-mod differences;
 mod effects;
 mod expression_reasons;
 mod expression_text;
 mod faults;
 mod head_term_reasons;
 mod heads;
-mod logic;
 mod names;
 mod no_specification;
-mod order;
 mod reason;
 mod reason_text;
 mod spec_reason_texts;
@@ -28,13 +24,10 @@ mod spec_test;
 mod spec_test_input;
 
 pub use clauses::verdict;
-pub use differences::{Difference, body_differs, put_difference};
 pub use effects::{put_effects, put_flags, put_pid};
 pub use expression_reasons::ExpressionReason;
 pub use head_term_reasons::HeadTermReason;
-pub use logic::{is_logic, logic_differs};
 pub use no_specification::no_specification_text;
-pub use order::order_differs;
 pub use reason::{ConditionReason, HeadReason, Reason, Verdict};
 pub use reason_text::put_reason;
 pub use spec_reason_texts::{put_setting_reason, put_spec_reason};

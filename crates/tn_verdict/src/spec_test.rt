@@ -1,6 +1,5 @@
 // What becomes of the clauses of a specification.
 ghost use Rattle.std.specs.Prelude.{◌≡◌, ◌++◌, [], OnOk, OnErr, IfOk, flat_map, map};
-ghost use Rattle.def_session.specs.Messages as messages;
 ghost use Rattle.def_explain.specs.Texts.{binding_line, ending_text, end_text, clause_text};
 ghost use Rattle.tn_guard.specs.Views.{value_seen};
 ghost use Rattle.tn_head.specs.Views.{binding_seen, bindings_seen};
@@ -8,25 +7,25 @@ ghost use Rattle.tn_spec.specs.Views.{dialect_of};
 ghost use Rattle.tn_action.specs.Views.{effect_seen};
 ghost use Rattle.tn_verdict.specs.Views.{reason_seen};
 ghost use Rattle.tn_text.specs.Writes.{Grows};
-ghost use Rattle.tn_verdict.specs.Logic.{logic_of_clause};
-ghost use Rattle.tn_verdict.specs.SpecTests.{lent_tree, later_message, spec_test_of};
+ghost use Rattle.tn_difference.specs.Logic.{logic_of_clause};
+ghost use Rattle.tn_difference.specs.Effects.{lent_tree};
+ghost use Rattle.tn_verdict.specs.SpecTests.{spec_test_of};
 ghost use Rattle.tn_verdict.specs.SpecTests.{spec_test_in, failed_text, fired_text};
 ghost use Rattle.tn_verdict.specs.SpecTests.{fires_line, message_line, Appends};
 ghost use Rattle.tn_verdict.specs.SpecTests.{line_of_difference, differences_text};
-ghost use Rattle.tn_verdict.specs.Differences.{difference_seen, difference_line_where};
-ghost use Rattle.tn_verdict.specs.Effects.{FoldsTo};
+ghost use Rattle.tn_difference.specs.Differences.{difference_seen, difference_line_where};
 
 use crate::clauses::verdict;
-use crate::differences::{Difference, body_differs, put_difference};
-use crate::effects::{is_silent, put_effects};
+use crate::effects::put_effects;
 use crate::expression_text::put_variable;
-use crate::logic::logic_differs;
-use crate::order::order_differs;
 use crate::reason::{Reason, Verdict};
 use crate::reason_text::{put_number, put_reason, put_value};
 use bumpalo::Bump;
 use std::alloc::{AllocError, Allocator};
 use tn_action::{Context, Effect};
+use tn_difference::{
+    Difference, body_differs, is_silent, last_message, logic_differs, order_differs, put_difference,
+};
 use tn_guard::Value;
 use tn_head::{Binding, Bindings};
 use tn_spec::{Clause, Dialect, Spec};
@@ -79,31 +78,6 @@ fn put_bindings<'a, A: Allocator, D: Allocator, C: Allocator + Copy, B: Allocato
         Bindings::Whole(number, list) => put_binding(alloc, *number, list.list(), out),
         Bindings::Each(bindings) => put_each(alloc, bindings.as_slice(), out),
     }
-}
-
-/// The message that an effect gives, else the one before it.
-fn message_or<'e, A: Allocator>(
-    before: Option<&'e Term<A>>,
-    effect: &'e Effect<A>,
-) -> Option<&'e Term<A>>
-    ensures { FoldsTo later_message (lent_tree before.entry) (effect_seen effect.now) (lent_tree result) }
-{
-    match effect {
-        Effect::Message(term) => Some(term),
-        Effect::ReturnTrace | Effect::ExceptionTrace | Effect::Silent(_) | Effect::Change { .. } =>
-            before,
-    }
-}
-
-/// The last message that the effects give.
-pub(crate) fn last_message<A: Allocator>(effects: &[Effect<A>]) -> Option<&Term<A>>
-    ensures { lent_tree result ≡ messages.last_message (map effect_seen effects.now) }
-{
-    let mut last = None;
-    for effect in effects {
-        last = message_or(last, effect);
-    }
-    last
 }
 
 /// Appends what the last message makes of the message's end.

@@ -2,7 +2,7 @@ use Rattle.std.proofs.Common.{◌∙◌, sym, ap}
 use Rattle.def_explain.specs.Differences.{body_differs}
 use Rattle.tn_spec.specs.Views.{dialect_of}
 use Rattle.tn_action.specs.Views.{context_seen}
-use Rattle.tn_verdict.specs.Differences.{difference_seen}
+use Rattle.tn_difference.specs.Differences.{difference_seen}
 use Rattle.complete_code.proofs.differences.body_differs.Goals as goal
 
 pub returns : goal.returns

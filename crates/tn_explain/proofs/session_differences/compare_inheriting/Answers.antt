@@ -5,7 +5,7 @@ use Rattle.tn_flags.specs.Views.{event_of}
 use Rattle.tn_session.specs.Sessions.{SessionValue, value_in}
 use Rattle.tn_session.specs.Looks.{look_seen}
 use Rattle.tn_session.specs.Messages.{message_seen}
-use Rattle.tn_verdict.specs.Differences.{difference_seen}
+use Rattle.tn_difference.specs.Differences.{difference_seen}
 use Rattle.tn_explain.proofs.SessionLines.{if_seen, and_there, seen_is, after, state, flags_inherited}
 use Rattle.tn_explain.proofs.SessionDifferences.{compares_inheriting}
 use Rattle.tn_explain.proofs.session_differences.compare_inheriting.Goals as goal

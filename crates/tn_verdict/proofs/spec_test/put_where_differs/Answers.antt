@@ -1,7 +1,7 @@
 use Rattle.std.proofs.Common.{◌∙◌, ◌++◌, [], ◌∷◌, sym, ap, append_assoc}
 use Rattle.def_explain.specs.Differences.{on_node}
 use Rattle.tn_text.proofs.Growth.{grows_on}
-use Rattle.tn_verdict.specs.Differences.{difference_seen, difference_line_where}
+use Rattle.tn_difference.specs.Differences.{difference_seen, difference_line_where}
 use Rattle.tn_verdict.proofs.Pieces.{grown_by}
 use Rattle.tn_verdict.proofs.spec_test.put_where_differs.Goals as goal
 

@@ -1,5 +1,5 @@
 use Rattle.def_explain.specs.Accounts.{differs}
-use Rattle.tn_verdict.specs.Differences.{difference_seen}
+use Rattle.tn_difference.specs.Differences.{difference_seen}
 use Rattle.tn_explain.proofs.LineTexts.{line}
 use Rattle.tn_explain.proofs.line.Lines.put_difference.Goals as goal
 

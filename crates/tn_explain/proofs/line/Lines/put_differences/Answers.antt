@@ -2,7 +2,7 @@ use Rattle.std.proofs.Common.{◌++◌, [], map, sym, ap, append-nil}
 use Rattle.def_explain.specs.Differences.{evaluates_from_right, faults_in_logic}
 use Rattle.tn_spec.specs.Views.{dialect_of}
 use Rattle.tn_action.specs.Views.{context_seen, effect_seen}
-use Rattle.tn_verdict.specs.declared.differences.Difference.TheVariants.{NodeEnds, FindsNoTracer, SuppressesMessage, LeavesNoMark}
+use Rattle.tn_difference.specs.declared.differences.Difference.TheVariants.{NodeEnds, FindsNoTracer, SuppressesMessage, LeavesNoMark}
 use Rattle.tn_explain.specs.LineParts.{differs_where, body_difference_line}
 use Rattle.tn_text.proofs.Growth.{grows_on}
 use Rattle.tn_explain.proofs.DifferenceLines.{each_of_body}

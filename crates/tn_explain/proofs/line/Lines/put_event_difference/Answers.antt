@@ -1,7 +1,7 @@
 use Rattle.std.proofs.Common.{[], map, option_to_list, sym, ap}
 use Rattle.std.specs.Option.{option_map}
 use Rattle.def_explain.specs.Accounts.{differs}
-use Rattle.tn_verdict.specs.Differences.{difference_seen}
+use Rattle.tn_difference.specs.Differences.{difference_seen}
 use Rattle.tn_explain.proofs.LineTexts.{nothing, other}
 use Rattle.tn_explain.proofs.line.Lines.put_event_difference.Goals as goal
 

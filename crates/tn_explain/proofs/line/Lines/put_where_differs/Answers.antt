@@ -1,5 +1,5 @@
 use Rattle.std.proofs.Common.{[], sym, ap}
-use Rattle.tn_verdict.specs.Differences.{difference_seen}
+use Rattle.tn_difference.specs.Differences.{difference_seen}
 use Rattle.tn_explain.specs.LineParts.{differs_where}
 use Rattle.tn_explain.proofs.LineTexts.{nothing, other}
 use Rattle.tn_explain.proofs.line.Lines.put_where_differs.Goals as goal

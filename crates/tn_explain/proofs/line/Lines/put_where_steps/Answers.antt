@@ -1,5 +1,5 @@
 use Rattle.std.proofs.Common.{◌∙◌, ◌++◌, ap}
-use Rattle.tn_verdict.specs.Differences.{difference_seen}
+use Rattle.tn_difference.specs.Differences.{difference_seen}
 use Rattle.tn_explain.proofs.DifferenceLines.{same_text}
 use Rattle.tn_explain.proofs.LineTexts.{on_ok}
 use Rattle.tn_explain.proofs.line.Lines.put_where_steps.Goals as goal

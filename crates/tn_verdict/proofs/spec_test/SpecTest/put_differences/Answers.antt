@@ -3,11 +3,11 @@ use Rattle.def_explain.specs.Differences.{evaluates_from_right, faults_in_logic,
 use Rattle.tn_spec.specs.Views.{dialect_of, clause_seen}
 use Rattle.tn_action.specs.Views.{context_seen, effect_seen}
 use Rattle.tn_text.proofs.Growth.{grows_on}
-use Rattle.tn_verdict.specs.Differences.{difference_line_where}
+use Rattle.tn_difference.specs.Differences.{difference_line_where}
 use Rattle.tn_head.specs.Views.{bindings_seen}
-use Rattle.tn_verdict.specs.Logic.{logic_of_clause}
+use Rattle.tn_difference.specs.Logic.{logic_of_clause}
 use Rattle.tn_verdict.specs.SpecTests.{line_of_difference}
-use Rattle.tn_verdict.specs.declared.differences.Difference.TheVariants.{NodeEnds, FindsNoTracer, SuppressesMessage, LeavesNoMark}
+use Rattle.tn_difference.specs.declared.differences.Difference.TheVariants.{NodeEnds, FindsNoTracer, SuppressesMessage, LeavesNoMark}
 use Rattle.tn_verdict.proofs.ClauseTexts.{each_where}
 use Rattle.tn_verdict.proofs.Pieces.{after_ok, read_as}
 use Rattle.tn_verdict.proofs.spec_test.SpecTest.put_differences.Goals as goal

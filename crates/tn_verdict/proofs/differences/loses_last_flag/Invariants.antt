@@ -1,8 +1,0 @@
-use Rattle.std.proofs.Common.{◌≡◌, drop, map}
-use Rattle.def_explain.specs.Differences.{loses_last_flag}
-use Rattle.tn_flags.specs.Views.{table_of}
-use Rattle.tn_action.specs.Views.{effect_seen}
-use Rattle.tn_verdict.proofs.differences.loses_last_flag.Given as goal
-
-abbrev pub invariant-loop-effect : goal.invariant-loop-effect
-invariant-loop-effect g l = loses_last_flag l.self_pid (table_of l.flags) (map effect_seen (drop l.effect-index l.effects)) ≡ loses_last_flag l.self_pid (table_of l.fn.flags) (map effect_seen l.effects)
