@@ -99,5 +99,7 @@ def numbers_in_terms():
             line = f"refused 2 token at {len(opening) + at}\n".encode()
             wants(f"{opening}{text}", run(SEND_HI_PICKS, f"{opening}{text}".encode()), 2, line)
         for name, opening in texts:
-            told = f"{name}:1:{len(opening) + at + 1}: no term goes on so\n".encode()
-            wants(f"{name} {opening}{text}", run(spec_words(name, f"{opening}{text}")), 2, b"", told)
+            front = f"{name}:1:{len(opening) + at + 1}: syntax error: ".encode()
+            ran = run(spec_words(name, f"{opening}{text}"))
+            good = ran.returncode == 2 and not ran.stdout and ran.stderr.startswith(front) and ran.stderr.count(b"\n") == 1
+            check(f"{name} {opening}{text}", good, ran)

@@ -52,3 +52,21 @@ pub fn line<A: Allocator + Copy>(
     let second = tn_refusal::explain(alloc, name, text, refusal);
     (first, second)
 }
+
+/// `tn_refusal::explain_term` has one answer but for what follows the words of the rule, which says what breaks it.
+pub fn term_line<A: Allocator + Copy>(
+    alloc: A,
+    name: &str,
+    text: &[u8],
+    refusal: Refusal,
+) -> (
+    Result<Vec<u8, A>, AllocError>,
+    Result<Vec<u8, A>, AllocError>,
+)
+    requires { IsPlaced text.now (refused_part (refusal_of refusal)) }
+    ensures { IfOk result.0 (λ v. IfOk result.1 (λ w. BeginAlike name.now (refusal_of refusal) v.items w.items)) }
+{
+    let first = tn_refusal::explain_term(alloc, name, text, refusal);
+    let second = tn_refusal::explain_term(alloc, name, text, refusal);
+    (first, second)
+}

@@ -13,9 +13,9 @@ use std::io;
 use std::io::Write;
 use std::process::ExitCode;
 use tn_formats::Format;
-use tn_refusal::line_column_of;
+use tn_refusal::{Refusal, explain_term};
 use tn_run::{RunFault, write_output};
-use tn_text::{MAX_TEXT, TextFault, Watched};
+use tn_text::{TextFault, Watched};
 use tn_verdict::{SpecTestFault, SpecTestInput, answer, no_specification_text};
 
 /// Why a trial ended before its answer was written and flushed.
@@ -65,26 +65,31 @@ pub fn test_spec_over<A: Allocator + Copy, W: Write>(
     }
 }
 
-/// What a text's fault is, and the offset of its token, where it has one.
-fn words_of(fault: TextFault) -> (&'static str, Option<usize>) {
+/// Why a text is no term, as a refusal of its token, where it is of one.
+fn refusal_of(fault: TextFault) -> Option<Refusal> {
     match fault {
-        TextFault::TooLong => ("the text is too long", None),
-        TextFault::Token { at } => ("no term goes on so", Some(at)),
-        TextFault::TooDeep { at } => ("too deep", Some(at)),
-        TextFault::TooLarge { at } => ("too large", Some(at)),
-        TextFault::OutOfMemory => ("fault memory", None),
+        TextFault::Token { at } => Some(Refusal::Token { at }),
+        TextFault::TooDeep { at } => Some(Refusal::TooDeep { at }),
+        TextFault::TooLarge { at } => Some(Refusal::TooLarge { at }),
+        TextFault::TooLong | TextFault::OutOfMemory => None,
     }
 }
 
 /// Says on standard error where the text of this name can be fixed, and why.
-fn tell_text(rt: &impl Eprint, name: &str, bytes: &[u8], fault: TextFault) {
-    let (words, at) = words_of(fault);
-    let _ = match at {
-        Some(at) if bytes.len() <= MAX_TEXT => {
-            let place = line_column_of(bytes, at);
-            rt.eprintln(format_args!("{name}:{}:{}: {words}", place.line, place.column))
-        }
-        _ => rt.eprintln(format_args!("{name}: {words}")),
+fn tell_text<A: Allocator + Copy>(
+    rt: &impl Eprint,
+    alloc: A,
+    name: &str,
+    text: &[u8],
+    fault: TextFault,
+) {
+    let line = match refusal_of(fault) {
+        Some(refusal) => explain_term(alloc, name, text, refusal).ok(),
+        None => None,
+    };
+    let _ = match &line {
+        Some(line) => rt.eprintln(str::from_utf8(line).unwrap_or(name)),
+        None => rt.eprintln(format_args!("{name}: {fault}")),
     };
 }
 
@@ -115,11 +120,11 @@ fn tell_question<A: Allocator + Copy>(
     fault: &SpecTestFault<A>,
 ) {
     match fault {
-        SpecTestFault::List(fault) => tell_text(rt, "list", question.list, *fault),
+        SpecTestFault::List(fault) => tell_text(rt, alloc, "list", question.list, *fault),
         SpecTestFault::Caller(fault) => {
-            tell_text(rt, "caller", question.caller.unwrap_or(b""), *fault);
+            tell_text(rt, alloc, "caller", question.caller.unwrap_or(b""), *fault);
         }
-        SpecTestFault::Text(fault) => tell_text(rt, "specification", question.spec, *fault),
+        SpecTestFault::Text(fault) => tell_text(rt, alloc, "specification", question.spec, *fault),
         SpecTestFault::Spec { .. } => tell_specification(rt, alloc, question, fault),
         _ => {
             let _ = rt.eprintln(fault);

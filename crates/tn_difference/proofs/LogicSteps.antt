@@ -1,5 +1,5 @@
 -- Logic on what is no boolean, one expression after another, and the effects of what is evaluated meanwhile.
-use Rattle.std.proofs.Common.{◌≡◌, ◌∙◌, Bool, true, false, not, ◌&&◌, ◌||◌, List, [], ◌∷◌, ◌++◌, length, take, map, Option, Some, None, refl, sym, ap, append_assoc, append-nil, if◌then◌else◌}
+use Rattle.std.proofs.Common.{◌≡◌, ◌∙◌, Bool, true, false, not, ◌&&◌, ◌||◌, List, ◌∷◌, ◌++◌, length, take, map, Option, Some, None, refl, sym, ap, append_assoc, if◌then◌else◌}
 use Rattle.std.specs.Bool.{beq}
 use Rattle.std.specs.Option.{option_map}
 use Rattle.std.specs.List.{take-map}
@@ -9,7 +9,7 @@ use Rattle.std.specs.declared.alloc.Allocator.{Ghosts}
 use Rattle.std.specs.declared.vec.Vec.{Vec}
 use Rattle.def_term.specs.Tree.{Tree}
 use Rattle.def_spec.specs.Functions.{boolean_test, is_true}
-use Rattle.def_spec.specs.Expressions.{Expr, Exprs, no_exprs, and_expr, Effect, Evaluation, comes_to, faults, then_on, or_fault, its_effects}
+use Rattle.def_spec.specs.Expressions.{Expr, Exprs, and_expr, Effect, Evaluation, comes_to, faults, then_on, or_fault, its_effects}
 use Rattle.def_spec.proofs.Values.{effects_stand_after}
 use Rattle.def_explain.specs.Logic.{on_value, one_is_no_boolean}
 use Rattle.tn_guard.specs.Views.{value_seen}

@@ -1,8 +1,7 @@
 -- Logic on what is no boolean, in the code's expressions.
-use Rattle.std.specs.Prelude.{◌≡◌, Bool, List, ◌++◌}
+use Rattle.std.specs.Prelude.{◌≡◌, Bool, List}
 use Rattle.std.specs.declared.alloc.Allocator.{Ghosts}
 use Rattle.std.specs.declared.vec.Vec.{Vec}
-use Rattle.def_term.specs.Tree.{Tree}
 use Rattle.def_spec.specs.Expressions.{Expr, Exprs, Effect}
 use Rattle.def_explain.specs.Logic.{one_is_no_boolean, on_value, is_logic_on_other, has_logic_on_other, one_has_logic_on_other, has_logic_on_other_while, clause_has_logic_on_other}
 use Rattle.tn_head.specs.Views.{bindings_seen}

@@ -1,6 +1,7 @@
 // What breaks a rule, found by looking through the text. No clause speaks of it.
 use crate::forms::{put_broken, put_form_count, put_shapeless};
 use crate::picks::put_picks;
+use crate::position::TextKind;
 use crate::put::Detail;
 use crate::refusal::{Refusal, RefusedPart, refusal_part};
 use crate::syntax::put_token;
@@ -22,9 +23,10 @@ fn put_detail<A: Allocator + Copy>(
     text: &[u8],
     form_text: &[u8],
     refusal: Refusal,
+    kind: TextKind,
 ) {
     match refusal_part(refusal) {
-        RefusedPart::Token { at } => put_token(alloc, out, text, refusal, at),
+        RefusedPart::Token { at } => put_token(alloc, out, text, refusal, at, kind),
         RefusedPart::Form { .. } if matches!(refusal, Refusal::Form { .. }) => {
             put_shapeless(alloc, out, form_text)
         }
@@ -39,8 +41,9 @@ pub fn detail_of<A: Allocator + Copy>(
     text: &[u8],
     form_text: &[u8],
     refusal: Refusal,
+    kind: TextKind,
 ) -> Result<Vec<u8, A>, AllocError> {
     let mut out = Detail::new(alloc);
-    put_detail(alloc, &mut out, text, form_text, refusal);
+    put_detail(alloc, &mut out, text, form_text, refusal, kind);
     out.into_text()
 }

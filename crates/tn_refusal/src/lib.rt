@@ -4,8 +4,8 @@
 //! Depends on tn_text, tn_script and tn_program, whose faults become refusals, and on the definitions of def_text,
 //! def_script and def_run. Promises that `refusal_bytes` is the line that is defined for the refusal; that
 //! `line_column_of` is the line and the column of an offset, and `form_offset` where a form begins; and that the
-//! line of `explain` begins with the name, the place and the words of the refusal's rule. What follows these,
-//! which is what breaks the rule, is printable and is not promised to be right.
+//! line of `explain`, and that of `explain_term`, begins with the name, the place and the words of the refusal's rule.
+//! What follows these, which is what breaks the rule, is printable and is not promised to be right.
 #![tactic(auto)]
 
 mod bytes;
@@ -35,7 +35,7 @@ mod variables;
 mod words;
 
 pub use laws::a_refused_text_has_its_place;
-pub use line::explain;
+pub use line::{explain, explain_term};
 pub use line_column::{LineColumn, line_column_of};
 pub use refusal::{Denial, Refusal, denial_of_rules, denial_of_script};
 pub use refusal_line::refusal_bytes;

@@ -5,6 +5,7 @@ ghost use Rattle.tn_refusal.specs.Refusals.{refusal_of};
 
 use crate::detail::detail_of;
 use crate::location::{front, mark_of};
+use crate::position::TextKind;
 use crate::refusal::Refusal;
 use crate::words::words_of;
 use std::alloc::{AllocError, Allocator};
@@ -26,6 +27,24 @@ fn append_shown<A: Allocator>(line: &mut Vec<u8, A>, bytes: &[u8]) -> Result<(),
     Ok(())
 }
 
+/// The line of a refused text of this kind.
+fn line_of<A: Allocator + Copy>(
+    alloc: A,
+    name: &str,
+    text: &[u8],
+    refusal: Refusal,
+    kind: TextKind,
+) -> Result<Vec<u8, A>, AllocError>
+    ensures { IfOk result (λ v. IsExplained name.now text.now (refusal_of refusal) v.items) }
+{
+    let mark = mark_of(alloc, text, refusal)?;
+    let mut line = front(alloc, name, mark.location)?;
+    line.extend_from_slice(words_of(refusal))?;
+    let found = detail_of(alloc, text, mark.form, refusal, kind)?;
+    append_shown(&mut line, &found)?;
+    Ok(line)
+}
+
 /// The line that a refused text can be mended by, without a line feed. It is the name, then `:LINE:COLUMN: `
 /// of the refused token, `:LINE: form N: ` of the refused form, or `: ` of the whole text, then the words of
 /// the rule, and then what breaks it, after `: `, where that can be found by looking through the text. For
@@ -44,10 +63,22 @@ pub fn explain<A: Allocator + Copy>(
 ) -> Result<Vec<u8, A>, AllocError>
     ensures { IfOk result (λ v. IsExplained name.now text.now (refusal_of refusal) v.items) }
 {
-    let mark = mark_of(alloc, text, refusal)?;
-    let mut line = front(alloc, name, mark.location)?;
-    line.extend_from_slice(words_of(refusal))?;
-    let found = detail_of(alloc, text, mark.form, refusal)?;
-    append_shown(&mut line, &found)?;
-    Ok(line)
+    line_of(alloc, name, text, refusal, TextKind::Script)
+}
+
+/// The line that a text can be mended by which should be one term, without a line feed: as `explain`, with a term in the
+/// place of a form, and the end of the text in that of a full stop.
+///
+/// # Errors
+///
+/// AllocError where memory was refused.
+pub fn explain_term<A: Allocator + Copy>(
+    alloc: A,
+    name: &str,
+    text: &[u8],
+    refusal: Refusal,
+) -> Result<Vec<u8, A>, AllocError>
+    ensures { IfOk result (λ v. IsExplained name.now text.now (refusal_of refusal) v.items) }
+{
+    line_of(alloc, name, text, refusal, TextKind::Term)
 }

@@ -14,6 +14,13 @@ pub enum Position {
     Done,
 }
 
+/// What a text is: forms, each with its full stop, or one term without one.
+#[derive(Clone, Copy, PartialEq, Eq)]
+pub enum TextKind {
+    Script,
+    Term,
+}
+
 /// A tuple or a list that is open: whether it is a tuple, the offset of its bracket, and how many elements
 /// stand before a comma in it.
 #[derive(Clone, Copy)]

@@ -1,7 +1,7 @@
 // What breaks the rules on a text: refusals 2 to 4.
 use crate::bytes::characters_in;
 use crate::item::{TextItem, Thing, found_at, put_found};
-use crate::position::{Position, ReadState, standing_at};
+use crate::position::{Position, ReadState, TextKind, standing_at};
 use crate::put::{Detail, put_place};
 use crate::refusal::Refusal;
 use std::alloc::{AllocError, Allocator};
@@ -25,13 +25,15 @@ fn seen_at<A: Allocator + Copy>(
 }
 
 /// What may stand next, in the words of a line.
-fn next_words(standing: ReadState) -> &'static [u8] {
+fn next_words(standing: ReadState, kind: TextKind) -> &'static [u8] {
     let in_tuple = match standing.innermost {
         Some(opened) => opened.is_tuple,
         None => false,
     };
     match standing.position {
+        Position::Form if kind == TextKind::Term => b"a term",
         Position::Form => b"a form",
+        Position::Done if kind == TextKind::Term => b"the end of the text",
         Position::Done => b"'.'",
         Position::Next => b"a term",
         Position::First if in_tuple => b"a term or '}'",
@@ -59,8 +61,24 @@ fn hint_of(thing: Thing) -> &'static [u8] {
     }
 }
 
+/// Appends what a place says of a thing that closes or ends something where nothing is open.
+fn put_unopened<A: Allocator>(out: &mut Detail<A>, thing: Thing, kind: TextKind) {
+    match (thing, kind) {
+        (Thing::End, TextKind::Script) => out.words(b": a form ends with a full stop"),
+        (Thing::End, TextKind::Term) => {}
+        (Thing::Stop, TextKind::Term) => out.words(b": the term has no full stop after it here"),
+        _ => out.words(b": nothing is open"),
+    }
+}
+
 /// Appends what a place says of a thing that closes or ends something.
-fn put_ending<A: Allocator>(out: &mut Detail<A>, text: &[u8], standing: ReadState, thing: Thing) {
+fn put_ending<A: Allocator>(
+    out: &mut Detail<A>,
+    text: &[u8],
+    standing: ReadState,
+    thing: Thing,
+    kind: TextKind,
+) {
     match standing.innermost {
         _ if thing == Thing::Close && standing.position == Position::Next => {
             out.words(b": no comma stands before a closing bracket")
@@ -74,8 +92,7 @@ fn put_ending<A: Allocator>(out: &mut Detail<A>, text: &[u8], standing: ReadStat
             put_place(out, words, text, opened.at);
             out.words(b" is not closed");
         }
-        None if thing == Thing::End => out.words(b": a form ends with a full stop"),
-        None => out.words(b": nothing is open"),
+        None => put_unopened(out, thing, kind),
     }
 }
 
@@ -100,11 +117,14 @@ fn put_hint<A: Allocator>(
     text: &[u8],
     standing: ReadState,
     found: TextItem<'_>,
+    kind: TextKind,
 ) {
     match found.thing {
         Thing::Variable => put_quotes(out, b": variables are written in quotes, '", found.bytes),
         Thing::Reserved => put_quotes(out, reserved_hint(found.bytes), found.bytes),
-        Thing::Close | Thing::End | Thing::Stop => put_ending(out, text, standing, found.thing),
+        Thing::Close | Thing::End | Thing::Stop => {
+            put_ending(out, text, standing, found.thing, kind)
+        }
         Thing::Characters if standing.position == Position::Behind => {
             out.words(b": strings are not joined")
         }
@@ -113,13 +133,18 @@ fn put_hint<A: Allocator>(
 }
 
 /// Appends what could stand where a token is refused, what stands there, and how that can be mended.
-fn put_misplaced<A: Allocator>(out: &mut Detail<A>, text: &[u8], seen: TextView<'_>) {
+fn put_misplaced<A: Allocator>(
+    out: &mut Detail<A>,
+    text: &[u8],
+    seen: TextView<'_>,
+    kind: TextKind,
+) {
     match seen.standing {
         Some(standing) => {
             out.words(b": ");
-            out.words(next_words(standing));
+            out.words(next_words(standing, kind));
             put_found(out, b" expected, found ", seen.found);
-            put_hint(out, text, standing, seen.found);
+            put_hint(out, text, standing, seen.found, kind);
         }
         None => put_found(out, b": found ", seen.found),
     }
@@ -177,10 +202,11 @@ pub fn put_token<A: Allocator + Copy>(
     text: &[u8],
     refusal: Refusal,
     at: usize,
+    kind: TextKind,
 ) {
     match seen_at(alloc, text, at) {
         Ok(seen) => match refusal {
-            Refusal::Token { .. } => put_misplaced(out, text, seen),
+            Refusal::Token { .. } => put_misplaced(out, text, seen, kind),
             Refusal::TooDeep { .. } => put_deep(out, seen.found),
             Refusal::TooLarge { .. } => put_large(out, text, seen),
             _ => {}

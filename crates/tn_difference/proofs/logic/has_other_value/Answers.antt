@@ -1,7 +1,6 @@
 use Rattle.std.proofs.Common.{◌≡◌, ◌∙◌, ◌+◌, ◌||◌, not, drop, sym, ap, arith}
 use Rattle.std.specs.Option.{option_map}
 use Rattle.def_spec.specs.Expressions.{comes_to, or_fault}
-use Rattle.def_spec.specs.Functions.{boolean_test}
 use Rattle.def_explain.specs.Logic.{on_value, one_is_no_boolean}
 use Rattle.tn_guard.specs.Views.{value_seen}
 use Rattle.tn_spec.specs.Views.{expr_seen, exprs_seen}

@@ -1,7 +1,7 @@
 use Rattle.std.proofs.Common.{◌≡◌, ◌++◌, map, rules}
 use Rattle.tn_refusal.specs.Lines.{printable_byte}
 use Rattle.tn_refusal.proofs.Printables.{all_shown}
-use Rattle.tn_refusal.proofs.line.explain.Goals as goal
+use Rattle.tn_refusal.proofs.line.line_of.Goals as goal
 
 pub returns : goal.returns
 returns g c =
