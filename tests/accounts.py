@@ -186,7 +186,7 @@ set_on_first_spawn, set_on_link, set_on_first_link
 9 0 {function,s,{m,go,0},no,[]}
   s: replies badarg: Spec is true, false or a list of clauses, found no
 10 0 {function,s,{m,go,1},true,[]}
-  s: replies 0: no function matches
+  s: replies 0: no function matches; is m:go/0 meant?
 11 0 {function,s,{m,own,0},true,[]}
   s: replies 0: no exported function matches; [local] is for the others too
 12 0 {function,s,{m,go,0},[{'_',[],[]},{'_',[{'!=','$1',1}],[]}],[]}

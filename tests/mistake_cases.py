@@ -7,7 +7,7 @@ MISTAKES = TOP / "tests" / "mistakes"
 def mistakes():
     """Each mistake: its script, the command line, a word a line, the line that is expected, and the status where it isn't 0."""
     folders = sorted(MISTAKES.iterdir())
-    check("the folders of mistakes", len(folders) >= 29, folders)
+    check("the folders of mistakes", len(folders) >= 32, folders)
     for folder in folders:
         words = (folder / "args").read_text().removesuffix("\n").split("\n")
         line = (folder / "line").read_text().removesuffix("\n")

@@ -17,6 +17,7 @@ use Rattle.def_session.specs.State.{Phase, absent, live, destroyed, Session, fla
 use Rattle.def_session.specs.Commands.{number_term, fault_term, Procs, one_process, existing, new_processes, all_processes, procs_of, how_of, changed_flags, refuse, flags_set, flags_set_if, matching_count, function_set, function_set_if, send_set, receive_set, done_live, done_absent, done_destroyed, done_in, command_done}
 use Rattle.def_explain.specs.SpecReasons.{SpecReason, reason_fault, IsSpecReason, first_reason, spec_reason}
 use Rattle.def_explain.specs.CommandReasons.{CommandReason, not_created, exists_already, is_destroyed, no_processes, not_alive, no_how, no_flag_list, no_flag, no_pattern, no_options, no_specification, no_match, no_exported_match, reply_of, refuses, IsTaken, SetsProcesses, SetsBy, IsNoFlag, any_setting, MatchNone, SetsPattern, IsLiveReason, IsCommandReason, reason_where_none, other_than_flag, flags_reason, life_reason, processes_reason, setting_reason, no_match_reason, match_reason, function_reason, live_reason, absent_reason, destroyed_reason, reason_in, command_reason}
+use Rattle.def_explain.specs.NearestFunctions.{nearest_function}
 use Rattle.def_explain.specs.ReasonLaws.{CommandReasonIsComputed, ReplyIsOfReason, FaultHasReason, ZeroHasReason, RefusalChangesNothing}
 use Rattle.def_explain.proofs.SpecReasons.{is_so, none-some, map-none, map-some, first-sound, first-complete, spec_fault_has_reason, spec_reason_is_computed}
 
@@ -246,8 +247,8 @@ module _ (o : Exports) (s : Session) where
       none_there : (covered : FunctionPattern) (local : Bool) (k : Setting) → trace_pattern_of mfa ≡ Some covered → options_of options ≡ Some local → setting_of for_calls spec ≡ Ok k → MatchNone o covered local → no_match_reason o covered ≡ r → Here r
       none_there covered local k p q g m e = all (matching_count o (any_setting covered true) == 0) refl local q m e
         where
-          all : (b : Bool) → (matching_count o (any_setting covered true) == 0) ≡ b → (l : Bool) → options_of options ≡ Some l → MatchNone o covered l → (if b then no_match else no_exported_match) ≡ r → Here r
-          all true z l q m e = subst Here e (covered, l, (mfa, spec, options, k, (name, refl), p, q, g), m, is_zero (matching_count o (any_setting covered true)) z)
+          all : (b : Bool) → (matching_count o (any_setting covered true) == 0) ≡ b → (l : Bool) → options_of options ≡ Some l → MatchNone o covered l → (if b then no_match (nearest_function covered o.functions) else no_exported_match) ≡ r → Here r
+          all true z l q m e = subst Here e (covered, l, (mfa, spec, options, k, (name, refl), p, q, g), m, is_zero (matching_count o (any_setting covered true)) z, refl)
           all false z true q m e = absurd (not_zero (matching_count o (any_setting covered true)) z m)
           all false z false q m e = subst Here e (covered, (mfa, spec, options, k, (name, refl), p, q, g), m, not_zero (matching_count o (any_setting covered true)) z)
 
@@ -359,8 +360,11 @@ module _ (o : Exports) (s : Session) where
       ∙ or-second (of_pattern h.0) _ (where-read (no_pattern h.0) (trace_pattern_of h.0) h.3)
       ∙ or-first (of_options t) _ (no_options t) (ap (reason_where_none (no_options t)) h.4)
   live-complete c (no_specification r) h = by-specification c h.0 h.1 r h.2 (setting-complete h.0 h.1 r h.3 h.4)
-  live-complete c no_match h = by-match c h.0 h.1 h.2 h.3 ∙ ap (λ b. Some (if b then no_match else no_exported_match)) (zero_is (matching_count o (any_setting h.0 true)) h.4)
-  live-complete c no_exported_match h = by-match c h.0 false h.1 h.2 ∙ ap (λ b. Some (if b then no_match else no_exported_match)) (no_zero (matching_count o (any_setting h.0 true)) h.3)
+  live-complete c (no_match near) h =
+      by-match c h.0 h.1 h.2 h.3
+      ∙ ap (λ b. Some (if b then no_match (nearest_function h.0 o.functions) else no_exported_match)) (zero_is (matching_count o (any_setting h.0 true)) h.4)
+      ∙ ap (λ f. Some (no_match f)) (sym h.5)
+  live-complete c no_exported_match h = by-match c h.0 false h.1 h.2 ∙ ap (λ b. Some (if b then no_match (nearest_function h.0 o.functions) else no_exported_match)) (no_zero (matching_count o (any_setting h.0 true)) h.3)
 
 -- ---- any command
 
@@ -468,7 +472,7 @@ module _ (o : Exports) (s : Session) where
       ∙ ap (λ p. function_set_if o s p (options_of t) h.1) h.3.1
       ∙ ap (λ q. function_set_if o s (Some h.3.0) q h.1) h.4
   live-refusal c (no_specification r) h k = specification-done c h.0 h.1 (reason_fault r) h.2 h.3
-  live-refusal c no_match h k = absurd (cc k)
+  live-refusal c (no_match near) h k = absurd (cc k)
   live-refusal c no_exported_match h k = absurd (cc k)
 
   -- a function command that is done
@@ -502,7 +506,7 @@ module _ (o : Exports) (s : Session) where
   refusal-is c r h k = ap (λ p. done_in p o s c) h.0 ∙ live-refusal c r h.1 k
 
   has-reply : (c : Command) (r : CommandReason) → IsCommandReason o s c r → (command_done o s c).1 ≡ reply_of r
-  has-reply c no_match h = ap (λ p. (done_in p o s c).1) h.0 ∙ pattern-done c h.1.0 h.1.1 h.1.2 ∙ ap number_term h.1.3
+  has-reply c (no_match near) h = ap (λ p. (done_in p o s c).1) h.0 ∙ pattern-done c h.1.0 h.1.1 h.1.2 ∙ ap number_term h.1.3
   has-reply c no_exported_match h = ap (λ p. (done_in p o s c).1) h.0 ∙ pattern-done c h.1.0 false h.1.1 ∙ ap number_term h.1.2
   has-reply c r h = ap (λ x. x.1) (refusal-is c r h refl)
 

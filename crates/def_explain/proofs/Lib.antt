@@ -29,3 +29,4 @@ pub mod CommandReasons
 pub mod Remarks
 mod RemarkRows
 pub mod EmptyScripts
+pub mod NearestFunctions

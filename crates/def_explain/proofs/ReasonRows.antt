@@ -277,10 +277,29 @@ pub specification_of_receive : of_command at_start (set_receive (codes "s") (num
 unfolding is_written_bare digits
 specification_of_receive = refl
 
--- of no arity there is one
-pub none_matches : of_function (in_module "f" 3) (word "true") (brackets []) ≡ says "no function matches"
+-- of another arity there is one
+pub none_matches : of_function (in_module "f" 3) (word "true") (brackets []) ≡ says "no function matches; is m:f/1 meant?"
 unfolding is_written_bare digits
 none_matches = refl
+
+-- of the same name there is one in another module
+pub none_in_module : of_function (braces (word "n" ∷ word "g" ∷ word "_" ∷ [])) (word "true") (brackets (word "local" ∷ [])) ≡ says "no function matches; is m:g/0 meant?"
+unfolding is_written_bare digits
+none_in_module = refl
+
+-- of another name the first of the module
+pub none_of_name : of_function (in_module "h" 0) (word "true") (brackets []) ≡ says "no function matches; is m:f/1 meant?"
+unfolding is_written_bare digits
+none_of_name = refl
+
+-- nothing is near
+pub none_near : of_function (braces (word "n" ∷ word "h" ∷ number 0 ∷ [])) (word "true") (brackets []) ≡ says "no function matches"
+unfolding is_written_bare digits
+none_near = refl
+
+pub none_of_module : of_function (braces (word "n" ∷ word "_" ∷ word "_" ∷ [])) (word "true") (brackets []) ≡ says "no function matches"
+unfolding is_written_bare digits
+none_of_module = refl
 
 pub none_of_exported : of_function (in_module "g" 0) (word "true") (brackets []) ≡ says "no exported function matches; [local] is for the others too"
 unfolding is_written_bare digits
@@ -302,7 +321,7 @@ pub reply_of_unsupported : reply_text two_functions at_start (set_send (codes "s
 unfolding is_written_bare digits
 reply_of_unsupported = refl
 
-pub reply_of_no_match : reply_text two_functions at_start (set_function (codes "s") (in_module "f" 3) (word "false") (brackets [])) ≡ codes "replies 0: no function matches"
+pub reply_of_no_match : reply_text two_functions at_start (set_function (codes "s") (in_module "f" 3) (word "false") (brackets [])) ≡ codes "replies 0: no function matches; is m:f/1 meant?"
 unfolding is_written_bare digits
 reply_of_no_match = refl
 

@@ -9,14 +9,14 @@ use Rattle.def_explain.specs.Remarks.{remarks_after, remark_text, has_reason_lin
 use Rattle.def_explain.specs.CommandPlaces.{before_form, command_starts}
 
 -- the second and the fourth of four commands
-numbered_from_one : remarks_after 0 (None ∷ Some no_match ∷ None ∷ Some not_created ∷ []) ≡ (record { command = 2; reason = no_match } ∷ record { command = 4; reason = not_created } ∷ [])
+numbered_from_one : remarks_after 0 (None ∷ Some (no_match None) ∷ None ∷ Some not_created ∷ []) ≡ (record { command = 2; reason = no_match None } ∷ record { command = 4; reason = not_created } ∷ [])
 numbered_from_one = refl
 
 text_of_remark : remark_text (record { command = 2; reason = no_how (word "on") }) ≡ codes "command 2 replies badarg: How is true or false, found on"
 unfolding is_written_bare digits
 text_of_remark = refl
 
-text_of_no_match : remark_text (record { command = 12; reason = no_match }) ≡ codes "command 12 replies 0: no function matches"
+text_of_no_match : remark_text (record { command = 12; reason = no_match None }) ≡ codes "command 12 replies 0: no function matches"
 unfolding is_written_bare digits
 text_of_no_match = refl
 

@@ -127,7 +127,7 @@ begins_by (no_flag t) rest = refl
 begins_by (no_pattern t) rest = refl
 begins_by (no_options t) rest = refl
 begins_by (no_specification r) rest = begins_by_fault (reason_fault r) rest
-begins_by no_match rest = refl
+begins_by (no_match near) rest = refl
 begins_by no_exported_match rest = refl
 
 or_second : (a b : Bool) → (a || b) ≡ false → b ≡ false

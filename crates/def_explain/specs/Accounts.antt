@@ -1,10 +1,10 @@
 -- What one session makes of an event or a command, line by line (own).
 -- Depends on what a session makes of an event, on why it reports nothing or refuses a command, on what a node does otherwise, and on the texts of reasons and effects.
-use Rattle.std.specs.Prelude.{ℕ, suc, if◌then◌else◌, List, [], ◌∷◌, ◌++◌, map, Option, Some, None, option_to_list, codes, decimal}
+use Rattle.std.specs.Prelude.{ℕ, suc, if◌then◌else◌, List, [], ◌∷◌, ◌++◌, map, Option, Some, None, option_to_list, codes}
 use Rattle.std.specs.Option.{unwrap_or}
 use Rattle.def_term.specs.Tree.{Tree, pid}
-use Rattle.def_term.specs.Names.{Mfa, word}
-use Rattle.def_term.specs.Text.{atom_text, pid_text}
+use Rattle.def_term.specs.Names.{word}
+use Rattle.def_term.specs.Text.{pid_text}
 use Rattle.def_script.specs.Program.{Command}
 use Rattle.def_script.specs.Exports.{Exports}
 use Rattle.def_spec.specs.Flags.{Flags, only, without, flags_by_name}
@@ -20,7 +20,7 @@ use Rattle.def_explain.specs.Verdicts.{Verdict, fails, fires, verdict_of}
 use Rattle.def_explain.specs.Differences.{Difference, clause_differences, event_difference, step_differences}
 use Rattle.def_explain.specs.CommandDifferences.{command_difference}
 use Rattle.def_explain.specs.Texts.{said_of_each, effects_text, reason_text, clause_text}
-use Rattle.def_explain.specs.ReasonTexts.{reply_text}
+use Rattle.def_explain.specs.ReasonTexts.{mfa_text, reply_text}
 
 -- what is said, a message that is reported, what a running node does otherwise, or what it does otherwise and the note of a run doesn't count: by the step, or by a command
 pub data Line : Type 0 where
@@ -96,10 +96,6 @@ evaluation_lines s (called p c) = setting_lines (setting_for s.functions c) (con
 evaluation_lines s e = []
 
 -- ---- causes
-
--- M:F/A
-abbrev pub mfa_text : Mfa → List ℕ
-mfa_text f = atom_text f.module_name ++ 58 ∷ atom_text f.function_name ++ 47 ∷ decimal f.arity
 
 -- the function that has no setting, where the event is a call
 abbrev pub no_setting_text : Event → List ℕ

@@ -1,10 +1,10 @@
 -- Why a command replies `badarg` or {unsupported,Name}, and why a function command replies 0 (own).
--- Depends on what a command does, and on why terms are no specifications; faults are in the order in which the reply has them.
+-- Depends on what a command does, on why terms are no specifications, and on which function is nearest; faults are in the order in which the reply has them.
 use Rattle.std.specs.Prelude.{◌≡◌, ◌≢◌, ℕ, ◌==◌, Bool, true, false, ◌||◌, if◌then◌else◌, Option, Some, None, Ok, Err}
 use Rattle.std.specs.Option.{option_map, option_or}
 use Rattle.def_term.specs.Tree.{Tree, pid, list, Trees, none, elements}
 use Rattle.def_term.specs.Order.{same}
-use Rattle.def_term.specs.Names.{Name, word}
+use Rattle.def_term.specs.Names.{Name, Mfa, word}
 use Rattle.def_term.specs.Alive.{is_alive}
 use Rattle.def_script.specs.Program.{Command, create, destroy, set_processes, set_function, set_send, set_receive}
 use Rattle.def_script.specs.Exports.{Exports}
@@ -14,6 +14,7 @@ use Rattle.def_session.specs.Settings.{FunctionPattern, Setting, FunctionSetting
 use Rattle.def_session.specs.State.{Phase, absent, live, destroyed, Session}
 use Rattle.def_session.specs.Commands.{number_term, fault_term, procs_of, how_of, matching_count}
 use Rattle.def_explain.specs.SpecReasons.{SpecReason, reason_fault, IsFirstReason, IsSpecReason, first_reason, spec_reason}
+use Rattle.def_explain.specs.NearestFunctions.{nearest_function}
 
 -- why a command is refused, or matches no function
 pub data CommandReason : Type 0 where
@@ -34,20 +35,20 @@ pub data CommandReason : Type 0 where
   no_options : Tree → CommandReason
   -- no specification
   no_specification : SpecReason → CommandReason
-  -- no function matches, or none that is exported but another
-  no_match : CommandReason
+  -- no function matches, and which is the nearest; or none that is exported but another
+  no_match : Option Mfa → CommandReason
   no_exported_match : CommandReason
 
 -- the reply of a command with this reason
 abbrev pub reply_of : CommandReason → Tree
 reply_of (no_specification r) = fault_term (reason_fault r)
-reply_of no_match = number_term 0
+reply_of (no_match near) = number_term 0
 reply_of no_exported_match = number_term 0
 reply_of r = word "badarg"
 
 -- whether a command with this reason is refused, and so changes nothing
 abbrev pub refuses : CommandReason → Bool
-refuses no_match = false
+refuses (no_match near) = false
 refuses no_exported_match = false
 refuses r = true
 
@@ -106,8 +107,9 @@ IsLiveReason o s c (no_flag t) =
 IsLiveReason o s c (no_pattern t) = (spec options : Tree) × SetsFunction c t spec options × (trace_pattern_of t ≡ None)
 IsLiveReason o s c (no_options t) = (mfa spec : Tree) × SetsFunction c mfa spec t × IsTaken (trace_pattern_of mfa) × (options_of t ≡ None)
 IsLiveReason o s c (no_specification r) = (d : Dialect) × (t : Tree) × SetsBy c d t × (setting_of d t ≡ Err (reason_fault r)) × IsSpecReason d t r
-IsLiveReason o s c no_match =
-    (covered : FunctionPattern) × (local : Bool) × SetsPattern c covered local × MatchNone o covered local × MatchNone o covered true
+IsLiveReason o s c (no_match near) =
+    (covered : FunctionPattern) × (local : Bool)
+    × SetsPattern c covered local × MatchNone o covered local × MatchNone o covered true × (near ≡ nearest_function covered o.functions)
 IsLiveReason o s c no_exported_match = (covered : FunctionPattern) × SetsPattern c covered false × MatchNone o covered false × (¬ MatchNone o covered true)
 
 -- only creation is possible of a session that isn't there yet, and only destruction has another reply of a destroyed one
@@ -153,7 +155,7 @@ setting_reason d t =
 
 -- where no function matches; a local command also matches functions that aren't exported
 abbrev pub no_match_reason : Exports → FunctionPattern → CommandReason
-no_match_reason o covered = if matching_count o (any_setting covered true) == 0 then no_match else no_exported_match
+no_match_reason o covered = if matching_count o (any_setting covered true) == 0 then no_match (nearest_function covered o.functions) else no_exported_match
 
 -- of these functions
 abbrev pub match_reason : Exports → Option FunctionPattern → Option Bool → Option CommandReason

@@ -25,3 +25,4 @@ pub mod Remarks
 pub mod RemarkLaws
 pub mod CommandPlaces
 pub mod EmptyScripts
+pub mod NearestFunctions

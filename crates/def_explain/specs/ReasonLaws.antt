@@ -1,9 +1,9 @@
 -- What is promised of the reasons why commands and match specifications are refused (own).
 -- Depends on these reasons, on how specifications are read and on what commands do.
-use Rattle.std.specs.Prelude.{◌≡◌, ◌↔◌, true, Some, Err}
+use Rattle.std.specs.Prelude.{◌≡◌, ◌↔◌, Bool, true, ◌||◌, List, Some, Err}
 use Rattle.std.specs.Option.{option_map}
 use Rattle.def_term.specs.Tree.{Tree}
-use Rattle.def_term.specs.Names.{Name}
+use Rattle.def_term.specs.Names.{Name, Mfa}
 use Rattle.def_script.specs.Program.{Command, set_function}
 use Rattle.def_script.specs.Exports.{Exports}
 use Rattle.def_spec.specs.Expressions.{Dialect}
@@ -11,7 +11,9 @@ use Rattle.def_spec.specs.Reading.{SpecFault, spec_of}
 use Rattle.def_session.specs.State.{Session}
 use Rattle.def_session.specs.Commands.{number_term, fault_term, command_done}
 use Rattle.def_explain.specs.SpecReasons.{SpecReason, reason_fault, IsSpecReason, spec_reason}
-use Rattle.def_explain.specs.CommandReasons.{CommandReason, reply_of, refuses, IsCommandReason, command_reason}
+use Rattle.def_explain.specs.Lists.{One}
+use Rattle.def_explain.specs.NearestFunctions.{has_module, has_name, nearest_to}
+use Rattle.def_explain.specs.CommandReasons.{CommandReason, reply_of, refuses, IsTaken, IsCommandReason, command_reason}
 
 -- there is a reason exactly where a term isn't read as a specification, and it is of the fault that is answered
 abbrev pub SpecFaultHasReason : Type 0
@@ -47,3 +49,19 @@ ZeroHasReason =
 abbrev pub RefusalChangesNothing : Type 0
 RefusalChangesNothing =
     (o : Exports) (s : Session) (c : Command) (r : CommandReason) → command_reason o s c ≡ Some r → refuses r ≡ true → (command_done o s c).0 ≡ s
+
+-- the function has this module or this name
+abbrev pub IsAlike : (module_name function_name : Name) → Mfa → Type 0
+IsAlike m g f = (has_module m f || has_name g f) ≡ true
+
+-- one of the functions is f, which is alike
+abbrev pub IsNearest : (module_name function_name : Name) → Mfa → Mfa × Bool → Type 0
+IsNearest m g f k = (k.0 ≡ f) × IsAlike m g f
+
+-- the function that was probably meant is one of these, with the module or the name that is asked for
+abbrev pub NearestIsThere : Type 0
+NearestIsThere = (m g : Name) (ks : List (Mfa × Bool)) (f : Mfa) → nearest_to m g ks ≡ Some f → One (IsNearest m g f) ks
+
+-- where a function has one of the two, one was probably meant
+abbrev pub SomeNearestWhereAlike : Type 0
+SomeNearestWhereAlike = (m g : Name) (ks : List (Mfa × Bool)) → One (λ k. IsAlike m g k.0) ks → IsTaken (nearest_to m g ks)

@@ -3,7 +3,7 @@
 use Rattle.std.specs.Prelude.{ℕ, suc, ◌==◌, Bool, true, false, if◌then◌else◌, List, [], ◌∷◌, ◌++◌, Option, Some, None, codes, decimal}
 use Rattle.std.specs.Str.{bytes_eq}
 use Rattle.def_term.specs.Tree.{Tree, atom, tuple, Trees, none, more, count}
-use Rattle.def_term.specs.Names.{Name}
+use Rattle.def_term.specs.Names.{Name, Mfa}
 use Rattle.def_term.specs.Text.{w, atom_text, pid_text}
 use Rattle.def_script.specs.Program.{Command}
 use Rattle.def_script.specs.Exports.{Exports}
@@ -144,6 +144,15 @@ abbrev pub flag_names : List (Name × Flag) → List ℕ
 flag_names [] = []
 flag_names (e ∷ es) = atom_text e.0 ++ each_flag_after_comma es
 
+-- M:F/A
+abbrev pub mfa_text : Mfa → List ℕ
+mfa_text f = atom_text f.module_name ++ 58 ∷ atom_text f.function_name ++ 47 ∷ decimal f.arity
+
+-- the function that was probably meant, where there is one
+abbrev pub meant_text : Option Mfa → List ℕ
+meant_text None = []
+meant_text (Some f) = codes "; is " ++ mfa_text f ++ codes " meant?"
+
 -- why a command is refused, or matches no function
 abbrev pub command_reason_text : CommandReason → List ℕ
 command_reason_text not_created = codes "the session isn't created yet"
@@ -157,7 +166,7 @@ command_reason_text (no_flag t) = codes "no flag " ++ w t ++ codes "; the flags 
 command_reason_text (no_pattern t) = codes "MFA is {M,F,A}, {M,F,'_'}, {M,'_','_'} or {'_','_','_'}, A from 0 to 255" ++ found_text t
 command_reason_text (no_options t) = codes "Opts is [], [global] or [local]" ++ found_text t
 command_reason_text (no_specification r) = setting_reason_text r
-command_reason_text no_match = codes "no function matches"
+command_reason_text (no_match near) = codes "no function matches" ++ meant_text near
 command_reason_text no_exported_match = codes "no exported function matches; [local] is for the others too"
 
 -- after a reply, where there is a reason

@@ -26,6 +26,7 @@ ghost use Rattle.def_explain.specs.RemarkLaws.{RemarkIsOfReason, RemarkHasItsRep
 ghost use Rattle.def_explain.specs.RemarkLaws.{NothingAfterCommands, NoReasonLineNoRemark, EmptyScriptIsGap};
 ghost use Rattle.def_explain.specs.ReasonLaws.{SpecFaultHasReason, SpecReasonIsComputed, CommandReasonIsComputed};
 ghost use Rattle.def_explain.specs.ReasonLaws.{ReplyIsOfReason, FaultHasReason, ZeroHasReason, RefusalChangesNothing};
+ghost use Rattle.def_explain.specs.ReasonLaws.{NearestIsThere, SomeNearestWhereAlike};
 
 /// A clause has a reason exactly where it doesn't fire, and one at most, which is what is computed.
 pub fn a_clause_has_a_reason_or_fires()
@@ -123,6 +124,13 @@ pub fn a_refusal_has_a_reason()
     ensures fault { FaultHasReason }
     ensures zero { ZeroHasReason }
     ensures unchanged { RefusalChangesNothing }
+{}
+
+/// The function that was probably meant, where a function command matches none, is one of the script's with the module
+/// or the name that the command asks for; and where there is such a function, one was probably meant.
+pub fn a_nearest_function_is_there()
+    ensures there { NearestIsThere }
+    ensures some { SomeNearestWhereAlike }
 {}
 
 /// A command of a run is remarked of exactly where it has a reason, and has the reply of that; the same is remarked by

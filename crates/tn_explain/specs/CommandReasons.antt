@@ -3,6 +3,7 @@ use Rattle.std.specs.Prelude.{◌≡◌, ℕ, ◌==◌, Bool, List, length, drop
 use Rattle.std.specs.Option.{option_map}
 use Rattle.std.specs.Borrow.{Bor}
 use Rattle.def_term.specs.Alive.{Alive}
+use Rattle.def_term.specs.Names.{Mfa}
 use Rattle.def_term.specs.Tree.{Tree}
 use Rattle.def_script.specs.Program.{Command}
 use Rattle.def_script.specs.Exports.{Exports, visible}
@@ -22,6 +23,7 @@ use Rattle.tn_index.specs.declared.function_setting.FunctionPattern.{FunctionPat
 use Rattle.tn_session.specs.declared.session.Session.{Session}
 use Rattle.tn_verdict.specs.SpecReasons.{spec_reason_seen}
 use Rattle.tn_trace.specs.Slots.{IsSession}
+use Rattle.tn_explain.specs.NearestFunctions.{lent_function}
 use Rattle.tn_explain.specs.declared.command_reasons.CommandReason.{CommandReason}
 use Rattle.tn_explain.specs.declared.command_reasons.CommandReason.TheVariants.{NotCreated, ExistsAlready, IsDestroyed, NoProcesses, NotAlive, NoHow, NoFlagList, NoFlag, NoPattern, NoOptions, NoSpecification, NoMatch, NoExportedMatch}
 
@@ -38,7 +40,7 @@ command_reason_seen (NoFlag t) = reasons.no_flag (tree_of t.now)
 command_reason_seen (NoPattern t) = reasons.no_pattern (tree_of t.now)
 command_reason_seen (NoOptions t) = reasons.no_options (tree_of t.now)
 command_reason_seen (NoSpecification r) = reasons.no_specification (spec_reason_seen r)
-command_reason_seen NoMatch = reasons.no_match
+command_reason_seen (NoMatch f) = reasons.no_match (lent_function f)
 command_reason_seen NoExportedMatch = reasons.no_exported_match
 
 -- the same, where there is a reason
@@ -58,6 +60,10 @@ no_flag_text t = command_reason_text (reasons.no_flag t)
 -- that a process isn't alive
 abbrev pub not_alive_text : ℕ → List ℕ
 not_alive_text n = command_reason_text (reasons.not_alive n)
+
+-- that no function matches, and which was probably meant
+abbrev pub no_match_text : Option Mfa → List ℕ
+no_match_text near = command_reason_text (reasons.no_match near)
 
 -- the fault of a specification that uses an unsupported function of this name, or another
 abbrev pub fault_of_name : Option (Bor (List ℕ)) → SpecFault

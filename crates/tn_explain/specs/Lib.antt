@@ -17,3 +17,4 @@ pub mod CommandDifferences
 pub mod CommandStarts
 pub mod RemarkedSessions
 pub mod RemarkLines
+pub mod NearestFunctions

@@ -10,11 +10,11 @@ use Rattle.def_session.specs.State.{Session}
 use Rattle.def_session.specs.Session.{effects_of}
 use Rattle.def_explain.specs.Reasons.{Reason}
 use Rattle.def_explain.specs.CommandReasons.{CommandReason}
-use Rattle.def_explain.specs.ReasonTexts.{reason_after_reply}
+use Rattle.def_explain.specs.ReasonTexts.{mfa_text, reason_after_reply}
 use Rattle.def_explain.specs.Causes.{cause_of}
 use Rattle.def_explain.specs.Texts.{clause_text, reason_text, effects_text, said_of_each}
 use Rattle.def_explain.specs.Differences.{Difference, clears_spawn_flags, gives_no_flags, clause_differences, has_spawn_flag, difference_where}
-use Rattle.def_explain.specs.Accounts.{Line, said, tells, differs, differs_uncounted, line_where, changed_text, mfa_text, message_lines, evaluation_lines, mark_lines, end_lines}
+use Rattle.def_explain.specs.Accounts.{Line, said, tells, differs, differs_uncounted, line_where, changed_text, message_lines, evaluation_lines, mark_lines, end_lines}
 use Rattle.tn_flags.specs.Views.{flags_of}
 use Rattle.tn_head.specs.Views.{bindings_seen}
 use Rattle.tn_head.specs.declared.bindings.Bindings.{Bindings}

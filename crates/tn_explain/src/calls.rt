@@ -1,7 +1,7 @@
 // What is known of a call before the session sees it.
 ghost use Rattle.std.specs.Prelude.{◌≡◌, ◌||◌, ◌++◌, IfOk, OnOk};
 ghost use Rattle.def_node.specs.Event.{called};
-ghost use Rattle.def_explain.specs.Accounts.{mfa_text};
+ghost use Rattle.def_explain.specs.ReasonTexts.{mfa_text};
 ghost use Rattle.tn_term.specs.Views.{mfa_seen};
 ghost use Rattle.tn_flags.specs.Views.{call_seen};
 ghost use Rattle.tn_text.specs.Writes.{Grows};

@@ -1,22 +1,28 @@
 // The texts of why a command is refused, or matches no function.
-ghost use Rattle.std.specs.Prelude.{◌≡◌, ◌++◌, IfOk, OnOk};
+ghost use Rattle.std.specs.Prelude.{◌≡◌, ◌++◌, Some, IfOk, OnOk};
 ghost use Rattle.std.specs.Option.{option_map};
 ghost use Rattle.def_term.specs.Text.{w};
+ghost use Rattle.def_script.specs.Program.{mfa_of};
 ghost use Rattle.def_spec.specs.Flags.{flags_by_name};
 ghost use Rattle.def_session.specs.Commands.{fault_term};
 ghost use Rattle.def_explain.specs.SpecReasons.{reason_fault};
 ghost use Rattle.def_explain.specs.CommandReasons.{reply_of};
 ghost use Rattle.def_explain.specs.Remarks.{reply_and_reason};
 ghost use Rattle.def_explain.specs.ReasonTexts.{found_text, flag_names, command_reason_text, reason_after_reply};
+ghost use Rattle.def_explain.specs.ReasonTexts.{mfa_text, meant_text};
 ghost use Rattle.tn_term.specs.Views.{tree_of};
+ghost use Rattle.tn_script.specs.Views.{function_of};
 ghost use Rattle.tn_text.specs.Writes.{Grows};
 ghost use Rattle.tn_explain.specs.CommandReasons.{command_reason_seen, command_reasons_seen, no_flag_text};
 ghost use Rattle.tn_explain.specs.RemarkedSessions.{text_seen};
-ghost use Rattle.tn_explain.specs.CommandReasons.{not_alive_text, fault_of_name};
+ghost use Rattle.tn_explain.specs.CommandReasons.{not_alive_text, no_match_text, fault_of_name};
+ghost use Rattle.tn_explain.specs.NearestFunctions.{lent_function};
 ghost use Rattle.tn_verdict.specs.SpecReasons.{spec_reason_seen};
 
 use crate::command_reasons::CommandReason;
+use itoa::Buffer;
 use std::alloc::{AllocError, Allocator};
+use tn_script::Function;
 use tn_term::{Atom, Term};
 use tn_text::{write_atom, write_term};
 use tn_verdict::{ClauseReason, ExpressionReason, SpecReason, put_pid, put_setting_reason};
@@ -68,6 +74,50 @@ fn put_not_alive<B: Allocator>(pid: u32, out: &mut Vec<u8, B>) -> Result<(), All
     Ok(())
 }
 
+/// Appends the module, the name and the number of parameters of a function.
+fn put_function<A: Allocator, B: Allocator>(
+    function: &Function<A>,
+    out: &mut Vec<u8, B>,
+) -> Result<(), AllocError>
+    ensures ok { OnOk result (out.new.items ≡ out.old.items ++ mfa_text (mfa_of (function_of function.now))) }
+    ensures grows { Grows out.old.items out.new.items }
+{
+    write_atom(&function.module, out)?;
+    out.push(b':')?;
+    write_atom(&function.name, out)?;
+    out.push(b'/')?;
+    out.extend_from_slice(Buffer::new().format(function.params.len()).as_bytes())
+}
+
+/// Appends that a function was probably meant.
+fn put_meant<A: Allocator, B: Allocator>(
+    function: &Function<A>,
+    out: &mut Vec<u8, B>,
+) -> Result<(), AllocError>
+    ensures ok { OnOk result (out.new.items ≡
+        out.old.items ++ meant_text (Some (mfa_of (function_of function.now)))) }
+    ensures grows { Grows out.old.items out.new.items }
+{
+    out.extend_from_slice(b"; is ")?;
+    put_function(function, out)?;
+    out.extend_from_slice(b" meant?")
+}
+
+/// Appends that no function matches, and which was probably meant.
+fn put_no_match<A: Allocator, B: Allocator>(
+    nearest: Option<&Function<A>>,
+    out: &mut Vec<u8, B>,
+) -> Result<(), AllocError>
+    ensures ok { OnOk result (out.new.items ≡ out.old.items ++ no_match_text (lent_function nearest.entry)) }
+    ensures grows { Grows out.old.items out.new.items }
+{
+    out.extend_from_slice(b"no function matches")?;
+    match nearest {
+        Some(function) => put_meant(function, out),
+        None => Ok(()),
+    }
+}
+
 /// Appends why a command is refused, or matches no function.
 fn put_command_reason<A: Allocator, B: Allocator>(
     why: CommandReason<'_, A>,
@@ -96,7 +146,7 @@ fn put_command_reason<A: Allocator, B: Allocator>(
             put_found(b"Opts is [], [global] or [local]", term, out)
         }
         CommandReason::NoSpecification(why) => put_setting_reason(why, out),
-        CommandReason::NoMatch => out.extend_from_slice(b"no function matches"),
+        CommandReason::NoMatch(nearest) => put_no_match(nearest, out),
         CommandReason::NoExportedMatch => {
             out.extend_from_slice(b"no exported function matches; [local] is for the others too")
         }
@@ -165,7 +215,7 @@ fn put_reply<A: Allocator, B: Allocator>(
 {
     match why {
         CommandReason::NoSpecification(why) => put_fault(why, out),
-        CommandReason::NoMatch => out.extend_from_slice(b"0"),
+        CommandReason::NoMatch(_) => out.extend_from_slice(b"0"),
         CommandReason::NoExportedMatch => out.extend_from_slice(b"0"),
         _ => out.extend_from_slice(b"badarg"),
     }

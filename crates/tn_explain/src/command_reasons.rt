@@ -17,6 +17,7 @@ ghost use Rattle.tn_session.specs.Looks.{look_seen};
 ghost use Rattle.tn_explain.specs.CommandReasons.{lent_terms, command_reasons_seen, MatchesNone, HasMatchReason};
 ghost use Rattle.tn_explain.specs.CommandReasons.{HasFunctionReason, HasLiveReason, HasCommandReason};
 
+use crate::nearest_functions::nearest_function;
 use std::alloc::{AllocError, Allocator};
 use tn_flags::{Command, flag_of};
 use tn_index::FunctionPattern;
@@ -51,8 +52,8 @@ pub enum CommandReason<'a, A: Allocator> {
     NoOptions(&'a Term<A>),
     /// The Spec is no match specification.
     NoSpecification(SpecReason<'a, A>),
-    /// No function matches.
-    NoMatch,
+    /// No function matches; this one was probably meant.
+    NoMatch(Option<&'a Function<A>>),
     /// Functions match, but none that is exported.
     NoExportedMatch,
 }
@@ -194,7 +195,7 @@ fn matches_none<A: Allocator>(
 
 /// That a command about these functions matches none.
 fn match_reason<'a, A: Allocator>(
-    functions: &[Function<A>],
+    functions: &'a [Function<A>],
     covered: &FunctionPattern<A>,
     local: bool,
 ) -> Option<CommandReason<'a, A>>
@@ -204,7 +205,7 @@ fn match_reason<'a, A: Allocator>(
         return None;
     }
     if matches_none(functions, covered, true) {
-        Some(CommandReason::NoMatch)
+        Some(CommandReason::NoMatch(nearest_function(functions, covered)))
     } else {
         Some(CommandReason::NoExportedMatch)
     }
@@ -213,7 +214,7 @@ fn match_reason<'a, A: Allocator>(
 /// Why MFA, Spec and Opts can't be set, or match no function.
 fn function_reason<'a, A: Allocator + Copy>(
     alloc: A,
-    functions: &[Function<A>],
+    functions: &'a [Function<A>],
     mfa: &'a Term<A>,
     specification: &'a Term<A>,
     options: &'a Term<A>,
@@ -236,7 +237,7 @@ fn function_reason<'a, A: Allocator + Copy>(
 /// Why a live session refuses the command, or matches no function.
 fn live_reason<'a, A: Allocator + Copy>(
     alloc: A,
-    functions: &[Function<A>],
+    functions: &'a [Function<A>],
     look: &Look<'_, A>,
     command: &'a Command<A>,
 ) -> Result<Option<CommandReason<'a, A>>, AllocError>
@@ -291,7 +292,7 @@ fn destroyed_reason<'a, A: Allocator>(command: &Command<A>) -> Option<CommandRea
 pub(crate) fn command_reason<'a, A: Allocator + Copy>(
     alloc: A,
     session: &Option<Session<A>>,
-    functions: &[Function<A>],
+    functions: &'a [Function<A>],
     command: &'a Command<A>,
 ) -> Result<Option<CommandReason<'a, A>>, AllocError>
     ensures { IfOk result (λ r.

@@ -39,6 +39,7 @@ mod job;
 mod laws;
 mod line;
 mod messages;
+mod nearest_functions;
 mod node_commands;
 mod node_moves;
 mod note;

@@ -1,5 +1,6 @@
 use Rattle.std.proofs.Common.{◌++◌, codes, refl}
-use Rattle.def_explain.specs.Accounts.{said, mfa_text}
+use Rattle.def_explain.specs.Accounts.{said}
+use Rattle.def_explain.specs.ReasonTexts.{mfa_text}
 use Rattle.tn_term.specs.Views.{mfa_seen}
 use Rattle.tn_explain.proofs.LineTexts.{line, both}
 use Rattle.tn_explain.proofs.line.Lines.put_uncovered.Goals as goal
