@@ -5,12 +5,12 @@ ghost use Rattle.tn_session.specs.Sessions.{value_in};
 ghost use Rattle.tn_explain.specs.CommandReasons.{command_reasons_seen};
 
 use std::alloc::{AllocError, Allocator};
+use tn_difference::Difference;
 use tn_explain::{CommandReason, put_command_difference, put_command_line, put_event_lines};
 use tn_flags::Event;
 use tn_node::Outlook;
 use tn_session::Session;
 use tn_term::{Atom, Term};
-use tn_difference::Difference;
 
 /// An event, what was known of its step before it, and the name of the session that sees it.
 #[derive(Clone, Copy)]

@@ -5,9 +5,9 @@ ghost use Rattle.tn_explain.specs.ClauseDifferences.{AreOfClause};
 use bumpalo::Bump;
 use std::alloc::{AllocError, Allocator};
 use tn_action::Context;
+use tn_difference::{logic_differs, order_differs};
 use tn_head::Bindings;
 use tn_spec::{Clause, Dialect};
-use tn_difference::{logic_differs, order_differs};
 
 /// Whether a running node does otherwise at a clause by the order of evaluation, and by logic on what is no boolean.
 #[derive(Clone, Copy)]

@@ -15,6 +15,7 @@ ghost use Rattle.std.specs.Option.{option_map};
 use crate::command_reasons::{is_covered, is_empty_list};
 use crate::differences::difference_where;
 use std::alloc::{AllocError, Allocator};
+use tn_difference::Difference;
 use tn_flags::Command;
 use tn_index::{FunctionPattern, Setting};
 use tn_process::function_mfa;
@@ -22,7 +23,6 @@ use tn_script::Function;
 use tn_session::{Look, NewestSetting, Session, options_of, pattern_of};
 use tn_spec::{Dialect, SpecFault, spec_of};
 use tn_term::Term;
-use tn_difference::Difference;
 
 /// Whether there is a setting, local or global, that doesn't disable its function.
 fn is_on<A: Allocator>(newest: &Option<NewestSetting<'_, A>>, local: bool) -> bool

@@ -17,10 +17,10 @@ use crate::clause_differences::ClauseDifferences;
 use crate::line::{Lines, begin};
 use std::alloc::{AllocError, Allocator};
 use tn_action::{Context, Effect};
+use tn_difference::{Difference, body_differs, put_difference};
 use tn_flags::{Event, Flags};
 use tn_session::{Kind, Look};
 use tn_spec::Dialect;
-use tn_difference::{Difference, body_differs, put_difference};
 
 /// The greatest depth of a frame.
 const FRAMES: usize = 64;

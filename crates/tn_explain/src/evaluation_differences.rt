@@ -14,13 +14,13 @@ use crate::clause_differences::{ClauseDifferences, clause_differences};
 use bumpalo::Bump;
 use std::alloc::{AllocError, Allocator};
 use tn_action::{Context, Effect};
+use tn_difference::{Difference, body_differs};
 use tn_flags::{Call, Event};
 use tn_guard::{AtomConst, ListView, Value};
 use tn_index::Setting;
 use tn_session::Look;
 use tn_spec::{Dialect, Spec};
 use tn_term::Term;
-use tn_difference::{Difference, body_differs};
 use tn_verdict::{Verdict, verdict};
 
 /// Whether a node does otherwise at a clause that fires.

@@ -13,10 +13,10 @@ ghost use Rattle.tn_explain.specs.Lines.{PutsLines, Adds, line_start};
 use crate::command_reason_texts::put_reason_after_reply;
 use crate::command_reasons::CommandReason;
 use std::alloc::{AllocError, Allocator};
+use tn_difference::{Difference, put_difference};
 use tn_session::Message;
 use tn_term::{Atom, Term};
 use tn_text::{write_atom, write_term};
-use tn_difference::{Difference, put_difference};
 
 /// The lines of the session of a name.
 #[derive(Drop)]

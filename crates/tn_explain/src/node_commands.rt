@@ -14,11 +14,11 @@ ghost use Rattle.tn_spec.specs.Wholes.{spec_seen};
 ghost use Rattle.tn_program.specs.Views.{program_of};
 
 use std::alloc::{AllocError, Allocator};
+use tn_difference::{is_logic, order_differs};
 use tn_flags::{Command, Flags, flag_of};
 use tn_program::Program;
 use tn_spec::{Action, Clause, Dialect, Expr, Spec, SpecFault, spec_of};
 use tn_term::Term;
-use tn_difference::{is_logic, order_differs};
 
 /// Whether a process can be silent by an action, or have other flags, or a mark for exceptions.
 fn can_differ_by(action: Action) -> bool

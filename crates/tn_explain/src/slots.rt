@@ -13,11 +13,11 @@ use crate::event::put_event_lines;
 use crate::line::{put_command_difference, put_command_line};
 use crate::step::Step;
 use std::alloc::{AllocError, Allocator};
+use tn_difference::Difference;
 use tn_flags::{Command, Event};
 use tn_script::Function;
 use tn_term::Alive;
 use tn_trace::Slot;
-use tn_difference::Difference;
 
 /// A command with what its session needs to know: the functions of the program, and who lives.
 #[derive(Drop)]

@@ -18,12 +18,12 @@ ghost use Rattle.tn_explain.specs.StepDifferences.{AreBefore, AreAfterEvent, is_
 
 use crate::line::Lines;
 use std::alloc::{AllocError, Allocator};
+use tn_difference::Difference;
 use tn_flags::{Event, Flags};
 use tn_node::Outlook;
 use tn_process::RuntimeError;
 use tn_session::Look;
 use tn_term::Term;
-use tn_difference::Difference;
 
 /// Whether a process has a flag.
 fn is_traced<A: Allocator + Copy>(look: &Look<'_, A>, pid: u32) -> bool
