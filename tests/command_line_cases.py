@@ -289,8 +289,88 @@ def expectations():
         ran = run([*SEND_HI_PICKS, "--quiet", *all_three], SEND_HI)
         told = b"error: the output has no line absent\nerror: the output has the line == replies\n"
         check("all reasons", ran.returncode == 1 and ran.stderr.endswith(told) and b"more\n" in ran.stderr, ran)
+    written_differences()
     ran = run(["spec", "--list", "[]", "--expect-line", "x", "[]"])
     check("a trial with an expectation", ran.returncode == 2 and not ran.stdout, ran)
+
+
+# The text of a file that is expected, and the whole standard error of a run whose output differs from it; worked out by
+# hand from the seven lines of the run `send-hi`.
+DIFFERENCES = (
+    (
+        "two lines that differ",
+        """== session s1 tracer t1
+{trace,<0.100.0>,send,{hi,2},<0.101.0>}
+== replies
+{session,s2}
+2
+== journal
+0 0 100 100
+""",
+        """expected line 2: {trace,<0.100.0>,send,{hi,2},<0.101.0>}
+found line 2: {trace,<0.100.0>,send,{hi,1},<0.101.0>}
+""",
+    ),
+    (
+        "a line less in the middle",
+        """== session s1 tracer t1
+{trace,<0.100.0>,send,{hi,1},<0.101.0>}
+== replies
+2
+== journal
+0 0 100 100
+""",
+        """expected line 4: 2
+found line 4: {session,s1}
+""",
+    ),
+    (
+        "the first lines alone",
+        """== session s1 tracer t1
+{trace,<0.100.0>,send,{hi,1},<0.101.0>}
+""",
+        """expected the end of the output
+found line 3: == replies
+""",
+    ),
+    (
+        "a pick more in the last line",
+        """== session s1 tracer t1
+{trace,<0.100.0>,send,{hi,1},<0.101.0>}
+== replies
+{session,s1}
+2
+== journal
+0 0 100 100 101
+""",
+        """expected line 7: 0 0 100 100 101
+found line 7: 0 0 100 100
+""",
+    ),
+    (
+        "a blank at the end of a line",
+        """== session s1 tracer t1
+{trace,<0.100.0>,send,{hi,1},<0.101.0>} 
+== replies
+{session,s1}
+2
+== journal
+0 0 100 100
+""",
+        """expected line 2: {trace,<0.100.0>,send,{hi,1},<0.101.0>} 
+found line 2: {trace,<0.100.0>,send,{hi,1},<0.101.0>}
+""",
+    ),
+)
+
+
+def written_differences():
+    """The whole standard error of a run whose output differs from a file: the first line that differs, in both texts."""
+    with tempfile.NamedTemporaryFile() as file:
+        for kind, expected, told in DIFFERENCES:
+            pathlib.Path(file.name).write_text(expected)
+            ran = run([*SEND_HI_PICKS, "--quiet", "--expect", file.name], SEND_HI)
+            wants(f"a file with {kind}", ran, 1, SEND_HI_OUTPUT, told.encode())
 
 
 def starts():
