@@ -174,9 +174,8 @@ def command_lines():
     for text in ("-1", "--help", "0 00", "0  0", " 0", "4294967296", "x"):
         wants(f"picks {text!r}", run(["replay", "--picks", text], SEND_HI), 2, bad_picks)
     wants("the greatest pick", run(["replay", "--picks", "4294967295"]), 0, EMPTY, NO_FORMS)
-    one_of_two = b"<--picks <TEXT>|--picks-file <FILE>>"
     texts = b"<--picks <TEXT>|--picks-file <FILE>|--moves <TEXT>|--moves-file <FILE>"
-    for command, either in (("replay", texts + b">"), ("explain", texts + b"|--round>"), ("draw", one_of_two)):
+    for command, either in (("replay", texts + b">"), ("explain", texts + b"|--round>"), ("draw", texts + b">")):
         ran = run([command])
         usage = f"Usage: tracenode {command} ".encode() + either + b" [SCRIPT]\n"
         check(f"{command} without picks names all sources of picks", usage in ran.stderr, ran)

@@ -19,8 +19,7 @@ use clap::error::ErrorKind;
 use format::format_of;
 use line::command;
 use request::{
-    BadNumber, ExpectationArgs, PicksSource, PicksText, Request, RunSource, SpecTestArgs,
-    request_of,
+    BadNumber, ExpectationArgs, PicksSource, Request, RunSource, SpecTestArgs, request_of,
 };
 use std::io;
 use std::process::ExitCode;
@@ -33,7 +32,7 @@ use tn_command::{
 };
 use tn_explain::{ExplainRequest, Filter, RunAndNote};
 use tn_formats::Format;
-use tn_moves::{ExplainByMoves, Moves, RunByMoves};
+use tn_moves::{DrawByMoves, ExplainByMoves, Moves, RunByMoves};
 use tn_picture::{DrawRequest, PictureFormat};
 use tn_run::{RunFault, Schedule, Workers, write_output};
 use tn_text::Watched;
@@ -49,6 +48,8 @@ enum Task<'a> {
         filter: Filter<'a>,
         format: Option<Format>,
     },
+    /// The run is drawn.
+    Draw(PictureFormat),
 }
 
 /// What is printed of a run: in which format, and whether notes are printed on standard error.
@@ -103,6 +104,7 @@ fn run_task<R: Input + Files + Print + Eprint + AllocGlobal>(
             let job = &ExplainRequest { picks, filter };
             perform(rt, script, &InFormat { job, format }, expectation)
         }
+        Task::Draw(format) => perform(rt, script, &DrawRequest { picks, format }, expectation),
     }
 }
 
@@ -126,6 +128,7 @@ fn run_moves<R: Input + Files + Print + Eprint + AllocGlobal>(
             let job = &ExplainByMoves { moves, filter };
             perform(rt, script, &InFormat { job, format }, expectation)
         }
+        Task::Draw(format) => perform(rt, script, &DrawByMoves { moves, format }, expectation),
     }
 }
 
@@ -206,31 +209,6 @@ fn run_by_picks<R: Input + Files + Print + Eprint + AllocGlobal>(
         PicksSource::Moves(text) => {
             let moves = Moves::Text(text.as_bytes());
             run_moves(rt, task, script, moves, expectation)
-        }
-    }
-}
-
-/// Draws a run by picks.
-fn run_draw<R: Input + Files + Print + Eprint + AllocGlobal>(
-    rt: &R,
-    script: Source<'_>,
-    picks: PicksText<'_>,
-    format: PictureFormat,
-    expectation: &Expectation<'_>,
-) -> ExitCode
-    ensures { IsStatus (exit_status result) }
-{
-    match picks {
-        PicksText::In(source) => match text_in(rt, script, TextKind::Picks, source) {
-            Ok(text) => {
-                let picks = &text;
-                perform(rt, script, &DrawRequest { picks, format }, expectation)
-            }
-            Err(status) => status,
-        },
-        PicksText::Text(text) => {
-            let picks = text.as_bytes();
-            perform(rt, script, &DrawRequest { picks, format }, expectation)
         }
     }
 }
@@ -358,7 +336,7 @@ fn run_so<R: Input + Files + Print + Eprint + AllocGlobal + Threads + Wait + Syn
             picks,
             format,
             ..
-        } => run_draw(rt, script, picks, format, expectation),
+        } => run_by_picks(rt, Task::Draw(format), script, picks, expectation),
         Request::Round {
             script,
             limit,

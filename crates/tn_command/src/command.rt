@@ -87,7 +87,7 @@ impl Command for RunAndNote<'_> {
 }
 
 /// The text of moves, where there is one.
-fn moves_text<'a>(moves: &Moves<'a>) -> &'a [u8] {
+pub(crate) fn moves_text<'a>(moves: &Moves<'a>) -> &'a [u8] {
     match moves {
         Moves::Text(text) => *text,
         Moves::Round(_) => b"",
@@ -107,7 +107,7 @@ fn moves_picks(alloc: Global, script: NamedText<'_>, moves: &Moves<'_>) -> Optio
 }
 
 /// Whether a command of a script's run by these moves is refused or matches no function.
-fn is_remarked_by(alloc: Global, script: NamedText<'_>, moves: &Moves<'_>) -> bool {
+pub(crate) fn is_remarked_by(alloc: Global, script: NamedText<'_>, moves: &Moves<'_>) -> bool {
     match moves_picks(alloc, script, moves) {
         Some(picks) => is_remarked(alloc, script, &picks),
         None => has_no_forms(script.bytes),
