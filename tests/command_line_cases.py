@@ -170,6 +170,7 @@ def command_lines():
     check("ill-formed picks", ran.returncode == 2 and ran.stdout == b"refused 20 bad picks\n", ran)
     ran = run([b"round", b"--lim\xff"], SEND_HI)
     check("an ill-formed option", ran.returncode == 2 and not ran.stdout and ran.stderr, ran)
+    control_characters()
     bad_picks = b"refused 20 bad picks\n"
     for text in ("-1", "--help", "0 00", "0  0", " 0", "4294967296", "x"):
         wants(f"picks {text!r}", run(["replay", "--picks", text], SEND_HI), 2, bad_picks)
@@ -184,6 +185,24 @@ def command_lines():
     spellings_of_sessions()
     quiet_runs()
     expectations()
+
+
+def control_characters():
+    """Words with control characters: what is said of them has an escape in place of each."""
+    more = "\n\nFor more information, try '--help'.\n"
+    rows = (
+        (["round", "--lim\x1b[2J"], "error: unexpected argument '--lim\\x1b[2J' found"),
+        (["re\nplay"], "error: unrecognized subcommand 're\\x0aplay'"),
+        (["round", "--limit", "1\r0"], "error: invalid value '1\\x0d0' for '--limit <N>': invalid digit found in string"),
+        (["spec", "--list", "[]", "--me", "\x7f", "[]"], "error: invalid value '\\x7f' for '--me <N>': a number or a pid <0.N.0> is expected"),
+    )
+    for words, told in rows:
+        ran = run(words, SEND_HI)
+        text = ran.stderr.decode()
+        good = ran.returncode == 2 and not ran.stdout and text.startswith(told) and text.endswith(more)
+        check(f"the words {words}", good and all(letter == "\n" or letter.isprintable() for letter in text), ran)
+    ran = run([*SEND_HI_PICKS, "--quiet", "--expect-line", "h\x1bi"], SEND_HI)
+    wants("a line with a control character", ran, 1, SEND_HI_OUTPUT, b"error: the output has no line h\\x1bi\n")
 
 
 def spellings_of_processes():

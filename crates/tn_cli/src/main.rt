@@ -21,6 +21,7 @@ use line::command;
 use request::{
     BadNumber, ExpectationArgs, PicksSource, Request, RunSource, SpecTestArgs, request_of,
 };
+use std::alloc::{AllocError, Global};
 use std::io;
 use std::process::ExitCode;
 use std::rt::{Env, Files};
@@ -28,7 +29,7 @@ use std::sync::Wait;
 use std::thread::Threads;
 use tn_command::{
     Expectation, FAULT, InFormat, LastError, REFUSED, Source, Start, WorkersRun, arguments,
-    output_of, perform, picks_of, report, tell_fault, test_spec,
+    escape_controls, output_of, perform, picks_of, report, tell_fault, test_spec,
 };
 use tn_explain::{ExplainRequest, Filter, RunAndNote};
 use tn_formats::Format;
@@ -406,6 +407,10 @@ fn refuse_number<R: Eprint>(rt: &R, bad: BadNumber<'_>) -> ExitCode
         text,
         reason,
     } = bad;
+    let Ok(plain) = escape_controls(rt.alloc(), text) else {
+        return report(rt, RunFault::OutOfMemory);
+    };
+    let text = str::from_utf8(&plain).unwrap_or("");
     let _ = rt.eprintln(format_args!(
         "error: invalid value '{text}' for '{option}': {reason}\n\nFor more information, try '--help'."
     ));
@@ -448,6 +453,37 @@ fn explain<R: Print + Eprint + AllocGlobal>(rt: &R, error: &clap::Error) -> Exit
     }
 }
 
+/// The words without control characters, each of which has its escape.
+fn plain_words(alloc: Global, words: &[String]) -> Result<Vec<String>, AllocError> {
+    let mut plain = Vec::new(alloc);
+    for word in words {
+        let bytes = escape_controls(alloc, word.as_str())?;
+        plain.push(String::from_utf8_lossy(alloc, &bytes)?)?;
+    }
+    Ok(plain)
+}
+
+/// Prints why words are refused for which `clap` gives this error, or the help. The words are read once more without
+/// control characters, so that what is printed has none of theirs.
+fn refuse<R: Print + Eprint + AllocGlobal>(
+    rt: &R,
+    words: &[String],
+    error: &clap::Error,
+) -> ExitCode
+    ensures { IsStatus (exit_status result) }
+{
+    let (Ok(command), Ok(plain)) = (command(rt.alloc()), plain_words(rt.alloc(), words)) else {
+        return report(rt, RunFault::OutOfMemory);
+    };
+    match command.try_get_matches_from(plain.as_slice()) {
+        Ok(_) => explain(rt, error),
+        Err(error) if error.kind() == ErrorKind::OutOfMemory => {
+            report(rt, RunFault::OutOfMemory)
+        }
+        Err(error) => explain(rt, &error),
+    }
+}
+
 /// Reads the command line, and does what it says.
 fn program<R: Env + Input + Files + Print + Eprint + AllocGlobal + Threads + Wait + Sync>(
     rt: &R,
@@ -463,7 +499,7 @@ fn program<R: Env + Input + Files + Print + Eprint + AllocGlobal + Threads + Wai
         Err(error) if error.kind() == ErrorKind::OutOfMemory => {
             report(rt, RunFault::OutOfMemory)
         }
-        Err(error) => explain(rt, &error),
+        Err(error) => refuse(rt, words, &error),
     }
 }
 
