@@ -54,7 +54,10 @@ _tracenode() {
                 words='--picks --picks-file --moves --moves-file --round --limit --control --session --move --node'
                 words+=' --json --expect --expect-line --reject-line --strict -h --help'
                 ;;
-            draw) words='--picks --picks-file --text --expect --expect-line --reject-line --strict -h --help' ;;
+            draw)
+                words='--picks --picks-file --moves --moves-file --text'
+                words+=' --expect --expect-line --reject-line --strict -h --help'
+                ;;
             spec) words='--list --for --me --caller --json -h --help' ;;
             help) words='replay round workers explain draw spec' ;;
         esac

@@ -57,6 +57,8 @@ complete -c tracenode -n '__fish_seen_subcommand_from explain' -l expect-line -x
 complete -c tracenode -n '__fish_seen_subcommand_from explain' -l reject-line -x -d 'A line that the output must not have'
 complete -c tracenode -n '__fish_seen_subcommand_from draw' -l picks -x -d 'The picks'
 complete -c tracenode -n '__fish_seen_subcommand_from draw' -l picks-file -r -d 'The file of the picks'
+complete -c tracenode -n '__fish_seen_subcommand_from draw' -l moves -x -d 'The moves'
+complete -c tracenode -n '__fish_seen_subcommand_from draw' -l moves-file -r -d 'The file of the moves'
 complete -c tracenode -n '__fish_seen_subcommand_from draw' -l text -d 'Write lines for a terminal'
 complete -c tracenode -n '__fish_seen_subcommand_from draw' -l expect -r -d 'The file of the output that is expected'
 complete -c tracenode -n '__fish_seen_subcommand_from draw' -l expect-line -x -d 'A line that the output must have'

@@ -170,13 +170,13 @@ def command_lines():
     check("ill-formed picks", ran.returncode == 2 and ran.stdout == b"refused 20 bad picks\n", ran)
     ran = run([b"round", b"--lim\xff"], SEND_HI)
     check("an ill-formed option", ran.returncode == 2 and not ran.stdout and ran.stderr, ran)
+    control_characters()
     bad_picks = b"refused 20 bad picks\n"
     for text in ("-1", "--help", "0 00", "0  0", " 0", "4294967296", "x"):
         wants(f"picks {text!r}", run(["replay", "--picks", text], SEND_HI), 2, bad_picks)
     wants("the greatest pick", run(["replay", "--picks", "4294967295"]), 0, EMPTY, NO_FORMS)
-    one_of_two = b"<--picks <TEXT>|--picks-file <FILE>>"
     texts = b"<--picks <TEXT>|--picks-file <FILE>|--moves <TEXT>|--moves-file <FILE>"
-    for command, either in (("replay", texts + b">"), ("explain", texts + b"|--round>"), ("draw", one_of_two)):
+    for command, either in (("replay", texts + b">"), ("explain", texts + b"|--round>"), ("draw", texts + b">")):
         ran = run([command])
         usage = f"Usage: tracenode {command} ".encode() + either + b" [SCRIPT]\n"
         check(f"{command} without picks names all sources of picks", usage in ran.stderr, ran)
@@ -185,6 +185,24 @@ def command_lines():
     spellings_of_sessions()
     quiet_runs()
     expectations()
+
+
+def control_characters():
+    """Words with control characters: what is said of them has an escape in place of each."""
+    more = "\n\nFor more information, try '--help'.\n"
+    rows = (
+        (["round", "--lim\x1b[2J"], "error: unexpected argument '--lim\\x1b[2J' found"),
+        (["re\nplay"], "error: unrecognized subcommand 're\\x0aplay'"),
+        (["round", "--limit", "1\r0"], "error: invalid value '1\\x0d0' for '--limit <N>': invalid digit found in string"),
+        (["spec", "--list", "[]", "--me", "\x7f", "[]"], "error: invalid value '\\x7f' for '--me <N>': a number or a pid <0.N.0> is expected"),
+    )
+    for words, told in rows:
+        ran = run(words, SEND_HI)
+        text = ran.stderr.decode()
+        good = ran.returncode == 2 and not ran.stdout and text.startswith(told) and text.endswith(more)
+        check(f"the words {words}", good and all(letter == "\n" or letter.isprintable() for letter in text), ran)
+    ran = run([*SEND_HI_PICKS, "--quiet", "--expect-line", "h\x1bi"], SEND_HI)
+    wants("a line with a control character", ran, 1, SEND_HI_OUTPUT, b"error: the output has no line h\\x1bi\n")
 
 
 def spellings_of_processes():
@@ -289,8 +307,88 @@ def expectations():
         ran = run([*SEND_HI_PICKS, "--quiet", *all_three], SEND_HI)
         told = b"error: the output has no line absent\nerror: the output has the line == replies\n"
         check("all reasons", ran.returncode == 1 and ran.stderr.endswith(told) and b"more\n" in ran.stderr, ran)
+    written_differences()
     ran = run(["spec", "--list", "[]", "--expect-line", "x", "[]"])
     check("a trial with an expectation", ran.returncode == 2 and not ran.stdout, ran)
+
+
+# The text of a file that is expected, and the whole standard error of a run whose output differs from it; worked out by
+# hand from the seven lines of the run `send-hi`.
+DIFFERENCES = (
+    (
+        "two lines that differ",
+        """== session s1 tracer t1
+{trace,<0.100.0>,send,{hi,2},<0.101.0>}
+== replies
+{session,s2}
+2
+== journal
+0 0 100 100
+""",
+        """expected line 2: {trace,<0.100.0>,send,{hi,2},<0.101.0>}
+found line 2: {trace,<0.100.0>,send,{hi,1},<0.101.0>}
+""",
+    ),
+    (
+        "a line less in the middle",
+        """== session s1 tracer t1
+{trace,<0.100.0>,send,{hi,1},<0.101.0>}
+== replies
+2
+== journal
+0 0 100 100
+""",
+        """expected line 4: 2
+found line 4: {session,s1}
+""",
+    ),
+    (
+        "the first lines alone",
+        """== session s1 tracer t1
+{trace,<0.100.0>,send,{hi,1},<0.101.0>}
+""",
+        """expected the end of the output
+found line 3: == replies
+""",
+    ),
+    (
+        "a pick more in the last line",
+        """== session s1 tracer t1
+{trace,<0.100.0>,send,{hi,1},<0.101.0>}
+== replies
+{session,s1}
+2
+== journal
+0 0 100 100 101
+""",
+        """expected line 7: 0 0 100 100 101
+found line 7: 0 0 100 100
+""",
+    ),
+    (
+        "a blank at the end of a line",
+        """== session s1 tracer t1
+{trace,<0.100.0>,send,{hi,1},<0.101.0>} 
+== replies
+{session,s1}
+2
+== journal
+0 0 100 100
+""",
+        """expected line 2: {trace,<0.100.0>,send,{hi,1},<0.101.0>} 
+found line 2: {trace,<0.100.0>,send,{hi,1},<0.101.0>}
+""",
+    ),
+)
+
+
+def written_differences():
+    """The whole standard error of a run whose output differs from a file: the first line that differs, in both texts."""
+    with tempfile.NamedTemporaryFile() as file:
+        for kind, expected, told in DIFFERENCES:
+            pathlib.Path(file.name).write_text(expected)
+            ran = run([*SEND_HI_PICKS, "--quiet", "--expect", file.name], SEND_HI)
+            wants(f"a file with {kind}", ran, 1, SEND_HI_OUTPUT, told.encode())
 
 
 def starts():

@@ -148,6 +148,7 @@ def completions():
             (("tracenode", "--p"), [""]),
             (("./tracenode", "--install", "scr"), ["scripts"]),
             (("tracenode", "explain", "--m"), ["--move", "--moves", "--moves-file"]),
+            (("tracenode", "draw", "--m"), ["--moves", "--moves-file"]),
             (("tracenode", "explain", "--r"), ["--reject-line", "--round"]),
             (("tracenode", "round", "--control", ""), ["first"]),
             (("tracenode", "replay", "--moves-file", "scripts/twi"), ["scripts/twice.term"]),

@@ -194,8 +194,46 @@ def version():
     yield "the version of the man page", f'"tracenode {said}"' in title, title
 
 
+# The list that says what each command of the program takes, and the words that are no options.
+TAKEN = {"replay": "REPLAY", "round": "ROUND", "workers": "WORKERS", "explain": "EXPLAIN", "draw": "DRAW", "spec": "TRIAL"}
+BARE_WORDS = {"script", "specification"}
+
+
+def taken_options():
+    """The options of each command, by the lists that the contracts of the command line name."""
+    text = (CRATES / "tn_cli" / "specs" / "Line.antt").read_text()
+    found = dict(re.findall(r"^([A-Z_]+) =((?:.*\n)(?:    .*\n)*)", text, re.M))
+    also = {"EXPECTATION": re.findall(r'codes "([^"]+)"', found["EXPECTATION"])}
+    for command, name in TAKEN.items():
+        own = re.findall(r'codes "([^"]+)"', found[name])
+        yield command, {*own, *(also["EXPECTATION"] if "EXPECTATION" in found[name] else ())} - BARE_WORDS
+
+
+def completed_options(command):
+    """The options of a command, by the completions for each shell and by the synopsis of the man page."""
+    folder = TOP / "completions"
+    zsh = re.search(rf"^        {command}\)\n(.*?);;", (folder / "_tracenode").read_text(), re.M | re.S)[1]
+    yield "zsh", set(re.findall(r"'--([\w-]+)\[", zsh))
+    bash = (folder / "tracenode.bash").read_text().partition("case $command in")[2]
+    bash = re.search(rf"^            {command}\)(.*?);;", bash, re.M | re.S)[1]
+    yield "bash", set(re.findall(r"--([\w-]+)", bash)) - {"help"}
+    fish = (folder / "tracenode.fish").read_text()
+    yield "fish", set(re.findall(rf"seen_subcommand_from {command}' -l ([\w-]+)", fish))
+    page = (DOCS / "tracenode.1").read_text().replace("\\-", "-").partition(".SH DESCRIPTION")[0]
+    page = page.partition(f".B tracenode {command}\n")[2].partition(".br")[0]
+    yield "the man page", set(re.findall(r"--([\w-]+)", page))
+
+
+def options():
+    """Each option of a command is in the completions for each shell and in the man page, and no other is."""
+    for command, wanted in taken_options():
+        for place, seen in completed_options(command):
+            yield f"the options of {command} in {place}", seen == wanted, seen ^ wanted
+
+
 def findings():
     """Each thing to hold: its name, whether it holds, and what was seen."""
     parts = (lists_of_crates, laws, promised_functions, claims, files, glossary, differences, node_differences, sizes, version)
+    parts += (options,)
     for part in parts:
         yield from part()

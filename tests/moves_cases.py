@@ -88,6 +88,10 @@ def moves():
         explained = [run(["explain", option, said], NUMBERS) for option, said in (("--moves", text), ("--picks", moved))]
         seen = [(ran.returncode, ran.stdout, ran.stderr) for ran in explained]
         check(f"the explanation of {text!r}", seen[0] == seen[1], seen)
+        for how in ([], ["--text"]):
+            drawn = [run(["draw", option, said, *how], NUMBERS) for option, said in (("--moves", text), ("--picks", moved))]
+            seen = [(ran.returncode, ran.stdout, ran.stderr) for ran in drawn]
+            check(f"the picture of {text!r} by {how}", seen[0] == seen[1] and seen[0][0] == 0 and seen[0][1], seen)
     for text, moved in (("'my fun'", "101"), ("'my fun'! 100", "101 101 100"), (r"'a\'*!b'*2", "103 103"), ("102", "102")):
         ran = run(["replay", "--moves", text], NAMES)
         check(f"the journal of {text!r}", (ran.returncode, journal(ran)) == (0, moved), ran)
@@ -96,6 +100,8 @@ def moves():
         script.write_bytes(NUMBERS)
         file.write_text("0! % the control list\n*\n")
         wants("moves from a file", run(["replay", "--moves-file", str(file)], NUMBERS), 0, whole)
+        drawn = run(["draw", str(script), "--moves-file", str(file), "--text"])
+        wants("a picture by moves from a file", drawn, 0, run(["draw", "--picks", CONTROL_FIRST, "--text"], NUMBERS).stdout)
         ran = run(["replay", str(script), "--moves-file", "-"], file.read_bytes())
         wants("moves from standard input", ran, 0, whole)
         both = b"error: the script and the moves can't both be standard input\n"
@@ -129,15 +135,19 @@ def bad_moves():
         "0\n\u00e9": f"2:1: {none.format('??')}{here}",
     }
     for text, told in rows.items():
-        for command in ("replay", "explain"):
+        for command in ("replay", "explain", "draw"):
             wants(f"{command} by {text!r}", run([command, "--moves", text], NUMBERS), 2, b"", f"moves:{told}".encode())
     told = b"moves:1:3: several initial processes start in a function f: <0.100.0>, <0.102.0>\n"
     wants("a name of two processes", run(["replay", "--moves", "0 f!"], NAMES), 2, b"", told)
-    wants("moves of a refused script", run(["replay", "--moves", "x"], b"7."), 2, b"refused 5 form 1\n")
+    for command in ("replay", "draw"):
+        ran = run([command, "--moves", "x"], b"7.")
+        wants(f"moves of a script that {command} refuses", ran, 2, b"refused 5 form 1\n")
     for words in (
         ["replay", "--moves", "0", "--picks", "0"],
         ["replay", "--moves"],
         ["explain", "--round", "--moves", "0"],
+        ["draw", "--moves", "0", "--picks", "0"],
+        ["draw", "--round"],
         ["explain", "--picks", "0", "--limit", "5"],
         ["explain", "--picks", "0", "--control", "first"],
         ["explain", "--round", "--limit", "0"],

@@ -1,5 +1,6 @@
 mod SameJobs
 mod SameMoves
+mod SamePictures
 mod SamePicks
 mod SameSpecTests
 mod SameWords

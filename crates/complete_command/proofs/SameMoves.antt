@@ -82,17 +82,17 @@ one_reading p text (Err fault.OutOfMemory) (Err e) h i = tt
 
 -- ---- moves
 
-one_picks : (m : Moves) (p : Program) (xs ys : List ℕ) → AreMoves m p xs → AreMoves m p ys → xs ≡ ys
+pub one_picks : (m : Moves) (p : Program) (xs ys : List ℕ) → AreMoves m p xs → AreMoves m p ys → xs ≡ ys
 one_picks (Round limit) p xs ys h i = h ∙ sym i
 one_picks (ControlFirst limit) p xs ys h i = h ∙ sym i
 one_picks (Text text) p xs ys h i = picks_of_moves_are_one p text.now xs ys h i
 
-not_bad : (m : Moves) (p : Program) (xs : List ℕ) (r : MovesRefusal) → AreMoves m p xs → AreBadMoves m p r → ⊥
+pub not_bad : (m : Moves) (p : Program) (xs : List ℕ) (r : MovesRefusal) → AreMoves m p xs → AreBadMoves m p r → ⊥
 not_bad (Round limit) p xs r h i = i
 not_bad (ControlFirst limit) p xs r h i = i
 not_bad (Text text) p xs r h i = not_refused p text.now h.directives r h.short h.stands i
 
-one_bad : (m : Moves) (p : Program) (r s : MovesRefusal) → AreBadMoves m p r → AreBadMoves m p s → r ≡ s
+pub one_bad : (m : Moves) (p : Program) (r s : MovesRefusal) → AreBadMoves m p r → AreBadMoves m p s → r ≡ s
 one_bad (Round limit) p r s h i = absurd h
 one_bad (ControlFirst limit) p r s h i = absurd h
 one_bad (Text text) p r s h i = one_refusal p text.now r s h i
@@ -110,7 +110,7 @@ one_list m p (Err fault.OutOfMemory) (Err e) h i = tt
 -- ---- a run
 
 -- a text that is refused is no script
-refused_or_script : (bytes : List ℕ) (r : Refusal) (x y : List ℕ) (h : (p : Program) × IsScript bytes p) → Gives (run_for (by_round 0)) bytes (run.Refused r) y → ⊥
+pub refused_or_script : (bytes : List ℕ) (r : Refusal) (x y : List ℕ) (h : (p : Program) × IsScript bytes p) → Gives (run_for (by_round 0)) bytes (run.Refused r) y → ⊥
 refused_or_script bytes r x y h i =
     let e : run.Listed ≡ run.Refused r = (one_run bytes (by_round 0) run.Listed (run.Refused r) (program_output h.0 (round h.0 0)) y (record { program = h.0; accepted = h.1; output = record { picks = round h.0 0; given = refl; listing = refl } }) i).0 in
     cc

@@ -9,7 +9,7 @@ use std::alloc::Allocator;
 use std::io::{Read, Write};
 use tn_command::JobEnd;
 use tn_explain::{ExplainOutcome, ExplainRequest, RunAndNote, RunEnd};
-use tn_moves::{ExplainByMoves, MovesAccount, MovesEnd, RunByMoves};
+use tn_moves::{DrawByMoves, ExplainByMoves, MovesAccount, MovesEnd, MovesPicture, RunByMoves};
 use tn_run::{DirectJob, Outcome, RunFault, Schedule};
 use tn_text::Watched;
 
@@ -132,6 +132,28 @@ pub fn explain_by_moves<A: Allocator + Copy, R: Read, W: Write>(
 ) -> (
     JobEnd<MovesAccount, RunFault>,
     JobEnd<MovesAccount, RunFault>,
+)
+    requires reported { TellAlike R.remaining one.old other.old }
+    requires failed { has_failed one.old ≡ has_failed other.old }
+    requires outs { SeenAlike W.contents out.old same_out.old }
+    ensures outcome { Knows R.remaining one.old → AnswerAlike result.0 result.1 }
+    ensures status { Knows R.remaining one.old → HaveOneStatus result.0 result.1 }
+    ensures written { Knows R.remaining one.old → GainAlike W.contents out.old out.new same_out.new result.0 result.1 }
+{
+    perform_over(alloc, job, one, other, out, same_out)
+}
+
+/// `tn_command::perform_over` has one answer of a run by moves that is drawn, as said of any job that has one.
+pub fn draw_by_moves<A: Allocator + Copy, R: Read, W: Write>(
+    alloc: A,
+    job: &DrawByMoves<'_>,
+    one: &mut Watched<R>,
+    other: &mut Watched<R>,
+    out: &mut Watched<W>,
+    same_out: &mut Watched<W>,
+) -> (
+    JobEnd<MovesPicture, RunFault>,
+    JobEnd<MovesPicture, RunFault>,
 )
     requires reported { TellAlike R.remaining one.old other.old }
     requires failed { has_failed one.old ≡ has_failed other.old }

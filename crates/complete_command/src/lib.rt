@@ -3,8 +3,8 @@
 //!
 //! Depends on tn_command and tn_moves, and on complete_code, complete_workers and complete_explain for why a question,
 //! a run and an explanation have one answer. That a job has one is a premise of `jobs::perform_over`; `jobs::run`,
-//! `jobs::run_and_note`, `jobs::explain`, `jobs::run_by_moves` and `jobs::explain_by_moves` show it of the jobs that a
-//! command does. Promises nothing to other crates.
+//! `jobs::run_and_note`, `jobs::explain`, `jobs::run_by_moves`, `jobs::explain_by_moves` and `jobs::draw_by_moves` show
+//! it of the jobs that a command does. Promises nothing to other crates.
 #![tactic(auto)]
 
 mod expectation;

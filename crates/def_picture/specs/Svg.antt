@@ -63,7 +63,7 @@ report_svg ls y shape r = group_svg r.session ++ xml_text r.text ++ codes "</tit
 
 -- a shape that no session reports is dashed
 unfoldable pub dashed_svg : List Life → ℕ → Shape → List ℕ
-dashed_svg ls y shape = codes "<g fill=\"none\" stroke=\"#777\" stroke-dasharray=\"4 3\">" ++ shape_svg ls y shape ++ codes "</g>\n"
+dashed_svg ls y shape = codes "<g fill=\"none\" stroke=\"#777\" stroke-dasharray=\"3 1\">" ++ shape_svg ls y shape ++ codes "</g>\n"
 
 -- the marks of a row
 unfoldable pub marks_svg : List Life → ℕ → Shape → List Report → List ℕ

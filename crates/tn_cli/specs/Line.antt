@@ -48,10 +48,6 @@ pub record IsOneOf (arguments : List (List ℕ)) (g : ArgGroup) : Type 0 where
 abbrev pub PICKS : List (List ℕ)
 PICKS = codes "picks" ∷ codes "picks-file" ∷ codes "moves" ∷ codes "moves-file" ∷ []
 
--- the arguments that give the picks alone
-abbrev pub PICKS_ALONE : List (List ℕ)
-PICKS_ALONE = codes "picks" ∷ codes "picks-file" ∷ []
-
 -- the arguments that give the picks or the moves, or that there are none since the run is a round
 abbrev pub PICKS_OR_ROUND : List (List ℕ)
 PICKS_OR_ROUND = codes "picks" ∷ codes "picks-file" ∷ codes "moves" ∷ codes "moves-file" ∷ codes "round" ∷ []
@@ -103,7 +99,7 @@ EXPLAIN =
 
 -- the arguments of `draw`
 abbrev pub DRAW : List (List ℕ)
-DRAW = codes "script" ∷ codes "picks" ∷ codes "picks-file" ∷ codes "text" ∷ EXPECTATION
+DRAW = codes "script" ∷ codes "picks" ∷ codes "picks-file" ∷ codes "moves" ∷ codes "moves-file" ∷ codes "text" ∷ EXPECTATION
 
 -- the arguments of `round`
 abbrev pub ROUND : List (List ℕ)

@@ -19,8 +19,6 @@ use Rattle.tn_picture.specs.declared.request.PictureFormat.{PictureFormat}
 use Rattle.tn_picture.specs.declared.request.PictureFormat.TheVariants.{Svg, Plain}
 use Rattle.tn_cli.specs.declared.request.PicksSource.{PicksSource}
 use Rattle.tn_cli.specs.declared.request.PicksSource.TheVariants.{Text, In, Moves, MovesIn}
-use Rattle.tn_cli.specs.declared.request.PicksText.{PicksText}
-use Rattle.tn_cli.specs.declared.request.PicksText.TheVariants as texts
 use Rattle.tn_cli.specs.declared.request.RunSource.{RunSource}
 use Rattle.tn_cli.specs.declared.request.RunSource.TheVariants.{ByPicks, ByRound}
 use Rattle.tn_cli.specs.declared.request.ExpectationArgs.{ExpectationArgs}
@@ -119,11 +117,6 @@ ArePicksOf m (Text text) =
     (argument m (codes "picks-file") ≡ None) × (argument m (codes "moves-file") ≡ None) × (argument m (codes "moves") ≡ None)
     × (text.now ≡ unwrap_or (argument m (codes "picks")) [])
 
--- the picks are in the file that `--picks-file` names, else they are the text of `--picks`
-abbrev pub IsTextOfPicks : ArgMatches → PicksText → Type 0
-IsTextOfPicks m (texts.In source) = IsSomeAnd (argument m (codes "picks-file")) (λ path. IsSourceNamed (Some path) source)
-IsTextOfPicks m (texts.Text text) = (argument m (codes "picks-file") ≡ None) × (text.now ≡ unwrap_or (argument m (codes "picks")) [])
-
 -- all commands of the control list are taken before the rounds
 abbrev pub takes_control_first : ArgMatches → Bool
 takes_control_first m = option_map_or (λ text. bytes_eq text (codes "first")) (argument m (codes "control")) false
@@ -182,7 +175,7 @@ Asks name m (Explain script run filter expectation) =
     (name ≡ codes "explain") × IsSourceNamed (argument m (codes "script")) script × IsRunOf m run × IsAskedOf m filter
     × IsExpectationOf m expectation
 Asks name m (Draw script picks format expectation) =
-    (name ≡ codes "draw") × IsSourceNamed (argument m (codes "script")) script × IsTextOfPicks m picks
+    (name ≡ codes "draw") × IsSourceNamed (argument m (codes "script")) script × ArePicksOf m picks
     × (format ≡ picture_format_named (is_given m (codes "text"))) × IsExpectationOf m expectation
 Asks name m (Round script limit control_first quiet expectation) =
     (name ≡ codes "round") × IsSourceNamed (argument m (codes "script")) script × IsGiven 1 65536 (argument m (codes "limit")) limit

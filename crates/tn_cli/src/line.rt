@@ -3,7 +3,7 @@ ghost use Rattle.std.specs.Prelude.{◌≡◌, codes, true, IfOk, IsOkAnd};
 ghost use Rattle.clap.specs.Built.{AddsSubcommand, subcommand_names};
 ghost use Rattle.tn_cli.specs.Line.{IsOption, IsFlag, IsWord, IsElse, IsFromTo, IsOneOf, ExcludesPicks};
 ghost use Rattle.tn_cli.specs.Line.{IsCommand, IsWithFormats, IsWithExpectation, WantsBy, WantsOneOf};
-ghost use Rattle.tn_cli.specs.Line.{PICKS, PICKS_ALONE, PICKS_OR_ROUND, BY_PICKS, COMMAND_NAMES};
+ghost use Rattle.tn_cli.specs.Line.{PICKS, PICKS_OR_ROUND, BY_PICKS, COMMAND_NAMES};
 ghost use Rattle.tn_cli.specs.Line.{REPLAY, EXPLAIN, DRAW, ROUND, WORKERS, TRIAL};
 
 use clap::{Arg, ArgAction, ArgGroup, Command, value_parser};
@@ -280,16 +280,6 @@ fn node<'a>(alloc: Global) -> Arg<'a>
         .action(ArgAction::SetTrue)
 }
 
-/// Just one of `--picks` and `--picks-file` must be given; the usage names both.
-fn picks_alone<'a>(alloc: Global) -> Result<ArgGroup<'a>, AllocError>
-    ensures { IfOk result (IsOneOf PICKS_ALONE) }
-{
-    ArgGroup::new(alloc, "picks-source")
-        .required(true)
-        .arg("picks")?
-        .arg("picks-file")
-}
-
 /// `--text`.
 fn text<'a>(alloc: Global) -> Arg<'a>
     ensures { IsFlag (codes "text") result }
@@ -300,19 +290,15 @@ fn text<'a>(alloc: Global) -> Arg<'a>
         .action(ArgAction::SetTrue)
 }
 
-/// The subcommand `draw [SCRIPT] [--text]` with picks, and with what its output must be.
+/// The subcommand `draw [SCRIPT] [--text]` with picks or moves, and with what its output must be.
 fn draw<'a>(alloc: Global) -> Result<Command<'a>, AllocError>
     ensures arguments { IfOk result (IsCommand (codes "draw") DRAW) }
-    ensures picks { IfOk result (WantsOneOf PICKS_ALONE) }
+    ensures picks { IfOk result (WantsOneOf PICKS) }
 {
-    let sources = picks_alone(alloc)?;
-    let command = Command::new(alloc, "draw")
-        .about("Runs the script by the given picks, and prints a sequence diagram of it as SVG")
-        .arg(script(alloc))?
-        .arg(picks(alloc))?
-        .arg(picks_file(alloc))?
-        .arg(text(alloc))?
-        .group(sources)?;
+    let about =
+        "Runs the script by the given picks or moves, and prints a sequence diagram of it as SVG";
+    let sources = one_of_picks(alloc)?;
+    let command = by_picks(alloc, "draw", about, sources)?.arg(text(alloc))?;
     with_expectation(alloc, command)
 }
 

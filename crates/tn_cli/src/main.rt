@@ -19,9 +19,9 @@ use clap::error::ErrorKind;
 use format::format_of;
 use line::command;
 use request::{
-    BadNumber, ExpectationArgs, PicksSource, PicksText, Request, RunSource, SpecTestArgs,
-    request_of,
+    BadNumber, ExpectationArgs, PicksSource, Request, RunSource, SpecTestArgs, request_of,
 };
+use std::alloc::{AllocError, Global};
 use std::io;
 use std::process::ExitCode;
 use std::rt::{Env, Files};
@@ -29,11 +29,11 @@ use std::sync::Wait;
 use std::thread::Threads;
 use tn_command::{
     Expectation, FAULT, InFormat, LastError, REFUSED, Source, Start, WorkersRun, arguments,
-    output_of, perform, picks_of, report, tell_fault, test_spec,
+    escape_controls, output_of, perform, picks_of, report, tell_fault, test_spec,
 };
 use tn_explain::{ExplainRequest, Filter, RunAndNote};
 use tn_formats::Format;
-use tn_moves::{ExplainByMoves, Moves, RunByMoves};
+use tn_moves::{DrawByMoves, ExplainByMoves, Moves, RunByMoves};
 use tn_picture::{DrawRequest, PictureFormat};
 use tn_run::{RunFault, Schedule, Workers, write_output};
 use tn_text::Watched;
@@ -49,6 +49,8 @@ enum Task<'a> {
         filter: Filter<'a>,
         format: Option<Format>,
     },
+    /// The run is drawn.
+    Draw(PictureFormat),
 }
 
 /// What is printed of a run: in which format, and whether notes are printed on standard error.
@@ -103,6 +105,7 @@ fn run_task<R: Input + Files + Print + Eprint + AllocGlobal>(
             let job = &ExplainRequest { picks, filter };
             perform(rt, script, &InFormat { job, format }, expectation)
         }
+        Task::Draw(format) => perform(rt, script, &DrawRequest { picks, format }, expectation),
     }
 }
 
@@ -126,6 +129,7 @@ fn run_moves<R: Input + Files + Print + Eprint + AllocGlobal>(
             let job = &ExplainByMoves { moves, filter };
             perform(rt, script, &InFormat { job, format }, expectation)
         }
+        Task::Draw(format) => perform(rt, script, &DrawByMoves { moves, format }, expectation),
     }
 }
 
@@ -206,31 +210,6 @@ fn run_by_picks<R: Input + Files + Print + Eprint + AllocGlobal>(
         PicksSource::Moves(text) => {
             let moves = Moves::Text(text.as_bytes());
             run_moves(rt, task, script, moves, expectation)
-        }
-    }
-}
-
-/// Draws a run by picks.
-fn run_draw<R: Input + Files + Print + Eprint + AllocGlobal>(
-    rt: &R,
-    script: Source<'_>,
-    picks: PicksText<'_>,
-    format: PictureFormat,
-    expectation: &Expectation<'_>,
-) -> ExitCode
-    ensures { IsStatus (exit_status result) }
-{
-    match picks {
-        PicksText::In(source) => match text_in(rt, script, TextKind::Picks, source) {
-            Ok(text) => {
-                let picks = &text;
-                perform(rt, script, &DrawRequest { picks, format }, expectation)
-            }
-            Err(status) => status,
-        },
-        PicksText::Text(text) => {
-            let picks = text.as_bytes();
-            perform(rt, script, &DrawRequest { picks, format }, expectation)
         }
     }
 }
@@ -358,7 +337,7 @@ fn run_so<R: Input + Files + Print + Eprint + AllocGlobal + Threads + Wait + Syn
             picks,
             format,
             ..
-        } => run_draw(rt, script, picks, format, expectation),
+        } => run_by_picks(rt, Task::Draw(format), script, picks, expectation),
         Request::Round {
             script,
             limit,
@@ -428,6 +407,10 @@ fn refuse_number<R: Eprint>(rt: &R, bad: BadNumber<'_>) -> ExitCode
         text,
         reason,
     } = bad;
+    let Ok(plain) = escape_controls(rt.alloc(), text) else {
+        return report(rt, RunFault::OutOfMemory);
+    };
+    let text = str::from_utf8(&plain).unwrap_or("");
     let _ = rt.eprintln(format_args!(
         "error: invalid value '{text}' for '{option}': {reason}\n\nFor more information, try '--help'."
     ));
@@ -470,6 +453,37 @@ fn explain<R: Print + Eprint + AllocGlobal>(rt: &R, error: &clap::Error) -> Exit
     }
 }
 
+/// The words without control characters, each of which has its escape.
+fn plain_words(alloc: Global, words: &[String]) -> Result<Vec<String>, AllocError> {
+    let mut plain = Vec::new(alloc);
+    for word in words {
+        let bytes = escape_controls(alloc, word.as_str())?;
+        plain.push(String::from_utf8_lossy(alloc, &bytes)?)?;
+    }
+    Ok(plain)
+}
+
+/// Prints why words are refused for which `clap` gives this error, or the help. The words are read once more without
+/// control characters, so that what is printed has none of theirs.
+fn refuse<R: Print + Eprint + AllocGlobal>(
+    rt: &R,
+    words: &[String],
+    error: &clap::Error,
+) -> ExitCode
+    ensures { IsStatus (exit_status result) }
+{
+    let (Ok(command), Ok(plain)) = (command(rt.alloc()), plain_words(rt.alloc(), words)) else {
+        return report(rt, RunFault::OutOfMemory);
+    };
+    match command.try_get_matches_from(plain.as_slice()) {
+        Ok(_) => explain(rt, error),
+        Err(error) if error.kind() == ErrorKind::OutOfMemory => {
+            report(rt, RunFault::OutOfMemory)
+        }
+        Err(error) => explain(rt, &error),
+    }
+}
+
 /// Reads the command line, and does what it says.
 fn program<R: Env + Input + Files + Print + Eprint + AllocGlobal + Threads + Wait + Sync>(
     rt: &R,
@@ -485,7 +499,7 @@ fn program<R: Env + Input + Files + Print + Eprint + AllocGlobal + Threads + Wai
         Err(error) if error.kind() == ErrorKind::OutOfMemory => {
             report(rt, RunFault::OutOfMemory)
         }
-        Err(error) => explain(rt, &error),
+        Err(error) => refuse(rt, words, &error),
     }
 }
 

@@ -4,7 +4,7 @@ ghost use Rattle.tn_cli.specs.Requests.{argument, is_given, picture_format_named
 ghost use Rattle.tn_cli.specs.Requests.{number_given, IsNumberOrNone};
 ghost use Rattle.tn_cli.specs.Requests.{NamesProcess, NamesNoProcess, ArePicksOf, IsSourceNamed, Asks, IsAskedBy};
 ghost use Rattle.tn_cli.specs.Requests.{LacksLimit, LacksNumber, IsWithoutNumber, NamesNoCommand};
-ghost use Rattle.tn_cli.specs.Requests.{IsRunOf, IsTextOfPicks, takes_control_first};
+ghost use Rattle.tn_cli.specs.Requests.{IsRunOf, takes_control_first};
 ghost use Rattle.tn_cli.specs.Requests.{IsExpectationOf, request_expectation};
 
 use crate::value::{process_number, session_name};
@@ -25,15 +25,6 @@ pub enum PicksSource<'a> {
     Moves(&'a str),
     /// It is in a file, or is standard input.
     MovesIn(Source<'a>),
-}
-
-/// Where the text of picks is.
-#[derive(Clone, Copy)]
-pub enum PicksText<'a> {
-    /// It is given.
-    Text(&'a str),
-    /// It is in a file, or is standard input.
-    In(Source<'a>),
 }
 
 /// Which run is explained.
@@ -91,10 +82,10 @@ pub enum Request<'a> {
         filter: Filter<'a>,
         expectation: ExpectationArgs<'a>,
     },
-    /// A picture of a run by picks.
+    /// A picture of a run by picks or moves.
     Draw {
         script: Source<'a>,
-        picks: PicksText<'a>,
+        picks: PicksSource<'a>,
         format: PictureFormat,
         expectation: ExpectationArgs<'a>,
     },
@@ -247,16 +238,6 @@ fn picks<'a>(matches: &ArgMatches<'a>) -> PicksSource<'a>
     }
 }
 
-/// Where the picks of a picture are.
-fn picks_text<'a>(matches: &ArgMatches<'a>) -> PicksText<'a>
-    ensures { IsTextOfPicks matches.now result }
-{
-    if let Some(file) = matches.get_str("picks-file") {
-        return PicksText::In(source_of(Some(file)));
-    }
-    PicksText::Text(matches.get_str("picks").unwrap_or(""))
-}
-
 /// Whether all commands of the control list are taken before the rounds.
 fn control_first(matches: &ArgMatches<'_>) -> bool
     ensures { result ≡ takes_control_first matches.now }
@@ -350,7 +331,7 @@ fn draw<'a>(matches: &ArgMatches<'a>) -> Request<'a>
 {
     Request::Draw {
         script: script(matches),
-        picks: picks_text(matches),
+        picks: picks(matches),
         format: format(matches),
         expectation: expectation(matches),
     }

@@ -1,9 +1,11 @@
 -- What was written is what the status says.
-use Rattle.std.proofs.Common.{◌≡◌, ◌∙◌, ◌⊎◌, inl, inr, ℕ, Bool, true, false, if◌then◌else◌, List, Option, Result, Ok, Err, IfOk, refl, sym, arith}
+use Rattle.std.proofs.Common.{◌≡◌, ◌∙◌, ◌⊎◌, inl, inr, ℕ, Bool, true, false, not, if◌then◌else◌, List, Option, Result, Ok, Err, IfOk, refl, sym, subst, arith}
+use Rattle.std.specs.Prelude.{◌==◌, ◌&&◌}
 use Rattle.tn_text.specs.Watch.{has_failed}
 use Rattle.tn_text.specs.declared.watched.Watched.{Watched}
 use Rattle.tn_run.specs.Jobs.{Meets, FailedEnd, JobView, Writes, no_end_failed, reader_failed, writer_failed}
-use Rattle.tn_command.specs.Status.{FAULT_STATUS, IsStatus, IsWrittenAs, LISTED_STATUS, REFUSED_STATUS, status_of}
+use Rattle.tn_command.specs.Status.{FAULT_STATUS, IsStatus, IsStrictJudgement, IsStrictStatus, IsWrittenAs, LISTED_STATUS, REFUSED_STATUS, UNMET_STATUS}
+use Rattle.tn_command.specs.Status.{status_after_judgement, status_by_flaw, status_of}
 
 written_as : {O F : Type 0} (job : JobView O F) (n : ℕ) (bytes old new : Option (List ℕ)) (o : O) (b : Bool) → job.succeeds o ≡ b
     → n ≡ (if b then LISTED_STATUS else REFUSED_STATUS) → Writes job bytes old new o → IsWrittenAs job n bytes old new
@@ -21,6 +23,28 @@ status_is n false e = inr (inl e)
 pub has_status : {O F : Type 0} (job : JobView O F) (n : ℕ) (r : Result O F) → n ≡ status_of job r → IsStatus n
 has_status job n (Ok o) e = status_is n (job.succeeds o) e
 has_status job n (Err f) e = inr (inr (inl e))
+
+-- ---- after a judgement
+
+either : (c : Bool) (k n : ℕ) → IsStatus k → IsStatus n → IsStatus (if c then k else n)
+either true k n x y = x
+either false k n x y = y
+
+pub judged_has_status : (n : ℕ) (is_met : Bool) → IsStatus n → IsStatus (status_after_judgement n is_met)
+judged_has_status n is_met s = either (n == LISTED_STATUS && not is_met) UNMET_STATUS n (inr (inr (inr refl))) s
+
+flawed_has_status : {E : Type 0} (n : ℕ) (r : Result Bool E) → IsStatus n → IsStatus (status_by_flaw n r)
+flawed_has_status n (Ok flawed) s = judged_has_status n (not flawed) s
+flawed_has_status n (Err e) s = either (n == LISTED_STATUS) FAULT_STATUS n (inr (inr (inl refl))) s
+
+pub strict_has_status : (strict : Bool) (flaw : Bool → Type 0) (n m : ℕ) → IsStatus n → IsStrictStatus strict flaw n m → IsStatus m
+strict_has_status true flaw n m s h = subst IsStatus (sym h.2) (flawed_has_status n h.0 s)
+strict_has_status false flaw n m s h = subst IsStatus (sym h) s
+
+pub judgement_has_status : (strict : Bool) (flaw : Bool → Type 0) (n : ℕ) (is_met : Bool) (m : ℕ) → IsStatus n → IsStrictJudgement strict flaw n is_met m → IsStatus m
+judgement_has_status strict flaw n is_met m s h = subst IsStatus (sym h.2) (judged_has_status h.0 is_met (strict_has_status strict flaw n h.0 s h.1))
+
+-- ---- where nothing was written
 
 no_fault : {P : Type 0} (b : Bool) → FAULT_STATUS ≡ (if b then LISTED_STATUS else REFUSED_STATUS) → P
 no_fault true e = absurd (omega (arith, e))

@@ -1,5 +1,6 @@
 pub mod Ends
 pub mod Expectations
+pub mod Flaws
 pub mod JobFormats
 pub mod Numbers
 pub mod PickTexts

@@ -1,10 +1,11 @@
 -- The exit status of a job, and what it says was written (own).
-use Rattle.std.specs.Prelude.{◌≡◌, ◌==◌, ◌&&◌, ℕ, ◌⊎◌, Bool, true, false, not, if◌then◌else◌, List, Option, Result, Ok, Err}
+use Rattle.std.specs.Prelude.{◌≡◌, ◌==◌, ◌&&◌, ℕ, ◌⊎◌, Bool, true, false, not, if◌then◌else◌, List, Option, Result, Ok, Err, IfOk}
 use Rattle.std.specs.Process.{exit_status}
 use Rattle.std.specs.declared.process.ExitCode.{ExitCode}
 use Rattle.tn_text.specs.Watch.{watched_inner, has_failed}
 use Rattle.tn_text.specs.declared.watched.Watched.{Watched}
 use Rattle.tn_run.specs.Jobs.{JobView, Writes}
+use Rattle.tn_refusal.specs.declared.refusal.Denial.{Denial}
 
 abbrev pub LISTED_STATUS : ℕ
 LISTED_STATUS = 0
@@ -31,13 +32,19 @@ IsStatus n = (n ≡ LISTED_STATUS) ⊎ ((n ≡ REFUSED_STATUS) ⊎ ((n ≡ FAULT
 abbrev pub status_after_judgement : ℕ → Bool → ℕ
 status_after_judgement n is_met = if n == LISTED_STATUS && not is_met then UNMET_STATUS else n
 
--- the status of a strict command line, which may be 1 where it would be 0; of another the same
-abbrev pub IsStrictStatus : (strict : Bool) → ℕ → ℕ → Type 0
-IsStrictStatus strict n m = (flawed : Bool) × (m ≡ status_after_judgement n (not (strict && flawed)))
+-- 1 where the status so far is 0 and there is a flaw, and 3 where it is 0 and there was no memory to say whether there is
+abbrev pub status_by_flaw : {E : Type 0} → ℕ → Result Bool E → ℕ
+status_by_flaw n (Ok flawed) = status_after_judgement n (not flawed)
+status_by_flaw n (Err e) = if n == LISTED_STATUS then FAULT_STATUS else n
+
+-- the status of a strict command line, by whether there is such a flaw; of another the status so far
+abbrev pub IsStrictStatus : (strict : Bool) → (Bool → Type 0) → ℕ → ℕ → Type 0
+IsStrictStatus true flaw n m = (flawed : Result Bool Denial) × IfOk flawed flaw × (m ≡ status_by_flaw n flawed)
+IsStrictStatus false flaw n m = m ≡ n
 
 -- and then after what the output must be
-abbrev pub IsStrictJudgement : (strict : Bool) → ℕ → (is_met : Bool) → ℕ → Type 0
-IsStrictJudgement strict n is_met m = (k : ℕ) × IsStrictStatus strict n k × (m ≡ status_after_judgement k is_met)
+abbrev pub IsStrictJudgement : (strict : Bool) → (Bool → Type 0) → ℕ → (is_met : Bool) → ℕ → Type 0
+IsStrictJudgement strict flaw n is_met m = (k : ℕ) × IsStrictStatus strict flaw n k × (m ≡ status_after_judgement k is_met)
 
 -- none that tells of success
 abbrev pub IsFailure : ℕ → Type 0

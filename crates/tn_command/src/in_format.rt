@@ -8,7 +8,7 @@ use std::alloc::{AllocError, Allocator, Global};
 use tn_formats::{Format, in_format};
 use tn_listing::PicksFault;
 use tn_program::Program;
-use tn_run::{DirectJob, Job, Refusal, RunFault};
+use tn_run::{Denial, DirectJob, Job, Refusal, RunFault};
 
 /// A job whose output is written in a format, where one is given. A refusal has its line as it is.
 #[derive(Clone, Copy)]
@@ -75,6 +75,8 @@ impl<A: Allocator + Copy, J: DirectJob<A>> DirectJob<A> for InFormat<'_, J> {
 }
 
 impl<J: Command> Command for InFormat<'_, J> {
+    ghost flaw = { λ f outcome bytes flawed. J.flaw f.job.now outcome bytes flawed };
+
     fn tell_outcome<R: Eprint + AllocGlobal>(
         &self,
         rt: &R,
@@ -84,7 +86,12 @@ impl<J: Command> Command for InFormat<'_, J> {
         self.job.tell_outcome(rt, outcome, script)
     }
 
-    fn is_flawed(&self, alloc: Global, outcome: &J::Outcome, script: NamedText<'_>) -> bool {
+    fn is_flawed(
+        &self,
+        alloc: Global,
+        outcome: &J::Outcome,
+        script: NamedText<'_>,
+    ) -> Result<bool, Denial> {
         self.job.is_flawed(alloc, outcome, script)
     }
 }

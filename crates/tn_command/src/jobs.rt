@@ -1,10 +1,9 @@
 // What a command does with a script.
-ghost use Rattle.std.specs.Prelude.{◌≡◌};
+ghost use Rattle.std.specs.Prelude.{◌≡◌, true};
 ghost use Rattle.std.specs.Process.{exit_status};
 ghost use Rattle.tn_run.specs.Jobs.{Meets};
-ghost use Rattle.tn_text.specs.Watch.{watched_inner};
-ghost use Rattle.tn_command.specs.Ends.{last_error_inner, tee_text};
 ghost use Rattle.tn_command.specs.Expectations.{meets_expectation};
+ghost use Rattle.tn_command.specs.Flaws.{IsEndFlaw, output_bytes, script_bytes};
 ghost use Rattle.tn_command.specs.Status.{IsStatus, OnFaultUntouchedOrFailed, WroteAs};
 ghost use Rattle.tn_command.specs.Status.{IsStrictStatus, IsStrictJudgement, status_of};
 
@@ -14,7 +13,7 @@ use crate::judgement::judge;
 use crate::last_error::LastError;
 use crate::plain_text::{escape_controls, plain_name};
 use crate::source::{Source, open};
-use crate::status::{JobEnd, job_status, judge_status};
+use crate::status::{JobEnd, job_status, judge_status, report};
 use crate::stderr::{NamedText, tell_fault};
 use crate::tee::Tee;
 use std::alloc::{Allocator, Global};
@@ -22,7 +21,7 @@ use std::io;
 use std::io::{Error, Read, Write};
 use std::process::ExitCode;
 use std::rt::Files;
-use tn_run::{DirectJob, transact};
+use tn_run::{DirectJob, RunFault, transact};
 use tn_text::Watched;
 
 /// What the script of standard input is called.
@@ -65,6 +64,26 @@ pub(crate) fn script_of<'a, R>(alloc: Global, name: &'a str, reader: R) -> Named
     NamedScript { name, reader }
 }
 
+/// The status of a strict command line for this outcome, where another would have this status: 1 in place of 0 where
+/// the outcome shows a fault of the script, and 3, after its line on standard error, where there was no memory to say
+/// so.
+fn strict_status<R: Eprint + AllocGlobal, J: Command>(
+    rt: &R,
+    job: &J,
+    outcome: &J::Outcome,
+    script: NamedText<'_>,
+    status: ExitCode,
+) -> ExitCode
+    ensures { IsStrictStatus true (J.flaw job.now outcome.now script.entry.bytes.now)
+        (exit_status status) (exit_status result) }
+{
+    match job.is_flawed(rt.alloc(), outcome, script) {
+        Ok(flawed) => judge_status(status, !flawed),
+        Err(_) if status == ExitCode::SUCCESS => report(rt, RunFault::OutOfMemory),
+        Err(_) => status,
+    }
+}
+
 /// The status of a job, after a line on standard error where its answer isn't what was asked for. Where a strict
 /// command line takes the outcome as a fault of the script, it is 1 in place of 0.
 pub(crate) fn print_end<R: Eprint + AllocGlobal, J: Command, S: Drop>(
@@ -75,7 +94,8 @@ pub(crate) fn print_end<R: Eprint + AllocGlobal, J: Command, S: Drop>(
     unwritten: Option<Error>,
     strict: bool,
 ) -> ExitCode
-    ensures { IsStrictStatus strict (exit_status end.status) (exit_status result) }
+    ensures { IsStrictStatus strict (IsEndFlaw (J.flaw job.now) end (script_bytes script.entry))
+        (exit_status end.status) (exit_status result) }
 {
     let JobEnd { status, answer } = end;
     let NamedScript { name, reader } = script;
@@ -88,9 +108,13 @@ pub(crate) fn print_end<R: Eprint + AllocGlobal, J: Command, S: Drop>(
     };
     match answer {
         Ok(outcome) => {
-            let flawed = strict && job.is_flawed(rt.alloc(), &outcome, text);
+            let status = if strict {
+                strict_status(rt, job, &outcome, text, status)
+            } else {
+                status
+            };
             job.tell_outcome(rt, outcome, text);
-            judge_status(status, !flawed)
+            status
         }
         Err(fault) => {
             tell_fault(rt, &fault, unread.or(unwritten));
@@ -114,8 +138,8 @@ pub(crate) fn print_judgement<R: Eprint + AllocGlobal, J: Command, S: Drop, W: D
     writer: Recorder<W>,
     expectation: &Expectation<'_>,
 ) -> ExitCode
-    ensures { IsStrictJudgement expectation.now.strict (exit_status end.status)
-        (meets_expectation expectation.now (tee_text (last_error_inner (watched_inner writer)))) (exit_status result) }
+    ensures { IsStrictJudgement expectation.now.strict (IsEndFlaw (J.flaw job.now) end (script_bytes script.entry))
+        (exit_status end.status) (meets_expectation expectation.now (output_bytes writer)) (exit_status result) }
 {
     let (tee, error) = writer.into_inner().into_parts();
     let (_, output) = tee.into_parts();

@@ -5,6 +5,7 @@ ghost use Rattle.tn_command.specs.Expectations.{meets_expectation};
 ghost use Rattle.tn_command.specs.Status.{status_after_judgement};
 
 use crate::expectation::Expectation;
+use crate::plain_text::{escape_controls, plain_name};
 use crate::status::judge_status;
 use std::process::ExitCode;
 use tn_formats::first_line;
@@ -71,8 +72,15 @@ fn tell_difference<R: Eprint>(rt: &R, expected: &[u8], output: &[u8]) {
     tell_line(rt, number, expected, output);
 }
 
+/// Says of a line of the command line how the output has it, or hasn't.
+fn tell_about_line<R: Eprint + AllocGlobal>(rt: &R, how: &str, line: &[u8]) {
+    let plain = escape_controls(rt.alloc(), str::from_utf8(line).unwrap_or(""));
+    let text = plain_name(&plain, "of this text");
+    let _ = rt.eprintln(format_args!("error: the output has {how} line {text}"));
+}
+
 /// Says of each thing that is expected and isn't so what is otherwise.
-fn tell_unmet<R: Eprint>(rt: &R, expectation: &Expectation<'_>, output: &[u8]) {
+fn tell_unmet<R: Eprint + AllocGlobal>(rt: &R, expectation: &Expectation<'_>, output: &[u8]) {
     if let Some(expected) = expectation.output {
         if !expectation.has_output(output) {
             tell_difference(rt, expected, output);
@@ -80,21 +88,19 @@ fn tell_unmet<R: Eprint>(rt: &R, expectation: &Expectation<'_>, output: &[u8]) {
     }
     if let Some(line) = expectation.line {
         if !expectation.finds_line(output) {
-            let text = str::from_utf8(line).unwrap_or("");
-            let _ = rt.eprintln(format_args!("error: the output has no line {text}"));
+            tell_about_line(rt, "no", line);
         }
     }
     if let Some(line) = expectation.no_line {
         if !expectation.lacks_line(output) {
-            let text = str::from_utf8(line).unwrap_or("");
-            let _ = rt.eprintln(format_args!("error: the output has the line {text}"));
+            tell_about_line(rt, "the", line);
         }
     }
 }
 
 /// The status of what ended with a status so far and with this output, after the reasons on standard error where the
 /// output isn't what is expected.
-pub(crate) fn judge<R: Eprint>(
+pub(crate) fn judge<R: Eprint + AllocGlobal>(
     rt: &R,
     status: ExitCode,
     output: &[u8],

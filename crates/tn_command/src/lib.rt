@@ -10,8 +10,9 @@
 //! of a text of picks that it is what the reader holds, without a line feed at its end. A refusal or a fault has one
 //! line on standard error: how the text can be fixed, or what failed. A pipe that was closed has none. So has a run
 //! that a running node is known to do otherwise: at how many of its moves; and each of its commands that is refused
-//! or matches no function. Names are printed without control characters, which `escape_controls` replaces. Where a
-//! command line is strict, the status is 1 where it would be 0 and a command is refused or matches no function.
+//! or matches no function. Names are printed without control characters, which `escape_controls` replaces. Promises of
+//! a strict command line that the status is 1 where it would be 0 and a command is refused or matches no function, or
+//! the script has no forms; and 3 where there was no memory to say so.
 #![tactic(auto)]
 
 mod command;

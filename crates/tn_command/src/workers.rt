@@ -6,7 +6,7 @@ ghost use Rattle.tn_run.specs.Jobs.{Meets};
 ghost use Rattle.tn_run.specs.Workers.{IsWorkerCount};
 ghost use Rattle.tn_command.specs.Status.{IsStatus, OnFaultUntouchedOrFailed, WroteAs, status_of};
 
-use crate::command::{Command, is_remarked};
+use crate::command::{Command, has_flaw};
 use crate::expectation::Expectation;
 use crate::jobs::{INPUT, print_end, print_judgement, script_of, write_error};
 use crate::last_error::LastError;
@@ -28,7 +28,7 @@ use tn_explain::text_note;
 use tn_formats::Format;
 use tn_listing::PicksFault;
 use tn_pool::Gate;
-use tn_run::{Job, LiveFault, LiveRun, Outcome, Ran, Refusal, RunFault, Workers, run_live};
+use tn_run::{Denial, Job, LiveFault, LiveRun, Outcome, Ran, Refusal, RunFault, Workers, run_live};
 use tn_text::Watched;
 
 /// Runs the script that a reader holds by workers: what the writer gained is what the status says.
@@ -89,6 +89,10 @@ impl Job<Global> for WorkersRun<'_> {
 }
 
 impl Command for WorkersRun<'_> {
+    ghost use Rattle.tn_command.specs.Flaws.{IsWorkersFlaw};
+
+    ghost flaw = { λ job ran bytes flawed. IsWorkersFlaw ran bytes flawed };
+
     fn tell_outcome<R: Eprint + AllocGlobal>(&self, rt: &R, ran: Ran, script: NamedText<'_>) {
         match ran.outcome {
             Outcome::Refused(refusal) => tell_refusal(rt, refusal, script, b""),
@@ -103,10 +107,10 @@ impl Command for WorkersRun<'_> {
         }
     }
 
-    fn is_flawed(&self, alloc: Global, ran: &Ran, script: NamedText<'_>) -> bool {
+    fn is_flawed(&self, alloc: Global, ran: &Ran, script: NamedText<'_>) -> Result<bool, Denial> {
         match ran.outcome {
-            Outcome::Refused(_) => false,
-            Outcome::Listed => is_remarked(alloc, script, &ran.picks),
+            Outcome::Listed => has_flaw(alloc, script, &ran.picks),
+            Outcome::Refused(_) => Ok(false),
         }
     }
 }

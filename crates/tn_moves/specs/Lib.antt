@@ -4,3 +4,4 @@ pub mod Pieces
 pub mod Readings
 pub mod Moves
 pub mod Jobs
+pub mod Pictures

@@ -223,7 +223,7 @@ fn put_dashed<A: Allocator>(
         dashed_svg (map life_seen lives.now) y (row_shape_seen shape)) }
 {
     put_text(
-        b"<g fill=\"none\" stroke=\"#777\" stroke-dasharray=\"4 3\">",
+        b"<g fill=\"none\" stroke=\"#777\" stroke-dasharray=\"3 1\">",
         out,
     )?;
     put_shape(lives, y, shape, out)?;

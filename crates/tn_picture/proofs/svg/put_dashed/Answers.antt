@@ -10,6 +10,6 @@ unfolding dashed_svg
 returns g c =
     on_done c.put_text-2.result
     (λ h.
-    three_texts c.args.out.now.items (codes "<g fill=\"none\" stroke=\"#777\" stroke-dasharray=\"4 3\">") (shape_svg (map life_seen c.args.lives.now) c.args.y (row_shape_seen c.args.shape)) (codes "</g>\n") c.put_text.new.out.items c.put_shape.new.out.items c.put_text-2.new.out.items
+    three_texts c.args.out.now.items (codes "<g fill=\"none\" stroke=\"#777\" stroke-dasharray=\"3 1\">") (shape_svg (map life_seen c.args.lives.now) c.args.y (row_shape_seen c.args.shape)) (codes "</g>\n") c.put_text.new.out.items c.put_shape.new.out.items c.put_text-2.new.out.items
     c.in_ok-put_text.ensures c.in_ok-put_shape.ensures h)
     c.put_text-2.ensures
