@@ -66,8 +66,8 @@ pub fn explain<A: Allocator + Copy>(
     line_of(alloc, name, text, refusal, TextKind::Script)
 }
 
-/// The line that a text can be mended by which should be one term, without a line feed: as `explain`, with a term in the
-/// place of a form, and the end of the text in that of a full stop.
+/// The line that a text can be mended by which should be one term, without a line feed: as that of `explain`, with a
+/// term in the place of a form, and the end of the text in that of a full stop.
 ///
 /// # Errors
 ///

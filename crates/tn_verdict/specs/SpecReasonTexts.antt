@@ -41,8 +41,8 @@ abbrev pub with_count_of : {A : Type 0} → Name → Vec (Term A) A → List ℕ
 with_count_of s v = with_count s (trees_of (drop 1 v.items))
 
 -- a name, and the written name that is meant
-abbrev pub meant_text : Name → List ℕ → List ℕ
-meant_text s meant = atom_text s ++ codes "; " ++ meant ++ codes " is meant?"
+abbrev pub suggestion_text : Name → List ℕ → List ℕ
+suggestion_text s meant = atom_text s ++ codes "; " ++ meant ++ codes " is meant?"
 
 -- that a name is of no function, with the terms after the first
 abbrev pub no_function_text_of : {A : Type 0} → Name → Vec (Term A) A → List ℕ

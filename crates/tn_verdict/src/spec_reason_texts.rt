@@ -13,7 +13,7 @@ ghost use Rattle.tn_text.specs.Writes.{Grows};
 ghost use Rattle.tn_verdict.specs.SpecReasons.{expression_reason_seen, head_term_reason_seen, shape_reason_seen};
 ghost use Rattle.tn_verdict.specs.SpecReasons.{clause_reason_seen, spec_reason_seen, names_seen};
 ghost use Rattle.tn_verdict.specs.SpecReasonTexts.{further_texts, counts_of, no_call_text_of};
-ghost use Rattle.tn_verdict.specs.SpecReasonTexts.{call_tuple_text, with_count_of, meant_text};
+ghost use Rattle.tn_verdict.specs.SpecReasonTexts.{call_tuple_text, with_count_of, suggestion_text};
 ghost use Rattle.tn_verdict.specs.SpecReasonTexts.{no_function_text_of, other_name_text_of, wrong_count_text};
 
 use crate::expression_reasons::ExpressionReason;
@@ -195,7 +195,7 @@ fn put_meant<A: Allocator, B: Allocator>(
     meant: &'static [u8],
     out: &mut Vec<u8, B>,
 ) -> Result<(), AllocError>
-    ensures ok { OnOk result (out.new.items ≡ out.old.items ++ meant_text name.now meant.now) }
+    ensures ok { OnOk result (out.new.items ≡ out.old.items ++ suggestion_text name.now meant.now) }
     ensures grows { Grows out.old.items out.new.items }
 {
     write_atom(name, out)?;
