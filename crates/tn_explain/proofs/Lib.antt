@@ -1,3 +1,4 @@
+mod NearestFunctions
 pub mod EarlierLines
 pub mod ClauseLines
 pub mod LaterLines
