@@ -399,7 +399,7 @@ fn run_request<R: Input + Files + Print + Eprint + AllocGlobal + Threads + Wait 
 }
 
 /// Says that a value is no number, as other wrong values are refused.
-fn refuse_number<R: Eprint>(rt: &R, bad: BadNumber<'_>) -> ExitCode
+fn refuse_number<R: Eprint + AllocGlobal>(rt: &R, bad: BadNumber<'_>) -> ExitCode
     ensures { IsStatus (exit_status result) }
 {
     let BadNumber {

@@ -1,11 +1,11 @@
 -- What was written is what the status says.
-use Rattle.std.proofs.Common.{◌≡◌, ◌∙◌, ◌⊎◌, inl, inr, ℕ, Bool, true, false, not, if◌then◌else◌, List, Option, Result, Ok, Err, IfOk, refl, sym, subst, arith}
+use Rattle.std.proofs.Common.{◌≡◌, ◌∙◌, ◌⊎◌, inl, inr, ℕ, Bool, true, false, if◌then◌else◌, List, Option, Result, Ok, Err, IfOk, refl, sym, subst, arith}
 use Rattle.std.specs.Prelude.{◌==◌, ◌&&◌}
 use Rattle.tn_text.specs.Watch.{has_failed}
 use Rattle.tn_text.specs.declared.watched.Watched.{Watched}
 use Rattle.tn_run.specs.Jobs.{Meets, FailedEnd, JobView, Writes, no_end_failed, reader_failed, writer_failed}
-use Rattle.tn_command.specs.Status.{FAULT_STATUS, IsStatus, IsStrictJudgement, IsStrictStatus, IsWrittenAs, LISTED_STATUS, REFUSED_STATUS, UNMET_STATUS}
-use Rattle.tn_command.specs.Status.{status_after_judgement, status_by_flaw, status_of}
+use Rattle.tn_command.specs.Flaws.{IsAnswerFlaw}
+use Rattle.tn_command.specs.Status.{FAULT_STATUS, IsStatus, IsStrictStatus, IsWrittenAs, LISTED_STATUS, REFUSED_STATUS, UNMET_STATUS, status_of}
 
 written_as : {O F : Type 0} (job : JobView O F) (n : ℕ) (bytes old new : Option (List ℕ)) (o : O) (b : Bool) → job.succeeds o ≡ b
     → n ≡ (if b then LISTED_STATUS else REFUSED_STATUS) → Writes job bytes old new o → IsWrittenAs job n bytes old new
@@ -24,27 +24,16 @@ pub has_status : {O F : Type 0} (job : JobView O F) (n : ℕ) (r : Result O F) �
 has_status job n (Ok o) e = status_is n (job.succeeds o) e
 has_status job n (Err f) e = inr (inr (inl e))
 
--- ---- after a judgement
+unflawed_stays : (b : Bool) (n : ℕ) → n ≡ (if b && false then UNMET_STATUS else n)
+unflawed_stays true n = refl
+unflawed_stays false n = refl
 
-either : (c : Bool) (k n : ℕ) → IsStatus k → IsStatus n → IsStatus (if c then k else n)
-either true k n x y = x
-either false k n x y = y
-
-pub judged_has_status : (n : ℕ) (is_met : Bool) → IsStatus n → IsStatus (status_after_judgement n is_met)
-judged_has_status n is_met s = either (n == LISTED_STATUS && not is_met) UNMET_STATUS n (inr (inr (inr refl))) s
-
-flawed_has_status : {E : Type 0} (n : ℕ) (r : Result Bool E) → IsStatus n → IsStatus (status_by_flaw n r)
-flawed_has_status n (Ok flawed) s = judged_has_status n (not flawed) s
-flawed_has_status n (Err e) s = either (n == LISTED_STATUS) FAULT_STATUS n (inr (inr (inl refl))) s
-
-pub strict_has_status : (strict : Bool) (flaw : Bool → Type 0) (n m : ℕ) → IsStatus n → IsStrictStatus strict flaw n m → IsStatus m
-strict_has_status true flaw n m s h = subst IsStatus (sym h.2) (flawed_has_status n h.0 s)
-strict_has_status false flaw n m s h = subst IsStatus (sym h) s
-
-pub judgement_has_status : (strict : Bool) (flaw : Bool → Type 0) (n : ℕ) (is_met : Bool) (m : ℕ) → IsStatus n → IsStrictJudgement strict flaw n is_met m → IsStatus m
-judgement_has_status strict flaw n is_met m s h = subst IsStatus (sym h.2) (judged_has_status h.0 is_met (strict_has_status strict flaw n h.0 s h.1))
-
--- ---- where nothing was written
+-- a fault keeps its status
+pub fault_stays : {O F : Type 0} (strict : Bool) (flaw : O → List ℕ → Bool → Type 0) (answer : Result O F) (fault : F) (bytes : List ℕ) (n : ℕ)
+    → answer ≡ Err fault → IsStrictStatus strict (IsAnswerFlaw flaw answer bytes) n n
+fault_stays true flaw answer fault bytes n is =
+    (Ok false, subst (λ r. IsAnswerFlaw flaw r bytes false) (sym is) refl, unflawed_stays (n == LISTED_STATUS) n)
+fault_stays false flaw answer fault bytes n is = refl
 
 no_fault : {P : Type 0} (b : Bool) → FAULT_STATUS ≡ (if b then LISTED_STATUS else REFUSED_STATUS) → P
 no_fault true e = absurd (omega (arith, e))
