@@ -2,7 +2,7 @@ use Rattle.std.proofs.Common.{◌≡◌, ◌∙◌, ◌++◌, if◌then◌else�
 use Rattle.def_term.specs.Text.{w}
 use Rattle.def_explain.specs.Texts.{ending_text}
 use Rattle.tn_term.specs.Views.{tree_of}
-use Rattle.tn_verdict.specs.SpecTests.{lent_tree}
+use Rattle.tn_difference.specs.Effects.{lent_tree}
 use Rattle.tn_verdict.proofs.Pieces.{behind}
 use Rattle.tn_verdict.proofs.spec_test.put_ending.Goals as goal
 
