@@ -215,7 +215,8 @@ def spellings_of_processes():
         wants(f"the process <0.{number}.0>", by_pid, 0, told.encode())
     outer = ("<0.1.1>", "<1.1.0>", "<0.1.0", "0.1.0>", "<0.0>", "<1>", "<0.<0.1.0>.0>", " <0.1.0>", "<0.1.0>\n")
     for text in ("x", "4294967296", "<0.4294967296.0>", "<0..0>", "<0.+1.0>", "<0.-1.0>", *outer):
-        told = f"error: invalid value '{text}' for '--me <N>': a number or a pid <0.N.0> is expected\n\n"
+        shown = text.replace("\n", "\\x0a")
+        told = f"error: invalid value '{shown}' for '--me <N>': a number or a pid <0.N.0> is expected\n\n"
         wanted = told.encode() + b"For more information, try '--help'.\n"
         wants(f"the process {text!r}", run([*trial, "--me", text]), 2, b"", wanted)
 
