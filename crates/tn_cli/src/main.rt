@@ -463,6 +463,26 @@ fn plain_words(alloc: Global, words: &[String]) -> Result<Vec<String>, AllocErro
     Ok(plain)
 }
 
+/// The same, where these are the words without control characters.
+fn refuse_plain<R: Print + Eprint + AllocGlobal>(
+    rt: &R,
+    words: &[String],
+    error: &clap::Error,
+) -> ExitCode
+    ensures { IsStatus (exit_status result) }
+{
+    let Ok(command) = command(rt.alloc()) else {
+        return report(rt, RunFault::OutOfMemory);
+    };
+    match command.try_get_matches_from(words) {
+        Ok(_matches) => explain(rt, error),
+        Err(error) if error.kind() == ErrorKind::OutOfMemory => {
+            report(rt, RunFault::OutOfMemory)
+        }
+        Err(error) => explain(rt, &error),
+    }
+}
+
 /// Prints why words are refused for which `clap` gives this error, or the help. The words are read once more without
 /// control characters, so that what is printed has none of theirs.
 fn refuse<R: Print + Eprint + AllocGlobal>(
@@ -472,15 +492,9 @@ fn refuse<R: Print + Eprint + AllocGlobal>(
 ) -> ExitCode
     ensures { IsStatus (exit_status result) }
 {
-    let (Ok(command), Ok(plain)) = (command(rt.alloc()), plain_words(rt.alloc(), words)) else {
-        return report(rt, RunFault::OutOfMemory);
-    };
-    match command.try_get_matches_from(plain.as_slice()) {
-        Ok(_) => explain(rt, error),
-        Err(error) if error.kind() == ErrorKind::OutOfMemory => {
-            report(rt, RunFault::OutOfMemory)
-        }
-        Err(error) => explain(rt, &error),
+    match plain_words(rt.alloc(), words) {
+        Ok(plain) => refuse_plain(rt, &plain, error),
+        Err(_) => report(rt, RunFault::OutOfMemory),
     }
 }
 
