@@ -21,7 +21,9 @@ IRREGULAR = set(
 )
 
 # Words that look like participles, and the names that the manual gives to parts of the public surface.
-NOUNS = {"binding", "listing", "matching", "nothing", "reading", "setting", "spelling", "string", "thing", "upcoming"}
+NOUNS = {
+    "binding", "listing", "matching", "nothing", "reading", "setting", "shared", "spelling", "string", "thing", "upcoming",
+}
 SURFACE = {"closed", "created", "failed", "made", "moved", "seen", "split", "spread", "watched"}
 
 
@@ -98,8 +100,9 @@ def once():
     yield "at most two functions perform commands", len(performs) <= 2, performs
     layers = [path.name for path in CRATES.iterdir() if path.name.startswith(("def_", "tn_"))]
     # The 38 layers; def_moves and tn_moves, which say what should run; def_picture and tn_picture, which draw it;
-    # def_formats and tn_formats, which print what comes of it; and tn_difference, what a node does otherwise.
-    yield "at most 45 crates beside those of completeness and callers", len(layers) <= 45, len(layers)
+    # def_formats and tn_formats, which print what comes of it; tn_difference, what a node does otherwise;
+    # def_refusal, which step or command a script is refused for; and tn_reason, why a term is no match specification.
+    yield "at most 47 crates beside those of completeness and callers", len(layers) <= 47, len(layers)
 
 
 def findings():

@@ -2,6 +2,7 @@
 ghost use Rattle.std.specs.Prelude.{◌≡◌, ◌≤◌, IfOk};
 ghost use Rattle.std.specs.Option.{option_map};
 ghost use Rattle.tn_term.specs.Views.{tree_of};
+ghost use Rattle.tn_term.specs.Shared.{shared_tree};
 ghost use Rattle.tn_script.specs.Views.{entry_of, functions_of};
 ghost use Rattle.tn_process.specs.Outlooks.{error_seen};
 ghost use Rattle.tn_process.specs.Views.{process_seen, act_of};
@@ -9,7 +10,7 @@ ghost use Rattle.tn_process.specs.Views.{process_seen, act_of};
 use std::alloc::{AllocError, Allocator};
 use tn_process::{Act, Process, RuntimeError};
 use tn_script::{Entry, Function};
-use tn_term::Term;
+use tn_term::{SharedTerm, Term};
 
 /// `tn_process::Process::new` has one answer.
 pub fn new<A: Allocator + Copy>(
@@ -66,11 +67,11 @@ pub fn set_link<A: Allocator + Copy>(
 pub fn put_message<A: Allocator + Copy>(
     one: &mut Process<A>,
     other: &mut Process<A>,
-    message: Term<A>,
-    same_message: Term<A>,
+    message: SharedTerm<A>,
+    same_message: SharedTerm<A>,
 ) -> (Result<(), AllocError>, Result<(), AllocError>)
     requires alike { process_seen one.old ≡ process_seen other.old }
-    requires messages { tree_of message ≡ tree_of same_message }
+    requires messages { shared_tree message ≡ shared_tree same_message }
     ensures { IfOk result.0 (λ _. IfOk result.1 (λ _. process_seen one.new ≡ process_seen other.new)) }
 {
     let first = one.put_message(message);

@@ -12,6 +12,7 @@ mod command;
 mod flags;
 mod mfa;
 mod reader;
+mod shared_term;
 mod table;
 mod term;
 mod watched;

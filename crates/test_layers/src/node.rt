@@ -79,7 +79,7 @@ fn event_in_words(event: &Event<Global>) -> &'static str {
             value,
             depth: 1,
             ..
-        } if value.is_word("boom") => "100 raises boom",
+        } if value.term().is_word("boom") => "100 raises boom",
         Event::Exited { pid: 100, reason } if reason.is_word("boom") => "100 exits by boom",
         Event::Exited { pid: 101, reason } if reason.is_word("boom") => "101 exits by boom",
         _ => "another event",

@@ -2,7 +2,7 @@
 use std::alloc::Global;
 use std::test::Fail;
 use tn_flags::{Call, Class, Event};
-use tn_term::{Atom, Mfa, Term};
+use tn_term::{Atom, Mfa, SharedTerm, Term};
 use tn_text::read_term;
 
 /// What happens to one of the processes 100 and 101, by the texts of its terms.
@@ -64,6 +64,11 @@ fn term(alloc: Global, text: &str) -> Result<Term<Global>, Fail> {
     Ok(read_term(alloc, text.as_bytes())?)
 }
 
+/// A term with one owner, which may get others.
+fn shared_term(alloc: Global, text: &str) -> Result<SharedTerm<Global>, Fail> {
+    Ok(SharedTerm::new(alloc, term(alloc, text)?)?)
+}
+
 /// The one argument.
 fn arguments(alloc: Global, text: &str) -> Result<Vec<Term<Global>>, Fail> {
     let mut arguments = Vec::new(alloc);
@@ -89,7 +94,7 @@ fn return_event(alloc: Global) -> Result<Event<Global>, Fail> {
     Ok(Event::Returned {
         pid: 100,
         mfa: function(alloc, "f")?,
-        value: term(alloc, "ok")?,
+        value: shared_term(alloc, "ok")?,
         depth: 1,
     })
 }
@@ -99,7 +104,7 @@ fn raise_event(alloc: Global, class: Class) -> Result<Event<Global>, Fail> {
         pid: 100,
         mfa: function(alloc, "f")?,
         class,
-        value: term(alloc, "oops")?,
+        value: shared_term(alloc, "oops")?,
         depth: 1,
     })
 }
@@ -116,7 +121,7 @@ fn spawn_event(alloc: Global, name: &str, argument: &str) -> Result<Event<Global
 fn send_event(alloc: Global, message: &str, to: u32, alive: bool) -> Result<Event<Global>, Fail> {
     Ok(Event::Sent {
         pid: 100,
-        message: term(alloc, message)?,
+        message: shared_term(alloc, message)?,
         to,
         alive,
     })
@@ -126,7 +131,7 @@ fn receive_event(alloc: Global, message: &str) -> Result<Event<Global>, Fail> {
     Ok(Event::Received {
         pid: 101,
         sender: 100,
-        message: term(alloc, message)?,
+        message: shared_term(alloc, message)?,
     })
 }
 

@@ -7,6 +7,7 @@ use tn_flags::Event;
 use tn_process::{Act, Process};
 use tn_program::{Program, program};
 use tn_script::{Function, copy_entry, copy_functions, forms};
+use tn_term::SharedTerm;
 use tn_text::read_term;
 
 const SCRIPT: &str = "{function,m,go,exported,[],[{'receive','X'},{send,<0.101.0>,'X'}]}.
@@ -108,7 +109,7 @@ fn in_words(act: &Act<Global>) -> &'static str {
     match act {
         Act::Waits => "waits",
         Act::Continues(events) => events_in_words(events),
-        Act::Sends { to: 101, message } if message.is_word("first") => "sends first to 101",
+        Act::Sends { to: 101, message } if message.term().is_word("first") => "sends first to 101",
         Act::Exits { reason, events } if events.is_empty() && reason.is_word("boom") => {
             "exits by boom"
         }
@@ -147,7 +148,8 @@ fn put_messages(
     messages: &[&str],
 ) -> Result<(), Fail> {
     for message in messages {
-        process.put_message(read_term(alloc, message.as_bytes())?)?;
+        let message = read_term(alloc, message.as_bytes())?;
+        process.put_message(SharedTerm::new(alloc, message)?)?;
     }
     Ok(())
 }

@@ -28,12 +28,12 @@ impl<A: Allocator + Copy> Lines<'_, A> {
                 message,
                 to,
                 ..
-            } => self.put_send(look, *pid, message, *to, out),
+            } => self.put_send(look, *pid, message.term(), *to, out),
             Event::Received {
                 pid,
                 sender,
                 message,
-            } => self.put_receive(look, *pid, *sender, message, out),
+            } => self.put_receive(look, *pid, *sender, message.term(), out),
             Event::Called { pid, call } => self.put_call(look, *pid, call, out),
             Event::Returned { pid, depth, .. } => self.put_return(look, *pid, *depth, out),
             Event::Raised { pid, depth, .. } => self.put_raise(look, *pid, *depth, out),

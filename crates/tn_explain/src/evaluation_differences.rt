@@ -191,12 +191,12 @@ pub(crate) fn evaluation_differs<'a, A: Allocator + Copy>(
             message,
             to,
             ..
-        } => send_differs(alloc, look, *pid, message, *to),
+        } => send_differs(alloc, look, *pid, message.term(), *to),
         Event::Received {
             pid,
             sender,
             message,
-        } => receive_differs(alloc, look, *pid, *sender, message),
+        } => receive_differs(alloc, look, *pid, *sender, message.term()),
         Event::Called { pid, call } => call_differs(alloc, look, *pid, call),
         _ => Ok(false),
     }

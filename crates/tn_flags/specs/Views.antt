@@ -2,6 +2,7 @@
 use Rattle.std.specs.Prelude.{map, replicate}
 use Rattle.std.specs.Option.{option_map}
 use Rattle.tn_term.specs.Views.{tree_of, mfa_seen}
+use Rattle.tn_term.specs.Shared.{shared_tree}
 use Rattle.def_script.specs.Program as program
 use Rattle.def_node.specs.Event as event
 use Rattle.tn_flags.specs.declared.class.Class.{Class}
@@ -26,11 +27,11 @@ class_of Throw = program.throw
 class_of Exit = program.exit
 
 abbrev pub event_of : {A : Type 0} → Event A → event.Event
-event_of (Sent p t to alive) = event.sent p (tree_of t) to alive
-event_of (Received p sender t) = event.received p sender (tree_of t)
+event_of (Sent p t to alive) = event.sent p (shared_tree t) to alive
+event_of (Received p sender t) = event.received p sender (shared_tree t)
 event_of (Called p c) = event.called p (call_seen c)
-event_of (Returned p f t depth) = event.returned p (mfa_seen f) (tree_of t) depth
-event_of (Raised p f class t depth) = event.raised p (mfa_seen f) (class_of class) (tree_of t) depth
+event_of (Returned p f t depth) = event.returned p (mfa_seen f) (shared_tree t) depth
+event_of (Raised p f class t depth) = event.raised p (mfa_seen f) (class_of class) (shared_tree t) depth
 event_of (Spawn p child f args) = event.spawning p child (mfa_seen f) (map tree_of args.items)
 event_of (Spawned p parent f args) = event.spawned p parent (mfa_seen f) (map tree_of args.items)
 event_of (Exited p t) = event.exited p (tree_of t)

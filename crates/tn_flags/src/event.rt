@@ -1,7 +1,7 @@
 // What a step of the node shows.
 use crate::class::Class;
 use std::alloc::Allocator;
-use tn_term::{Mfa, Term};
+use tn_term::{Mfa, SharedTerm, Term};
 
 /// An event of the node. The field `pid` is the process that the event is about.
 #[derive(Drop)]
@@ -9,7 +9,7 @@ pub enum Event<A: Allocator> {
     /// A message was sent, to a living process or not.
     Sent {
         pid: u32,
-        message: Term<A>,
+        message: SharedTerm<A>,
         to: u32,
         alive: bool,
     },
@@ -17,7 +17,7 @@ pub enum Event<A: Allocator> {
     Received {
         pid: u32,
         sender: u32,
-        message: Term<A>,
+        message: SharedTerm<A>,
     },
     /// A function was called.
     Called {
@@ -28,7 +28,7 @@ pub enum Event<A: Allocator> {
     Returned {
         pid: u32,
         mfa: Mfa<A>,
-        value: Term<A>,
+        value: SharedTerm<A>,
         depth: usize,
     },
     /// An exception of this class and value left the frame at this depth.
@@ -36,7 +36,7 @@ pub enum Event<A: Allocator> {
         pid: u32,
         mfa: Mfa<A>,
         class: Class,
-        value: Term<A>,
+        value: SharedTerm<A>,
         depth: usize,
     },
     /// The process started a child.

@@ -6,7 +6,7 @@ use std::alloc::{AllocError, Allocator};
 use tn_flags::Event;
 use tn_process::{Act, Process};
 use tn_script::{Entry, Function, copy_entry};
-use tn_term::{FIRST_PID, PROCESSES, Term};
+use tn_term::{FIRST_PID, PROCESSES, SharedTerm, Term};
 
 /// The processes from pid 100 on; none where one has exited.
 #[derive(Drop)]
@@ -18,6 +18,7 @@ pub struct World<A: Allocator> {
 impl<A: Allocator + Copy> World<A> {
     ghost use Rattle.std.specs.Prelude.{◌≡◌, ℕ, ◌+◌, ◌<◌, IfOk, IfSome, IsTrue, map, Some, slice_get};
     ghost use Rattle.tn_term.specs.Views.{tree_of};
+    ghost use Rattle.tn_term.specs.Shared.{shared_tree};
     ghost use Rattle.tn_script.specs.Views.{entry_of, functions_of};
     ghost use Rattle.def_node.specs.Process as process;
     ghost use Rattle.def_node.specs.Node.{opening_world, place_of_pid, next_pid, with_message, with_link, with_signal};
@@ -82,9 +83,9 @@ impl<A: Allocator + Copy> World<A> {
     }
 
     /// The process at this place gets the message; where none is there, nothing changes.
-    fn put_message(&mut self, place: usize, message: Term<A>) -> Result<(), AllocError>
+    fn put_message(&mut self, place: usize, message: SharedTerm<A>) -> Result<(), AllocError>
         requires { place < length self.old.slots.items }
-        ensures { IfOk result (λ _. ChangesAt self.old self.new place (with_message (tree_of message))) }
+        ensures { IfOk result (λ _. ChangesAt self.old self.new place (with_message (shared_tree message))) }
     {
         match &mut self.slots[place] {
             Some(process) => {
@@ -143,9 +144,9 @@ impl<A: Allocator + Copy> World<A> {
         alloc: A,
         pid: u32,
         to: u32,
-        message: Term<A>,
+        message: SharedTerm<A>,
     ) -> Result<Vec<Event<A>, A>, AllocError>
-        ensures { Moves self.new result (deliver (world_of self.old) pid to (tree_of message)) }
+        ensures { Moves self.new result (deliver (world_of self.old) pid to (shared_tree message)) }
     {
         let mut events = Vec::new(alloc);
         match self.place_of_pid(to) {
@@ -159,14 +160,14 @@ impl<A: Allocator + Copy> World<A> {
                 Ok(events)
             }
             Some(place) => {
-                let seen = message.copy_into(alloc)?;
+                let seen = message.share()?;
                 events.push(Event::Sent {
                     pid,
                     message: seen,
                     to,
                     alive: true,
                 })?;
-                let seen = message.copy_into(alloc)?;
+                let seen = message.share()?;
                 events.push(Event::Received {
                     pid: to,
                     sender: pid,

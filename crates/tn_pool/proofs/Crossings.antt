@@ -20,6 +20,7 @@ use Rattle.tn_spec.proofs.pattern.Pattern.TheLaws.TheKnot as pattern_knot
 use Rattle.tn_term.specs.contracts.atom.Atom as atom
 use Rattle.tn_term.specs.contracts.mfa.Mfa as mfa
 use Rattle.tn_term.specs.contracts.term.Term as term
+use Rattle.tn_term.specs.contracts.shared_term.SharedTerm as shared
 use Rattle.tn_script.specs.contracts.form.Arguments as arguments
 use Rattle.tn_script.specs.contracts.form.Step as step
 use Rattle.tn_script.specs.contracts.form.Function as function
@@ -93,7 +94,7 @@ use Rattle.tn_pool.specs.contracts.turns.TurnEnd as turn_end
 use Rattle.atomic_blocks.proofs.web.Web.TheSendSync as web_sent
 use Rattle.atomic_blocks.proofs.web.Seat.TheSendSync as view_sent
 
-module _ (T : RattleType) (g : Ghosts T.Denot) (s : IsSend T) (f : Frees g g.dealloc_token) where
+module _ (T : RattleType) (g : Ghosts T.Denot) (s : IsSend T) (f : Frees g g.dealloc_token) (y : IsSync T) where
   atom_send : IsSend (atom.the_row T g)
   atom_send = search (sendable, crosses) depth 40 fits 3000 parts 0
 
@@ -111,6 +112,25 @@ module _ (T : RattleType) (g : Ghosts T.Denot) (s : IsSend T) (f : Frees g g.dea
 
   term_field_send : IsSend (term.the_field T g).row
   term_field_send = search (sendable, crosses, atom_send, atom_field_send, term_knot.send-Term, term_send) depth 40 fits 3000 parts 0
+
+  -- a term with several owners, of which each thread reads it
+  atom_sync : IsSync (atom.the_row T g)
+  atom_sync = search (sendable, crosses) depth 40 fits 3000 parts 0
+
+  atom_field_sync : IsSync (atom.the_field T g).row
+  atom_field_sync = search (sendable, crosses, atom_sync) depth 40 fits 3000 parts 0
+
+  term_sync : IsSync (term.the_row T g)
+  term_sync = search (sendable, crosses, atom_sync, atom_field_sync, term_knot.sync-Term) depth 40 fits 3000 parts 0
+
+  term_field_sync : IsSync (term.the_field T g).row
+  term_field_sync = search (sendable, crosses, atom_sync, atom_field_sync, term_knot.sync-Term, term_sync) depth 40 fits 3000 parts 0
+
+  shared_send : IsSend (shared.the_row T g)
+  shared_send = search (sendable, crosses, term_send, term_field_send, term_sync, term_field_sync) depth 40 fits 3000 parts 0
+
+  shared_field_send : IsSend (shared.the_field T g).row
+  shared_field_send = search (sendable, crosses, term_send, term_field_send, term_sync, term_field_sync, shared_send) depth 40 fits 3000 parts 0
 
   arguments_send : IsSend (arguments.the_row T g)
   arguments_send = search (sendable, crosses, term_send, term_field_send) depth 40 fits 3000 parts 0
@@ -149,10 +169,10 @@ module _ (T : RattleType) (g : Ghosts T.Denot) (s : IsSend T) (f : Frees g g.dea
   program_field_send = search (sendable, crosses, function_send, function_field_send, entry_send, entry_field_send, command_send, command_field_send, program_send) depth 40 fits 3000 parts 0
 
   binding_send : IsSend (binding.the_row T g)
-  binding_send = search (sendable, crosses, atom_send, atom_field_send, term_send, term_field_send) depth 40 fits 3000 parts 0
+  binding_send = search (sendable, crosses, atom_send, atom_field_send, shared_send, shared_field_send) depth 40 fits 3000 parts 0
 
   binding_field_send : IsSend (binding.the_field T g).row
-  binding_field_send = search (sendable, crosses, atom_send, atom_field_send, term_send, term_field_send, binding_send) depth 40 fits 3000 parts 0
+  binding_field_send = search (sendable, crosses, atom_send, atom_field_send, shared_send, shared_field_send, binding_send) depth 40 fits 3000 parts 0
 
   env_send : IsSend (env.the_row T g)
   env_send = search (sendable, crosses, binding_send, binding_field_send) depth 40 fits 3000 parts 0
@@ -167,10 +187,10 @@ module _ (T : RattleType) (g : Ghosts T.Denot) (s : IsSend T) (f : Frees g g.dea
   frame_field_send = search (sendable, crosses, env_send, env_field_send, atom_send, atom_field_send, frame_send) depth 40 fits 3000 parts 0
 
   process_send : IsSend (process.the_row T g)
-  process_send = search (sendable, crosses, entry_send, entry_field_send, frame_send, frame_field_send, term_send, term_field_send) depth 40 fits 3000 parts 0
+  process_send = search (sendable, crosses, entry_send, entry_field_send, frame_send, frame_field_send, term_send, term_field_send, shared_send, shared_field_send) depth 40 fits 3000 parts 0
 
   process_field_send : IsSend (process.the_field T g).row
-  process_field_send = search (sendable, crosses, entry_send, entry_field_send, frame_send, frame_field_send, term_send, term_field_send, process_send) depth 40 fits 3000 parts 0
+  process_field_send = search (sendable, crosses, entry_send, entry_field_send, frame_send, frame_field_send, term_send, term_field_send, shared_send, shared_field_send, process_send) depth 40 fits 3000 parts 0
 
   world_send : IsSend (world.the_row T g)
   world_send = search (sendable, crosses, process_send, process_field_send) depth 40 fits 3000 parts 0
@@ -388,36 +408,23 @@ module _ (T : RattleType) (g : Ghosts T.Denot) (s : IsSend T) (f : Frees g g.dea
     live_field_sync = search (sendable, crosses, heap.crosses, book_send, book_field_send, live_sync) depth 40 fits 3000 parts 0
 
   -- a board of lines, of which threads read terms
-  module _ (y : IsSync T) where
-    atom_sync : IsSync (atom.the_row T g)
-    atom_sync = search (sendable, crosses) depth 40 fits 3000 parts 0
+  item_sync : IsSync (item.the_row T g)
+  item_sync = search (sendable, crosses, term_sync, term_field_sync) depth 40 fits 3000 parts 0
 
-    atom_field_sync : IsSync (atom.the_field T g).row
-    atom_field_sync = search (sendable, crosses, atom_sync) depth 40 fits 3000 parts 0
+  item_field_sync : IsSync (item.the_field T g).row
+  item_field_sync = search (sendable, crosses, term_sync, term_field_sync, item_sync) depth 40 fits 3000 parts 0
 
-    term_sync : IsSync (term.the_row T g)
-    term_sync = search (sendable, crosses, atom_sync, atom_field_sync, term_knot.sync-Term) depth 40 fits 3000 parts 0
+  line_sync : IsSync (line.the_row T g)
+  line_sync = search (sendable, crosses, item_sync, item_field_sync) depth 40 fits 3000 parts 0
 
-    term_field_sync : IsSync (term.the_field T g).row
-    term_field_sync = search (sendable, crosses, atom_sync, atom_field_sync, term_knot.sync-Term, term_sync) depth 40 fits 3000 parts 0
+  line_field_sync : IsSync (line.the_field T g).row
+  line_field_sync = search (sendable, crosses, item_sync, item_field_sync, line_sync) depth 40 fits 3000 parts 0
 
-    item_sync : IsSync (item.the_row T g)
-    item_sync = search (sendable, crosses, term_sync, term_field_sync) depth 40 fits 3000 parts 0
+  pub board_sync : IsSync (board.the_row T g)
+  board_sync = search (sendable, crosses, heap.sync, once_box_sent.the_sync, line_send, line_field_send, line_sync, line_field_sync) depth 40 fits 3000 parts 0
 
-    item_field_sync : IsSync (item.the_field T g).row
-    item_field_sync = search (sendable, crosses, term_sync, term_field_sync, item_sync) depth 40 fits 3000 parts 0
-
-    line_sync : IsSync (line.the_row T g)
-    line_sync = search (sendable, crosses, item_sync, item_field_sync) depth 40 fits 3000 parts 0
-
-    line_field_sync : IsSync (line.the_field T g).row
-    line_field_sync = search (sendable, crosses, item_sync, item_field_sync, line_sync) depth 40 fits 3000 parts 0
-
-    pub board_sync : IsSync (board.the_row T g)
-    board_sync = search (sendable, crosses, heap.sync, once_box_sent.the_sync, line_send, line_field_send, line_sync, line_field_sync) depth 40 fits 3000 parts 0
-
-    pub board_field_sync : IsSync (board.the_field T g).row
-    board_field_sync = search (sendable, crosses, heap.sync, once_box_sent.the_sync, line_send, line_field_send, line_sync, line_field_sync, board_sync) depth 40 fits 3000 parts 0
+  pub board_field_sync : IsSync (board.the_field T g).row
+  board_field_sync = search (sendable, crosses, heap.sync, once_box_sent.the_sync, line_send, line_field_send, line_sync, line_field_sync, board_sync) depth 40 fits 3000 parts 0
 
 pub board_in_heap : IsSync (board.the_row Heap.the_row ghosts)
 board_in_heap = board_sync Heap.the_row ghosts heap.send heap.frees heap.sync

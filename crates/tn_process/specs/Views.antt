@@ -5,6 +5,7 @@ use Rattle.std.specs.declared.vec.Vec.{Vec}
 use Rattle.def_term.specs.Tree.{Tree}
 use Rattle.def_term.specs.Names.{Name}
 use Rattle.tn_term.specs.Views.{tree_of}
+use Rattle.tn_term.specs.Shared.{shared_tree}
 use Rattle.tn_flags.specs.Views.{class_of, event_of}
 use Rattle.tn_flags.specs.declared.event.Event as code
 use Rattle.tn_script.specs.Views.{entry_of}
@@ -20,7 +21,7 @@ use Rattle.tn_process.specs.declared.process.Frame.{Frame}
 use Rattle.tn_process.specs.declared.process.Process.{Process}
 
 abbrev pub name_and_term : {A : Type 0} → Binding A → Name × Tree
-name_and_term b = (b.name, tree_of b.value.term)
+name_and_term b = (b.name, shared_tree b.value)
 
 abbrev pub env_of : {A : Type 0} → Env A → values.Env
 env_of e = map name_and_term e.values.items
@@ -32,13 +33,13 @@ abbrev pub process_seen : {A : Type 0} → Process A → process.Process
 process_seen p = record {
   entry = option_map entry_of p.entry;
   frames = reverse (map frame_of p.frames.items);
-  mailbox = map tree_of p.mailbox.items;
+  mailbox = map shared_tree p.mailbox.items;
   signal = option_map tree_of p.signal;
   links = p.links;
 }
 
 abbrev pub exception_view : {A : Type 0} → Exception A → process.Exception
-exception_view e = record { class = class_of e.class; value = tree_of e.value }
+exception_view e = record { class = class_of e.class; value = shared_tree e.value }
 
 abbrev pub events_of : {A : Type 0} → Vec (code.Event A) A → List Event
 events_of es = map event_of es.items
@@ -47,7 +48,7 @@ events_of es = map event_of es.items
 abbrev pub act_seen : {A : Type 0} → process.Process → Act A → process.Act
 act_seen q Waits = process.waits q
 act_seen q (Continues es) = process.continues q (events_of es)
-act_seen q (Sends to t) = process.sends q to (tree_of t)
+act_seen q (Sends to t) = process.sends q to (shared_tree t)
 act_seen q (LinksTo n) = process.links_to q n
 act_seen q (UnlinksFrom n) = process.unlinks_from q n
 act_seen q (Spawns child e) = process.spawns q child (entry_of e)
@@ -56,7 +57,7 @@ act_seen q (Exits r es) = process.exits q.links (tree_of r) (events_of es)
 abbrev pub act_of : {A : Type 0} → Process A → Act A → process.Act
 act_of p Waits = process.waits (process_seen p)
 act_of p (Continues es) = process.continues (process_seen p) (events_of es)
-act_of p (Sends to t) = process.sends (process_seen p) to (tree_of t)
+act_of p (Sends to t) = process.sends (process_seen p) to (shared_tree t)
 act_of p (LinksTo n) = process.links_to (process_seen p) n
 act_of p (UnlinksFrom n) = process.unlinks_from (process_seen p) n
 act_of p (Spawns child e) = process.spawns (process_seen p) child (entry_of e)

@@ -2,7 +2,7 @@
 use std::alloc::Allocator;
 use tn_flags::Event;
 use tn_script::Entry;
-use tn_term::Term;
+use tn_term::{SharedTerm, Term};
 
 /// What a process does at its next step, apart from the change in itself.
 #[derive(Drop)]
@@ -14,7 +14,7 @@ pub enum Act<A: Allocator> {
     /// It sends a message to a pid.
     Sends {
         to: u32,
-        message: Term<A>,
+        message: SharedTerm<A>,
     },
     /// It links itself to another process.
     LinksTo(u32),

@@ -4,6 +4,7 @@ ghost use Rattle.std.specs.List.{list_any};
 ghost use Rattle.def_term.specs.Tree.{tuple, of_elements};
 ghost use Rattle.def_node.specs.Process.{exit_reason, caught_as, catch_target};
 ghost use Rattle.tn_term.specs.Views.{tree_of};
+ghost use Rattle.tn_term.specs.Shared.{shared_tree};
 ghost use Rattle.tn_flags.specs.Views.{class_of};
 ghost use Rattle.tn_process.specs.Views.{events_of, exception_view, process_seen};
 ghost use Rattle.tn_process.specs.StepAnswers.{Does};
@@ -15,13 +16,13 @@ use crate::context::StepContext;
 use crate::process::{Frame, Process, mfa_at, over_limit};
 use std::alloc::{AllocError, Allocator};
 use tn_flags::{Class, Event};
-use tn_term::{Atom, Term};
+use tn_term::{Atom, SharedTerm, Term};
 
 /// An exception, by its class and its value.
 #[derive(Drop)]
 pub struct Exception<A: Allocator> {
     class: Class,
-    value: Term<A>,
+    value: SharedTerm<A>,
 }
 
 /// `{One,Other}`
@@ -37,23 +38,25 @@ fn pair<A: Allocator>(alloc: A, one: Term<A>, other: Term<A>) -> Result<Term<A>,
 impl<A: Allocator + Copy> Exception<A> {
     /// The reason with which it ends a process: that of an error has a stack trace too, which is empty.
     fn into_reason(self, alloc: A) -> Result<Term<A>, AllocError>
-        ensures { IfOk result (λ t. tree_of t ≡ exit_reason (class_of self.class) (tree_of self.value)) }
+        ensures { IfOk result (λ t. tree_of t ≡ exit_reason (class_of self.class) (shared_tree self.value)) }
     {
+        let value = self.value.term().copy_into(alloc)?;
         match self.class {
-            Class::Error => pair(alloc, self.value, Term::List(Vec::new(alloc))),
-            _ => Ok(self.value),
+            Class::Error => pair(alloc, value, Term::List(Vec::new(alloc))),
+            _ => Ok(value),
         }
     }
 
     /// The value of the catch that it is caught by.
-    fn into_catch_value(self, alloc: A) -> Result<Term<A>, AllocError>
-        ensures { IfOk result (λ t. tree_of t ≡ caught_as (class_of self.class) (tree_of self.value)) }
+    fn into_catch_value(self, alloc: A) -> Result<SharedTerm<A>, AllocError>
+        ensures { IfOk result (λ t. shared_tree t ≡ caught_as (class_of self.class) (shared_tree self.value)) }
     {
         match self.class {
             Class::Throw => Ok(self.value),
             _ => {
                 let reason = self.into_reason(alloc)?;
-                pair(alloc, Term::word(alloc, "EXIT")?, reason)
+                let value = pair(alloc, Term::word(alloc, "EXIT")?, reason)?;
+                SharedTerm::new(alloc, value)
             }
         }
     }
@@ -73,7 +76,7 @@ fn put_raised<A: Allocator + Copy>(
     let Some(mfa) = found else {
         return Ok(());
     };
-    let value = exception.value.copy_into(context.alloc)?;
+    let value = exception.value.share()?;
     events.push(Event::Raised {
         pid: context.pid,
         mfa,
@@ -93,12 +96,19 @@ impl<A: Allocator + Copy> Process<A> {
     }
 
     /// What a raise in the newest frame raises: a throw is an error where no catch step called a frame.
-    fn exception(&self, alloc: A, class: Class, value: Term<A>) -> Result<Exception<A>, AllocError>
-        ensures { IfOk result (λ e. exception_view e ≡ exception_in self.now (class_of class) (tree_of value)) }
+    fn exception(
+        &self,
+        alloc: A,
+        class: Class,
+        value: SharedTerm<A>,
+    ) -> Result<Exception<A>, AllocError>
+        ensures { IfOk result (λ e. exception_view e ≡ exception_in self.now (class_of class) (shared_tree value)) }
     {
         if class == Class::Throw && !self.is_caught() {
             let word = Term::word(alloc, "nocatch")?;
-            let value = pair(alloc, word, value)?;
+            let copy = value.term().copy_into(alloc)?;
+            let tagged = pair(alloc, word, copy)?;
+            let value = SharedTerm::new(alloc, tagged)?;
             return Ok(Exception {
                 class: Class::Error,
                 value,
@@ -161,7 +171,7 @@ impl<A: Allocator + Copy> Process<A> {
     ) -> Result<Act<A>, AllocError>
         ensures { Does self.new result (raises_in context.now self.old frame class template.now) }
     {
-        let Some(value) = frame.env.fit(context.alloc, template)? else {
+        let Some(value) = frame.env.fit_shared(context.alloc, template)? else {
             return over_limit(context.alloc);
         };
         self.push_frame(frame)?;

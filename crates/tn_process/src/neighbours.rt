@@ -1,6 +1,7 @@
 // What the steps of the node do to a process beside its own.
 ghost use Rattle.std.specs.Prelude.{◌≡◌, ◌≤◌, IfOk, IsTrue};
 ghost use Rattle.tn_term.specs.Views.{tree_of};
+ghost use Rattle.tn_term.specs.Shared.{shared_tree};
 ghost use Rattle.tn_script.specs.Views.{entry_of};
 ghost use Rattle.def_node.specs.Node.{fresh, is_linked, with_link, with_message, with_signal, part};
 ghost use Rattle.tn_process.specs.Views.{process_seen};
@@ -9,7 +10,7 @@ use crate::process::Process;
 use std::alloc::{AllocError, Allocator};
 use std::collections::VecDeque;
 use tn_script::Entry;
-use tn_term::{FIRST_PID, Term};
+use tn_term::{FIRST_PID, SharedTerm, Term};
 
 impl<A: Allocator + Copy> Process<A> {
     /// A process that has made no step yet.
@@ -54,8 +55,9 @@ impl<A: Allocator + Copy> Process<A> {
     }
 
     /// Puts a message at the end of the mailbox.
-    pub fn put_message(&mut self, message: Term<A>) -> Result<(), AllocError>
-        ensures { IfOk result (λ _. process_seen self.new ≡ with_message (tree_of message) (process_seen self.old)) }
+    pub fn put_message(&mut self, message: SharedTerm<A>) -> Result<(), AllocError>
+        ensures { IfOk result
+            (λ _. process_seen self.new ≡ with_message (shared_tree message) (process_seen self.old)) }
     {
         self.mailbox.push_back(message)?;
         Ok(())

@@ -4,6 +4,7 @@ ghost use Rattle.std.specs.Option.{option_map};
 ghost use Rattle.def_term.specs.Tree.{atom, pid_in};
 ghost use Rattle.def_term.specs.Atoms.{IsAtomText};
 ghost use Rattle.tn_term.specs.Views.{tree_of, mfa_seen};
+ghost use Rattle.tn_term.specs.Shared.{shared_tree};
 ghost use Rattle.tn_flags.specs.Views.{event_of, call_seen};
 ghost use Rattle.tn_script.specs.Views.{step_of, functions_of};
 ghost use Rattle.def_node.specs.Values.{fit};
@@ -26,7 +27,7 @@ use std::alloc::{AllocError, Allocator};
 use std::collections::VecDeque;
 use tn_flags::{Call, Event};
 use tn_script::{Entry, Function, Step, copy_target};
-use tn_term::{Atom, Mfa, Term, copy_terms};
+use tn_term::{Atom, Mfa, SharedTerm, Term, copy_terms};
 
 /// How many frames a process may have.
 pub(crate) const FRAMES: usize = 64;
@@ -47,7 +48,7 @@ pub struct Frame<A: Allocator> {
 pub struct Process<A: Allocator> {
     pub(crate) entry: Option<Entry<A>>,
     pub(crate) frames: Vec<Frame<A>, A>,
-    pub(crate) mailbox: VecDeque<Term<A>, A>,
+    pub(crate) mailbox: VecDeque<SharedTerm<A>, A>,
     pub(crate) signal: Option<Term<A>>,
     pub(crate) links: [bool; 64],
 }
@@ -97,10 +98,10 @@ fn only<A: Allocator>(alloc: A, event: Event<A>) -> Result<Vec<Event<A>, A>, All
 fn return_event<A: Allocator + Copy>(
     context: &StepContext<'_, A>,
     function: &Function<A>,
-    value: Term<A>,
+    value: SharedTerm<A>,
     depth: usize,
 ) -> Result<Vec<Event<A>, A>, AllocError>
-    ensures { IfOk result (λ es. events_of es ≡ returned_in context.now function.now (tree_of value) depth ∷ []) }
+    ensures { IfOk result (λ es. events_of es ≡ returned_in context.now function.now (shared_tree value) depth ∷ []) }
 {
     let event = Event::Returned {
         pid: context.pid,
@@ -142,8 +143,14 @@ impl<A: Allocator + Copy> Frame<A> {
     }
 
     /// The value goes to the target.
-    fn bind(&mut self, alloc: A, target: &Option<Atom<A>>, value: Term<A>) -> Result<(), AllocError>
-        ensures { IfOk result (λ _. frame_of self.new ≡ with_target (frame_of self.old) target.now (tree_of value)) }
+    fn bind(
+        &mut self,
+        alloc: A,
+        target: &Option<Atom<A>>,
+        value: SharedTerm<A>,
+    ) -> Result<(), AllocError>
+        ensures { IfOk result
+            (λ _. frame_of self.new ≡ with_target (frame_of self.old) target.now (shared_tree value)) }
     {
         match target {
             Some(name) => self.env.bind(alloc, name, value)?,
@@ -207,7 +214,7 @@ impl<A: Allocator + Copy> Process<A> {
         let Some(to) = frame.fitting_pid(alloc, to)? else {
             return over_limit(alloc);
         };
-        let Some(message) = frame.env.fit(alloc, message)? else {
+        let Some(message) = frame.env.fit_shared(alloc, message)? else {
             return over_limit(alloc);
         };
         let Some(to) = to else {
@@ -224,9 +231,9 @@ impl<A: Allocator + Copy> Process<A> {
         alloc: A,
         mut frame: Frame<A>,
         target: &Option<Atom<A>>,
-        value: Term<A>,
+        value: SharedTerm<A>,
     ) -> Result<(), AllocError>
-        ensures { IfOk result (λ _. process_seen self.new ≡ resumed_in self.old frame target.now (tree_of value)) }
+        ensures { IfOk result (λ _. process_seen self.new ≡ resumed_in self.old frame target.now (shared_tree value)) }
     {
         frame.bind(alloc, target, value)?;
         self.push_frame(frame)?;
@@ -239,15 +246,15 @@ impl<A: Allocator + Copy> Process<A> {
         context: &StepContext<'_, A>,
         function: &Function<A>,
         target: &Option<Atom<A>>,
-        value: Term<A>,
+        value: SharedTerm<A>,
     ) -> Result<Act<A>, AllocError>
-        ensures { Does self.new result (leaves_in context.now self.old function.now target.now (tree_of value)) }
+        ensures { Does self.new result (leaves_in context.now self.old function.now target.now (shared_tree value)) }
     {
         let depth = self.frames.len() + 1;
         match self.pop_frame() {
             Some(caller) => {
-                let copy = value.copy_into(context.alloc)?;
-                self.resume(context.alloc, caller, target, copy)?;
+                let result = value.share()?;
+                self.resume(context.alloc, caller, target, result)?;
                 let events = return_event(context, function, value, depth)?;
                 Ok(Act::Continues(events))
             }
@@ -392,7 +399,7 @@ impl<A: Allocator + Copy> Process<A> {
     ) -> Result<Act<A>, AllocError>
         ensures { Does self.new result (gives_back_in context.now self.old function.now frame template.now) }
     {
-        let Some(value) = frame.env.fit(context.alloc, template)? else {
+        let Some(value) = frame.env.fit_shared(context.alloc, template)? else {
             return over_limit(context.alloc);
         };
         self.leave(context, function, &frame.target, value)
@@ -437,7 +444,8 @@ impl<A: Allocator + Copy> Process<A> {
             return over_limit(context.alloc);
         };
         frame.advance();
-        frame.bind(context.alloc, callee.target, Term::Pid(child))?;
+        let pid = SharedTerm::new(context.alloc, Term::Pid(child))?;
+        frame.bind(context.alloc, callee.target, pid)?;
         self.push_frame(frame)?;
         let entry = Entry {
             module: callee.home.copy_into(context.alloc)?,
@@ -542,7 +550,7 @@ impl<A: Allocator + Copy> Process<A> {
     {
         match function.steps.get(frame.place) {
             None => {
-                let value = Term::word(context.alloc, "ok")?;
+                let value = SharedTerm::new(context.alloc, Term::word(context.alloc, "ok")?)?;
                 self.leave(context, function, &frame.target, value)
             }
             Some(step) => self.perform(context, function, frame, step),

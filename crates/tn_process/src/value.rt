@@ -1,11 +1,11 @@
-// A term beside its size and its depth: whether it is within limits takes no walk through it.
+// A term that was built, beside its size and its depth: whether it is within limits takes no walk through it.
 ghost use Rattle.std.specs.Prelude.{◌≡◌, ◌+◌, min};
 ghost use Rattle.std.below.core.specs.declared.int.u64.TheConstants.{MAX};
 ghost use Rattle.def_term.specs.Tree.{depth as nesting, greatest_depth, size as extent, sum_of_sizes};
 ghost use Rattle.tn_term.specs.Views.{tree_of, trees_of};
 
 use std::alloc::{AllocError, Allocator};
-use tn_term::Term;
+use tn_term::{SharedTerm, Term};
 
 /// A term, its size and its depth.
 #[derive(Drop)]
@@ -30,16 +30,8 @@ pub struct Elements<A: Allocator> {
 impl<A: Allocator + Copy> Value<A> {
     ghost use Rattle.std.specs.Prelude.{◌≤◌, ℕ, IfOk};
     ghost use Rattle.def_term.specs.Tree.{Trees, tuple, list};
+    ghost use Rattle.tn_term.specs.Shared.{shared_tree};
     ghost use Rattle.tn_process.specs.Templates.{IsBuiltIn, AreBuiltIn};
-
-    /// The term, with its size and its depth.
-    pub fn of(term: Term<A>) -> Value<A>
-        ensures { tree_of result.term ≡ tree_of term }
-    {
-        let size = term.size();
-        let depth = term.depth();
-        Value { term, size, depth }
-    }
 
     /// A term that is neither a tuple nor a list.
     pub fn leaf(term: Term<A>) -> Value<A>
@@ -82,19 +74,31 @@ impl<A: Allocator + Copy> Value<A> {
         }
     }
 
-    /// A copy, where the value has at most this size and this depth.
-    pub fn copy_in(&self, alloc: A, size: u64, depth: u64) -> Result<Option<Value<A>>, AllocError>
+    /// A copy of a shared term, where that has at most this size and this depth.
+    pub fn copy_of(
+        shared: &SharedTerm<A>,
+        alloc: A,
+        size: u64,
+        depth: u64,
+    ) -> Result<Option<Value<A>>, AllocError>
         requires size_within { size ≤ 65536 }
         requires depth_within { depth ≤ 32 }
-        ensures { IfOk result (λ o. IsBuiltIn size depth (tree_of self.now.term) o) }
+        ensures { IfOk result (λ o. IsBuiltIn size depth (shared_tree shared.now) o) }
     {
-        if self.size > size || self.depth > depth {
+        if shared.size() > size || shared.depth() > depth {
             return Ok(None);
         }
         Ok(Some(Value {
-            term: self.term.copy_into(alloc)?,
-            size: self.size,
-            depth: self.depth,
+            term: shared.term().copy_into(alloc)?,
+            size: shared.size(),
+            depth: shared.depth(),
         }))
+    }
+
+    /// The term as one that may have several owners.
+    pub fn into_shared(self, alloc: A) -> Result<SharedTerm<A>, AllocError>
+        ensures { IfOk result (λ s. shared_tree s ≡ tree_of self.term) }
+    {
+        SharedTerm::of_measure(alloc, self.term, self.size, self.depth)
     }
 }

@@ -1,11 +1,12 @@
 // The values of variables, and the terms that templates stand for.
-ghost use Rattle.std.specs.Prelude.{◌≡◌, ◌≤◌, ◌<◌, ℕ, ◌+◌, IfOk, List, [], ◌∷◌, map, min, codes};
+ghost use Rattle.std.specs.Prelude.{◌≡◌, ◌≤◌, ◌<◌, ℕ, ◌+◌, IfOk, IfSome, List, [], ◌∷◌, map, min, codes};
 ghost use Rattle.std.specs.List.{position};
 ghost use Rattle.std.specs.Option.{option_map};
 ghost use Rattle.std.specs.Str.{bytes_eq};
 ghost use Rattle.def_term.specs.Tree as Tree;
 ghost use Rattle.def_term.specs.Tree.{depth as nesting, greatest_depth, size as extent, sum_of_sizes, pid_in};
 ghost use Rattle.tn_term.specs.Views.{tree_of, trees_of};
+ghost use Rattle.tn_term.specs.Shared.{shared_tree};
 ghost use Rattle.def_node.specs.Values.{binding_of, value_of, rebound, instance_of, all_built, fits, all_fit, fit};
 ghost use Rattle.def_node.specs.Values.{fitting_all, params_bound};
 ghost use Rattle.tn_script.specs.Views.{args_of};
@@ -17,13 +18,13 @@ use crate::value::{Elements, Value};
 use std::alloc::{AllocError, Allocator};
 use std::collections::VecDeque;
 use tn_script::{Arguments, is_variable};
-use tn_term::{Atom, Term};
+use tn_term::{Atom, SharedTerm, Term};
 
 /// A variable and its value.
 #[derive(Drop)]
 pub struct Binding<A: Allocator> {
     pub(crate) name: Atom<A>,
-    pub(crate) value: Value<A>,
+    pub(crate) value: SharedTerm<A>,
 }
 
 /// Each variable once, the oldest first.
@@ -57,7 +58,7 @@ impl<A: Allocator + Copy> Env<A> {
         ensures { IfOk result (λ e. env_of e ≡ (codes "Self", Tree.pid pid) ∷ []) }
     {
         let name = Atom::of(alloc, "Self")?;
-        let value = Value::leaf(Term::Pid(pid));
+        let value = SharedTerm::new(alloc, Term::Pid(pid))?;
         let mut values = Vec::new(alloc);
         values.push(Binding { name, value })?;
         Ok(Env { values })
@@ -70,9 +71,9 @@ impl<A: Allocator + Copy> Env<A> {
         self.values.iter().position(|b| b.name.text() == name)
     }
 
-    /// The value of the variable, with its size and its depth.
-    fn entry(&self, name: &str) -> Option<&Value<A>>
-        ensures { option_map (λ v. tree_of v.now.term) result ≡ binding_of (env_of self.now) name.now }
+    /// The value of the variable, which may have other owners.
+    fn entry(&self, name: &str) -> Option<&SharedTerm<A>>
+        ensures { option_map (λ v. shared_tree v.now) result ≡ binding_of (env_of self.now) name.now }
     {
         match self.place(name) {
             Some(i) => Some(&self.values[i].value),
@@ -85,14 +86,14 @@ impl<A: Allocator + Copy> Env<A> {
         ensures { option_map (λ t. tree_of t.now) result ≡ binding_of (env_of self.now) name.now }
     {
         match self.entry(name) {
-            Some(value) => Some(&value.term),
+            Some(value) => Some(value.term()),
             None => None,
         }
     }
 
     /// The value of the name, where it is a variable that has one.
-    fn value_of(&self, name: &str) -> Option<&Value<A>>
-        ensures { option_map (λ v. tree_of v.now.term) result ≡ value_of (env_of self.now) name.now }
+    fn value_of(&self, name: &str) -> Option<&SharedTerm<A>>
+        ensures { option_map (λ v. shared_tree v.now) result ≡ value_of (env_of self.now) name.now }
     {
         if is_variable(name) {
             self.entry(name)
@@ -126,6 +127,35 @@ impl<A: Allocator + Copy> Env<A> {
     {
         match build_term(template, self, alloc, GREATEST_SIZE, GREATEST_DEPTH)? {
             Some(value) => Ok(Some(value.term)),
+            None => Ok(None),
+        }
+    }
+
+    /// The value that the template stands for, where it is a variable that has one.
+    fn value_in(&self, template: &Term<A>) -> Option<&SharedTerm<A>>
+        ensures { IfSome result (λ v. shared_tree v.now ≡ instance_of (env_of self.now) (tree_of template.now)) }
+    {
+        match template {
+            Term::Atom(name) => self.value_of(name.text()),
+            _ => None,
+        }
+    }
+
+    /// What the template stands for, where that is within the limits. It may have several owners: the value of
+    /// a variable is not copied, but has one owner more.
+    pub fn fit_shared(
+        &self,
+        alloc: A,
+        template: &Term<A>,
+    ) -> Result<Option<SharedTerm<A>>, AllocError>
+        ensures { let t = instance_of (env_of self.now) (tree_of template.now) in
+            IfOk result (λ o. option_map shared_tree o ≡ fit t) }
+    {
+        if let Some(value) = self.value_in(template) {
+            return share_within(value);
+        }
+        match build_term(template, self, alloc, GREATEST_SIZE, GREATEST_DEPTH)? {
+            Some(value) => Ok(Some(value.into_shared(alloc)?)),
             None => Ok(None),
         }
     }
@@ -191,6 +221,7 @@ impl<A: Allocator + Copy> Env<A> {
     {
         match args.pop_front() {
             Some(value) => {
+                let value = SharedTerm::new(alloc, value)?;
                 self.bind(alloc, param, value)?;
                 Ok(())
             }
@@ -199,10 +230,9 @@ impl<A: Allocator + Copy> Env<A> {
     }
 
     /// The value takes the place of the variable's earlier one.
-    pub fn bind(&mut self, alloc: A, name: &Atom<A>, value: Term<A>) -> Result<(), AllocError>
-        ensures { IfOk result (λ _. env_of self.new ≡ rebound (env_of self.old) name.now (tree_of value)) }
+    pub fn bind(&mut self, alloc: A, name: &Atom<A>, value: SharedTerm<A>) -> Result<(), AllocError>
+        ensures { IfOk result (λ _. env_of self.new ≡ rebound (env_of self.old) name.now (shared_tree value)) }
     {
-        let value = Value::of(value);
         match self.place(name.text()) {
             Some(i) => {
                 self.values[i].value = value;
@@ -216,6 +246,19 @@ impl<A: Allocator + Copy> Env<A> {
     }
 }
 
+/// The value with one more owner, where it is within the limits.
+fn share_within<A: Allocator + Copy>(
+    value: &SharedTerm<A>,
+) -> Result<Option<SharedTerm<A>>, AllocError>
+    ensures { IfOk result (λ o. option_map shared_tree o ≡ fit (shared_tree value.now)) }
+{
+    if value.size() <= GREATEST_SIZE && value.depth() <= GREATEST_DEPTH {
+        Ok(Some(value.share()?))
+    } else {
+        Ok(None)
+    }
+}
+
 /// The size of what the template stands for, at most `SIZE_END`.
 #[cycle(built_size)]
 fn built_size<A: Allocator + Copy>(template: &Term<A>, env: &Env<A>) -> u64
@@ -224,7 +267,7 @@ fn built_size<A: Allocator + Copy>(template: &Term<A>, env: &Env<A>) -> u64
     match template {
         Term::Int(_) | Term::Pid(_) => 1,
         Term::Atom(a) => match env.value_of(a.text()) {
-            Some(value) => value.size.min(SIZE_END),
+            Some(value) => value.size().min(SIZE_END),
             None => 1,
         },
         Term::Tuple(v) | Term::List(v) => (built_sizes(v, env) + 1).min(SIZE_END),
@@ -254,7 +297,7 @@ fn built_depth<A: Allocator + Copy>(template: &Term<A>, env: &Env<A>) -> u64
     match template {
         Term::Int(_) | Term::Pid(_) => 0,
         Term::Atom(a) => match env.value_of(a.text()) {
-            Some(value) => value.depth,
+            Some(value) => value.depth(),
             None => 0,
         },
         Term::Tuple(v) | Term::List(v) => built_depths(v, env).saturating_add(1),
@@ -292,7 +335,7 @@ fn build_term<A: Allocator + Copy>(
     match template {
         Term::Int(n) => Ok(Some(Value::leaf(Term::Int(*n)))),
         Term::Atom(a) => match env.value_of(a.text()) {
-            Some(value) => Ok(value.copy_in(alloc, size, depth)?),
+            Some(value) => Ok(Value::copy_of(value, alloc, size, depth)?),
             None => Ok(Some(Value::leaf(Term::Atom(a.copy_into(alloc)?)))),
         },
         Term::Pid(n) => Ok(Some(Value::leaf(Term::Pid(*n)))),

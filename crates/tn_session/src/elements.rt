@@ -29,22 +29,22 @@ pub(crate) fn elements<A: Allocator, B: Allocator + Copy>(
             message,
             to,
             alive,
-        } => send_elements(alloc, *pid, message, *to, *alive),
-        Event::Received { pid, message, .. } => with_copy(alloc, *pid, "receive", message),
+        } => send_elements(alloc, *pid, message.term(), *to, *alive),
+        Event::Received { pid, message, .. } => with_copy(alloc, *pid, "receive", message.term()),
         Event::Called { pid, call } => call_elements(alloc, *pid, call, short),
         Event::Returned {
             pid,
             mfa,
             value,
             ..
-        } => return_elements(alloc, *pid, mfa, value),
+        } => return_elements(alloc, *pid, mfa, value.term()),
         Event::Raised {
             pid,
             mfa,
             class,
             value,
             ..
-        } => raise_elements(alloc, *pid, mfa, *class, value),
+        } => raise_elements(alloc, *pid, mfa, *class, value.term()),
         Event::Spawn {
             pid,
             child,

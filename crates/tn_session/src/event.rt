@@ -165,12 +165,12 @@ impl<A: Allocator + Copy> State<A> {
                 message,
                 to,
                 ..
-            } => Ok(self.evaluated_send(*pid, message, *to)?),
+            } => Ok(self.evaluated_send(*pid, message.term(), *to)?),
             Event::Received {
                 pid,
                 sender,
                 message,
-            } => Ok(self.evaluated_receive(*pid, *sender, message)?),
+            } => Ok(self.evaluated_receive(*pid, *sender, message.term())?),
             Event::Called { pid, call } => Ok(self.evaluated_call(*pid, call)?),
             Event::Returned { pid, depth, .. } => Ok(self.evaluated_return(*pid, *depth)),
             Event::Raised { pid, depth, .. } => Ok(self.evaluated_raise(*pid, *depth)),

@@ -84,10 +84,10 @@ fn put_details<A: Allocator, B: Allocator>(
 {
     match event {
         Event::Sent { message, to, .. } => {
-            put_more(message, out)?;
+            put_more(message.term(), out)?;
             put_pid(*to, out)?;
         }
-        Event::Received { message, .. } => put_more(message, out)?,
+        Event::Received { message, .. } => put_more(message.term(), out)?,
         Event::Called { call, .. } => {
             if short {
                 put_arity(&call.mfa, out)?;
@@ -97,7 +97,7 @@ fn put_details<A: Allocator, B: Allocator>(
         }
         Event::Returned { mfa, value, .. } => {
             put_arity(mfa, out)?;
-            put_more(value, out)?;
+            put_more(value.term(), out)?;
         }
         Event::Raised {
             mfa,
@@ -106,7 +106,7 @@ fn put_details<A: Allocator, B: Allocator>(
             ..
         } => {
             put_arity(mfa, out)?;
-            put_exception(*class, value, out)?;
+            put_exception(*class, value.term(), out)?;
         }
         Event::Spawn {
             child,

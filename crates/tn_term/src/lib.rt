@@ -12,10 +12,12 @@ mod atom_const;
 mod compare;
 mod measure;
 mod mfa;
+mod shared_term;
 mod term;
 
 pub use alive::{Alive, FIRST_PID, PROCESSES};
 pub use atom::Atom;
 pub use compare::same_terms;
 pub use mfa::Mfa;
+pub use shared_term::SharedTerm;
 pub use term::{Term, copy_terms};

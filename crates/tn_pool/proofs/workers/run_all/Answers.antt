@@ -30,7 +30,7 @@ for_each_mut-requires-send-T g c κs within =
     let types : NamedLft → List RattleType =
     λ k. turn_end.the_row k Heap.the_row ghosts ∷ worker.the_row Heap.the_row (param 0 g.row.J) ghosts g.J.JournalName ∷ [] in
     let worker_sent : IsSend (worker.the_row Heap.the_row (param 0 g.row.J) ghosts g.J.JournalName) =
-    search (sendable, heap.crosses, heap.send, worker_send) depth 40 fits 3000 parts 0 in
+    search (sendable, heap.crosses, heap.send, heap.sync, worker_send) depth 40 fits 3000 parts 0 in
     let member : (name : Sym) (k : NamedLft) → IsSend (TupleAt name (types k)) =
     λ name k. tuple_send name (types k) (turn_end_send k, (worker_sent, tt)) in
     search (param_send, arg_send, member) depth 40 fits 3000 parts 0
@@ -47,7 +47,7 @@ for_each_mut-requires-sync-F g c κs within =
     ∷ [] in
     let each : (k l m n o : NamedLft) → AllSync (types k l m n o) =
     λ k l m n o. (
-      search (sendable, heap.crosses, heap.send, live_sync, live_field_sync) depth 40 fits 3000 parts 0,
+      search (sendable, heap.crosses, heap.send, heap.sync, live_sync, live_field_sync) depth 40 fits 3000 parts 0,
       (
         search (sendable, board_in_heap) depth 40 fits 3000 parts 0,
         (search sendable depth 40 fits 3000 parts 0, (search sendable depth 40 fits 3000 parts 0, (search sendable depth 40 fits 3000 parts 0, tt))),

@@ -1,16 +1,16 @@
-use Rattle.std.proofs.Common.{◌∙◌, ap}
+use Rattle.std.proofs.Common.{◌∙◌, ◌∷◌, ◌++◌, ap, sym}
 use Rattle.def_term.specs.Tree.{pid, of_elements}
-use Rattle.def_term.specs.Text.{each_after_comma}
-use Rattle.tn_term.specs.Views.{tree_of}
+use Rattle.def_term.specs.Text.{w, each_after_comma}
+use Rattle.tn_term.specs.Shared.{shared_tree}
 use Rattle.tn_text.proofs.Growth.{grows_on}
 use Rattle.tn_session.proofs.Texts.{twice, details_of_send, two_details}
 use Rattle.tn_session.proofs.text.put_details.Goals as goal
 
 pub returns-in_ok-put_pid-in-Sent-clause-ok : goal.returns-in_ok-put_pid-in-Sent-clause-ok
 returns-in_ok-put_pid-in-Sent-clause-ok g c =
-    let t = tree_of c.in-Sent.message in
+    let t = shared_tree c.in-Sent.message in
     rw c.in-Sent.is (twice _ _ _ _ _ _ c.in_ok-put_more-in-Sent.ensures.ok c.in_ok-put_pid-in-Sent.ensures.ok
-    (ap (λ ts. each_after_comma (of_elements ts)) (details_of_send c.args.short c.in-Sent.pid t c.in-Sent.to c.in-Sent.alive) ∙ two_details t (pid c.in-Sent.to)))
+    (ap (λ ts. each_after_comma (of_elements ts)) (details_of_send c.args.short c.in-Sent.pid t c.in-Sent.to c.in-Sent.alive) ∙ two_details t (pid c.in-Sent.to) ∙ ap (λ u. (44 ∷ w u) ++ 44 ∷ w (pid c.in-Sent.to)) (sym c.term.ensures)))
 
 pub returns-in_err-put_more-in-Sent-clause-grows : goal.returns-in_err-put_more-in-Sent-clause-grows
 returns-in_err-put_more-in-Sent-clause-grows g c = c.put_more.ensures.grows

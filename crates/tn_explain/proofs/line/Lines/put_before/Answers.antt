@@ -2,7 +2,9 @@ use Rattle.std.proofs.Common.{codes, refl, sym, ap, subst}
 use Rattle.std.specs.Prelude.{IfOk}
 use Rattle.std.proofs.lemmas.Result.{IfOk-weaker}
 use Rattle.def_spec.specs.Flags.{procs_flag}
-use Rattle.tn_term.specs.Views.{tree_of, mfa_seen}
+use Rattle.def_node.specs.Event.{Event, sent}
+use Rattle.tn_term.specs.Views.{mfa_seen}
+use Rattle.tn_term.specs.Shared.{shared_tree}
 use Rattle.tn_flags.specs.Views.{class_of, event_of}
 use Rattle.tn_flags.specs.declared.event.Event.TheVariants.{Spawn, Spawned, Exited, Linked, Unlinked, GettingLinked, GettingUnlinked}
 use Rattle.tn_session.specs.Looks.{look_seen}
@@ -15,7 +17,9 @@ pub returns-in-Sent-clause-ok : goal.returns-in-Sent-clause-ok
 returns-in-Sent-clause-ok g c =
     let n = c.args.self.now.name.now in
     let s = look_seen c.args.look.now in
-    subst (λ e. IfOk c.put_send.result (λ r. GivesOf n s (event_of e) c.args.out.now.items c.put_send.new.out.items r)) (sym c.in-Sent.is) (c.put_send.ensures.ok c.in-Sent.alive)
+    let a = c.in-Sent in
+    let Gives : Event → Type 0 = λ e. IfOk c.put_send.result (λ r. GivesOf n s e c.args.out.now.items c.put_send.new.out.items r) in
+    subst (λ e. Gives (event_of e)) (sym a.is) (subst (λ t. Gives (sent a.pid t a.to a.alive)) c.term.ensures (c.put_send.ensures.ok a.alive))
 
 pub returns-in-Called-clause-ok : goal.returns-in-Called-clause-ok
 returns-in-Called-clause-ok g c =
@@ -27,14 +31,14 @@ pub returns-in-Returned-clause-ok : goal.returns-in-Returned-clause-ok
 returns-in-Returned-clause-ok g c =
     let n = c.args.self.now.name.now in
     let s = look_seen c.args.look.now in
-    subst (λ e. IfOk c.put_return.result (λ r. GivesOf n s (event_of e) c.args.out.now.items c.put_return.new.out.items r)) (sym c.in-Returned.is) (c.put_return.ensures.ok (mfa_seen c.in-Returned.mfa) (tree_of c.in-Returned.value))
+    subst (λ e. IfOk c.put_return.result (λ r. GivesOf n s (event_of e) c.args.out.now.items c.put_return.new.out.items r)) (sym c.in-Returned.is) (c.put_return.ensures.ok (mfa_seen c.in-Returned.mfa) (shared_tree c.in-Returned.value))
 
 pub returns-in-Raised-clause-ok : goal.returns-in-Raised-clause-ok
 returns-in-Raised-clause-ok g c =
     let n = c.args.self.now.name.now in
     let s = look_seen c.args.look.now in
     subst (λ e. IfOk c.put_raise.result (λ r. GivesOf n s (event_of e) c.args.out.now.items c.put_raise.new.out.items r)) (sym c.in-Raised.is)
-    (c.put_raise.ensures.ok (mfa_seen c.in-Raised.mfa) (class_of c.in-Raised.class) (tree_of c.in-Raised.value))
+    (c.put_raise.ensures.ok (mfa_seen c.in-Raised.mfa) (class_of c.in-Raised.class) (shared_tree c.in-Raised.value))
 
 pub returns-in-Spawn-clause-ok : goal.returns-in-Spawn-clause-ok
 returns-in-Spawn-clause-ok g c =

@@ -3,6 +3,7 @@ use Rattle.def_node.specs.Event.{exited, getting_unlinked}
 use Rattle.def_node.specs.Process.{Process}
 use Rattle.def_node.specs.Node.{World, Move, moved, idle, after_act, deliver, link_made, link_removed, start_process, exit_process, partners_told, partner_pids}
 use Rattle.tn_term.specs.Views.{tree_of}
+use Rattle.tn_term.specs.Shared.{shared_tree}
 use Rattle.tn_flags.specs.Views.{event_of}
 use Rattle.tn_script.specs.Views.{entry_of}
 use Rattle.tn_process.specs.Views.{act_seen}
@@ -19,7 +20,7 @@ returns-in-Continues g c before q r here put =
 
 pub returns-in_ok-deliver-in-Sends : goal.returns-in_ok-deliver-in-Sends
 returns-in_ok-deliver-in-Sends g c before q r here put =
-    c.in_ok-deliver-in-Sends.ensures ∙ ap (λ (w : World). deliver w c.args.pid c.in-Sends.to (tree_of c.in-Sends.message)) put
+    c.in_ok-deliver-in-Sends.ensures ∙ ap (λ (w : World). deliver w c.args.pid c.in-Sends.to (shared_tree c.in-Sends.message)) put
     ∙ sym (ap (λ a. after_act before c.args.place c.args.pid (act_seen r a)) c.in-Sends.is)
 
 pub returns-in_ok-link-in-LinksTo : goal.returns-in_ok-link-in-LinksTo

@@ -2,7 +2,7 @@ use Rattle.std.proofs.Common.{ap, sym, ◌∙◌, Some}
 use Rattle.std.specs.Option.{option_map}
 use Rattle.def_node.specs.Node.{with_message}
 use Rattle.def_node.specs.Process.{Process}
-use Rattle.tn_term.specs.Views.{tree_of}
+use Rattle.tn_term.specs.Shared.{shared_tree}
 use Rattle.tn_node.specs.Worlds.{slot_of, world_of}
 use Rattle.tn_node.proofs.Slots.{changed_set}
 use Rattle.tn_node.proofs.world.World.put_message.Goals as goal
@@ -11,7 +11,7 @@ pub returns-in_ok-put_message-in-Some : goal.returns-in_ok-put_message-in-Some
 returns-in_ok-put_message-in-Some g c =
     let w = world_of c.args.self.now in
     let x = c.index_mut.result.now in
-    let F : Process → Process = with_message (tree_of c.args.message) in
+    let F : Process → Process = with_message (shared_tree c.args.message) in
     ap (λ ss. record w { slots = ss })
     (changed_set slot_of c.args.self.now.slots.items c.args.place x _ F c.requires c.index_mut.ensures.value
     (ap Some c.in_ok-put_message-in-Some.ensures ∙ sym (ap (λ s. option_map F (slot_of s)) c.in-Some.is)))
@@ -20,7 +20,7 @@ pub returns-in-None : goal.returns-in-None
 returns-in-None g c =
     let w = world_of c.args.self.now in
     let x = c.index_mut.result.now in
-    let F : Process → Process = with_message (tree_of c.args.message) in
+    let F : Process → Process = with_message (shared_tree c.args.message) in
     ap (λ ss. record w { slots = ss })
     (changed_set slot_of c.args.self.now.slots.items c.args.place x x F c.requires c.index_mut.ensures.value
     (ap slot_of c.in-None.is ∙ sym (ap (λ s. option_map F (slot_of s)) c.in-None.is)))

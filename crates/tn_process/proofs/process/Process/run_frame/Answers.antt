@@ -12,7 +12,7 @@ returns-in_ok-value-in-None g c =
     let q = process_seen c.args.self.now in
     let f = frame_of c.args.frame in
     let k = function_of c.args.function.now in
-    let ok = c.in_ok-value-in-None.ensures in
+    let ok = c.in_ok-value-in-None.ensures ∙ c.in_ok-word-in-None.ensures in
     let at : slice_get k.steps f.place ≡ None = ap (λ xs. slice_get (map step_of xs) f.place) (sym c.deref.ensures.value) ∙ none_at step_of c.deref.result.now f.place c.in-None.ensures.lookup.3 in
     done c.leave.new.self _ _ _ c.leave.ensures
     (ap (λ (t : Tree). leaves c.args.context.now.pid q k f.target q.frames t) ok

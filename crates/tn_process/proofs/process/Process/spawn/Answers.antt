@@ -5,7 +5,7 @@ use Rattle.def_script.specs.Program.{Entry}
 use Rattle.def_node.specs.Values.{rebound_target}
 use Rattle.def_node.specs.Process.{Process, Frame, spawns, spawns_at, next_step, with_env, with_frames}
 use Rattle.tn_term.specs.Views.{tree_of}
-use Rattle.tn_term.specs.declared.term.Term.{Pid}
+use Rattle.tn_term.specs.Shared.{shared_tree}
 use Rattle.tn_term.proofs.Views.{tree_of_pid}
 use Rattle.tn_script.specs.Views.{args_of}
 use Rattle.tn_process.specs.Views.{process_seen, frame_of}
@@ -33,9 +33,10 @@ returns g c =
     let x = c.args.callee.now.target.now in
     let child = c.in-Some-child.child in
     let args = c.in-Some.args in
+    let own = shared_tree {A = g.row.A.Denot} c.in_ok-pid.pid in
     let framed = c.in_ok-bind.ensures
-    ∙ ap (λ (fr : Frame). with_env fr (rebound_target x (tree_of {A = g.row.A.Denot} (Pid child)) fr.env)) c.advance.ensures
-    ∙ ap (λ (t : Tree.Tree). with_env (next_step f) (rebound_target x t f.env)) (tree_of_pid g.row.A.Denot child) in
+    ∙ ap (λ (fr : Frame). with_env fr (rebound_target x own fr.env)) c.advance.ensures
+    ∙ ap (λ (t : Tree.Tree). with_env (next_step f) (rebound_target x t f.env)) (c.in_ok-pid.ensures ∙ tree_of_pid g.row.A.Denot child) in
     let process = c.in_ok-push_frame.ensures ∙ ap (λ (fr : Frame). with_frames q (fr ∷ q.frames)) framed in
     let E : List ℕ → List ℕ → Entry = λ m n. record { module_name = m; function_name = n; args = map tree_of args.terms.items } in
     within_some q.links _ _ (map tree_of args.terms.items) _
