@@ -6,6 +6,7 @@
 
 mod copies;
 mod gather;
+mod items;
 mod names;
 mod program;
 mod same;

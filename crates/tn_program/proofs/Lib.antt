@@ -5,3 +5,4 @@ pub mod CreatedSessions
 pub mod FunctionNames
 pub mod Totals
 pub mod BoundVariables
+pub mod Positions

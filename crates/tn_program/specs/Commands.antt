@@ -5,6 +5,7 @@ use Rattle.def_term.specs.Names.{Name}
 use Rattle.def_script.specs.Program as program
 use Rattle.def_script.specs.Rules.{creates_session, gives_tracer, commands_of, creates_again, commands_unmade, takes_tracer, is_creation, holds_past}
 use Rattle.def_script.specs.Limits.{COMMANDS, SESSIONS}
+use Rattle.def_refusal.specs.Items.{is_past}
 use Rattle.tn_flags.specs.Views.{command_of}
 use Rattle.tn_flags.specs.declared.command.Command.{Command}
 use Rattle.tn_script.specs.Views.{form_of}
@@ -12,7 +13,7 @@ use Rattle.tn_script.specs.declared.form.Form.{Form}
 use Rattle.tn_program.specs.declared.session_rules.NameOf.{NameOf}
 use Rattle.tn_program.specs.declared.session_rules.NameOf.TheVariants.{Session, Tracer}
 use Rattle.tn_program.specs.declared.session_rules.CommandRule.{CommandRule}
-use Rattle.tn_program.specs.declared.session_rules.CommandRule.TheVariants.{Again, Unmade, TracerTaken}
+use Rattle.tn_program.specs.declared.session_rules.CommandRule.TheVariants.{Again, Unmade, TracerTaken, Late}
 
 -- the commands that the forms hold
 abbrev pub form_commands : {A : Type 0} → List (Form A) → List program.Command
@@ -36,6 +37,7 @@ abbrev pub command_breaks : CommandRule → List program.Command → program.Com
 command_breaks Again = creates_again
 command_breaks Unmade = commands_unmade
 command_breaks TracerTaken = takes_tracer
+command_breaks Late = is_past
 
 -- how many of the commands are creations
 abbrev pub creation_count : List program.Command → ℕ

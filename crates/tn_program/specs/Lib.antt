@@ -6,3 +6,4 @@ pub mod FunctionNames
 pub mod Declarations
 pub mod Lookups
 pub mod Views
+pub mod Items

@@ -1,5 +1,5 @@
 // How many functions, processes, commands and creations forms hold; u64::MAX stands for any larger number.
-ghost use Rattle.std.specs.Prelude.{◌≡◌, ◌<◌, ℕ, cond, min, length, map};
+ghost use Rattle.std.specs.Prelude.{◌≡◌, ◌<◌, ◌+◌, ℕ, cond, min, length, map, nat_le};
 ghost use Rattle.std.specs.List.{count_by};
 ghost use Rattle.def_script.specs.Rules.{is_function as is_function_form, is_process as is_process_form};
 ghost use Rattle.def_script.specs.Rules.{is_creation as is_creation_command, commands_of, commands_of_form};
@@ -122,4 +122,21 @@ pub fn holds_past(limit: u64, before: u64, held: u64) -> bool
     ensures { (m n : ℕ) → limit < u64.MAX → Counts before m → Counts held n → result ≡ is_past limit m n }
 {
     0 < held && limit < before.saturating_add(held)
+}
+
+/// Whether `before` and `held` further ones are as many as the limit, or more.
+pub fn reaches(limit: u64, before: u64, held: u64) -> bool
+    ensures { (m n : ℕ) → limit < u64.MAX → Counts before m → Counts held n → result ≡ nat_le limit (m + n) }
+{
+    limit <= before.saturating_add(held)
+}
+
+/// Whether the command creates a session.
+pub fn is_creation<A: Allocator>(command: &Command<A>) -> bool
+    ensures { result ≡ is_creation_command (command_of command.now) }
+{
+    match command {
+        Command::SessionCreate { .. } => true,
+        _ => false,
+    }
 }

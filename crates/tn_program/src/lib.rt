@@ -1,15 +1,16 @@
 //! Programs: forms that keep all static rules.
 //!
-//! Depends on tn_script and on the definitions of def_script. Promises that `program` answers exactly
+//! Depends on tn_script and on the definitions of def_script and def_refusal. Promises that `program` answers exactly
 //! the program of forms that break no rule, or the first that does and the least rule that it breaks;
-//! that a copy is an equal program, and that `same` is equality; its sessions are the creations of the
-//! control list in their order.
+//! that `breaking_item` is the step or command for which that form breaks it; that a copy is an equal program,
+//! and that `same` is equality; its sessions are the creations of the control list in their order.
 #![tactic(auto)]
 
 mod counts;
 mod creations;
 mod fault;
 mod gather;
+mod items;
 mod lookup;
 mod parts;
 mod rules;
@@ -19,4 +20,5 @@ mod variables;
 pub use creations::Sessions;
 pub use fault::RuleFault;
 pub use gather::program;
+pub use items::breaking_item;
 pub use parts::Program;

@@ -20,7 +20,7 @@ use crate::counts::{
 };
 use crate::fault::{Rule, RuleFault, fault_in};
 use crate::lookup::{is_declared, is_declared_at_all, is_internal};
-use crate::session_rules::{CommandRule, any_breaks};
+use crate::session_rules::{CommandRule, SESSIONS, any_breaks};
 use crate::variables::{has_variable, is_unbound};
 use std::alloc::{AllocError, Allocator};
 use tn_flags::Command;
@@ -32,12 +32,9 @@ const FUNCTIONS: u64 = 64;
 /// The greatest number of initial processes.
 const INITIAL_PROCESSES: u64 = 16;
 
-/// The greatest number of sessions.
-const SESSIONS: u64 = 128;
-
 /// The rules on a step.
 #[derive(Clone, Copy)]
-enum StepRule {
+pub enum StepRule {
     /// It names a function that no form declares with any number of parameters.
     Undeclared,
     /// It spawns an internal function, or calls one with the module.
@@ -147,7 +144,7 @@ fn step_misnamed<A: Allocator>(forms: &[Form<A>], of_module: &str, step: &Step<A
 }
 
 /// Whether the step breaks the rule.
-fn is_against<A: Allocator>(
+pub fn is_against<A: Allocator>(
     rule: StepRule,
     forms: &[Form<A>],
     of_module: &str,
@@ -289,7 +286,7 @@ fn is_full<A: Allocator>(earlier: &[Form<A>]) -> bool
 }
 
 /// Whether there are more steps than a function may have.
-fn is_long<A: Allocator>(steps: &[Step<A>]) -> bool
+pub fn is_long<A: Allocator>(steps: &[Step<A>]) -> bool
     ensures { result ≡ nat_lt step_limit (length (map step_of steps.now)) }
 {
     MAX_STEPS < steps.len()

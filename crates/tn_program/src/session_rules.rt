@@ -1,16 +1,22 @@
 // The sessions that commands create, their tracers, and the rules on commands.
-ghost use Rattle.std.specs.Prelude.{◌≡◌, map};
+ghost use Rattle.std.specs.Prelude.{◌≡◌, map, length, nat_le};
 ghost use Rattle.std.specs.List.{list_any};
 ghost use Rattle.def_script.specs.Rules.{creates_session, gives_tracer, is_created as is_created_by, commands_of_form};
 ghost use Rattle.def_script.specs.Rules.{creates_again, commands_unmade, takes_tracer, any_with_earlier};
+ghost use Rattle.def_script.specs.Limits.{COMMANDS as command_limit, SESSIONS as session_limit};
+ghost use Rattle.def_refusal.specs.Items.{is_past};
 ghost use Rattle.tn_flags.specs.Views.{command_of};
 ghost use Rattle.tn_script.specs.Views.{form_of};
 ghost use Rattle.tn_program.specs.Commands.{creates_with, any_creates, command_breaks};
-ghost use Rattle.tn_program.specs.Commands.{form_commands, commands_before};
+ghost use Rattle.tn_program.specs.Commands.{form_commands, commands_before, creation_count};
 
+use crate::counts::{all_commands, all_creations, creation_total, is_creation, reaches};
 use std::alloc::Allocator;
 use tn_flags::Command;
-use tn_script::Form;
+use tn_script::{Form, MAX_COMMANDS};
+
+/// The greatest number of sessions.
+pub const SESSIONS: u64 = 128;
 
 /// Which name of a creation is asked for.
 #[derive(Clone, Copy)]
@@ -28,6 +34,8 @@ pub enum CommandRule {
     Unmade,
     /// It creates a session with a tracer that an earlier creation has.
     TracerTaken,
+    /// It is past the greatest number of commands, or a creation past that of sessions.
+    Late,
 }
 
 /// Whether the command creates the session.
@@ -152,8 +160,33 @@ fn is_taken<A: Allocator>(forms: &[Form<A>], before: &[Command<A>], command: &Co
     }
 }
 
+/// Whether the forms' commands and these are as many as may be.
+fn has_all_commands<A: Allocator>(forms: &[Form<A>], commands: &[Command<A>]) -> bool
+    ensures { result ≡ nat_le command_limit (length (commands_before forms.now commands.now)) }
+{
+    reaches(
+        MAX_COMMANDS as u64,
+        all_commands(forms),
+        commands.len() as u64,
+    )
+}
+
+/// Whether as many of them are creations as may be.
+fn has_all_sessions<A: Allocator>(forms: &[Form<A>], commands: &[Command<A>]) -> bool
+    ensures { result ≡ nat_le session_limit (creation_count (commands_before forms.now commands.now)) }
+{
+    reaches(SESSIONS, all_creations(forms), creation_total(commands))
+}
+
+/// Whether the command is past the greatest number of commands, or is a creation past that of sessions.
+fn is_late<A: Allocator>(forms: &[Form<A>], before: &[Command<A>], command: &Command<A>) -> bool
+    ensures { result ≡ is_past (commands_before forms.now before.now) (command_of command.now) }
+{
+    has_all_commands(forms, before) || (is_creation(command) && has_all_sessions(forms, before))
+}
+
 /// Whether the command breaks the rule.
-fn breaks<A: Allocator>(
+pub fn breaks<A: Allocator>(
     rule: CommandRule,
     forms: &[Form<A>],
     before: &[Command<A>],
@@ -165,6 +198,7 @@ fn breaks<A: Allocator>(
         CommandRule::Again => is_again(forms, before, command),
         CommandRule::Unmade => is_unmade(forms, before, command),
         CommandRule::TracerTaken => is_taken(forms, before, command),
+        CommandRule::Late => is_late(forms, before, command),
     }
 }
 

@@ -62,7 +62,7 @@ pub fn has_variable<A: Allocator>(alloc: A, terms: &Vec<Term<A>, A>) -> bool
 }
 
 /// Whether a variable stands in the step, its target apart, that is none of these.
-fn step_unbound<A: Allocator>(bound: &BTreeMap<&str, (), A>, step: &Step<A>) -> bool
+pub fn step_unbound<A: Allocator>(bound: &BTreeMap<&str, (), A>, step: &Step<A>) -> bool
     ensures { result ≡ any_has_other (names_in bound.now) (terms_of (step_of step.now)) }
 {
     match step {
@@ -94,7 +94,7 @@ fn target_of<A: Allocator>(step: &Step<A>) -> Option<&Atom<A>>
 }
 
 /// 'Self' and the parameters.
-fn first_variables<A: Allocator + Copy>(
+pub fn first_variables<A: Allocator + Copy>(
     alloc: A,
     function: &Function<A>,
 ) -> Result<BTreeMap<&str, (), A>, AllocError>
@@ -109,7 +109,7 @@ fn first_variables<A: Allocator + Copy>(
 }
 
 /// The step's target is bound after it.
-fn bind<'a, A: Allocator + Copy>(
+pub fn bind<'a, A: Allocator + Copy>(
     bound: &mut BTreeMap<&'a str, (), A>,
     step: &'a Step<A>,
 ) -> Result<(), AllocError>

@@ -14,7 +14,7 @@ use Rattle.tn_text.specs.Lexer.{AllShown, AllGood}
 use Rattle.tn_text.specs.Answers.{AreTokens, NoTokenAt}
 use Rattle.tn_refusal.specs.Starts.{is_stop_kind, start_in, IsListable}
 
-stop-kind : (k : Kind) (u rest : List ℕ) (t : Token) → IsTokenOf (kind_of k) u rest t → is_stop t ≡ is_stop_kind k
+pub stop-kind : (k : Kind) (u rest : List ℕ) (t : Token) → IsTokenOf (kind_of k) u rest t → is_stop t ≡ is_stop_kind k
 stop-kind OpenBrace u rest t h = ap is_stop h
 stop-kind CloseBrace u rest t h = ap is_stop h
 stop-kind OpenBracket u rest t h = ap is_stop h

@@ -1,4 +1,6 @@
 pub mod Starts
+pub mod ItemStarts
+pub mod RefusedItems
 pub mod Refusals
 pub mod Words
 pub mod Locations

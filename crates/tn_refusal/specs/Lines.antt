@@ -16,6 +16,6 @@ printable_byte b = if nat_le 32 b && nat_le b 126 then b else 63
 pub record IsExplained (name bytes : List ℕ) (r : Refusal) (line : List ℕ) : Type 0 where
   pub mark : Location
   pub rest : List ℕ
-  pub place : IsMarkOf bytes (refused_part r) mark
+  pub place : IsMarkOf bytes r (refused_part r) mark
   pub text : line ≡ mark_text name mark ++ words r ++ rest
   pub printable : all_are is_printable rest ≡ true

@@ -55,10 +55,10 @@ fn of_len(thing: Thing, rest: &[u8], len: usize) -> TextItem<'_> {
 fn dot_at(text: &[u8], at: usize) -> TextItem<'_> {
     let rest = rest_at(text, at);
     let before = last_digits_len(first_bytes(text, at));
-    let behind = digits_len(rest_at(rest, 1));
-    if before > 0 && behind > 0 {
+    let after = digits_len(rest_at(rest, 1));
+    if before > 0 && after > 0 {
         let from = rest_at(text, at.saturating_sub(before));
-        let len = before.saturating_add(behind).saturating_add(1);
+        let len = before.saturating_add(after).saturating_add(1);
         return of_len(Thing::Float, from, len);
     }
     match byte_at(rest, 1) {
@@ -99,9 +99,9 @@ fn pid_len(rest: &[u8]) -> usize {
 
 /// A number, or a sign without one.
 fn sign_at(rest: &[u8]) -> TextItem<'_> {
-    let behind = rest_at(rest, 1);
-    if begins_with_digit(behind) {
-        of_len(Thing::Number, rest, digits_len(behind).saturating_add(1))
+    let after = rest_at(rest, 1);
+    if begins_with_digit(after) {
+        of_len(Thing::Number, rest, digits_len(after).saturating_add(1))
     } else {
         of_len(Thing::Location, rest, 1)
     }

@@ -2,10 +2,11 @@
 //! fixed by.
 //!
 //! Depends on tn_text, tn_script and tn_program, whose faults become refusals, and on the definitions of def_text,
-//! def_script and def_run. Promises that `refusal_bytes` is the line that is defined for the refusal; that
+//! def_script, def_refusal and def_run. Promises that `refusal_bytes` is the line that is defined for the refusal; that
 //! `line_column_of` is the line and the column of an offset, and `form_offset` where a form begins; and that the
-//! line of `explain`, and that of `explain_term`, begins with the name, the place and the words of the refusal's rule.
-//! What follows these, which is what breaks the rule, is printable and is not promised to be right.
+//! line of `explain`, and that of `explain_term`, begins with the name, the place and the words of the refusal's
+//! rule: the place of the step or command that the refusal is of, where it is of one. What follows these, which is
+//! what breaks the rule, is printable and is not promised to be right.
 #![tactic(auto)]
 
 mod bytes;
@@ -14,6 +15,7 @@ mod commands;
 mod detail;
 mod forms;
 mod item;
+mod item_starts;
 mod items;
 mod laws;
 mod limits;
@@ -26,6 +28,7 @@ mod position;
 mod put;
 mod refusal;
 mod refusal_line;
+mod refused_item;
 mod sessions;
 mod shape;
 mod starts;

@@ -1,21 +1,46 @@
 // Where a line says that a refusal is.
-ghost use Rattle.std.specs.Prelude.{◌≡◌, ◌<◌, ◌++◌, length, codes, decimal, IfOk, OnOk};
-ghost use Rattle.tn_refusal.specs.Locations.{mark_text, IsMarkOf, IsFormMark, spot_at};
+ghost use Rattle.std.specs.Prelude.{◌≡◌, ◌<◌, ◌++◌, length, codes, decimal, Some, IfOk, OnOk};
+ghost use Rattle.tn_script.specs.Items.{form_item_of};
+ghost use Rattle.tn_refusal.specs.Locations.{mark_text, IsMarkOf, IsFormMark, IsItemMark, location_of_item, spot_at};
+ghost use Rattle.def_text.specs.Forms.{FormBegins};
 ghost use Rattle.tn_refusal.specs.Refusals.{refusal_of, refused_part};
+ghost use Rattle.tn_refusal.specs.Starts.{IsListable};
 
+use crate::item_starts::item_offset;
 use crate::line_column::line_column_of;
 use crate::refusal::{Refusal, RefusedPart, refusal_part};
+use crate::refused_item::refused_item;
 use crate::starts::form_span;
 use itoa::Buffer;
 use std::alloc::{AllocError, Allocator};
+use tn_script::FormItem;
 use tn_text::MAX_TEXT;
 
-/// Where the refusal is: the whole text, a line and a column, or the line of a form with its number.
+/// Where the refusal is: the whole text, a line and a column, the line of a form with its number, or the line and the
+/// column of a step or a command of a form.
 #[derive(Clone, Copy)]
 pub enum Location {
     Whole,
-    Spot { line: usize, column: usize },
-    InForm { line: usize, form: usize },
+    Spot {
+        line: usize,
+        column: usize,
+    },
+    InForm {
+        line: usize,
+        form: usize,
+    },
+    InItem {
+        line: usize,
+        column: usize,
+        form: usize,
+    },
+    /// Also the command's number in the control list.
+    InCommand {
+        line: usize,
+        column: usize,
+        form: usize,
+        command: usize,
+    },
 }
 
 /// Where a refusal is, and the text of the form that is refused; it is empty where no form is.
@@ -49,17 +74,76 @@ fn spot(text: &[u8], at: usize) -> Location
     }
 }
 
-/// The line of a form; the whole text where its tokens can't be told.
-fn form_mark<A: Allocator>(alloc: A, text: &[u8], form: usize) -> Result<Mark<'_>, AllocError>
+/// The place of a step or a command of a form that begins at this offset.
+fn item_spot(text: &[u8], form: usize, item: FormItem, at: usize) -> Location
     requires { length text.now < usize.MAX }
-    ensures { IfOk result (λ m. IsFormMark text.now form m.location) }
+    ensures { result ≡ location_of_item text.now form (form_item_of item) at }
+{
+    let place = line_column_of(text, at);
+    let line = place.line;
+    let column = place.column;
+    match item {
+        FormItem::Step { .. } => Location::InItem { line, column, form },
+        FormItem::Command { .. } => Location::InItem { line, column, form },
+        FormItem::NumberedCommand { number, .. } => Location::InCommand {
+            line,
+            column,
+            form,
+            command: number,
+        },
+    }
+}
+
+/// Where a step or a command of a form is; the whole text where its tokens can't be told.
+fn item_location<A: Allocator>(
+    alloc: A,
+    text: &[u8],
+    form: usize,
+    item: FormItem,
+) -> Result<Location, AllocError>
+    requires { length text.now < usize.MAX }
+    ensures { IfOk result (λ l. IsListable text.now → IsItemMark text.now form (Some (form_item_of item)) l) }
+{
+    match item_offset(alloc, text, form, item)? {
+        Some(at) => Ok(item_spot(text, form, item, at)),
+        None => Ok(Location::Whole),
+    }
+}
+
+/// Where a form is that begins at this offset, or its step or command that the refusal is of.
+fn form_location<A: Allocator + Copy>(
+    alloc: A,
+    text: &[u8],
+    refusal: Refusal,
+    form: usize,
+    from: usize,
+) -> Result<Location, AllocError>
+    requires fits { length text.now < usize.MAX }
+    requires begins { FormBegins text.now form from }
+    ensures { IfOk result (λ l. IsFormMark text.now (refusal_of refusal) form l) }
+{
+    match refused_item(alloc, text, refusal)? {
+        Some(item) => Ok(item_location(alloc, text, form, item)?),
+        None => Ok(Location::InForm {
+            line: line_column_of(text, from).line,
+            form,
+        }),
+    }
+}
+
+/// Where the refusal for a form is, and the form's text; the whole text where its tokens can't be told.
+fn form_mark<A: Allocator + Copy>(
+    alloc: A,
+    text: &[u8],
+    refusal: Refusal,
+    form: usize,
+) -> Result<Mark<'_>, AllocError>
+    requires { length text.now < usize.MAX }
+    ensures { IfOk result (λ m. IsFormMark text.now (refusal_of refusal) form m.location) }
 {
     match form_span(alloc, text, form)? {
         Some(span) => Ok(Mark {
-            location: Location::InForm {
-                line: line_column_of(text, span.from).line,
-                form,
-            },
+            location: form_location(alloc, text, refusal, form, span.from)?,
             form: text.get(span.from..span.to).unwrap_or(b""),
         }),
         None => Ok(Mark::of(Location::Whole)),
@@ -67,12 +151,12 @@ fn form_mark<A: Allocator>(alloc: A, text: &[u8], form: usize) -> Result<Mark<'_
 }
 
 /// Where the refusal of a text is; the whole text where that is longer than 1,048,576 bytes.
-pub fn mark_of<A: Allocator>(
+pub fn mark_of<A: Allocator + Copy>(
     alloc: A,
     text: &[u8],
     refusal: Refusal,
 ) -> Result<Mark<'_>, AllocError>
-    ensures { IfOk result (λ m. IsMarkOf text.now (refused_part (refusal_of refusal)) m.location) }
+    ensures { IfOk result (λ m. IsMarkOf text.now (refusal_of refusal) (refused_part (refusal_of refusal)) m.location) }
 {
     if text.len() > MAX_TEXT {
         return Ok(Mark::of(Location::Whole));
@@ -80,7 +164,7 @@ pub fn mark_of<A: Allocator>(
     match refusal_part(refusal) {
         RefusedPart::Whole => Ok(Mark::of(Location::Whole)),
         RefusedPart::Token { at } => Ok(Mark::of(spot(text, at))),
-        RefusedPart::Form { form } => Ok(form_mark(alloc, text, form)?),
+        RefusedPart::Form { form } => Ok(form_mark(alloc, text, refusal, form)?),
     }
 }
 
@@ -109,6 +193,21 @@ fn append_numbers<A: Allocator>(
     append_number(line, words, n)
 }
 
+/// Appends the line and the column of a step or a command, and words with a number.
+fn append_spot<A: Allocator>(
+    line: &mut Vec<u8, A>,
+    row: usize,
+    column: usize,
+    words: &[u8],
+    n: usize,
+) -> Result<(), AllocError>
+    ensures { OnOk result (line.new.items
+        ≡ line.old.items ++ codes ":" ++ decimal row ++ codes ":" ++ decimal column ++ words.now ++ decimal n) }
+{
+    append_numbers(line, row, b":", column)?;
+    append_number(line, words, n)
+}
+
 /// Appends where the refusal is.
 fn append_mark<A: Allocator>(line: &mut Vec<u8, A>, mark: Location) -> Result<(), AllocError>
     ensures { OnOk result (line.new.items ++ codes ": " ≡ mark_text line.old.items mark) }
@@ -117,6 +216,20 @@ fn append_mark<A: Allocator>(line: &mut Vec<u8, A>, mark: Location) -> Result<()
         Location::Whole => Ok(()),
         Location::Spot { line: row, column } => append_numbers(line, row, b":", column),
         Location::InForm { line: row, form } => append_numbers(line, row, b": form ", form),
+        Location::InItem {
+            line: row,
+            column,
+            form,
+        } => append_spot(line, row, column, b": form ", form),
+        Location::InCommand {
+            line: row,
+            column,
+            form,
+            command,
+        } => {
+            append_spot(line, row, column, b": form ", form)?;
+            append_number(line, b", command ", command)
+        }
     }
 }
 

@@ -10,7 +10,7 @@ pub enum Position {
     Form,
     First,
     Next,
-    Behind,
+    After,
     Done,
 }
 
@@ -70,7 +70,7 @@ fn position_after(tokens: &[Token], is_open: bool) -> Position {
         Kind::Stop => Position::Form,
         Kind::OpenBrace | Kind::OpenBracket => Position::First,
         Kind::Comma => Position::Next,
-        _ if is_open => Position::Behind,
+        _ if is_open => Position::After,
         _ => Position::Done,
     }
 }

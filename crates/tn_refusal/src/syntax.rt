@@ -38,8 +38,8 @@ fn next_words(standing: ReadState, kind: TextKind) -> &'static [u8] {
         Position::Next => b"a term",
         Position::First if in_tuple => b"a term or '}'",
         Position::First => b"a term or ']'",
-        Position::Behind if in_tuple => b"',' or '}'",
-        Position::Behind => b"',' or ']'",
+        Position::After if in_tuple => b"',' or '}'",
+        Position::After => b"',' or ']'",
     }
 }
 
@@ -54,7 +54,7 @@ fn hint_of(thing: Thing) -> &'static [u8] {
         Thing::Bar => b": a list has no tail",
         Thing::Pid => b": a pid is <0.N.0>, N without leading zeros",
         Thing::Angle => b": a pid is <0.N.0>, N without leading zeros",
-        Thing::Dot => b": a full stop has a blank, a comment or the end of the text behind it",
+        Thing::Dot => b": a full stop has a blank, a comment or the end of the text after it",
         Thing::Unquoted => b": it has characters 32 to 126, and \\' and \\\\ for ' and \\",
         Thing::Unclosed => b": it has characters 32 to 126, and \\\" and \\\\ for \" and \\",
         _ => b"",
@@ -125,7 +125,7 @@ fn put_hint<A: Allocator>(
         Thing::Close | Thing::End | Thing::Stop => {
             put_ending(out, text, standing, found.thing, kind)
         }
-        Thing::Characters if standing.position == Position::Behind => {
+        Thing::Characters if standing.position == Position::After => {
             out.words(b": strings are not joined")
         }
         thing => out.words(hint_of(thing)),
@@ -179,7 +179,7 @@ fn put_wide<A: Allocator>(out: &mut Detail<A>, text: &[u8], standing: Option<Rea
             b": the list at "
         };
         put_place(out, words, text, opened.at);
-        out.number(b" goes on behind element ", opened.commas.saturating_add(1));
+        out.number(b" goes on after element ", opened.commas.saturating_add(1));
     }
 }
 

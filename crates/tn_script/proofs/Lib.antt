@@ -5,3 +5,4 @@ pub mod Each
 pub mod Equal
 pub mod OfTerms
 pub mod FormTexts
+pub mod ItemTerms

@@ -1,3 +1,4 @@
 pub mod Views
 pub mod Answers
 pub mod Bodies
+pub mod Items

@@ -122,7 +122,7 @@ fn command_of_tuple<A: Allocator>(fields: Vec<Term<A>, A>) -> Option<Command<A>>
 }
 
 /// The command that the term stands for, if it has a shape.
-fn command<A: Allocator>(term: Term<A>) -> Option<Command<A>>
+pub fn command<A: Allocator>(term: Term<A>) -> Option<Command<A>>
     ensures { option_map command_of result ≡ command_in (tree_of term) }
 {
     command_of_tuple(tuple(term)?)

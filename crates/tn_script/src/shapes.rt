@@ -20,7 +20,7 @@ use std::alloc::{AllocError, Allocator};
 use tn_term::{Atom, Term};
 
 /// The module, the name and the visibility of a function, where all three have their shape.
-fn function_head<A: Allocator>(
+pub fn function_head<A: Allocator>(
     home: Term<A>,
     function: Term<A>,
     visibility: Term<A>,

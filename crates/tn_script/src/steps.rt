@@ -197,7 +197,7 @@ fn step_of_tuple<A: Allocator>(fields: Vec<Term<A>, A>) -> Option<Step<A>>
 }
 
 /// The step that the term stands for, if it has a shape.
-fn step<A: Allocator>(term: Term<A>) -> Option<Step<A>>
+pub fn step<A: Allocator>(term: Term<A>) -> Option<Step<A>>
     ensures { option_map step_of result ≡ step_in (tree_of term) }
 {
     step_of_tuple(tuple(term)?)

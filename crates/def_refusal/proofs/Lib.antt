@@ -1,0 +1,5 @@
+pub mod OneItem
+pub mod Elements
+pub mod Shapeless
+pub mod Breaks
+mod Rows

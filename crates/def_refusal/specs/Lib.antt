@@ -1,0 +1,4 @@
+pub mod Items
+pub mod ItemStarts
+pub mod RefusedItems
+pub mod Laws
