@@ -1,16 +1,16 @@
 // Why a term or a text is no match specification.
 ghost use Rattle.std.specs.Prelude.{◌≡◌, IfOk, OnOk};
 ghost use Rattle.tn_term.specs.Views.{tree_of};
-ghost use Rattle.tn_verdict.specs.SpecReasons.{spec_reason_seen, spec_reasons_seen};
+ghost use Rattle.tn_reason.specs.SpecReasons.{spec_reason_seen, spec_reasons_seen};
 ghost use Rattle.complete_code.specs.SpecTestAnswers.{AreToldAlike};
 
 use std::alloc::{AllocError, Allocator};
+use tn_reason::SpecReason;
 use tn_spec::Dialect;
 use tn_term::Term;
 use tn_text::TextFault;
-use tn_verdict::SpecReason;
 
-/// `tn_verdict::spec_reason` has one answer.
+/// `tn_reason::spec_reason` has one answer.
 pub fn spec_reason<'a, A: Allocator + Copy>(
     alloc: A,
     term: &'a Term<A>,
@@ -23,8 +23,8 @@ pub fn spec_reason<'a, A: Allocator + Copy>(
     requires { tree_of term.now ≡ tree_of again.now }
     ensures { IfOk result.0 (λ r. IfOk result.1 (λ q. spec_reasons_seen r ≡ spec_reasons_seen q)) }
 {
-    let first = tn_verdict::spec_reason(alloc, term, dialect);
-    let second = tn_verdict::spec_reason(alloc, again, dialect);
+    let first = tn_reason::spec_reason(alloc, term, dialect);
+    let second = tn_reason::spec_reason(alloc, again, dialect);
     (first, second)
 }
 

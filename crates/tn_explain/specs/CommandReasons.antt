@@ -21,7 +21,7 @@ use Rattle.tn_script.specs.declared.form.Function.{Function}
 use Rattle.tn_index.specs.Views.{function_pattern_seen}
 use Rattle.tn_index.specs.declared.function_setting.FunctionPattern.{FunctionPattern}
 use Rattle.tn_session.specs.declared.session.Session.{Session}
-use Rattle.tn_verdict.specs.SpecReasons.{spec_reason_seen}
+use Rattle.tn_reason.specs.SpecReasons.{spec_reason_seen}
 use Rattle.tn_trace.specs.Slots.{IsSession}
 use Rattle.tn_explain.specs.NearestFunctions.{lent_function}
 use Rattle.tn_explain.specs.declared.command_reasons.CommandReason.{CommandReason}

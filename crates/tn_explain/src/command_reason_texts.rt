@@ -17,15 +17,16 @@ ghost use Rattle.tn_explain.specs.CommandReasons.{command_reason_seen, command_r
 ghost use Rattle.tn_explain.specs.RemarkedSessions.{text_seen};
 ghost use Rattle.tn_explain.specs.CommandReasons.{not_alive_text, no_match_text, fault_of_name};
 ghost use Rattle.tn_explain.specs.NearestFunctions.{lent_function};
-ghost use Rattle.tn_verdict.specs.SpecReasons.{spec_reason_seen};
+ghost use Rattle.tn_reason.specs.SpecReasons.{spec_reason_seen};
 
 use crate::command_reasons::CommandReason;
 use itoa::Buffer;
 use std::alloc::{AllocError, Allocator};
+use tn_reason::{ClauseReason, ExpressionReason, SpecReason};
 use tn_script::Function;
 use tn_term::{Atom, Term};
 use tn_text::{write_atom, write_term};
-use tn_verdict::{ClauseReason, ExpressionReason, SpecReason, put_pid, put_setting_reason};
+use tn_verdict::{put_pid, put_setting_reason};
 
 /// Appends what should stand there, and what there is in its place.
 fn put_found<A: Allocator, B: Allocator>(

@@ -21,11 +21,11 @@ use crate::nearest_functions::nearest_function;
 use std::alloc::{AllocError, Allocator};
 use tn_flags::{Command, flag_of};
 use tn_index::FunctionPattern;
+use tn_reason::{SpecReason, spec_reason};
 use tn_script::Function;
 use tn_session::{Look, Session, how_of, options_of, pattern_of, procs_of};
 use tn_spec::Dialect;
 use tn_term::{Atom, Term};
-use tn_verdict::{SpecReason, spec_reason};
 
 /// Why a command is refused, or matches no function.
 #[derive_where(Clone, Copy)]

@@ -8,5 +8,4 @@ pub mod Pieces
 pub mod ExpressionTexts
 pub mod Stops
 pub mod SpecTestFlags
-pub mod SpecReasons
 pub mod SpecReasonTexts

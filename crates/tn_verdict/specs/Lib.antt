@@ -4,5 +4,4 @@ pub mod Effects
 pub mod SpecTestInputs
 pub mod ExpressionTexts
 pub mod SpecTests
-pub mod SpecReasons
 pub mod SpecReasonTexts

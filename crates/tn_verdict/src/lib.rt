@@ -1,36 +1,30 @@
 //! What becomes of a clause and of a specification, and its text: why a clause doesn't fire, or what its body asks
-//! for; the lines of the clauses of one specification on one list; and why a term is no specification.
+//! for; the lines of the clauses of one specification on one list; and the text of why a term is no specification.
 //!
-//! Depends on tn_spec, tn_head, tn_guard and tn_action, on tn_difference, on tn_text, and on the definitions of
-//! def_explain. Promises that `verdict` is the defined one, that `spec_reason` is the defined reason, and that
-//! `put_spec_test` appends the defined lines, and nothing where memory is refused. What a reason names is lent from the
-//! specification or the term, or lies in the arena: no term is copied.
+//! Depends on tn_spec, tn_head, tn_guard and tn_action, on tn_difference and tn_reason, on tn_text, and on the
+//! definitions of def_explain. Promises that `verdict` is the defined one, that `put_spec_reason` appends the defined
+//! text, and that `put_spec_test` appends the defined lines, and nothing where memory is refused. What a reason names
+//! is lent from the specification or the term, or lies in the arena: no term is copied.
 #![tactic(auto)]
 
 mod clauses;
 mod effects;
-mod expression_reasons;
 mod expression_text;
 mod faults;
-mod head_term_reasons;
 mod heads;
 mod names;
 mod no_specification;
 mod reason;
 mod reason_text;
 mod spec_reason_texts;
-mod spec_reasons;
 mod spec_test;
 mod spec_test_input;
 
 pub use clauses::verdict;
 pub use effects::{put_effects, put_flags, put_pid};
-pub use expression_reasons::ExpressionReason;
-pub use head_term_reasons::HeadTermReason;
 pub use no_specification::no_specification_text;
 pub use reason::{ConditionReason, HeadReason, Reason, Verdict};
 pub use reason_text::put_reason;
 pub use spec_reason_texts::{put_setting_reason, put_spec_reason};
-pub use spec_reasons::{ClauseReason, ShapeReason, SpecReason, spec_reason};
 pub use spec_test::{put_clause, put_spec_test};
 pub use spec_test_input::{SpecTestFault, SpecTestInput, answer};

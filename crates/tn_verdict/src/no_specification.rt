@@ -8,8 +8,8 @@ ghost use Rattle.tn_text.specs.Writes.{Grows};
 ghost use Rattle.tn_verdict.specs.SpecReasonTexts.{text_where_reason, TellsReason};
 
 use crate::spec_reason_texts::put_spec_reason;
-use crate::spec_reasons::spec_reason;
 use std::alloc::{AllocError, Allocator};
+use tn_reason::spec_reason;
 use tn_spec::Dialect;
 use tn_term::Term;
 use tn_text::{TextFault, read_term};

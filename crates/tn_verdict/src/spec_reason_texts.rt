@@ -10,19 +10,17 @@ ghost use Rattle.def_explain.specs.ReasonTexts.{at_clause_text, spec_reason_text
 ghost use Rattle.tn_term.specs.Views.{tree_of, trees_of};
 ghost use Rattle.tn_spec.specs.Views.{action_of};
 ghost use Rattle.tn_text.specs.Writes.{Grows};
-ghost use Rattle.tn_verdict.specs.SpecReasons.{expression_reason_seen, head_term_reason_seen, shape_reason_seen};
-ghost use Rattle.tn_verdict.specs.SpecReasons.{clause_reason_seen, spec_reason_seen, names_seen};
+ghost use Rattle.tn_reason.specs.SpecReasons.{expression_reason_seen, head_term_reason_seen, shape_reason_seen};
+ghost use Rattle.tn_reason.specs.SpecReasons.{clause_reason_seen, spec_reason_seen, names_seen};
 ghost use Rattle.tn_verdict.specs.SpecReasonTexts.{further_texts, counts_of, no_call_text_of};
 ghost use Rattle.tn_verdict.specs.SpecReasonTexts.{call_tuple_text, with_count_of, suggestion_text};
 ghost use Rattle.tn_verdict.specs.SpecReasonTexts.{no_function_text_of, other_name_text_of, wrong_count_text};
 
-use crate::expression_reasons::ExpressionReason;
-use crate::head_term_reasons::HeadTermReason;
 use crate::names::action_text;
 use crate::reason_text::put_number;
-use crate::spec_reasons::{ClauseReason, ShapeReason, SpecReason};
 use itoa::Buffer;
 use std::alloc::{AllocError, Allocator};
+use tn_reason::{ClauseReason, ExpressionReason, HeadTermReason, ShapeReason, SpecReason};
 use tn_spec::{Action, Dialect, Row, is_in_bodies, row_named};
 use tn_term::{Atom, Term};
 use tn_text::{write_atom, write_term};

@@ -2,7 +2,7 @@ use Rattle.std.proofs.Common.{◌≡◌, ◌∙◌, ◌++◌, codes, sym, ap}
 use Rattle.def_term.specs.Text.{w, atom_text}
 use Rattle.def_session.specs.Commands.{fault_term}
 use Rattle.def_explain.specs.SpecReasons.{reason_fault}
-use Rattle.tn_verdict.specs.SpecReasons.{spec_reason_seen}
+use Rattle.tn_reason.specs.SpecReasons.{spec_reason_seen}
 use Rattle.tn_verdict.proofs.Pieces.{behind, after_ok, read_as, put_ok}
 use Rattle.tn_explain.proofs.ReplyTexts.{badarg_text, unsupported_text}
 use Rattle.tn_explain.proofs.command_reason_texts.put_fault.Goals as goal

@@ -8,8 +8,8 @@ ghost use Rattle.tn_term.specs.Views.{tree_of, trees_of};
 ghost use Rattle.tn_spec.specs.Names.{called_seen, position_seen};
 ghost use Rattle.tn_spec.specs.Readings.{head_in};
 ghost use Rattle.tn_spec.specs.Views.{dialect_of};
-ghost use Rattle.tn_verdict.specs.SpecReasons.{expression_reasons_seen, call_reason_of, named_reason_of};
-ghost use Rattle.tn_verdict.specs.SpecReasons.{expression_reason_of, first_reason_of};
+ghost use Rattle.tn_reason.specs.SpecReasons.{expression_reasons_seen, call_reason_of, named_reason_of};
+ghost use Rattle.tn_reason.specs.SpecReasons.{expression_reason_of, first_reason_of};
 
 use std::alloc::Allocator;
 use tn_spec::{

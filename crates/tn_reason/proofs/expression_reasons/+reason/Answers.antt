@@ -7,9 +7,9 @@ use Rattle.tn_spec.specs.Names.{position_seen}
 use Rattle.tn_spec.specs.Readings.{head_in}
 use Rattle.tn_spec.specs.Views.{dialect_of}
 use Rattle.tn_spec.proofs.Tuples.{first_is, const_is, further_counted}
-use Rattle.tn_verdict.specs.SpecReasons.{expression_reason_seen, expression_reason_of, first_reason_of}
-use Rattle.tn_verdict.proofs.SpecReasons.{first_here, first_later, crowded, no_call_by, named_constant, named_itself, named_arguments}
-use Rattle.tn_verdict.proofs.expression_reasons.+reason.Goals as goal
+use Rattle.tn_reason.specs.SpecReasons.{expression_reason_seen, expression_reason_of, first_reason_of}
+use Rattle.tn_reason.proofs.SpecReasons.{first_here, first_later, crowded, no_call_by, named_constant, named_itself, named_arguments}
+use Rattle.tn_reason.proofs.expression_reasons.+reason.Goals as goal
 
 pub first_reason-returns-in-Some : goal.first_reason-returns-in-Some
 first_reason-returns-in-Some g t c =

@@ -1,8 +1,8 @@
 use Rattle.std.proofs.Common.{◌∙◌, refl, arith}
 use Rattle.def_explain.specs.SpecReasons.{first_reason, atoms_in, atoms_in_each, wrong_variable}
 use Rattle.tn_term.specs.Views.{trees_of}
-use Rattle.tn_verdict.proofs.SpecReasons.{first_here, first_later}
-use Rattle.tn_verdict.proofs.head_term_reasons.+wrong.Goals as goal
+use Rattle.tn_reason.proofs.SpecReasons.{first_here, first_later}
+use Rattle.tn_reason.proofs.head_term_reasons.+wrong.Goals as goal
 
 pub wrong_variable_in_each-returns-in-Some : goal.wrong_variable_in_each-returns-in-Some
 wrong_variable_in_each-returns-in-Some g t c =

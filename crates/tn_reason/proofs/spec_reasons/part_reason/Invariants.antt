@@ -4,8 +4,8 @@ use Rattle.tn_term.specs.Views.{trees_of}
 use Rattle.tn_spec.specs.Names.{position_seen}
 use Rattle.tn_spec.specs.Readings.{head_in}
 use Rattle.tn_spec.specs.Views.{dialect_of}
-use Rattle.tn_verdict.specs.SpecReasons.{part_reason_of}
-use Rattle.tn_verdict.proofs.spec_reasons.part_reason.Given as goal
+use Rattle.tn_reason.specs.SpecReasons.{part_reason_of}
+use Rattle.tn_reason.proofs.spec_reasons.part_reason.Given as goal
 
 abbrev pub invariant-loop-i : goal.invariant-loop-i
 invariant-loop-i g l =

@@ -16,16 +16,16 @@ use Rattle.tn_spec.specs.declared.variables.Variables.{Variables}
 use Rattle.tn_spec.specs.Names.{position_seen}
 use Rattle.tn_spec.specs.Readings.{head_in}
 use Rattle.tn_spec.specs.Views.{dialect_of, action_of}
-use Rattle.tn_verdict.specs.declared.expression_reasons.ExpressionReason.{ExpressionReason}
-use Rattle.tn_verdict.specs.declared.expression_reasons.ExpressionReason.TheVariants.{NotInHead, NoVariable, NoCall, NoFunction, WrongCount, WrongPlace, NotSupported}
-use Rattle.tn_verdict.specs.declared.head_term_reasons.HeadTermReason.{HeadTermReason}
-use Rattle.tn_verdict.specs.declared.head_term_reasons.HeadTermReason.TheVariants.{NoHead, NoHeadVariable}
-use Rattle.tn_verdict.specs.declared.spec_reasons.ShapeReason.{ShapeReason}
-use Rattle.tn_verdict.specs.declared.spec_reasons.ShapeReason.TheVariants.{NoTuple, ElementCount, NoConditions, NoBody}
-use Rattle.tn_verdict.specs.declared.spec_reasons.ClauseReason.{ClauseReason}
-use Rattle.tn_verdict.specs.declared.spec_reasons.ClauseReason.TheVariants.{OfShape, OfHead, OfCondition, OfBody}
-use Rattle.tn_verdict.specs.declared.spec_reasons.SpecReason.{SpecReason}
-use Rattle.tn_verdict.specs.declared.spec_reasons.SpecReason.TheVariants.{NoClauses, AtClause}
+use Rattle.tn_reason.specs.declared.expression_reasons.ExpressionReason.{ExpressionReason}
+use Rattle.tn_reason.specs.declared.expression_reasons.ExpressionReason.TheVariants.{NotInHead, NoVariable, NoCall, NoFunction, WrongCount, WrongPlace, NotSupported}
+use Rattle.tn_reason.specs.declared.head_term_reasons.HeadTermReason.{HeadTermReason}
+use Rattle.tn_reason.specs.declared.head_term_reasons.HeadTermReason.TheVariants.{NoHead, NoHeadVariable}
+use Rattle.tn_reason.specs.declared.spec_reasons.ShapeReason.{ShapeReason}
+use Rattle.tn_reason.specs.declared.spec_reasons.ShapeReason.TheVariants.{NoTuple, ElementCount, NoConditions, NoBody}
+use Rattle.tn_reason.specs.declared.spec_reasons.ClauseReason.{ClauseReason}
+use Rattle.tn_reason.specs.declared.spec_reasons.ClauseReason.TheVariants.{OfShape, OfHead, OfCondition, OfBody}
+use Rattle.tn_reason.specs.declared.spec_reasons.SpecReason.{SpecReason}
+use Rattle.tn_reason.specs.declared.spec_reasons.SpecReason.TheVariants.{NoClauses, AtClause}
 
 -- ---- reasons
 

@@ -6,8 +6,8 @@ use Rattle.tn_term.specs.Views.{trees_of}
 use Rattle.tn_spec.specs.Names.{position_seen, row_seen, row_of}
 use Rattle.tn_spec.specs.Views.{dialect_of}
 use Rattle.tn_spec.proofs.Tuples.{further_counted}
-use Rattle.tn_verdict.proofs.SpecReasons.{call_by_row, row_takes_so, row_takes_otherwise}
-use Rattle.tn_verdict.proofs.expression_reasons.call_reason.Goals as goal
+use Rattle.tn_reason.proofs.SpecReasons.{call_by_row, row_takes_so, row_takes_otherwise}
+use Rattle.tn_reason.proofs.expression_reasons.call_reason.Goals as goal
 
 pub returns-in_default : goal.returns-in_default
 returns-in_default g c =

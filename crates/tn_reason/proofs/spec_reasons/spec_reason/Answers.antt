@@ -1,8 +1,8 @@
 use Rattle.std.proofs.Common.{◌≡◌, IfOk, subst, arith}
 use Rattle.tn_spec.specs.Views.{dialect_of}
-use Rattle.tn_verdict.specs.SpecReasons.{spec_reasons_seen}
-use Rattle.tn_verdict.proofs.SpecReasons.{no_elements, some_elements}
-use Rattle.tn_verdict.proofs.spec_reasons.spec_reason.Goals as goal
+use Rattle.tn_reason.specs.SpecReasons.{spec_reasons_seen}
+use Rattle.tn_reason.proofs.SpecReasons.{no_elements, some_elements}
+use Rattle.tn_reason.proofs.spec_reasons.spec_reason.Goals as goal
 
 pub returns-then-len-eq0 : goal.returns-then-len-eq0
 returns-then-len-eq0 g c = let stored = c.in-List.terms.ok.0 in no_elements (dialect_of c.args.dialect) c.args.term.now c.in-List.terms c.in-List.is (omega arith)

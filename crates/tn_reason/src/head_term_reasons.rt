@@ -3,7 +3,7 @@ ghost use Rattle.std.specs.Prelude.{◌≡◌};
 ghost use Rattle.def_explain.specs.SpecReasons.{first_reason, atoms_in, atoms_in_each, wrong_variable};
 ghost use Rattle.def_explain.specs.SpecReasons.{head_term_reason};
 ghost use Rattle.tn_term.specs.Views.{tree_of, trees_of};
-ghost use Rattle.tn_verdict.specs.SpecReasons.{names_seen, head_term_reasons_seen};
+ghost use Rattle.tn_reason.specs.SpecReasons.{names_seen, head_term_reasons_seen};
 
 use std::alloc::Allocator;
 use tn_spec::{AtomKind, is_anything, kind_of};

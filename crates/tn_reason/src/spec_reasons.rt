@@ -3,9 +3,9 @@ ghost use Rattle.std.specs.Prelude.{◌≡◌, IfOk, Ok};
 ghost use Rattle.def_explain.specs.SpecReasons.{clause_reason, spec_reason};
 ghost use Rattle.tn_term.specs.Views.{tree_of};
 ghost use Rattle.tn_spec.specs.Views.{dialect_of, head_seen};
-ghost use Rattle.tn_verdict.specs.SpecReasons.{clause_reasons_seen, counted_reasons_seen, spec_reasons_seen};
-ghost use Rattle.tn_verdict.specs.SpecReasons.{part_reason_of, reason_after_head_of, parts_reason_of};
-ghost use Rattle.tn_verdict.specs.SpecReasons.{three_reason_of, fields_reason_of, clauses_reason_of};
+ghost use Rattle.tn_reason.specs.SpecReasons.{clause_reasons_seen, counted_reasons_seen, spec_reasons_seen};
+ghost use Rattle.tn_reason.specs.SpecReasons.{part_reason_of, reason_after_head_of, parts_reason_of};
+ghost use Rattle.tn_reason.specs.SpecReasons.{three_reason_of, fields_reason_of, clauses_reason_of};
 
 use crate::expression_reasons::{ExpressionReason, expression_reason};
 use crate::head_term_reasons::{HeadTermReason, head_term_reason};
