@@ -10,6 +10,7 @@ use Rattle.def_session.specs.State.{Phase, absent, live, destroyed, MarkKind, fo
 use Rattle.def_session.specs.Session.{inherit, effects_of, context, reported_for, reported_in}
 use Rattle.def_explain.specs.Causes.{Cause, no_mark, marked_for_returns, no_flag, no_setting, of_named_calls, switched_off, no_clause, silenced, message_false, cause_of}
 use Rattle.def_explain.specs.Verdicts.{Verdict, fails, fires, verdict_of}
+use Rattle.def_explain.specs.Limits.{limit_said}
 use Rattle.def_explain.specs.Accounts.{Line, said, tells, reported_in_lines, line_where, changed_text, flag_lines, inheritance_lines, lines_by, clause_lines, setting_lines, evaluation_lines, cause_lines, marked_lines, mark_lines, end_lines, message_lines, live_lines, difference_lines, node_lines, event_lines_in, differs, differs_uncounted}
 use Rattle.def_explain.specs.Differences.{Difference, clause_differences, event_difference, step_differences}
 use Rattle.def_explain.specs.Laws.{LinesTellTheMessage}
@@ -156,9 +157,11 @@ pub uncounted_say : (xs : List Difference) → reported_in_lines (map differs_un
 uncounted_say [] = refl
 uncounted_say (x ∷ xs) = uncounted_say xs
 
-steps-say : (xs : List Difference) (ls : List Line) → reported_in_lines (map differs_uncounted xs ++ ls) ≡ reported_in_lines ls
-steps-say [] ls = refl
-steps-say (x ∷ xs) ls = steps-say xs ls
+-- nor what is said of a limit before it
+steps-say : (ts : List (List ℕ)) (xs : List Difference) (ls : List Line) → reported_in_lines ((map said ts ++ map differs_uncounted xs) ++ ls) ≡ reported_in_lines ls
+steps-say [] [] ls = refl
+steps-say [] (x ∷ xs) ls = steps-say [] xs ls
+steps-say (t ∷ ts) xs ls = steps-say ts xs ls
 
 in-phase : (p : Phase) (s : Session) (l : Outlook) (e : Event) → reported_in_lines (event_lines_in p s l e) ≡ option_to_list (reported_in p s e).1
 in-phase absent s l e = refl
@@ -166,7 +169,7 @@ in-phase destroyed s l e = refl
 in-phase live s l e =
     let ls : List Line = live_lines (inherit s e) e in
     joined-reported (inheritance_lines s e ++ ls) (node_lines s l e)
-    ∙ ap (λ x. reported_in_lines (inheritance_lines s e ++ ls) ++ x) (steps-say (step_differences s l e) (difference_lines s e) ∙ differences-say (option_to_list (event_difference s e)))
+    ∙ ap (λ x. reported_in_lines (inheritance_lines s e ++ ls) ++ x) (steps-say (limit_said s l e) (step_differences s l e) (difference_lines s e) ∙ differences-say (option_to_list (event_difference s e)))
     ∙ append-nil (reported_in_lines (inheritance_lines s e ++ ls))
     ∙ joined-reported (inheritance_lines s e) ls
     ∙ ap (λ x. x ++ reported_in_lines ls) (inheritance-says s e)

@@ -15,6 +15,7 @@ use Rattle.def_explain.specs.Causes.{Cause, no_mark, marked_for_returns, no_flag
 use Rattle.def_explain.specs.Verdicts.{Verdict, fails, fires, verdict_of, outcome_after, outcome_by_verdicts}
 use Rattle.def_explain.specs.Differences.{Difference, clause_differences, differences_by, firing_differences, setting_differences, evaluation_differences, event_difference, step_differences}
 use Rattle.def_explain.specs.Accounts.{Line, said, tells, differs, differences_in_lines, line_where, changed_text, flag_lines, inheritance_lines, lines_by, clause_lines, setting_lines, evaluation_lines, cause_lines, marked_lines, mark_lines, end_lines, message_lines, live_lines, difference_lines, differs_uncounted, node_lines, event_lines_in}
+use Rattle.def_explain.specs.Limits.{limit_said}
 use Rattle.def_explain.specs.Laws.{LinesTellTheDifference}
 use Rattle.def_explain.proofs.ClauseVerdicts.{outcome_is_by_verdicts}
 use Rattle.def_explain.proofs.CauseOfEvents.{cause_where_nothing_told, cause_is_computed}
@@ -231,15 +232,16 @@ pub uncounted_none : (xs : List Difference) → differences_in_lines (map differ
 uncounted_none [] = refl
 uncounted_none (x ∷ xs) = uncounted_none xs
 
-steps-none : (xs : List Difference) (ls : List Line) → differences_in_lines (map differs_uncounted xs ++ ls) ≡ differences_in_lines ls
-steps-none [] ls = refl
-steps-none (x ∷ xs) ls = steps-none xs ls
+steps-none : (ts : List (List ℕ)) (xs : List Difference) (ls : List Line) → differences_in_lines ((map said ts ++ map differs_uncounted xs) ++ ls) ≡ differences_in_lines ls
+steps-none [] [] ls = refl
+steps-none [] (x ∷ xs) ls = steps-none [] xs ls
+steps-none (t ∷ ts) xs ls = steps-none ts xs ls
 
 pub lines_tell_the_difference : LinesTellTheDifference
 lines_tell_the_difference s l e phase =
     let ls : List Line = live_lines (inherit s e) e in
     ap (λ x. differences_in_lines (event_lines_in x s l e)) phase
     ∙ joined (inheritance_lines s e ++ ls) (node_lines s l e)
-    ∙ ap (λ x. differences_in_lines (inheritance_lines s e ++ ls) ++ x) (steps-none (step_differences s l e) (difference_lines s e) ∙ each (option_to_list (event_difference s e)))
+    ∙ ap (λ x. differences_in_lines (inheritance_lines s e ++ ls) ++ x) (steps-none (limit_said s l e) (step_differences s l e) (difference_lines s e) ∙ each (option_to_list (event_difference s e)))
     ∙ ap (λ x. x ++ option_to_list (event_difference s e))
     (joined (inheritance_lines s e) ls ∙ ap (λ x. x ++ differences_in_lines ls) (of-inheritance s e) ∙ of-live (inherit s e) e ∙ inherited s e)

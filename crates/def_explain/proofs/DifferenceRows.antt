@@ -6,7 +6,7 @@ use Rattle.def_spec.specs.Flags.{Flag, Flags, no_flags, only, union, with_flags_
 use Rattle.def_spec.specs.Expressions.{for_calls, for_sends, for_receives, Expr, constant, tuple_of, list_of, call, and_also, perform, message, Exprs, no_exprs, and_expr, Context, Effect, gives_message, traces_return, traces_exception, silences, changes}
 use Rattle.def_spec.specs.Functions as fn
 use Rattle.def_script.specs.Program.{error}
-use Rattle.def_outlook.specs.Outlook.{RuntimeError, passes_limit, sends_to_no_pid, links_to_no_pid, unlinks_from_no_pid, Outlook, nothing_ahead}
+use Rattle.def_outlook.specs.Outlook.{RuntimeError, calls_past_limit, sends_to_no_pid, links_to_no_pid, unlinks_from_no_pid, Outlook, nothing_ahead}
 use Rattle.def_session.specs.Settings.{off}
 use Rattle.def_node.specs.Event.{Event, received, returned, raised, spawned, exited, linked, getting_linked}
 use Rattle.def_session.specs.State.{for_returns, for_exceptions, live, new_session, alive_at_start, Session, MarkKind, with_flags, with_marks}
@@ -212,13 +212,13 @@ link_of_the_giver = refl
 abbrev ahead : RuntimeError → Option ℕ → Outlook
 ahead x depth = record { error = Some x; caught_at = depth; is_awaited = false }
 
-pub caught_error : step_differences (with_these (only procs_flag)) (ahead passes_limit (Some 2)) (exited 100 (word "system_limit")) ≡ catches_error ∷ adds_calls ∷ []
+pub caught_error : step_differences (with_these (only procs_flag)) (ahead calls_past_limit (Some 2)) (exited 100 (word "system_limit")) ≡ catches_error ∷ adds_calls ∷ []
 caught_error = refl
 
-pub error_without_catch : step_differences (with_these (only procs_flag)) (ahead passes_limit None) (exited 100 (word "system_limit")) ≡ adds_calls ∷ []
+pub error_without_catch : step_differences (with_these (only procs_flag)) (ahead calls_past_limit None) (exited 100 (word "system_limit")) ≡ adds_calls ∷ []
 error_without_catch = refl
 
-pub caught_error_without_flag : step_differences (with_these no_flags) (ahead passes_limit (Some 2)) (exited 100 (word "system_limit")) ≡ []
+pub caught_error_without_flag : step_differences (with_these no_flags) (ahead calls_past_limit (Some 2)) (exited 100 (word "system_limit")) ≡ []
 caught_error_without_flag = refl
 
 pub caught_signal : step_differences (with_these (only procs_flag)) (record nothing_ahead { caught_at = Some 2 }) (exited 100 (word "boom")) ≡ []

@@ -11,7 +11,7 @@ use Rattle.def_spec.specs.Flags.{Flag, send_flag, receive_flag, call_flag, procs
 use Rattle.def_spec.specs.Expressions.{Dialect, for_calls, for_sends, for_receives, Expr, bound_to, whole_list, all_bound, constant, tuple_of, list_of, call, and_also, or_else, perform, Exprs, no_exprs, and_expr, Effect, flags_by, flags_after}
 use Rattle.def_node.specs.Process.{FRAMES}
 use Rattle.def_node.specs.Event.{sent, received, called, returned, raised, spawning, spawned, exited, linked, unlinked, getting_linked, getting_unlinked}
-use Rattle.def_outlook.specs.Outlook.{RuntimeError, calls_nothing, passes_limit, sends_to_no_pid, links_to_no_pid, unlinks_from_no_pid, Outlook}
+use Rattle.def_outlook.specs.Outlook.{RuntimeError, calls_nothing, builds_past_limit, calls_past_limit, spawns_past_limit, sends_to_no_pid, links_to_no_pid, unlinks_from_no_pid, Outlook}
 use Rattle.def_session.specs.State.{MarkKind, for_returns, for_exceptions, Session, flags_at, mark_of}
 use Rattle.def_session.specs.Session.{effects_of, reported_for, mark_asked, is_marked, is_for_exceptions, is_marked_for_exceptions}
 use Rattle.def_session.specs.Messages.{last_message}
@@ -406,7 +406,7 @@ error_reason_is r h = first (same r (word "undef")) refl
     last false e k = inr (same-is r (word "noproc") k)
 
     second : (b : Bool) → same r (word "system_limit") ≡ b → (b || (same r (word "badarg") || same r (word "noproc"))) ≡ true → IsErrorReason r
-    second true e k = inl (passes_limit, same-is r (word "system_limit") e)
+    second true e k = inl (builds_past_limit, same-is r (word "system_limit") e)
     second false e k = last (same r (word "badarg")) refl k
 
     first : (b : Bool) → same r (word "undef") ≡ b → IsErrorReason r
@@ -415,7 +415,9 @@ error_reason_is r h = first (same r (word "undef")) refl
 
 error_reason_of : (r : Tree) → IsErrorReason r → is_error_reason r ≡ true
 error_reason_of r (inl (calls_nothing, e)) = ap is_error_reason e
-error_reason_of r (inl (passes_limit, e)) = ap is_error_reason e
+error_reason_of r (inl (builds_past_limit, e)) = ap is_error_reason e
+error_reason_of r (inl (calls_past_limit, e)) = ap is_error_reason e
+error_reason_of r (inl (spawns_past_limit, e)) = ap is_error_reason e
 error_reason_of r (inl (sends_to_no_pid, e)) = ap is_error_reason e
 error_reason_of r (inl (links_to_no_pid, e)) = ap is_error_reason e
 error_reason_of r (inl (unlinks_from_no_pid, e)) = ap is_error_reason e

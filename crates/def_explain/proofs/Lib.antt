@@ -30,3 +30,4 @@ pub mod Remarks
 mod RemarkRows
 pub mod EmptyScripts
 pub mod NearestFunctions
+mod Limits

@@ -19,6 +19,7 @@ use Rattle.def_explain.specs.Causes.{Cause, no_mark, marked_for_returns, no_flag
 use Rattle.def_explain.specs.Verdicts.{Verdict, fails, fires, verdict_of}
 use Rattle.def_explain.specs.Differences.{Difference, clause_differences, event_difference, step_differences}
 use Rattle.def_explain.specs.CommandDifferences.{command_difference}
+use Rattle.def_explain.specs.Limits.{limit_said}
 use Rattle.def_explain.specs.Texts.{said_of_each, effects_text, reason_text, clause_text}
 use Rattle.def_explain.specs.ReasonTexts.{mfa_text, reply_text}
 
@@ -152,9 +153,9 @@ live_lines s e = message_lines s e (cause_of s e) (reported_for s e (effects_of 
 abbrev pub difference_lines : Session → Event → List Line
 difference_lines s e = map differs (option_to_list (event_difference s e))
 
--- what it does otherwise by the step
+-- the limit that the step goes past, and what a node does otherwise by the step
 abbrev pub step_lines : Session → Outlook → Event → List Line
-step_lines s l e = map differs_uncounted (step_differences s l e)
+step_lines s l e = map said (limit_said s l e) ++ map differs_uncounted (step_differences s l e)
 
 -- both
 abbrev pub node_lines : Session → Outlook → Event → List Line

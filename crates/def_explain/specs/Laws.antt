@@ -1,6 +1,6 @@
 -- What is promised of reasons and causes (own).
 -- Depends on reasons, on causes, on which clause fires and on what a session makes of an event.
-use Rattle.std.specs.Prelude.{◌≡◌, ◌↔◌, ℕ, true, List, ◌++◌, option_to_list, Some, None}
+use Rattle.std.specs.Prelude.{◌≡◌, ◌↔◌, ℕ, true, List, [], ◌∷◌, ◌++◌, option_to_list, Some, None}
 use Rattle.std.specs.Option.{option_map}
 use Rattle.def_term.specs.Tree.{Tree, Trees, list, of_elements}
 use Rattle.def_spec.specs.Matching.{Pattern, Bindings, Matches}
@@ -19,7 +19,8 @@ use Rattle.def_explain.specs.Places.{StopsAtClause, stop_of}
 use Rattle.def_script.specs.Program.{Command}
 use Rattle.def_script.specs.Exports.{Exports}
 use Rattle.def_node.specs.Event.{Event}
-use Rattle.def_outlook.specs.Outlook.{Outlook}
+use Rattle.def_outlook.specs.Outlook.{RuntimeError, Outlook}
+use Rattle.def_explain.specs.Limits.{PassesLimit, limit_text, limit_said}
 use Rattle.def_session.specs.State.{live, Session}
 use Rattle.def_session.specs.Session.{effects_of, reported_for, event_reported}
 use Rattle.def_explain.specs.Reasons.{Reason, IsReason, reason_of}
@@ -105,6 +106,15 @@ StepDifferenceIsComputed = (s : Session) (l : Outlook) (e : Event) (x : Differen
 -- and by a command
 abbrev pub CommandDifferenceIsComputed : Type 0
 CommandDifferenceIsComputed = (o : Exports) (s : Session) (c : Command) (x : Difference) → (command_difference o s c ≡ Some x) ↔ CommandDiffers o s c x
+
+-- where a step goes past a limit, the limit is said
+abbrev pub LimitIsSaid : Type 0
+LimitIsSaid = (s : Session) (l : Outlook) (e : Event) (x : RuntimeError) → PassesLimit s l e x → limit_said s l e ≡ limit_text x ∷ []
+
+-- and what is said is the limit that it goes past
+abbrev pub OnlyLimitsAreSaid : Type 0
+OnlyLimitsAreSaid =
+    (s : Session) (l : Outlook) (e : Event) (t : List ℕ) (rest : List (List ℕ)) → limit_said s l e ≡ t ∷ rest → (x : RuntimeError) × PassesLimit s l e x × (t ≡ limit_text x)
 
 -- among the lines of an event there is each that a node does otherwise, as the event is evaluated and at its end, and nothing else of a node
 abbrev pub LinesTellTheDifference : Type 0

@@ -26,3 +26,4 @@ pub mod RemarkLaws
 pub mod CommandPlaces
 pub mod EmptyScripts
 pub mod NearestFunctions
+pub mod Limits

@@ -16,6 +16,7 @@ ghost use Rattle.def_explain.specs.Laws.{VerdictIsComputed, OutcomeIsByVerdicts}
 ghost use Rattle.def_explain.specs.Laws.{FunctionNameIsRead, ActionNameIsRead, StopIsComputed};
 ghost use Rattle.def_explain.specs.Laws.{HeadReasonWhereNotMatched, FaultWhereNoValue};
 ghost use Rattle.def_explain.specs.Laws.{LinesTellTheMessage, LinesTellTheDifference};
+ghost use Rattle.def_explain.specs.Laws.{LimitIsSaid, OnlyLimitsAreSaid};
 ghost use Rattle.def_explain.specs.Laws.{BodyDifferenceIsComputed, EventDifferenceIsComputed};
 ghost use Rattle.def_explain.specs.Laws.{OrderDifferenceIsComputed, StepDifferenceIsComputed};
 ghost use Rattle.def_explain.specs.Laws.{LogicDifferenceIsComputed, CommandDifferenceIsComputed};
@@ -124,6 +125,13 @@ pub fn a_refusal_has_a_reason()
     ensures fault { FaultHasReason }
     ensures zero { ZeroHasReason }
     ensures unchanged { RefusalChangesNothing }
+{}
+
+/// Where a step goes past a limit and ends a process of which the session reports the exits, the limit is said; and
+/// nothing is said of a limit elsewhere.
+pub fn a_limit_is_said_where_it_is_passed()
+    ensures said { LimitIsSaid }
+    ensures only { OnlyLimitsAreSaid }
 {}
 
 /// The function that was probably meant, where a function command matches none, is one of the script's with the module

@@ -1,1 +1,2 @@
 pub mod Outlooks
+mod Limits

@@ -10,7 +10,7 @@ use Rattle.def_script.specs.Program.{Step, send, receive, call_remote, call_loca
 use Rattle.def_node.specs.Event.{Event, raised}
 use Rattle.def_node.specs.Values.{instance_of, fits, fit, all_fit, fitting_all}
 use Rattle.def_node.specs.Process.{FRAMES, Process, Frame, Exception, Manner, Act, waits, continues, sends, links_to, unlinks_from, spawns, exits, with_frames, step_on, next_step, remotely, locally, catch_manner, exception_of, raised_in, left_by, kept_by, catch_target, raises_to, enters, enters_at, leaves_to, to_pid, receives, within, calls, spawns_at, performs, runs_in, runs, begins, act_after, act}
-use Rattle.def_outlook.specs.Outlook.{RuntimeError, passes_limit, sends_to_no_pid, links_to_no_pid, unlinks_from_no_pid, error_reason, error_past, error_without_pid, error_entering, error_entering_at, error_without_child, error_of_step, error_ahead, Upcoming, upcoming_in, upcoming_of, upcoming_first, upcoming_after, upcoming, runtime_error, has_no_message, waits_by, waits_with, is_waiting, addressee_by, addressee_of, addressee, catch_depth}
+use Rattle.def_outlook.specs.Outlook.{RuntimeError, builds_past_limit, calls_past_limit, sends_to_no_pid, links_to_no_pid, unlinks_from_no_pid, error_reason, error_past, error_without_pid, error_entering, error_entering_at, error_without_child, error_of_step, error_ahead, Upcoming, upcoming_in, upcoming_of, upcoming_first, upcoming_after, upcoming, runtime_error, has_no_message, waits_by, waits_with, is_waiting, addressee_by, addressee_of, addressee, catch_depth}
 use Rattle.def_outlook.specs.Laws.{ErrorEndsTheProcess, SuddenEndIsAnError, is_wait, WaitingIsOfTheAct, SendGoesToTheAddressee, CatchHasItsDepth, NoCatchNoDepth}
 
 -- some event
@@ -33,20 +33,20 @@ Agrees ls (Some x) w to a = (w ≡ false) × (a ≡ exits ls (error_reason x) []
 Agrees ls None w to a = Foresees w to a
 
 module _ (ls : List Bool) (w : Bool) (to : Option ℕ) where
-  over_limit : w ≡ false → Agrees ls (Some passes_limit) w to (exits ls (word "system_limit") [])
+  over_limit : w ≡ false → Agrees ls (Some builds_past_limit) w to (exits ls (word "system_limit") [])
   over_limit quiet = (quiet, refl)
 
   within_agrees : (t : Tree) (x : Option RuntimeError) (f : Tree → Act) → w ≡ false → Agrees ls x w to (f t) → Agrees ls (error_past (fits t) x) w to (within ls (fit t) f)
   within_agrees t x f quiet rest = go (fits t)
     where
-      go : (b : Bool) → Agrees ls (cond b x (Some passes_limit)) w to (within ls (cond b (Some t) None) f)
+      go : (b : Bool) → Agrees ls (cond b x (Some builds_past_limit)) w to (within ls (cond b (Some t) None) f)
       go true = rest
       go false = over_limit quiet
 
   all_within_agrees : (ts : List Tree) (x : Option RuntimeError) (f : List Tree → Act) → w ≡ false → Agrees ls x w to (f ts) → Agrees ls (error_past (all_fit ts) x) w to (within ls (fitting_all ts) f)
   all_within_agrees ts x f quiet rest = go (all_fit ts)
     where
-      go : (b : Bool) → Agrees ls (cond b x (Some passes_limit)) w to (within ls (cond b (Some ts) None) f)
+      go : (b : Bool) → Agrees ls (cond b x (Some builds_past_limit)) w to (within ls (cond b (Some ts) None) f)
       go true = rest
       go false = over_limit quiet
 
@@ -59,7 +59,7 @@ enters_at_agrees : (to : Option ℕ) (ks : List Function) (n : ℕ) (q : Process
 enters_at_agrees to ks n q fs a args i None = (refl, refl)
 enters_at_agrees to ks n q fs a args i (Some k) = go (nat_le FRAMES (length fs)) _ _
   where
-    go : (b : Bool) (r : Process) (es : List Event) → Agrees q.links (cond b (Some passes_limit) None) false to (cond b (exits q.links (word "system_limit") []) (continues r es))
+    go : (b : Bool) (r : Process) (es : List Event) → Agrees q.links (cond b (Some calls_past_limit) None) false to (cond b (exits q.links (word "system_limit") []) (continues r es))
     go true r es = (refl, refl)
     go false r es = refl
 

@@ -1,11 +1,12 @@
 -- What is promised of what is known of a process's next step before it is made (own).
 -- Depends on what a process does at its next step, and on what is known of it.
-use Rattle.std.specs.Prelude.{◌≡◌, ℕ, true, false, Bool, List, [], ◌∷◌, ◌++◌, length, Option, Some, None}
+use Rattle.std.specs.Bool.{⊤}
+use Rattle.std.specs.Prelude.{◌≡◌, ℕ, nat_le, true, false, Bool, List, [], ◌∷◌, ◌++◌, length, Option, Some, None}
 use Rattle.def_term.specs.Tree.{Tree}
 use Rattle.def_script.specs.Program.{Function}
-use Rattle.def_node.specs.Process.{Frame, Process, Act, waits, sends, exits, act}
+use Rattle.def_node.specs.Process.{FRAMES, Frame, Process, Act, waits, sends, exits, act}
 use Rattle.def_node.specs.Laws.{NoneByCatch}
-use Rattle.def_outlook.specs.Outlook.{RuntimeError, error_reason, runtime_error, is_waiting, addressee, catch_depth}
+use Rattle.def_outlook.specs.Outlook.{RuntimeError, calls_past_limit, spawns_past_limit, error_reason, runtime_error, is_waiting, addressee, catch_depth}
 
 -- where it is a run-time error, the process ends with the reason of the error, and the step has no other event
 abbrev pub ErrorEndsTheProcess : Type 0
@@ -17,6 +18,15 @@ abbrev pub SuddenEndIsAnError : Type 0
 SuddenEndIsAnError =
     (ks : List Function) (n : ℕ) (child : Option ℕ) (q : Process) (partners : List Bool) (r : Tree) → q.signal ≡ None → act ks n child q ≡ exits partners r [] →
     (x : RuntimeError) × (runtime_error ks child q ≡ Some x) × (r ≡ error_reason x)
+
+-- an error of a limit is of the limit that is passed: the process has as many frames as it may have, or no pid is left
+abbrev pub IsPastLimit : RuntimeError → (count : ℕ) → (child : Option ℕ) → Type 0
+IsPastLimit calls_past_limit count child = nat_le FRAMES count ≡ true
+IsPastLimit spawns_past_limit count child = child ≡ None
+IsPastLimit x count child = ⊤
+
+abbrev pub ErrorIsOfItsLimit : Type 0
+ErrorIsOfItsLimit = (ks : List Function) (child : Option ℕ) (q : Process) (x : RuntimeError) → runtime_error ks child q ≡ Some x → IsPastLimit x (length q.frames) child
 
 -- an act by which a process waits
 abbrev pub is_wait : Act → Bool

@@ -10,10 +10,13 @@ use Rattle.def_node.specs.Values.{Env, instance_of, fits, all_fit}
 use Rattle.def_node.specs.Process.{FRAMES, Frame, Process}
 use Rattle.def_node.specs.Node.{World, next_pid}
 
--- a call of no function; a step past a limit; a send, a link or an unlink of what is no pid
+-- a call of no function; a step that builds a term past the limits, a call past the greatest depth, a spawn past the last pid;
+-- a send, a link or an unlink of what is no pid
 pub data RuntimeError : Type 0 where
   calls_nothing : RuntimeError
-  passes_limit : RuntimeError
+  builds_past_limit : RuntimeError
+  calls_past_limit : RuntimeError
+  spawns_past_limit : RuntimeError
   sends_to_no_pid : RuntimeError
   links_to_no_pid : RuntimeError
   unlinks_from_no_pid : RuntimeError
@@ -21,14 +24,16 @@ pub data RuntimeError : Type 0 where
 -- the reason with which the process ends
 abbrev pub error_reason : RuntimeError → Tree
 error_reason calls_nothing = word "undef"
-error_reason passes_limit = word "system_limit"
+error_reason builds_past_limit = word "system_limit"
+error_reason calls_past_limit = word "system_limit"
+error_reason spawns_past_limit = word "system_limit"
 error_reason x = word "badarg"
 
 -- ---- the error of one step
 
 -- a built term that isn't within the limits; or what follows
 abbrev pub error_past : Bool → Option RuntimeError → Option RuntimeError
-error_past b rest = if b then rest else Some passes_limit
+error_past b rest = if b then rest else Some builds_past_limit
 
 -- a target that is no pid
 abbrev pub error_without_pid : RuntimeError → Option ℕ → Option RuntimeError
@@ -38,7 +43,7 @@ error_without_pid x None = Some x
 -- a call above so many frames
 abbrev pub error_entering_at : ℕ → Option Function → Option RuntimeError
 error_entering_at count None = Some calls_nothing
-error_entering_at count (Some k) = if nat_le FRAMES count then Some passes_limit else None
+error_entering_at count (Some k) = if nat_le FRAMES count then Some calls_past_limit else None
 
 -- by the number of the function
 abbrev pub error_entering : List Function → ℕ → Option ℕ → Option RuntimeError
@@ -51,7 +56,7 @@ error_calling ks count m g args = error_past (all_fit args) (error_entering ks c
 
 -- a spawn with no pid left
 abbrev pub error_without_child : Option ℕ → Option RuntimeError
-error_without_child None = Some passes_limit
+error_without_child None = Some spawns_past_limit
 error_without_child (Some child) = None
 
 -- a send

@@ -12,6 +12,7 @@ ghost use Rattle.tn_explain.specs.SessionLines.{Makes, MakesLive, ReportsLines};
 use crate::clauses::Evaluation;
 use crate::differences::end_difference;
 use crate::inheritance::both_of;
+use crate::limits::limit_at;
 use crate::line::{Lines, put_text};
 use crate::step_differences::StepDifferences;
 use std::alloc::{AllocError, Allocator};
@@ -79,6 +80,7 @@ impl<A: Allocator + Copy> Lines<'_, A> {
         };
         let at_end = end_difference(&look, event);
         let before = StepDifferences::of(&look, outlook, event);
+        let limit = limit_at(&look, outlook, event);
         let evaluation = self.put_before(&look, event, out)?;
         let mut behind = Vec::new(self.alloc);
         self.put_after(&look, event, evaluation, &mut behind)?;
@@ -86,6 +88,7 @@ impl<A: Allocator + Copy> Lines<'_, A> {
         let steps = before.after(outlook, event, message.is_some());
         self.put_reported(session, evaluation, event, &message, out)?;
         put_text(&behind, out)?;
+        self.put_limit(limit, out)?;
         self.put_step_differences(steps, out)?;
         self.put_event_difference(at_end, out)
     }

@@ -69,7 +69,9 @@ fn is_attempt_by<A: Allocator + Copy>(
         Some(RuntimeError::LinksToNoPid) => look.flags_at(pid).procs,
         Some(RuntimeError::UnlinksFromNoPid) => look.flags_at(pid).procs,
         Some(RuntimeError::CallsNothing) => false,
-        Some(RuntimeError::PassesLimit) => false,
+        Some(RuntimeError::BuildsPastLimit) => false,
+        Some(RuntimeError::CallsPastLimit) => false,
+        Some(RuntimeError::SpawnsPastLimit) => false,
         None => false,
     }
 }

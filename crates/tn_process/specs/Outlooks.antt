@@ -11,7 +11,7 @@ use Rattle.tn_script.specs.declared.form.Arguments.{Arguments}
 use Rattle.tn_script.specs.declared.form.Function.{Function}
 use Rattle.tn_script.specs.declared.form.Step.{Step}
 use Rattle.tn_process.specs.declared.outlook.RuntimeError as code
-use Rattle.tn_process.specs.declared.outlook.RuntimeError.TheVariants.{CallsNothing, PassesLimit, SendsToNoPid, LinksToNoPid, UnlinksFromNoPid}
+use Rattle.tn_process.specs.declared.outlook.RuntimeError.TheVariants.{CallsNothing, BuildsPastLimit, CallsPastLimit, SpawnsPastLimit, SendsToNoPid, LinksToNoPid, UnlinksFromNoPid}
 use Rattle.tn_process.specs.declared.outlook.Upcoming as next
 use Rattle.tn_process.specs.declared.outlook.Upcoming.TheVariants as variants
 use Rattle.tn_process.specs.declared.process.Frame.{Frame}
@@ -20,7 +20,9 @@ use Rattle.tn_process.specs.Views.{env_of, frame_of}
 
 abbrev pub error_seen : code.RuntimeError → outlook.RuntimeError
 error_seen CallsNothing = outlook.calls_nothing
-error_seen PassesLimit = outlook.passes_limit
+error_seen BuildsPastLimit = outlook.builds_past_limit
+error_seen CallsPastLimit = outlook.calls_past_limit
+error_seen SpawnsPastLimit = outlook.spawns_past_limit
 error_seen SendsToNoPid = outlook.sends_to_no_pid
 error_seen LinksToNoPid = outlook.links_to_no_pid
 error_seen UnlinksFromNoPid = outlook.unlinks_from_no_pid

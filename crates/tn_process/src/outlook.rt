@@ -24,8 +24,12 @@ use tn_term::Term;
 pub enum RuntimeError {
     /// A call of a function that isn't there: `undef`.
     CallsNothing,
-    /// A step past a limit: `system_limit`.
-    PassesLimit,
+    /// A step that builds a term past the limits: `system_limit`.
+    BuildsPastLimit,
+    /// A call past the greatest depth: `system_limit`.
+    CallsPastLimit,
+    /// A spawn past the last pid: `system_limit`.
+    SpawnsPastLimit,
     /// A send to what is no pid: `badarg`.
     SendsToNoPid,
     /// A link to what is no pid: `badarg`.
@@ -58,7 +62,7 @@ fn error_past(fits: bool, rest: Option<RuntimeError>) -> Option<RuntimeError>
     if fits {
         rest
     } else {
-        Some(RuntimeError::PassesLimit)
+        Some(RuntimeError::BuildsPastLimit)
     }
 }
 
@@ -78,7 +82,7 @@ fn error_without_child(child: Option<u32>) -> Option<RuntimeError>
 {
     match child {
         Some(_) => None,
-        None => Some(RuntimeError::PassesLimit),
+        None => Some(RuntimeError::SpawnsPastLimit),
     }
 }
 
@@ -97,7 +101,7 @@ fn error_entering<A: Allocator>(
         None => Some(RuntimeError::CallsNothing),
         Some(_) => {
             if count >= FRAMES {
-                Some(RuntimeError::PassesLimit)
+                Some(RuntimeError::CallsPastLimit)
             } else {
                 None
             }

@@ -1,5 +1,6 @@
 use Rattle.def_outlook.proofs.Outlooks.{error_ends_the_process, sudden_end_is_an_error, waiting_is_of_the_act, send_goes_to_the_addressee, catch_has_its_depth, no_catch_no_depth}
+use Rattle.def_outlook.proofs.Limits.{error_is_of_its_limit}
 use Rattle.def_outlook.proofs.an_outlook_is_of_the_next_step.Goals as goal
 
 pub returns : goal.returns
-returns c = record { error = error_ends_the_process; sudden = sudden_end_is_an_error; waits = waiting_is_of_the_act; send = send_goes_to_the_addressee; caught = catch_has_its_depth; uncaught = no_catch_no_depth }
+returns c = record { error = error_ends_the_process; sudden = sudden_end_is_an_error; limit = error_is_of_its_limit; waits = waiting_is_of_the_act; send = send_goes_to_the_addressee; caught = catch_has_its_depth; uncaught = no_catch_no_depth }

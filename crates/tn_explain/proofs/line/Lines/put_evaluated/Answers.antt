@@ -1,7 +1,8 @@
 use Rattle.std.proofs.Common.{◌∙◌, ◌++◌, [], map, Option, option_to_list, is_some, ap, sym, subst}
 use Rattle.std.specs.Option.{option_map}
-use Rattle.def_explain.specs.Accounts.{differs, differs_uncounted, step_lines, difference_lines}
-use Rattle.def_explain.specs.Differences.{event_difference}
+use Rattle.def_explain.specs.Accounts.{said, differs, differs_uncounted, step_lines, difference_lines}
+use Rattle.def_explain.specs.Differences.{event_difference, step_differences}
+use Rattle.def_explain.specs.Limits.{limit_said}
 use Rattle.def_term.specs.Tree.{Tree}
 use Rattle.tn_flags.specs.Views.{event_of}
 use Rattle.tn_node.specs.Outlooks.{outlook_seen}
@@ -40,9 +41,11 @@ returns-clause-ok g c =
     (there _ (record s { state = past }) _ (state s e n (value_in c.tell.new.self) m gives) c.in_ok-put_reported.ensures.ok)
     (c.in_ok-put_text.ensures.ok ∙ ap (λ x. c.put_reported.new.out.items ++ x) c.deref.ensures.value)
     (more n (step_lines s.state l e) (difference_lines s.state e) _ c.put_step_differences.new.out.items _
-    (other n _ (step_lines s.state l e) _ _ (ap (map differs_uncounted) (all_known s.state l e c.is_some.result c.of-before.result c.after-steps.result phase counted before c.after-steps.ensures)) c.in_ok-put_step_differences.ensures.ok)
+    (more n (map said (limit_said s.state l e)) (map differs_uncounted (step_differences s.state l e)) _ c.put_limit.new.out.items _
+    (other n _ (map said (limit_said s.state l e)) _ _ (ap (map said) (c.limit_at-limit.ensures ∙ ap (λ x. limit_said x l e) same)) c.in_ok-put_limit.ensures.ok)
+    (other n _ (map differs_uncounted (step_differences s.state l e)) _ _ (ap (map differs_uncounted) (all_known s.state l e c.is_some.result c.of-before.result c.after-steps.result phase counted before c.after-steps.ensures)) c.in_ok-put_step_differences.ensures.ok))
     (other n _ (difference_lines s.state e) _ _ (ap (λ x. map differs (option_to_list x)) (c.end_difference-at_end.ensures none ∙ ap (λ x. event_difference x e) same)) made))))
     c.put_event_difference.ensures.ok
 
 pub returns-clause-grows : goal.returns-clause-grows
-returns-clause-grows g c = grows_on (grows_on (grows_on (grows_on c.put_before.ensures.grows c.put_reported.ensures.grows) c.put_text.ensures.grows) c.put_step_differences.ensures.grows) c.put_event_difference.ensures.grows
+returns-clause-grows g c = grows_on (grows_on (grows_on (grows_on (grows_on c.put_before.ensures.grows c.put_reported.ensures.grows) c.put_text.ensures.grows) c.put_limit.ensures.grows) c.put_step_differences.ensures.grows) c.put_event_difference.ensures.grows
