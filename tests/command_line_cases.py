@@ -5,7 +5,7 @@ import subprocess
 import tempfile
 
 from harness import EMPTY, EXAMPLES, NO_FORMS, PROGRAM, SEND_HI, SEND_HI_OUTPUT, SEND_HI_PICKS, START, TEXT_BYTES, TOP
-from harness import check, run, wants
+from harness import check, note_of_nobody, run, wants
 from inventories import said_version
 
 
@@ -174,7 +174,7 @@ def command_lines():
     bad_picks = b"refused 20 bad picks\n"
     for text in ("-1", "--help", "0 00", "0  0", " 0", "4294967296", "x"):
         wants(f"picks {text!r}", run(["replay", "--picks", text], SEND_HI), 2, bad_picks)
-    wants("the greatest pick", run(["replay", "--picks", "4294967295"]), 0, EMPTY, NO_FORMS)
+    wants("the greatest pick", run(["replay", "--picks", "4294967295"]), 0, EMPTY, NO_FORMS + note_of_nobody(1, 4294967295))
     texts = b"<--picks <TEXT>|--picks-file <FILE>|--moves <TEXT>|--moves-file <FILE>"
     for command, either in (("replay", texts + b">"), ("explain", texts + b"|--round>"), ("draw", texts + b">")):
         ran = run([command])
@@ -185,6 +185,7 @@ def command_lines():
     spellings_of_sessions()
     quiet_runs()
     expectations()
+    picks_of_nobody()
 
 
 def control_characters():
@@ -247,6 +248,25 @@ def quiet_runs():
     check("a quiet run by workers", ran.returncode == 0 and ran.stdout.startswith(b"== session s1") and not ran.stderr, ran)
 
 
+# Picks, and the place and the value of the first of them that names nobody.
+NOBODY = (("0 99 100", 2, 99), ("1", 1, 1), ("0 100 164 7", 3, 164), ("4294967295", 1, 4294967295))
+
+
+def picks_of_nobody():
+    """The first pick that no process can have is noted; the output is that without it, and a pick of a later process has no note."""
+    for picks, place, value in NOBODY:
+        ran = run(["replay", "--picks", picks], SEND_HI)
+        good = (ran.returncode, ran.stderr) == (0, note_of_nobody(place, value))
+        check(f"the note on {picks}", good, ran)
+        quiet = run(["replay", "--picks", picks, "--quiet"], SEND_HI)
+        check(f"no note on {picks} where quiet", (quiet.stdout, quiet.stderr) == (ran.stdout, b""), quiet)
+        moving = " ".join(pick for pick in picks.split() if pick in ("0", "100"))
+        check(f"the output of {picks}", run(["replay", "--picks", moving], SEND_HI).stdout == ran.stdout, ran)
+    for picks in ("", "0 100 163 0 101", "163 100"):
+        ran = run(["replay", "--picks", picks], SEND_HI)
+        check(f"no note on {picks}", ran.returncode == 0 and not ran.stderr, ran)
+
+
 def expectations():
     """Outputs that are what is expected and outputs that aren't, by each option and each command, with the reasons."""
     one_worker = ["workers", "--n", "1", "--quiet"]
@@ -288,7 +308,7 @@ def expectations():
                     b"expected the end of the output\nfound line %d: %s\n" % (number, last),
                 ),
                 "no last line feed": (output[:-1], b"line %d differs in the line feed at its end\n" % number),
-                "no text": (b"", f"expected the end of the output\nfound line 1: {first}\n".encode()),
+                "no text": (b"", b"expected the end of the output\n" + found_lines(output)),
             }
             for kind, (text, told) in texts.items():
                 other.write_bytes(text)
@@ -313,6 +333,11 @@ def expectations():
     check("a trial with an expectation", ran.returncode == 2 and not ran.stdout, ran)
 
 
+def found_lines(output):
+    """What is said of each line of an output of which no line is expected."""
+    return b"".join(b"found line %d: %s\n" % (number, line) for number, line in enumerate(output.splitlines(), 1))
+
+
 # The text of a file that is expected, and the whole standard error of a run whose output differs from it; worked out by
 # hand from the seven lines of the run `send-hi`.
 DIFFERENCES = (
@@ -328,6 +353,8 @@ DIFFERENCES = (
 """,
         """expected line 2: {trace,<0.100.0>,send,{hi,2},<0.101.0>}
 found line 2: {trace,<0.100.0>,send,{hi,1},<0.101.0>}
+expected line 4: {session,s2}
+found line 4: {session,s1}
 """,
     ),
     (
@@ -339,8 +366,40 @@ found line 2: {trace,<0.100.0>,send,{hi,1},<0.101.0>}
 == journal
 0 0 100 100
 """,
-        """expected line 4: 2
+        """expected no line here
 found line 4: {session,s1}
+""",
+    ),
+    (
+        "a line more in the middle",
+        """== session s1 tracer t1
+{trace,<0.100.0>,send,{hi,1},<0.101.0>}
+{trace,<0.100.0>,exit,normal}
+== replies
+{session,s1}
+2
+== journal
+0 0 100 100
+""",
+        """expected line 3: {trace,<0.100.0>,exit,normal}
+found no line here
+""",
+    ),
+    (
+        "two lines for one",
+        """== session s1 tracer t1
+{trace,<0.100.0>,send,{hi,1},<0.101.0>}
+== replies
+{session,s1}
+1
+0
+== journal
+0 0 100 100
+""",
+        """expected line 5: 1
+found line 5: 2
+expected line 6: 0
+found no line here
 """,
     ),
     (
@@ -350,6 +409,10 @@ found line 4: {session,s1}
 """,
         """expected the end of the output
 found line 3: == replies
+found line 4: {session,s1}
+found line 5: 2
+found line 6: == journal
+found line 7: 0 0 100 100
 """,
     ),
     (
@@ -384,7 +447,7 @@ found line 2: {trace,<0.100.0>,send,{hi,1},<0.101.0>}
 
 
 def written_differences():
-    """The whole standard error of a run whose output differs from a file: the first line that differs, in both texts."""
+    """The whole standard error of a run whose output differs from a file: each line that differs, in both texts."""
     with tempfile.NamedTemporaryFile() as file:
         for kind, expected, told in DIFFERENCES:
             pathlib.Path(file.name).write_text(expected)

@@ -49,6 +49,12 @@ def run(args, script=b"", command=(str(PROGRAM),), **how):
     return subprocess.CompletedProcess(process.args, process.returncode, output, errors)
 
 
+def note_of_nobody(place, pick):
+    """The line of a pick that no process can have."""
+    told = f"note: pick {place} is {pick}, and no process has that pid: pids are 100 to 163, and 0 takes the next command\n"
+    return told.encode()
+
+
 def wants(name, ran, status, output, errors=None):
     """Holds a run against its status, its output and its whole standard error.
 

@@ -49,10 +49,15 @@ SUBJECTS = {
         text_cases.numbers,
         text_cases.numbers_in_terms,
     ),
-    "explanation": (explanation_cases.explanations, explanation_cases.differences),
+    "explanation": (explanation_cases.explanations, explanation_cases.limits, explanation_cases.differences),
     "picture": (picture_cases.pictures, picture_cases.drawings, picture_cases.life_lines),
     "mistake": (mistake_cases.mistakes,),
-    "specification": (specification_cases.trials, specification_cases.functions, specification_cases.specifications),
+    "specification": (
+        specification_cases.trials,
+        specification_cases.notes,
+        specification_cases.functions,
+        specification_cases.specifications,
+    ),
     "format": (format_cases.formats,),
     "command_line": (
         command_line_cases.tries,

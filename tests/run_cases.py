@@ -3,7 +3,7 @@ import shlex
 import tempfile
 
 import layers
-from harness import EMPTY, EXAMPLES, NO_FORMS, PLAIN, PROBE, ROWS, SEND_HI, check, run, wants
+from harness import EMPTY, EXAMPLES, NO_FORMS, PLAIN, PROBE, ROWS, SEND_HI, check, note_of_nobody, run, wants
 
 
 # The worked runs of which a running node does some moves otherwise: how many, and how many moves there are. `badarg`
@@ -99,7 +99,7 @@ def full_journals():
         file.write(journal + b" 100 999 0")
         file.flush()
         ran = run(["replay", "--picks-file", file.name], CALLS.encode())
-        wants("picks behind a full journal", ran, 0, output)
+        wants("picks after a full journal", ran, 0, output, note_of_nobody(65538, 999))
         file.seek(0)
         file.truncate()
         file.write(" ".join(picks).encode())

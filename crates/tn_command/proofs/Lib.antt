@@ -1,3 +1,6 @@
 mod NumberLemmas
 mod StatusLemmas
 mod FormatLemmas
+mod SpecNotes
+mod SpecNoteRows
+mod SpecNoteTerms

@@ -8,3 +8,6 @@ pub mod Sources
 pub mod Status
 pub mod SpecTests
 pub mod PlainTexts
+pub mod PickNotes
+pub mod SpecNotes
+pub mod SpecNoteViews

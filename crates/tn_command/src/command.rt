@@ -6,7 +6,7 @@ ghost use Rattle.tn_command.specs.Flaws.{IsFlawAsSpelled, IsFlawBy, IsFlawByMove
 
 use crate::moves_line::tell_moves;
 use crate::plain_text::{escape_controls, plain_name};
-use crate::remarks::{tell_empty_script, tell_remarks, tell_schedule_remarks};
+use crate::remarks::{tell_empty_script, tell_remarks, tell_schedule_picks, tell_schedule_remarks};
 use crate::stderr::{NamedText, tell_note, tell_refusal};
 use std::alloc::Global;
 use tn_explain::{
@@ -137,6 +137,7 @@ impl Command for RunAndNote<'_> {
             RunEnd::Listed(_) if self.quiet => {}
             RunEnd::Listed(notes) => {
                 tell_empty_script(rt, script);
+                tell_schedule_picks(rt, self.schedule);
                 if notes.has_remarks {
                     tell_schedule_remarks(rt, script, self.schedule);
                 }

@@ -12,7 +12,8 @@
 //! that a running node is known to do otherwise: at how many of its moves; and each of its commands that is refused
 //! or matches no function. Names are printed without control characters, which `escape_controls` replaces. Promises of
 //! a strict command line that the status is 1 where it would be 0 and a command is refused or matches no function, or
-//! the script has no forms; and 3 where there was no memory to say so.
+//! the script has no forms; and 3 where there was no memory to say so. Promises of the notes on the trial of a
+//! specification that they are the defined lines.
 #![tactic(auto)]
 
 mod command;
@@ -23,13 +24,16 @@ mod in_format;
 mod jobs;
 mod judgement;
 mod last_error;
+mod lists_as_calls;
 mod moves_line;
 mod number;
+mod pick_notes;
 mod picks;
 mod plain_text;
 mod remarks;
 mod source;
 mod spec_format;
+mod spec_notes;
 mod spec_test;
 mod start;
 mod status;
@@ -45,11 +49,13 @@ pub use expectation_file::output_of;
 pub use in_format::InFormat;
 pub use jobs::{perform, perform_over};
 pub use last_error::LastError;
+pub use lists_as_calls::the_list_as_call_is_the_first;
 pub use number::plain_number;
 pub use picks::{picks_of, picks_over};
 pub use plain_text::escape_controls;
 pub use source::{Source, source_of};
 pub use spec_format::test_spec_in_format_over;
+pub use spec_notes::a_list_of_another_length_is_none_of_the_dialect;
 pub use spec_test::{SpecTestRunFault, test_spec, test_spec_over};
 pub use start::Start;
 pub use status::{FAULT, JobEnd, REFUSED, UNMET, report};

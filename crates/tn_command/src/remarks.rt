@@ -1,13 +1,16 @@
-// What is remarked of a run on standard error.
+// What is remarked of a run, or of the test of a match specification, on standard error.
+use crate::pick_notes::tell_pick_of_nobody;
+use crate::spec_notes::spec_note_lines;
 use crate::stderr::NamedText;
 use std::alloc::Global;
 use tn_explain::{has_no_forms, remark_lines, round_remark_lines};
 use tn_listing::read_picks;
-use tn_run::{Denial, Schedule};
+use tn_run::Schedule;
+use tn_verdict::SpecTestInput;
 
 /// Prints lines, where there was memory for them.
-fn print_lines<R: Eprint>(rt: &R, lines: Result<Vec<u8>, Denial>) {
-    let Ok(lines) = lines else {
+fn print_lines<R: Eprint>(rt: &R, lines: Option<Vec<u8>>) {
+    let Some(lines) = lines else {
         return;
     };
     if let Ok(text) = str::from_utf8(&lines) {
@@ -28,7 +31,7 @@ pub(crate) fn tell_empty_script<R: Eprint>(rt: &R, script: NamedText<'_>) {
 pub(crate) fn tell_remarks<R: Eprint + AllocGlobal>(rt: &R, script: NamedText<'_>, picks: &[u32]) {
     print_lines(
         rt,
-        remark_lines::<Global>(rt.alloc(), script.name, script.bytes, picks),
+        remark_lines::<Global>(rt.alloc(), script.name, script.bytes, picks).ok(),
     );
 }
 
@@ -46,7 +49,25 @@ pub(crate) fn tell_schedule_remarks<R: Eprint + AllocGlobal>(
         }
         Schedule::Round(limit) => print_lines(
             rt,
-            round_remark_lines::<Global>(rt.alloc(), script.name, script.bytes, limit),
+            round_remark_lines::<Global>(rt.alloc(), script.name, script.bytes, limit).ok(),
         ),
     }
+}
+
+/// Says of the first pick of a schedule that names nobody that it does, where there is one.
+pub(crate) fn tell_schedule_picks<R: Eprint + AllocGlobal>(rt: &R, schedule: Schedule<'_>) {
+    if let Schedule::Picks(text) = schedule {
+        if let Ok(picks) = read_picks::<Global>(rt.alloc(), text) {
+            tell_pick_of_nobody(rt, &picks);
+        }
+    }
+}
+
+/// Says of a question that has an answer which list was probably meant as a call, and that its list has another length
+/// than that of its event.
+pub(crate) fn tell_spec_notes<R: Eprint + AllocGlobal>(rt: &R, question: &SpecTestInput<'_>) {
+    print_lines(
+        rt,
+        spec_note_lines::<Global>(rt.alloc(), question.dialect, question.list, question.spec).ok(),
+    );
 }

@@ -5,6 +5,7 @@ ghost use Rattle.tn_command.specs.Status.{IsStatus, OnFaultUntouchedOrFailed};
 ghost use Rattle.tn_command.specs.SpecTests.{HasAnswerIfListed, MeetsSpecTest, TriedAs, spec_test_status_of};
 
 use crate::last_error::LastError;
+use crate::remarks::tell_spec_notes;
 use crate::spec_format::test_spec_by;
 use crate::status::{FAULT, JobEnd, REFUSED};
 use crate::stderr::tell_fault;
@@ -132,7 +133,7 @@ fn tell_question<A: Allocator + Copy>(
     }
 }
 
-/// Answers the question on standard output, in a format where one is given.
+/// Answers the question on standard output, in a format where one is given, and then says its notes on standard error.
 pub fn test_spec<R: Print + Eprint + AllocGlobal>(
     rt: &R,
     question: &SpecTestInput<'_>,
@@ -145,7 +146,7 @@ pub fn test_spec<R: Print + Eprint + AllocGlobal>(
     let JobEnd { status, answer } = test_spec_by(rt.alloc(), &mut writer, question, format);
     let (_, reason) = writer.into_inner().into_parts();
     match answer {
-        Ok(()) => {}
+        Ok(()) => tell_spec_notes(rt, question),
         Err(SpecTestRunFault::SpecTestInput(fault)) => tell_question(
             rt,
             rt.alloc(),
