@@ -22,7 +22,7 @@ IRREGULAR = set(
 
 # Words that look like participles, and the names that the manual gives to parts of the public surface.
 NOUNS = {
-    "binding", "listing", "matching", "nothing", "reading", "setting", "shared", "spelling", "string", "thing", "upcoming",
+    "binding", "listing", "matching", "nothing", "reading", "setting", "spelling", "string", "thing", "upcoming",
 }
 SURFACE = {"closed", "created", "failed", "made", "moved", "seen", "split", "spread", "watched"}
 

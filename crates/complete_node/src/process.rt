@@ -2,7 +2,7 @@
 ghost use Rattle.std.specs.Prelude.{◌≡◌, ◌≤◌, IfOk};
 ghost use Rattle.std.specs.Option.{option_map};
 ghost use Rattle.tn_term.specs.Views.{tree_of};
-ghost use Rattle.tn_term.specs.Shared.{shared_tree};
+ghost use Rattle.tn_term.specs.SharedTree.{shared_tree};
 ghost use Rattle.tn_script.specs.Views.{entry_of, functions_of};
 ghost use Rattle.tn_process.specs.Outlooks.{error_seen};
 ghost use Rattle.tn_process.specs.Views.{process_seen, act_of};

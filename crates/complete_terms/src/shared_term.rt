@@ -3,7 +3,7 @@ ghost use Rattle.std.specs.Prelude.{◌≡◌, IfOk, min};
 ghost use Rattle.std.below.core.specs.declared.int.u64.TheConstants.{MAX};
 ghost use Rattle.def_term.specs.Tree.{depth as nesting, size as extent};
 ghost use Rattle.tn_term.specs.Views.{tree_of};
-ghost use Rattle.tn_term.specs.Shared.{shared_tree};
+ghost use Rattle.tn_term.specs.SharedTree.{shared_tree};
 
 use std::alloc::{AllocError, Allocator};
 use tn_term::{SharedTerm, Term};

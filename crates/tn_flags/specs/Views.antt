@@ -2,7 +2,7 @@
 use Rattle.std.specs.Prelude.{map, replicate}
 use Rattle.std.specs.Option.{option_map}
 use Rattle.tn_term.specs.Views.{tree_of, mfa_seen}
-use Rattle.tn_term.specs.Shared.{shared_tree}
+use Rattle.tn_term.specs.SharedTree.{shared_tree}
 use Rattle.def_script.specs.Program as program
 use Rattle.def_node.specs.Event as event
 use Rattle.tn_flags.specs.declared.class.Class.{Class}

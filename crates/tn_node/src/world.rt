@@ -18,7 +18,7 @@ pub struct World<A: Allocator> {
 impl<A: Allocator + Copy> World<A> {
     ghost use Rattle.std.specs.Prelude.{◌≡◌, ℕ, ◌+◌, ◌<◌, IfOk, IfSome, IsTrue, map, Some, slice_get};
     ghost use Rattle.tn_term.specs.Views.{tree_of};
-    ghost use Rattle.tn_term.specs.Shared.{shared_tree};
+    ghost use Rattle.tn_term.specs.SharedTree.{shared_tree};
     ghost use Rattle.tn_script.specs.Views.{entry_of, functions_of};
     ghost use Rattle.def_node.specs.Process as process;
     ghost use Rattle.def_node.specs.Node.{opening_world, place_of_pid, next_pid, with_message, with_link, with_signal};

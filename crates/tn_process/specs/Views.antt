@@ -5,7 +5,7 @@ use Rattle.std.specs.declared.vec.Vec.{Vec}
 use Rattle.def_term.specs.Tree.{Tree}
 use Rattle.def_term.specs.Names.{Name}
 use Rattle.tn_term.specs.Views.{tree_of}
-use Rattle.tn_term.specs.Shared.{shared_tree}
+use Rattle.tn_term.specs.SharedTree.{shared_tree}
 use Rattle.tn_flags.specs.Views.{class_of, event_of}
 use Rattle.tn_flags.specs.declared.event.Event as code
 use Rattle.tn_script.specs.Views.{entry_of}

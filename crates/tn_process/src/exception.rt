@@ -4,7 +4,7 @@ ghost use Rattle.std.specs.List.{list_any};
 ghost use Rattle.def_term.specs.Tree.{tuple, of_elements};
 ghost use Rattle.def_node.specs.Process.{exit_reason, caught_as, catch_target};
 ghost use Rattle.tn_term.specs.Views.{tree_of};
-ghost use Rattle.tn_term.specs.Shared.{shared_tree};
+ghost use Rattle.tn_term.specs.SharedTree.{shared_tree};
 ghost use Rattle.tn_flags.specs.Views.{class_of};
 ghost use Rattle.tn_process.specs.Views.{events_of, exception_view, process_seen};
 ghost use Rattle.tn_process.specs.StepAnswers.{Does};

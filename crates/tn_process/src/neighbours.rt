@@ -1,7 +1,7 @@
 // What the steps of the node do to a process beside its own.
 ghost use Rattle.std.specs.Prelude.{◌≡◌, ◌≤◌, IfOk, IsTrue};
 ghost use Rattle.tn_term.specs.Views.{tree_of};
-ghost use Rattle.tn_term.specs.Shared.{shared_tree};
+ghost use Rattle.tn_term.specs.SharedTree.{shared_tree};
 ghost use Rattle.tn_script.specs.Views.{entry_of};
 ghost use Rattle.def_node.specs.Node.{fresh, is_linked, with_link, with_message, with_signal, part};
 ghost use Rattle.tn_process.specs.Views.{process_seen};

@@ -4,7 +4,7 @@ ghost use Rattle.std.specs.Option.{option_map};
 ghost use Rattle.def_term.specs.Tree.{atom, pid_in};
 ghost use Rattle.def_term.specs.Atoms.{IsAtomText};
 ghost use Rattle.tn_term.specs.Views.{tree_of, mfa_seen};
-ghost use Rattle.tn_term.specs.Shared.{shared_tree};
+ghost use Rattle.tn_term.specs.SharedTree.{shared_tree};
 ghost use Rattle.tn_flags.specs.Views.{event_of, call_seen};
 ghost use Rattle.tn_script.specs.Views.{step_of, functions_of};
 ghost use Rattle.def_node.specs.Values.{fit};

@@ -30,7 +30,7 @@ pub struct Elements<A: Allocator> {
 impl<A: Allocator + Copy> Value<A> {
     ghost use Rattle.std.specs.Prelude.{◌≤◌, ℕ, IfOk};
     ghost use Rattle.def_term.specs.Tree.{Trees, tuple, list};
-    ghost use Rattle.tn_term.specs.Shared.{shared_tree};
+    ghost use Rattle.tn_term.specs.SharedTree.{shared_tree};
     ghost use Rattle.tn_process.specs.Templates.{IsBuiltIn, AreBuiltIn};
 
     /// A term that is neither a tuple nor a list.

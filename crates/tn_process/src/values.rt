@@ -6,7 +6,7 @@ ghost use Rattle.std.specs.Str.{bytes_eq};
 ghost use Rattle.def_term.specs.Tree as Tree;
 ghost use Rattle.def_term.specs.Tree.{depth as nesting, greatest_depth, size as extent, sum_of_sizes, pid_in};
 ghost use Rattle.tn_term.specs.Views.{tree_of, trees_of};
-ghost use Rattle.tn_term.specs.Shared.{shared_tree};
+ghost use Rattle.tn_term.specs.SharedTree.{shared_tree};
 ghost use Rattle.def_node.specs.Values.{binding_of, value_of, rebound, instance_of, all_built, fits, all_fit, fit};
 ghost use Rattle.def_node.specs.Values.{fitting_all, params_bound};
 ghost use Rattle.tn_script.specs.Views.{args_of};

@@ -1,9 +1,10 @@
-//! Terms: integers, atoms, pids, tuples and lists, in any allocator; their order, depth and size; the
-//! names of functions; the set of living pids.
+//! Terms: integers, atoms, pids, tuples and lists, in any allocator; their order, depth and size; terms
+//! with several owners; the names of functions; the set of living pids.
 //!
 //! Depends on def_term. Promises that a term is its tree: a copy in any allocator has the same tree,
 //! `same` is equality of trees and `order` their order, across allocators, and `depth` and `size` are
-//! theirs; an atom is at most 255 characters 32 to 126.
+//! theirs; an atom is at most 255 characters 32 to 126; each owner of a `SharedTerm` has the same tree, with
+//! its size and depth, and one more owner copies nothing.
 #![tactic(auto)]
 
 mod alive;

@@ -21,7 +21,7 @@ pub struct SharedTerm<A: Allocator> {
 }
 
 impl<A: Allocator> SharedTerm<A> {
-    ghost use Rattle.tn_term.specs.Shared.{shared_tree};
+    ghost use Rattle.tn_term.specs.SharedTree.{shared_tree};
 
     /// The term with one owner.
     pub fn new(alloc: A, term: Term<A>) -> Result<SharedTerm<A>, AllocError>

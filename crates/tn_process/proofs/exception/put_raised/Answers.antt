@@ -3,7 +3,7 @@ use Rattle.std.specs.Option.{option_map}
 use Rattle.std.proofs.lemmas.List.{map-append}
 use Rattle.def_node.specs.Process.{mfa_at}
 use Rattle.tn_term.specs.Views.{mfa_seen}
-use Rattle.tn_term.specs.Shared.{shared_tree}
+use Rattle.tn_term.specs.SharedTree.{shared_tree}
 use Rattle.tn_flags.specs.Views.{event_of}
 use Rattle.tn_flags.specs.declared.event.Event.TheVariants.{Raised}
 use Rattle.tn_script.specs.Views.{functions_of}

@@ -1,7 +1,7 @@
 use Rattle.std.proofs.Common.{◌∙◌, ◌∷◌, ◌++◌, ap, sym}
 use Rattle.def_term.specs.Tree.{pid, of_elements}
 use Rattle.def_term.specs.Text.{w, each_after_comma}
-use Rattle.tn_term.specs.Shared.{shared_tree}
+use Rattle.tn_term.specs.SharedTree.{shared_tree}
 use Rattle.tn_text.proofs.Growth.{grows_on}
 use Rattle.tn_session.proofs.Texts.{twice, details_of_send, two_details}
 use Rattle.tn_session.proofs.text.put_details.Goals as goal

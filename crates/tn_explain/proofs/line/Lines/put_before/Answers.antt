@@ -4,7 +4,7 @@ use Rattle.std.proofs.lemmas.Result.{IfOk-weaker}
 use Rattle.def_spec.specs.Flags.{procs_flag}
 use Rattle.def_node.specs.Event.{Event, sent}
 use Rattle.tn_term.specs.Views.{mfa_seen}
-use Rattle.tn_term.specs.Shared.{shared_tree}
+use Rattle.tn_term.specs.SharedTree.{shared_tree}
 use Rattle.tn_flags.specs.Views.{class_of, event_of}
 use Rattle.tn_flags.specs.declared.event.Event.TheVariants.{Spawn, Spawned, Exited, Linked, Unlinked, GettingLinked, GettingUnlinked}
 use Rattle.tn_session.specs.Looks.{look_seen}

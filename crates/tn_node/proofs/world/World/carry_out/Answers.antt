@@ -3,7 +3,7 @@ use Rattle.def_node.specs.Event.{exited, getting_unlinked}
 use Rattle.def_node.specs.Process.{Process}
 use Rattle.def_node.specs.Node.{World, Move, moved, idle, after_act, deliver, link_made, link_removed, start_process, exit_process, partners_told, partner_pids}
 use Rattle.tn_term.specs.Views.{tree_of}
-use Rattle.tn_term.specs.Shared.{shared_tree}
+use Rattle.tn_term.specs.SharedTree.{shared_tree}
 use Rattle.tn_flags.specs.Views.{event_of}
 use Rattle.tn_script.specs.Views.{entry_of}
 use Rattle.tn_process.specs.Views.{act_seen}

@@ -2,7 +2,7 @@ use Rattle.std.proofs.Common.{ap, sym, ◌∙◌, Some}
 use Rattle.std.specs.Option.{option_map}
 use Rattle.def_node.specs.Node.{with_message}
 use Rattle.def_node.specs.Process.{Process}
-use Rattle.tn_term.specs.Shared.{shared_tree}
+use Rattle.tn_term.specs.SharedTree.{shared_tree}
 use Rattle.tn_node.specs.Worlds.{slot_of, world_of}
 use Rattle.tn_node.proofs.Slots.{changed_set}
 use Rattle.tn_node.proofs.world.World.put_message.Goals as goal

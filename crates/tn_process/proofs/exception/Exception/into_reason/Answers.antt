@@ -2,7 +2,7 @@ use Rattle.std.proofs.Common.{◌≡◌, IfOk, sym, ap, ◌∙◌, subst}
 use Rattle.def_term.specs.Tree.{Tree, tuple, list, more, none}
 use Rattle.def_node.specs.Process.{exit_reason}
 use Rattle.tn_term.specs.Views.{tree_of, trees_of}
-use Rattle.tn_term.specs.Shared.{shared_tree}
+use Rattle.tn_term.specs.SharedTree.{shared_tree}
 use Rattle.tn_term.specs.declared.term.Term.{List as ListOf}
 use Rattle.tn_term.proofs.Views.{tree_of_list}
 use Rattle.tn_flags.specs.Views.{class_of}

@@ -2,7 +2,7 @@ use Rattle.std.proofs.Common.{◌≡◌, [], ◌∷◌, false, ap, ap₂, sym, �
 use Rattle.def_term.specs.Tree.{tuple, of_elements}
 use Rattle.tn_flags.specs.declared.class.Class.TheVariants.{Throw}
 use Rattle.tn_flags.specs.Views.{class_of}
-use Rattle.tn_term.specs.Shared.{shared_tree}
+use Rattle.tn_term.specs.SharedTree.{shared_tree}
 use Rattle.tn_process.specs.Views.{process_seen}
 use Rattle.tn_process.proofs.Exceptions.{uncaught}
 use Rattle.tn_process.proofs.process.Process.exception.Goals as goal

@@ -1,6 +1,6 @@
 use Rattle.std.proofs.Common.{ap, sym, ◌∙◌, refl}
 use Rattle.std.specs.Option.{option_map}
-use Rattle.tn_term.specs.Shared.{shared_tree}
+use Rattle.tn_term.specs.SharedTree.{shared_tree}
 use Rattle.tn_process.proofs.Acts.{ended, done, within_none, within_some}
 use Rattle.tn_process.proofs.process.Process.give_back.Goals as goal
 

@@ -4,7 +4,7 @@ use Rattle.def_term.specs.Names.{word}
 use Rattle.def_script.specs.Program.{mfa_of}
 use Rattle.def_node.specs.Event.{Event, returned}
 use Rattle.def_node.specs.Process.{Process, continues, exits, leaves_to}
-use Rattle.tn_term.specs.Shared.{shared_tree}
+use Rattle.tn_term.specs.SharedTree.{shared_tree}
 use Rattle.tn_script.specs.Views.{function_of}
 use Rattle.tn_process.specs.StepAnswers.{resumed_in}
 use Rattle.tn_process.specs.Views.{frame_of, process_seen}

@@ -1,7 +1,7 @@
 use Rattle.std.proofs.Common.{◌∷◌, ap, sym, ◌∙◌}
 use Rattle.std.specs.Option.{option_map}
 use Rattle.def_node.specs.Process.{Process, Exception, exception_of, leaves_by}
-use Rattle.tn_term.specs.Shared.{shared_tree}
+use Rattle.tn_term.specs.SharedTree.{shared_tree}
 use Rattle.tn_flags.specs.Views.{class_of}
 use Rattle.tn_script.specs.Views.{functions_of}
 use Rattle.tn_process.specs.Views.{frame_of, process_seen}

@@ -1,7 +1,7 @@
 use Rattle.std.proofs.Common.{ap, ap₂, sym, ◌∙◌, ◌∷◌, map, List}
 use Rattle.def_node.specs.Event.{Event}
 use Rattle.def_node.specs.Process.{Process, Frame, continues, receives, with_frames}
-use Rattle.tn_term.specs.Shared.{shared_tree}
+use Rattle.tn_term.specs.SharedTree.{shared_tree}
 use Rattle.tn_flags.specs.Views.{event_of}
 use Rattle.tn_process.specs.StepAnswers.{with_target}
 use Rattle.tn_process.specs.Views.{frame_of, process_seen}

@@ -3,7 +3,7 @@ use Rattle.std.specs.Option.{option_map}
 use Rattle.def_term.specs.Tree.{Tree}
 use Rattle.def_node.specs.Values.{fit}
 use Rattle.def_node.specs.Process.{Act, Frame, Process, sends, step_on, to_pid, with_frames, within}
-use Rattle.tn_term.specs.Shared.{shared_tree}
+use Rattle.tn_term.specs.SharedTree.{shared_tree}
 use Rattle.tn_process.specs.Templates.{built_in}
 use Rattle.tn_process.specs.Views.{frame_of, process_seen}
 use Rattle.tn_process.proofs.Acts.{ended, within_pid}

@@ -5,7 +5,7 @@ use Rattle.def_script.specs.Program.{Entry}
 use Rattle.def_node.specs.Values.{rebound_target}
 use Rattle.def_node.specs.Process.{Process, Frame, spawns, spawns_at, next_step, with_env, with_frames}
 use Rattle.tn_term.specs.Views.{tree_of}
-use Rattle.tn_term.specs.Shared.{shared_tree}
+use Rattle.tn_term.specs.SharedTree.{shared_tree}
 use Rattle.tn_term.proofs.Views.{tree_of_pid}
 use Rattle.tn_script.specs.Views.{args_of}
 use Rattle.tn_process.specs.Views.{process_seen, frame_of}

@@ -1,7 +1,7 @@
 use Rattle.std.proofs.Common.{ap, sym, ◌∙◌, Some}
 use Rattle.std.proofs.lemmas.List.Quantifiers.{position-Some}
 use Rattle.std.specs.Str.{bytes_eq}
-use Rattle.tn_term.specs.Shared.{shared_tree}
+use Rattle.tn_term.specs.SharedTree.{shared_tree}
 use Rattle.tn_process.specs.Views.{name_and_term}
 use Rattle.tn_process.proofs.Lookup.{found_at, found_none}
 use Rattle.tn_process.proofs.values.Env.entry.Goals as goal

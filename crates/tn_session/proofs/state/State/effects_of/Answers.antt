@@ -1,7 +1,7 @@
 use Rattle.std.proofs.Common.{◌∙◌, ap}
 use Rattle.def_node.specs.Event.{sent}
 use Rattle.tn_term.specs.Views.{mfa_seen}
-use Rattle.tn_term.specs.Shared.{shared_tree}
+use Rattle.tn_term.specs.SharedTree.{shared_tree}
 use Rattle.tn_flags.specs.Views.{class_of}
 use Rattle.tn_session.specs.EventSteps.{evaluation}
 use Rattle.tn_session.proofs.state.State.effects_of.Goals as goal
