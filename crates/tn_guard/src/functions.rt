@@ -153,8 +153,8 @@ fn of_two<'a, A: Allocator>(
         Func::GreaterOrEqual => Some(Value::truth(one.order(other).is_ge())),
         Func::Less => Some(Value::truth(one.order(other).is_lt())),
         Func::LessOrEqual => Some(Value::truth(one.order(other).is_le())),
-        Func::Equal | Func::ExactlyEqual => Some(Value::truth(one.order(other).is_eq())),
-        Func::NotEqual | Func::ExactlyNotEqual => Some(Value::truth(one.order(other).is_ne())),
+        Func::Equal | Func::ExactlyEqual => Some(Value::truth(one.same(other))),
+        Func::NotEqual | Func::ExactlyNotEqual => Some(Value::truth(!one.same(other))),
         Func::JustOneOf => Some(Value::truth(one.differs(other))),
         _ => None,
     }

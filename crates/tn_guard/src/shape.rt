@@ -1,6 +1,6 @@
 // A value with its first level open: its kind, its order and its equality.
 ghost use Rattle.std.specs.Prelude.{◌≡◌};
-ghost use Rattle.def_term.specs.Tree.{atom};
+ghost use Rattle.def_term.specs.Tree.{atom, list};
 ghost use Rattle.def_term.specs.Order.{rank, tree_cmp, trees_cmp, same};
 ghost use Rattle.tn_term.specs.Views.{tree_of};
 ghost use Rattle.tn_guard.specs.Views.{shape_seen, list_view_seen};
@@ -8,7 +8,7 @@ ghost use Rattle.tn_guard.specs.Views.{shape_seen, list_view_seen};
 use crate::list_view::ListView;
 use std::alloc::Allocator;
 use std::cmp::Ordering;
-use tn_term::Term;
+use tn_term::{Term, same_terms};
 
 /// A value by its kind, with what it is made of.
 #[derive_where(Clone, Copy)]
@@ -54,6 +54,16 @@ impl<'a, A: Allocator> Shape<'a, A> {
         order_shapes(self, other)
     }
 
+    /// Whether both are the same term. Two lists of terms are compared without a shape for each element.
+    pub fn same<'b, B: Allocator>(self, other: Shape<'b, B>) -> bool
+        ensures { result ≡ same (shape_seen self.entry) (shape_seen other.entry) }
+    {
+        match (self, other) {
+            (Shape::List(parts), Shape::List(others)) => same_parts(parts, others),
+            _ => self.order(other).is_eq(),
+        }
+    }
+
     /// Whether it is the atom of this text.
     pub fn is_word(self, text: &str) -> bool
         ensures { result ≡ same (shape_seen self.entry) (atom text.now) }
@@ -62,6 +72,16 @@ impl<'a, A: Allocator> Shape<'a, A> {
             Shape::Atom(name) => name == text,
             _ => false,
         }
+    }
+}
+
+/// Whether both are the same elements in the same order.
+fn same_parts<A: Allocator, B: Allocator>(one: ListView<'_, A>, other: ListView<'_, B>) -> bool
+    ensures { result ≡ same (list (list_view_seen one.entry)) (list (list_view_seen other.entry)) }
+{
+    match (one, other) {
+        (ListView::Terms(terms), ListView::Terms(others)) => same_terms(terms, others),
+        _ => order_parts(one, other).is_eq(),
     }
 }
 

@@ -96,7 +96,7 @@ impl<'a, A: Allocator> Value<'a, A> {
     {
         match self {
             Value::Lent(term) => other.is_term(term),
-            _ => self.shape().order(other.shape()).is_eq(),
+            _ => self.shape().same(other.shape()),
         }
     }
 
@@ -107,7 +107,7 @@ impl<'a, A: Allocator> Value<'a, A> {
         match (self, term) {
             (Value::Lent(own), _) => term.same(own),
             (Value::Rest(own), Term::List(items)) => same_terms(items.as_slice(), own),
-            _ => Shape::of(term).order(self.shape()).is_eq(),
+            _ => Shape::of(term).same(self.shape()),
         }
     }
 
