@@ -1,5 +1,6 @@
 // A program, as its users see it.
 ghost use Rattle.std.specs.Prelude.{◌≡◌, IfOk, map};
+ghost use Rattle.std.specs.Arc.{arc_value};
 ghost use Rattle.std.specs.Option.{option_map};
 ghost use Rattle.tn_flags.specs.Views.{command_of};
 ghost use Rattle.tn_script.specs.Views.{functions_of, entry_of};
@@ -8,7 +9,7 @@ ghost use Rattle.tn_program.specs.Views.{program_of};
 
 use std::alloc::{AllocError, Allocator};
 use tn_flags::Command;
-use tn_program::{Program, Sessions};
+use tn_program::{Program, SharedFunctions, Sessions};
 use tn_script::{Entry, Function};
 use tn_term::Atom;
 
@@ -21,6 +22,23 @@ pub fn functions<'a, A: Allocator>(
     ensures { functions_of result.0.now ≡ functions_of result.1.now }
 {
     (one.functions(), other.functions())
+}
+
+/// `tn_program::Program::share_functions` has one answer.
+pub fn share_functions<A: Allocator>(
+    one: &Program<A>,
+    other: &Program<A>,
+) -> (
+    Result<SharedFunctions<A>, AllocError>,
+    Result<SharedFunctions<A>, AllocError>,
+)
+    requires { program_of one.now ≡ program_of other.now }
+    ensures { IfOk result.0 (λ x. IfOk result.1 (λ y.
+        functions_of (arc_value x).items ≡ functions_of (arc_value y).items)) }
+{
+    let first = one.share_functions();
+    let second = other.share_functions();
+    (first, second)
 }
 
 /// `tn_program::Program::entries` has one answer.

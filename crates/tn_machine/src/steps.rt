@@ -228,7 +228,7 @@ fn build<'a, A: Allocator + Copy>(
     }
 }
 
-/// The value of a function on the values in some registers.
+/// The value of a function on the values in some registers. One or two need no place in the arena.
 fn apply_function<'a, A: Allocator + Copy>(
     func: Func,
     registers: &[Option<Value<'a, A>>],
@@ -238,8 +238,15 @@ fn apply_function<'a, A: Allocator + Copy>(
     requires { Each (λ r. IsSetIn registers.now r) from.now }
     ensures { IfOk result (λ v. IsApplied scene.now registers.now (func_of func) from.now v) }
 {
-    let values = values_in(scene.arena, registers, from)?;
-    Ok(apply(func, values.as_slice(), scene.context.self_pid))
+    let pid = scene.context.self_pid;
+    match from {
+        [one] => Ok(apply(func, &[value_in(registers, *one)], pid)),
+        [one, two] => Ok(apply(func, &[value_in(registers, *one), value_in(registers, *two)], pid)),
+        _ => {
+            let values = values_in(scene.arena, registers, from)?;
+            Ok(apply(func, values.as_slice(), pid))
+        }
+    }
 }
 
 /// An action, in a dialect.

@@ -1,5 +1,6 @@
 -- What the code's node stands for, and a step of it.
 use Rattle.std.specs.Prelude.{ℕ, Bool, true, false, List, length, map, Option, Some, None, refl}
+use Rattle.std.specs.Arc.{arc_value}
 use Rattle.std.specs.Coded.{Coded, code_by, coded_ℕ, coded_list, coded×}
 use Rattle.def_script.specs.Program.{Function, Program}
 use Rattle.def_node.specs.Event.{Event}
@@ -54,7 +55,7 @@ moved_seen code.TheVariants.Idle = answers_nothing
 -- what the code's state stands for
 abbrev pub node_seen : {A : Type 0} → State A → NodeValue
 node_seen c = record {
-  functions = functions_of c.functions.items;
+  functions = functions_of (arc_value c.functions).items;
   commands = c.commands;
   state = record { world = world_of c.world; taken = c.taken };
 }

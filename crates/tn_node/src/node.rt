@@ -4,14 +4,13 @@ use crate::step_outcome::Moved;
 use crate::world::World;
 use std::alloc::{AllocError, Allocator};
 use std::marker::Model;
-use tn_program::Program;
-use tn_script::{Function, copy_functions};
+use tn_program::{Program, SharedFunctions};
 
 /// The processes, and how many commands of the control list were taken.
 #[derive(Drop)]
 pub struct State<A: Allocator> {
     alloc: A,
-    functions: Vec<Function<A>, A>,
+    functions: SharedFunctions<A>,
     commands: usize,
     taken: usize,
     world: World<A>,
@@ -48,7 +47,7 @@ impl<A: Allocator + Copy> State<A> {
     fn new(alloc: A, program: &Program<A>) -> Result<State<A>, AllocError>
         ensures { let p = program_of program.now in IfOk result (λ s. node_seen s ≡ node_at p (opening_state p)) }
     {
-        let functions = copy_functions(alloc, program.functions())?;
+        let functions = program.share_functions()?;
         let world = World::new(alloc, program.entries())?;
         Ok(State {
             alloc,
@@ -78,7 +77,7 @@ impl<A: Allocator + Copy> State<A> {
         ensures { let n = node_seen self.old in IfOk result (λ m.
             next_node n (pick_result n.functions n.commands n.state pid) ≡ (Some (node_seen self.new), moved_seen m)) }
     {
-        match self.world.step(self.alloc, &self.functions, pid)? {
+        match self.world.step(self.alloc, self.functions.as_slice(), pid)? {
             Some(events) => Ok(Moved::Moved(events)),
             None => Ok(Moved::Idle),
         }
@@ -150,6 +149,6 @@ impl<A: Allocator + Copy> Node<A> {
         if self.is_spent {
             return Outlook::nothing();
         }
-        self.state.world.outlook(&self.state.functions, pick)
+        self.state.world.outlook(self.state.functions.as_slice(), pick)
     }
 }

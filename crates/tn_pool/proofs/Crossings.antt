@@ -150,6 +150,25 @@ module _ (T : RattleType) (g : Ghosts T.Denot) (s : IsSend T) (f : Frees g g.dea
   function_field_send : IsSend (function.the_field T g).row
   function_field_send = search (sendable, crosses, atom_send, atom_field_send, step_send, step_field_send, function_send) depth 40 fits 3000 parts 0
 
+  -- the functions of a program, which its nodes share
+  arguments_sync : IsSync (arguments.the_row T g)
+  arguments_sync = search (sendable, crosses, term_sync, term_field_sync) depth 40 fits 3000 parts 0
+
+  arguments_field_sync : IsSync (arguments.the_field T g).row
+  arguments_field_sync = search (sendable, crosses, term_sync, term_field_sync, arguments_sync) depth 40 fits 3000 parts 0
+
+  step_sync : IsSync (step.the_row T g)
+  step_sync = search (sendable, crosses, atom_sync, atom_field_sync, term_sync, term_field_sync, arguments_sync, arguments_field_sync) depth 40 fits 3000 parts 0
+
+  step_field_sync : IsSync (step.the_field T g).row
+  step_field_sync = search (sendable, crosses, atom_sync, atom_field_sync, term_sync, term_field_sync, arguments_sync, arguments_field_sync, step_sync) depth 40 fits 3000 parts 0
+
+  function_sync : IsSync (function.the_row T g)
+  function_sync = search (sendable, crosses, atom_sync, atom_field_sync, step_sync, step_field_sync) depth 40 fits 3000 parts 0
+
+  function_field_sync : IsSync (function.the_field T g).row
+  function_field_sync = search (sendable, crosses, atom_sync, atom_field_sync, step_sync, step_field_sync, function_sync) depth 40 fits 3000 parts 0
+
   entry_send : IsSend (entry.the_row T g)
   entry_send = search (sendable, crosses, atom_send, atom_field_send, arguments_send, arguments_field_send) depth 40 fits 3000 parts 0
 
@@ -163,10 +182,10 @@ module _ (T : RattleType) (g : Ghosts T.Denot) (s : IsSend T) (f : Frees g g.dea
   command_field_send = search (sendable, crosses, atom_send, atom_field_send, term_send, term_field_send, command_send) depth 40 fits 3000 parts 0
 
   program_send : IsSend (program.the_row T g)
-  program_send = search (sendable, crosses, function_send, function_field_send, entry_send, entry_field_send, command_send, command_field_send) depth 40 fits 3000 parts 0
+  program_send = search (sendable, crosses, function_send, function_field_send, function_sync, function_field_sync, entry_send, entry_field_send, command_send, command_field_send) depth 40 fits 3000 parts 0
 
   program_field_send : IsSend (program.the_field T g).row
-  program_field_send = search (sendable, crosses, function_send, function_field_send, entry_send, entry_field_send, command_send, command_field_send, program_send) depth 40 fits 3000 parts 0
+  program_field_send = search (sendable, crosses, function_send, function_field_send, function_sync, function_field_sync, entry_send, entry_field_send, command_send, command_field_send, program_send) depth 40 fits 3000 parts 0
 
   binding_send : IsSend (binding.the_row T g)
   binding_send = search (sendable, crosses, atom_send, atom_field_send, shared_send, shared_field_send) depth 40 fits 3000 parts 0
@@ -199,10 +218,10 @@ module _ (T : RattleType) (g : Ghosts T.Denot) (s : IsSend T) (f : Frees g g.dea
   world_field_send = search (sendable, crosses, process_send, process_field_send, world_send) depth 40 fits 3000 parts 0
 
   node_state_send : IsSend (node_state.the_row T g)
-  node_state_send = search (sendable, crosses, function_send, function_field_send, world_send, world_field_send) depth 40 fits 3000 parts 0
+  node_state_send = search (sendable, crosses, function_send, function_field_send, function_sync, function_field_sync, world_send, world_field_send) depth 40 fits 3000 parts 0
 
   node_state_field_send : IsSend (node_state.the_field T g).row
-  node_state_field_send = search (sendable, crosses, function_send, function_field_send, world_send, world_field_send, node_state_send) depth 40 fits 3000 parts 0
+  node_state_field_send = search (sendable, crosses, function_send, function_field_send, function_sync, function_field_sync, world_send, world_field_send, node_state_send) depth 40 fits 3000 parts 0
 
   node_send : IsSend (node.the_row T g)
   node_send = search (sendable, crosses, node_state_send, node_state_field_send) depth 40 fits 3000 parts 0

@@ -11,6 +11,7 @@ use crate::fault::RuleFault;
 use crate::parts::Program;
 use crate::rules::check_rules;
 use std::alloc::{AllocError, Allocator};
+use std::sync::Arc;
 use tn_flags::Command;
 use tn_script::{Entry, Form, Function};
 
@@ -53,7 +54,7 @@ fn gather<A: Allocator + Copy>(alloc: A, forms: Vec<Form<A>, A>) -> Result<Progr
         add(&mut functions, &mut entries, &mut commands, form)?;
     }
     Ok(Program {
-        functions,
+        functions: Arc::new(alloc, functions)?,
         entries,
         commands,
     })

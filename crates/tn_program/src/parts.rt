@@ -1,8 +1,10 @@
 // A program, made of forms that keep all rules.
 ghost use Rattle.std.specs.Prelude.{◌≡◌, ◌↔◌, ◌≤◌, IfOk, IsTrue, length, map, slice_get};
+ghost use Rattle.std.specs.Arc.{arc_value};
 
 use crate::creations::{Sessions, count_sessions, find_session, sessions_of};
 use std::alloc::{AllocError, Allocator};
+use std::sync::Arc;
 use tn_flags::Command;
 use tn_script::{
     Entry, Function, copy_commands, copy_entries, copy_functions, same_commands, same_entries,
@@ -10,10 +12,13 @@ use tn_script::{
 };
 use tn_term::Atom;
 
+/// The functions of a script, with several owners: its program and each node that runs it.
+pub type SharedFunctions<A> = Arc<Vec<Function<A>, A>, A>;
+
 /// The functions, the initial processes and the control list of a script.
 #[derive(Drop)]
 pub struct Program<A: Allocator> {
-    pub(crate) functions: Vec<Function<A>, A>,
+    pub(crate) functions: SharedFunctions<A>,
     pub(crate) entries: Vec<Entry<A>, A>,
     pub(crate) commands: Vec<Command<A>, A>,
     ghost few_processes: { length entries.items ≤ 16 },
@@ -31,7 +36,14 @@ impl<A: Allocator> Program<A> {
     pub fn functions(&self) -> &[Function<A>]
         ensures { functions_of result.now ≡ (program_of self.now).functions }
     {
-        &self.functions
+        self.functions.as_slice()
+    }
+
+    /// The functions with one more owner. It is refused only where the count of owners is full.
+    pub fn share_functions(&self) -> Result<SharedFunctions<A>, AllocError>
+        ensures { IfOk result (λ fs. functions_of (arc_value fs).items ≡ (program_of self.now).functions) }
+    {
+        Ok(Arc::try_clone(&self.functions)?)
     }
 
     /// The calls with which the initial processes begin, in the order of their forms.
@@ -74,7 +86,7 @@ impl<A: Allocator> Program<A> {
     pub fn same(&self, other: &Program<A>) -> bool
         ensures { IsTrue result ↔ (program_of self.now ≡ program_of other.now) }
     {
-        if !same_functions(&self.functions, &other.functions) {
+        if !same_functions(self.functions(), other.functions()) {
             return false;
         }
         if !same_entries(&self.entries, &other.entries) {
@@ -89,11 +101,11 @@ impl<A: Allocator> Program<A> {
         A: Copy,
         ensures { IfOk result (λ p. program_of p ≡ program_of self.now) }
     {
-        let functions = copy_functions(alloc, &self.functions)?;
+        let functions = copy_functions(alloc, self.functions())?;
         let entries = copy_entries(alloc, &self.entries)?;
         let commands = copy_commands(alloc, &self.commands)?;
         Ok(Program {
-            functions,
+            functions: Arc::new(alloc, functions)?,
             entries,
             commands,
         })
