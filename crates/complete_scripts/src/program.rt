@@ -9,7 +9,7 @@ ghost use Rattle.tn_program.specs.Views.{program_of};
 
 use std::alloc::{AllocError, Allocator};
 use tn_flags::Command;
-use tn_program::{Program, SharedFunctions, Sessions};
+use tn_program::{Program, Sessions, SharedFunctions};
 use tn_script::{Entry, Function};
 use tn_term::Atom;
 

@@ -241,7 +241,11 @@ fn apply_function<'a, A: Allocator + Copy>(
     let pid = scene.context.self_pid;
     match from {
         [one] => Ok(apply(func, &[value_in(registers, *one)], pid)),
-        [one, two] => Ok(apply(func, &[value_in(registers, *one), value_in(registers, *two)], pid)),
+        [one, two] => Ok(apply(
+            func,
+            &[value_in(registers, *one), value_in(registers, *two)],
+            pid,
+        )),
         _ => {
             let values = values_in(scene.arena, registers, from)?;
             Ok(apply(func, values.as_slice(), pid))

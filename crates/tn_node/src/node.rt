@@ -149,6 +149,8 @@ impl<A: Allocator + Copy> Node<A> {
         if self.is_spent {
             return Outlook::nothing();
         }
-        self.state.world.outlook(self.state.functions.as_slice(), pick)
+        self.state
+            .world
+            .outlook(self.state.functions.as_slice(), pick)
     }
 }

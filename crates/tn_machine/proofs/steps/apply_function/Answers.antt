@@ -31,7 +31,7 @@ pub returns-in-len2 : goal.returns-in-len2
 returns-in-len2 g c = (
   c.value_in-in-len2.result ∷ c.value_in-in-len2-2.result ∷ [],
   terms-in-two (registers_seen c.args.registers.now) c.args.from.now (value_seen c.value_in-in-len2.result) (value_seen c.value_in-in-len2-2.result)
-    c.in-len2.len_at_least c.in-len2.len_below c.value_in-in-len2.ensures c.value_in-in-len2-2.ensures,
+      c.in-len2.len_at_least c.in-len2.len_below c.value_in-in-len2.ensures c.value_in-in-len2-2.ensures,
   c.apply-in-len2.ensures,
 )
 
