@@ -1,10 +1,10 @@
 -- Rows: why small clauses don't fire, and why small sessions tell nothing.
 use Rattle.std.proofs.Common.{◌≡◌, ℕ, true, false, List, [], ◌∷◌, Some, None, pos, codes, refl}
 use Rattle.std.specs.Prelude.{replicate}
-use Rattle.def_term.specs.Tree.{Tree, int, list, none}
+use Rattle.def_term.specs.Tree.{Tree, int, tuple, list, none, of_elements}
 use Rattle.def_term.specs.Names.{Mfa, word}
 use Rattle.def_spec.specs.Flags.{Flags, no_flags, only, union, send_flag, call_flag, silent_flag}
-use Rattle.def_spec.specs.Matching.{Pattern, variable, anything, only_term, in_list, no_patterns, and_pattern}
+use Rattle.def_spec.specs.Matching.{Pattern, variable, anything, only_term, in_tuple, in_list, Patterns, no_patterns, and_pattern}
 use Rattle.def_spec.specs.Functions as fn
 use Rattle.def_spec.specs.Expressions.{for_calls, Expr, bound_to, constant, call, and_also, perform, message, Exprs, no_exprs, and_expr, Context}
 use Rattle.def_spec.specs.Outcome.{Clause}
@@ -12,6 +12,7 @@ use Rattle.def_script.specs.Program.{error}
 use Rattle.def_node.specs.Event.{Event, Call, sent, called, returned, raised}
 use Rattle.def_session.specs.Settings.{Setting, off, plain, by, one}
 use Rattle.def_session.specs.State.{MarkKind, for_returns, for_exceptions, Session, live, new_session, alive_at_start, with_flags, with_marks}
+use Rattle.def_explain.specs.Mismatches.{is_term, is_bound, is_tuple_of, is_list_of, mismatch, mismatch_of}
 use Rattle.def_explain.specs.Heads.{no_list, other_length, after_matching}
 use Rattle.def_explain.specs.Reasons.{by_head, by_condition, has_value, faults_at, reason_of}
 use Rattle.def_explain.specs.Causes.{no_mark, marked_for_returns, no_flag, no_setting, of_named_calls, switched_off, no_clause, silenced, message_false, cause_of}
@@ -37,7 +38,7 @@ abbrev clause : Pattern → Exprs → Clause
 clause p es = record { head = p; conditions = es; body = no_exprs }
 
 -- [{['$1','$1'],[],[]}] on [1,2]: the first element matches, and with the second they don't
-pub second_element : reason_of for_calls (clause (pair (variable 1) (variable 1)) no_exprs) (on (number 1 ∷ number 2 ∷ [])) ≡ Some (by_head (after_matching 1))
+pub second_element : reason_of for_calls (clause (pair (variable 1) (variable 1)) no_exprs) (on (number 1 ∷ number 2 ∷ [])) ≡ Some (by_head (after_matching 1 (mismatch [] (is_bound 1 (number 1)) (number 2))))
 second_element = refl
 
 -- the same on [1,1] fires
@@ -63,6 +64,55 @@ fault_of_head = refl
 -- {'andalso',false,{hd,[]}} is false, and doesn't fault
 pub early_stop : reason_of for_calls (clause anything (and_expr (and_also (and_expr (constant (word "false")) (and_expr (unary fn.head (constant (list none))) no_exprs))) no_exprs)) (on []) ≡ Some (by_condition 0 (has_value (word "false")))
 early_stop = refl
+
+-- ---- where a head differs first
+
+abbrev patterns : List Pattern → Patterns
+patterns [] = no_patterns
+patterns (p ∷ ps) = and_pattern p (patterns ps)
+
+abbrev braces : List Pattern → Pattern
+braces ps = in_tuple (patterns ps)
+
+abbrev brackets : List Pattern → Pattern
+brackets ps = in_list (patterns ps)
+
+abbrev tuple_of : List Tree → Tree
+tuple_of ts = tuple (of_elements ts)
+
+abbrev list_of : List Tree → Tree
+list_of ts = list (of_elements ts)
+
+abbrev a : Tree
+a = word "a"
+
+-- [a,7] on [a,8]
+pub other_term : mismatch_of (brackets (only_term a ∷ only_term (number 7) ∷ [])) (list_of (a ∷ number 8 ∷ [])) ≡ Some (mismatch (1 ∷ []) (is_term (number 7)) (number 8))
+other_term = refl
+
+-- both differ, and the first is answered
+pub first_of_two : mismatch_of (brackets (only_term a ∷ only_term (number 7) ∷ [])) (list_of (number 6 ∷ number 8 ∷ [])) ≡ Some (mismatch (0 ∷ []) (is_term a) (number 6))
+first_of_two = refl
+
+-- [{a,['$1']},'$1'] on [{a,[5]},{5}]
+pub met_before : mismatch_of (brackets (braces (only_term a ∷ brackets (variable 1 ∷ []) ∷ []) ∷ variable 1 ∷ [])) (list_of (tuple_of (a ∷ list_of (number 5 ∷ []) ∷ []) ∷ tuple_of (number 5 ∷ []) ∷ [])) ≡ Some (mismatch (1 ∷ []) (is_bound 1 (number 5)) (tuple_of (number 5 ∷ [])))
+met_before = refl
+
+-- ['$1',{a,['_','$1']}] on [5,{a,[6,7]}]: three levels down
+pub third_level : mismatch_of (brackets (variable 1 ∷ braces (only_term a ∷ brackets (anything ∷ variable 1 ∷ []) ∷ []) ∷ [])) (list_of (number 5 ∷ tuple_of (a ∷ list_of (number 6 ∷ number 7 ∷ []) ∷ []) ∷ [])) ≡ Some (mismatch (1 ∷ 1 ∷ 1 ∷ []) (is_bound 1 (number 5)) (number 7))
+third_level = refl
+
+-- ['_',{'_','_'}] on [a,[a,a]]: a list is no tuple
+pub no_tuple : mismatch_of (brackets (anything ∷ braces (anything ∷ anything ∷ []) ∷ [])) (list_of (a ∷ list_of (a ∷ a ∷ []) ∷ [])) ≡ Some (mismatch (1 ∷ []) (is_tuple_of 2) (list_of (a ∷ a ∷ [])))
+no_tuple = refl
+
+-- [[a,7,'_']] on [[6,8]]: of another length, before its elements are looked at
+pub shorter : mismatch_of (brackets (brackets (only_term a ∷ only_term (number 7) ∷ anything ∷ []) ∷ [])) (list_of (list_of (number 6 ∷ number 8 ∷ []) ∷ [])) ≡ Some (mismatch (0 ∷ []) (is_list_of 3) (list_of (number 6 ∷ number 8 ∷ [])))
+shorter = refl
+
+-- [{'$1','$1'}] on [{a,a}] matches
+pub nowhere : mismatch_of (brackets (braces (variable 1 ∷ variable 1 ∷ []) ∷ [])) (list_of (tuple_of (a ∷ a ∷ []) ∷ [])) ≡ None
+nowhere = refl
 
 -- ---- sessions
 

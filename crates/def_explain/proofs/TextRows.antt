@@ -1,16 +1,18 @@
 -- Rows: the texts of small trials.
-use Rattle.std.proofs.Common.{◌≡◌, [], ◌∷◌, None, pos, codes, refl}
+use Rattle.std.proofs.Common.{◌≡◌, ℕ, List, [], ◌∷◌, None, pos, codes, refl}
 use Rattle.std.specs.Fmt.{digits}
+use Rattle.std.specs.Option.{option_map_or}
 use Rattle.def_term.specs.Text.{is_written_bare}
-use Rattle.def_term.specs.Tree.{int, tuple, none, more}
+use Rattle.def_term.specs.Tree.{Tree, int, tuple, list, none, more}
 use Rattle.def_term.specs.Names.{word}
-use Rattle.def_spec.specs.Matching.{Pattern, variable, anything, in_list, no_patterns, and_pattern}
+use Rattle.def_spec.specs.Matching.{Pattern, variable, anything, only_term, in_tuple, in_list, Patterns, no_patterns, and_pattern}
 use Rattle.def_spec.specs.Functions as fn
 use Rattle.def_spec.specs.Expressions.{for_calls, for_sends, Expr, bound_to, constant, tuple_of, list_of, call, perform, message, silent, enable_trace, disable_trace, trace, Exprs, no_exprs, and_expr, Context}
 use Rattle.def_spec.specs.Outcome.{Clause}
 use Rattle.def_session.specs.State.{alive_at_start}
 use Rattle.def_explain.specs.Spellings.{spelling}
-use Rattle.def_explain.specs.Texts.{spec_test_flags, spec_test_text}
+use Rattle.def_explain.specs.Heads.{head_reason}
+use Rattle.def_explain.specs.Texts.{head_reason_text, spec_test_flags, spec_test_text}
 
 -- hi and 1
 abbrev hi_one : Context
@@ -56,9 +58,47 @@ tracing = record {
       (one (perform trace (and_expr (list_of no_exprs) (one (list_of no_exprs))))));
 }
 
+-- ---- heads
+
+abbrev patterns : List Pattern → Patterns
+patterns [] = no_patterns
+patterns (p ∷ ps) = and_pattern p (patterns ps)
+
+-- why the head of these patterns doesn't match these terms
+abbrev head_text : List Pattern → List Tree → List ℕ
+head_text ps ts = option_map_or head_reason_text (head_reason (in_list (patterns ps)) ts) []
+
+abbrev seven : Tree
+seven = int (pos 7)
+
+-- ['_',{hi,[]}] on [7,{hi,[7]}]
+pub below_an_element : head_text (anything ∷ in_tuple (patterns (only_term (word "hi") ∷ in_list no_patterns ∷ [])) ∷ []) (seven ∷ tuple (more (word "hi") (more (list (more seven none)) none)) ∷ [])
+    ≡ codes "the head doesn't match at element 2, element 2: a list of 0 expected, found [7]"
+unfolding is_written_bare digits
+below_an_element = refl
+
+-- ['$3',['$3',hi]] on [7,[7,7]]
+pub another_term : head_text (variable 3 ∷ in_list (patterns (variable 3 ∷ only_term (word "hi") ∷ [])) ∷ []) (seven ∷ list (more seven (more seven none)) ∷ [])
+    ≡ codes "the head doesn't match at element 2, element 2: hi expected, found 7"
+unfolding is_written_bare digits
+another_term = refl
+
+-- ['$3',['$3',hi]] on [hi,[7,7]]
+pub another_value : head_text (variable 3 ∷ in_list (patterns (variable 3 ∷ only_term (word "hi") ∷ [])) ∷ []) (word "hi" ∷ list (more seven (more seven none)) ∷ [])
+    ≡ codes "the head doesn't match at element 2, element 1: '$3' is hi, found 7"
+unfolding is_written_bare digits
+another_value = refl
+
+-- [{'_','_'}] on [hi]
+pub no_tuple : head_text (in_tuple (patterns (anything ∷ anything ∷ [])) ∷ []) (word "hi" ∷ []) ≡ codes "the head doesn't match at element 1: a tuple of 2 expected, found hi"
+unfolding is_written_bare digits
+no_tuple = refl
+
+-- ---- clauses
+
 -- two clauses that don't fire, one that does, and one that isn't reached
 pub third_fires : spec_test_text for_calls (of_integer ∷ of_twice ∷ with_message ∷ of_head ∷ []) hi_one
-    ≡ codes "clause 1: condition 1 is false\nclause 2: the head doesn't match at element 2\nclause 3 fires: message {second,hi}, <0.100.0> gets send\n  '$1' is hi\n=> a message that ends in {second,hi}\n"
+    ≡ codes "clause 1: condition 1 is false\nclause 2: the head doesn't match at element 2: '$1' is hi, found 1\nclause 3 fires: message {second,hi}, <0.100.0> gets send\n  '$1' is hi\n=> a message that ends in {second,hi}\n"
 unfolding is_written_bare digits
 third_fires = refl
 

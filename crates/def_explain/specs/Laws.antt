@@ -9,6 +9,7 @@ use Rattle.def_spec.specs.Reading.{found_in, table, a_function, an_action}
 use Rattle.def_spec.specs.Expressions.{Action, Dialect, Expr, Exprs, Context, Effect, in_condition, value}
 use Rattle.def_spec.specs.Outcome.{Clause, Fires, outcome_in}
 use Rattle.def_explain.specs.Heads.{HeadReason, IsHeadReason}
+use Rattle.def_explain.specs.Mismatches.{Mismatch, IsMismatch, mismatch_of}
 use Rattle.def_explain.specs.Values.{FaultsAt}
 use Rattle.def_explain.specs.Spellings.{function_name, action_name}
 use Rattle.def_explain.specs.Differences.{Difference, evaluates_from_right, faults_in_logic, OneShowsOrder, order_difference, logic_difference, BodyDiffers, body_differs, EventDiffers, event_difference, StepDiffers, step_differs, evaluation_differences}
@@ -61,6 +62,18 @@ ActionNameIsRead = (a : Action) → option_map (λ r. r.called) (found_in table 
 -- a head has a reason exactly where it matches with no binding
 abbrev pub HeadReasonWhereNotMatched : Type 0
 HeadReasonWhereNotMatched = (p : Pattern) (ts : List Tree) → ((r : HeadReason) × IsHeadReason p ts r) ↔ ((b : Bindings) → ¬ Matches p (list (of_elements ts)) b)
+
+-- a pattern differs from a term somewhere exactly where it matches it with no binding
+abbrev pub MismatchWhereNotMatched : Type 0
+MismatchWhereNotMatched = (p : Pattern) (t : Tree) → ((m : Mismatch) × IsMismatch p t m) ↔ ((b : Bindings) → ¬ Matches p t b)
+
+-- first at one place at most
+abbrev pub MismatchIsOne : Type 0
+MismatchIsOne = (p : Pattern) (t : Tree) (m n : Mismatch) → IsMismatch p t m → IsMismatch p t n → m ≡ n
+
+-- and what is computed is that
+abbrev pub MismatchIsComputed : Type 0
+MismatchIsComputed = (p : Pattern) (t : Tree) (m : Mismatch) → (mismatch_of p t ≡ Some m) ↔ IsMismatch p t m
 
 -- an expression of a condition faults at a part of it exactly where it has no value
 abbrev pub FaultWhereNoValue : Type 0

@@ -5,6 +5,7 @@ pub mod Logic
 pub mod Differences
 pub mod CommandDifferences
 pub mod Heads
+pub mod Mismatches
 pub mod Laws
 pub mod Places
 pub mod Reasons

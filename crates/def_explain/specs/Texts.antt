@@ -11,8 +11,10 @@ use Rattle.def_spec.specs.Matching.{Bindings}
 use Rattle.def_spec.specs.Expressions.{Dialect, for_calls, for_sends, for_receives, Context, Effect, gives_message, traces_return, traces_exception, silences, changes}
 use Rattle.def_spec.specs.Outcome.{Clause}
 use Rattle.def_session.specs.Messages.{last_message}
+use Rattle.def_explain.specs.Mismatches.{HeadPart, is_term, is_bound, is_tuple_of, is_list_of, Mismatch, mismatch}
 use Rattle.def_explain.specs.Heads.{HeadReason, no_list, other_length, after_matching}
 use Rattle.def_explain.specs.Reasons.{ConditionReason, has_value, faults_at, Reason, by_head, by_condition}
+use Rattle.def_explain.specs.ReasonTexts.{found_text}
 use Rattle.def_explain.specs.Spellings.{spelling}
 use Rattle.def_explain.specs.Verdicts.{Verdict, fails, fires, verdict_of}
 use Rattle.def_explain.specs.Differences.{Difference, later_silent, clause_differences, on_node}
@@ -31,11 +33,22 @@ spec_test_flags d self_pid = with_flags_in (replicate PROCESSES no_flags) self_p
 
 -- ---- reasons
 
+-- what a head has at a place
+abbrev pub head_part_text : HeadPart → List ℕ
+head_part_text (is_term t) = w t ++ codes " expected"
+head_part_text (is_bound n t) = atom_text (36 ∷ decimal n) ++ codes " is " ++ w t
+head_part_text (is_tuple_of n) = codes "a tuple of " ++ decimal n ++ codes " expected"
+head_part_text (is_list_of n) = codes "a list of " ++ decimal n ++ codes " expected"
+
+-- the numbers of elements down to the place, from 1, then what the head has there, and the term
+abbrev pub mismatch_text : Mismatch → List ℕ
+mismatch_text (mismatch place h t) = flat_map (λ n. codes ", element " ++ decimal (suc n)) place ++ codes ": " ++ head_part_text h ++ found_text t
+
 -- elements are counted from 1
 abbrev pub head_reason_text : HeadReason → List ℕ
 head_reason_text no_list = codes "the head doesn't match"
 head_reason_text other_length = codes "the head has another number of elements"
-head_reason_text (after_matching n) = codes "the head doesn't match at element " ++ decimal (suc n)
+head_reason_text (after_matching n m) = codes "the head doesn't match at element " ++ decimal (suc n) ++ mismatch_text m
 
 -- the value that a condition has, or the part of it that faults
 abbrev pub condition_reason_text : ConditionReason → List ℕ

@@ -4,8 +4,8 @@
 //! Depends on the match specifications of `def_spec`, the sessions of `def_session` and the runs of `def_run`.
 //! Promises, as laws over the definitions: a session that is there has a cause exactly where it reports nothing of
 //! an event, and a clause a reason exactly where it doesn't fire, one at most, and it is what is computed; a head
-//! has one exactly where it doesn't match, and a specification exactly where it can't be read; a command that is
-//! refused has one, which says its reply; a condition faults at a part of it exactly where it has no value; what a
+//! has one exactly where it doesn't match, and differs first at one place; a specification has one exactly where it
+//! can't be read; a command that is refused has one, which says its reply; a condition faults at a part of it exactly where it has no value; what a
 //! node is said to do otherwise is what is defined of it, and it does no move otherwise where no command can lead
 //! to one; the messages that a session reports in the account of a run are its listing's; and a command is written
 //! as a term that is read as it. There is no code.
@@ -15,6 +15,7 @@ ghost use Rattle.def_explain.specs.Laws.{ReasonWhereNotFired, ReasonIsOne, Reaso
 ghost use Rattle.def_explain.specs.Laws.{VerdictIsComputed, OutcomeIsByVerdicts};
 ghost use Rattle.def_explain.specs.Laws.{FunctionNameIsRead, ActionNameIsRead, StopIsComputed};
 ghost use Rattle.def_explain.specs.Laws.{HeadReasonWhereNotMatched, FaultWhereNoValue};
+ghost use Rattle.def_explain.specs.Laws.{MismatchWhereNotMatched, MismatchIsOne, MismatchIsComputed};
 ghost use Rattle.def_explain.specs.Laws.{LinesTellTheMessage, LinesTellTheDifference};
 ghost use Rattle.def_explain.specs.Laws.{LimitIsSaid, OnlyLimitsAreSaid};
 ghost use Rattle.def_explain.specs.Laws.{BodyDifferenceIsComputed, EventDifferenceIsComputed};
@@ -57,6 +58,14 @@ pub fn a_name_is_read_as_what_it_names()
 /// A head has a reason exactly where it doesn't match.
 pub fn a_head_has_a_reason_or_matches()
     ensures { HeadReasonWhereNotMatched }
+{}
+
+/// Where a pattern doesn't match a term, there is one first difference in the order of matching, which is what is
+/// computed; and none where it matches.
+pub fn a_pattern_differs_first_at_one_place()
+    ensures exactly { MismatchWhereNotMatched }
+    ensures one { MismatchIsOne }
+    ensures computed { MismatchIsComputed }
 {}
 
 /// A condition faults at a part of it exactly where it has no value.
