@@ -72,8 +72,8 @@ in_element n (mismatch place h u) = mismatch (n ∷ place) h u
 
 -- in this element, or in one after it
 abbrev pub here_or : ℕ → Option Mismatch → Option Mismatch → Option Mismatch
-here_or n None behind = behind
-here_or n (Some m) behind = Some (in_element n m)
+here_or n None later = later
+here_or n (Some m) later = Some (in_element n m)
 
 -- of a variable that is bound to this
 abbrev pub unlike_bound : ℕ → Tree → Option Tree → Option Mismatch
