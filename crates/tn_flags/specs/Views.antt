@@ -19,7 +19,7 @@ use Rattle.tn_flags.specs.declared.command.Command.{Command}
 use Rattle.tn_flags.specs.declared.command.Command.TheVariants.{SessionCreate, SessionDestroy, Process, Function, Send, Recv}
 
 abbrev pub call_seen : {A : Type 0} → Call A → event.Call
-call_seen c = record { mfa = mfa_seen c.mfa; args = map tree_of c.args.items; named = c.named; exported = c.exported; caller = option_map mfa_seen c.caller; depth = c.depth }
+call_seen c = record { mfa = mfa_seen c.mfa; args = map shared_tree c.args.items; named = c.named; exported = c.exported; caller = option_map mfa_seen c.caller; depth = c.depth }
 
 abbrev pub class_of : Class → program.Class
 class_of Error = program.error

@@ -85,7 +85,7 @@ pub enum Event<A: Allocator> {
 #[derive(Drop)]
 pub struct Call<A: Allocator> {
     pub mfa: Mfa<A>,
-    pub args: Vec<Term<A>, A>,
+    pub args: Vec<SharedTerm<A>, A>,
     pub named: bool,
     pub exported: bool,
     pub caller: Option<Mfa<A>>,

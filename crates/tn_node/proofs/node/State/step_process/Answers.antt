@@ -10,12 +10,12 @@ pub returns-in-Some : goal.returns-in-Some
 returns-in-Some g c =
     let before = c.args.self.now in
     let after = c.step.new.self in
-    let same = ap (λ items. next_of (functions_of items) (world_of before.world) c.args.pid) c.deref.ensures.value in
+    let same = ap (λ items. next_of (functions_of items) (world_of before.world) c.args.pid) (c.as_slice.ensures.value ∙ ap (λ v. v.items) c.deref.ensures) in
     process_pick (node_seen before) c.args.pid (move_of after (Some c.in-Some.events)) c.requires (sym (ap (move_of after) c.in-Some.is) ∙ c.in_ok-events.ensures ∙ same)
 
 pub returns-in-None : goal.returns-in-None
 returns-in-None g c =
     let before = c.args.self.now in
     let after = c.step.new.self in
-    let same = ap (λ items. next_of (functions_of items) (world_of before.world) c.args.pid) c.deref.ensures.value in
+    let same = ap (λ items. next_of (functions_of items) (world_of before.world) c.args.pid) (c.as_slice.ensures.value ∙ ap (λ v. v.items) c.deref.ensures) in
     process_pick (node_seen before) c.args.pid (move_of after None) c.requires (sym (ap (move_of after) c.in-None.is) ∙ c.in_ok-events.ensures ∙ same)
