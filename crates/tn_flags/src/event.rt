@@ -44,14 +44,14 @@ pub enum Event<A: Allocator> {
         pid: u32,
         child: u32,
         mfa: Mfa<A>,
-        args: Vec<Term<A>, A>,
+        args: Vec<SharedTerm<A>, A>,
     },
     /// The process was started by its parent.
     Spawned {
         pid: u32,
         parent: u32,
         mfa: Mfa<A>,
-        args: Vec<Term<A>, A>,
+        args: Vec<SharedTerm<A>, A>,
     },
     /// The process ended.
     Exited {

@@ -2,15 +2,18 @@
 //! commands; and the flags of processes.
 //!
 //! Depends on tn_term and on the definitions. Promises that `Flags` is a set of ten, and that
-//! `inherit_spawn` and `inherit_link` are the rules of inheritance.
+//! `inherit_spawn` and `inherit_link` are the rules of inheritance; and that the arguments of a call with
+//! one more owner each are the same.
 #![tactic(auto)]
 
+mod arguments;
 mod class;
 mod command;
 mod event;
 mod flags;
 mod table;
 
+pub use arguments::{own_arguments, share_arguments};
 pub use class::Class;
 pub use command::Command;
 pub use event::{Call, Event};

@@ -2,7 +2,7 @@
 //!
 //! Depends on tn_term, on tn_spec and on the definitions of def_spec. Promises that `apply` answers the
 //! value of one function on values, and none exactly where that is a fault. A term that a function looks
-//! at is lent, and no function takes memory: only `copy_into` does.
+//! at is lent, and no function takes memory: only `copy_into` does, and `lent_values` for its list.
 #![tactic(auto)]
 
 mod arithmetic;
@@ -13,8 +13,10 @@ mod kind;
 mod list_view;
 mod logic;
 mod shape;
+mod shared_terms;
 mod value;
 
 pub use functions::apply;
 pub use list_view::ListView;
+pub use shared_terms::lent_values;
 pub use value::{AtomConst, Value};
