@@ -7,7 +7,7 @@ ghost use Rattle.tn_script.specs.Views.{entry_of};
 ghost use Rattle.tn_node.specs.NodeEvents.{seen_events, events_of_spawn, partings, events_of_exit};
 
 use std::alloc::{AllocError, Allocator};
-use tn_flags::Event;
+use tn_flags::{Event, own_arguments, share_arguments};
 use tn_script::Entry;
 use tn_term::{FIRST_PID, Mfa, Term, copy_terms};
 
@@ -31,18 +31,19 @@ pub fn start_events<A: Allocator + Copy>(
 ) -> Result<Vec<Event<A>, A>, AllocError>
     ensures { IfOk result (λ es. map event_of es.items ≡ events_of_spawn pid child (entry_of entry.now)) }
 {
+    let args = own_arguments(alloc, copy_terms(&entry.args.terms, alloc)?)?;
     let mut events = Vec::new(alloc);
     events.push(Event::Spawn {
         pid,
         child,
         mfa: entry_mfa(alloc, entry)?,
-        args: copy_terms(&entry.args.terms, alloc)?,
+        args: share_arguments(alloc, &args)?,
     })?;
     events.push(Event::Spawned {
         pid: child,
         parent: pid,
         mfa: entry_mfa(alloc, entry)?,
-        args: copy_terms(&entry.args.terms, alloc)?,
+        args,
     })?;
     Ok(events)
 }

@@ -1,5 +1,5 @@
 -- What the functions of one step answer, in the words of the definitions.
-use Rattle.std.specs.Prelude.{◌≡◌, List, [], ◌∷◌, ℕ, ◌+◌, Bool, true, false, Option, Some, None, Result, IfOk, MatchOption, length, slice_get}
+use Rattle.std.specs.Prelude.{◌≡◌, List, [], ◌∷◌, ℕ, ◌+◌, Bool, true, false, Option, Some, None, Result, IfOk, MatchOption, length, map, slice_get}
 use Rattle.def_term.specs.Tree.{Tree, pid_in}
 use Rattle.def_term.specs.Names.{Name, Mfa}
 use Rattle.def_script.specs.Program.{Step, mfa_of}
@@ -7,8 +7,9 @@ use Rattle.def_node.specs.Event.{Event, Call, returned}
 use Rattle.def_node.specs.Values.{fit, rebound_target}
 use Rattle.def_node.specs.Process as process
 use Rattle.def_node.specs.Process.{with_frames, with_env, enters, calls, spawns_with, performs, runs, leaves}
+use Rattle.tn_term.specs.SharedTree.{shared_tree}
 use Rattle.tn_term.specs.declared.term.Term.{Term}
-use Rattle.tn_script.specs.Views.{args_of, entry_of, functions_of, function_of}
+use Rattle.tn_script.specs.Views.{entry_of, functions_of, function_of}
 use Rattle.tn_script.specs.declared.form.Entry.{Entry}
 use Rattle.tn_script.specs.declared.form.Function.{Function}
 use Rattle.tn_process.specs.declared.act.Act.{Act}
@@ -64,7 +65,7 @@ manner_in k = record { target = k.target.now; named = k.named; by_catch = k.by_c
 
 -- a call by the number of its function
 abbrev pub enters_in : {A : Type 0} → StepContext A → Process A → PendingCall A → Option ℕ → process.Act
-enters_in c q k i = enters (functions_of c.functions.now) c.pid (process_seen q) (process_seen q).frames (manner_of k) (args_of k.args) i
+enters_in c q k i = enters (functions_of c.functions.now) c.pid (process_seen q) (process_seen q).frames (manner_of k) (map shared_tree k.args.items) i
 
 -- the function of the newest frame
 abbrev pub caller_in : {A : Type 0} → List (Function A) → Process A → Option Mfa
@@ -74,7 +75,7 @@ caller_in ks q = process.caller_of (functions_of ks) (process_seen q).frames
 abbrev pub called_in : {A : Type 0} → StepContext A → Process A → PendingCall A → Function A → Call
 called_in c q k f = record {
   mfa = mfa_of (function_of f);
-  args = args_of k.args;
+  args = map shared_tree k.args.items;
   named = k.named;
   exported = f.exported;
   caller = caller_in c.functions.now q;
@@ -84,13 +85,13 @@ called_in c q k f = record {
 -- with the frame of a call of the function with this number as the newest
 abbrev pub enter : {A : Type 0} → StepContext A → Process A → PendingCall A → ℕ → Function A → process.Process
 enter c q k i f =
-    let env = env_for_call c.pid (function_of f).params (args_of k.args) in
+    let env = env_for_call c.pid (function_of f).params (map shared_tree k.args.items) in
     record (process_seen q) { entry = None; frames = record { function = i; place = 0; env = env; target = k.target; by_catch = k.by_catch } ∷ (process_seen q).frames }
 
 -- the same of a function that is there
 abbrev pub enters_function_in : {A : Type 0} → StepContext A → Process A → PendingCall A → ℕ → Function A → process.Act
 enters_function_in c q k i f =
-    process.enters_at (functions_of c.functions.now) c.pid (process_seen q) (process_seen q).frames (manner_of k) (args_of k.args) i (Some (function_of f))
+    process.enters_at (functions_of c.functions.now) c.pid (process_seen q) (process_seen q).frames (manner_of k) (map shared_tree k.args.items) i (Some (function_of f))
 
 -- the step of a call
 abbrev pub calls_in : {A : Type 0} → StepContext A → Process A → Frame A → Callee A → process.Act

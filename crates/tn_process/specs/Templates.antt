@@ -5,6 +5,8 @@ use Rattle.def_term.specs.Names.{Name}
 use Rattle.def_node.specs.Values as values
 use Rattle.def_node.specs.Values.{instance_of, params_bound}
 use Rattle.tn_term.specs.Views.{tree_of, trees_of}
+use Rattle.tn_term.specs.SharedTree.{shared_tree}
+use Rattle.tn_term.specs.declared.shared_term.SharedTerm.{SharedTerm}
 use Rattle.tn_term.specs.declared.term.Term.{Term}
 use Rattle.tn_script.specs.declared.form.Arguments.{Arguments}
 use Rattle.tn_process.specs.declared.process.Frame.{Frame}
@@ -34,9 +36,9 @@ abbrev pub env_for_call : ℕ → List Name → List Tree → values.Env
 env_for_call n ps ts = params_bound ((codes "Self", pid n) ∷ []) ps ts
 
 -- one more parameter has its value
-abbrev pub BindsNext : {A : Type 0} → Env A → Env A → Name → List (Term A) → List (Term A) → Type 0
+abbrev pub BindsNext : {A : Type 0} → Env A → Env A → Name → List (SharedTerm A) → List (SharedTerm A) → Type 0
 BindsNext old new p had left =
-    (ps : List Name) → params_bound (env_of new) ps (map tree_of left) ≡ params_bound (env_of old) (p ∷ ps) (map tree_of had)
+    (ps : List Name) → params_bound (env_of new) ps (map shared_tree left) ≡ params_bound (env_of old) (p ∷ ps) (map shared_tree had)
 
 -- the value is the term, which has at most size n and depth d
 pub record IsValueIn {A : Type 0} (n d : ℕ) (t : Tree) (v : Value A) : Type 0 where

@@ -1,7 +1,7 @@
 // What a step of a process is given, and what a call, a catch or a spawn names.
 use std::alloc::Allocator;
 use tn_script::{Arguments, Function};
-use tn_term::Atom;
+use tn_term::{Atom, SharedTerm};
 
 /// What a step of a process is given.
 #[derive(Drop)]
@@ -36,5 +36,6 @@ pub struct PendingCall<A: Allocator> {
     pub named: bool,
     /// Whether a catch step makes it.
     pub by_catch: bool,
-    pub args: Arguments<A>,
+    /// Each may have other owners, as the value of a variable has.
+    pub args: Vec<SharedTerm<A>, A>,
 }

@@ -25,9 +25,9 @@ use crate::function::{find_function, function_mfa};
 use crate::values::{Env, pid_in};
 use std::alloc::{AllocError, Allocator};
 use std::collections::VecDeque;
-use tn_flags::{Call, Event};
+use tn_flags::{Call, Event, own_arguments, share_arguments};
 use tn_script::{Entry, Function, Step, copy_target};
-use tn_term::{Atom, Mfa, SharedTerm, Term, copy_terms};
+use tn_term::{Atom, Mfa, SharedTerm, Term};
 
 /// How many frames a process may have.
 pub(crate) const FRAMES: usize = 64;
@@ -305,7 +305,7 @@ impl<A: Allocator + Copy> Process<A> {
     {
         Ok(Call {
             mfa: function_mfa(context.alloc, function)?,
-            args: copy_terms(&calling.args.terms, context.alloc)?,
+            args: share_arguments(context.alloc, &calling.args)?,
             named: calling.named,
             exported: function.exported,
             caller: self.caller(context.alloc, context.functions)?,
@@ -323,8 +323,7 @@ impl<A: Allocator + Copy> Process<A> {
     ) -> Result<(), AllocError>
         ensures { IfOk result (λ _. process_seen self.new ≡ enter context.now self.old calling number function.now) }
     {
-        let args = calling.args.terms;
-        let env = Env::for_call(context.alloc, context.pid, &function.params, args)?;
+        let env = Env::for_call(context.alloc, context.pid, &function.params, calling.args)?;
         let target = calling.target;
         let by_catch = calling.by_catch;
         self.push_frame(Frame {
@@ -368,14 +367,15 @@ impl<A: Allocator + Copy> Process<A> {
         requires { frame.place < usize.MAX }
         ensures { Does self.new result (calls_in context.now self.old frame callee.now) }
     {
-        let Some(args) = frame.env.fitting_all(context.alloc, callee.templates)? else {
+        let templates = &callee.templates.terms;
+        let Some(args) = frame.env.fit_all_shared(context.alloc, templates)? else {
             return over_limit(context.alloc);
         };
         let number = find_function(
             context.functions,
             callee.home.text(),
             callee.name.text(),
-            args.terms.len(),
+            args.len(),
         );
         let target = copy_target(context.alloc, callee.target)?;
         frame.advance();
@@ -588,7 +588,7 @@ impl<A: Allocator + Copy> Process<A> {
             target: None,
             named: true,
             by_catch: false,
-            args: entry.args,
+            args: own_arguments(context.alloc, entry.args.terms)?,
         };
         self.enter(context, calling, number)
     }

@@ -193,14 +193,33 @@ impl<A: Allocator + Copy> Env<A> {
         }
     }
 
+    /// The same, where each may have several owners: the value of a variable is not copied.
+    pub fn fit_all_shared(
+        &self,
+        alloc: A,
+        templates: &Vec<Term<A>, A>,
+    ) -> Result<Option<Vec<SharedTerm<A>, A>>, AllocError>
+        ensures { let ts = all_built_by self.now templates.now.items in
+            IfOk result (λ o. option_map (λ v. map shared_tree v.items) o ≡ fitting_all ts) }
+    {
+        let mut terms = Vec::with_capacity(alloc, templates.len())?;
+        for template in templates {
+            let Some(term) = self.fit_shared(alloc, template)? else {
+                return Ok(None);
+            };
+            terms.push(term)?;
+        }
+        Ok(Some(terms))
+    }
+
     /// The values of a function's parameters, and the process's own pid.
     pub fn for_call(
         alloc: A,
         pid: u32,
         params: &Vec<Atom<A>, A>,
-        args: Vec<Term<A>, A>,
+        args: Vec<SharedTerm<A>, A>,
     ) -> Result<Env<A>, AllocError>
-        ensures { IfOk result (λ e. env_of e ≡ env_for_call pid params.now.items (map tree_of args.items)) }
+        ensures { IfOk result (λ e. env_of e ≡ env_for_call pid params.now.items (map shared_tree args.items)) }
     {
         let mut env = Env::of_process(alloc, pid)?;
         let mut args = VecDeque::from(args);
@@ -215,16 +234,12 @@ impl<A: Allocator + Copy> Env<A> {
         &mut self,
         alloc: A,
         param: &Atom<A>,
-        args: &mut VecDeque<Term<A>, A>,
+        args: &mut VecDeque<SharedTerm<A>, A>,
     ) -> Result<(), AllocError>
         ensures { IfOk result (λ _. BindsNext self.old self.new param.now args.old.items args.new.items) }
     {
         match args.pop_front() {
-            Some(value) => {
-                let value = SharedTerm::new(alloc, value)?;
-                self.bind(alloc, param, value)?;
-                Ok(())
-            }
+            Some(value) => self.bind(alloc, param, value),
             None => Ok(()),
         }
     }

@@ -1,12 +1,11 @@
 -- The texts of the elements of a message.
-use Rattle.std.proofs.Common.{◌≡◌, ◌∙◌, ℕ, ◌+◌, ◌<◌, List, [], ◌∷◌, ◌++◌, Bool, true, false, append_assoc, refl, sym, ap, codes, length, get_or, drop}
-use Rattle.std.proofs.lemmas.List.{append-nil}
+use Rattle.std.proofs.Common.{◌≡◌, ◌∙◌, ℕ, ◌+◌, ◌<◌, ◌≤◌, List, [], ◌∷◌, ◌++◌, Bool, true, false, append_assoc, refl, sym, ap, codes, length, map, get_or, drop, vec_len, eqb, arith}
+use Rattle.std.specs.declared.vec.Vec.{Vec}
+use Rattle.std.proofs.lemmas.Bool.{eqb-false}
+use Rattle.std.proofs.lemmas.List.{append-nil, drop_more, drop_all}
 use Rattle.def_term.specs.Tree.{Tree, atom, pid, of_elements}
 use Rattle.def_term.specs.Names.{Mfa, word}
-use Rattle.tn_term.specs.declared.term.Term.{Term}
-use Rattle.tn_term.specs.Views.{tree_of, trees_of}
 use Rattle.tn_text.specs.Writes.{Grows}
-use Rattle.tn_text.proofs.Growth.{one_more}
 use Rattle.def_term.specs.Text.{w, is_written_bare, atom_text, comma_list, each_after_comma}
 use Rattle.def_node.specs.Event.{Event, sent, received, called, returned, raised, spawning, spawned, exited, linked, unlinked, getting_linked, getting_unlinked}
 use Rattle.def_script.specs.Program.{Class}
@@ -92,11 +91,29 @@ more_at_the_end short e us =
 pub grows_same : {a b : List ℕ} → b ≡ a → Grows a b
 grows_same {a} e = record { added = []; whole = e ∙ sym (append-nil a) }
 
--- a comma and the text are written at once
-pub one_more_after : {A : Type 0} (items : List (Term A)) (i : ℕ) (x : Term A) (a d z : List ℕ) → i < length items → x ≡ get_or items i x
-    → a ++ each_after_comma (trees_of (drop i items)) ≡ z → d ≡ a ++ 44 ∷ w (tree_of x) → d ++ each_after_comma (trees_of (drop (i + 1) items)) ≡ z
-one_more_after items i x a d z below is so_far text =
-    one_more items i x a (a ++ 44 ∷ []) d z below is so_far refl (text ∙ sym (append_assoc a (44 ∷ []) (w (tree_of x))))
+-- there is one, where the list isn't empty
+pub one_there : {X A : Type 0} (v : Vec X A) → false ≡ eqb (vec_len v) 0 → v.len ≡ length v.items → 0 < length v.items
+one_there v filled size = let some = eqb-false (vec_len v) 0 (sym filled) in omega (arith, size, some)
+
+-- the first of the texts
+pub first_text : {X : Type 0} (seen : X → Tree) (items : List X) (x : X) (a b : List ℕ) → 0 < length items → x ≡ get_or items 0 x → b ≡ a ++ w (seen x)
+    → b ++ each_after_comma (of_elements (map seen (drop 1 items))) ≡ a ++ comma_list (of_elements (map seen items))
+first_text seen [] x a b some is e = absurd (omega (arith, some))
+first_text seen (y ∷ ys) x a b some is e =
+    let rest = each_after_comma (of_elements (map seen ys)) in
+    ap (λ o. o ++ rest) e ∙ append_assoc a (w (seen x)) rest ∙ ap (λ t. a ++ (w (seen t) ++ rest)) is
+
+-- a comma and the next text
+pub next_text : {X : Type 0} (seen : X → Tree) (items : List X) (i : ℕ) (x : X) (a d z : List ℕ) → i < length items → x ≡ get_or items i x
+    → a ++ each_after_comma (of_elements (map seen (drop i items))) ≡ z → d ≡ a ++ 44 ∷ w (seen x) → d ++ each_after_comma (of_elements (map seen (drop (i + 1) items))) ≡ z
+next_text seen items i x a d z below is so_far text =
+    let rest = each_after_comma (of_elements (map seen (drop (i + 1) items))) in
+    let opened : each_after_comma (of_elements (map seen (drop i items))) ≡ 44 ∷ (w (seen (get_or items i x)) ++ rest) = ap (λ xs. each_after_comma (of_elements (map seen xs))) (drop_more items i x below) in
+    ap (λ o. o ++ rest) (text ∙ ap (λ t. a ++ 44 ∷ w (seen t)) is) ∙ append_assoc a (44 ∷ w (seen (get_or items i x))) rest ∙ ap (λ t. a ++ t) (sym opened) ∙ so_far
+
+-- nothing comes after the last
+pub last_text : {X : Type 0} (seen : X → Tree) (items : List X) (i : ℕ) (a z : List ℕ) → length items ≤ i → a ++ each_after_comma (of_elements (map seen (drop i items))) ≡ z → a ≡ z
+last_text seen items i a z over so_far = sym (append-nil a) ∙ sym (ap (λ xs. a ++ each_after_comma (of_elements (map seen xs))) (drop_all i items over)) ∙ so_far
 
 -- what was written grows by it
 pub grows_by : {a b : List ℕ} (x : List ℕ) → b ≡ a ++ x → Grows a b

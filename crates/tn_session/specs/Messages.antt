@@ -8,7 +8,9 @@ use Rattle.def_term.specs.Text.{w, comma_list, each_after_comma, atom_text}
 use Rattle.def_node.specs.Event.{Event, sent, received, called, returned, raised, spawning, spawned, exited, linked, unlinked, getting_linked, getting_unlinked}
 use Rattle.def_session.specs.Messages.{call_term, exception_term, elements_of, process_of}
 use Rattle.tn_term.specs.Views.{tree_of, mfa_seen}
+use Rattle.tn_term.specs.SharedTree.{shared_tree}
 use Rattle.tn_term.specs.declared.mfa.Mfa as mfas
+use Rattle.tn_term.specs.declared.shared_term.SharedTerm.{SharedTerm}
 use Rattle.tn_term.specs.declared.term.Term.{Term}
 use Rattle.tn_flags.specs.Views.{class_of, event_of}
 use Rattle.tn_flags.specs.declared.class.Class.{Class}
@@ -19,9 +21,13 @@ use Rattle.tn_session.specs.declared.message.Message.{Message}
 abbrev pub trees : {A : Type 0} → Vec (Term A) A → List Tree
 trees v = map tree_of v.items
 
+-- the terms of a list, each of which may have several owners
+abbrev pub shared_trees : {A : Type 0} → Vec (SharedTerm A) A → List Tree
+shared_trees v = map shared_tree v.items
+
 -- `{M,F,Args}`
-abbrev pub call_tree : {A : Type 0} → mfas.Mfa A → Vec (Term A) A → Tree
-call_tree f args = call_term (mfa_seen f) (trees args)
+abbrev pub call_tree : {A : Type 0} → mfas.Mfa A → Vec (SharedTerm A) A → Tree
+call_tree f args = call_term (mfa_seen f) (shared_trees args)
 
 -- `{Class,Value}`
 abbrev pub exception_tree : {A : Type 0} → Class → Term A → Tree
@@ -44,7 +50,7 @@ abbrev pub first_three : ℕ → Name → List Tree
 first_three p kind = word "trace" ∷ pid p ∷ atom kind ∷ []
 
 -- the elements of a message that ends with a pid and `{M,F,Args}`
-abbrev pub elements_with_call : {A : Type 0} → ℕ → Name → ℕ → mfas.Mfa A → Vec (Term A) A → List Tree
+abbrev pub elements_with_call : {A : Type 0} → ℕ → Name → ℕ → mfas.Mfa A → Vec (SharedTerm A) A → List Tree
 elements_with_call p kind to f args = first_three p kind ++ pid to ∷ call_tree f args ∷ []
 
 -- a tuple of two

@@ -7,12 +7,12 @@ ghost use Rattle.def_node.specs.Event.{sent as send, called as call_event};
 ghost use Rattle.def_session.specs.Messages.{class_term, elements_of};
 ghost use Rattle.tn_term.specs.Views.{tree_of, mfa_seen};
 ghost use Rattle.tn_flags.specs.Views.{event_of, call_seen, class_of};
-ghost use Rattle.tn_session.specs.Messages.{first_three, trees, call_tree, exception_tree, last_seen, pair};
+ghost use Rattle.tn_session.specs.Messages.{first_three, trees, shared_trees, call_tree, exception_tree, last_seen, pair};
 ghost use Rattle.tn_session.specs.Messages.{elements_of_return, elements_of_raise, elements_with_call};
 
 use std::alloc::{AllocError, Allocator};
 use tn_flags::{Call, Class, Event};
-use tn_term::{Mfa, Term, copy_terms};
+use tn_term::{Mfa, SharedTerm, Term};
 
 /// The elements of the message of an event; a call's names the arity alone where `short`. There is room
 /// for one more.
@@ -142,7 +142,7 @@ fn with_call<A: Allocator, B: Allocator + Copy>(
     kind: &str,
     to: u32,
     mfa: &Mfa<A>,
-    args: &Vec<Term<A>, A>,
+    args: &Vec<SharedTerm<A>, A>,
 ) -> Result<Vec<Term<B>, B>, AllocError>
     requires { IsAtomText kind.now }
     ensures { IfOk result (λ v. trees v ≡ elements_with_call pid kind.now to mfa.now args.now) }
@@ -288,14 +288,17 @@ fn name_with_arity<A: Allocator, B: Allocator + Copy>(
     Ok(tuple_of_three(alloc, module, name, Term::Int(i64::from(mfa.arity)))?)
 }
 
-/// The list of copies of these terms.
+/// The list of copies of these arguments.
 fn list_of<A: Allocator, B: Allocator + Copy>(
     alloc: B,
-    items: &Vec<Term<A>, A>,
+    args: &Vec<SharedTerm<A>, A>,
 ) -> Result<Term<B>, AllocError>
-    ensures { IfOk result (λ t. tree_of t ≡ list (of_elements (trees items.now))) }
+    ensures { IfOk result (λ t. tree_of t ≡ list (of_elements (shared_trees args.now))) }
 {
-    let copies = copy_terms(items, alloc)?;
+    let mut copies = Vec::with_capacity(alloc, args.len())?;
+    for arg in args {
+        copies.push(arg.term().copy_into(alloc)?)?;
+    }
     Ok(Term::List(copies))
 }
 
@@ -303,7 +306,7 @@ fn list_of<A: Allocator, B: Allocator + Copy>(
 fn call_with_args<A: Allocator, B: Allocator + Copy>(
     alloc: B,
     mfa: &Mfa<A>,
-    args: &Vec<Term<A>, A>,
+    args: &Vec<SharedTerm<A>, A>,
 ) -> Result<Term<B>, AllocError>
     ensures { IfOk result (λ t. tree_of t ≡ call_tree mfa.now args.now) }
 {

@@ -26,7 +26,7 @@ use crate::setting::setting_for;
 use crate::state::{Kind, Phase, State};
 use std::alloc::{AllocError, Allocator};
 use tn_flags::{Call, Event, Flags, inherit_link, inherit_spawn};
-use tn_guard::{AtomConst, ListView, Value};
+use tn_guard::{AtomConst, ListView, Value, lent_values};
 use tn_index::Setting;
 use tn_machine::{Context, Effect, Outcome};
 use tn_term::Term;
@@ -263,8 +263,9 @@ impl<A: Allocator + Copy> State<A> {
         }
         match setting_for(&self.settings, call) {
             Some(setting) => {
+                let args = lent_values(self.alloc, &call.args)?;
                 let context = Context {
-                    list: ListView::Terms(call.args.as_slice()),
+                    list: ListView::Values(args.as_slice()),
                     self_pid: pid,
                     caller: call.caller.as_ref(),
                     alive: &self.alive,

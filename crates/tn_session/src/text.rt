@@ -3,17 +3,17 @@ ghost use Rattle.std.specs.Prelude.{◌≡◌, ◌++◌, ◌∷◌, pos, OnOk};
 ghost use Rattle.def_term.specs.Tree.{of_elements, int, pid as pid_tree, list};
 ghost use Rattle.def_term.specs.Names.{mfa_term};
 ghost use Rattle.def_term.specs.Text.{w, comma_list, atom_text, each_after_comma};
-ghost use Rattle.tn_term.specs.Views.{tree_of, trees_of, mfa_seen};
+ghost use Rattle.tn_term.specs.Views.{tree_of, mfa_seen};
 ghost use Rattle.def_session.specs.Messages.{class_term};
 ghost use Rattle.tn_flags.specs.Views.{class_of, event_of};
 ghost use Rattle.tn_text.specs.Writes.{Grows};
 ghost use Rattle.tn_session.specs.Messages.{event_name, front_text, details_text, elements_text};
-ghost use Rattle.tn_session.specs.Messages.{names_text, call_tree, exception_tree, last_seen};
+ghost use Rattle.tn_session.specs.Messages.{names_text, shared_trees, call_tree, exception_tree, last_seen};
 
 use crate::event::process_of;
 use std::alloc::{AllocError, Allocator};
 use tn_flags::{Class, Event};
-use tn_term::{Mfa, Term};
+use tn_term::{Mfa, SharedTerm, Term};
 use tn_text::{write_atom, write_term};
 
 /// Appends the text of an event's elements, after a brace and with a comma between any two; a call's
@@ -190,16 +190,16 @@ fn write_number<B: Allocator>(number: u8, out: &mut Vec<u8, B>) -> Result<(), Al
     Ok(())
 }
 
-/// Appends the list of these terms.
+/// Appends the list of these arguments.
 fn write_list<A: Allocator, B: Allocator>(
-    items: &Vec<Term<A>, A>,
+    args: &Vec<SharedTerm<A>, A>,
     out: &mut Vec<u8, B>,
 ) -> Result<(), AllocError>
-    ensures ok { OnOk result (out.new.items ≡ out.old.items ++ w (list (trees_of items.now.items))) }
+    ensures ok { OnOk result (out.new.items ≡ out.old.items ++ w (list (of_elements (shared_trees args.now)))) }
     ensures grows { Grows out.old.items out.new.items }
 {
     out.push(b'[')?;
-    put_joined(items, out)?;
+    put_joined(args, out)?;
     out.push(b']')?;
     Ok(())
 }
@@ -237,7 +237,7 @@ fn put_arity<A: Allocator, B: Allocator>(
 /// Appends `,{M,F,Args}`.
 fn put_args<A: Allocator, B: Allocator>(
     mfa: &Mfa<A>,
-    args: &Vec<Term<A>, A>,
+    args: &Vec<SharedTerm<A>, A>,
     out: &mut Vec<u8, B>,
 ) -> Result<(), AllocError>
     ensures ok { OnOk result (out.new.items ≡ out.old.items ++ 44 ∷ w (call_tree mfa.now args.now)) }
@@ -277,20 +277,20 @@ fn class_text(class: Class) -> &'static [u8]
     }
 }
 
-/// Appends the texts of terms, with a comma between any two.
+/// Appends the texts of arguments, with a comma between any two.
 fn put_joined<A: Allocator, B: Allocator>(
-    items: &Vec<Term<A>, A>,
+    args: &Vec<SharedTerm<A>, A>,
     out: &mut Vec<u8, B>,
 ) -> Result<(), AllocError>
-    ensures ok { OnOk result (out.new.items ≡ out.old.items ++ comma_list (trees_of items.now.items)) }
+    ensures ok { OnOk result (out.new.items ≡ out.old.items ++ comma_list (of_elements (shared_trees args.now))) }
     ensures grows { Grows out.old.items out.new.items }
 {
-    if items.is_empty() {
+    if args.is_empty() {
         return Ok(());
     }
-    write_term(&items[0], out)?;
-    for i in 1..items.len() {
-        put_more(&items[i], out)?;
+    write_term(args[0].term(), out)?;
+    for i in 1..args.len() {
+        put_more(args[i].term(), out)?;
     }
     Ok(())
 }

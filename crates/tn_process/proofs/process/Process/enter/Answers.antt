@@ -1,6 +1,7 @@
-use Rattle.std.proofs.Common.{ap, sym, ◌∙◌}
+use Rattle.std.proofs.Common.{ap, map, sym, ◌∙◌}
 use Rattle.def_node.specs.Process.{enters_at}
-use Rattle.tn_script.specs.Views.{args_of, function_of, functions_of}
+use Rattle.tn_term.specs.SharedTree.{shared_tree}
+use Rattle.tn_script.specs.Views.{function_of, functions_of}
 use Rattle.tn_process.specs.StepAnswers.{enters_in, manner_of}
 use Rattle.tn_process.specs.Views.{process_seen}
 use Rattle.tn_process.proofs.Lookup.{seen_at, none_at}
@@ -18,7 +19,7 @@ returns-in_default-get g c =
     let k = c.args.calling in
     let i = c.in-Some.number in
     ended c.args.self.now _ _ _ c.ends_with-in_default-get.ensures
-    (sym (ap (enters_at (functions_of ks) c.args.context.now.pid q q.frames (manner_of k) (args_of k.args) i) (none_at function_of ks i c.in_default-get.ensures.lookup.3))
+    (sym (ap (enters_at (functions_of ks) c.args.context.now.pid q q.frames (manner_of k) (map shared_tree k.args.items) i) (none_at function_of ks i c.in_default-get.ensures.lookup.3))
     ∙ sym (ap (enters_in c.args.context.now c.args.self.now k) c.in-Some.is))
 
 pub returns : goal.returns
@@ -30,5 +31,5 @@ returns g c =
     let at = c.in-Some-get.ensures.lookup in
     let here = seen_at function_of ks i c.in-Some-get.function.now at.3.0 at.1 in
     done c.enter_function.new.self _ _ _ c.enter_function.ensures
-    (sym (ap (enters_at (functions_of ks) c.args.context.now.pid q q.frames (manner_of k) (args_of k.args) i) here)
+    (sym (ap (enters_at (functions_of ks) c.args.context.now.pid q q.frames (manner_of k) (map shared_tree k.args.items) i) here)
     ∙ sym (ap (enters_in c.args.context.now c.args.self.now k) c.in-Some.is))
