@@ -1,15 +1,18 @@
 -- What the steps of telling an event are of, and what they give.
-use Rattle.std.specs.Prelude.{ℕ, Bool, List, [], map, Option, None}
+use Rattle.std.specs.Prelude.{ℕ, Bool, List, [], map, Option}
+use Rattle.std.specs.Borrow.{Bor}
 use Rattle.std.specs.Option.{option_map}
 use Rattle.std.specs.declared.vec.Vec.{Vec}
 use Rattle.def_term.specs.Tree.{Tree}
+use Rattle.def_term.specs.Names.{Mfa}
 use Rattle.def_spec.specs.Expressions.{Context, Effect as DefinedEffect}
 use Rattle.def_node.specs.Event as node
 use Rattle.def_node.specs.Event.{sent}
 use Rattle.def_session.specs.State.{Session, live, alive_after}
 use Rattle.def_session.specs.Messages.{elements_of, message_by}
 use Rattle.def_session.specs.Session.{EventResult, context, effects_of, evaluated_by, finish, reported_by_effects, reported_in, event_reported}
-use Rattle.tn_term.specs.Views.{tree_of}
+use Rattle.tn_term.specs.Views.{tree_of, mfa_seen}
+use Rattle.tn_term.specs.declared.mfa.Mfa as mfas
 use Rattle.tn_term.specs.declared.term.Term.{Term}
 use Rattle.tn_flags.specs.Views.{event_of}
 use Rattle.tn_flags.specs.declared.event.Event.{Event}
@@ -78,9 +81,13 @@ send_evaluation s p t to alive = evaluation s (sent p (tree_of t) to alive)
 abbrev pub evaluation_by : {A : Type 0} → Setting (CompiledSpec A) → Context → Option (List DefinedEffect)
 evaluation_by s c = evaluated_by (setting_seen s) c
 
--- what a specification is evaluated in, on these values
-abbrev pub on_values : {A B : Type 0} → State A → ℕ → List (Value B) → Context
-on_values s self_pid vs = context (state_seen s) self_pid (map value_seen vs) None
+-- the function that called, where it is lent
+abbrev pub caller_seen : {A : Type 0} → Option (Bor (mfas.Mfa A)) → Option Mfa
+caller_seen caller = option_map (λ m. mfa_seen m.now) caller
+
+-- what a specification is evaluated in, by this caller and on these values
+abbrev pub on_values : {A B : Type 0} → State A → ℕ → Option Mfa → List (Value B) → Context
+on_values s self_pid caller vs = context (state_seen s) self_pid (map value_seen vs) caller
 
 -- the message of an event, by the last term that its effects give
 abbrev pub decision : {A B : Type 0} → Bool → Event A → Option (Term B) → Option Tree

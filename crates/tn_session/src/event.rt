@@ -16,7 +16,7 @@ ghost use Rattle.tn_session.specs.Views.{mark_kind_seen, state_seen};
 ghost use Rattle.tn_session.specs.EventSteps.{event_result, reported_as_term, event_step, live_event_step};
 ghost use Rattle.tn_session.specs.EventSteps.{event_step_by, alive_step, plain_finish};
 ghost use Rattle.tn_session.specs.EventSteps.{asks, effects_in, evaluation};
-ghost use Rattle.tn_session.specs.EventSteps.{evaluation_by, send_evaluation, on_values};
+ghost use Rattle.tn_session.specs.EventSteps.{evaluation_by, send_evaluation, caller_seen, on_values};
 ghost use Rattle.tn_session.specs.EventSteps.{message_in, decision};
 
 use crate::compiled_spec::CompiledSpec;
@@ -29,7 +29,7 @@ use tn_flags::{Call, Event, Flags, inherit_link, inherit_spawn};
 use tn_guard::{AtomConst, ListView, Value, lent_values};
 use tn_index::Setting;
 use tn_machine::{Context, Effect, Outcome};
-use tn_term::Term;
+use tn_term::{Mfa, Term};
 
 // ---- one event
 
@@ -208,7 +208,7 @@ impl<A: Allocator + Copy> State<A> {
             return Ok(None);
         }
         let list = [Value::Pid(to), Value::Lent(message)];
-        Ok(self.evaluated_values(&self.sending, pid, &list)?)
+        Ok(self.evaluated_values(&self.sending, pid, None, &list)?)
     }
 
     /// The effects of a receive, by the receive setting.
@@ -228,7 +228,7 @@ impl<A: Allocator + Copy> State<A> {
             Value::Pid(sender),
             Value::Lent(message),
         ];
-        Ok(self.evaluated_values(&self.receiving, pid, &list)?)
+        Ok(self.evaluated_values(&self.receiving, pid, None, &list)?)
     }
 
     /// The effects by a setting, on these values.
@@ -236,14 +236,16 @@ impl<A: Allocator + Copy> State<A> {
         &'a self,
         setting: &Setting<CompiledSpec<A>>,
         self_pid: u32,
+        caller: Option<&'a Mfa<A>>,
         list: &'a [Value<'a, A>],
     ) -> Result<Option<Vec<Effect<A>, A>>, AllocError>
-        ensures { IfOk result (λ r. effects_in r ≡ evaluation_by setting.now (on_values self.now self_pid list.now)) }
+        ensures { IfOk result (λ r.
+            effects_in r ≡ evaluation_by setting.now (on_values self.now self_pid (caller_seen caller.entry) list.now)) }
     {
         let context = Context {
             list: ListView::Values(list),
             self_pid,
-            caller: None,
+            caller,
             alive: &self.alive,
             flags: &self.flags,
         };
@@ -264,14 +266,8 @@ impl<A: Allocator + Copy> State<A> {
         match setting_for(&self.settings, call) {
             Some(setting) => {
                 let args = lent_values(self.alloc, &call.args)?;
-                let context = Context {
-                    list: ListView::Values(args.as_slice()),
-                    self_pid: pid,
-                    caller: call.caller.as_ref(),
-                    alive: &self.alive,
-                    flags: &self.flags,
-                };
-                Ok(evaluated_by(self.alloc, setting, &context)?)
+                let caller = call.caller.as_ref();
+                Ok(self.evaluated_values(setting, pid, caller, args.as_slice())?)
             }
             None => Ok(None),
         }

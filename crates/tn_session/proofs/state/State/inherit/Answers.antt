@@ -1,6 +1,7 @@
 use Rattle.std.proofs.Common.{◌∙◌, ap, map}
 use Rattle.def_session.specs.State.{flags_at}
-use Rattle.tn_term.specs.Views.{tree_of, mfa_seen}
+use Rattle.tn_term.specs.SharedTree.{shared_tree}
+use Rattle.tn_term.specs.Views.{mfa_seen}
 use Rattle.def_spec.specs.Flags.{after_spawn, after_link}
 use Rattle.tn_flags.specs.Views.{flags_of}
 use Rattle.tn_session.specs.Views.{state_seen}
@@ -10,7 +11,7 @@ use Rattle.tn_session.proofs.state.State.inherit.Goals as goal
 pub returns-in-Spawned-clause-state : goal.returns-in-Spawned-clause-state
 returns-in-Spawned-clause-state g c =
     let s = c.args.self.now in
-    rw c.in-Spawned.is (spawn_case (state_seen s) (state_seen (record s { alive = c.add.new.self })) (state_seen c.set_flags.new.self) (state_seen c.set_flags-in-Spawned.new.self) c.in-Spawned.parent c.in-Spawned.pid _ _ (mfa_seen c.in-Spawned.mfa) (map tree_of c.in-Spawned.args.items)
+    rw c.in-Spawned.is (spawn_case (state_seen s) (state_seen (record s { alive = c.add.new.self })) (state_seen c.set_flags.new.self) (state_seen c.set_flags-in-Spawned.new.self) c.in-Spawned.parent c.in-Spawned.pid _ _ (mfa_seen c.in-Spawned.mfa) (map shared_tree c.in-Spawned.args.items)
     (ap (λ a. record (state_seen s) { alive = a }) c.add.ensures) c.set_flags.ensures.state c.set_flags-in-Spawned.ensures.state
     (c.inherit_spawn.ensures ∙ ap (λ f. after_spawn f (flags_of s.new_process_flags)) c.flags_at.ensures))
 
