@@ -1,7 +1,7 @@
 // What a session makes of an event.
 ghost use Rattle.std.specs.Prelude.{◌≡◌, Bool, if◌then◌else◌, List, [], IfOk, IfSome};
 ghost use Rattle.std.specs.Option.{option_map};
-ghost use Rattle.def_term.specs.Names.{Mfa};
+ghost use Rattle.def_term.specs.Names as names;
 ghost use Rattle.def_term.specs.Tree.{Tree};
 ghost use Rattle.def_script.specs.Program.{Class};
 ghost use Rattle.def_spec.specs.Expressions.{Effect as DefinedEffect};
@@ -275,7 +275,7 @@ impl<A: Allocator + Copy> State<A> {
 
     /// The effects of a return, where its frame is marked: none.
     fn evaluated_return(&self, pid: u32, depth: usize) -> Option<Vec<Effect<A>, A>>
-        ensures { (f : Mfa) (t : Tree) → effects_in result ≡ evaluation self.now (returned pid f t depth) }
+        ensures { (f : names.Mfa) (t : Tree) → effects_in result ≡ evaluation self.now (returned pid f t depth) }
     {
         let reported = self.flags_at(pid).call && self.is_marked(pid, depth);
         self.plainly(reported)
@@ -283,7 +283,7 @@ impl<A: Allocator + Copy> State<A> {
 
     /// The effects of an exception, where the frame that it leaves is marked for exceptions: none.
     fn evaluated_raise(&self, pid: u32, depth: usize) -> Option<Vec<Effect<A>, A>>
-        ensures { (f : Mfa) (c : Class) (t : Tree) → effects_in result ≡ evaluation self.now (raised pid f c t depth) }
+        ensures { (f : names.Mfa) (c : Class) (t : Tree) → effects_in result ≡ evaluation self.now (raised pid f c t depth) }
     {
         match self.mark_of(pid, depth) {
             Some(Kind::Exceptions) => self.plainly(self.flags_at(pid).call),
