@@ -57,6 +57,21 @@ pub fn lines<'a, A: Allocator + Copy>(
     (one.lines(place), other.lines(place))
 }
 
+/// `tn_trace::Transcript::take_lines` has one answer, and leaves one transcript.
+pub fn take_lines<A: Allocator + Copy>(
+    one: &mut Transcript<A>,
+    other: &mut Transcript<A>,
+    place: usize,
+) -> (Option<Vec<u8, A>>, Option<Vec<u8, A>>)
+    requires { one.old ≡ other.old }
+    ensures lines { option_map (λ v. v.items) result.0 ≡ option_map (λ v. v.items) result.1 }
+    ensures left { one.new ≡ other.new }
+{
+    let first = one.take_lines(place);
+    let second = other.take_lines(place);
+    (first, second)
+}
+
 /// `tn_trace::Transcript::replies` has one answer.
 pub fn replies<'a, A: Allocator + Copy>(
     one: &'a Transcript<A>,

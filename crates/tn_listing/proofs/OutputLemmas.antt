@@ -1,6 +1,6 @@
 -- The listings of an output, session by session, and its parts.
 use Rattle.std.proofs.Common.{◌≡◌, ◌∙◌, ℕ, zero, suc, ◌+◌, ◌≤◌, List, [], ◌∷◌, ◌++◌, length, take, Option, Some, None, refl, sym, ap, append_assoc, append-nil, add-one, codes, arith}
-use Rattle.std.specs.Prelude.{slice_get, option_to_list}
+use Rattle.std.specs.Prelude.{slice_get, slice_set, option_to_list}
 use Rattle.std.specs.Option.{option_map}
 use Rattle.std.proofs.lemmas.Option.{slice_get-map}
 use Rattle.def_term.specs.Tree.{Tree}
@@ -10,7 +10,7 @@ use Rattle.def_script.specs.Script.{creations}
 use Rattle.def_run.specs.Run.{moves}
 use Rattle.def_run.specs.Picks.{picks_text}
 use Rattle.def_run.specs.Listing.{messages, replies, lines_of, header_line, listing_text, listings_text, program_output}
-use Rattle.tn_trace.specs.Transcripts.{TranscriptValue, transcript_of}
+use Rattle.tn_trace.specs.Transcripts.{TranscriptValue, transcript_of, without_lines}
 use Rattle.tn_listing.specs.Outputs.{listing_numbered, all_listings}
 
 -- one more session
@@ -76,6 +76,27 @@ one_listed p picks i t v s before headed after is at named head added =
     let own_lines : v ≡ lines_of (messages s.0 p picks) = cc in
     headed_lines before (header_line s.0 s.1) (lines_of (messages s.0 p picks)) v headed after head added own_lines
     ∙ ap (λ l. before ++ l) (listed_as (λ n. messages n p picks) (creations p.commands) i s named)
+
+-- from this place on the transcript has the lines of the other, and it has its replies and its journal
+pub record IsRestFrom (n : ℕ) (t whole : TranscriptValue) : Type 0 where
+  pub later : (m : ℕ) → n ≤ m → slice_get t.listings m ≡ slice_get whole.listings m
+  pub replied : t.replied ≡ whole.replied
+  pub journal : t.journal ≡ whole.journal
+
+later_get : {X : Type 0} (xs : List X) (n m : ℕ) (y : X) → n + 1 ≤ m → slice_get (slice_set xs n y) m ≡ slice_get xs m
+later_get [] n m y h = refl
+later_get (x ∷ xs) zero zero y h = absurd (omega (arith, h))
+later_get (x ∷ xs) zero (suc m) y h = refl
+later_get (x ∷ xs) (suc n) zero y h = absurd (omega (arith, h))
+later_get (x ∷ xs) (suc n) (suc m) y h = later_get xs n m y (omega (arith, h))
+
+-- once the lines at a place have left, the rest begins at the next one
+pub rest_after : (n : ℕ) (t left whole : TranscriptValue) → left ≡ without_lines t n → IsRestFrom n t whole → IsRestFrom (n + 1) left whole
+rest_after n t left whole is rest = record {
+  later = λ m past. ap (λ (v : TranscriptValue). slice_get v.listings m) is ∙ later_get t.listings n m [] past ∙ rest.later m (omega (arith, past));
+  replied = ap (λ (v : TranscriptValue). v.replied) is ∙ rest.replied;
+  journal = ap (λ (v : TranscriptValue). v.journal) is ∙ rest.journal;
+}
 
 pub all_parts : (start l1 l2 l3 l4 l5 l6 a b c d e f : List ℕ) → start ≡ [] → l1 ≡ start ++ a → l2 ≡ l1 ++ b → l3 ≡ l2 ++ c → l4 ≡ l3 ++ d → l5 ≡ l4 ++ e → l6 ≡ l5 ++ f → l6 ≡ a ++ b ++ c ++ d ++ e ++ f
 all_parts start l1 l2 l3 l4 l5 l6 a b c d e f h0 h1 h2 h3 h4 h5 h6 =

@@ -1,5 +1,6 @@
 -- The parts of an output, and what adds them to a text.
-use Rattle.std.specs.Prelude.{◌≡◌, ℕ, List, ◌++◌, Result, IfOk, option_to_list, slice_get}
+use Rattle.std.specs.Prelude.{◌≡◌, ℕ, List, ◌++◌, Option, Result, IfOk, option_to_list, slice_get}
+use Rattle.std.specs.Option.{option_map}
 use Rattle.std.specs.declared.vec.Vec.{Vec}
 use Rattle.def_script.specs.Program.{Program}
 use Rattle.def_script.specs.Script.{creations}
@@ -28,6 +29,16 @@ output_of_round p limit = program_output p (round p limit)
 -- this is so of the program and of whichever picks of it the transcript is of
 abbrev pub OnItsPicks : {A : Type 0} → code.Program A → TranscriptValue → (Program → List ℕ → Type 0) → Type 0
 OnItsPicks p t IsSo = (picks : List ℕ) → t ≡ transcript_of (program_of p) picks → IsSo (program_of p) picks
+
+-- after a call that went well the listing with this number stands after the old text, where these are its lines
+abbrev pub AppendsListing : {A X E : Type 0} → code.Program A → ℕ → Option (Vec ℕ A) → Result X E → Vec ℕ A → Vec ℕ A → Type 0
+AppendsListing p n lines result old new = (picks : List ℕ) →
+    option_map (λ v. v.items) lines ≡ slice_get (transcript_of (program_of p) picks).listings n →
+    IfOk result (λ _. AddsText (listing_numbered (program_of p) picks n) old new)
+
+-- the transcript has the replies and the journal that it had, whichever lines have left it
+abbrev pub SaysTheRest : TranscriptValue → TranscriptValue → Type 0
+SaysTheRest old new = (new.replied ≡ old.replied) × (new.journal ≡ old.journal)
 
 -- a call that went well added this text of the program and of whichever picks of it the transcript is of
 abbrev pub Outputs : {A X E : Type 0} → (Program → List ℕ → List ℕ) → code.Program A → TranscriptValue → Result X E → Vec ℕ A → Vec ℕ A → Type 0

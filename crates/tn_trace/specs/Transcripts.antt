@@ -1,5 +1,5 @@
 -- What a transcript stands for.
-use Rattle.std.specs.Prelude.{ℕ, List, map}
+use Rattle.std.specs.Prelude.{ℕ, List, [], map, slice_set}
 use Rattle.def_script.specs.Program.{Program}
 use Rattle.def_script.specs.Script.{creations}
 use Rattle.def_run.specs.Run.{moves}
@@ -20,6 +20,10 @@ transcript_of p picks = record {
   replied = lines_of (replies p picks);
   journal = moves p picks;
 }
+
+-- the same without the lines of the session at this place
+abbrev pub without_lines : TranscriptValue → ℕ → TranscriptValue
+without_lines t place = record t { listings = slice_set t.listings place [] }
 
 -- the lines that the sessions have
 abbrev pub slot_lines : {A : Type 0} → List (Slot A (Lines A)) → List (List ℕ)

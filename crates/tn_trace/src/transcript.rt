@@ -4,6 +4,7 @@ use crate::sinks::Lines;
 use crate::texts::{run_of_picks, run_of_round};
 use std::alloc::{AllocError, Allocator};
 use std::marker::Model;
+use std::mem::replace;
 use tn_program::Program;
 
 /// What a run of a program wrote down: the messages of each session and the replies as text, each with
@@ -31,7 +32,7 @@ impl<A: Allocator + Copy> Transcript<A> {
     ghost use Rattle.std.specs.Option.{option_map};
     ghost use Rattle.def_run.specs.Round.{round};
     ghost use Rattle.tn_program.specs.Views.{program_of};
-    ghost use Rattle.tn_trace.specs.Transcripts.{transcript_of};
+    ghost use Rattle.tn_trace.specs.Transcripts.{transcript_of, without_lines};
 
     /// The transcript of the run by these picks.
     ///
@@ -75,6 +76,19 @@ impl<A: Allocator + Copy> Transcript<A> {
         match self.recorder.slots.get(place) {
             Some(slot) => Some(&slot.kept.text),
             None => None,
+        }
+    }
+
+    /// The same lines, which leave the transcript: none of them is copied, and the session has none afterwards.
+    pub fn take_lines(&mut self, place: usize) -> Option<Vec<u8, A>>
+        ensures lines { option_map (λ v. v.items) result ≡ slice_get self.old.listings place }
+        ensures others { self.new ≡ without_lines self.old place }
+    {
+        let none = Vec::new(self.recorder.alloc);
+        if place < self.recorder.slots.len() {
+            Some(replace(&mut self.recorder.slots[place].kept.text, none))
+        } else {
+            None
         }
     }
 

@@ -1,11 +1,23 @@
+use Rattle.std.proofs.Common.{◌≡◌, ◌∙◌, List, ℕ, ap, refl, arith}
+use Rattle.std.specs.Prelude.{slice_get}
 use Rattle.tn_program.specs.Views.{program_of}
-use Rattle.tn_listing.proofs.OutputLemmas.{one_more_listing, all_are_listed}
+use Rattle.tn_trace.specs.Transcripts.{TranscriptValue}
+use Rattle.tn_listing.proofs.OutputLemmas.{one_more_listing, all_are_listed, rest_after}
 use Rattle.tn_listing.proofs.output.append_listings.Goals as goal
 
-pub loop-number-preserved : goal.loop-number-preserved
-loop-number-preserved g c = λ picks run.
-    one_more_listing (program_of c.args.program.now) picks c.loop-number.number c.args.text.now.items c.loop-number.text.items c.append_listing.new.text.items (c.loop-number.invariant picks run) (c.in_ok-append_listing.ensures picks run)
+pub loop-number-init : goal.loop-number-init
+loop-number-init g c = record {
+  text = λ picks run. c.loop-number-init-text picks run;
+  rest = record { later = λ m past. refl; replied = refl; journal = refl };
+}
 
-pub returns : goal.returns
-returns g c = λ picks run.
-    all_are_listed (program_of c.args.program.now) picks c.loop-number.number c.session_count-number-end.result c.args.text.now.items c.loop-number.text.items c.session_count-number-end.ensures c.loop-number-test.false (c.loop-number.invariant picks run)
+pub loop-number-preserved : goal.loop-number-preserved
+loop-number-preserved g c =
+    let n = c.loop-number.number in
+    let at = c.loop-number.invariant in record {
+      text = λ picks run.
+        let there = c.take_lines.ensures.lines ∙ at.rest.later n (omega arith) ∙ ap (λ (t : TranscriptValue). slice_get t.listings n) run in
+        one_more_listing (program_of c.args.program.now) picks n c.args.text.now.items c.loop-number.text.items c.append_listing.new.text.items (at.text picks run)
+        (c.in_ok-append_listing.ensures picks there);
+      rest = rest_after n c.loop-number.transcript c.take_lines.new.self c.args.transcript c.take_lines.ensures.others at.rest;
+    }
