@@ -30,6 +30,7 @@ use Rattle.tn_flags.specs.Views.{event_of}
 use Rattle.tn_flags.specs.declared.event.Event as flags
 use Rattle.tn_trace.specs.Slots.{EachPair}
 use Rattle.tn_trace.specs.declared.slot.Slot.{Slot}
+use Rattle.tn_explain.specs.declared.actor.Actor.{Actor}
 use Rattle.tn_explain.specs.Evaluations.{context_on_values}
 use Rattle.tn_explain.specs.Explainers.{sessions_after, outlook_after}
 use Rattle.tn_explain.specs.LineParts.{both_of}
@@ -43,8 +44,8 @@ abbrev pub DiffersBy : {A : Type 0} → Setting → action.Context A → Bool �
 DiffersBy g c b = b ≡ is_some_difference (setting_differences g (context_seen c))
 
 -- as it is evaluated on these values of a process
-abbrev pub DiffersOn : {A : Type 0} → Setting → Look A → (self_pid : ℕ) → List (Value A) → Bool → Type 0
-DiffersOn g look self_pid vs b = b ≡ is_some_difference (setting_differences g (context_on_values (look_seen look) self_pid vs))
+abbrev pub DiffersOn : {A : Type 0} → Setting → Look A → Actor A → List (Value A) → Bool → Type 0
+DiffersOn g look actor vs b = b ≡ is_some_difference (setting_differences g (context_on_values (look_seen look) actor vs))
 
 -- as an event is evaluated, by a look at the session
 abbrev pub DiffersAt : {A : Type 0} → Look A → Event → Bool → Type 0

@@ -9,6 +9,7 @@ use Rattle.def_session.specs.Settings.{Setting}
 use Rattle.def_session.specs.State.{MarkKind, Session}
 use Rattle.def_session.specs.Session.{context, mark_asked, effects_of, evaluated_by}
 use Rattle.def_explain.specs.Accounts.{Line, said, setting_lines}
+use Rattle.tn_term.specs.Views.{mfa_seen}
 use Rattle.tn_flags.specs.Views.{event_of}
 use Rattle.tn_flags.specs.declared.event.Event as flags
 use Rattle.tn_guard.specs.Views.{value_seen}
@@ -18,6 +19,7 @@ use Rattle.tn_action.specs.declared.context.Context as action
 use Rattle.tn_session.specs.Looks.{look_seen}
 use Rattle.tn_session.specs.Views.{mark_kind_seen}
 use Rattle.tn_session.specs.declared.look.Look.{Look}
+use Rattle.tn_explain.specs.declared.actor.Actor.{Actor}
 use Rattle.tn_explain.specs.LineParts.{lines_before, lines_after}
 use Rattle.tn_explain.specs.Lines.{lines_text}
 use Rattle.tn_explain.specs.declared.clauses.Evaluation.{Evaluation}
@@ -63,9 +65,9 @@ lines_where effects_of why = if effects_of then [] else said why ∷ []
 abbrev pub GivesWhere : Name → Bool → List ℕ → List ℕ → List ℕ → Evaluation → Type 0
 GivesWhere n effects_of why old new r = GivesLines n (lines_where effects_of why) (effects_where effects_of) old new r
 
--- what a specification is evaluated in, on these values
-abbrev pub context_on_values : {A : Type 0} → Session → ℕ → List (Value A) → Context
-context_on_values s self_pid vs = context s self_pid (map value_seen vs) None
+-- what a specification is evaluated in, for this process and on these values
+abbrev pub context_on_values : {A : Type 0} → Session → Actor A → List (Value A) → Context
+context_on_values s actor vs = context s actor.pid (map value_seen vs) (option_map (λ m. mfa_seen m.now) actor.caller)
 
 -- of this event
 abbrev pub IsEvaluationOf : Session → Event → Evaluation → Type 0
@@ -80,8 +82,8 @@ abbrev pub EvaluatesBy : {A : Type 0} → Lines A → Setting → action.Context
 EvaluatesBy lines g c old new r = GivesBySetting lines.name.now g (context_seen c) old.items new.items r
 
 -- the same of a setting on these values of a process
-abbrev pub AnswersOn : {A : Type 0} → Lines A → Setting → Look A → (self_pid : ℕ) → List (Value A) → (old new : Vec ℕ A) → Evaluation → Type 0
-AnswersOn lines g look self_pid vs old new r = GivesBySetting lines.name.now g (context_on_values (look_seen look) self_pid vs) old.items new.items r
+abbrev pub AnswersOn : {A : Type 0} → Lines A → Setting → Look A → Actor A → List (Value A) → (old new : Vec ℕ A) → Evaluation → Type 0
+AnswersOn lines g look actor vs old new r = GivesBySetting lines.name.now g (context_on_values (look_seen look) actor vs) old.items new.items r
 
 -- these lines were appended, and there are no effects, since the event isn't evaluated
 abbrev pub Refuses : {A : Type 0} → Lines A → List Line → (old new : Vec ℕ A) → Evaluation → Type 0

@@ -8,12 +8,12 @@ ghost use Rattle.tn_text.specs.Writes.{Grows};
 ghost use Rattle.tn_explain.specs.Evaluations.{Evaluates, Refuses};
 ghost use Rattle.tn_explain.specs.LineParts.{uncovered_lines};
 
+use crate::actor::Actor;
 use crate::clauses::Evaluation;
 use crate::line::{Lines, begin};
 use std::alloc::{AllocError, Allocator};
-use tn_action::Context;
 use tn_flags::Call;
-use tn_guard::ListView;
+use tn_guard::lent_values;
 use tn_session::{Look, NewestSetting};
 use tn_term::{Mfa, Term};
 use tn_text::{write_atom, write_term};
@@ -59,14 +59,10 @@ impl<A: Allocator + Copy> Lines<'_, A> {
             let why = b"the setting is global, and the call doesn't name the module";
             return self.put_where(false, why, out);
         }
-        let context = Context {
-            list: ListView::Terms(call.args.as_slice()),
-            self_pid: pid,
-            caller: call.caller.as_ref(),
-            alive: look.alive(),
-            flags: look.flags(),
-        };
-        self.put_setting(newest.setting, &context, out)
+        let args = lent_values(self.alloc, &call.args)?;
+        let caller = call.caller.as_ref();
+        let actor = Actor { pid, caller };
+        self.put_values(newest.setting, look, actor, args.as_slice(), out)
     }
 
     /// Appends that no command covers a function.

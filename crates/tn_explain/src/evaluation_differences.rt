@@ -9,6 +9,7 @@ ghost use Rattle.tn_explain.specs.Events.{EachSend, receive_of};
 ghost use Rattle.tn_explain.specs.ClauseDifferences.{differs_with};
 ghost use Rattle.tn_explain.specs.Comparisons.{DiffersBy, DiffersOn, DiffersAt};
 
+use crate::actor::Actor;
 use crate::calls::concerns;
 use crate::clause_differences::{ClauseDifferences, clause_differences};
 use bumpalo::Bump;
@@ -16,7 +17,7 @@ use std::alloc::{AllocError, Allocator};
 use tn_action::{Context, Effect};
 use tn_difference::{Difference, body_differs};
 use tn_flags::{Call, Event};
-use tn_guard::{AtomConst, ListView, Value};
+use tn_guard::{AtomConst, ListView, Value, lent_values};
 use tn_index::Setting;
 use tn_session::Look;
 use tn_spec::{Dialect, Spec};
@@ -96,15 +97,15 @@ fn values_differ<'a, A: Allocator + Copy>(
     alloc: A,
     setting: Setting<&'a Spec<A>>,
     look: &Look<'a, A>,
-    pid: u32,
+    actor: Actor<'a, A>,
     list: &'a [Value<'a, A>],
 ) -> Result<bool, AllocError>
-    ensures { IfOk result (DiffersOn (look_setting setting.entry) look.now pid list.now) }
+    ensures { IfOk result (DiffersOn (look_setting setting.entry) look.now actor.entry list.now) }
 {
     let context = Context {
         list: ListView::Values(list),
-        self_pid: pid,
-        caller: None,
+        self_pid: actor.pid,
+        caller: actor.caller,
         alive: look.alive(),
         flags: look.flags(),
     };
@@ -125,7 +126,8 @@ fn send_differs<'a, A: Allocator + Copy>(
         return Ok(false);
     }
     let list = [Value::Pid(to), Value::Lent(message)];
-    Ok(values_differ(alloc, look.send_setting(), look, pid, &list)?)
+    let actor = Actor { pid, caller: None };
+    Ok(values_differ(alloc, look.send_setting(), look, actor, &list)?)
 }
 
 /// Whether it does at a receive.
@@ -146,7 +148,8 @@ fn receive_differs<'a, A: Allocator + Copy>(
         Value::Pid(sender),
         Value::Lent(message),
     ];
-    Ok(values_differ(alloc, look.receive_setting(), look, pid, &list)?)
+    let actor = Actor { pid, caller: None };
+    Ok(values_differ(alloc, look.receive_setting(), look, actor, &list)?)
 }
 
 /// Whether it does at a call.
@@ -167,14 +170,10 @@ fn call_differs<'a, A: Allocator + Copy>(
     if !concerns(&newest, call) {
         return Ok(false);
     }
-    let context = Context {
-        list: ListView::Terms(call.args.as_slice()),
-        self_pid: pid,
-        caller: call.caller.as_ref(),
-        alive: look.alive(),
-        flags: look.flags(),
-    };
-    setting_differs(alloc, newest.setting, &context)
+    let args = lent_values(alloc, &call.args)?;
+    let caller = call.caller.as_ref();
+    let actor = Actor { pid, caller };
+    values_differ(alloc, newest.setting, look, actor, args.as_slice())
 }
 
 /// Whether a node does otherwise as an event is evaluated.

@@ -15,6 +15,7 @@
 #![tactic(auto)]
 
 mod account;
+mod actor;
 mod answers;
 mod calls;
 mod causes;

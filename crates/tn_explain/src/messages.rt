@@ -1,10 +1,11 @@
-// What is known of a send and of a receive before the session sees it.
+// What is known of a send and of a receive before the session sees it, and of the values that a setting is evaluated on.
 ghost use Rattle.std.specs.Prelude.{◌≡◌, IfOk};
 ghost use Rattle.tn_session.specs.Looks.{look_setting};
 ghost use Rattle.tn_text.specs.Writes.{Grows};
 ghost use Rattle.tn_explain.specs.Evaluations.{Evaluates, AnswersOn};
 ghost use Rattle.tn_explain.specs.Events.{EachSend, receive_of};
 
+use crate::actor::Actor;
 use crate::clauses::Evaluation;
 use crate::line::Lines;
 use std::alloc::{AllocError, Allocator};
@@ -32,7 +33,8 @@ impl<A: Allocator + Copy> Lines<'_, A> {
             return self.put_where(false, b"no flag send", out);
         }
         let list = [Value::Pid(to), Value::Lent(message)];
-        Ok(self.put_values(look.send_setting(), look, pid, &list, out)?)
+        let actor = Actor { pid, caller: None };
+        Ok(self.put_values(look.send_setting(), look, actor, &list, out)?)
     }
 
     /// Appends what the receive setting makes of a receive, or that the process has no flag for it.
@@ -55,26 +57,27 @@ impl<A: Allocator + Copy> Lines<'_, A> {
             Value::Pid(sender),
             Value::Lent(message),
         ];
-        Ok(self.put_values(look.receive_setting(), look, pid, &list, out)?)
+        let actor = Actor { pid, caller: None };
+        Ok(self.put_values(look.receive_setting(), look, actor, &list, out)?)
     }
 
     /// Appends what a setting makes of these values.
-    fn put_values<'a>(
+    pub(crate) fn put_values<'a>(
         &self,
         setting: Setting<&'a Spec<A>>,
         look: &Look<'a, A>,
-        pid: u32,
+        actor: Actor<'a, A>,
         list: &'a [Value<'a, A>],
         out: &mut Vec<u8, A>,
     ) -> Result<Evaluation, AllocError>
         ensures ok { IfOk result
-            (AnswersOn self.now (look_setting setting.entry) look.now pid list.now out.old out.new) }
+            (AnswersOn self.now (look_setting setting.entry) look.now actor.entry list.now out.old out.new) }
         ensures grows { Grows out.old.items out.new.items }
     {
         let context = Context {
             list: ListView::Values(list),
-            self_pid: pid,
-            caller: None,
+            self_pid: actor.pid,
+            caller: actor.caller,
             alive: look.alive(),
             flags: look.flags(),
         };

@@ -1,12 +1,13 @@
-use Rattle.std.proofs.Common.{◌≡◌, ◌∙◌, map, sym, ap}
+use Rattle.std.proofs.Common.{◌≡◌, ◌∙◌, map, refl, sym, ap}
 use Rattle.std.proofs.lemmas.Result.{IfOk-weaker}
 use Rattle.std.specs.Option.{option_map}
 use Rattle.def_spec.specs.Flags.{call_flag}
 use Rattle.def_explain.specs.Differences.{setting_differences}
 use Rattle.def_explain.specs.NodeMoves.{is_some_difference}
 use Rattle.def_node.specs.Event.{called}
-use Rattle.tn_term.specs.Views.{tree_of, mfa_seen, alive_of}
-use Rattle.tn_flags.specs.Views.{call_seen, table_of}
+use Rattle.tn_term.specs.Views.{mfa_seen}
+use Rattle.tn_flags.specs.Views.{call_seen}
+use Rattle.tn_guard.specs.Views.{value_seen}
 use Rattle.tn_session.specs.Looks.{look_seen, look_setting, newest_seen}
 use Rattle.tn_explain.specs.Comparisons.{DiffersAt}
 use Rattle.tn_explain.proofs.EarlierLines.{same_context, context_of, is_true, caller_lent}
@@ -25,9 +26,9 @@ returns g c =
     let s = look_seen c.args.look.now in
     let k = call_seen c.args.call.now in
     let its = look_setting c.in-Some.newest.setting in
-    let here = context_of c.args.pid (map tree_of c.as_slice.result.now) (option_map (λ f. mfa_seen f.now) c.as_ref.result) (alive_of c.alive.result.now) (table_of c.flags.result.now) in
-    IfOk-weaker c.setting_differs.result (λ b. b ≡ is_some_difference (setting_differences its here)) (DiffersAt c.args.look.now (called c.args.pid k))
+    let here = context_of c.args.pid (map value_seen c.as_slice.result.now) (option_map (λ f. mfa_seen f.now) c.as_ref.result) s.alive s.flags in
+    IfOk-weaker c.values_differ.result (λ b. b ≡ is_some_difference (setting_differences its here)) (DiffersAt c.args.look.now (called c.args.pid k))
     (λ b h. call_covered s c.args.pid k its c.in-Some.newest.local b here (sym (ap (option_map newest_seen) c.in-Some.is) ∙ c.newest.ensures) (sym c.concerns.ensures ∙ c.if-not-concerns.false)
     (ap (λ f. f call_flag) (sym c.flags_at.ensures) ∙ is_true c.flags_at.result.call c.if-not-flags_at.false)
-    (same_context c.args.pid _ k.args _ k.caller _ s.alive _ s.flags (ap (map tree_of) c.as_slice.ensures.value) (caller_lent c.as_ref.result c.args.call.now.caller c.as_ref.ensures.value) c.alive.ensures c.flags.ensures) h)
-    c.setting_differs.ensures
+    (same_context c.args.pid _ k.args _ k.caller _ s.alive _ s.flags (ap (map value_seen) c.as_slice.ensures.value ∙ c.in_ok-args.ensures) (caller_lent c.as_ref.result c.args.call.now.caller c.as_ref.ensures.value) refl refl) h)
+    c.values_differ.ensures

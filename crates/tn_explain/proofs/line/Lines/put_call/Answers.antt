@@ -7,8 +7,9 @@ use Rattle.def_session.specs.Settings.{setting_for}
 use Rattle.def_session.specs.Session.{context, evaluated_by}
 use Rattle.def_explain.specs.Causes.{of_named_calls}
 use Rattle.def_explain.specs.Accounts.{cause_lines}
-use Rattle.tn_term.specs.Views.{tree_of, mfa_seen, alive_of}
-use Rattle.tn_flags.specs.Views.{call_seen, table_of}
+use Rattle.tn_term.specs.Views.{mfa_seen}
+use Rattle.tn_flags.specs.Views.{call_seen}
+use Rattle.tn_guard.specs.Views.{value_seen}
 use Rattle.tn_session.specs.Looks.{look_seen, look_setting, newest_seen}
 use Rattle.tn_explain.specs.Evaluations.{GivesLines, GivesWhere, GivesBySetting, GivesOf}
 use Rattle.tn_explain.specs.LineParts.{uncovered_lines}
@@ -62,12 +63,12 @@ returns-clause-ok g c =
     let k = call_seen c.args.call.now in
     let e = called c.args.pid k in
     let o = c.args.out.now.items in
-    let x = c.put_setting.new.out.items in
+    let x = c.put_values.new.out.items in
     let its = look_setting c.in-Some.newest.setting in
-    let here = context_of c.args.pid (map tree_of c.as_slice.result.now) (option_map (λ f. mfa_seen f.now) c.as_ref.result) (alive_of c.alive.result.now) (table_of c.flags.result.now) in
-    IfOk-weaker c.put_setting.result (GivesBySetting n its here o x) (GivesOf n s e o x)
+    let here = context_of c.args.pid (map value_seen c.as_slice.result.now) (option_map (λ f. mfa_seen f.now) c.as_ref.result) s.alive s.flags in
+    IfOk-weaker c.put_values.result (GivesBySetting n its here o x) (GivesOf n s e o x)
     (λ r h. settled_so n s e o x r its its here (context s c.args.pid k.args k.caller) refl
-    (same_context c.args.pid _ k.args _ k.caller _ s.alive _ s.flags (ap (map tree_of) c.as_slice.ensures.value) (caller_lent c.as_ref.result c.args.call.now.caller c.as_ref.ensures.value) c.alive.ensures c.flags.ensures)
+    (same_context c.args.pid _ k.args _ k.caller _ s.alive _ s.flags (ap (map value_seen) c.as_slice.ensures.value ∙ c.in_ok-args.ensures) (caller_lent c.as_ref.result c.args.call.now.caller c.as_ref.ensures.value) refl refl)
     (covered s c.args.pid k its c.in-Some.newest.local (sym (ap (option_map newest_seen) c.in-Some.is) ∙ c.newest.ensures)
     (ap (λ f. f call_flag) (sym c.flags_at.ensures) ∙ is_true c.flags_at.result.call c.if-not-flags_at.false) (sym c.concerns.ensures ∙ c.if-not-concerns.false)) h)
-    c.put_setting.ensures.ok
+    c.put_values.ensures.ok
