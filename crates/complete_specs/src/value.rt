@@ -1,12 +1,13 @@
 // Values, and the atoms that evaluation makes.
-ghost use Rattle.std.specs.Prelude.{◌≡◌, IfOk};
+ghost use Rattle.std.specs.Prelude.{◌≡◌, IfOk, map};
 ghost use Rattle.std.specs.Option.{option_map};
+ghost use Rattle.tn_term.specs.SharedTree.{shared_tree};
 ghost use Rattle.tn_term.specs.Views.{tree_of};
 ghost use Rattle.tn_guard.specs.Views.{list_view_seen, value_seen, atom_const_seen};
 
 use std::alloc::{AllocError, Allocator};
-use tn_guard::{AtomConst, ListView, Value};
-use tn_term::Term;
+use tn_guard::{AtomConst, ListView, Value, lent_values};
+use tn_term::{SharedTerm, Term};
 
 /// `tn_guard::AtomConst::text` has one answer.
 pub fn text(one: AtomConst, other: AtomConst) -> (&'static str, &'static str)
@@ -115,4 +116,21 @@ pub fn copy_into<'a, A: Allocator, B: Allocator + Copy>(
     ensures { IfOk result.0 (λ t. IfOk result.1 (λ u. tree_of t ≡ tree_of u)) }
 {
     (one.copy_into(alloc), other.copy_into(alloc))
+}
+
+/// `tn_guard::lent_values` has one answer.
+pub fn lent<'a, A: Allocator + Copy>(
+    alloc: A,
+    one: &'a Vec<SharedTerm<A>, A>,
+    other: &'a Vec<SharedTerm<A>, A>,
+) -> (
+    Result<Vec<Value<'a, A>, A>, AllocError>,
+    Result<Vec<Value<'a, A>, A>, AllocError>,
+)
+    requires { map shared_tree one.now.items ≡ map shared_tree other.now.items }
+    ensures { IfOk result.0 (λ v. IfOk result.1 (λ w. map value_seen v.items ≡ map value_seen w.items)) }
+{
+    let first = lent_values(alloc, one);
+    let second = lent_values(alloc, other);
+    (first, second)
 }

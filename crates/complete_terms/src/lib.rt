@@ -7,6 +7,7 @@
 #![tactic(auto)]
 
 mod alive;
+mod arguments;
 mod atom;
 mod command;
 mod flags;

@@ -70,9 +70,9 @@ fn shared_term(alloc: Global, text: &str) -> Result<SharedTerm<Global>, Fail> {
 }
 
 /// The one argument.
-fn arguments(alloc: Global, text: &str) -> Result<Vec<Term<Global>>, Fail> {
+fn arguments(alloc: Global, text: &str) -> Result<Vec<SharedTerm<Global>>, Fail> {
     let mut arguments = Vec::new(alloc);
-    arguments.push(term(alloc, text)?)?;
+    arguments.push(shared_term(alloc, text)?)?;
     Ok(arguments)
 }
 
