@@ -16,7 +16,7 @@ next_line {A} name bytes starts all before after start k ts t below is begins wr
     let rest : List (Option (Vec ℕ A)) = drop (k + 1) ts in
     let later : List ℕ = lines_of_texts name bytes starts (k + 1) (texts_seen rest) in
     let here : line_of_text name bytes start (k + 1) (text_seen t) ++ later ≡ lines_of_texts name bytes starts k (texts_seen (drop k ts)) =
-        ap (λ b. line_of_text name bytes b (k + 1) (text_seen t) ++ later) begins ∙ first_line name bytes starts k (k + 1) t rest (omega arith)
-        ∙ ap (λ u. lines_of_texts name bytes starts k (texts_seen (u ∷ rest))) is ∙ ap (λ us. lines_of_texts name bytes starts k (texts_seen us)) (sym (drop_more ts k t below))
-        in
+    ap (λ b. line_of_text name bytes b (k + 1) (text_seen t) ++ later) begins ∙ first_line name bytes starts k (k + 1) t rest (omega arith)
+    ∙ ap (λ u. lines_of_texts name bytes starts k (texts_seen (u ∷ rest))) is ∙ ap (λ us. lines_of_texts name bytes starts k (texts_seen us)) (sym (drop_more ts k t below))
+    in
     ap (λ l. l ++ later) written ∙ append_assoc before (line_of_text name bytes start (k + 1) (text_seen t)) later ∙ ap (λ l. before ++ l) here ∙ goes
