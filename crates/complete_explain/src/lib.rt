@@ -1,5 +1,5 @@
-//! The contracts of tn_explain, and those of tn_refusal on places and refusals, are complete. Each function
-//! calls one of theirs twice on equal values. It knows no more than the contract, so its proof shows that
+//! The contracts of tn_explain and tn_remark, and those of tn_refusal on places and refusals, are complete. Each
+//! function calls one of theirs twice on equal values. It knows no more than the contract, so its proof shows that
 //! the contract leaves one answer.
 //!
 //! Depends on these crates, and on complete_workers for when two runs of one text agree. Promises nothing to
@@ -12,3 +12,4 @@ mod lines;
 mod notes;
 mod places;
 mod refusals;
+mod remark_lines;

@@ -21,6 +21,7 @@ use Rattle.def_run.specs.Listing.{replies, lines_of}
 use Rattle.def_text.specs.Tokens.{TokenSpan, Tokens}
 use Rattle.def_text.proofs.Unique.{same_tokens}
 use Rattle.def_explain.specs.CommandPlaces.{before_form, command_starts}
+use Rattle.tn_remark.specs.TextLines.{text_line, lines_of_texts, text_seen, texts_seen}
 use Rattle.tn_trace.specs.Transcripts.{TranscriptValue, transcript_of}
 use Rattle.tn_trace.specs.Observers.{IsNextMove, SeesMove}
 use Rattle.tn_trace.specs.Follows.{AddsEach, AddsFrom}
@@ -30,8 +31,8 @@ use Rattle.tn_trace.specs.declared.slot.Slot.{Slot}
 use Rattle.tn_trace.proofs.Moves.{place_more}
 use Rattle.tn_explain.specs.Explainers.{sessions_after}
 use Rattle.tn_explain.specs.NamedSessions.{HasState, AreNamedSessions}
-use Rattle.tn_explain.specs.RemarkedSessions.{text_seen, texts_seen, has_some, HasRemarked, AddsReasons}
-use Rattle.tn_explain.specs.RemarkLines.{text_line, remark_line, lines_of_texts, IsFrontOfPicks, AreRemarkLines}
+use Rattle.tn_explain.specs.RemarkedSessions.{has_some, HasRemarked, AddsReasons}
+use Rattle.tn_explain.specs.RemarkLines.{remark_line, IsFrontOfPicks, AreRemarkLines}
 use Rattle.tn_explain.specs.declared.discard.Discard.{Discard}
 use Rattle.tn_explain.specs.declared.remark_observer.RemarkObserver.{RemarkObserver}
 use Rattle.tn_explain.proofs.Picks.{sessions_more}

@@ -11,6 +11,7 @@ use Rattle.def_explain.specs.CommandReasons.{CommandReason, command_reason}
 use Rattle.def_explain.specs.Remarks.{reasons_in, reply_and_reason}
 use Rattle.tn_term.specs.Views.{alive_of}
 use Rattle.tn_flags.specs.Views.{command_of}
+use Rattle.tn_remark.specs.TextLines.{texts_seen}
 use Rattle.tn_script.specs.Views.{functions_of}
 use Rattle.tn_trace.specs.Slots.{EachPair}
 use Rattle.tn_trace.specs.declared.slot.Slot.{Slot}
@@ -25,14 +26,6 @@ abbrev pub SlotsHaveReason : {A : Type 0} → Order A → List (Slot A Discard) 
 SlotsHaveReason order slots r =
     (o : Exports) → o.functions ≡ visible (functions_of order.functions.now) → (ss : List NamedSession) → EachPair (HasState o (alive_of order.living)) ss slots
     → r ≡ command_reason o (session_in o (session_of (command_of order.command.now)) ss) (command_of order.command.now)
-
--- the text, where there is one
-abbrev pub text_seen : {A : Type 0} → Option (Vec ℕ A) → Option (List ℕ)
-text_seen t = option_map (λ v. v.items) t
-
--- of each
-abbrev pub texts_seen : {A : Type 0} → List (Option (Vec ℕ A)) → List (Option (List ℕ))
-texts_seen ts = map text_seen ts
 
 -- one of these is there
 abbrev pub has_some : List (Option (List ℕ)) → Bool

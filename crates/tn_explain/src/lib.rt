@@ -3,15 +3,15 @@
 //!
 //! Depends on tn_session and tn_trace (a run, which takes the picks, and its sessions, which are looked at before and
 //! after each step), tn_reason (why a term is no match specification), tn_verdict (what becomes of a clause, and the
-//! texts of reasons and effects), tn_run (which reads, accepts and refuses scripts) and on the definitions of
-//! def_explain. Promises that `put_event_lines` appends the lines of the definition, each after the name of the
-//! session, and takes the session through the event; that `put_command_line` appends the line of a reply, and why it
-//! is this one; that `put_account` appends the account of the program's run by some picks, as far as the filter asks
-//! for it, and nothing where memory is refused; and that `explain` writes exactly that account, or the line of the one
-//! refusal, or nothing where the session or the move that the filter names isn't there, and says which; and that a
-//! fault says which end failed, and how many bytes of it were taken; that the note of a run is the defined one, and
-//! that a run with its notes writes what the run writes; and that the lines of what is remarked of a run are the
-//! defined ones: of each command that is refused or matches no function where it begins, its reply and why.
+//! texts of reasons and effects), tn_remark (the lines of remarks), tn_run (which reads, accepts and refuses scripts)
+//! and on the definitions of def_explain. Promises that `put_event_lines` appends the lines of the definition, each
+//! after the name of the session, and takes the session through the event; that `put_command_line` appends the line of
+//! a reply, and why it is this one; that `put_account` appends the account of the program's run by some picks, as far
+//! as the filter asks for it, and nothing where memory is refused; and that `explain` writes exactly that account, or
+//! the line of the one refusal, or nothing where the session or the move that the filter names isn't there, and says
+//! which; and that a fault says which end failed, and how many bytes of it were taken; that the note of a run is the
+//! defined one, and that a run with its notes writes what the run writes; and that the lines of what is remarked of a
+//! run are the defined ones: of each command that is refused or matches no function where it begins, its reply and why.
 #![tactic(auto)]
 
 mod account;

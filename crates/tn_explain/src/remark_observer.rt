@@ -3,8 +3,9 @@ ghost use Rattle.std.specs.Prelude.{◌≡◌, IfOk, map};
 ghost use Rattle.std.specs.Option.{option_map};
 ghost use Rattle.def_explain.specs.Remarks.{run_reasons, reply_and_reason, has_remarks};
 ghost use Rattle.tn_program.specs.Views.{program_of};
+ghost use Rattle.tn_remark.specs.TextLines.{texts_seen};
 ghost use Rattle.tn_explain.specs.CommandReasons.{command_reasons_seen};
-ghost use Rattle.tn_explain.specs.RemarkedSessions.{SlotsHaveReason, texts_seen, has_some};
+ghost use Rattle.tn_explain.specs.RemarkedSessions.{SlotsHaveReason, has_some};
 
 use crate::command_reason_texts::reason_text;
 use crate::command_reasons::{CommandReason, absent_reason, command_reason};

@@ -1,133 +1,19 @@
 // The lines of what is remarked of a run.
-ghost use Rattle.std.specs.Prelude.{◌≡◌, ◌++◌, ◌<◌, length, codes, decimal, slice_get, IfOk, OnOk};
+ghost use Rattle.std.specs.Prelude.{◌≡◌, IfOk};
 ghost use Rattle.def_explain.specs.Remarks.{remarks, has_remarks};
 ghost use Rattle.def_run.specs.Round.{round};
 ghost use Rattle.tn_program.specs.Views.{program_of};
 ghost use Rattle.tn_run.specs.Jobs.{OfScript};
-ghost use Rattle.tn_refusal.specs.Locations.{mark_text};
-ghost use Rattle.tn_explain.specs.RemarkedSessions.{text_seen, texts_seen};
-ghost use Rattle.tn_explain.specs.RemarkLines.{command_mark, text_line, line_of_text, lines_of_texts};
 ghost use Rattle.tn_explain.specs.RemarkLines.{IsFrontOfPicks, AreRemarkLines};
 
 use crate::command_starts::command_starts;
 use crate::remark_observer::{command_texts, program_has_remarks};
-use itoa::Buffer;
 use std::alloc::{AllocError, Allocator};
 use tn_program::Program;
-use tn_refusal::line_column_of;
+use tn_remark::put_lines;
 use tn_run::{Denial, accept};
 use tn_text::MAX_TEXT;
 use tn_trace::Transcript;
-
-/// Appends a colon and a number.
-fn put_number<A: Allocator>(number: usize, out: &mut Vec<u8, A>) -> Result<(), AllocError>
-    ensures { OnOk result (out.new.items ≡ out.old.items ++ codes ":" ++ decimal number) }
-{
-    out.extend_from_slice(b":")?;
-    out.extend_from_slice(Buffer::new().format(number).as_bytes())
-}
-
-/// Appends the name of a script and the place of an offset of its text.
-fn put_place<A: Allocator>(
-    name: &str,
-    text: &[u8],
-    start: usize,
-    out: &mut Vec<u8, A>,
-) -> Result<(), AllocError>
-    requires { length text.now < usize.MAX }
-    ensures { OnOk result (out.new.items ++ codes ": " ≡
-        out.old.items ++ mark_text name.now (command_mark text.now (Some start))) }
-{
-    let place = line_column_of(text, start);
-    out.extend_from_slice(name.as_bytes())?;
-    put_number(place.line, out)?;
-    put_number(place.column, out)
-}
-
-/// Appends the name of a script and where a command begins in its text; the name alone where that isn't known.
-fn put_mark<A: Allocator>(
-    name: &str,
-    text: &[u8],
-    start: Option<usize>,
-    out: &mut Vec<u8, A>,
-) -> Result<(), AllocError>
-    requires { length text.now < usize.MAX }
-    ensures { OnOk result (out.new.items ≡ out.old.items ++ mark_text name.now (command_mark text.now start)) }
-{
-    match start {
-        Some(start) => put_place(name, text, start, out)?,
-        None => out.extend_from_slice(name.as_bytes())?,
-    }
-    out.extend_from_slice(b": ")
-}
-
-/// Appends the line of what is said of the command of this number.
-fn put_line<A: Allocator>(
-    name: &str,
-    text: &[u8],
-    start: Option<usize>,
-    number: usize,
-    said: &Vec<u8, A>,
-    out: &mut Vec<u8, A>,
-) -> Result<(), AllocError>
-    requires { length text.now < usize.MAX }
-    ensures { OnOk result (out.new.items ≡ out.old.items ++ text_line name.now text.now start number said.now.items) }
-{
-    put_mark(name, text, start, out)?;
-    out.extend_from_slice(b"command ")?;
-    out.extend_from_slice(Buffer::new().format(number).as_bytes())?;
-    out.extend_from_slice(b" ")?;
-    out.extend_from_slice(said)?;
-    out.extend_from_slice(b"\n")
-}
-
-/// The same, where something is said of it.
-fn put_line_of<A: Allocator>(
-    name: &str,
-    text: &[u8],
-    start: Option<usize>,
-    number: usize,
-    said: &Option<Vec<u8, A>>,
-    out: &mut Vec<u8, A>,
-) -> Result<(), AllocError>
-    requires { length text.now < usize.MAX }
-    ensures { OnOk result (out.new.items ≡
-        out.old.items ++ line_of_text name.now text.now start number (text_seen said.now)) }
-{
-    match said {
-        Some(said) => put_line(name, text, start, number, said, out),
-        None => Ok(()),
-    }
-}
-
-/// The offset at this place of a list, where there is one.
-fn start_at(starts: &[usize], place: usize) -> Option<usize>
-    ensures { result ≡ slice_get starts.now place }
-{
-    match starts.get(place) {
-        Some(start) => Some(*start),
-        None => None,
-    }
-}
-
-/// Appends the lines of what is said of the commands, of which some begin at these offsets.
-fn put_lines<A: Allocator>(
-    name: &str,
-    text: &[u8],
-    starts: &[usize],
-    texts: &Vec<Option<Vec<u8, A>>, A>,
-    out: &mut Vec<u8, A>,
-) -> Result<(), AllocError>
-    requires { length text.now < usize.MAX }
-    ensures { OnOk result (out.new.items ≡
-        out.old.items ++ lines_of_texts name.now text.now starts.now 0 (texts_seen texts.now.items)) }
-{
-    for place in 0..texts.len() {
-        let start = start_at(starts, place);
-        put_line_of(name, text, start, place + 1, &texts[place], out)?;
-    }
-    Ok(())
-}
 
 /// The picks up to the last that is a command.
 pub(crate) fn front_of_picks(picks: &[u32]) -> &[u32]

@@ -2,7 +2,8 @@ use Rattle.std.proofs.Common.{◌∙◌, [], ◌++◌, ap}
 use Rattle.def_explain.specs.Remarks.{run_reasons}
 use Rattle.tn_program.specs.Views.{program_of}
 use Rattle.tn_trace.proofs.Passes.{first_followed}
-use Rattle.tn_explain.specs.RemarkedSessions.{HasRemarked, texts_seen}
+use Rattle.tn_remark.specs.TextLines.{texts_seen}
+use Rattle.tn_explain.specs.RemarkedSessions.{HasRemarked}
 use Rattle.tn_explain.proofs.Remarks.{run_remarked, said}
 use Rattle.tn_explain.proofs.remark_observer.command_texts.Goals as goal
 

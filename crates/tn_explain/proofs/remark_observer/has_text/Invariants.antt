@@ -1,5 +1,6 @@
 use Rattle.std.proofs.Common.{◌≡◌, drop}
-use Rattle.tn_explain.specs.RemarkedSessions.{texts_seen, has_some}
+use Rattle.tn_remark.specs.TextLines.{texts_seen}
+use Rattle.tn_explain.specs.RemarkedSessions.{has_some}
 use Rattle.tn_explain.proofs.remark_observer.has_text.Given as goal
 
 abbrev pub invariant-loop-place : goal.invariant-loop-place

@@ -1,8 +1,7 @@
 use Rattle.std.proofs.Common.{◌∙◌, ◌++◌, ap, subst}
 use Rattle.tn_program.specs.Views.{program_of}
+use Rattle.tn_remark.specs.TextLines.{lines_of_texts, texts_seen}
 use Rattle.tn_explain.specs.CommandStarts.{AreCommandStarts}
-use Rattle.tn_explain.specs.RemarkedSessions.{texts_seen}
-use Rattle.tn_explain.specs.RemarkLines.{lines_of_texts}
 use Rattle.tn_explain.proofs.Remarks.{lines_are}
 use Rattle.tn_explain.proofs.run_remarks.program_lines.Goals as goal
 

@@ -4,7 +4,7 @@ use Rattle.def_run.specs.Run.{event_item}
 use Rattle.tn_flags.specs.Views.{event_of}
 use Rattle.tn_program.specs.Views.{program_of}
 use Rattle.tn_explain.specs.Explainers.{sessions_after}
-use Rattle.tn_explain.specs.RemarkedSessions.{texts_seen}
+use Rattle.tn_remark.specs.TextLines.{texts_seen}
 use Rattle.tn_explain.proofs.Remarks.{events_said, move_remarked}
 use Rattle.tn_explain.proofs.remark_observer.RemarkObserverObserver.see.Goals as goal
 

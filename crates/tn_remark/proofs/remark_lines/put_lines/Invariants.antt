@@ -1,7 +1,6 @@
 use Rattle.std.proofs.Common.{◌≡◌, ◌++◌, drop}
-use Rattle.tn_explain.specs.RemarkedSessions.{texts_seen}
-use Rattle.tn_explain.specs.RemarkLines.{lines_of_texts}
-use Rattle.tn_explain.proofs.run_remarks.put_lines.Given as goal
+use Rattle.tn_remark.specs.TextLines.{lines_of_texts, texts_seen}
+use Rattle.tn_remark.proofs.remark_lines.put_lines.Given as goal
 
 abbrev pub invariant-loop-place : goal.invariant-loop-place
 invariant-loop-place g l =
