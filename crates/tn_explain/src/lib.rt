@@ -49,7 +49,6 @@ mod remark_observer;
 mod reply_lines;
 mod request;
 mod run_and_note;
-mod run_output;
 mod run_remarks;
 mod selection;
 mod session_differences;

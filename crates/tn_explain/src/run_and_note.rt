@@ -9,10 +9,9 @@ ghost use Rattle.tn_explain.specs.Notes.{AreNotes, IsTranscriptBy, IsListedWithN
 use crate::note::{RunNotes, node_note};
 use crate::remark_observer::program_has_remarks;
 use crate::reply_lines::has_reason_line;
-use crate::run_output::transcript_output;
 use crate::run_remarks::front_of_picks;
 use std::alloc::{AllocError, Allocator};
-use tn_listing::PicksFault;
+use tn_listing::{PicksFault, output};
 use tn_program::Program;
 use tn_run::{DirectJob, Job, Refusal, RunFault, Schedule};
 use tn_trace::Transcript;
@@ -91,9 +90,9 @@ fn listing_and_notes<A: Allocator + Copy>(
         IsListedWithNotes (schedule_seen schedule.now) (program_of program.now) r.0 r.1.items) }
 {
     let transcript = transcript_by(alloc, program, schedule, picks)?;
-    let output = transcript_output(alloc, &transcript, program)?;
     let notes = notes_of(alloc, program, &transcript)?;
-    Ok((RunEnd::Listed(notes), output))
+    let text = output(alloc, transcript, program)?;
+    Ok((RunEnd::Listed(notes), text))
 }
 
 impl<A: Allocator + Copy> Job<A> for RunAndNote<'_> {
