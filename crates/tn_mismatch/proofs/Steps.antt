@@ -6,9 +6,9 @@ use Rattle.def_term.specs.Tree.{Tree, int, atom, pid, tuple, list, Trees, count}
 use Rattle.def_term.specs.Order.{same}
 use Rattle.def_spec.specs.Functions.{nth}
 use Rattle.def_spec.specs.Matching.{Pattern, Patterns, variable, only_term, in_tuple, in_list, no_patterns, and_pattern, Bindings, value_bound, bind_on, bind_each}
-use Rattle.def_explain.specs.Mismatches.{HeadPart, is_bound, is_term, is_tuple_of, is_list_of, mismatch, pattern_count, in_element, here_or, unlike_bound, mismatch_on, mismatch_in}
+use Rattle.def_explain.specs.Mismatches.{HeadPart, is_bound, is_term, is_tuple_of, is_list_of, mismatch, pattern_count, in_element, here_or, unlike_bound, mismatch_on, mismatch_in, mismatch_of}
 use Rattle.def_explain.specs.Mismatches as mismatches
-use Rattle.def_explain.proofs.Mismatches.{self_equal}
+use Rattle.def_explain.proofs.Mismatches.{self_equal, same_lengths}
 use Rattle.tn_term.specs.Views.{tree_of}
 use Rattle.tn_term.specs.declared.term.Term.{Term}
 use Rattle.tn_spec.specs.Views.{pattern_seen, patterns_seen}
@@ -16,8 +16,10 @@ use Rattle.tn_spec.specs.declared.pattern.Pattern as code
 use Rattle.tn_guard.specs.Views.{tuple_trees, list_trees}
 use Rattle.tn_guard.proofs.Places.{rest_from, rest_here, rest_past}
 use Rattle.tn_head.proofs.Walk.{patterns_here, patterns_past}
+use Rattle.tn_head.specs.Views.{binding_seen}
 use Rattle.tn_head.specs.declared.bindings.Binding.{Binding}
 use Rattle.tn_mismatch.specs.declared.mismatch.Mismatch.{Mismatch}
+use Rattle.tn_mismatch.specs.Views.{mismatch_seen, mismatches_seen}
 use Rattle.tn_mismatch.specs.Walks.{of_length, IsWalk}
 
 -- ---- elements
@@ -125,3 +127,23 @@ no_list ps (list us) b e = ap (λ q. if q then mismatch_in 0 ps us b else Some (
 -- of the same difference and the same bindings
 pub walk_of : {A : Type 0} (x : Option (Mismatch A)) (m n : Option mismatches.Mismatch) (b c : Option Bindings) (bs : List (Binding A)) → n ≡ m → c ≡ b → IsWalk x m b bs → IsWalk x n c bs
 walk_of x m n b c bs e f h = subst (λ k. IsWalk x k c bs) (sym e) (subst (λ k. IsWalk x m k bs) (sym f) h)
+
+-- with a difference, and without one
+pub walk_some : {A : Type 0} (x : Option (Mismatch A)) (y : Mismatch A) (m : Option mismatches.Mismatch) (b : Option Bindings) (bs : List (Binding A)) → x ≡ Some y → IsWalk x m b bs → m ≡ Some (mismatch_seen y)
+walk_some x y m b bs e h = subst (λ z. IsWalk z m b bs) e h
+
+pub walk_none : {A : Type 0} (x : Option (Mismatch A)) (m : Option mismatches.Mismatch) (b : Option Bindings) (bs : List (Binding A)) → x ≡ None → IsWalk x m b bs → (m ≡ None) × (b ≡ Some (map binding_seen bs))
+walk_none x m b bs e h = subst (λ z. IsWalk z m b bs) e h
+
+pub walk_seen : {A : Type 0} (x : Option (Mismatch A)) (m : Option mismatches.Mismatch) (b : Option Bindings) (bs : List (Binding A)) → IsWalk x m b bs → mismatches_seen x ≡ m
+walk_seen None m b bs h = sym h.0
+walk_seen (Some y) m b bs h = sym h
+
+-- ---- whole lists
+
+-- of another length, and of the same
+pub other_length : (ps : Patterns) (ts : Trees) → (pattern_count ps ≡ count ts → ⊥) → mismatch_of (in_list ps) (list ts) ≡ Some (mismatch [] (is_list_of (pattern_count ps)) (list ts))
+other_length ps ts h = ap (λ q. if q then mismatch_in 0 ps ts [] else Some (mismatch [] (is_list_of (pattern_count ps)) (list ts))) (same_lengths _ _ h)
+
+pub same_length : (ps : Patterns) (ts : Trees) → pattern_count ps ≡ count ts → mismatch_of (in_list ps) (list ts) ≡ mismatch_in 0 ps ts []
+same_length ps ts h = ap (λ q. if q then mismatch_in 0 ps ts [] else Some (mismatch [] (is_list_of (pattern_count ps)) (list ts))) (ap (λ k. pattern_count ps == k) (sym h) ∙ self_equal (pattern_count ps))

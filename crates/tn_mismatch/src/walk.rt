@@ -5,7 +5,8 @@ ghost use Rattle.def_term.specs.Tree.{count};
 ghost use Rattle.tn_guard.specs.Views.{list_view_seen};
 ghost use Rattle.tn_head.specs.Matching.{bound_on, bound_each, bound_at};
 ghost use Rattle.tn_mismatch.specs.Views.{mismatches_seen};
-ghost use Rattle.tn_mismatch.specs.Walks.{IsWalk, mismatch_after, mismatch_among, mismatch_at, first_mismatch_of, of_length};
+ghost use Rattle.tn_mismatch.specs.Walks.{IsWalk, mismatch_after, mismatch_among, mismatch_at};
+ghost use Rattle.tn_mismatch.specs.Walks.{first_mismatch_of, of_length};
 
 use crate::bindings::value_of;
 use crate::mismatch::{HeadPart, Mismatch};
@@ -48,10 +49,8 @@ fn mismatch_on<'a, A: Allocator>(
     value: Value<'a, A>,
     bound: &mut SomeBindings<'a, A, &'a Bump<A>>,
 ) -> Result<Option<Mismatch<'a, A>>, AllocError>
-    ensures {
-        IfOk result (λ m. IsWalk m (mismatch_after pattern.now value.entry bound.old.items)
-                                 (bound_on pattern.now value.entry bound.old.items) bound.new.items)
-    }
+    ensures { IfOk result (λ m. IsWalk m (mismatch_after pattern.now value.entry bound.old.items)
+        (bound_on pattern.now value.entry bound.old.items) bound.new.items) }
 {
     match pattern {
         Pattern::Variable(n) => Ok(meet(*n, value, bound)?),
@@ -83,10 +82,8 @@ fn mismatch_in<'a, A: Allocator>(
     bound: &mut SomeBindings<'a, A, &'a Bump<A>>,
 ) -> Result<Option<Mismatch<'a, A>>, AllocError>
     requires { length patterns.now.items ≡ count (list_view_seen parts) }
-    ensures {
-        IfOk result (λ m. IsWalk m (mismatch_among patterns.now parts.entry bound.old.items)
-                                 (bound_each patterns.now parts.entry bound.old.items) bound.new.items)
-    }
+    ensures { IfOk result (λ m. IsWalk m (mismatch_among patterns.now parts.entry bound.old.items)
+        (bound_each patterns.now parts.entry bound.old.items) bound.new.items) }
 {
     for i in 0..patterns.len() {
         if let Some(mismatch) = mismatch_on(arena, &patterns[i], parts.at(i), bound)? {
@@ -121,17 +118,18 @@ fn meet<'a, A: Allocator>(
     value: Value<'a, A>,
     bound: &mut SomeBindings<'a, A, &'a Bump<A>>,
 ) -> Result<Option<Mismatch<'a, A>>, AllocError>
-    ensures {
-        IfOk result (λ m. IsWalk m (mismatch_at number value.entry bound.old.items)
-                                 (bound_at number value.entry bound.old.items) bound.new.items)
-    }
+    ensures { IfOk result (λ m. IsWalk m (mismatch_at number value.entry bound.old.items)
+        (bound_at number value.entry bound.old.items) bound.new.items) }
 {
     match value_of(bound.as_slice(), number) {
         Some(first) => {
             if first.same(value) {
                 Ok(None)
             } else {
-                let part = HeadPart::Bound { number, value: first };
+                let part = HeadPart::Bound {
+                    number,
+                    value: first,
+                };
                 Ok(Some(Mismatch::here(part, value)))
             }
         }

@@ -1,8 +1,9 @@
 // The text of where a head first differs.
-ghost use Rattle.std.specs.Prelude.{◌≡◌, ◌++◌, OnOk, suc, codes, decimal, flat_map};
+ghost use Rattle.std.specs.Prelude.{◌≡◌, ◌++◌, OnOk, codes, decimal, flat_map};
 ghost use Rattle.def_explain.specs.Texts.{head_part_text, mismatch_text};
 ghost use Rattle.tn_mismatch.specs.Views.{head_part_seen, mismatch_seen};
 ghost use Rattle.tn_text.specs.Writes.{Grows};
+ghost use Rattle.tn_verdict.specs.MismatchTexts.{level_text};
 
 use crate::expression_text::put_variable;
 use crate::reason_text::{put_number, put_value};
@@ -29,7 +30,7 @@ pub fn put_mismatch<A: Allocator, C: Allocator + Copy, B: Allocator>(
 
 /// Appends the number of an element, level by level.
 fn put_place<B: Allocator>(place: &[usize], out: &mut Vec<u8, B>) -> Result<(), AllocError>
-    ensures ok { OnOk result (out.new.items ≡ out.old.items ++ flat_map (λ n. codes ", element " ++ decimal (suc n)) place.now) }
+    ensures ok { OnOk result (out.new.items ≡ out.old.items ++ flat_map level_text place.now) }
     ensures grows { Grows out.old.items out.new.items }
 {
     for before in place {
@@ -40,7 +41,7 @@ fn put_place<B: Allocator>(place: &[usize], out: &mut Vec<u8, B>) -> Result<(), 
 
 /// Appends the number of the element after so many.
 fn put_element<B: Allocator>(before: usize, out: &mut Vec<u8, B>) -> Result<(), AllocError>
-    ensures ok { OnOk result (out.new.items ≡ out.old.items ++ (codes ", element " ++ decimal (suc before))) }
+    ensures ok { OnOk result (out.new.items ≡ out.old.items ++ level_text before) }
     ensures grows { Grows out.old.items out.new.items }
 {
     out.extend_from_slice(b", element ")?;
@@ -72,11 +73,7 @@ fn put_head_part<A: Allocator, C: Allocator + Copy, B: Allocator>(
 }
 
 /// Appends that a thing of this size is expected.
-fn put_size<B: Allocator>(
-    thing: &[u8],
-    size: usize,
-    out: &mut Vec<u8, B>,
-) -> Result<(), AllocError>
+fn put_size<B: Allocator>(thing: &[u8], size: usize, out: &mut Vec<u8, B>) -> Result<(), AllocError>
     ensures ok { OnOk result (out.new.items ≡ out.old.items ++ (thing.now ++ (decimal size ++ codes " expected"))) }
     ensures grows { Grows out.old.items out.new.items }
 {

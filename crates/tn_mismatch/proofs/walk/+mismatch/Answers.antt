@@ -7,7 +7,7 @@ use Rattle.tn_guard.proofs.Places.{rest_of_all}
 use Rattle.tn_head.specs.Views.{binding_seen}
 use Rattle.tn_head.proofs.Walk.{each_here, each_past}
 use Rattle.tn_mismatch.specs.Walks.{of_length}
-use Rattle.tn_mismatch.proofs.Steps.{here_differs, here_matches, past_all, count_patterns, pattern_of_tuple, pattern_of_list, tuple_differs, tuple_binds, no_tuple, list_differs, list_binds, no_list, walk_of}
+use Rattle.tn_mismatch.proofs.Steps.{here_differs, here_matches, past_all, count_patterns, pattern_of_tuple, pattern_of_list, tuple_differs, tuple_binds, no_tuple, list_differs, list_binds, no_list, walk_of, walk_some, walk_none}
 use Rattle.tn_mismatch.proofs.walk.+mismatch.Goals as goal
 
 pub mismatch_in-loop-i-init : goal.mismatch_in-loop-i-init
@@ -23,19 +23,21 @@ mismatch_in-returns-in-Some g t c =
     let size = c.len-i-end.ensures ∙ ps.ok.0 in
     sym c.loop-i.invariant.rest
     ∙ here_differs ps.items (list_view_seen c.args.parts) c.loop-i.i c.index.result.now (value_seen c.at.result) (map binding_seen c.loop-i.bound.items) _
-    (omega (arith, size)) c.index.ensures c.at.ensures c.in_ok-mismatch_on.ensures
+    (omega (arith, size)) c.index.ensures c.at.ensures (walk_some _ _ _ _ _ c.in-Some.is c.in_ok-mismatch.ensures)
     ∙ ap Some (sym c.in_ok-in_element.ensures)
 
 pub mismatch_in-loop-i-preserved : goal.mismatch_in-loop-i-preserved
 mismatch_in-loop-i-preserved g t c =
     let ps = c.args.patterns.now in
     let size = c.len-i-end.ensures ∙ ps.ok.0 in
+    let matched : (mismatch_on (pattern_seen c.index.result.now) (value_seen c.at.result) (map binding_seen c.loop-i.bound.items) ≡ None) × (bind_on (pattern_seen c.index.result.now) (value_seen c.at.result) (map binding_seen c.loop-i.bound.items) ≡ Some (map binding_seen c.mismatch_on.new.bound.items)) =
+    walk_none _ _ _ _ c.in_default.is c.in_ok-mismatch.ensures in
     record {
       lengths = c.loop-i.invariant.lengths;
       rest = sym (here_matches ps.items (list_view_seen c.args.parts) c.loop-i.i c.index.result.now (value_seen c.at.result) (map binding_seen c.loop-i.bound.items) _
-          (omega (arith, size)) c.index.ensures c.at.ensures c.in_ok-mismatch_on.ensures.0 c.in_ok-mismatch_on.ensures.1) ∙ c.loop-i.invariant.rest;
+          (omega (arith, size)) c.index.ensures c.at.ensures matched.0 matched.1) ∙ c.loop-i.invariant.rest;
       bound = sym (each_here ps.items (list_view_seen c.args.parts) c.loop-i.i c.index.result.now (value_seen c.at.result) (map binding_seen c.loop-i.bound.items) _
-          (omega (arith, size)) c.index.ensures c.at.ensures c.in_ok-mismatch_on.ensures.1) ∙ c.loop-i.invariant.bound;
+          (omega (arith, size)) c.index.ensures c.at.ensures matched.1) ∙ c.loop-i.invariant.bound;
     }
 
 pub mismatch_in-returns : goal.mismatch_in-returns
