@@ -2,9 +2,9 @@
 //! for; the lines of the clauses of one specification on one list; and the text of why a term is no specification.
 //!
 //! Depends on tn_spec, tn_head, tn_guard and tn_action, on tn_mismatch, tn_difference and tn_reason, on tn_text, and on
-//! the definitions of def_explain. Promises that `verdict` is the defined one, that `put_spec_reason` appends the defined
-//! text, and that `put_spec_test` appends the defined lines, and nothing where memory is refused. What a reason names
-//! is lent from the specification or the term, or lies in the arena: no term is copied.
+//! the definitions of def_explain. Promises that `verdict` is the defined one, that `put_spec_reason` appends the
+//! defined text, and that `put_spec_test` appends the defined lines, and nothing where memory is refused. What a reason
+//! names is lent from the specification or the term, or lies in the arena: no term is copied.
 #![tactic(auto)]
 
 mod clauses;
