@@ -23,8 +23,8 @@ TRIALS = (
         (
             "clause 1: the head has another number of elements",
             "clause 2: the head has another number of elements",
-            "clause 3: the head doesn't match at element 2",
-            "clause 4: the head doesn't match at element 1",
+            "clause 3: the head doesn't match at element 2: '$1' is 1, found 2",
+            "clause 4: the head doesn't match at element 1: 2 expected, found 1",
             "=> no message: no clause fires",
         ),
     ),
@@ -304,9 +304,15 @@ TRIALS = (
 OTHER = "the head has another number of elements"
 
 
-def at(place):
-    """What is told of a head that stops at an element."""
-    return f"the head doesn't match at element {place}"
+def at(*place, part, term):
+    """What is told of a head that first differs at a place, by the numbers of elements down to it."""
+    numbers = ", ".join(f"element {number}" for number in place)
+    return f"the head doesn't match at {numbers}: {part}, found {term}"
+
+
+def expected(part):
+    """A term, or a tuple or list of so many, that a head has at a place."""
+    return f"{part} expected"
 
 
 # A head, the list that it is held against, and the values that its variables are bound to, or why it doesn't match.
@@ -328,23 +334,30 @@ HEADS = (
     ("['$1','_','$2']", "[a,{},<0.100.0>]", {"$1": "a", "$2": "<0.100.0>"}),
     # Patterns with parts.
     ("[{'$2'},a]", "[{7},a]", {"$2": "7"}),
-    ("[{'$2'},a]", "[[7],a]", at(1)),
-    ("[{'$2'},a]", "[{7},b]", at(2)),
-    ("[{'$2'},a]", "[7,a]", at(1)),
-    ("[{'$2'},a]", "[{},a]", at(1)),
-    ("[{'$2'},a]", "[{7,7},a]", at(1)),
+    ("[{'$2'},a]", "[[7],a]", at(1, part=expected("a tuple of 1"), term="[7]")),
+    ("[{'$2'},a]", "[{7},b]", at(2, part=expected("a"), term="b")),
+    ("[{'$2'},a]", "[7,a]", at(1, part=expected("a tuple of 1"), term="7")),
+    ("[{'$2'},a]", "[{},a]", at(1, part=expected("a tuple of 1"), term="{}")),
+    ("[{'$2'},a]", "[{7,7},a]", at(1, part=expected("a tuple of 1"), term="{7,7}")),
     ("[['$2','_']]", "[[{7},8]]", {"$2": "{7}"}),
-    ("[['$2','_']]", "[{7,8}]", at(1)),
+    ("[['$2','_']]", "[{7,8}]", at(1, part=expected("a list of 2"), term="{7,8}")),
     ("[{const,'$1'}]", "[{const,b}]", {"$1": "b"}),
-    ("[{const,'$1'}]", "['$1']", at(1)),
+    ("[{const,'$1'}]", "['$1']", at(1, part=expected("a tuple of 2"), term="'$1'")),
+    # The first difference is told, left to right and depth first.
+    ("[a,b]", "[c,d]", at(1, part=expected("a"), term="c")),
+    ("[{a,b},c]", "[{a,d},e]", at(1, 2, part=expected("b"), term="d")),
+    ("['$1',[{a},'$1']]", "[b,[{c},d]]", at(2, 1, 1, part=expected("a"), term="c")),
+    ("['_',{a,['$1','$1']}]", "[0,{a,[b,c]}]", at(2, 2, 2, part="'$1' is b", term="c")),
+    ("[{'_',[]}]", "[{0,[1]}]", at(1, 2, part=expected("a list of 0"), term="[1]")),
+    ("[['$1',a,'_']]", "[[1,2]]", at(1, part=expected("a list of 3"), term="[1,2]")),
     # A second occurrence must equal the first.
     ("['$1','$1']", "[a,a]", {"$1": "a"}),
-    ("['$1','$1']", "[a,b]", at(2)),
+    ("['$1','$1']", "[a,b]", at(2, part="'$1' is a", term="b")),
     ("['$1',{'$1'}]", "[[a],{[a]}]", {"$1": "[a]"}),
-    ("['$1',{'$1'}]", "[[a],{{a}}]", at(2)),
-    ("['$1','$2','$1']", "[a,b,b]", at(3)),
+    ("['$1',{'$1'}]", "[[a],{{a}}]", at(2, 1, part="'$1' is [a]", term="{a}")),
+    ("['$1','$2','$1']", "[a,b,b]", at(3, part="'$1' is a", term="b")),
     ("['$1','$2','$1']", "[a,b,a]", {"$1": "a", "$2": "b"}),
-    ("['$2','$1','$2']", "[0,0,1]", at(3)),
+    ("['$2','$1','$2']", "[0,0,1]", at(3, part="'$2' is 0", term="1")),
     ("['_','_']", "[a,b]", {}),
     # Variables come by rising number.
     ("['$3','$1']", "[a,b]", {"$1": "b", "$3": "a"}),
@@ -353,6 +366,9 @@ HEADS = (
 
 # Terms that are no variable, nor '_': each matches itself alone.
 CONSTANTS = ("0", "-1", "a", "'$_'", "'$$'", "<0.0.0>", "{}", "{a}", "[]", "[a]")
+
+# What is expected where such a tuple or list stands in a head and another term is there.
+SIZES = {"{}": "a tuple of 0", "{a}": "a tuple of 1", "[]": "a list of 0", "[a]": "a list of 1"}
 
 # The most elements of a list and of a tuple, and what stands around an expression that is as deep as it may be.
 ELEMENTS, FIELDS, DEEPEST = 4096, 255, 29
@@ -383,7 +399,10 @@ def of_heads():
     for own in CONSTANTS:
         others = [kind for kind in CONSTANTS if kind != own]
         clauses = ",".join(f"{{[{kind}],[],[]}}" for kind in [*others, own])
-        told = [f"clause {number + 1}: {at(1)}" for number in range(len(others))]
+        told = [
+            f"clause {number + 1}: {at(1, part=expected(SIZES.get(kind, kind)), term=own)}"
+            for number, kind in enumerate(others)
+        ]
         yield f"[{own}]", f"[{clauses}]", (*told, f"clause {len(CONSTANTS)} fires", "=> a message")
 
 
@@ -444,8 +463,8 @@ def of_length():
     same, short = many("a"), many("a", ELEMENTS - 1)
     for pattern, bindings, of_other in (
         ("'_'", {}, fires({})),
-        ("'$999'", {"$999": "a"}, fails(at(ELEMENTS))),
-        ("a", {}, fails(at(ELEMENTS))),
+        ("'$999'", {"$999": "a"}, fails(at(ELEMENTS, part="'$999' is a", term="b"))),
+        ("a", {}, fails(at(ELEMENTS, part=expected("a"), term="b"))),
     ):
         spec = f"[{{[{many(pattern)}],[],[]}}]"
         yield f"[{same}]", spec, fires(bindings)

@@ -5,10 +5,10 @@
 //! Promises, as laws over the definitions: a session that is there has a cause exactly where it reports nothing of
 //! an event, and a clause a reason exactly where it doesn't fire, one at most, and it is what is computed; a head
 //! has one exactly where it doesn't match, and differs first at one place; a specification has one exactly where it
-//! can't be read; a command that is refused has one, which says its reply; a condition faults at a part of it exactly where it has no value; what a
-//! node is said to do otherwise is what is defined of it, and it does no move otherwise where no command can lead
-//! to one; the messages that a session reports in the account of a run are its listing's; and a command is written
-//! as a term that is read as it. There is no code.
+//! can't be read; a command that is refused has one, which says its reply; a condition faults at a part of it exactly
+//! where it has no value; what a node is said to do otherwise is what is defined of it, and it does no move otherwise
+//! where no command can lead to one; the messages that a session reports in the account of a run are its listing's; and
+//! a command is written as a term that is read as it. There is no code.
 #![tactic(auto)]
 
 ghost use Rattle.def_explain.specs.Laws.{ReasonWhereNotFired, ReasonIsOne, ReasonIsComputed};

@@ -2,30 +2,25 @@
 use Rattle.std.proofs.Common.{◌≡◌, ℕ, zero, suc, ◌+◌, ◌<◌, List, [], ◌∷◌, length, drop, refl, sym, ap, ◌∙◌, arith, Option, Some, None, Bool, true, false, if◌then◌else◌}
 use Rattle.std.specs.Bool.{beq}
 use Rattle.std.specs.Cmp.{booleans_Decides}
-use Rattle.def_term.specs.Tree.{Tree, of_elements}
-use Rattle.def_spec.specs.Functions.{Func, is_true, nth}
-use Rattle.def_spec.specs.Matching.{Pattern, Patterns, and_pattern, Bindings, bind_on, bindings_of}
+use Rattle.def_term.specs.Tree.{Tree, list, of_elements}
+use Rattle.def_spec.specs.Functions.{Func, is_true}
+use Rattle.def_spec.specs.Matching.{Bindings, bindings_of}
 use Rattle.def_spec.specs.Expressions as ex
 use Rattle.def_spec.specs.Expressions.{Exprs, and_expr}
 use Rattle.def_spec.specs.Outcome.{Clause, matched_term}
-use Rattle.def_explain.specs.Heads.{HeadReason, after_matching, stop_or, stop_in, pattern_count, head_reason}
+use Rattle.def_explain.specs.Mismatches.{mismatch_of}
+use Rattle.def_explain.specs.Heads.{HeadReason, of_mismatch, head_reason}
 use Rattle.def_explain.specs.Reasons.{Reason, by_head, by_condition, has_value, untrue_by, untrue_in, as_reason, reason_by}
 use Rattle.def_explain.specs.Values.{function_value, or_itself, or_after, after_true, after_other, fault_in, fault_in_one, fault_while_true, fault_until_true}
 use Rattle.def_explain.specs.Verdicts.{fails, fires_with, verdict_of}
 use Rattle.def_spec.proofs.Conditions.{of-bound, of-call, of-action}
 use Rattle.def_explain.proofs.HeadStops.{head_there}
 use Rattle.def_explain.proofs.ClauseVerdicts.{verdict_with, verdict_without}
-use Rattle.std.proofs.Common.{eq-eqb, get_or}
-use Rattle.std.proofs.lemmas.Bool.{ne_eqb}
-use Rattle.std.proofs.lemmas.List.{drop_more}
 use Rattle.std.specs.declared.alloc.Allocator.{Ghosts}
-use Rattle.def_term.specs.Tree.{count as elements}
-use Rattle.def_spec.specs.Matching.{in_list}
-use Rattle.def_explain.specs.Heads as heads
-use Rattle.tn_spec.specs.Views.{pattern_seen, patterns_seen}
-use Rattle.tn_spec.specs.declared.pattern.Pattern as code
 use Rattle.tn_head.specs.Views.{bindings_seen}
-use Rattle.tn_spec.specs.Views.{dialect_of}
+use Rattle.tn_spec.specs.Views.{dialect_of, head_seen}
+use Rattle.tn_spec.specs.declared.pattern.Head.{Head}
+use Rattle.tn_spec.specs.declared.pattern.Head.TheVariants as shapes
 use Rattle.tn_action.specs.Parts.{eval_position_seen}
 use Rattle.tn_action.specs.EvalContexts.{evaluation_in}
 use Rattle.tn_action.proofs.Steps.{condition_value}
@@ -36,23 +31,11 @@ use Rattle.tn_verdict.specs.Reasons as scenes
 
 -- ---- heads
 
-pub element-here : (ts : List Tree) (i : ℕ) (t : Tree) → Some t ≡ nth (of_elements ts) i → drop i ts ≡ t ∷ drop (i + 1) ts
-element-here [] zero t e = absurd (cc)
-element-here [] (suc i) t e = absurd (cc)
-element-here (u ∷ ts) zero t e = let is : t ≡ u = cc in ap (λ x. x ∷ ts) (sym is)
-element-here (u ∷ ts) (suc i) t e =
-    let more : suc (i + 1) ≡ suc i + 1 = omega arith in
-    element-here ts i t e ∙ ap (λ k. t ∷ drop k (u ∷ ts)) more
-
-pub stops-here : (n : ℕ) (es rest : Patterns) (p : Pattern) (us ts : List Tree) (t : Tree) (b : Bindings) (total : Option HeadReason) → es ≡ and_pattern p rest → us ≡ t ∷ ts → bind_on p t b ≡ None → stop_in n es us b ≡ total → Some (after_matching n) ≡ total
-stops-here n es rest p us ts t b total is at none h =
-    sym (ap (λ x. stop_in n x us b) is ∙ ap (λ x. stop_in n (and_pattern p rest) x b) at ∙ ap (λ x. stop_or n x (stop_in (suc n) rest ts)) none) ∙ h
-
-pub goes-on-here : (n m : ℕ) (es rest : Patterns) (p : Pattern) (us ts : List Tree) (t : Tree) (b c : Bindings) (total : Option HeadReason) → m ≡ n + 1 → es ≡ and_pattern p rest → us ≡ t ∷ ts → bind_on p t b ≡ Some c → stop_in n es us b ≡ total → stop_in m rest ts c ≡ total
-goes-on-here n m es rest p us ts t b c total next is at some h =
-    let more : m ≡ suc n = omega (arith, next) in
-    ap (λ k. stop_in k rest ts c) more
-    ∙ sym (ap (λ x. stop_in n x us b) is ∙ ap (λ x. stop_in n (and_pattern p rest) x b) at ∙ ap (λ x. stop_or n x (stop_in (suc n) rest ts)) some) ∙ h
+-- a head's reason is by the place where it first differs
+pub head-by-place : {P : Type 0} (h : Head P) (ts : List Tree) → head_reason (head_seen h) ts ≡ of_mismatch (mismatch_of (head_seen h) (list (of_elements ts)))
+head-by-place (shapes.Variable n) ts = refl
+head-by-place shapes.Anything ts = refl
+head-by-place (shapes.List ps) ts = refl
 
 -- ---- faults
 
@@ -177,24 +160,3 @@ in-conditions s e v old new at is =
 pub in-turn : {A : Type 0} {G : Ghosts A} (s : EvalContext A G) (stop : Bool) (es : Exprs) → scenes.fault_in_turn s stop es ≡ turn (dialect_of s.dialect) (bindings_seen s.bindings.now) (context_seen s.context.now) stop es
 in-turn s true es = refl
 in-turn s false es = refl
-
--- ---- lengths
-
-pub count-elements : (ts : List Tree) → elements (of_elements ts) ≡ length ts
-count-elements [] = refl
-count-elements (t ∷ ts) =
-    let more : length ts + 1 ≡ suc (length ts) = omega arith in
-    ap (λ n. n + 1) (count-elements ts) ∙ more
-
-pub count-patterns : {A : Type 0} (ps : List (code.Pattern A)) → pattern_count (patterns_seen ps) ≡ length ps
-count-patterns [] = refl
-count-patterns (p ∷ ps) = ap suc (count-patterns ps)
-
-pub patterns-here : {A : Type 0} (ps : List (code.Pattern A)) (i : ℕ) (p : code.Pattern A) → i < length ps → p ≡ get_or ps i p → patterns_seen (drop i ps) ≡ and_pattern (pattern_seen p) (patterns_seen (drop (i + 1) ps))
-patterns-here ps i p below is = ap patterns_seen (drop_more ps i p below) ∙ ap (λ f. and_pattern (pattern_seen f) (patterns_seen (drop (i + 1) ps))) (sym is)
-
-pub other-length : (ps : Patterns) (ts : List Tree) → (pattern_count ps ≡ length ts → ⊥) → head_reason (in_list ps) ts ≡ Some heads.other_length
-other-length ps ts h = ap (λ q. if q then stop_in 0 ps ts [] else Some heads.other_length) (ne_eqb (pattern_count ps) (length ts) h)
-
-pub same-length : (ps : Patterns) (ts : List Tree) → pattern_count ps ≡ length ts → head_reason (in_list ps) ts ≡ stop_in 0 ps ts []
-same-length ps ts h = ap (λ q. if q then stop_in 0 ps ts [] else Some heads.other_length) (eq-eqb (pattern_count ps) (length ts) h)

@@ -25,10 +25,6 @@ use Rattle.tn_action.specs.declared.eval_context.EvalContext.{EvalContext}
 abbrev pub head_reason_of : {P A : Type 0} → Head P → ListView A → Option heads.HeadReason
 head_reason_of h list = heads.head_reason (head_seen h) (parts_list list)
 
--- where the patterns stop matching their elements, with nothing bound before
-abbrev pub stop_seen : {P A : Type 0} → Vec (Pattern P) P → ListView A → Option heads.HeadReason
-stop_seen ps list = heads.stop_in 0 (patterns_seen ps.items) (parts_list list) []
-
 -- what becomes of a clause
 abbrev pub clause_verdict_of : {A : Type 0} → Dialect → Clause A → Context A → verdicts.Verdict
 clause_verdict_of d k c = verdicts.verdict_of (dialect_of d) (clause_seen k) (context_seen c)

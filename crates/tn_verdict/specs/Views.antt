@@ -9,6 +9,7 @@ use Rattle.def_explain.specs.Reasons as reasons
 use Rattle.def_explain.specs.Verdicts as verdicts
 use Rattle.tn_guard.specs.Views.{value_seen}
 use Rattle.tn_head.specs.Views.{bindings_seen}
+use Rattle.tn_mismatch.specs.Views.{mismatch_seen}
 use Rattle.tn_spec.specs.Views.{expr_seen}
 use Rattle.tn_spec.specs.declared.expr.Expr.{Expr}
 use Rattle.tn_action.specs.Views.{effect_seen}
@@ -21,10 +22,10 @@ use Rattle.tn_verdict.specs.declared.reason.Reason.TheVariants.{ByHead, ByCondit
 use Rattle.tn_verdict.specs.declared.reason.Verdict.{Verdict}
 use Rattle.tn_verdict.specs.declared.reason.Verdict.TheVariants.{Fails, Fires}
 
-abbrev pub head_reason_seen : HeadReason → heads.HeadReason
+abbrev pub head_reason_seen : {A : Type 0} → HeadReason A → heads.HeadReason
 head_reason_seen NoList = heads.no_list
 head_reason_seen OtherLength = heads.other_length
-head_reason_seen (AfterMatching n) = heads.after_matching n
+head_reason_seen (AfterMatching n m) = heads.after_matching n (mismatch_seen m)
 
 abbrev pub condition_seen : {A : Type 0} → ConditionReason A → reasons.ConditionReason
 condition_seen (HasValue v) = reasons.has_value (value_seen v)
@@ -35,7 +36,7 @@ reason_seen (ByHead h) = reasons.by_head (head_reason_seen h)
 reason_seen (ByCondition n w) = reasons.by_condition n (condition_seen w)
 
 -- the reasons, where there are any
-abbrev pub head_reasons_seen : Option HeadReason → Option heads.HeadReason
+abbrev pub head_reasons_seen : {A : Type 0} → Option (HeadReason A) → Option heads.HeadReason
 head_reasons_seen r = option_map head_reason_seen r
 
 abbrev pub reasons_seen : {A : Type 0} → Option (Reason A) → Option reasons.Reason

@@ -1,10 +1,10 @@
 //! What becomes of a clause and of a specification, and its text: why a clause doesn't fire, or what its body asks
 //! for; the lines of the clauses of one specification on one list; and the text of why a term is no specification.
 //!
-//! Depends on tn_spec, tn_head, tn_guard and tn_action, on tn_difference and tn_reason, on tn_text, and on the
-//! definitions of def_explain. Promises that `verdict` is the defined one, that `put_spec_reason` appends the defined
-//! text, and that `put_spec_test` appends the defined lines, and nothing where memory is refused. What a reason names
-//! is lent from the specification or the term, or lies in the arena: no term is copied.
+//! Depends on tn_spec, tn_head, tn_guard and tn_action, on tn_mismatch, tn_difference and tn_reason, on tn_text, and on
+//! the definitions of def_explain. Promises that `verdict` is the defined one, that `put_spec_reason` appends the
+//! defined text, and that `put_spec_test` appends the defined lines, and nothing where memory is refused. What a reason
+//! names is lent from the specification or the term, or lies in the arena: no term is copied.
 #![tactic(auto)]
 
 mod clauses;
@@ -12,6 +12,7 @@ mod effects;
 mod expression_text;
 mod faults;
 mod heads;
+mod mismatch_text;
 mod names;
 mod no_specification;
 mod reason;

@@ -5,17 +5,21 @@ use std::alloc::Allocator;
 use tn_action::Effect;
 use tn_guard::Value;
 use tn_head::Bindings;
+use tn_mismatch::Mismatch;
 use tn_spec::Expr;
 
 /// Why a head doesn't match.
-#[derive(Clone, Copy)]
-pub enum HeadReason {
+#[derive_where(Clone, Copy)]
+pub enum HeadReason<'a, A: Allocator> {
     /// The head is no list, and doesn't match.
     NoList,
     /// The list has another number of elements than the head.
     OtherLength,
-    /// So many elements match together, and with the next they don't.
-    AfterMatching(usize),
+    /// So many elements match together, and the next differs so; the place is within that element.
+    AfterMatching {
+        count: usize,
+        mismatch: Mismatch<'a, A>,
+    },
 }
 
 /// Why a condition isn't `true`.
@@ -31,7 +35,7 @@ pub enum ConditionReason<'a, A: Allocator> {
 #[derive_where(Clone, Copy)]
 pub enum Reason<'a, A: Allocator> {
     /// The head doesn't match.
-    ByHead(HeadReason),
+    ByHead(HeadReason<'a, A>),
     /// The condition after so many isn't `true`.
     ByCondition {
         index: usize,

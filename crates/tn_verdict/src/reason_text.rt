@@ -7,6 +7,7 @@ ghost use Rattle.tn_verdict.specs.Views.{head_reason_seen, condition_seen, reaso
 ghost use Rattle.tn_text.specs.Writes.{Grows};
 
 use crate::expression_text::put_expr;
+use crate::mismatch_text::put_mismatch;
 use crate::reason::{ConditionReason, HeadReason, Reason};
 use itoa::Buffer;
 use std::alloc::{AllocError, Allocator};
@@ -36,8 +37,12 @@ pub fn put_value<A: Allocator, C: Allocator + Copy, B: Allocator>(
 }
 
 /// Appends why a head doesn't match.
-fn put_head_reason<B: Allocator>(why: HeadReason, out: &mut Vec<u8, B>) -> Result<(), AllocError>
-    ensures ok { OnOk result (out.new.items ≡ out.old.items ++ head_reason_text (head_reason_seen why)) }
+fn put_head_reason<A: Allocator, C: Allocator + Copy, B: Allocator>(
+    alloc: C,
+    why: HeadReason<'_, A>,
+    out: &mut Vec<u8, B>,
+) -> Result<(), AllocError>
+    ensures ok { OnOk result (out.new.items ≡ out.old.items ++ head_reason_text (head_reason_seen why.entry)) }
     ensures grows { Grows out.old.items out.new.items }
 {
     match why {
@@ -45,9 +50,10 @@ fn put_head_reason<B: Allocator>(why: HeadReason, out: &mut Vec<u8, B>) -> Resul
         HeadReason::OtherLength => {
             out.extend_from_slice(b"the head has another number of elements")
         }
-        HeadReason::AfterMatching(count) => {
+        HeadReason::AfterMatching { count, mismatch } => {
             out.extend_from_slice(b"the head doesn't match at element ")?;
-            put_number(count, out)
+            put_number(count, out)?;
+            put_mismatch(alloc, mismatch, out)
         }
     }
 }
@@ -83,7 +89,7 @@ pub fn put_reason<A: Allocator, C: Allocator + Copy, B: Allocator>(
     ensures grows { Grows out.old.items out.new.items }
 {
     match reason {
-        Reason::ByHead(why) => put_head_reason(why, out),
+        Reason::ByHead(why) => put_head_reason(alloc, why, out),
         Reason::ByCondition { index, why } => {
             out.extend_from_slice(b"condition ")?;
             put_number(index, out)?;

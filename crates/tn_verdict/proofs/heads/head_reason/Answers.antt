@@ -1,24 +1,16 @@
-use Rattle.std.proofs.Common.{◌∙◌, sym, ap}
+use Rattle.std.proofs.Common.{◌∙◌, sym, ap, Some}
+use Rattle.def_explain.specs.Heads.{of_mismatch}
 use Rattle.tn_guard.specs.Views.{parts_list}
-use Rattle.tn_spec.specs.Views.{patterns_seen}
-use Rattle.tn_verdict.specs.Reasons.{head_reason_of}
-use Rattle.tn_verdict.proofs.Steps.{count-elements, count-patterns, other-length, same-length}
+use Rattle.tn_mismatch.specs.Views.{mismatches_seen}
+use Rattle.tn_verdict.proofs.Steps.{head-by-place}
 use Rattle.tn_verdict.proofs.heads.head_reason.Goals as goal
 
-pub first_stop-requires : goal.first_stop-requires
-first_stop-requires g c = sym (c.len.ensures ∙ c.in-List.patterns.ok.0) ∙ c.if-len.false ∙ c.len-in-List.ensures.counted ∙ count-elements (parts_list c.args.list)
+pub returns-in-Some : goal.returns-in-Some
+returns-in-Some g c =
+    ap Some c.reason_by_place.ensures ∙ ap (λ m. of_mismatch (mismatches_seen m)) (sym c.in-Some.is)
+    ∙ ap of_mismatch c.in_ok-mismatch.ensures ∙ sym (head-by-place c.args.head.now (parts_list c.args.list))
 
-pub returns-then-len : goal.returns-then-len
-returns-then-len g c =
-    let ps = c.in-List.patterns in
-    sym (
-    ap (λ h. head_reason_of h c.args.list) c.in-List.is
-    ∙ other-length (patterns_seen ps.items) (parts_list c.args.list) (λ e. c.if-len.true (c.len.ensures ∙ ps.ok.0 ∙ sym (count-patterns ps.items) ∙ e ∙ sym (count-elements (parts_list c.args.list)) ∙ sym c.len-in-List.ensures.counted)))
-
-pub returns-in_ok-first_stop-in-List : goal.returns-in_ok-first_stop-in-List
-returns-in_ok-first_stop-in-List g c =
-    let ps = c.in-List.patterns in
-    c.in_ok-first_stop-in-List.ensures
-    ∙ sym (
-    ap (λ h. head_reason_of h c.args.list) c.in-List.is
-    ∙ same-length (patterns_seen ps.items) (parts_list c.args.list) (count-patterns ps.items ∙ sym (c.len.ensures ∙ ps.ok.0) ∙ c.if-len.false ∙ c.len-in-List.ensures.counted ∙ count-elements (parts_list c.args.list)))
+pub returns-in-None : goal.returns-in-None
+returns-in-None g c =
+    ap (λ m. of_mismatch (mismatches_seen m)) (sym c.in-None.is)
+    ∙ ap of_mismatch c.in_ok-mismatch.ensures ∙ sym (head-by-place c.args.head.now (parts_list c.args.list))
