@@ -1,12 +1,12 @@
 -- Where the items of forms begin, by the tokens that the code lists.
 -- Depends on where items begin, and on the tokens of a text as the code has them.
-use Rattle.std.specs.Prelude.{ℕ, ◌-◌, ◌==◌, List, [], ◌∷◌, Option, Some, None, if◌then◌else◌}
+use Rattle.std.specs.Prelude.{ℕ, ◌-◌, ◌==◌, List, [], ◌∷◌, if◌then◌else◌}
 use Rattle.def_refusal.specs.Items.{FormItem}
-use Rattle.def_refusal.specs.ItemStarts.{TokenRole, opener, closer, separator, no_role, depth_after, commas_after, is_opener, form_element_of, item_position, ItemBegins}
+use Rattle.def_refusal.specs.ItemStarts.{TokenRole, opener, closer, separator, no_role, depth_after, commas_after, is_opener, form_element_of, item_position}
 use Rattle.tn_text.specs.declared.scan.Kind.{Kind}
 use Rattle.tn_text.specs.declared.scan.Kind.TheVariants.{OpenBrace, CloseBrace, OpenBracket, CloseBracket, Comma}
 use Rattle.tn_text.specs.declared.lexer.Token.{Token}
-use Rattle.tn_refusal.specs.Starts.{is_stop_kind, IsListable}
+use Rattle.tn_refusal.specs.Starts.{is_stop_kind}
 
 abbrev pub role_of_kind : Kind → TokenRole
 role_of_kind OpenBrace = opener
@@ -43,8 +43,3 @@ tokens_from_item n i vs = tokens_from_element (item_position i) (tokens_from_ele
 abbrev pub first_offset : ℕ → List Token → ℕ
 first_offset end [] = end
 first_offset end (v ∷ vs) = v.from
-
--- the offset at which the item begins; none where the text is too long or has bytes that form no token
-abbrev pub IsItemOffset : List ℕ → ℕ → FormItem → Option ℕ → Type 0
-IsItemOffset bytes n i (Some at) = ItemBegins bytes n i at
-IsItemOffset bytes n i None = IsListable bytes → ⊥

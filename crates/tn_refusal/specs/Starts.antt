@@ -1,7 +1,7 @@
 -- Where forms begin, by the tokens that the code lists.
 -- Depends on where forms begin, and on the tokens of a text as the code has them.
 use Rattle.std.specs.Prelude.{ℕ, ◌-◌, ◌≤◌, ◌==◌, List, [], ◌∷◌, length, Bool, true, false, Option, Some, None, if◌then◌else◌}
-use Rattle.std.specs.Option.{option_map}
+use Rattle.std.specs.declared.vec.Vec.{Vec}
 use Rattle.def_text.specs.Tokens.{TokenSpan, Tokens}
 use Rattle.def_text.specs.Spelling.{LENGTH}
 use Rattle.def_text.specs.Forms.{FormBegins}
@@ -9,7 +9,7 @@ use Rattle.tn_text.specs.declared.scan.Kind.{Kind}
 use Rattle.tn_text.specs.declared.scan.Kind.TheVariants.{Stop}
 use Rattle.tn_text.specs.declared.lexer.Token.{Token}
 use Rattle.tn_text.specs.Lexer.{AllGood}
-use Rattle.tn_refusal.specs.declared.starts.FormSpan.{FormSpan}
+use Rattle.tn_text.specs.Answers.{AreTokens}
 
 -- a full stop
 abbrev pub is_stop_kind : Kind → Bool
@@ -33,6 +33,7 @@ abbrev pub IsFormOffset : List ℕ → ℕ → Option ℕ → Type 0
 IsFormOffset bytes n (Some at) = FormBegins bytes n at
 IsFormOffset bytes n None = IsListable bytes → ⊥
 
--- where a form begins, of its span
-abbrev pub span_start : Option FormSpan → Option ℕ
-span_start s = option_map (λ v. v.from) s
+-- the code's list of the tokens; none where the text is too long or has bytes that form no token
+abbrev pub AreTokensIfAny : {A : Type 0} → List ℕ → Option (Vec Token A) → Type 0
+AreTokensIfAny bytes (Some v) = AreTokens bytes v.items
+AreTokensIfAny bytes None = IsListable bytes → ⊥

@@ -1,14 +1,13 @@
 // Where the steps and the commands of a form begin.
-ghost use Rattle.std.specs.Prelude.{◌≡◌, ◌<◌, IfOk};
+ghost use Rattle.std.specs.Prelude.{◌≡◌, ◌<◌};
 ghost use Rattle.def_refusal.specs.ItemStarts.{depth_after, commas_after, is_opener, form_element_of, item_position};
 ghost use Rattle.tn_script.specs.Items.{form_item_of};
 ghost use Rattle.tn_refusal.specs.ItemStarts.{role_of_kind, tokens_after_stops, tokens_after_commas, tokens_in_bracket};
-ghost use Rattle.tn_refusal.specs.ItemStarts.{tokens_from_element, tokens_from_item, first_offset, IsItemOffset};
+ghost use Rattle.tn_refusal.specs.ItemStarts.{tokens_from_element, tokens_from_item, first_offset};
 ghost use Rattle.tn_refusal.specs.Starts.{is_stop_kind};
 
-use std::alloc::{AllocError, Allocator};
 use tn_script::FormItem;
-use tn_text::{Kind, TextFault, Token, tokens};
+use tn_text::{Kind, Token};
 
 /// How many brackets are open after a token, of so many before it.
 fn depth_after(depth: usize, kind: Kind) -> usize
@@ -153,22 +152,10 @@ fn first_offset(tokens: &[Token], end: usize) -> usize
     }
 }
 
-/// The offset in bytes, from 0, at which a step or a command of the form with this number, from 1, begins. None where
-/// the text is longer than 1,048,576 bytes, or has bytes that form no token.
-pub fn item_offset<A: Allocator>(
-    alloc: A,
-    text: &[u8],
-    form: usize,
-    item: FormItem,
-) -> Result<Option<usize>, AllocError>
-    ensures { IfOk result (λ o. IsItemOffset text.now form (form_item_of item) o) }
+/// The offset in bytes, from 0, at which a step or a command of the form with this number, from 1, begins in a text of
+/// these tokens, or the end where no token is left.
+pub fn item_offset(tokens: &[Token], form: usize, item: FormItem, end: usize) -> usize
+    ensures { result ≡ first_offset end (tokens_from_item form (form_item_of item) tokens.now) }
 {
-    match tokens(alloc, text) {
-        Ok(tokens) => Ok(Some(first_offset(from_item(&tokens, form, item), text.len()))),
-        Err(TextFault::OutOfMemory) => Err(AllocError),
-        Err(TextFault::TooLong) => Ok(None),
-        Err(TextFault::Token { .. }) => Ok(None),
-        Err(TextFault::TooDeep { .. }) => Ok(None),
-        Err(TextFault::TooLarge { .. }) => Ok(None),
-    }
+    first_offset(from_item(tokens, form, item), end)
 }

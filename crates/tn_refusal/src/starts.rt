@@ -1,9 +1,23 @@
 // Where the forms of a text begin.
-ghost use Rattle.std.specs.Prelude.{◌≡◌, IfOk};
-ghost use Rattle.tn_refusal.specs.Starts.{is_stop_kind, start_in, IsFormOffset, span_start};
+ghost use Rattle.std.specs.Prelude.{◌≡◌, ◌-◌, IfOk};
+ghost use Rattle.tn_refusal.specs.Starts.{is_stop_kind, start_in, IsFormOffset, AreTokensIfAny};
 
 use std::alloc::{AllocError, Allocator};
 use tn_text::{Kind, TextFault, Token, tokens};
+
+/// The tokens of a text. None where the text is longer than 1,048,576 bytes, or has bytes that form no token.
+pub fn token_list<A: Allocator>(alloc: A, text: &[u8]) -> Result<Option<Vec<Token, A>>, AllocError>
+    ensures { IfOk result (λ o. AreTokensIfAny text.now o) }
+{
+    match tokens(alloc, text) {
+        Ok(tokens) => Ok(Some(tokens)),
+        Err(TextFault::OutOfMemory) => Err(AllocError),
+        Err(TextFault::TooLong) => Ok(None),
+        Err(TextFault::Token { .. }) => Ok(None),
+        Err(TextFault::TooDeep { .. }) => Ok(None),
+        Err(TextFault::TooLarge { .. }) => Ok(None),
+    }
+}
 
 /// Whether the token is a full stop.
 fn is_stop(kind: Kind) -> bool
@@ -28,33 +42,18 @@ fn start_after(tokens: &[Token], stops: usize, end: usize) -> usize
     end
 }
 
-/// Where a form begins, and where the one after it does.
-#[derive(Clone, Copy)]
-pub struct FormSpan {
-    pub from: usize,
-    pub to: usize,
+/// The offset of the first token of the form with this number, from 1, or the end where no token is left.
+pub fn form_start(tokens: &[Token], form: usize, end: usize) -> usize
+    ensures { result ≡ start_in end (form - 1) tokens.now }
+{
+    start_after(tokens, form.saturating_sub(1), end)
 }
 
-/// The span of the form with this number, from 1: from its first token to that of the form after it, where the text's
-/// length stands for a token that isn't there. None as for `form_offset`.
-pub fn form_span<A: Allocator>(
-    alloc: A,
-    text: &[u8],
-    form: usize,
-) -> Result<Option<FormSpan>, AllocError>
-    ensures { IfOk result (λ o. IsFormOffset text.now form (span_start o)) }
+/// The offset of the first token after the form with this number, from 1, or the end where no token is left.
+pub fn form_end(tokens: &[Token], form: usize, end: usize) -> usize
+    ensures { result ≡ start_in end form tokens.now }
 {
-    match tokens(alloc, text) {
-        Ok(tokens) => Ok(Some(FormSpan {
-            from: start_after(&tokens, form.saturating_sub(1), text.len()),
-            to: start_after(&tokens, form, text.len()),
-        })),
-        Err(TextFault::OutOfMemory) => Err(AllocError),
-        Err(TextFault::TooLong) => Ok(None),
-        Err(TextFault::Token { .. }) => Ok(None),
-        Err(TextFault::TooDeep { .. }) => Ok(None),
-        Err(TextFault::TooLarge { .. }) => Ok(None),
-    }
+    start_after(tokens, form, end)
 }
 
 /// The offset in bytes, from 0, of the first token of the form with this number, from 1: of the token after
@@ -72,8 +71,8 @@ pub fn form_offset<A: Allocator>(
 ) -> Result<Option<usize>, AllocError>
     ensures { IfOk result (λ o. IsFormOffset text.now form o) }
 {
-    match form_span(alloc, text, form)? {
-        Some(span) => Ok(Some(span.from)),
+    match token_list(alloc, text)? {
+        Some(tokens) => Ok(Some(form_start(&tokens, form, text.len()))),
         None => Ok(None),
     }
 }
