@@ -3,18 +3,18 @@ ghost use Rattle.std.specs.Prelude.{◌≡◌, ◌<◌, ◌++◌, length, codes,
 ghost use Rattle.std.specs.Option.{option_map};
 ghost use Rattle.tn_script.specs.Items.{form_item_of};
 ghost use Rattle.tn_refusal.specs.Locations.{mark_text, IsMarkOf, IsFormMark, IsItemMark, location_of_item, spot_at};
-ghost use Rattle.tn_text.specs.Answers.{AreTokens};
 ghost use Rattle.tn_refusal.specs.Refusals.{refusal_of, refused_part};
+ghost use Rattle.tn_refusal.specs.Starts.{IsListable};
 
 use crate::item_starts::item_offset;
 use crate::line_column::line_column_of;
 use crate::refusal::{Refusal, RefusedPart, refusal_part};
 use crate::refused_item::{ItemInForms, refused_item};
-use crate::starts::{form_end, form_start, token_list};
+use crate::starts::{form_end, form_start};
 use itoa::Buffer;
 use std::alloc::{AllocError, Allocator};
 use tn_script::{Form, FormItem};
-use tn_text::{MAX_TEXT, Token};
+use tn_text::MAX_TEXT;
 
 /// Where the refusal is: the whole text, a line and a column, the line of a form with its number, or the line and the
 /// column of a step or a command of a form.
@@ -97,34 +97,27 @@ fn item_spot(text: &[u8], form: usize, item: FormItem, at: usize) -> Location
     }
 }
 
-/// Where a form of a text of these tokens is, or the step or the command of it.
-fn item_location(text: &[u8], tokens: &[Token], form: usize, item: Option<FormItem>) -> Location
-    requires fits { length text.now < usize.MAX }
-    requires listed { AreTokens text.now tokens.now }
-    ensures { IsItemMark text.now form (option_map form_item_of item) result }
+/// Where a form is, or the step or the command of it: of a text of tokens.
+fn item_location(text: &[u8], form: usize, item: Option<FormItem>) -> Location
+    requires { length text.now < usize.MAX }
+    ensures { IsListable text.now → IsItemMark text.now form (option_map form_item_of item) result }
 {
     match item {
-        Some(item) => item_spot(
-            text,
-            form,
-            item,
-            item_offset(tokens, form, item, text.len()),
-        ),
+        Some(item) => item_spot(text, form, item, item_offset(text, form, item)),
         None => Location::InForm {
-            line: line_column_of(text, form_start(tokens, form, text.len())).line,
+            line: line_column_of(text, form_start(text, form)).line,
             form,
         },
     }
 }
 
-/// The text of a form of a text of these tokens, and what is after it up to the next token.
-fn form_text<'t>(text: &'t [u8], tokens: &[Token], form: usize) -> &'t [u8] {
-    let from = form_start(tokens, form, text.len());
-    let to = form_end(tokens, form, text.len());
-    text.get(from..to).unwrap_or(b"")
+/// The text of a form, with its full stop.
+fn form_text(text: &[u8], form: usize) -> &[u8] {
+    text.get(form_start(text, form)..form_end(text, form))
+        .unwrap_or(b"")
 }
 
-/// Where the refusal for a form is, and the form's text; the whole text where its tokens can't be told.
+/// Where the refusal for a form is, and the form's text.
 fn form_mark<A: Allocator + Copy>(
     alloc: A,
     text: &[u8],
@@ -135,14 +128,11 @@ fn form_mark<A: Allocator + Copy>(
     ensures { IfOk result (λ m. IsFormMark text.now (refusal_of refusal) form m.location) }
 {
     let ItemInForms { item, forms } = refused_item(alloc, text, refusal)?;
-    match token_list(alloc, text)? {
-        Some(tokens) => Ok(Mark {
-            location: item_location(text, &tokens, form, item),
-            form: form_text(text, &tokens, form),
-            forms,
-        }),
-        None => Ok(Mark::of(Location::Whole)),
-    }
+    Ok(Mark {
+        location: item_location(text, form, item),
+        form: form_text(text, form),
+        forms,
+    })
 }
 
 /// Where the refusal of a text is; the whole text where that is longer than 1,048,576 bytes.

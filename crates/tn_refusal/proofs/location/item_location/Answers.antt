@@ -1,23 +1,18 @@
-use Rattle.std.proofs.Common.{◌-◌, length, ap, ◌∙◌, subst, sym}
-use Rattle.def_text.specs.Forms.{FormBegins}
+use Rattle.std.proofs.Common.{ap, ◌∙◌}
 use Rattle.def_text.specs.Places.{place_at}
 use Rattle.def_text.proofs.Starts.{offset_is_one}
-use Rattle.def_refusal.specs.ItemStarts.{ItemBegins}
 use Rattle.def_refusal.proofs.OneItem.{offset_one}
 use Rattle.tn_script.specs.Items.{form_item_of}
 use Rattle.tn_refusal.specs.Locations.{location_of_item}
 use Rattle.tn_refusal.specs.declared.location.Location.TheVariants.{InForm}
-use Rattle.tn_refusal.proofs.FormStarts.{form_begins}
-use Rattle.tn_refusal.proofs.ItemStarts.{item_begins}
 use Rattle.tn_refusal.proofs.location.item_location.Goals as goal
 
 pub returns-in-Some : goal.returns-in-Some
-returns-in-Some g c = λ at begins.
+returns-in-Some g c = λ listable at begins.
     let i = form_item_of c.in-Some.item in
-    let mine = subst (ItemBegins c.args.text.now c.args.form i) (sym c.item_offset.ensures) (item_begins c.args.text.now c.args.form i c.args.tokens.now c.requires.listed) in
-    c.item_spot.ensures ∙ ap (location_of_item c.args.text.now c.args.form i) (offset_one c.args.text.now c.args.form i c.item_offset.result at mine begins)
+    c.item_spot.ensures ∙ ap (location_of_item c.args.text.now c.args.form i) (offset_one c.args.text.now c.args.form i c.item_offset.result at (c.item_offset.ensures listable) begins)
 
 pub returns-in-None : goal.returns-in-None
-returns-in-None g c = λ at begins.
-    let mine = subst (FormBegins c.args.text.now c.args.form) (sym c.form_start.ensures) (form_begins c.args.text.now c.args.form c.args.tokens.now c.requires.listed) in
-    ap (λ n. InForm n c.args.form) (c.line_column_of.ensures.line ∙ ap (λ k. (place_at c.args.text.now k).line) (offset_is_one c.args.text.now c.args.form c.form_start.result at mine begins))
+returns-in-None g c = λ listable at begins.
+    ap (λ n. InForm n c.args.form)
+    (c.line_column_of.ensures.line ∙ ap (λ k. (place_at c.args.text.now k).line) (offset_is_one c.args.text.now c.args.form c.form_start.result at (c.form_start.ensures listable) begins))
