@@ -292,8 +292,8 @@ after_first bytes at x xs h =
     }
 
 -- where no token is left, nothing is
-pub ended : (bytes : List ℕ) (at : ℕ) → AreAhead bytes at [] → drop (at + gap_len false (drop at bytes)) bytes ≡ []
-ended bytes at h = sym (drop-drop (gap_len false (drop at bytes)) at bytes) ∙ h.are
+pub no_token_left : (bytes : List ℕ) (at : ℕ) → AreAhead bytes at [] → drop (at + gap_len false (drop at bytes)) bytes ≡ []
+no_token_left bytes at h = sym (drop-drop (gap_len false (drop at bytes)) at bytes) ∙ h.are
 
 past_first : (bytes : List ℕ) (a : Aim) (d n at : ℕ) (x : TokenSpan) (xs : List TokenSpan) → AfterFirst bytes at x xs
     → offset_past a Code d (suc n) at (drop at bytes) ≡ offset_past a Code (depth_after d (role_of_sign (sign_of x.token))) (left_after a d (suc n) (sign_of x.token)) x.to (drop x.to bytes)
@@ -312,7 +312,7 @@ tokens_ahead bytes a xs d zero at h =
     subst (λ m. AreAhead bytes m (tokens_past a d 0 xs)) (sym (none_left a Code d at (drop at bytes))) (subst (AreAhead bytes at) (sym (none_past a d xs)) h)
 tokens_ahead bytes a [] d (suc n) at h =
     let gap = gap_len false (drop at bytes) in
-    let none = ended bytes at h in
+    let none = no_token_left bytes at h in
     let is : offset_past a Code d (suc n) at (drop at bytes) ≡ at + gap =
     past_gap a false d n at (drop at bytes) ∙ ap (offset_past a Code d (suc n) (at + gap)) (drop-drop gap at bytes ∙ none) in
     subst (λ m. AreAhead bytes m []) (sym is) (record { are = ap (λ l. drop (gap_len false l) l) none; good = tt })
@@ -390,7 +390,7 @@ gap_fits false (b ∷ bs) =
 -- its offset, or the end
 pub next_offset : (bytes : List ℕ) (at : ℕ) (xs : List TokenSpan) → at ≤ length bytes → AreAhead bytes at xs → at + gap_len false (drop at bytes) ≡ offset_of (length bytes) xs
 next_offset bytes at [] within h =
-    let none = ap length (ended bytes at h) in
+    let none = ap length (no_token_left bytes at h) in
     let fits = gap_fits false (drop at bytes) in
     let size = length-drop (at + gap_len false (drop at bytes)) bytes in
     let left = length-drop at bytes in
@@ -449,10 +449,10 @@ opener_size (pid n) u rest h o = absurd (cc)
 opener_size bad u rest h o = absurd h
 
 -- where the byte there opens a tuple or a list, the tokens after the bracket are after it
-pub opened : (bytes : List ℕ) (at c : ℕ) (bs : List ℕ) (xs : List TokenSpan) → AreAhead bytes at xs → drop (at + gap_len false (drop at bytes)) bytes ≡ c ∷ bs → is_opener (role_of_sign (sign_of_byte c bs)) ≡ true
+pub after_opener : (bytes : List ℕ) (at c : ℕ) (bs : List ℕ) (xs : List TokenSpan) → AreAhead bytes at xs → drop (at + gap_len false (drop at bytes)) bytes ≡ c ∷ bs → is_opener (role_of_sign (sign_of_byte c bs)) ≡ true
     → AreAhead bytes (at + gap_len false (drop at bytes) + 1) (in_bracket xs)
-opened bytes at c bs [] h there o = absurd (let none = ended bytes at h in cc)
-opened bytes at c bs (x ∷ xs) h there o =
+after_opener bytes at c bs [] h there o = absurd (let none = no_token_left bytes at h in cc)
+after_opener bytes at c bs (x ∷ xs) h there o =
     let f = after_first bytes at x xs h in
     let is : is_opener (role_of x.token) ≡ true = ap is_opener (role_sign x.token ∙ ap role_of_sign (first_sign x.token f.token f.rest c bs f.is (sym f.there ∙ there))) ∙ o in
     let size = opener_size x.token f.token f.rest f.is is in
@@ -460,10 +460,10 @@ opened bytes at c bs (x ∷ xs) h there o =
     subst (AreAhead bytes (at + gap_len false (drop at bytes) + 1)) (sym (cond-true (is_opener (role_of x.token)) xs (x ∷ xs) is)) (subst (λ k. AreAhead bytes k xs) next f.ahead)
 
 -- and where it opens none, no bracket is there
-pub unopened : (bytes : List ℕ) (at c : ℕ) (bs : List ℕ) (xs : List TokenSpan) → AreAhead bytes at xs → drop (at + gap_len false (drop at bytes)) bytes ≡ c ∷ bs → is_opener (role_of_sign (sign_of_byte c bs)) ≡ false
+pub no_opener : (bytes : List ℕ) (at c : ℕ) (bs : List ℕ) (xs : List TokenSpan) → AreAhead bytes at xs → drop (at + gap_len false (drop at bytes)) bytes ≡ c ∷ bs → is_opener (role_of_sign (sign_of_byte c bs)) ≡ false
     → AreAhead bytes at (in_bracket xs)
-unopened bytes at c bs [] h there o = h
-unopened bytes at c bs (x ∷ xs) h there o =
+no_opener bytes at c bs [] h there o = h
+no_opener bytes at c bs (x ∷ xs) h there o =
     let f = after_first bytes at x xs h in
     let is : is_opener (role_of x.token) ≡ false = ap is_opener (role_sign x.token ∙ ap role_of_sign (first_sign x.token f.token f.rest c bs f.is (sym f.there ∙ there))) ∙ o in
     subst (AreAhead bytes at) (sym (cond-false (is_opener (role_of x.token)) xs (x ∷ xs) is)) h

@@ -7,4 +7,4 @@ use Rattle.tn_refusal.proofs.location.form_mark.Goals as goal
 pub returns : goal.returns
 returns g c = λ listable o is.
     subst (λ p. IsItemMark c.args.text.now c.args.form p c.item_location.result)
-    (item_one c.args.text.now (refusal_of c.args.refusal) _ o c.in_ok-refused_item.ensures is) (c.item_location.ensures listable)
+    (item_one c.args.text.now (refusal_of c.args.refusal) _ o c.in_ok-item.ensures is) (c.item_location.ensures listable)

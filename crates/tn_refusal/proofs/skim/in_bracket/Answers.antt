@@ -3,7 +3,7 @@ use Rattle.std.proofs.lemmas.List.{drop_more, take_rest}
 use Rattle.def_text.specs.Tokens.{gap_len}
 use Rattle.def_refusal.specs.ItemStarts.{is_opener, in_bracket}
 use Rattle.tn_refusal.specs.Skims.{sign_of_byte, role_of_sign, AreAhead}
-use Rattle.tn_refusal.proofs.Skims.{opened, unopened, at_end}
+use Rattle.tn_refusal.proofs.Skims.{after_opener, no_opener, at_end}
 use Rattle.tn_refusal.proofs.skim.in_bracket.Goals as goal
 
 pub returns-then-at-text-clause-tokens : goal.returns-then-at-text-clause-tokens
@@ -19,7 +19,7 @@ returns-then-is_opener-clause-tokens c = λ xs h.
     let there : drop (c.args.from + gap_len false (drop c.args.from text)) text ≡ get_or text at 0 ∷ drop (at + 1) text = ap (λ k. drop k text) (sym is) ∙ drop_more text at 0 below in
     let sign = rw (take_rest text (at + 1)) at c.sign_of_byte.ensures in
     let opens : is_opener (role_of_sign (sign_of_byte (get_or text at 0) (drop (at + 1) text))) ≡ true = sym (ap (λ s. is_opener (role_of_sign s)) sign) ∙ sym c.is_opener.ensures ∙ c.if-is_opener.true in
-    subst (λ k. AreAhead text (k + 1) (in_bracket xs)) (sym is) (opened text c.args.from (get_or text at 0) (drop (at + 1) text) xs h there opens)
+    subst (λ k. AreAhead text (k + 1) (in_bracket xs)) (sym is) (after_opener text c.args.from (get_or text at 0) (drop (at + 1) text) xs h there opens)
 
 pub returns-else-is_opener-clause-tokens : goal.returns-else-is_opener-clause-tokens
 returns-else-is_opener-clause-tokens c = λ xs h.
@@ -30,4 +30,4 @@ returns-else-is_opener-clause-tokens c = λ xs h.
     let there : drop (c.args.from + gap_len false (drop c.args.from text)) text ≡ get_or text at 0 ∷ drop (at + 1) text = ap (λ k. drop k text) (sym is) ∙ drop_more text at 0 below in
     let sign = rw (take_rest text (at + 1)) at c.sign_of_byte.ensures in
     let none : is_opener (role_of_sign (sign_of_byte (get_or text at 0) (drop (at + 1) text))) ≡ false = sym (ap (λ s. is_opener (role_of_sign s)) sign) ∙ sym c.is_opener.ensures ∙ c.if-is_opener.false in
-    unopened text c.args.from (get_or text at 0) (drop (at + 1) text) xs h there none
+    no_opener text c.args.from (get_or text at 0) (drop (at + 1) text) xs h there none
