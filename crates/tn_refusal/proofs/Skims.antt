@@ -17,7 +17,17 @@ use Rattle.tn_refusal.specs.declared.skim.Sign.{Sign}
 use Rattle.tn_refusal.specs.declared.skim.Sign.TheVariants.{Opener, Closer, Separator, Stop, Plain}
 use Rattle.tn_refusal.specs.declared.skim.Aim.{Aim}
 use Rattle.tn_refusal.specs.declared.skim.Aim.TheVariants.{Stops, Commas}
-use Rattle.tn_refusal.specs.Skims.{zone_after, sign_of_byte, sign_in, sign_of, role_of_sign, is_stop_sign, left_after, offset_past, AreAhead}
+use Rattle.tn_refusal.specs.Skims.{zone_after, sign_of_byte, sign_in, role_of_sign, is_stop_sign, left_after, offset_past, AreAhead}
+
+-- what a token does
+abbrev sign_of : Token → Sign
+sign_of open_brace = Opener
+sign_of close_brace = Closer
+sign_of open_bracket = Opener
+sign_of close_bracket = Closer
+sign_of comma = Separator
+sign_of stop = Stop
+sign_of t = Plain
 
 -- ---- bytes
 

@@ -1,7 +1,7 @@
 -- Going through the bytes of a text, without its tokens, past full stops or past commas.
 -- Depends on the tokens of a text and on what they do to a tuple or a list.
 use Rattle.std.specs.Prelude.{ℕ, ◌+◌, ◌-◌, ◌==◌, ◌&&◌, ◌||◌, Bool, true, false, List, [], ◌∷◌, drop, if◌then◌else◌}
-use Rattle.def_text.specs.Tokens.{Token, open_brace, close_brace, open_bracket, close_bracket, comma, stop, ends_form, TokenSpan, TokensFrom}
+use Rattle.def_text.specs.Tokens.{ends_form, TokenSpan, TokensFrom}
 use Rattle.def_refusal.specs.ItemStarts.{TokenRole, opener, closer, separator, no_role, depth_after, commas_after}
 use Rattle.tn_text.specs.Lexer.{AllGood}
 use Rattle.tn_refusal.specs.declared.skim.Zone.{Zone}
@@ -33,16 +33,7 @@ sign_in Comment b bs = Plain
 sign_in (Quoted q) b bs = Plain
 sign_in (Escaped q) b bs = Plain
 
--- the same of a token
-abbrev pub sign_of : Token → Sign
-sign_of open_brace = Opener
-sign_of close_brace = Closer
-sign_of open_bracket = Opener
-sign_of close_bracket = Closer
-sign_of comma = Separator
-sign_of stop = Stop
-sign_of t = Plain
-
+-- what that is of a token that does the same
 abbrev pub role_of_sign : Sign → TokenRole
 role_of_sign Opener = opener
 role_of_sign Closer = closer

@@ -5,7 +5,8 @@ ghost use Rattle.def_text.specs.Spelling.{offset_of};
 ghost use Rattle.def_text.specs.Forms.{after_stops};
 ghost use Rattle.def_refusal.specs.ItemStarts.{depth_after, is_opener, in_bracket, tokens_past_commas};
 ghost use Rattle.tn_refusal.specs.declared.skim.Zone.TheVariants.{Code};
-ghost use Rattle.tn_refusal.specs.Skims.{zone_after, sign_of_byte, sign_in, role_of_sign, left_after, offset_past, AreAhead};
+ghost use Rattle.tn_refusal.specs.Skims.{zone_after, sign_of_byte, sign_in, role_of_sign, left_after, offset_past};
+ghost use Rattle.tn_refusal.specs.Skims.{AreAhead};
 
 /// Where a byte of a text stands: in a token without quotes or between tokens, in a comment, or between quotes, there
 /// after a backslash or not.
