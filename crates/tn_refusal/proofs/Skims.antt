@@ -1,16 +1,15 @@
 -- Bytes are passed as the tokens that they are.
 use Rattle.std.proofs.Common.{not, get_or, ◌<◌, ◌≤◌, ◌≡◌, ◌≢◌, ℕ, zero, suc, ◌+◌, ◌-◌, ◌==◌, ◌&&◌, ◌||◌, cond, Bool, true, false, List, [], ◌∷◌, ◌++◌, length, drop, flat_map, codes, refl, ap, sym, ◌∙◌, subst, arith, append_assoc, length-append, length-drop, inl, inr}
-use Rattle.std.proofs.lemmas.Bool.{and_parts, and_from, ne_eqb, cond-false, cond-true, cond_both, or_parts, both_ways}
+use Rattle.std.proofs.lemmas.Bool.{and_parts, and_from, ne_eqb, cond-false, cond-true, cond_both, or_parts}
 use Rattle.std.proofs.lemmas.Bool.Decides.{nat_tests}
 use Rattle.std.proofs.lemmas.List.{drop-drop, drop_at, drop_more, drop_all}
 use Rattle.def_term.specs.Text.{is_name, is_digit, is_lower, is_name_byte, are_name_bytes}
-use Rattle.def_text.specs.Tokens.{Token, open_brace, close_brace, open_bracket, close_bracket, comma, stop, integer, atom, characters, pid, bad, is_blank, gap_len, all_are, is_printable, ends_form, in_quotes, escaped_in, IsToken, Stands, TokenSpan, IsNextToken, TokensFrom}
+use Rattle.def_text.specs.Tokens.{Token, open_brace, close_brace, open_bracket, close_bracket, comma, stop, integer, atom, characters, pid, bad, is_blank, gap_len, all_are, ends_form, in_quotes, escaped_in, IsToken, Stands, TokenSpan, TokensFrom}
 use Rattle.def_text.specs.Spelling.{offset_of}
 use Rattle.def_text.proofs.TokenSteps.{nonempty}
 use Rattle.def_text.proofs.TokenSound.{same_names}
 use Rattle.def_text.specs.Forms.{is_stop, after_stops}
 use Rattle.def_refusal.specs.ItemStarts.{role_of, depth_after, commas_after, tokens_past_commas, is_opener, in_bracket}
-use Rattle.tn_text.specs.Lexer.{AllGood}
 use Rattle.tn_refusal.specs.declared.skim.Zone.{Zone}
 use Rattle.tn_refusal.specs.declared.skim.Zone.TheVariants.{Code, Comment, Quoted, Escaped}
 use Rattle.tn_refusal.specs.declared.skim.Sign.{Sign}
