@@ -172,6 +172,15 @@ REFUSALS = [
         "script.term:1:27: form 1: no form has this shape: step 1: it must be a tuple of send, 'receive', call, 'catch', "
         "spawn, link, unlink, return, error, throw or exit, found 97",
     ),
+    (
+        "% a. {form} '\n{process,m,'f. {',[\"a. [\\\"b\",<0.0.0>]}.\n"
+        "{function,m,g,exported,[],[{return,'{. '},{send,a}]}.",
+        "script.term:3:43: form 2: no form has this shape: step 2: {send,To,Msg} has 3 elements, found 2",
+    ),
+    (
+        "{control,[{session_create,'a,}. ',t,[]},\n % two. {\n {session_destroy,'b. \\'{'}]}.",
+        "script.term:3:2: form 1, command 2: not declared: session 'b. \\'{', which no earlier command creates",
+    ),
     ("a.\n" * 257, "script.term: a script has at most 256 forms: there are 257"),
     ("%" * 1_048_577, "script.term: a script has at most 1048576 bytes: there are 1048577"),
 ]

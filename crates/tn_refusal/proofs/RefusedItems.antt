@@ -1,5 +1,5 @@
 -- The item of a text that is read, and of one that isn't.
-use Rattle.std.proofs.Common.{◌≡◌, ℕ, ◌-◌, ◌<◌, ◌≤◌, List, length, drop, get_or, map, Option, Some, None, refl, sym, ap, ◌∙◌, arith}
+use Rattle.std.proofs.Common.{◌≡◌, ℕ, ◌-◌, ◌<◌, ◌≤◌, List, length, drop, get_or, map, Option, Some, None, refl, sym, ap, ◌∙◌, subst, arith}
 use Rattle.std.proofs.lemmas.List.{length-map, drop_more, drop_all, drop-map}
 use Rattle.def_term.specs.Tree.{Tree}
 use Rattle.def_text.specs.Faults.{FaultKind}
@@ -16,6 +16,9 @@ use Rattle.def_script.proofs.FirstBroken.{first_is, none_broken}
 use Rattle.def_refusal.specs.Items.{shapeless_item, shapeless_item_first, shapeless_item_in}
 use Rattle.def_refusal.specs.RefusedItems.{HasForms}
 use Rattle.def_refusal.proofs.OneItem.{breaking_of_forms, breaking_of_none}
+use Rattle.std.specs.Option.{option_map}
+use Rattle.tn_script.specs.declared.items.FormItem.{FormItem}
+use Rattle.tn_script.specs.Items.{form_item_of}
 use Rattle.tn_program.specs.Items.{item_of_fault}
 use Rattle.tn_refusal.specs.RefusedItems.{IsItemOfBroken}
 
@@ -70,6 +73,9 @@ pub item_of_broken : (bytes : List ℕ) (fs : List Form) (b : Option (ℕ × Rul
 item_of_broken bytes fs None spelled few = tt
 item_of_broken bytes fs (Some b) spelled few = breaking_of_forms bytes fs b.1 b.0 (record { spelled = spelled; few = few })
 
-pub no_item_of_broken : (bytes : List ℕ) (b : Option (ℕ × Rule)) → ((fs : List Form) → HasForms bytes fs → ⊥) → IsItemOfBroken bytes b None
+no_item_of_broken : (bytes : List ℕ) (b : Option (ℕ × Rule)) → ((fs : List Form) → HasForms bytes fs → ⊥) → IsItemOfBroken bytes b None
 no_item_of_broken bytes None denied = tt
 no_item_of_broken bytes (Some b) denied = breaking_of_none bytes b.1 b.0 denied
+
+pub no_item : (bytes : List ℕ) (b : Option (ℕ × Rule)) (i : Option FormItem) → i ≡ None → ((fs : List Form) → HasForms bytes fs → ⊥) → IsItemOfBroken bytes b (option_map form_item_of i)
+no_item bytes b i none denied = subst (λ j. IsItemOfBroken bytes b (option_map form_item_of j)) (sym none) (no_item_of_broken bytes b denied)

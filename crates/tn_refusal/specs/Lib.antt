@@ -1,5 +1,5 @@
 pub mod Starts
-pub mod ItemStarts
+pub mod Skims
 pub mod RefusedItems
 pub mod Refusals
 pub mod Words

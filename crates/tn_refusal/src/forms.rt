@@ -8,7 +8,7 @@ use crate::shape::put_shape;
 use crate::variables::{put_in_function, put_in_process};
 use std::alloc::Allocator;
 use tn_flags::Command;
-use tn_script::{Entry, Form, Function, ScriptFault, forms};
+use tn_script::{Entry, Form, Function};
 use tn_text::{TextFault, read_terms};
 
 /// Appends what of a function breaks a static rule.
@@ -84,21 +84,14 @@ pub fn put_shapeless<A: Allocator + Copy>(alloc: A, out: &mut Detail<A>, form_te
 }
 
 /// Appends what of the form with this index breaks a static rule.
-pub fn put_broken<A: Allocator + Copy>(
-    alloc: A,
+pub fn put_broken<A: Allocator>(
     out: &mut Detail<A>,
-    text: &[u8],
     refusal: Refusal,
+    forms: &[Form<A>],
     index: usize,
 ) {
-    match forms(alloc, text) {
-        Ok(forms) => {
-            if index < forms.len() {
-                put_rule(out, refusal, &forms, &forms[..index], &forms[index]);
-            }
-        }
-        Err(ScriptFault::OutOfMemory) => out.refuse(),
-        Err(_) => {}
+    if index < forms.len() {
+        put_rule(out, refusal, forms, &forms[..index], &forms[index]);
     }
 }
 

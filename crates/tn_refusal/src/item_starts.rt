@@ -1,114 +1,22 @@
 // Where the steps and the commands of a form begin.
-ghost use Rattle.std.specs.Prelude.{◌≡◌, ◌<◌, IfOk};
-ghost use Rattle.def_refusal.specs.ItemStarts.{depth_after, commas_after, is_opener, form_element_of, item_position};
+ghost use Rattle.std.specs.Prelude.{◌≡◌, ◌≤◌, List, length};
+ghost use Rattle.def_text.specs.Tokens.{TokenSpan};
+ghost use Rattle.def_refusal.specs.ItemStarts.{from_element, form_element_of, item_position, from_item, ItemBegins};
 ghost use Rattle.tn_script.specs.Items.{form_item_of};
-ghost use Rattle.tn_refusal.specs.ItemStarts.{role_of_kind, tokens_after_stops, tokens_after_commas, tokens_in_bracket};
-ghost use Rattle.tn_refusal.specs.ItemStarts.{tokens_from_element, tokens_from_item, first_offset, IsItemOffset};
-ghost use Rattle.tn_refusal.specs.Starts.{is_stop_kind};
+ghost use Rattle.tn_refusal.specs.Skims.{AreAhead};
+ghost use Rattle.tn_refusal.specs.Starts.{IsListable};
 
-use std::alloc::{AllocError, Allocator};
+use crate::skim::{in_bracket, next_start, past_commas, past_stops};
 use tn_script::FormItem;
-use tn_text::{Kind, TextFault, Token, tokens};
 
-/// How many brackets are open after a token, of so many before it.
-fn depth_after(depth: usize, kind: Kind) -> usize
-    requires { depth < usize.MAX }
-    ensures { result ≡ depth_after depth (role_of_kind kind) }
+/// The offset of the element with this number, from 1, of the tuple or list that begins at this one, or the end.
+fn from_element(text: &[u8], from: usize, number: usize) -> usize
+    requires { from ≤ length text.now }
+    ensures tokens { (xs : List TokenSpan) → AreAhead text.now from xs
+        → AreAhead text.now result (from_element number xs) }
+    ensures fits { result ≤ length text.now }
 {
-    match kind {
-        Kind::OpenBrace => depth + 1,
-        Kind::OpenBracket => depth + 1,
-        Kind::CloseBrace => depth.saturating_sub(1),
-        Kind::CloseBracket => depth.saturating_sub(1),
-        _ => depth,
-    }
-}
-
-/// How many commas are left after a token: those within a bracket don't count.
-fn commas_after(depth: usize, commas: usize, kind: Kind) -> usize
-    ensures { result ≡ commas_after depth commas (role_of_kind kind) }
-{
-    match kind {
-        Kind::Comma => {
-            if depth == 0 {
-                commas.saturating_sub(1)
-            } else {
-                commas
-            }
-        }
-        _ => commas,
-    }
-}
-
-/// Whether the token opens a tuple or a list.
-fn is_opener(kind: Kind) -> bool
-    ensures { result ≡ is_opener (role_of_kind kind) }
-{
-    match kind {
-        Kind::OpenBrace => true,
-        Kind::OpenBracket => true,
-        _ => false,
-    }
-}
-
-/// Whether the token is a full stop.
-fn is_stop(kind: Kind) -> bool
-    ensures { result ≡ is_stop_kind kind }
-{
-    matches!(kind, Kind::Stop)
-}
-
-/// The tokens after so many full stops; none where there are fewer.
-fn after_stops(tokens: &[Token], stops: usize) -> &[Token]
-    ensures { result.now ≡ tokens_after_stops stops tokens.now }
-{
-    let mut left = stops;
-    for i in 0..tokens.len() {
-        if left == 0 {
-            return &tokens[i..];
-        }
-        if is_stop(tokens[i].kind) {
-            left -= 1;
-        }
-    }
-    &tokens[tokens.len()..]
-}
-
-/// The tokens after so many commas outside of brackets; none where there are fewer.
-fn after_commas(tokens: &[Token], commas: usize) -> &[Token]
-    ensures { result.now ≡ tokens_after_commas 0 commas tokens.now }
-{
-    let mut depth = 0;
-    let mut left = commas;
-    for i in 0..tokens.len() {
-        if left == 0 {
-            return &tokens[i..];
-        }
-        left = commas_after(depth, left, tokens[i].kind);
-        depth = depth_after(depth, tokens[i].kind);
-    }
-    &tokens[tokens.len()..]
-}
-
-/// The tokens after the bracket at the front; all of them where none is there, as before a string.
-fn in_bracket(tokens: &[Token]) -> &[Token]
-    ensures { result.now ≡ tokens_in_bracket tokens.now }
-{
-    if tokens.is_empty() {
-        return tokens;
-    }
-    if is_opener(tokens[0].kind) {
-        &tokens[1..]
-    } else {
-        tokens
-    }
-}
-
-/// The tokens of the element with this number, from 1, of the tuple or list at the front, and all after them.
-fn from_element(tokens: &[Token], number: usize) -> &[Token]
-    ensures { result.now ≡ tokens_from_element number tokens.now }
-{
-    after_commas(in_bracket(tokens), number.saturating_sub(1))
+    past_commas(text, in_bracket(text, from), number.saturating_sub(1))
 }
 
 /// Which element of the form's tuple has the item.
@@ -133,42 +41,21 @@ fn position_of(item: FormItem) -> usize
     }
 }
 
-/// The tokens of the item of the form with this number, from 1, and all after them.
-fn from_item(tokens: &[Token], form: usize, item: FormItem) -> &[Token]
-    ensures { result.now ≡ tokens_from_item form (form_item_of item) tokens.now }
+/// The offset of the item of the form with this number, from 1, or of what stands before it.
+fn from_item(text: &[u8], form: usize, item: FormItem) -> usize
+    ensures tokens { (xs : List TokenSpan) → AreAhead text.now 0 xs
+        → AreAhead text.now result (from_item form (form_item_of item) xs) }
+    ensures fits { result ≤ length text.now }
 {
-    let in_form = after_stops(tokens, form.saturating_sub(1));
-    let in_element = from_element(in_form, element_of(item));
-    from_element(in_element, position_of(item))
+    let in_form = past_stops(text, form.saturating_sub(1));
+    let in_element = from_element(text, in_form, element_of(item));
+    from_element(text, in_element, position_of(item))
 }
 
-/// The offset of the first of the tokens, or the end where none is left.
-fn first_offset(tokens: &[Token], end: usize) -> usize
-    ensures { result ≡ first_offset end tokens.now }
+/// The offset in bytes, from 0, at which a step or a command of the form with this number, from 1, begins: of a text of
+/// tokens. It goes over the bytes up to there and takes no memory.
+pub fn item_offset(text: &[u8], form: usize, item: FormItem) -> usize
+    ensures { IsListable text.now → ItemBegins text.now form (form_item_of item) result }
 {
-    if tokens.is_empty() {
-        end
-    } else {
-        tokens[0].from
-    }
-}
-
-/// The offset in bytes, from 0, at which a step or a command of the form with this number, from 1, begins. None where
-/// the text is longer than 1,048,576 bytes, or has bytes that form no token.
-pub fn item_offset<A: Allocator>(
-    alloc: A,
-    text: &[u8],
-    form: usize,
-    item: FormItem,
-) -> Result<Option<usize>, AllocError>
-    ensures { IfOk result (λ o. IsItemOffset text.now form (form_item_of item) o) }
-{
-    match tokens(alloc, text) {
-        Ok(tokens) => Ok(Some(first_offset(from_item(&tokens, form, item), text.len()))),
-        Err(TextFault::OutOfMemory) => Err(AllocError),
-        Err(TextFault::TooLong) => Ok(None),
-        Err(TextFault::Token { .. }) => Ok(None),
-        Err(TextFault::TooDeep { .. }) => Ok(None),
-        Err(TextFault::TooLarge { .. }) => Ok(None),
-    }
+    next_start(text, from_item(text, form, item))
 }

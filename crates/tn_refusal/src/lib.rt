@@ -31,6 +31,7 @@ mod refusal_line;
 mod refused_item;
 mod sessions;
 mod shape;
+mod skim;
 mod starts;
 mod steps;
 mod syntax;

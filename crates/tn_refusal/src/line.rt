@@ -40,7 +40,7 @@ fn line_of<A: Allocator + Copy>(
     let mark = mark_of(alloc, text, refusal)?;
     let mut line = front(alloc, name, mark.location)?;
     line.extend_from_slice(words_of(refusal))?;
-    let found = detail_of(alloc, text, mark.form, refusal, kind)?;
+    let found = detail_of(alloc, text, &mark, refusal, kind)?;
     append_shown(&mut line, &found)?;
     Ok(line)
 }

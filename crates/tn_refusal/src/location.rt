@@ -1,19 +1,19 @@
 // Where a line says that a refusal is.
-ghost use Rattle.std.specs.Prelude.{◌≡◌, ◌<◌, ◌++◌, length, codes, decimal, Some, IfOk, OnOk};
+ghost use Rattle.std.specs.Prelude.{◌≡◌, ◌<◌, ◌++◌, length, codes, decimal, IfOk, OnOk};
+ghost use Rattle.std.specs.Option.{option_map};
 ghost use Rattle.tn_script.specs.Items.{form_item_of};
 ghost use Rattle.tn_refusal.specs.Locations.{mark_text, IsMarkOf, IsFormMark, IsItemMark, location_of_item, spot_at};
-ghost use Rattle.def_text.specs.Forms.{FormBegins};
 ghost use Rattle.tn_refusal.specs.Refusals.{refusal_of, refused_part};
 ghost use Rattle.tn_refusal.specs.Starts.{IsListable};
 
 use crate::item_starts::item_offset;
 use crate::line_column::line_column_of;
 use crate::refusal::{Refusal, RefusedPart, refusal_part};
-use crate::refused_item::refused_item;
-use crate::starts::form_span;
+use crate::refused_item::{ItemInForms, refused_item};
+use crate::starts::{form_end, form_start};
 use itoa::Buffer;
 use std::alloc::{AllocError, Allocator};
-use tn_script::FormItem;
+use tn_script::{Form, FormItem};
 use tn_text::MAX_TEXT;
 
 /// Where the refusal is: the whole text, a line and a column, the line of a form with its number, or the line and the
@@ -44,20 +44,23 @@ pub enum Location {
 }
 
 /// Where a refusal is, and the text of the form that is refused; it is empty where no form is.
-#[derive(Clone, Copy)]
-pub struct Mark<'t> {
+#[derive(Drop)]
+pub struct Mark<'t, A: Allocator> {
     pub location: Location,
     pub form: &'t [u8],
+    /// The forms of the text, where the refusal is for one of their rules and the text spells forms.
+    pub forms: Option<Vec<Form<A>, A>>,
 }
 
-impl<'t> Mark<'t> {
+impl<'t, A: Allocator> Mark<'t, A> {
     /// Where no form is refused.
-    fn of(location: Location) -> Mark<'t>
+    fn of(location: Location) -> Mark<'t, A>
         ensures { result.location ≡ location }
     {
         Mark {
             location,
             form: b"",
+            forms: None,
         }
     }
 }
@@ -94,60 +97,42 @@ fn item_spot(text: &[u8], form: usize, item: FormItem, at: usize) -> Location
     }
 }
 
-/// Where a step or a command of a form is; the whole text where its tokens can't be told.
-fn item_location<A: Allocator>(
-    alloc: A,
-    text: &[u8],
-    form: usize,
-    item: FormItem,
-) -> Result<Location, AllocError>
+/// Where a form is, or the step or the command of it: of a text of tokens.
+fn item_location(text: &[u8], form: usize, item: Option<FormItem>) -> Location
     requires { length text.now < usize.MAX }
-    ensures { IfOk result (λ l. IsListable text.now → IsItemMark text.now form (Some (form_item_of item)) l) }
+    ensures { IsListable text.now → IsItemMark text.now form (option_map form_item_of item) result }
 {
-    match item_offset(alloc, text, form, item)? {
-        Some(at) => Ok(item_spot(text, form, item, at)),
-        None => Ok(Location::Whole),
-    }
-}
-
-/// Where a form is that begins at this offset, or its step or command that the refusal is of.
-fn form_location<A: Allocator + Copy>(
-    alloc: A,
-    text: &[u8],
-    refusal: Refusal,
-    form: usize,
-    from: usize,
-) -> Result<Location, AllocError>
-    requires fits { length text.now < usize.MAX }
-    requires begins { FormBegins text.now form from }
-    ensures { IfOk result (λ l. IsFormMark text.now (refusal_of refusal) form l) }
-{
-    match refused_item(alloc, text, refusal)? {
-        Some(item) => Ok(item_location(alloc, text, form, item)?),
-        None => Ok(Location::InForm {
-            line: line_column_of(text, from).line,
+    match item {
+        Some(item) => item_spot(text, form, item, item_offset(text, form, item)),
+        None => Location::InForm {
+            line: line_column_of(text, form_start(text, form)).line,
             form,
-        }),
+        },
     }
 }
 
-/// Where the refusal for a form is, and the form's text; the whole text where its tokens can't be told.
+/// The text of a form, with its full stop.
+fn form_text(text: &[u8], form: usize) -> &[u8] {
+    text.get(form_start(text, form)..form_end(text, form))
+        .unwrap_or(b"")
+}
+
+/// Where the refusal for a form is, and the form's text.
 fn form_mark<A: Allocator + Copy>(
     alloc: A,
     text: &[u8],
     refusal: Refusal,
     form: usize,
-) -> Result<Mark<'_>, AllocError>
+) -> Result<Mark<'_, A>, AllocError>
     requires { length text.now < usize.MAX }
     ensures { IfOk result (λ m. IsFormMark text.now (refusal_of refusal) form m.location) }
 {
-    match form_span(alloc, text, form)? {
-        Some(span) => Ok(Mark {
-            location: form_location(alloc, text, refusal, form, span.from)?,
-            form: text.get(span.from..span.to).unwrap_or(b""),
-        }),
-        None => Ok(Mark::of(Location::Whole)),
-    }
+    let ItemInForms { item, forms } = refused_item(alloc, text, refusal)?;
+    Ok(Mark {
+        location: item_location(text, form, item),
+        form: form_text(text, form),
+        forms,
+    })
 }
 
 /// Where the refusal of a text is; the whole text where that is longer than 1,048,576 bytes.
@@ -155,7 +140,7 @@ pub fn mark_of<A: Allocator + Copy>(
     alloc: A,
     text: &[u8],
     refusal: Refusal,
-) -> Result<Mark<'_>, AllocError>
+) -> Result<Mark<'_, A>, AllocError>
     ensures { IfOk result (λ m. IsMarkOf text.now (refusal_of refusal) (refused_part (refusal_of refusal)) m.location) }
 {
     if text.len() > MAX_TEXT {

@@ -12,9 +12,26 @@ ghost use Rattle.tn_refusal.specs.RefusedItems.{IsItemOfBroken};
 use crate::refusal::Refusal;
 use std::alloc::{AllocError, Allocator};
 use tn_program::{RuleFault, breaking_item};
-use tn_script::{FormItem, ScriptFault, forms, shapeless_item};
+use tn_script::{Form, FormItem, ScriptFault, forms, shapeless_item};
 use tn_term::Term;
 use tn_text::{TextFault, read_terms};
+
+/// The step or the command that a refusal is of, and the forms of the text, where the refusal is for one of their
+/// rules and the text spells forms.
+#[derive(Drop)]
+pub struct ItemInForms<A: Allocator> {
+    pub item: Option<FormItem>,
+    pub forms: Option<Vec<Form<A>, A>>,
+}
+
+impl<A: Allocator> ItemInForms<A> {
+    /// The item without forms.
+    fn of(item: Option<FormItem>) -> Self
+        ensures { result.item ≡ item }
+    {
+        ItemInForms { item, forms: None }
+    }
+}
 
 /// The item for which the term with this number, from 1, has no shape.
 fn item_of_terms<A: Allocator>(
@@ -50,65 +67,55 @@ fn item_without_shape<A: Allocator + Copy>(
     }
 }
 
-/// The item for which a form breaks its rule; none of a text that spells no forms.
+/// The item for which a form breaks its rule, and the forms; none of a text that spells no forms.
 fn item_of_rule<A: Allocator + Copy>(
     alloc: A,
     text: &[u8],
     fault: RuleFault,
-) -> Result<Option<FormItem>, AllocError>
-    ensures { IfOk result (λ o. IsItemOfBroken text.now (broken_of fault) (option_map form_item_of o)) }
+) -> Result<ItemInForms<A>, AllocError>
+    ensures { IfOk result (λ r. IsItemOfBroken text.now (broken_of fault) (option_map form_item_of r.item)) }
 {
     match forms(alloc, text) {
-        Ok(forms) => Ok(breaking_item(alloc, &forms, fault)?),
+        Ok(forms) => {
+            let item = breaking_item(alloc, &forms, fault)?;
+            Ok(ItemInForms {
+                item,
+                forms: Some(forms),
+            })
+        }
         Err(ScriptFault::OutOfMemory) => Err(AllocError),
-        Err(ScriptFault::TooLong) => Ok(None),
-        Err(ScriptFault::Token { .. }) => Ok(None),
-        Err(ScriptFault::TooDeep { .. }) => Ok(None),
-        Err(ScriptFault::TooLarge { .. }) => Ok(None),
-        Err(ScriptFault::Form { .. }) => Ok(None),
-        Err(ScriptFault::TooManyForms) => Ok(None),
+        Err(ScriptFault::TooLong) => Ok(ItemInForms::of(None)),
+        Err(ScriptFault::Token { .. }) => Ok(ItemInForms::of(None)),
+        Err(ScriptFault::TooDeep { .. }) => Ok(ItemInForms::of(None)),
+        Err(ScriptFault::TooLarge { .. }) => Ok(ItemInForms::of(None)),
+        Err(ScriptFault::Form { .. }) => Ok(ItemInForms::of(None)),
+        Err(ScriptFault::TooManyForms) => Ok(ItemInForms::of(None)),
     }
 }
 
-/// The step or the command that the refusal of a text is of; none where it is of the text, of a token, or of a form
-/// itself.
+/// The step or the command that the refusal of a text is of, and the forms that it was looked for in; no item where the
+/// refusal is of the text, of a token, or of a form itself.
 pub fn refused_item<A: Allocator + Copy>(
     alloc: A,
     text: &[u8],
     refusal: Refusal,
-) -> Result<Option<FormItem>, AllocError>
-    ensures { IfOk result (λ o. IsRefusedItem text.now (refusal_of refusal) (option_map form_item_of o)) }
+) -> Result<ItemInForms<A>, AllocError>
+    ensures { IfOk result (λ r. IsRefusedItem text.now (refusal_of refusal) (option_map form_item_of r.item)) }
 {
     match refusal {
-        Refusal::Form { form } => Ok(item_without_shape(alloc, text, form)?),
-        Refusal::Duplicate { form } => Ok(item_of_rule(
-            alloc,
-            text,
-            RuleFault::Duplicate { form },
-        )?),
-        Refusal::Undeclared { form } => Ok(item_of_rule(
-            alloc,
-            text,
-            RuleFault::Undeclared { form },
-        )?),
-        Refusal::NotExported { form } => Ok(item_of_rule(
-            alloc,
-            text,
-            RuleFault::NotExported { form },
-        )?),
-        Refusal::Unbound { form } => Ok(item_of_rule(alloc, text, RuleFault::Unbound { form })?),
-        Refusal::TracerTaken { form } => Ok(item_of_rule(
-            alloc,
-            text,
-            RuleFault::TracerTaken { form },
-        )?),
-        Refusal::Arity { form } => Ok(item_of_rule(alloc, text, RuleFault::Arity { form })?),
-        Refusal::Limit { form } => Ok(item_of_rule(alloc, text, RuleFault::Limit { form })?),
-        Refusal::TooLong => Ok(None),
-        Refusal::Token { .. } => Ok(None),
-        Refusal::TooDeep { .. } => Ok(None),
-        Refusal::TooLarge { .. } => Ok(None),
-        Refusal::TooManyForms => Ok(None),
-        Refusal::BadPicks => Ok(None),
+        Refusal::Form { form } => Ok(ItemInForms::of(item_without_shape(alloc, text, form)?)),
+        Refusal::Duplicate { form } => item_of_rule(alloc, text, RuleFault::Duplicate { form }),
+        Refusal::Undeclared { form } => item_of_rule(alloc, text, RuleFault::Undeclared { form }),
+        Refusal::NotExported { form } => item_of_rule(alloc, text, RuleFault::NotExported { form }),
+        Refusal::Unbound { form } => item_of_rule(alloc, text, RuleFault::Unbound { form }),
+        Refusal::TracerTaken { form } => item_of_rule(alloc, text, RuleFault::TracerTaken { form }),
+        Refusal::Arity { form } => item_of_rule(alloc, text, RuleFault::Arity { form }),
+        Refusal::Limit { form } => item_of_rule(alloc, text, RuleFault::Limit { form }),
+        Refusal::TooLong => Ok(ItemInForms::of(None)),
+        Refusal::Token { .. } => Ok(ItemInForms::of(None)),
+        Refusal::TooDeep { .. } => Ok(ItemInForms::of(None)),
+        Refusal::TooLarge { .. } => Ok(ItemInForms::of(None)),
+        Refusal::TooManyForms => Ok(ItemInForms::of(None)),
+        Refusal::BadPicks => Ok(ItemInForms::of(None)),
     }
 }

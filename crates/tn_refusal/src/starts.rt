@@ -1,60 +1,23 @@
 // Where the forms of a text begin.
 ghost use Rattle.std.specs.Prelude.{◌≡◌, IfOk};
-ghost use Rattle.tn_refusal.specs.Starts.{is_stop_kind, start_in, IsFormOffset, span_start};
+ghost use Rattle.def_text.specs.Forms.{FormBegins};
+ghost use Rattle.tn_refusal.specs.Starts.{IsListable, IsFormOffset};
 
+use crate::skim::{next_start, past_stops};
 use std::alloc::{AllocError, Allocator};
-use tn_text::{Kind, TextFault, Token, tokens};
+use tn_text::{TextFault, tokens};
 
-/// Whether the token is a full stop.
-fn is_stop(kind: Kind) -> bool
-    ensures { result ≡ is_stop_kind kind }
+/// The offset of the first token of the form with this number, from 1, or the end where no token is left: of a text
+/// of tokens. It goes over the bytes up to there once and takes no memory.
+pub fn form_start(text: &[u8], form: usize) -> usize
+    ensures { IsListable text.now → FormBegins text.now form result }
 {
-    matches!(kind, Kind::Stop)
+    next_start(text, past_stops(text, form.saturating_sub(1)))
 }
 
-/// The offset of the first token after so many full stops, or the end where no token is left.
-fn start_after(tokens: &[Token], stops: usize, end: usize) -> usize
-    ensures { result ≡ start_in end stops tokens.now }
-{
-    let mut left = stops;
-    for token in tokens {
-        if left == 0 {
-            return token.from;
-        }
-        if is_stop(token.kind) {
-            left -= 1;
-        }
-    }
-    end
-}
-
-/// Where a form begins, and where the one after it does.
-#[derive(Clone, Copy)]
-pub struct FormSpan {
-    pub from: usize,
-    pub to: usize,
-}
-
-/// The span of the form with this number, from 1: from its first token to that of the form after it, where the text's
-/// length stands for a token that isn't there. None as for `form_offset`.
-pub fn form_span<A: Allocator>(
-    alloc: A,
-    text: &[u8],
-    form: usize,
-) -> Result<Option<FormSpan>, AllocError>
-    ensures { IfOk result (λ o. IsFormOffset text.now form (span_start o)) }
-{
-    match tokens(alloc, text) {
-        Ok(tokens) => Ok(Some(FormSpan {
-            from: start_after(&tokens, form.saturating_sub(1), text.len()),
-            to: start_after(&tokens, form, text.len()),
-        })),
-        Err(TextFault::OutOfMemory) => Err(AllocError),
-        Err(TextFault::TooLong) => Ok(None),
-        Err(TextFault::Token { .. }) => Ok(None),
-        Err(TextFault::TooDeep { .. }) => Ok(None),
-        Err(TextFault::TooLarge { .. }) => Ok(None),
-    }
+/// The offset after the full stop of the form with this number, from 1, or the end where it has none.
+pub fn form_end(text: &[u8], form: usize) -> usize {
+    past_stops(text, form)
 }
 
 /// The offset in bytes, from 0, of the first token of the form with this number, from 1: of the token after
@@ -72,8 +35,12 @@ pub fn form_offset<A: Allocator>(
 ) -> Result<Option<usize>, AllocError>
     ensures { IfOk result (λ o. IsFormOffset text.now form o) }
 {
-    match form_span(alloc, text, form)? {
-        Some(span) => Ok(Some(span.from)),
-        None => Ok(None),
+    match tokens(alloc, text) {
+        Ok(_tokens) => Ok(Some(form_start(text, form))),
+        Err(TextFault::OutOfMemory) => Err(AllocError),
+        Err(TextFault::TooLong) => Ok(None),
+        Err(TextFault::Token { .. }) => Ok(None),
+        Err(TextFault::TooDeep { .. }) => Ok(None),
+        Err(TextFault::TooLarge { .. }) => Ok(None),
     }
 }

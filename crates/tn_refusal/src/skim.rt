@@ -1,0 +1,244 @@
+// Going through the bytes of a text, past full stops or past commas.
+ghost use Rattle.std.specs.Prelude.{◌≡◌, ◌≤◌, ◌<◌, ◌+◌, List, length, drop, false};
+ghost use Rattle.def_text.specs.Tokens.{is_blank, ends_form, gap_len as gap_len_of, TokenSpan};
+ghost use Rattle.def_text.specs.Spelling.{offset_of};
+ghost use Rattle.def_text.specs.Forms.{after_stops};
+ghost use Rattle.def_refusal.specs.ItemStarts.{depth_after, is_opener, in_bracket, tokens_past_commas};
+ghost use Rattle.tn_refusal.specs.declared.skim.Zone.TheVariants.{Code};
+ghost use Rattle.tn_refusal.specs.Skims.{zone_after, sign_of_byte, sign_in, role_of_sign, left_after, offset_past};
+ghost use Rattle.tn_refusal.specs.Skims.{AreAhead};
+
+/// Where a byte of a text stands: in a token without quotes or between tokens, in a comment, or between quotes, there
+/// after a backslash or not.
+#[derive(Clone, Copy)]
+pub enum Zone {
+    Code,
+    Comment,
+    Quoted { quote: u8 },
+    Escaped { quote: u8 },
+}
+
+/// What a byte does to tuples, lists and forms: it opens or closes one, separates elements, ends a form, or nothing.
+#[derive(Clone, Copy)]
+pub enum Sign {
+    Opener,
+    Closer,
+    Separator,
+    Stop,
+    Plain,
+}
+
+/// What is passed: full stops, or commas outside of brackets.
+#[derive(Clone, Copy)]
+pub enum Aim {
+    Stops,
+    Commas,
+}
+
+/// Where the byte after this one stands.
+fn zone_after(zone: Zone, b: u8) -> Zone
+    ensures { result ≡ zone_after zone b }
+{
+    match zone {
+        Zone::Code => {
+            if b == b'%' {
+                Zone::Comment
+            } else if b == b'\'' || b == b'"' {
+                Zone::Quoted { quote: b }
+            } else {
+                Zone::Code
+            }
+        }
+        Zone::Comment => if b == b'\n' {
+            Zone::Code
+        } else {
+            Zone::Comment
+        },
+        Zone::Quoted { quote } => {
+            if b == quote {
+                Zone::Code
+            } else if b == b'\\' {
+                Zone::Escaped { quote }
+            } else {
+                Zone::Quoted { quote }
+            }
+        }
+        Zone::Escaped { quote } => Zone::Quoted { quote },
+    }
+}
+
+/// Whether the byte is a blank.
+fn is_blank_byte(b: u8) -> bool
+    ensures { result ≡ is_blank b }
+{
+    b == b' ' || b == b'\t' || b == b'\n' || b == b'\r'
+}
+
+/// Whether a dot before these bytes is a full stop.
+fn ends_form(rest: &[u8]) -> bool
+    ensures { result ≡ ends_form rest.now }
+{
+    if rest.is_empty() {
+        return true;
+    }
+    is_blank_byte(rest[0]) || rest[0] == b'%'
+}
+
+/// What a byte outside of quotes and comments does, before these.
+fn sign_of_byte(b: u8, rest: &[u8]) -> Sign
+    ensures { result ≡ sign_of_byte b rest.now }
+{
+    if b == b'{' || b == b'[' {
+        Sign::Opener
+    } else if b == b'}' || b == b']' {
+        Sign::Closer
+    } else if b == b',' {
+        Sign::Separator
+    } else if b == b'.' && ends_form(rest) {
+        Sign::Stop
+    } else {
+        Sign::Plain
+    }
+}
+
+/// What a byte does where it stands, before these.
+fn sign_in(zone: Zone, b: u8, rest: &[u8]) -> Sign
+    ensures { result ≡ sign_in zone b rest.now }
+{
+    match zone {
+        Zone::Code => sign_of_byte(b, rest),
+        Zone::Comment => Sign::Plain,
+        Zone::Quoted { .. } => Sign::Plain,
+        Zone::Escaped { .. } => Sign::Plain,
+    }
+}
+
+/// How many brackets are open after a byte, of so many before it.
+fn depth_after(depth: usize, sign: Sign) -> usize
+    requires { depth < usize.MAX }
+    ensures { result ≡ depth_after depth (role_of_sign sign) }
+{
+    match sign {
+        Sign::Opener => depth + 1,
+        Sign::Closer => depth.saturating_sub(1),
+        Sign::Separator => depth,
+        Sign::Stop => depth,
+        Sign::Plain => depth,
+    }
+}
+
+/// How many full stops, or commas outside of brackets, are left after a byte.
+fn left_after(aim: Aim, depth: usize, left: usize, sign: Sign) -> usize
+    ensures { result ≡ left_after aim depth left sign }
+{
+    match (aim, sign) {
+        (Aim::Stops, Sign::Stop) => left.saturating_sub(1),
+        (Aim::Commas, Sign::Separator) => {
+            if depth == 0 {
+                left.saturating_sub(1)
+            } else {
+                left
+            }
+        }
+        _ => left,
+    }
+}
+
+#[tactic(auto, using(crate::proofs::Skims::none_left, crate::proofs::Skims::depth_le, crate::proofs::Skims::one_on))]
+/// The offset after so many full stops, or commas outside of brackets, from this one on; the end where there are fewer.
+fn offset_past(text: &[u8], from: usize, aim: Aim, count: usize) -> usize
+    requires { from ≤ length text.now }
+    ensures value { result ≡ offset_past aim Code 0 count from (drop from text.now) }
+    ensures fits { result ≤ length text.now }
+{
+    let mut zone = Zone::Code;
+    let mut depth = 0;
+    let mut left = count;
+    for i in from..text.len() {
+        if left == 0 {
+            return i;
+        }
+        let sign = sign_in(zone, text[i], &text[i + 1..]);
+        left = left_after(aim, depth, left, sign);
+        depth = depth_after(depth, sign);
+        zone = zone_after(zone, text[i]);
+    }
+    text.len()
+}
+
+/// How many bytes of blanks and comments stand at the front.
+fn gap_len(bytes: &[u8]) -> usize
+    ensures value { result ≡ gap_len_of false bytes.now }
+    ensures fits { result ≤ length bytes.now }
+{
+    let mut inside = false;
+    for (i, b) in bytes.iter().enumerate() {
+        if inside {
+            inside = *b != b'\n';
+        } else if *b == b'%' {
+            inside = true;
+        } else if !is_blank_byte(*b) {
+            return i;
+        }
+    }
+    bytes.len()
+}
+
+/// The offset after so many full stops, or the end where there are fewer.
+pub fn past_stops(text: &[u8], stops: usize) -> usize
+    ensures tokens { (xs : List TokenSpan) → AreAhead text.now 0 xs → AreAhead text.now result (after_stops stops xs) }
+    ensures fits { result ≤ length text.now }
+{
+    offset_past(text, 0, Aim::Stops, stops)
+}
+
+/// The offset after so many commas outside of brackets, from this one on, or the end where there are fewer.
+pub fn past_commas(text: &[u8], from: usize, commas: usize) -> usize
+    requires { from ≤ length text.now }
+    ensures tokens { (xs : List TokenSpan) → AreAhead text.now from xs
+        → AreAhead text.now result (tokens_past_commas 0 commas xs) }
+    ensures fits { result ≤ length text.now }
+{
+    offset_past(text, from, Aim::Commas, commas)
+}
+
+/// The offset of the next token from this one on, or the end.
+pub fn next_start(text: &[u8], from: usize) -> usize
+    requires { from ≤ length text.now }
+    ensures value { result ≡ from + gap_len_of false (drop from text.now) }
+    ensures tokens { (xs : List TokenSpan) → AreAhead text.now from xs → result ≡ offset_of (length text.now) xs }
+    ensures fits { result ≤ length text.now }
+{
+    from + gap_len(&text[from..])
+}
+
+/// Whether it opens a tuple or a list.
+fn is_opener(sign: Sign) -> bool
+    ensures { result ≡ is_opener (role_of_sign sign) }
+{
+    match sign {
+        Sign::Opener => true,
+        Sign::Closer => false,
+        Sign::Separator => false,
+        Sign::Stop => false,
+        Sign::Plain => false,
+    }
+}
+
+/// The offset after the bracket of the tuple or list that begins at this one; this one where none does, as before a
+/// string.
+pub fn in_bracket(text: &[u8], from: usize) -> usize
+    requires { from ≤ length text.now }
+    ensures tokens { (xs : List TokenSpan) → AreAhead text.now from xs → AreAhead text.now result (in_bracket xs) }
+    ensures fits { result ≤ length text.now }
+{
+    let at = next_start(text, from);
+    if at == text.len() {
+        return from;
+    }
+    if is_opener(sign_of_byte(text[at], &text[at + 1..])) {
+        at + 1
+    } else {
+        from
+    }
+}
