@@ -77,6 +77,7 @@ impl<A: Allocator + Copy, J: DirectJob<A>> DirectJob<A> for WithinBytes<'_, J> {
         picks: &[u32],
         program: &Program<A>,
     ) -> Result<(J::Outcome, Vec<u8, A>), OutputFault<J::Fault>>
+        requires { J.takes self.now.job.now picks.now }
         ensures given { IfOk result (λ r. IsProgramAnswer (job_within self.now.most (J.view self.now.job.now))
             (program_of program.now) r.0 r.1.items) }
         ensures fault { IfErr result (IsOfNoEnd (job_within self.now.most (J.view self.now.job.now))) }
