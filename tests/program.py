@@ -60,7 +60,7 @@ SUBJECTS = {
         specification_cases.specifications,
     ),
     "format": (format_cases.formats,),
-    "bound": (bound_cases.bounds, bound_cases.refusals, bound_cases.bad_bounds, bound_cases.memory),
+    "bound": (bound_cases.bounds, bound_cases.refusals_in_bounds, bound_cases.bad_bounds, bound_cases.little_memory),
     "command_line": (
         command_line_cases.tries,
         command_line_cases.files,
