@@ -25,7 +25,7 @@ _tracenode() {
     else
         case $before in
             --picks | --moves | --limit | --n | --turns | --spread | --session | --move | --list | --me | --caller) return ;;
-            --expect-line | --reject-line) return ;;
+            --expect-line | --reject-line | --max-output) return ;;
             --for)
                 COMPREPLY=($(compgen -W 'call send receive' -- "$word"))
                 return
@@ -42,21 +42,23 @@ _tracenode() {
         case $command in
             replay)
                 words='--picks --picks-file --moves --moves-file --quiet --summary --json'
-                words+=' --expect --expect-line --reject-line --strict -h --help'
+                words+=' --expect --expect-line --reject-line --strict --max-output -h --help'
                 ;;
             round)
-                words='--limit --control --quiet --summary --json --expect --expect-line --reject-line --strict -h --help'
+                words='--limit --control --quiet --summary --json'
+                words+=' --expect --expect-line --reject-line --strict --max-output -h --help'
                 ;;
             workers)
-                words='--n --turns --spread --quiet --summary --json --expect --expect-line --reject-line --strict -h --help'
+                words='--n --turns --spread --quiet --summary --json'
+                words+=' --expect --expect-line --reject-line --strict --max-output -h --help'
                 ;;
             explain)
                 words='--picks --picks-file --moves --moves-file --round --limit --control --session --move --node'
-                words+=' --json --expect --expect-line --reject-line --strict -h --help'
+                words+=' --json --expect --expect-line --reject-line --strict --max-output -h --help'
                 ;;
             draw)
                 words='--picks --picks-file --moves --moves-file --text'
-                words+=' --expect --expect-line --reject-line --strict -h --help'
+                words+=' --expect --expect-line --reject-line --strict --max-output -h --help'
                 ;;
             spec) words='--list --for --me --caller --json -h --help' ;;
             help) words='replay round workers explain draw spec' ;;

@@ -37,6 +37,7 @@ exit 7
             ["replay", "--picks", "0", "--quiet"],
             ["round", "--quiet"],
             ["round", "--expect-line", "x"],
+            ["round", "--max-output", "9"],
             ["round", "--control", "first"],
             ["replay", "--moves", "0! *"],
             ["explain", "--round", "--limit", "5"],
@@ -73,9 +74,9 @@ exit 7
         wanted = f"tn_cli explain --node {there}/a.term --picks-file={there}/b\n"
         check("files after a flag where nothing is built", ran.stdout.decode() == wanted, ran)
         line = ["round", "--expect", "b", "a.term", "--expect=c=d", "--expect-line", "x", "--reject-line", "-y"]
-        ran = run(line, command=(str(top / "tracenode"),), env=path, cwd=folder)
+        ran = run([*line, "--max-output", "9"], command=(str(top / "tracenode"),), env=path, cwd=folder)
         wanted = f"tn_cli round --expect {there}/b {there}/a.term --expect={there}/c=d --expect-line x"
-        wanted += " --reject-line -y\n"
+        wanted += " --reject-line -y --max-output 9\n"
         check("files of an expectation where nothing is built", ran.stdout.decode() == wanted, ran)
         line = ["round", "--limit", "5", "/x/a.term"]
         ran = run(line, command=(str(top / "tracenode"),), env=path, cwd=folder)

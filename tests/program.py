@@ -16,6 +16,7 @@ import sys
 # The modules beside this program leave no compiled files in the checkout.
 sys.dont_write_bytecode = True
 
+import bound_cases
 import command_line_cases
 import document_cases
 import explanation_cases
@@ -59,6 +60,7 @@ SUBJECTS = {
         specification_cases.specifications,
     ),
     "format": (format_cases.formats,),
+    "bound": (bound_cases.bounds, bound_cases.refusals_in_bounds, bound_cases.bad_bounds, bound_cases.little_memory),
     "command_line": (
         command_line_cases.tries,
         command_line_cases.files,

@@ -1,7 +1,10 @@
 -- Two ends of one job: where both are outcomes, or both are faults, the statuses are one.
-use Rattle.std.proofs.Common.{◌≡◌, ◌∙◌, ℕ, Result, Ok, Err, IfOk, is_ok, if◌then◌else◌, sym, ap}
+use Rattle.std.proofs.Common.{◌≡◌, ◌∙◌, ℕ, List, Option, None, Some, MatchOption, Result, Ok, Err, IfOk, is_ok, if◌then◌else◌, sym, ap}
+use Rattle.def_script.specs.Program.{Program}
+use Rattle.def_script.specs.Script.{Refusal}
+use Rattle.def_run.specs.Output.{refusal_text}
 use Rattle.tn_run.specs.Answers.{is_listed, run_by, schedule_seen}
-use Rattle.tn_run.specs.Jobs.{JobView}
+use Rattle.tn_run.specs.Jobs.{Gives, IsJobRefusal, JobView, OfScript}
 use Rattle.tn_run.specs.declared.live.Ran.{Ran}
 use Rattle.tn_run.specs.declared.fault.LiveFault.{LiveFault}
 use Rattle.tn_run.specs.declared.outcome.Schedule.{Schedule}
@@ -9,6 +12,7 @@ use Rattle.tn_explain.specs.Accounts.{explain_by}
 use Rattle.tn_explain.specs.Notes.{run_and_note}
 use Rattle.tn_explain.specs.declared.request.ExplainRequest.{ExplainRequest}
 use Rattle.tn_explain.specs.declared.run_and_note.RunAndNote.{RunAndNote}
+use Rattle.tn_command.specs.JobForms.{HasAtMost, job_within}
 use Rattle.tn_command.specs.Status.{LISTED_STATUS, REFUSED_STATUS, status_of}
 use Rattle.complete_workers.specs.Runs.{AreOfOneText}
 use Rattle.complete_workers.proofs.OneRun.{one_run, reads_or_not}
@@ -28,6 +32,23 @@ pub succeed_alike : (r q : Result Ran LiveFault) → IfOk r (λ x. IfOk q (AreOf
 succeed_alike (Ok x) (Ok y) h = ap is_listed h.outcome
 succeed_alike (Ok x) (Err d) h = tt
 succeed_alike (Err d) q h = tt
+
+-- ---- a bound
+
+unbound : (P : Program → Type 0) (W : Type 0) (B : Refusal → Type 0) (bytes : List ℕ) (r : Option Refusal) → MatchOption r (OfScript bytes (λ p. P p × W)) B → MatchOption r (OfScript bytes P) B
+unbound P W B bytes None h = record { program = h.program; accepted = h.accepted; output = h.output.0 }
+unbound P W B bytes (Some r) h = h
+
+-- what a job gives within a bound, it gives without one
+gives_unbound : {O F : Type 0} (most : ℕ) (job : JobView O F) (bytes : List ℕ) (o : O) (x : List ℕ) → Gives (job_within most job) bytes o x → Gives job bytes o x
+gives_unbound most job bytes o x h =
+    unbound (λ p. job.of_program p o x) (HasAtMost most x) (λ r. IsJobRefusal job.reads bytes r × (x ≡ refusal_text r)) bytes (job.refusal_in o) h
+
+pub within_has_one : {O F : Type 0} (most : ℕ) (job : JobView O F) → HasOneAnswer job → HasOneAnswer (job_within most job)
+within_has_one most job one = record {
+  answer = λ bytes o u x y h i. one.answer bytes o u x y (gives_unbound most job bytes o x h) (gives_unbound most job bytes u y i);
+  reads = λ bytes o x h. one.reads bytes o x (gives_unbound most job bytes o x h);
+}
 
 -- ---- the jobs of the commands
 

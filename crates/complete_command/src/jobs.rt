@@ -7,7 +7,7 @@ ghost use Rattle.complete_command.specs.Jobs.{FlushAlike, GainAlike, RemainAlike
 
 use std::alloc::Allocator;
 use std::io::{Read, Write};
-use tn_command::JobEnd;
+use tn_command::{JobEnd, OutputFault, WithinBytes};
 use tn_explain::{ExplainOutcome, ExplainRequest, RunAndNote, RunEnd};
 use tn_moves::{DrawByMoves, ExplainByMoves, MovesAccount, MovesEnd, MovesPicture, RunByMoves};
 use tn_run::{DirectJob, Outcome, RunFault, Schedule};
@@ -40,6 +40,30 @@ pub fn perform_over<A: Allocator + Copy, J: DirectJob<A>, R: Read, W: Write>(
     let first = tn_command::perform_over(alloc, job, one, out);
     let second = tn_command::perform_over(alloc, job, other, same_out);
     (first, second)
+}
+
+/// `tn_command::perform_over` has one answer of a job within a bound, where the job has one, as said of any job that
+/// has one.
+pub fn within<A: Allocator + Copy, J: DirectJob<A>, R: Read, W: Write>(
+    alloc: A,
+    job: &WithinBytes<'_, J>,
+    one: &mut Watched<R>,
+    other: &mut Watched<R>,
+    out: &mut Watched<W>,
+    same_out: &mut Watched<W>,
+) -> (
+    JobEnd<J::Outcome, OutputFault<J::Fault>>,
+    JobEnd<J::Outcome, OutputFault<J::Fault>>,
+)
+    requires answer { HasOneAnswer (J.view job.now.job.now) }
+    requires reported { TellAlike R.remaining one.old other.old }
+    requires failed { has_failed one.old ≡ has_failed other.old }
+    requires outs { SeenAlike W.contents out.old same_out.old }
+    ensures outcome { Knows R.remaining one.old → AnswerAlike result.0 result.1 }
+    ensures status { Knows R.remaining one.old → HaveOneStatus result.0 result.1 }
+    ensures written { Knows R.remaining one.old → GainAlike W.contents out.old out.new same_out.new result.0 result.1 }
+{
+    perform_over(alloc, job, one, other, out, same_out)
 }
 
 /// `tn_command::perform_over` has one answer of a run by a schedule, as said of any job that has one.

@@ -79,20 +79,27 @@ four_after : (xs : List (List ℕ)) (a b d f : List ℕ) → ((xs ++ a ∷ b ∷
 four_after [] a b d f = refl
 four_after (x ∷ xs) a b d f = ap (λ l. x ∷ l) (four_after xs a b d f)
 
--- the four arguments that say what the output must be, and its commands
-pub expectation_more : (old second third fourth new : Command) (a b d f : Arg) → a.id.now ≡ codes "expect" → b.id.now ≡ codes "expect-line"
-    → d.id.now ≡ codes "reject-line" → f.id.now ≡ codes "strict" → AddsArg old a second → AddsArg second b third → AddsArg third d fourth
-    → AddsArg fourth f new → IsWithExpectation old new
-expectation_more old second third fourth new a b d f is_a is_b is_d is_f with_a with_b with_d with_f = record {
+-- five arguments, one after the other
+five_after : (xs : List (List ℕ)) (a b d f h : List ℕ) → ((xs ++ a ∷ b ∷ d ∷ f ∷ []) ++ h ∷ []) ≡ xs ++ a ∷ b ∷ d ∷ f ∷ h ∷ []
+five_after [] a b d f h = refl
+five_after (x ∷ xs) a b d f h = ap (λ l. x ∷ l) (five_after xs a b d f h)
+
+-- the five arguments that say what the output must be, and its commands
+pub expectation_more : (old second third fourth fifth new : Command) (a b d f h : Arg) → a.id.now ≡ codes "expect" → b.id.now ≡ codes "expect-line"
+    → d.id.now ≡ codes "reject-line" → f.id.now ≡ codes "strict" → h.id.now ≡ codes "max-output" → AddsArg old a second → AddsArg second b third → AddsArg third d fourth
+    → AddsArg fourth f fifth → AddsArg fifth h new → IsWithExpectation old new
+expectation_more old second third fourth fifth new a b d f h is_a is_b is_d is_f is_h with_a with_b with_d with_f with_h = record {
   takes_more = λ name arguments is.
       let one = one_more name arguments (codes "expect") old second a is is_a with_a in
       let two = one_more name _ (codes "expect-line") second third b one is_b with_b in
       let three = one_more name _ (codes "reject-line") third fourth d two is_d with_d in
       let so = subst (λ l. IsCommand name l fourth) (three_after arguments (codes "expect") (codes "expect-line") (codes "reject-line")) three in
-      let four = one_more name _ (codes "strict") fourth new f so is_f with_f in
-      subst (λ l. IsCommand name l new) (four_after arguments (codes "expect") (codes "expect-line") (codes "reject-line") (codes "strict")) four;
-  wants_so = λ g wants. still_wants g fourth new f (still_wants g third fourth d
-      (still_wants g second third b (still_wants g old second a wants with_a) with_b) with_d) with_f;
+      let four = one_more name _ (codes "strict") fourth fifth f so is_f with_f in
+      let next = subst (λ l. IsCommand name l fifth) (four_after arguments (codes "expect") (codes "expect-line") (codes "reject-line") (codes "strict")) four in
+      let five = one_more name _ (codes "max-output") fifth new h next is_h with_h in
+      subst (λ l. IsCommand name l new) (five_after arguments (codes "expect") (codes "expect-line") (codes "reject-line") (codes "strict") (codes "max-output")) five;
+  wants_so = λ g wants. still_wants g fifth new h (still_wants g fourth fifth f (still_wants g third fourth d
+      (still_wants g second third b (still_wants g old second a wants with_a) with_b) with_d) with_f) with_h;
 }
 
 -- a command with these after its own arguments, where there was memory for that

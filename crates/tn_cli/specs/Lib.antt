@@ -1,3 +1,4 @@
 pub mod Line
 pub mod Requests
 pub mod Formats
+pub mod Bounds

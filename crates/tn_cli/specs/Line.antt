@@ -78,9 +78,9 @@ pub record IsWithFormats (old new : Command) : Type 0 where
   pub takes_formats : (name : List ℕ) (arguments : List (List ℕ)) → IsCommand name arguments old → IsCommand name (arguments ++ FORMATS) new
   pub wants_picks_so : (g : ArgGroup) → WantsBy g old → WantsBy g new
 
--- the arguments that say what the output must be, and whether each command must be done
+-- the arguments that say what the output must be, whether each command must be done, and how long the output may be
 abbrev pub EXPECTATION : List (List ℕ)
-EXPECTATION = codes "expect" ∷ codes "expect-line" ∷ codes "reject-line" ∷ codes "strict" ∷ []
+EXPECTATION = codes "expect" ∷ codes "expect-line" ∷ codes "reject-line" ∷ codes "strict" ∷ codes "max-output" ∷ []
 
 -- the command has these arguments after its own, and wants its picks as it did
 pub record IsWithExpectation (old new : Command) : Type 0 where

@@ -25,7 +25,7 @@ Exit status:
   1  the output was written, and isn't what --expect, --expect-line or --reject-line says, or a command
      is refused or matches no function under --strict
   2  the script, the picks or the command line is refused
-  3  a fault: a failed read or write, or want of memory";
+  3  a fault: a failed read or write, a lack of memory, or an output past --max-output";
 
 /// The script of a command.
 fn script<'a>(alloc: Global) -> Arg<'a>
@@ -220,8 +220,25 @@ fn strict<'a>(alloc: Global) -> Arg<'a>
         .action(ArgAction::SetTrue)
 }
 
-/// The command with `[--expect FILE] [--expect-line TEXT] [--reject-line TEXT] [--strict]` more, which say what its
-/// output must be, and its commands.
+/// `--max-output BYTES`.
+fn max_output<'a>(alloc: Global) -> Arg<'a>
+    ensures named { IsOption (codes "max-output") result }
+    ensures value { IsElse (codes "1073741824") result }
+    ensures range { IsFromTo 1 4294967295 result }
+{
+    Arg::new(alloc, "max-output")
+        .long("max-output")
+        .value_name("BYTES")
+        .help(
+            "How many bytes the output may have, from 1 to 4294967295; where it has more, nothing is written",
+        )
+        .value_parser(value_parser!(u32).range(1..=4294967295))
+        .default_value("1073741824")
+        .action(ArgAction::Set)
+}
+
+/// The command with `[--expect FILE] [--expect-line TEXT] [--reject-line TEXT] [--strict] [--max-output BYTES]` more,
+/// which say what its output must be, and its commands.
 fn with_expectation<'a>(alloc: Global, command: Command<'a>) -> Result<Command<'a>, AllocError>
     ensures { IfOk result (IsWithExpectation command.entry) }
 {
@@ -229,7 +246,8 @@ fn with_expectation<'a>(alloc: Global, command: Command<'a>) -> Result<Command<'
         .arg(expect(alloc))?
         .arg(expect_line(alloc))?
         .arg(reject_line(alloc))?
-        .arg(strict(alloc))
+        .arg(strict(alloc))?
+        .arg(max_output(alloc))
 }
 
 /// The subcommand `replay [SCRIPT] [--quiet]` with picks or moves, in a format, and with what its output must be.

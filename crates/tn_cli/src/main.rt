@@ -11,13 +11,14 @@ ghost use Rattle.tn_command.specs.Status.{IsStatus};
 
 mod format;
 mod line;
+mod output_bound;
 mod request;
 mod value;
 
 use clap::ArgMatches;
 use clap::error::ErrorKind;
 use format::format_of;
-use line::command;
+use output_bound::most_of;
 use request::{
     BadNumber, ExpectationArgs, PicksSource, Request, RunSource, SpecTestArgs, request_of,
 };
@@ -28,14 +29,15 @@ use std::rt::{Env, Files};
 use std::sync::Wait;
 use std::thread::Threads;
 use tn_command::{
-    Expectation, FAULT, InFormat, LastError, REFUSED, Source, Start, WorkersRun, arguments,
-    escape_controls, output_of, perform, picks_of, report, tell_fault, test_spec,
+    Command, Expectation, FAULT, InFormat, LastError, OutputForm, REFUSED, Source, Start,
+    WithinBytes, WorkersRun, arguments, escape_controls, output_of, perform, picks_of, report,
+    tell_fault, test_spec,
 };
 use tn_explain::{ExplainRequest, Filter, RunAndNote};
 use tn_formats::Format;
 use tn_moves::{DrawByMoves, ExplainByMoves, Moves, RunByMoves};
 use tn_picture::{DrawRequest, PictureFormat};
-use tn_run::{RunFault, Schedule, Workers, write_output};
+use tn_run::{DirectJob, RunFault, Schedule, Workers, write_output};
 use tn_text::Watched;
 use tn_verdict::SpecTestInput;
 
@@ -44,19 +46,22 @@ use tn_verdict::SpecTestInput;
 enum Task<'a> {
     /// The run's output is printed, and its note where there is one, unless nothing is asked for on standard error.
     Replay(PrintArgs),
-    /// The run is explained, in a format: the session and the move that are asked for.
+    /// The run is explained, in a form: the session and the move that are asked for.
     Explain {
         filter: Filter<'a>,
-        format: Option<Format>,
+        form: OutputForm,
     },
-    /// The run is drawn.
-    Draw(PictureFormat),
+    /// The run is drawn, in so many bytes at most.
+    Draw {
+        picture: PictureFormat,
+        most: usize,
+    },
 }
 
-/// What is printed of a run: in which format, and whether notes are printed on standard error.
+/// What is printed of a run: in which form, and whether notes are printed on standard error.
 #[derive(Clone, Copy)]
 struct PrintArgs {
-    format: Option<Format>,
+    form: OutputForm,
     quiet: bool,
 }
 
@@ -65,6 +70,21 @@ struct PrintArgs {
 enum TextKind {
     Picks,
     Moves,
+}
+
+/// Does a job with the script, whose output is written in a form.
+fn perform_in<R: Input + Files + Print + Eprint + AllocGlobal, J: Command + DirectJob<Global>>(
+    rt: &R,
+    script: Source<'_>,
+    job: &J,
+    form: OutputForm,
+    expectation: &Expectation<'_>,
+) -> ExitCode
+    ensures { IsStatus (exit_status result) }
+{
+    let OutputForm { format, most } = form;
+    let job = &InFormat { job, format };
+    perform(rt, script, &WithinBytes { job, most }, expectation)
 }
 
 /// Runs the script by a schedule, with the note of what a running node does otherwise, or without.
@@ -77,13 +97,12 @@ fn run_schedule<R: Input + Files + Print + Eprint + AllocGlobal>(
 ) -> ExitCode
     ensures { IsStatus (exit_status result) }
 {
-    let PrintArgs { format, quiet } = print_args;
+    let PrintArgs { form, quiet } = print_args;
     if quiet && !expectation.strict {
-        let job = &schedule;
-        perform(rt, script, &InFormat { job, format }, expectation)
+        perform_in(rt, script, &schedule, form, expectation)
     } else {
         let job = &RunAndNote { schedule, quiet };
-        perform(rt, script, &InFormat { job, format }, expectation)
+        perform_in(rt, script, job, form, expectation)
     }
 }
 
@@ -101,11 +120,17 @@ fn run_task<R: Input + Files + Print + Eprint + AllocGlobal>(
         Task::Replay(print_args) => {
             run_schedule(rt, script, Schedule::Picks(picks), print_args, expectation)
         }
-        Task::Explain { filter, format } => {
+        Task::Explain { filter, form } => {
             let job = &ExplainRequest { picks, filter };
-            perform(rt, script, &InFormat { job, format }, expectation)
+            perform_in(rt, script, job, form, expectation)
         }
-        Task::Draw(format) => perform(rt, script, &DrawRequest { picks, format }, expectation),
+        Task::Draw { picture, most } => {
+            let job = &DrawRequest {
+                picks,
+                format: picture,
+            };
+            perform(rt, script, &WithinBytes { job, most }, expectation)
+        }
     }
 }
 
@@ -120,16 +145,22 @@ fn run_moves<R: Input + Files + Print + Eprint + AllocGlobal>(
     ensures { IsStatus (exit_status result) }
 {
     match task {
-        Task::Replay(PrintArgs { format, quiet }) => {
+        Task::Replay(PrintArgs { form, quiet }) => {
             let has_note = !quiet;
             let job = &RunByMoves { moves, has_note };
-            perform(rt, script, &InFormat { job, format }, expectation)
+            perform_in(rt, script, job, form, expectation)
         }
-        Task::Explain { filter, format } => {
+        Task::Explain { filter, form } => {
             let job = &ExplainByMoves { moves, filter };
-            perform(rt, script, &InFormat { job, format }, expectation)
+            perform_in(rt, script, job, form, expectation)
         }
-        Task::Draw(format) => perform(rt, script, &DrawByMoves { moves, format }, expectation),
+        Task::Draw { picture, most } => {
+            let job = &DrawByMoves {
+                moves,
+                format: picture,
+            };
+            perform(rt, script, &WithinBytes { job, most }, expectation)
+        }
     }
 }
 
@@ -301,11 +332,11 @@ fn run_spec<R: Input + Files + Print + Eprint + AllocGlobal>(
     }
 }
 
-/// Does what is asked for, in a format, whose output must be what is expected.
+/// Does what is asked for, in a form, whose output must be what is expected.
 fn run_so<R: Input + Files + Print + Eprint + AllocGlobal + Threads + Wait + Sync>(
     rt: &R,
     ask: Request<'_>,
-    format: Option<Format>,
+    form: OutputForm,
     expectation: &Expectation<'_>,
 ) -> ExitCode
     ensures { IsStatus (exit_status result) }
@@ -317,7 +348,7 @@ fn run_so<R: Input + Files + Print + Eprint + AllocGlobal + Threads + Wait + Syn
             quiet,
             ..
         } => {
-            let task = Task::Replay(PrintArgs { format, quiet });
+            let task = Task::Replay(PrintArgs { form, quiet });
             run_by_picks(rt, task, script, picks, expectation)
         }
         Request::Explain {
@@ -325,19 +356,16 @@ fn run_so<R: Input + Files + Print + Eprint + AllocGlobal + Threads + Wait + Syn
             run,
             filter,
             ..
-        } => run_explain(
-            rt,
-            script,
-            run,
-            Task::Explain { filter, format },
-            expectation,
-        ),
+        } => run_explain(rt, script, run, Task::Explain { filter, form }, expectation),
         Request::Draw {
             script,
             picks,
-            format,
+            format: picture,
             ..
-        } => run_by_picks(rt, Task::Draw(format), script, picks, expectation),
+        } => {
+            let most = form.most;
+            run_by_picks(rt, Task::Draw { picture, most }, script, picks, expectation)
+        }
         Request::Round {
             script,
             limit,
@@ -345,7 +373,7 @@ fn run_so<R: Input + Files + Print + Eprint + AllocGlobal + Threads + Wait + Syn
             quiet,
             ..
         } => {
-            let print_args = PrintArgs { format, quiet };
+            let print_args = PrintArgs { form, quiet };
             if control_first {
                 let moves = Moves::ControlFirst(limit);
                 return run_moves(rt, Task::Replay(print_args), script, moves, expectation);
@@ -362,20 +390,20 @@ fn run_so<R: Input + Files + Print + Eprint + AllocGlobal + Threads + Wait + Syn
         } => {
             let job = WorkersRun {
                 has_note: !quiet,
-                format,
+                form,
                 expectation,
             };
             run_workers(rt, script, count, turns, spread, &job)
         }
-        Request::Spec(trial) => run_spec(rt, &trial, format),
+        Request::Spec(trial) => run_spec(rt, &trial, form.format),
     }
 }
 
-/// Does what is asked for, in a format. The file that has the output that is expected is read first.
+/// Does what is asked for, in a form. The file that has the output that is expected is read first.
 fn run_request<R: Input + Files + Print + Eprint + AllocGlobal + Threads + Wait + Sync>(
     rt: &R,
     ask: Request<'_>,
-    format: Option<Format>,
+    form: OutputForm,
 ) -> ExitCode
     ensures { IsStatus (exit_status result) }
 {
@@ -395,7 +423,7 @@ fn run_request<R: Input + Files + Print + Eprint + AllocGlobal + Threads + Wait 
         no_line: no_line.map(|text| text.as_bytes()),
         strict,
     };
-    run_so(rt, ask, format, &expectation)
+    run_so(rt, ask, form, &expectation)
 }
 
 /// Says that a value is no number, as other wrong values are refused.
@@ -424,8 +452,15 @@ fn run_command<R: Input + Files + Print + Eprint + AllocGlobal + Threads + Wait 
 ) -> ExitCode
     ensures { IsStatus (exit_status result) }
 {
+    let form = match most_of(matches) {
+        Ok(most) => OutputForm {
+            format: format_of(matches),
+            most,
+        },
+        Err(bad) => return refuse_number(rt, bad),
+    };
     match request_of(matches) {
-        Ok(Some(ask)) => run_request(rt, ask, format_of(matches)),
+        Ok(Some(ask)) => run_request(rt, ask, form),
         Ok(None) => ExitCode::from(REFUSED),
         Err(bad) => refuse_number(rt, bad),
     }
@@ -471,7 +506,7 @@ fn refuse_plain<R: Print + Eprint + AllocGlobal>(
 ) -> ExitCode
     ensures { IsStatus (exit_status result) }
 {
-    let Ok(command) = command(rt.alloc()) else {
+    let Ok(command) = line::command(rt.alloc()) else {
         return report(rt, RunFault::OutOfMemory);
     };
     match command.try_get_matches_from(words) {
@@ -505,7 +540,7 @@ fn program<R: Env + Input + Files + Print + Eprint + AllocGlobal + Threads + Wai
 ) -> ExitCode
     ensures { IsStatus (exit_status result) }
 {
-    let Ok(command) = command(rt.alloc()) else {
+    let Ok(command) = line::command(rt.alloc()) else {
         return report(rt, RunFault::OutOfMemory);
     };
     match command.try_get_matches_from(words) {

@@ -157,7 +157,7 @@ fn not_number<'a>(option: &'static str, text: &'a str) -> BadNumber<'a>
 }
 
 /// The number of an option, within its bounds.
-fn number<'a>(
+pub(crate) fn number<'a>(
     args: &ArgMatches<'a>,
     id: &str,
     option: &'static str,

@@ -1,6 +1,6 @@
 mod NumberLemmas
 mod StatusLemmas
-mod FormatLemmas
+mod FormLemmas
 mod SpecNotes
 mod SpecNoteRows
 mod SpecNoteTerms

@@ -1,7 +1,7 @@
 pub mod Ends
 pub mod Expectations
 pub mod Flaws
-pub mod JobFormats
+pub mod JobForms
 pub mod Numbers
 pub mod PickTexts
 pub mod Sources

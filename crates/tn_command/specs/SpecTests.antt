@@ -11,7 +11,7 @@ use Rattle.tn_verdict.specs.declared.spec_test_input.SpecTestFault.{SpecTestFaul
 use Rattle.tn_verdict.specs.declared.spec_test_input.SpecTestFault.TheVariants.{OutOfMemory}
 use Rattle.tn_formats.specs.declared.format.Format.{Format}
 use Rattle.tn_run.specs.Ends.{WroteAll, WroteFront}
-use Rattle.tn_command.specs.JobFormats.{IsTextIn}
+use Rattle.tn_command.specs.JobForms.{IsTextIn}
 use Rattle.tn_command.specs.Status.{LISTED_STATUS, REFUSED_STATUS, FAULT_STATUS}
 use Rattle.tn_command.specs.declared.spec_test.SpecTestRunFault.{SpecTestRunFault}
 use Rattle.tn_command.specs.declared.spec_test.SpecTestRunFault.TheVariants as faults

@@ -1,6 +1,6 @@
 // A job whose output is written in a format.
 ghost use Rattle.std.specs.Prelude.{◌≡◌, IfOk};
-ghost use Rattle.tn_command.specs.JobFormats.{text_in_format};
+ghost use Rattle.tn_command.specs.JobForms.{text_in_format};
 
 use crate::command::Command;
 use crate::stderr::NamedText;
@@ -32,7 +32,7 @@ pub(crate) fn text_in_format<A: Allocator>(
 }
 
 impl<A: Allocator + Copy, J: Job<A>> Job<A> for InFormat<'_, J> {
-    ghost use Rattle.tn_command.specs.JobFormats.{job_in};
+    ghost use Rattle.tn_command.specs.JobForms.{job_in};
 
     type Outcome = J::Outcome;
 

@@ -6,7 +6,8 @@
 //! for, 2 for a refusal and 3 for a fault, and that what was written is what the status says; so it is with an
 //! explained run, a run that is drawn and the trial of one specification. Promises of an output that is held
 //! against an expectation that the status is 1 where it would be 0 and the output doesn't meet it, and else what it
-//! would be. Promises of a job in a format that it writes the text in that format of what the job writes. Promises
+//! would be. Promises of a job in a format that it writes the text in that format of what the job writes, and of a job
+//! within a bound that it writes an output of at most so many bytes, and else nothing. Promises
 //! of a text of picks that it is what the reader holds, without a line feed at its end. A refusal or a fault has one
 //! line on standard error: how the text can be fixed, or what failed. A pipe that was closed has none. So has a run
 //! that a running node is known to do otherwise: at how many of its moves; and each of its commands that is refused
@@ -27,6 +28,8 @@ mod last_error;
 mod lists_as_calls;
 mod moves_line;
 mod number;
+mod output_fault;
+mod output_form;
 mod pick_notes;
 mod picks;
 mod plain_text;
@@ -39,9 +42,10 @@ mod start;
 mod status;
 mod stderr;
 mod tee;
+mod within_bytes;
 mod words;
 mod workers;
-mod workers_format;
+mod workers_form;
 
 pub use command::Command;
 pub use expectation::Expectation;
@@ -51,6 +55,8 @@ pub use jobs::{perform, perform_over};
 pub use last_error::LastError;
 pub use lists_as_calls::the_list_as_call_is_the_first;
 pub use number::plain_number;
+pub use output_fault::OutputFault;
+pub use output_form::{MAX_OUTPUT, OutputForm};
 pub use picks::{picks_of, picks_over};
 pub use plain_text::escape_controls;
 pub use source::{Source, source_of};
@@ -60,6 +66,7 @@ pub use spec_test::{SpecTestRunFault, test_spec, test_spec_over};
 pub use start::Start;
 pub use status::{FAULT, JobEnd, REFUSED, UNMET, report};
 pub use stderr::{NamedText, tell_fault};
+pub use within_bytes::WithinBytes;
 pub use words::arguments;
 pub use workers::{WorkersRun, run_workers, run_workers_over};
-pub use workers_format::run_workers_in_format_over;
+pub use workers_form::run_workers_in_form_over;

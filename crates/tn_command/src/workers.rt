@@ -10,12 +10,14 @@ use crate::command::{Command, has_flaw};
 use crate::expectation::Expectation;
 use crate::jobs::{INPUT, print_end, print_judgement, script_of, write_error};
 use crate::last_error::LastError;
+use crate::output_fault::OutputFault;
+use crate::output_form::OutputForm;
 use crate::remarks::{tell_empty_script, tell_remarks};
 use crate::source::{Source, open};
 use crate::status::{JobEnd, job_status};
 use crate::stderr::{NamedText, tell_note, tell_refusal};
 use crate::tee::Tee;
-use crate::workers_format::run_workers_in_format_over;
+use crate::workers_form::run_workers_in_form_over;
 use std::alloc::Global;
 use std::io;
 use std::io::{Read, Write};
@@ -25,7 +27,6 @@ use std::rt::Files;
 use std::sync::Wait;
 use std::thread::Threads;
 use tn_explain::text_note;
-use tn_formats::Format;
 use tn_listing::PicksFault;
 use tn_pool::Gate;
 use tn_run::{Denial, Job, LiveFault, LiveRun, Outcome, Ran, Refusal, RunFault, Workers, run_live};
@@ -51,23 +52,24 @@ pub fn run_workers_over<T: Threads + Wait + Sync, R: Read, W: Write, G: Gate>(
     JobEnd { status, answer }
 }
 
-/// A run by workers: in which format its output is, what that must be, and whether its note is printed, at how many
+/// A run by workers: in which form its output is, what that must be, and whether its note is printed, at how many
 /// moves a running node does otherwise.
 #[derive(Clone, Copy)]
 pub struct WorkersRun<'a> {
     pub has_note: bool,
-    pub format: Option<Format>,
+    pub form: OutputForm,
     pub expectation: &'a Expectation<'a>,
 }
 
 impl Job<Global> for WorkersRun<'_> {
     ghost use Rattle.tn_run.specs.Answers.{live_run};
+    ghost use Rattle.tn_command.specs.JobForms.{job_in_form};
 
     type Outcome = Ran;
 
-    type Fault = LiveFault;
+    type Fault = OutputFault<LiveFault>;
 
-    ghost view = { λ job. live_run };
+    ghost view = { λ job. job_in_form job.form live_run };
 
     ghost takes = { λ job picks. Unit {0} };
 
@@ -83,8 +85,8 @@ impl Job<Global> for WorkersRun<'_> {
         LiveRun.succeeds(outcome)
     }
 
-    fn fault_of(&self, fault: RunFault) -> LiveFault {
-        LiveRun.fault_of(fault)
+    fn fault_of(&self, fault: RunFault) -> OutputFault<LiveFault> {
+        OutputFault::Job(LiveRun.fault_of(fault))
     }
 }
 
@@ -115,24 +117,6 @@ impl Command for WorkersRun<'_> {
     }
 }
 
-/// Runs the script that a reader holds by workers, and writes the output in a format, where one is given.
-fn run_over<T: Threads + Wait + Sync, R: Read, W: Write, G: Gate>(
-    rt: &T,
-    alloc: Global,
-    reader: &mut Watched<R>,
-    writer: &mut Watched<W>,
-    workers: &Workers<'_, G>,
-    format: Option<Format>,
-) -> JobEnd<Ran, LiveFault>
-    requires { IsWorkerCount workers.now.count }
-    ensures { IsStatus (exit_status result.status) }
-{
-    match format {
-        None => run_workers_over(rt, alloc, reader, writer, workers),
-        Some(format) => run_workers_in_format_over(rt, alloc, reader, writer, workers, format),
-    }
-}
-
 /// Runs the script that a reader with this name holds by workers, and writes to standard output.
 fn print_run<R: Print + Eprint + AllocGlobal + Threads + Wait + Sync, S: Read + Drop, G: Gate>(
     rt: &R,
@@ -148,13 +132,13 @@ fn print_run<R: Print + Eprint + AllocGlobal + Threads + Wait + Sync, S: Read + 
     if job.expectation.is_none() {
         let mut writer = Watched::of(LastError::of(io::writer(rt)));
         let script_reader = &mut script.reader;
-        let end = run_over(
+        let end = run_workers_in_form_over(
             rt,
             rt.alloc(),
             script_reader,
             &mut writer,
             workers,
-            job.format,
+            job.form,
         );
         return print_end(
             rt,
@@ -167,13 +151,13 @@ fn print_run<R: Print + Eprint + AllocGlobal + Threads + Wait + Sync, S: Read + 
     }
     let mut writer = Watched::of(LastError::of(Tee::of(rt.alloc(), io::writer(rt))));
     let script_reader = &mut script.reader;
-    let end = run_over(
+    let end = run_workers_in_form_over(
         rt,
         rt.alloc(),
         script_reader,
         &mut writer,
         workers,
-        job.format,
+        job.form,
     );
     print_judgement(rt, job, end, script, writer, job.expectation)
 }

@@ -14,7 +14,9 @@ ghost use Rattle.tn_plain.specs.Words.{IsLimit, spelled_number, AsksFor, AsksNot
 
 use std::process::ExitCode;
 use std::rt::{Env, Files};
-use tn_command::{Expectation, REFUSED, Source, arguments, perform, plain_number};
+use tn_command::{
+    Expectation, MAX_OUTPUT, REFUSED, Source, WithinBytes, arguments, perform, plain_number,
+};
 use tn_explain::RunAndNote;
 use tn_run::Schedule;
 use tn_trace::JOURNAL;
@@ -63,15 +65,15 @@ fn start<R: Env + Input + Files + Print + Eprint + AllocGlobal>(rt: &R) -> ExitC
         Err(status) => return status,
     };
     match schedule(&words) {
-        Some(schedule) => perform(
-            rt,
-            Source::Input,
-            &RunAndNote {
+        Some(schedule) => {
+            let job = &RunAndNote {
                 schedule,
                 quiet: false,
-            },
-            &Expectation::NONE,
-        ),
+            };
+            let most = MAX_OUTPUT;
+            let within = &WithinBytes { job, most };
+            perform(rt, Source::Input, within, &Expectation::NONE)
+        }
         None => {
             let _ = rt.eprintln("error: the words are replay --picks TEXT, or round [--limit N]");
             ExitCode::from(REFUSED)

@@ -1,0 +1,124 @@
+"""Cases of outputs that are longer than they may be, and of runs that need more memory than the shell lets them have."""
+from format_cases import SEND_HI_JSON, SEND_HI_MOVE, SEND_HI_SUMMARY
+from harness import EMPTY, NO_FORMS, PROGRAM, SEND_HI, SEND_HI_OUTPUT, SEND_HI_PICKS, check, run, wants
+
+QUIET = [*SEND_HI_PICKS, "--quiet"]
+EXPLAIN = ["explain", "--picks", "0 0 100 100"]
+DRAW = ["draw", "--picks", "0 0 100 100"]
+
+# Command lines whose outputs are worked out by hand.
+KNOWN = (
+    (QUIET, SEND_HI_OUTPUT),
+    (["replay", "--moves", "0! 100*2", "--quiet"], SEND_HI_OUTPUT),
+    ([*QUIET, "--strict"], SEND_HI_OUTPUT),
+    ([*QUIET, "--summary"], SEND_HI_SUMMARY),
+    ([*QUIET, "--json"], SEND_HI_JSON),
+    ([*EXPLAIN, "--move", "4", "--json"], SEND_HI_MOVE),
+)
+
+# Command lines of which the length of the output is that of the output without a bound.
+OTHERS = (
+    ["round", "--quiet"],
+    ["round", "--control", "first", "--quiet"],
+    ["round", "--quiet", "--json"],
+    ["workers", "--n", "1", "--quiet"],
+    ["workers", "--n", "1", "--quiet", "--summary"],
+    ["workers", "--n", "1", "--quiet", "--json"],
+    EXPLAIN,
+    [*EXPLAIN, "--json"],
+    ["explain", "--moves", "0! 100*2"],
+    ["explain", "--round"],
+    DRAW,
+    [*DRAW, "--text"],
+    ["draw", "--moves", "0! 100*2"],
+    ["draw", "--moves", "0! 100*2", "--text"],
+)
+
+COMMANDS = (SEND_HI_PICKS, ["round"], ["workers", "--n", "1"], EXPLAIN, DRAW)
+
+
+def fault_of(length, most):
+    """The line of an output of this length that may have so many bytes."""
+    return b"fault output: the output has %d bytes, and --max-output is %d\n" % (length, most)
+
+
+def bounds():
+    """An output that is as long as it may be is written, and one that is a byte longer is a fault."""
+    known = [(words, run(words, SEND_HI).stdout) for words in OTHERS]
+    for words, output in (*KNOWN, *known):
+        name, length = " ".join(words), len(output)
+        check(f"the output of {name}", length > 100, output)
+        for most in (length, length + 1, 4294967295):
+            wants(f"{name} in {most} bytes", run([*words, "--max-output", str(most)], SEND_HI), 0, output, b"")
+        for most in (length - 1, 1):
+            ran = run([*words, "--max-output", str(most)], SEND_HI)
+            wants(f"{name} in {most} bytes", ran, 3, b"", fault_of(length, most))
+    wants("an empty output as a fault", run(["replay", "--picks", "", "--max-output", "22"]), 3, b"", fault_of(len(EMPTY), 22))
+    wants("an empty output", run(["replay", "--picks", "", "--max-output", "23"]), 0, EMPTY, NO_FORMS)
+    held = [*QUIET, "--max-output", "112", "--expect-line", "hi"]
+    wants("a fault, whatever is expected", run(held, SEND_HI), 3, b"", fault_of(113, 112))
+
+
+def refusals_in_bounds():
+    """The line of a refusal is written whatever the bound; what has no output has none that is too long."""
+    for words in COMMANDS:
+        plain, ran = run(words, b"["), run([*words, "--max-output", "1"], b"[")
+        seen = (ran.returncode, ran.stdout, ran.stderr)
+        check(f"{words[0]} refused in one byte", seen == (2, b"refused 2 token at 1\n", plain.stderr), ran)
+    ran = run(["replay", "--picks", "x", "--max-output", "1"], SEND_HI)
+    wants("bad picks in one byte", ran, 2, b"refused 20 bad picks\n")
+    ran = run([*EXPLAIN, "--move", "9", "--max-output", "1"], SEND_HI)
+    wants("no such move in one byte", ran, 2, b"", b"error: the run has no move 9\n")
+
+
+def bad_bounds():
+    """Bounds that are no numbers from 1 to 4294967295 are refused as other bad numbers are."""
+    for words in COMMANDS:
+        for text in ("0", "-1", "4294967296", "ten", "1G", "1 0", "+5", ""):
+            ran = run([*words, "--max-output", text], SEND_HI)
+            check(f"{words[0]} in {text!r} bytes", ran.returncode == 2 and not ran.stdout and ran.stderr, ran)
+        for more in (["--max-output"], ["--max-output", "9", "--max-output", "9"]):
+            ran = run([*words, *more], SEND_HI)
+            check(f"{words[0]} with {more}", ran.returncode == 2 and not ran.stdout and ran.stderr, ran)
+    ran = run(["spec", "--list", "[]", "--max-output", "9", "[]"])
+    check("a test of a match specification with a bound", ran.returncode == 2 and not ran.stdout and ran.stderr, ran)
+
+
+# A list of 4,096 atoms, 60 sends of a tuple of eight such lists, and 16 sessions that report them.
+SESSIONS, SENDS = range(1, 17), 60
+LETTERS = f"[{','.join(['a'] * 4096)}]"
+MESSAGE = f"{{{','.join([LETTERS] * 8)}}}"
+STEP = "{send,'To',{%s}}" % ",".join(["'X'"] * 8)
+SET = ",".join(f"{{session_create,s{n},t{n},[]}},{{process,s{n},<0.100.0>,true,[send]}}" for n in SESSIONS)
+LARGE = f"""{{function,m,go,exported,['To','X'],[{','.join([STEP] * SENDS)}]}}.
+{{function,m,rest,exported,[],[{{'receive','_'}}]}}.
+{{process,m,go,[<0.101.0>,{LETTERS}]}}.
+{{process,m,rest,[]}}.
+{{control,[{SET}]}}.
+""".encode()
+LARGE_MOVES = f"0*{2 * len(SESSIONS)} 100*{SENDS}"
+
+
+def large_output():
+    """The output of that run."""
+    line = f"{{trace,<0.100.0>,send,{MESSAGE},<0.101.0>}}\n"
+    listings = "".join(f"== session s{n} tracer t{n}\n" + line * SENDS for n in SESSIONS)
+    replies = "".join(f"{{session,s{n}}}\n1\n" for n in SESSIONS)
+    picks = " ".join(["0"] * (2 * len(SESSIONS)) + ["100"] * SENDS)
+    return f"{listings}== replies\n{replies}== journal\n{picks}\n".encode()
+
+
+def little_memory():
+    """A run that needs more memory than the shell lets it have is a fault, and nothing is written."""
+    limited = ("sh", "-c", 'ulimit -v 40000 && exec "$0" "$@"', str(PROGRAM))
+    output = large_output()
+    check("a large output", len(output) > 60_000_000, len(output))
+    moves = ["--moves", LARGE_MOVES]
+    words = ["replay", *moves, "--quiet"]
+    ran = run(words, LARGE)
+    check("the large output", (ran.returncode, ran.stdout, ran.stderr) == (0, output, b""), (ran.returncode, ran.stderr))
+    ran = run([*words, "--max-output", "1000"], LARGE)
+    wants("the large output in 1000 bytes", ran, 3, b"", fault_of(len(output), 1000))
+    wants("a small output in little memory", run(QUIET, SEND_HI, command=limited), 0, SEND_HI_OUTPUT, b"")
+    for words in (words, ["round"], ["explain", *moves], ["draw", *moves]):
+        wants(f"{words[0]} in little memory", run(words, LARGE, command=limited), 3, b"", b"fault memory\n")
