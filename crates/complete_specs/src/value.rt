@@ -119,7 +119,7 @@ pub fn copy_into<'a, A: Allocator, B: Allocator + Copy>(
 }
 
 /// `tn_guard::lent_values` has one answer.
-pub fn lent<'a, A: Allocator + Copy>(
+pub fn lent_list<'a, A: Allocator + Copy>(
     alloc: A,
     one: &'a Vec<SharedTerm<A>, A>,
     other: &'a Vec<SharedTerm<A>, A>,

@@ -1,4 +1,4 @@
-// What is known of a send and of a receive before the session sees it, and of the values that a setting is evaluated on.
+// What is known of a send and of a receive before the session sees it, and what a setting makes of values.
 ghost use Rattle.std.specs.Prelude.{◌≡◌, IfOk};
 ghost use Rattle.tn_session.specs.Looks.{look_setting};
 ghost use Rattle.tn_text.specs.Writes.{Grows};

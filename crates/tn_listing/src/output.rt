@@ -2,7 +2,8 @@
 ghost use Rattle.std.specs.Prelude.{◌≡◌, IfOk};
 ghost use Rattle.def_run.specs.Listing.{program_output};
 ghost use Rattle.tn_program.specs.Views.{program_of};
-ghost use Rattle.tn_listing.specs.Outputs.{OnItsPicks, Outputs, AppendsListing, SaysTheRest, all_listings, output_of_round};
+ghost use Rattle.tn_listing.specs.Outputs.{OnItsPicks, Outputs, AppendsListing, SaysTheRest};
+ghost use Rattle.tn_listing.specs.Outputs.{all_listings, output_of_round};
 
 use crate::listing::put_header;
 use crate::picks::write_picks;

@@ -3,7 +3,7 @@
 //! Depends on tn_script and on the definitions of def_script and def_refusal. Promises that `program` answers exactly
 //! the program of forms that break no rule, or the first that does and the least rule that it breaks;
 //! that `breaking_item` is the step or command for which that form breaks it; that a copy is an equal program,
-//! that the functions of one more owner are the same, and that `same` is equality; its sessions are the creations of the control list in their order.
+//! that functions with one more owner are the same, that `same` is equality, and which sessions there are, in order.
 #![tactic(auto)]
 
 mod counts;

@@ -86,8 +86,8 @@ abbrev pub caller_seen : {A : Type 0} → Option (Bor (mfas.Mfa A)) → Option M
 caller_seen caller = option_map (λ m. mfa_seen m.now) caller
 
 -- what a specification is evaluated in, by this caller and on these values
-abbrev pub on_values : {A B : Type 0} → State A → ℕ → Option Mfa → List (Value B) → Context
-on_values s self_pid caller vs = context (state_seen s) self_pid (map value_seen vs) caller
+abbrev pub on_values : {A B : Type 0} → State A → ℕ → Option (Bor (mfas.Mfa A)) → List (Value B) → Context
+on_values s self_pid caller vs = context (state_seen s) self_pid (map value_seen vs) (caller_seen caller)
 
 -- the message of an event, by the last term that its effects give
 abbrev pub decision : {A B : Type 0} → Bool → Event A → Option (Term B) → Option Tree

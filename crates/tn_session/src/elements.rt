@@ -7,8 +7,8 @@ ghost use Rattle.def_node.specs.Event.{sent as send, called as call_event};
 ghost use Rattle.def_session.specs.Messages.{class_term, elements_of};
 ghost use Rattle.tn_term.specs.Views.{tree_of, mfa_seen};
 ghost use Rattle.tn_flags.specs.Views.{event_of, call_seen, class_of};
-ghost use Rattle.tn_session.specs.Messages.{first_three, trees, shared_trees, call_tree, exception_tree, last_seen, pair};
-ghost use Rattle.tn_session.specs.Messages.{elements_of_return, elements_of_raise, elements_with_call};
+ghost use Rattle.tn_session.specs.Messages.{first_three, trees, shared_trees, call_tree, exception_tree, last_seen};
+ghost use Rattle.tn_session.specs.Messages.{elements_of_return, elements_of_raise, elements_with_call, pair};
 
 use std::alloc::{AllocError, Allocator};
 use tn_flags::{Call, Class, Event};

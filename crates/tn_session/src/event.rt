@@ -1,7 +1,7 @@
 // What a session makes of an event.
 ghost use Rattle.std.specs.Prelude.{◌≡◌, Bool, if◌then◌else◌, List, [], IfOk, IfSome};
 ghost use Rattle.std.specs.Option.{option_map};
-ghost use Rattle.def_term.specs.Names as names;
+ghost use Rattle.def_term.specs.Names.{Mfa};
 ghost use Rattle.def_term.specs.Tree.{Tree};
 ghost use Rattle.def_script.specs.Program.{Class};
 ghost use Rattle.def_spec.specs.Expressions.{Effect as DefinedEffect};
@@ -16,7 +16,7 @@ ghost use Rattle.tn_session.specs.Views.{mark_kind_seen, state_seen};
 ghost use Rattle.tn_session.specs.EventSteps.{event_result, reported_as_term, event_step, live_event_step};
 ghost use Rattle.tn_session.specs.EventSteps.{event_step_by, alive_step, plain_finish};
 ghost use Rattle.tn_session.specs.EventSteps.{asks, effects_in, evaluation};
-ghost use Rattle.tn_session.specs.EventSteps.{evaluation_by, send_evaluation, caller_seen, on_values};
+ghost use Rattle.tn_session.specs.EventSteps.{evaluation_by, send_evaluation, on_values};
 ghost use Rattle.tn_session.specs.EventSteps.{message_in, decision};
 
 use crate::compiled_spec::CompiledSpec;
@@ -29,7 +29,7 @@ use tn_flags::{Call, Event, Flags, inherit_link, inherit_spawn};
 use tn_guard::{AtomConst, ListView, Value, lent_values};
 use tn_index::Setting;
 use tn_machine::{Context, Effect, Outcome};
-use tn_term::{Mfa, Term};
+use tn_term::Term;
 
 // ---- one event
 
@@ -236,11 +236,11 @@ impl<A: Allocator + Copy> State<A> {
         &'a self,
         setting: &Setting<CompiledSpec<A>>,
         self_pid: u32,
-        caller: Option<&'a Mfa<A>>,
+        caller: Option<&'a tn_term::Mfa<A>>,
         list: &'a [Value<'a, A>],
     ) -> Result<Option<Vec<Effect<A>, A>>, AllocError>
         ensures { IfOk result (λ r.
-            effects_in r ≡ evaluation_by setting.now (on_values self.now self_pid (caller_seen caller.entry) list.now)) }
+            effects_in r ≡ evaluation_by setting.now (on_values self.now self_pid caller.entry list.now)) }
     {
         let context = Context {
             list: ListView::Values(list),
@@ -275,7 +275,7 @@ impl<A: Allocator + Copy> State<A> {
 
     /// The effects of a return, where its frame is marked: none.
     fn evaluated_return(&self, pid: u32, depth: usize) -> Option<Vec<Effect<A>, A>>
-        ensures { (f : names.Mfa) (t : Tree) → effects_in result ≡ evaluation self.now (returned pid f t depth) }
+        ensures { (f : Mfa) (t : Tree) → effects_in result ≡ evaluation self.now (returned pid f t depth) }
     {
         let reported = self.flags_at(pid).call && self.is_marked(pid, depth);
         self.plainly(reported)
@@ -283,7 +283,7 @@ impl<A: Allocator + Copy> State<A> {
 
     /// The effects of an exception, where the frame that it leaves is marked for exceptions: none.
     fn evaluated_raise(&self, pid: u32, depth: usize) -> Option<Vec<Effect<A>, A>>
-        ensures { (f : names.Mfa) (c : Class) (t : Tree) → effects_in result ≡ evaluation self.now (raised pid f c t depth) }
+        ensures { (f : Mfa) (c : Class) (t : Tree) → effects_in result ≡ evaluation self.now (raised pid f c t depth) }
     {
         match self.mark_of(pid, depth) {
             Some(Kind::Exceptions) => self.plainly(self.flags_at(pid).call),
