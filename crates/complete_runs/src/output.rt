@@ -7,8 +7,8 @@ use std::alloc::{AllocError, Allocator};
 use tn_program::Program;
 use tn_trace::Transcript;
 
-/// `tn_listing::output` has one answer, of transcripts of the program's run by some picks.
-pub fn output<A: Allocator + Copy>(
+/// `tn_listing::transcript_output` has one answer, of transcripts of the program's run by some picks.
+pub fn transcript_output<A: Allocator + Copy>(
     alloc: A,
     one: Transcript<A>,
     other: Transcript<A>,
@@ -22,8 +22,8 @@ pub fn output<A: Allocator + Copy>(
     requires other { other ≡ transcript_of (program_of program.now) picks.now }
     ensures { IfOk result.0 (λ v. IfOk result.1 (λ w. v.items ≡ w.items)) }
 {
-    let first = tn_listing::output(alloc, one, program);
-    let second = tn_listing::output(alloc, other, program);
+    let first = tn_listing::transcript_output(alloc, one, program);
+    let second = tn_listing::transcript_output(alloc, other, program);
     (first, second)
 }
 

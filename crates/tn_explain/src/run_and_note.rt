@@ -11,7 +11,7 @@ use crate::remark_observer::program_has_remarks;
 use crate::reply_lines::has_reason_line;
 use crate::run_remarks::front_of_picks;
 use std::alloc::{AllocError, Allocator};
-use tn_listing::{PicksFault, output};
+use tn_listing::{PicksFault, transcript_output};
 use tn_program::Program;
 use tn_run::{DirectJob, Job, Refusal, RunFault, Schedule};
 use tn_trace::Transcript;
@@ -91,7 +91,7 @@ fn listing_and_notes<A: Allocator + Copy>(
 {
     let transcript = transcript_by(alloc, program, schedule, picks)?;
     let notes = notes_of(alloc, program, &transcript)?;
-    let text = output(alloc, transcript, program)?;
+    let text = transcript_output(alloc, transcript, program)?;
     Ok((RunEnd::Listed(notes), text))
 }
 

@@ -3,8 +3,8 @@
 //! Depends on tn_text (terms and atoms as text), tn_program and tn_trace, and on the definitions of
 //! def_run. Promises that a `Line` is its item's message as text with a line feed; that `listing_text`
 //! appends a session's header and its messages, a line each, and `lines_text` any terms so; that
-//! `read_picks` and `write_picks` are of the one text of a list of picks; and that `output`, `replay`
-//! and `round` give the defined output of a program.
+//! `read_picks` and `write_picks` are of the one text of a list of picks; and that `replay`, `round`
+//! and `transcript_output` give the defined output of a program.
 #![tactic(auto)]
 
 mod line;
@@ -15,5 +15,5 @@ mod undo;
 
 pub use line::{Line, line_of};
 pub use listing::{lines_text, listing_text};
-pub use output::{output, replay, round};
+pub use output::{replay, round, transcript_output};
 pub use picks::{PicksFault, read_picks, write_picks};

@@ -64,7 +64,7 @@ fn listing_bytes<A: Allocator + Copy>(transcript: &Transcript<A>, program: &Prog
 /// # Errors
 ///
 /// AllocError where memory was refused.
-pub fn output<A: Allocator + Copy>(
+pub fn transcript_output<A: Allocator + Copy>(
     alloc: A,
     transcript: Transcript<A>,
     program: &Program<A>,
@@ -95,7 +95,7 @@ pub fn replay<A: Allocator + Copy>(
     ensures { IfOk result (λ v. v.items ≡ program_output (program_of program.now) picks.now) }
 {
     let transcript = Transcript::of_picks(alloc, program, picks)?;
-    output(alloc, transcript, program)
+    transcript_output(alloc, transcript, program)
 }
 
 /// The output of a program for the picks of its round with this limit on the number of moves.
@@ -111,5 +111,5 @@ pub fn round<A: Allocator + Copy>(
     ensures { IfOk result (λ v. v.items ≡ output_of_round (program_of program.now) limit) }
 {
     let transcript = Transcript::of_round(alloc, program, limit)?;
-    output(alloc, transcript, program)
+    transcript_output(alloc, transcript, program)
 }
