@@ -10,8 +10,9 @@ use Rattle.def_session.specs.State.{MarkKind, Session}
 use Rattle.def_session.specs.Session.{context, mark_asked, effects_of, evaluated_by}
 use Rattle.def_explain.specs.Accounts.{Line, said, setting_lines}
 use Rattle.tn_term.specs.Views.{mfa_seen}
-use Rattle.tn_flags.specs.Views.{event_of}
+use Rattle.tn_flags.specs.Views.{call_seen, event_of}
 use Rattle.tn_flags.specs.declared.event.Event as flags
+use Rattle.tn_flags.specs.declared.event.Call.{Call}
 use Rattle.tn_guard.specs.Views.{value_seen}
 use Rattle.tn_guard.specs.declared.value.Value.{Value}
 use Rattle.tn_action.specs.Views.{context_seen}
@@ -84,6 +85,11 @@ EvaluatesBy lines g c old new r = GivesBySetting lines.name.now g (context_seen 
 -- the same of a setting on these values of a process
 abbrev pub AnswersOn : {A : Type 0} → Lines A → Setting → Look A → Actor A → List (Value A) → (old new : Vec ℕ A) → Evaluation → Type 0
 AnswersOn lines g look actor vs old new r = GivesBySetting lines.name.now g (context_on_values (look_seen look) actor vs) old.items new.items r
+
+-- the same of a setting on a call of a process
+abbrev pub AnswersCall : {A : Type 0} → Lines A → Setting → Look A → (self_pid : ℕ) → Call A → (old new : Vec ℕ A) → Evaluation → Type 0
+AnswersCall lines g look self_pid c old new r =
+    GivesBySetting lines.name.now g (context (look_seen look) self_pid (call_seen c).args (call_seen c).caller) old.items new.items r
 
 -- these lines were appended, and there are no effects, since the event isn't evaluated
 abbrev pub Refuses : {A : Type 0} → Lines A → List Line → (old new : Vec ℕ A) → Evaluation → Type 0

@@ -5,7 +5,8 @@ ghost use Rattle.def_explain.specs.ReasonTexts.{mfa_text};
 ghost use Rattle.tn_term.specs.Views.{mfa_seen};
 ghost use Rattle.tn_flags.specs.Views.{call_seen};
 ghost use Rattle.tn_text.specs.Writes.{Grows};
-ghost use Rattle.tn_explain.specs.Evaluations.{Evaluates, Refuses};
+ghost use Rattle.tn_session.specs.Looks.{look_setting};
+ghost use Rattle.tn_explain.specs.Evaluations.{Evaluates, AnswersCall, Refuses};
 ghost use Rattle.tn_explain.specs.LineParts.{uncovered_lines};
 
 use crate::actor::Actor;
@@ -14,7 +15,9 @@ use crate::line::{Lines, begin};
 use std::alloc::{AllocError, Allocator};
 use tn_flags::Call;
 use tn_guard::lent_values;
+use tn_index::Setting;
 use tn_session::{Look, NewestSetting};
+use tn_spec::Spec;
 use tn_term::{Mfa, Term};
 use tn_text::{write_atom, write_term};
 
@@ -59,10 +62,26 @@ impl<A: Allocator + Copy> Lines<'_, A> {
             let why = b"the setting is global, and the call doesn't name the module";
             return self.put_where(false, why, out);
         }
+        self.put_evaluation(newest.setting, look, pid, call, out)
+    }
+
+    /// Appends what a setting makes of a call.
+    fn put_evaluation<'a>(
+        &self,
+        setting: Setting<&'a Spec<A>>,
+        look: &Look<'a, A>,
+        pid: u32,
+        call: &'a Call<A>,
+        out: &mut Vec<u8, A>,
+    ) -> Result<Evaluation, AllocError>
+        ensures ok { IfOk result
+            (AnswersCall self.now (look_setting setting.entry) look.now pid call.now out.old out.new) }
+        ensures grows { Grows out.old.items out.new.items }
+    {
         let args = lent_values(self.alloc, &call.args)?;
         let caller = call.caller.as_ref();
         let actor = Actor { pid, caller };
-        self.put_values(newest.setting, look, actor, args.as_slice(), out)
+        self.put_values(setting, look, actor, args.as_slice(), out)
     }
 
     /// Appends that no command covers a function.

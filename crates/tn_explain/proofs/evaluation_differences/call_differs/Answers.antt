@@ -26,9 +26,9 @@ returns g c =
     let s = look_seen c.args.look.now in
     let k = call_seen c.args.call.now in
     let its = look_setting c.in-Some.newest.setting in
-    let here = context_of c.args.pid (map value_seen c.as_slice.result.now) (option_map (λ f. mfa_seen f.now) c.as_ref.result) s.alive s.flags in
+    let here = context_of c.args.pid (map value_seen c.as_slice.result.now) (option_map (λ f. mfa_seen f.now) c.as_ref-caller.result) s.alive s.flags in
     IfOk-weaker c.values_differ.result (λ b. b ≡ is_some_difference (setting_differences its here)) (DiffersAt c.args.look.now (called c.args.pid k))
     (λ b h. call_covered s c.args.pid k its c.in-Some.newest.local b here (sym (ap (option_map newest_seen) c.in-Some.is) ∙ c.newest.ensures) (sym c.concerns.ensures ∙ c.if-not-concerns.false)
     (ap (λ f. f call_flag) (sym c.flags_at.ensures) ∙ is_true c.flags_at.result.call c.if-not-flags_at.false)
-    (same_context c.args.pid _ k.args _ k.caller _ s.alive _ s.flags (ap (map value_seen) c.as_slice.ensures.value ∙ c.in_ok-args.ensures) (caller_lent c.as_ref.result c.args.call.now.caller c.as_ref.ensures.value) refl refl) h)
+    (same_context c.args.pid _ k.args _ k.caller _ s.alive _ s.flags (ap (map value_seen) c.as_slice.ensures.value ∙ c.in_ok-args.ensures) (caller_lent c.as_ref-caller.result c.args.call.now.caller c.as_ref-caller.ensures.value) refl refl) h)
     c.values_differ.ensures

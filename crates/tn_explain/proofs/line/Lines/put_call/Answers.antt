@@ -1,4 +1,4 @@
-use Rattle.std.proofs.Common.{◌∙◌, None, false, codes, map, refl, sym, ap}
+use Rattle.std.proofs.Common.{◌∙◌, None, false, codes, refl, sym, ap}
 use Rattle.std.proofs.lemmas.Result.{IfOk-weaker}
 use Rattle.std.specs.Option.{option_map}
 use Rattle.def_spec.specs.Flags.{call_flag}
@@ -7,13 +7,11 @@ use Rattle.def_session.specs.Settings.{setting_for}
 use Rattle.def_session.specs.Session.{context, evaluated_by}
 use Rattle.def_explain.specs.Causes.{of_named_calls}
 use Rattle.def_explain.specs.Accounts.{cause_lines}
-use Rattle.tn_term.specs.Views.{mfa_seen}
 use Rattle.tn_flags.specs.Views.{call_seen}
-use Rattle.tn_guard.specs.Views.{value_seen}
 use Rattle.tn_session.specs.Looks.{look_seen, look_setting, newest_seen}
 use Rattle.tn_explain.specs.Evaluations.{GivesLines, GivesWhere, GivesBySetting, GivesOf}
 use Rattle.tn_explain.specs.LineParts.{uncovered_lines}
-use Rattle.tn_explain.proofs.EarlierLines.{refused_so, unflagged_so, settled_so, same_context, context_of, uncovered, unnamed, covered, no_call, is_false, is_true, caller_lent}
+use Rattle.tn_explain.proofs.EarlierLines.{refused_so, unflagged_so, settled_so, uncovered, unnamed, covered, no_call, is_false, is_true}
 use Rattle.tn_explain.proofs.line.Lines.put_call.Goals as goal
 
 pub returns-then-not-flags_at-clause-ok : goal.returns-then-not-flags_at-clause-ok
@@ -63,12 +61,11 @@ returns-clause-ok g c =
     let k = call_seen c.args.call.now in
     let e = called c.args.pid k in
     let o = c.args.out.now.items in
-    let x = c.put_values.new.out.items in
+    let x = c.put_evaluation.new.out.items in
     let its = look_setting c.in-Some.newest.setting in
-    let here = context_of c.args.pid (map value_seen c.as_slice.result.now) (option_map (λ f. mfa_seen f.now) c.as_ref.result) s.alive s.flags in
-    IfOk-weaker c.put_values.result (GivesBySetting n its here o x) (GivesOf n s e o x)
-    (λ r h. settled_so n s e o x r its its here (context s c.args.pid k.args k.caller) refl
-    (same_context c.args.pid _ k.args _ k.caller _ s.alive _ s.flags (ap (map value_seen) c.as_slice.ensures.value ∙ c.in_ok-args.ensures) (caller_lent c.as_ref.result c.args.call.now.caller c.as_ref.ensures.value) refl refl)
+    let here = context s c.args.pid k.args k.caller in
+    IfOk-weaker c.put_evaluation.result (GivesBySetting n its here o x) (GivesOf n s e o x)
+    (λ r h. settled_so n s e o x r its its here here refl refl
     (covered s c.args.pid k its c.in-Some.newest.local (sym (ap (option_map newest_seen) c.in-Some.is) ∙ c.newest.ensures)
     (ap (λ f. f call_flag) (sym c.flags_at.ensures) ∙ is_true c.flags_at.result.call c.if-not-flags_at.false) (sym c.concerns.ensures ∙ c.if-not-concerns.false)) h)
-    c.put_values.ensures.ok
+    c.put_evaluation.ensures.ok
