@@ -96,7 +96,8 @@ LARGE = f"""{{function,m,go,exported,['To','X'],[{','.join([STEP] * SENDS)}]}}.
 {{process,m,rest,[]}}.
 {{control,[{SET}]}}.
 """.encode()
-LARGE_MOVES = f"0*{2 * len(SESSIONS)} 100*{SENDS}"
+# The first move of a process is its entry call.
+LARGE_MOVES = f"0*{2 * len(SESSIONS)} 100*{SENDS + 1}"
 
 
 def large_output():
@@ -104,7 +105,7 @@ def large_output():
     line = f"{{trace,<0.100.0>,send,{MESSAGE},<0.101.0>}}\n"
     listings = "".join(f"== session s{n} tracer t{n}\n" + line * SENDS for n in SESSIONS)
     replies = "".join(f"{{session,s{n}}}\n1\n" for n in SESSIONS)
-    picks = " ".join(["0"] * (2 * len(SESSIONS)) + ["100"] * SENDS)
+    picks = " ".join(["0"] * (2 * len(SESSIONS)) + ["100"] * (SENDS + 1))
     return f"{listings}== replies\n{replies}== journal\n{picks}\n".encode()
 
 
