@@ -40,8 +40,8 @@ pub fn put_flags<B: Allocator>(
 
 /// `tn_verdict::put_effects` has one answer but for what stands there after refused memory: that is a part of it.
 pub fn put_effects<A: Allocator, B: Allocator>(
-    effects: &[Effect<A>],
-    again: &[Effect<A>],
+    effects: &[Effect<'_, A>],
+    again: &[Effect<'_, A>],
     one: &mut Vec<u8, B>,
     other: &mut Vec<u8, B>,
 ) -> (Result<(), AllocError>, Result<(), AllocError>)

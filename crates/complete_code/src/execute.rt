@@ -13,12 +13,12 @@ pub fn execute<'a, A: Allocator + Copy>(
     alloc: A,
     code: &'a Code<A>,
     again: &'a Code<A>,
-    one: &Context<'a, A>,
-    other: &Context<'a, A>,
+    one: &Context<'a, '_, A>,
+    other: &Context<'a, '_, A>,
     arena: &'a Bump<A>,
 ) -> (
-    Result<Outcome<A>, AllocError>,
-    Result<Outcome<A>, AllocError>,
+    Result<Outcome<'a, A>, AllocError>,
+    Result<Outcome<'a, A>, AllocError>,
 )
     requires codes { code_seen code.now ≡ code_seen again.now }
     requires contexts { context_seen one.now ≡ context_seen other.now }

@@ -6,8 +6,7 @@ use std::alloc::{AllocError, Allocator};
 use tn_verdict::Reason;
 
 /// `tn_verdict::put_reason` has one answer but for what stands there after refused memory: that is a part of it.
-pub fn put_reason<A: Allocator, C: Allocator + Copy, B: Allocator>(
-    alloc: C,
+pub fn put_reason<A: Allocator, B: Allocator>(
     reason: Reason<'_, A>,
     again: Reason<'_, A>,
     one: &mut Vec<u8, B>,
@@ -17,7 +16,7 @@ pub fn put_reason<A: Allocator, C: Allocator + Copy, B: Allocator>(
     requires texts { one.old.items ≡ other.old.items }
     ensures { OnOk result.0 (OnOk result.1 (one.new.items ≡ other.new.items)) }
 {
-    let first = tn_verdict::put_reason(alloc, reason, one);
-    let second = tn_verdict::put_reason(alloc, again, other);
+    let first = tn_verdict::put_reason(reason, one);
+    let second = tn_verdict::put_reason(again, other);
     (first, second)
 }

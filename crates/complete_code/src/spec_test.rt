@@ -26,7 +26,7 @@ pub fn put_spec_test<A: Allocator + Copy, B: Allocator>(
     alloc: A,
     spec: &Spec<A>,
     again: &Spec<A>,
-    context: &Context<'_, A>,
+    context: &Context<'_, '_, A>,
     one: &mut Vec<u8, B>,
     other: &mut Vec<u8, B>,
 ) -> (Result<(), AllocError>, Result<(), AllocError>)

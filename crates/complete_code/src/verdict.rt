@@ -17,7 +17,7 @@ pub fn verdict<'a, A: Allocator + Copy>(
     dialect: Dialect,
     one: &'a Clause<A>,
     other: &'a Clause<A>,
-    context: &Context<'a, A>,
+    context: &Context<'a, '_, A>,
 ) -> (
     Result<Verdict<'a, A>, AllocError>,
     Result<Verdict<'a, A>, AllocError>,

@@ -17,8 +17,8 @@ pub fn perform<'a, A: Allocator + Copy>(
     one: &[Value<'a, A>],
     other: &[Value<'a, A>],
     scene: &EvalContext<'a, '_, A>,
-    before: &[Effect<A>],
-    again: &[Effect<A>],
+    before: &[Effect<'_, A>],
+    again: &[Effect<'_, A>],
 ) -> (
     Result<Option<ActionResult<'a, A>>, AllocError>,
     Result<Option<ActionResult<'a, A>>, AllocError>,
@@ -35,9 +35,9 @@ pub fn perform<'a, A: Allocator + Copy>(
 
 /// `tn_action::trace_on` has one answer.
 pub fn trace_on<'a, A: Allocator>(
-    context: &Context<'_, A>,
-    before: &[Effect<A>],
-    again: &[Effect<A>],
+    context: &Context<'_, '_, A>,
+    before: &[Effect<'_, A>],
+    again: &[Effect<'_, A>],
     process: Value<'_, A>,
     off: Value<'_, A>,
     on: Value<'_, A>,
@@ -53,8 +53,8 @@ pub fn trace_on<'a, A: Allocator>(
 
 /// `tn_action::Effect::apply_to` leaves one table.
 pub fn apply_to<A: Allocator, B: Allocator>(
-    effect: &Effect<A>,
-    again: &Effect<B>,
+    effect: &Effect<'_, A>,
+    again: &Effect<'_, B>,
     one: &mut FlagTable,
     other: &mut FlagTable,
     self_pid: u32,

@@ -1,5 +1,5 @@
 // Values, and the atoms that evaluation makes.
-ghost use Rattle.std.specs.Prelude.{◌≡◌, IfOk, map};
+ghost use Rattle.std.specs.Prelude.{◌≡◌, IfOk, OnOk, map};
 ghost use Rattle.std.specs.Option.{option_map};
 ghost use Rattle.tn_term.specs.SharedTree.{shared_tree};
 ghost use Rattle.tn_term.specs.Views.{tree_of};
@@ -39,6 +39,30 @@ pub fn is_true<'a, A: Allocator>(one: Value<'a, A>, other: Value<'a, A>) -> (boo
     ensures { result.0 ≡ result.1 }
 {
     (one.is_true(), other.is_true())
+}
+
+/// `tn_guard::Value::is_word` has one answer.
+pub fn is_word<'a, A: Allocator>(one: Value<'a, A>, other: Value<'a, A>, text: &str) -> (bool, bool)
+    requires { value_seen one ≡ value_seen other }
+    ensures { result.0 ≡ result.1 }
+{
+    (one.is_word(text), other.is_word(text))
+}
+
+/// `tn_guard::write_value` has one answer but for what stands there after refused memory: that is a part of it.
+pub fn write_value<'a, A: Allocator, B: Allocator>(
+    one: Value<'a, A>,
+    other: Value<'a, A>,
+    text: &mut Vec<u8, B>,
+    again: &mut Vec<u8, B>,
+) -> (Result<(), AllocError>, Result<(), AllocError>)
+    requires values { value_seen one ≡ value_seen other }
+    requires texts { text.old.items ≡ again.old.items }
+    ensures { OnOk result.0 (OnOk result.1 (text.new.items ≡ again.new.items)) }
+{
+    let first = tn_guard::write_value(one, text);
+    let second = tn_guard::write_value(other, again);
+    (first, second)
 }
 
 /// `tn_guard::Value::same` has one answer.

@@ -15,8 +15,8 @@ pub fn value<'a, A: Allocator + Copy>(
     expr: &'a Expr<A>,
     again: &'a Expr<A>,
     scene: &EvalContext<'a, '_, A>,
-    one: &mut Vec<Effect<A>, A>,
-    other: &mut Vec<Effect<A>, A>,
+    one: &mut Vec<Effect<'a, A>, A>,
+    other: &mut Vec<Effect<'a, A>, A>,
 ) -> (
     Result<Option<Value<'a, A>>, AllocError>,
     Result<Option<Value<'a, A>>, AllocError>,

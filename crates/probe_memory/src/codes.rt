@@ -7,11 +7,11 @@ use tn_action::{Context, Effect, Outcome};
 use tn_code::Code;
 use tn_compile::compile;
 use tn_flags::{FlagTable, Flags};
-use tn_guard::ListView;
+use tn_guard::{ListView, write_value};
 use tn_machine::execute;
 use tn_spec::{Dialect, SpecFault, spec_of};
 use tn_term::{Alive, Term};
-use tn_text::{TextFault, read_term, write_term};
+use tn_text::{TextFault, read_term};
 
 /// The process whose event it is.
 const OWN: u32 = 100;
@@ -83,11 +83,11 @@ fn say_flags<R: Print>(rt: &R, flags: Flags) {
 }
 
 /// Says one effect.
-fn say_effect<R: Print>(rt: &R, effect: &Effect<Global>, buffer: &mut Buffer) {
+fn say_effect<R: Print>(rt: &R, effect: &Effect<'_, Global>, buffer: &mut Buffer) {
     match effect {
-        Effect::Message(term) => {
+        Effect::Message(value) => {
             say(rt, "message");
-            let done = write_term(term, &mut buffer.text);
+            let done = write_value(*value, &mut buffer.text);
             buffer.print(rt, done);
             say(rt, "");
         }
@@ -106,7 +106,7 @@ fn say_effect<R: Print>(rt: &R, effect: &Effect<Global>, buffer: &mut Buffer) {
 /// Says an outcome; whether there is one.
 fn say_outcome<R: Print>(
     rt: &R,
-    outcome: Result<Outcome<Global>, AllocError>,
+    outcome: Result<Outcome<'_, Global>, AllocError>,
     buffer: &mut Buffer,
 ) -> bool {
     match outcome {

@@ -51,12 +51,12 @@ fn names(alloc: Global, flags: Flags) -> Result<Term<Global>, Fail> {
 }
 
 /// `{message,Term}`, `return_trace`, `exception_trace`, `{silent,Bool}` or `{change,Pid,Disabled,On}`.
-fn effect_term<A: Allocator>(alloc: Global, effect: &Effect<A>) -> Result<Term<Global>, Fail> {
+fn effect_term<A: Allocator>(alloc: Global, effect: &Effect<'_, A>) -> Result<Term<Global>, Fail> {
     let mut fields = Vec::new(alloc);
     match effect {
-        Effect::Message(term) => {
+        Effect::Message(value) => {
             fields.push(word(alloc, "message")?)?;
-            fields.push(term.copy_into(alloc)?)?;
+            fields.push(value.copy_into(alloc)?)?;
         }
         Effect::ReturnTrace => return word(alloc, "return_trace"),
         Effect::ExceptionTrace => return word(alloc, "exception_trace"),
@@ -75,7 +75,10 @@ fn effect_term<A: Allocator>(alloc: Global, effect: &Effect<A>) -> Result<Term<G
 }
 
 /// The list of the effects, or `no_match`.
-fn outcome_term<A: Allocator>(alloc: Global, outcome: &Outcome<A>) -> Result<Term<Global>, Fail> {
+fn outcome_term<A: Allocator>(
+    alloc: Global,
+    outcome: &Outcome<'_, A>,
+) -> Result<Term<Global>, Fail> {
     match outcome {
         Outcome::NoMatch => word(alloc, "no_match"),
         Outcome::Matched(effects) => {
@@ -105,13 +108,13 @@ pub fn own_call() -> Result<FlagTable, Fail> {
 
 /// What a specification is evaluated in, for the own process.
 fn context<'a>(
-    list: &'a [Term<Global>],
+    list: ListView<'a, Global>,
     caller: Option<&'a Mfa<Global>>,
     alive: &'a Alive,
     flags: &'a FlagTable,
-) -> Context<'a, Global> {
+) -> Context<'a, 'a, Global> {
     Context {
-        list: ListView::Terms(list),
+        list,
         self_pid: OWN,
         caller,
         alive,
@@ -128,36 +131,63 @@ pub enum Way {
 
 pub const WAYS: [Way; 2] = [Way::Plain, Way::Code];
 
-/// The outcome of the specification's code.
-fn outcome_by_code<A: Allocator + Copy>(
+/// The outcome of the specification by plain evaluation in this arena, as a term in another allocator.
+fn plain_outcome<'a, A: Allocator + Copy>(
     alloc: A,
-    spec: &Spec<A>,
-    context: &Context<'_, A>,
-) -> Result<Outcome<A>, AllocError> {
-    let code = compile(alloc, spec)?;
-    Ok(outcome_of_code(alloc, &code, context)?)
+    arena: &'a Bump<A>,
+    spec: &'a Spec<A>,
+    context: &Context<'a, '_, A>,
+    terms: Global,
+) -> Result<Term<Global>, Fail> {
+    let found = outcome(alloc, spec, context, arena)?;
+    outcome_term(terms, &found)
 }
 
-/// The outcome of the code.
+/// The same in an arena of its own.
+fn outcome_without_code<A: Allocator + Copy>(
+    alloc: A,
+    spec: &Spec<A>,
+    context: &Context<'_, '_, A>,
+    terms: Global,
+) -> Result<Term<Global>, Fail> {
+    let arena = Bump::new(alloc);
+    Ok(plain_outcome(alloc, &arena, spec, context, terms)?)
+}
+
+/// The outcome of the code in this arena, as a term in another allocator.
+fn code_outcome<'a, A: Allocator + Copy>(
+    alloc: A,
+    arena: &'a Bump<A>,
+    code: &'a Code<A>,
+    context: &Context<'a, '_, A>,
+    terms: Global,
+) -> Result<Term<Global>, Fail> {
+    let found = execute(alloc, code, context, arena)?;
+    outcome_term(terms, &found)
+}
+
+/// The same in an arena of its own.
 fn outcome_of_code<A: Allocator + Copy>(
     alloc: A,
     code: &Code<A>,
-    context: &Context<'_, A>,
-) -> Result<Outcome<A>, AllocError> {
+    context: &Context<'_, '_, A>,
+    terms: Global,
+) -> Result<Term<Global>, Fail> {
     let arena = Bump::new(alloc);
-    Ok(execute(alloc, code, context, &arena)?)
+    Ok(code_outcome(alloc, &arena, code, context, terms)?)
 }
 
-/// The outcome of the specification.
+/// The outcome of the specification, as a term in another allocator.
 pub fn outcome_by<A: Allocator + Copy>(
     way: Way,
     alloc: A,
     spec: &Spec<A>,
-    context: &Context<'_, A>,
-) -> Result<Outcome<A>, AllocError> {
+    context: &Context<'_, '_, A>,
+    terms: Global,
+) -> Result<Term<Global>, Fail> {
     match way {
-        Way::Plain => outcome(alloc, spec, context),
-        Way::Code => outcome_by_code(alloc, spec, context),
+        Way::Plain => outcome_without_code(alloc, spec, context, terms),
+        Way::Code => outcome_of_code(alloc, &compile(alloc, spec)?, context, terms),
     }
 }
 
@@ -165,12 +195,11 @@ pub fn outcome_by<A: Allocator + Copy>(
 fn is_outcome(
     alloc: Global,
     spec: &Spec<Global>,
-    context: &Context<'_, Global>,
+    context: &Context<'_, '_, Global>,
     wanted: &str,
 ) -> Result<bool, Fail> {
     for way in &WAYS {
-        let found = outcome_by(*way, alloc, spec, context)?;
-        let seen = outcome_term(alloc, &found)?;
+        let seen = outcome_by(*way, alloc, spec, context, alloc)?;
         if !is_text(alloc, &seen, wanted)? {
             return Ok(false);
         }
@@ -191,7 +220,7 @@ fn check_in(
     let list = elements(alloc, case.list)?;
     check_code(alloc, &spec)?;
     let flags = own_call()?;
-    let context = context(list.as_slice(), caller, alive, &flags);
+    let context = context(ListView::Terms(list.as_slice()), caller, alive, &flags);
     let is_wanted = is_outcome(alloc, &spec, &context, wanted)?;
     assert!(rt; is_wanted, "{} on {} isn't {wanted}", case.spec, case.list);
     Ok(())
@@ -820,7 +849,7 @@ fn the_last_of_many_clauses(rt: HostRuntime) -> Result<(), Fail> {
         ("[]", "no_match"),
     ] {
         let list = elements(alloc, list)?;
-        let context = context(list.as_slice(), None, &alive, &flags);
+        let context = context(ListView::Terms(list.as_slice()), None, &alive, &flags);
         assert!(rt; is_outcome(alloc, &spec, &context, wanted)?, "not {wanted}");
     }
     Ok(())
@@ -834,13 +863,10 @@ fn a_list_of_values(rt: HostRuntime) -> Result<(), Fail> {
     let spec = spec_of(alloc, &read_term(alloc, text)?, Dialect::Send)?;
     let message = read_term(alloc, b"{hi,[1]}")?;
     let one = [Value::Lent(&message)];
-    let context = Context {
-        list: ListView::Values(&[Value::Pid(101), Value::Lent(&message), Value::List(&one)]),
-        self_pid: OWN,
-        caller: None,
-        alive: &two_alive(),
-        flags: &own_call()?,
-    };
+    let values = [Value::Pid(101), Value::Lent(&message), Value::List(&one)];
+    let alive = two_alive();
+    let flags = own_call()?;
+    let context = context(ListView::Values(&values), None, &alive, &flags);
     let wanted = "[{message,[[{hi,[1]}],[1],[<0.101.0>,{hi,[1]},[{hi,[1]}]]]}]";
     assert!(rt; is_outcome(alloc, &spec, &context, wanted)?);
     Ok(())

@@ -4,7 +4,7 @@ use Rattle.std.specs.Option.{option_map}
 use Rattle.def_term.specs.Tree.{Tree}
 use Rattle.def_spec.specs.Expressions as ex
 use Rattle.def_spec.specs.Outcome as definition
-use Rattle.tn_term.specs.Views.{tree_of, mfa_seen, alive_of}
+use Rattle.tn_term.specs.Views.{mfa_seen, alive_of}
 use Rattle.tn_flags.specs.Views.{flags_of, table_of}
 use Rattle.tn_guard.specs.Views.{value_seen, parts_list}
 use Rattle.tn_action.specs.declared.context.Context.{Context}
@@ -18,7 +18,7 @@ abbrev pub context_seen : {A : Type 0} → Context A → ex.Context
 context_seen c = record { matched_list = parts_list c.list; self_pid = c.self_pid; caller_mfa = option_map (λ m. mfa_seen m.now) c.caller; alive = alive_of c.alive.now; flags = table_of c.flags.now }
 
 abbrev pub effect_seen : {A : Type 0} → Effect A → ex.Effect
-effect_seen (Message t) = ex.gives_message (tree_of t)
+effect_seen (Message v) = ex.gives_message (value_seen v)
 effect_seen ReturnTrace = ex.traces_return
 effect_seen ExceptionTrace = ex.traces_exception
 effect_seen (Silent b) = ex.silences b

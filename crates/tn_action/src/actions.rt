@@ -23,12 +23,11 @@ use tn_guard::Value;
 use tn_spec::{Action, Dialect};
 use tn_term::Alive;
 
-/// The value of an action, and its effect, where it has one. The value is lent or lies in the arena; the
-/// effect is a copy in the allocator for effects.
-#[derive(Drop)]
+/// The value of an action, and its effect, where it has one. Both values are lent or lie in the arena.
+#[derive_where(Clone, Copy)]
 pub struct ActionResult<'a, A: Allocator> {
     pub value: Value<'a, A>,
-    pub effect: Option<Effect<A>>,
+    pub effect: Option<Effect<'a, A>>,
 }
 
 /// The value of an action on its arguments' values after these effects, with its own effect; None is a
@@ -37,12 +36,12 @@ pub fn perform<'a, A: Allocator + Copy>(
     action: Action,
     args: &[Value<'a, A>],
     scene: &EvalContext<'a, '_, A>,
-    effects: &[Effect<A>],
+    effects: &[Effect<'_, A>],
 ) -> Result<Option<ActionResult<'a, A>>, AllocError>
     ensures { IfOk result (λ r. option_map result_seen r ≡ action_on_values scene.now action args.now effects.now) }
 {
     match action {
-        Action::Message => Ok(message(args, scene.alloc)?),
+        Action::Message => Ok(message(args)),
         Action::ReturnTrace => Ok(Some(mark_result(scene.dialect, Effect::ReturnTrace))),
         Action::ExceptionTrace => Ok(Some(mark_result(scene.dialect, Effect::ExceptionTrace))),
         Action::Silent => Ok(silent(args)),
@@ -57,8 +56,8 @@ pub fn perform<'a, A: Allocator + Copy>(
 }
 
 /// `true`, with this effect.
-fn effect_result<'a, A: Allocator>(effect: Option<Effect<A>>) -> ActionResult<'a, A>
-    ensures { result_seen result ≡ (word "true", effect_list effect) }
+fn effect_result<'a, A: Allocator>(effect: Option<Effect<'a, A>>) -> ActionResult<'a, A>
+    ensures { result_seen result ≡ (word "true", effect_list effect.entry) }
 {
     ActionResult {
         value: Value::truth(true),
@@ -67,22 +66,19 @@ fn effect_result<'a, A: Allocator>(effect: Option<Effect<A>>) -> ActionResult<'a
 }
 
 /// `message`
-fn message<'a, A: Allocator + Copy>(
-    args: &[Value<'a, A>],
-    alloc: A,
-) -> Result<Option<ActionResult<'a, A>>, AllocError>
-    ensures { IfOk result (λ r. IsActionDone ex.message args.now r) }
+fn message<'a, A: Allocator>(args: &[Value<'a, A>]) -> Option<ActionResult<'a, A>>
+    ensures { IsActionDone ex.message args.now result }
 {
-    if args.len() != 1 {
-        return Ok(None);
+    if args.len() == 1 {
+        Some(effect_result(Some(Effect::Message(args[0]))))
+    } else {
+        None
     }
-    let term = args[0].copy_into(alloc)?;
-    Ok(Some(effect_result(Some(Effect::Message(term)))))
 }
 
 /// `return_trace` and `exception_trace`, which have their effect in the dialect of calls alone.
-fn mark_result<'a, A: Allocator>(dialect: Dialect, effect: Effect<A>) -> ActionResult<'a, A>
-    ensures { result_seen result ≡ (word "true", ex.of_calls (dialect_of dialect) (effect_seen effect)) }
+fn mark_result<'a, A: Allocator>(dialect: Dialect, effect: Effect<'a, A>) -> ActionResult<'a, A>
+    ensures { result_seen result ≡ (word "true", ex.of_calls (dialect_of dialect) (effect_seen effect.entry)) }
 {
     match dialect {
         Dialect::Call => effect_result(Some(effect)),
@@ -102,7 +98,7 @@ fn silent<'a, A: Allocator>(args: &[Value<'a, A>]) -> Option<ActionResult<'a, A>
 }
 
 /// The effect of `silent` for this value.
-fn silence<'a, A: Allocator>(value: Value<'a, A>) -> Option<Effect<A>>
+fn silence<'a, A: Allocator>(value: Value<'a, A>) -> Option<Effect<'a, A>>
     ensures { effect_list result ≡ ex.silence (value_seen value.entry) }
 {
     if value.is_true() {
@@ -115,8 +111,8 @@ fn silence<'a, A: Allocator>(value: Value<'a, A>) -> Option<Effect<A>>
 }
 
 /// `true`, with this change; None where there is none.
-fn change_result<'a, A: Allocator>(change: Option<Effect<A>>) -> Option<ActionResult<'a, A>>
-    ensures { option_map result_seen result ≡ option_map (λ e. (word "true", effect_seen e ∷ [])) change }
+fn change_result<'a, A: Allocator>(change: Option<Effect<'a, A>>) -> Option<ActionResult<'a, A>>
+    ensures { option_map result_seen result ≡ option_map (λ e. (word "true", effect_seen e ∷ [])) change.entry }
 {
     match change {
         Some(effect) => Some(effect_result(Some(effect))),
@@ -125,11 +121,11 @@ fn change_result<'a, A: Allocator>(change: Option<Effect<A>>) -> Option<ActionRe
 }
 
 /// What `enable_trace` and `disable_trace` change: a flag of the own process, or of a living one.
-fn change<A: Allocator>(
+fn change<'a, A: Allocator>(
     on: bool,
     args: &[Value<'_, A>],
-    context: &Context<'_, A>,
-) -> Option<Effect<A>>
+    context: &Context<'_, '_, A>,
+) -> Option<Effect<'a, A>>
     ensures { change_seen result ≡ ex.change_by on (context_seen context.now) (map value_seen args.now) }
 {
     if args.len() == 1 {
@@ -142,23 +138,23 @@ fn change<A: Allocator>(
 }
 
 /// The change of a flag of the own process.
-fn change_own<A: Allocator>(
+fn change_own<'a, A: Allocator>(
     on: bool,
     flag: Value<'_, A>,
-    context: &Context<'_, A>,
-) -> Option<Effect<A>>
+    context: &Context<'_, '_, A>,
+) -> Option<Effect<'a, A>>
     ensures { change_seen result ≡ ex.change_by on (context_seen context.now) (value_seen flag.entry ∷ []) }
 {
     change_flag(on, living_pid(Some(context.self_pid), context.alive), flag)
 }
 
 /// The change of a flag of another process.
-fn change_other<A: Allocator>(
+fn change_other<'a, A: Allocator>(
     on: bool,
     process: Value<'_, A>,
     flag: Value<'_, A>,
-    context: &Context<'_, A>,
-) -> Option<Effect<A>>
+    context: &Context<'_, '_, A>,
+) -> Option<Effect<'a, A>>
     ensures { change_seen result ≡ ex.change_by on (context_seen context.now) (two_seen process.entry flag.entry) }
 {
     change_flag(on, living_pid(process.pid(), context.alive), flag)
@@ -175,7 +171,11 @@ pub(crate) fn living_pid(pid: Option<u32>, alive: &Alive) -> Option<u32>
 }
 
 /// The change of one flag of one process; None where the process or the flag isn't there.
-fn change_flag<A: Allocator>(on: bool, pid: Option<u32>, flag: Value<'_, A>) -> Option<Effect<A>>
+fn change_flag<'a, A: Allocator>(
+    on: bool,
+    pid: Option<u32>,
+    flag: Value<'_, A>,
+) -> Option<Effect<'a, A>>
     ensures { change_seen result ≡ ex.change on pid (flag_named (value_seen flag.entry)) }
 {
     match (pid, flag_in(flag)) {
@@ -185,7 +185,7 @@ fn change_flag<A: Allocator>(on: bool, pid: Option<u32>, flag: Value<'_, A>) -> 
 }
 
 /// The change of one flag of one process.
-fn change_of<A: Allocator>(on: bool, pid: u32, flag: Flags) -> Effect<A>
+fn change_of<'a, A: Allocator>(on: bool, pid: u32, flag: Flags) -> Effect<'a, A>
     ensures { effect_seen result ≡ flags_changed on pid (flags_of flag) }
 {
     if on {

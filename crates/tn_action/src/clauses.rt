@@ -17,26 +17,26 @@ use tn_spec::{Clause, Dialect, Expr, Spec};
 
 /// What a specification gives in a context: the effects of the body of the least-numbered clause whose
 /// head matches the list and whose conditions are all `true`, or no match ("Match Specifications in
-/// Erlang", "Execution of the Match"). An error is refused memory.
-pub fn outcome<A: Allocator + Copy>(
+/// Erlang", "Execution of the Match"). The values lie in the arena, or are lent. An error is refused memory.
+pub fn outcome<'a, A: Allocator + Copy>(
     alloc: A,
-    spec: &Spec<A>,
-    context: &Context<'_, A>,
-) -> Result<Outcome<A>, AllocError>
+    spec: &'a Spec<A>,
+    context: &Context<'a, '_, A>,
+    arena: &'a Bump<A>,
+) -> Result<Outcome<'a, A>, AllocError>
     ensures answer { IfOk result (λ o. IsOutcomeIn spec.now context.now (outcome_seen o)) }
     ensures computed { IfOk result (λ o. outcome_seen o ≡ spec_outcome spec.now context.now) }
 {
-    let arena = Bump::new(alloc);
-    Ok(first_fired(alloc, &arena, spec, context)?)
+    Ok(first_fired(alloc, arena, spec, context)?)
 }
 
-/// The outcome, with what is evaluated in this arena.
+/// The outcome, as its definition computes it.
 fn first_fired<'a, A: Allocator + Copy>(
     alloc: A,
     arena: &'a Bump<A>,
     spec: &'a Spec<A>,
-    context: &Context<'a, A>,
-) -> Result<Outcome<A>, AllocError>
+    context: &Context<'a, '_, A>,
+) -> Result<Outcome<'a, A>, AllocError>
     ensures { IfOk result (λ o. outcome_seen o ≡ spec_outcome spec.now context.now) }
 {
     for clause in &spec.clauses {
@@ -53,8 +53,8 @@ fn clause_effects<'a, A: Allocator + Copy>(
     arena: &'a Bump<A>,
     dialect: Dialect,
     clause: &'a Clause<A>,
-    context: &Context<'a, A>,
-) -> Result<Option<Vec<Effect<A>, A>>, AllocError>
+    context: &Context<'a, '_, A>,
+) -> Result<Option<Vec<Effect<'a, A>, A>>, AllocError>
     ensures { IfOk result (λ r. (next : definition.Outcome) →
         fired_or dialect clause.now context.now next ≡ first_outcome (effects_seen r) next) }
 {
@@ -98,7 +98,7 @@ fn each_true<'a, A: Allocator + Copy>(
 pub fn body_effects<'a, A: Allocator + Copy>(
     body: &'a Vec<Expr<A>, A>,
     scene: &EvalContext<'a, '_, A>,
-) -> Result<Vec<Effect<A>, A>, AllocError>
+) -> Result<Vec<Effect<'a, A>, A>, AllocError>
     ensures { IfOk result (λ v. map effect_seen v.items ≡ body_effects_in scene.now (exprs_seen body.now.items)) }
 {
     let in_body = EvalContext {

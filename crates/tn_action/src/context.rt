@@ -9,9 +9,10 @@ use tn_flags::FlagTable;
 use tn_guard::ListView;
 use tn_term::{Alive, Mfa};
 
-/// What a specification is evaluated in.
+/// What a specification is evaluated in: what values may borrow from, and the state of the session, from which none
+/// borrows.
 #[derive_where(Clone, Copy)]
-pub struct Context<'a, A: Allocator> {
+pub struct Context<'a, 'f, A: Allocator> {
     /// The elements of the list that is matched.
     pub list: ListView<'a, A>,
     /// The pid of the process whose event it is.
@@ -19,14 +20,14 @@ pub struct Context<'a, A: Allocator> {
     /// The function of the frame beneath; None for an entry call.
     pub caller: Option<&'a Mfa<A>>,
     /// Which processes live.
-    pub alive: &'a Alive,
+    pub alive: &'f Alive,
     /// The flags of all processes in the session.
-    pub flags: &'a FlagTable,
+    pub flags: &'f FlagTable,
 }
 
-impl<'a, A: Allocator> Context<'a, A> {
+impl<'a, 'f, A: Allocator> Context<'a, 'f, A> {
     /// The flags of all processes after these effects.
-    pub(crate) fn flags_after(&self, effects: &[Effect<A>]) -> FlagTable
+    pub(crate) fn flags_after(&self, effects: &[Effect<'_, A>]) -> FlagTable
         ensures { table_of result ≡ (context_at self.now effects.now).flags }
     {
         let mut flags = *self.flags;

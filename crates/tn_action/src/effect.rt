@@ -6,14 +6,14 @@ ghost use Rattle.tn_action.specs.Views.{effect_seen};
 
 use std::alloc::Allocator;
 use tn_flags::{FlagTable, Flags};
-use tn_term::Term;
+use tn_guard::Value;
 
 /// What an action of a body asks of the session ("Match Specifications in Erlang", "Functions Allowed
-/// Only for Tracing").
-#[derive(Drop)]
-pub enum Effect<A: Allocator> {
+/// Only for Tracing"). Its term is not copied: it lies where the value of the expression lies.
+#[derive_where(Clone, Copy)]
+pub enum Effect<'a, A: Allocator> {
     /// The term that the message gets, or `true`, or `false` for no message.
-    Message(Term<A>),
+    Message(Value<'a, A>),
     /// A message when the call returns.
     ReturnTrace,
     /// A message when the call returns or fails.
@@ -24,7 +24,7 @@ pub enum Effect<A: Allocator> {
     Change { pid: u32, off: Flags, on: Flags },
 }
 
-impl<A: Allocator> Effect<A> {
+impl<'a, A: Allocator> Effect<'a, A> {
     /// Changes the flags as the effect asks, in an event of the process `me`.
     pub fn apply_to(&self, flags: &mut FlagTable, self_pid: u32)
         ensures { table_of flags.new ≡ flags_by self_pid (table_of flags.old) (effect_seen self.now) }
@@ -39,9 +39,9 @@ impl<A: Allocator> Effect<A> {
 
 /// What a specification gives for one event.
 #[derive(Drop)]
-pub enum Outcome<A: Allocator> {
+pub enum Outcome<'a, A: Allocator> {
     /// No clause fires.
     NoMatch,
     /// The effects of the body of the first clause that fires, in their order.
-    Matched(Vec<Effect<A>, A>),
+    Matched(Vec<Effect<'a, A>, A>),
 }

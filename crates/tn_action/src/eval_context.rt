@@ -34,7 +34,7 @@ pub struct EvalContext<'a, 'b, A: Allocator + Copy> {
     pub dialect: Dialect,
     pub part: Position,
     pub bindings: &'b Bindings<'a, A, &'a Bump<A>>,
-    pub context: &'b Context<'a, A>,
+    pub context: &'b Context<'a, 'b, A>,
 }
 
 impl<'a, 'b, A: Allocator + Copy> EvalContext<'a, 'b, A> {

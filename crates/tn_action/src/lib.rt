@@ -3,8 +3,8 @@
 //! Depends on tn_spec, tn_head, tn_guard and tn_flags, and on the definitions of def_spec. Promises that
 //! `outcome` answers the one outcome of *Outcome*, `perform` the value and the effect of one action, and
 //! `trace_on` those of `trace` on a process; both go by the flags after the effects so far.
-//! What is evaluated lies in an arena that is given up with the evaluation; a term is copied only where it
-//! leaves in an effect.
+//! What is evaluated lies in the arena of the caller, or is lent, also the term of a message: no term is
+//! copied.
 #![tactic(auto)]
 
 mod actions;

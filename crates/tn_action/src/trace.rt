@@ -18,8 +18,8 @@ use tn_guard::Value;
 /// `trace` after these effects: on the own process with two lists of flags, or on the process that comes
 /// before them.
 pub(crate) fn trace_by<'a, 'b, A: Allocator>(
-    context: &Context<'_, A>,
-    past: &[Effect<A>],
+    context: &Context<'_, '_, A>,
+    past: &[Effect<'_, A>],
     args: &[Value<'b, A>],
 ) -> Option<ActionResult<'a, A>>
     ensures { option_map result_seen result ≡ trace_by (context_at context.now past.now) (map value_seen args.now) }
@@ -35,8 +35,8 @@ pub(crate) fn trace_by<'a, 'b, A: Allocator>(
 
 /// `trace` on the own process.
 fn trace_own<'a, 'b, A: Allocator>(
-    context: &Context<'_, A>,
-    past: &[Effect<A>],
+    context: &Context<'_, '_, A>,
+    past: &[Effect<'_, A>],
     off: Value<'b, A>,
     on: Value<'b, A>,
 ) -> Option<ActionResult<'a, A>>
@@ -50,8 +50,8 @@ fn trace_own<'a, 'b, A: Allocator>(
 /// value is whether that changes the flags of the process. None, a fault, where no such process lives, or where
 /// a value is no list of flags.
 pub fn trace_on<'a, 'b, A: Allocator>(
-    context: &Context<'_, A>,
-    past: &[Effect<A>],
+    context: &Context<'_, '_, A>,
+    past: &[Effect<'_, A>],
     who: Value<'b, A>,
     off: Value<'b, A>,
     on: Value<'b, A>,
@@ -72,8 +72,8 @@ pub fn trace_on<'a, 'b, A: Allocator>(
 
 /// Flags of a process cleared and set after these effects; the value is whether its flags change.
 fn flag_change<'a, A: Allocator>(
-    context: &Context<'_, A>,
-    past: &[Effect<A>],
+    context: &Context<'_, '_, A>,
+    past: &[Effect<'_, A>],
     pid: u32,
     off: Flags,
     on: Flags,

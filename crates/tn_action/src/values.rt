@@ -27,7 +27,7 @@ type SomeValues<'a, A> = SmallVec<Value<'a, A>, 4, &'a Bump<A>>;
 pub fn value<'a, A: Allocator + Copy>(
     expr: &'a Expr<A>,
     scene: &EvalContext<'a, '_, A>,
-    effects: &mut Vec<Effect<A>, A>,
+    effects: &mut Vec<Effect<'a, A>, A>,
 ) -> Result<Option<Value<'a, A>>, AllocError>
     ensures { IfOk result (λ v. evaluation_seen v effects.new ≡ evaluation_of scene.now expr.now effects.old) }
 {
@@ -50,7 +50,7 @@ pub fn value<'a, A: Allocator + Copy>(
 fn tuple_value<'a, A: Allocator + Copy>(
     exprs: &'a Vec<Expr<A>, A>,
     scene: &EvalContext<'a, '_, A>,
-    effects: &mut Vec<Effect<A>, A>,
+    effects: &mut Vec<Effect<'a, A>, A>,
 ) -> Result<Option<Value<'a, A>>, AllocError>
     ensures { IfOk result (λ v. evaluation_seen v effects.new ≡ evaluation_of_tuple scene.now exprs.now effects.old) }
 {
@@ -63,7 +63,7 @@ fn tuple_value<'a, A: Allocator + Copy>(
 fn list_value<'a, A: Allocator + Copy>(
     exprs: &'a Vec<Expr<A>, A>,
     scene: &EvalContext<'a, '_, A>,
-    effects: &mut Vec<Effect<A>, A>,
+    effects: &mut Vec<Effect<'a, A>, A>,
 ) -> Result<Option<Value<'a, A>>, AllocError>
     ensures { IfOk result (λ v. evaluation_seen v effects.new ≡ evaluation_of_list scene.now exprs.now effects.old) }
 {
@@ -77,7 +77,7 @@ fn call_value<'a, A: Allocator + Copy>(
     func: Func,
     exprs: &'a Vec<Expr<A>, A>,
     scene: &EvalContext<'a, '_, A>,
-    effects: &mut Vec<Effect<A>, A>,
+    effects: &mut Vec<Effect<'a, A>, A>,
 ) -> Result<Option<Value<'a, A>>, AllocError>
     ensures { IfOk result (λ v. evaluation_seen v effects.new ≡ call_value scene.now func exprs.now effects.old) }
 {
@@ -93,7 +93,7 @@ fn action_value<'a, A: Allocator + Copy>(
     action: Action,
     exprs: &'a Vec<Expr<A>, A>,
     scene: &EvalContext<'a, '_, A>,
-    effects: &mut Vec<Effect<A>, A>,
+    effects: &mut Vec<Effect<'a, A>, A>,
 ) -> Result<Option<Value<'a, A>>, AllocError>
     ensures { IfOk result (λ v. evaluation_seen v effects.new ≡ action_value scene.now action exprs.now effects.old) }
 {
@@ -108,7 +108,7 @@ fn action_value<'a, A: Allocator + Copy>(
 fn values<'a, A: Allocator + Copy>(
     exprs: &'a Vec<Expr<A>, A>,
     scene: &EvalContext<'a, '_, A>,
-    effects: &mut Vec<Effect<A>, A>,
+    effects: &mut Vec<Effect<'a, A>, A>,
 ) -> Result<Option<SomeValues<'a, A>>, AllocError>
     ensures { IfOk result (λ vs. evaluations_seen vs effects.new ≡ list_values scene.now exprs.now effects.old) }
 {
@@ -127,7 +127,7 @@ fn values<'a, A: Allocator + Copy>(
 pub fn all_in_turn<'a, A: Allocator + Copy>(
     exprs: &'a Vec<Expr<A>, A>,
     scene: &EvalContext<'a, '_, A>,
-    effects: &mut Vec<Effect<A>, A>,
+    effects: &mut Vec<Effect<'a, A>, A>,
 ) -> Result<Option<Value<'a, A>>, AllocError>
     ensures { IfOk result (λ v. evaluation_seen v effects.new ≡ evaluation_while_true scene.now exprs.now effects.old) }
 {
@@ -149,7 +149,7 @@ pub fn all_in_turn<'a, A: Allocator + Copy>(
 fn one_in_turn<'a, A: Allocator + Copy>(
     exprs: &'a Vec<Expr<A>, A>,
     scene: &EvalContext<'a, '_, A>,
-    effects: &mut Vec<Effect<A>, A>,
+    effects: &mut Vec<Effect<'a, A>, A>,
 ) -> Result<Option<Value<'a, A>>, AllocError>
     ensures { IfOk result (λ v. evaluation_seen v effects.new ≡ evaluation_until_true scene.now exprs.now effects.old) }
 {
@@ -198,7 +198,7 @@ fn perform_at<'a, A: Allocator + Copy>(
     action: Action,
     args: &[Value<'a, A>],
     scene: &EvalContext<'a, '_, A>,
-    effects: &mut Vec<Effect<A>, A>,
+    effects: &mut Vec<Effect<'a, A>, A>,
 ) -> Result<Option<Value<'a, A>>, AllocError>
     ensures { IfOk result (λ v. evaluation_seen v effects.new ≡ perform_seen scene.now action args.now effects.old) }
 {
@@ -213,11 +213,11 @@ fn perform_at<'a, A: Allocator + Copy>(
 }
 
 /// Puts an effect after the others, where there is one.
-fn add<A: Allocator>(
-    effect: Option<Effect<A>>,
-    effects: &mut Vec<Effect<A>, A>,
+fn add<'a, A: Allocator>(
+    effect: Option<Effect<'a, A>>,
+    effects: &mut Vec<Effect<'a, A>, A>,
 ) -> Result<(), AllocError>
-    ensures { IfOk result (λ _. AreAfter (effect_list effect) effects.old effects.new) }
+    ensures { IfOk result (λ _. AreAfter (effect_list effect.entry) effects.old effects.new) }
 {
     match effect {
         Some(effect) => effects.push(effect)?,

@@ -1,16 +1,15 @@
 -- What one effect does, and the last message of several.
 use Rattle.std.specs.Prelude.{◌≡◌, List, ◌∷◌, Option}
 use Rattle.std.specs.Option.{option_map}
-use Rattle.std.specs.Borrow.{Bor}
 use Rattle.def_term.specs.Tree.{Tree}
 use Rattle.def_spec.specs.Expressions.{Effect}
 use Rattle.def_session.specs.Messages.{last_message, later}
-use Rattle.tn_term.specs.Views.{tree_of}
-use Rattle.tn_term.specs.declared.term.Term.{Term}
+use Rattle.tn_guard.specs.Views.{value_seen}
+use Rattle.tn_guard.specs.declared.value.Value.{Value}
 
--- the term that is lent, where there is one
-abbrev pub lent_tree : {A : Type 0} → Option (Bor (Term A)) → Option Tree
-lent_tree t = option_map (λ b. tree_of b.now) t
+-- the term of a message, where there is one
+abbrev pub message_term : {A : Type 0} → Option (Value A) → Option Tree
+message_term v = option_map value_seen v
 
 -- the last message of these effects, else the one before them
 abbrev pub later_message : Option Tree → List Effect → Option Tree

@@ -43,7 +43,7 @@ fn is_other(found: bool, is_boolean: bool) -> bool
 fn has_other_value<'a, A: Allocator + Copy>(
     exprs: &'a Vec<Expr<A>, A>,
     scene: &EvalContext<'a, '_, A>,
-    effects: &mut Vec<Effect<A>, A>,
+    effects: &mut Vec<Effect<'a, A>, A>,
 ) -> Result<bool, AllocError>
     ensures answer { IfOk result (λ r. r ≡ has_other_value scene.now exprs.now effects.old) }
     ensures effects { IfOk result (λ _. HasMoreEffects effects.old effects.new) }
@@ -64,7 +64,7 @@ fn is_logic_on_other<'a, A: Allocator + Copy>(
     func: Func,
     exprs: &'a Vec<Expr<A>, A>,
     scene: &EvalContext<'a, '_, A>,
-    effects: &mut Vec<Effect<A>, A>,
+    effects: &mut Vec<Effect<'a, A>, A>,
 ) -> Result<bool, AllocError>
     ensures answer { IfOk result (λ r. r ≡ logic_of_call scene.now func exprs.now effects.old) }
     ensures effects { IfOk result (λ _. HasSameEffects effects.old effects.new) }
@@ -83,7 +83,7 @@ fn is_logic_on_other<'a, A: Allocator + Copy>(
 fn logic_of<'a, A: Allocator + Copy>(
     expr: &'a Expr<A>,
     scene: &EvalContext<'a, '_, A>,
-    effects: &mut Vec<Effect<A>, A>,
+    effects: &mut Vec<Effect<'a, A>, A>,
 ) -> Result<bool, AllocError>
     ensures answer { IfOk result (λ r. r ≡ logic_of scene.now expr.now effects.old) }
     ensures effects { IfOk result (λ _. HasMoreEffects effects.old effects.new) }
@@ -112,7 +112,7 @@ fn logic_of<'a, A: Allocator + Copy>(
 fn has_logic<'a, A: Allocator + Copy>(
     expr: &'a Expr<A>,
     scene: &EvalContext<'a, '_, A>,
-    effects: &mut Vec<Effect<A>, A>,
+    effects: &mut Vec<Effect<'a, A>, A>,
 ) -> Result<bool, AllocError>
     ensures answer { IfOk result (λ r. r ≡ logic_of scene.now expr.now effects.old) }
     ensures effects { IfOk result (λ _. HasSameEffects effects.old effects.new) }
@@ -128,7 +128,7 @@ fn has_logic<'a, A: Allocator + Copy>(
 fn logic_of_one<'a, A: Allocator + Copy>(
     exprs: &'a Vec<Expr<A>, A>,
     scene: &EvalContext<'a, '_, A>,
-    effects: &mut Vec<Effect<A>, A>,
+    effects: &mut Vec<Effect<'a, A>, A>,
 ) -> Result<bool, AllocError>
     ensures answer { IfOk result (λ r. r ≡ logic_of_one scene.now exprs.now effects.old) }
     ensures effects { IfOk result (λ _. HasMoreEffects effects.old effects.new) }
@@ -152,7 +152,7 @@ fn logic_of_turn<'a, A: Allocator + Copy>(
     goes_on: bool,
     exprs: &'a Vec<Expr<A>, A>,
     scene: &EvalContext<'a, '_, A>,
-    effects: &mut Vec<Effect<A>, A>,
+    effects: &mut Vec<Effect<'a, A>, A>,
 ) -> Result<bool, AllocError>
     ensures answer { IfOk result (λ r. r ≡ logic_of_turn scene.now goes_on exprs.now effects.old) }
     ensures effects { IfOk result (λ _. HasMoreEffects effects.old effects.new) }
@@ -185,7 +185,7 @@ pub fn logic_differs<'a, A: Allocator + Copy>(
     dialect: Dialect,
     clause: &'a Clause<A>,
     bindings: &Bindings<'a, A, &'a Bump<A>>,
-    context: &Context<'a, A>,
+    context: &Context<'a, '_, A>,
 ) -> Result<bool, AllocError>
     ensures { IfOk result (λ r. r ≡ logic_of_clause dialect clause.now bindings.now context.now) }
 {

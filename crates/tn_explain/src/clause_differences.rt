@@ -23,7 +23,7 @@ pub(crate) fn clause_differences<'a, A: Allocator + Copy>(
     dialect: Dialect,
     clause: &'a Clause<A>,
     bindings: &Bindings<'a, A, &'a Bump<A>>,
-    context: &Context<'a, A>,
+    context: &Context<'a, '_, A>,
 ) -> Result<ClauseDifferences, AllocError>
     ensures { IfOk result (AreOfClause dialect clause.now bindings.now context.now) }
 {

@@ -35,7 +35,7 @@ impl<A: Allocator + Copy> Lines<'_, A> {
     pub(crate) fn put_setting(
         &self,
         setting: Setting<&Spec<A>>,
-        context: &Context<'_, A>,
+        context: &Context<'_, '_, A>,
         out: &mut Vec<u8, A>,
     ) -> Result<Evaluation, AllocError>
         ensures ok { IfOk result (EvaluatesBy self.now (look_setting setting.entry) context.now out.old out.new) }
@@ -56,7 +56,7 @@ impl<A: Allocator + Copy> Lines<'_, A> {
     fn put_spec(
         &self,
         spec: &Spec<A>,
-        context: &Context<'_, A>,
+        context: &Context<'_, '_, A>,
         out: &mut Vec<u8, A>,
     ) -> Result<Evaluation, AllocError>
         ensures ok { IfOk result (EvaluatesBy self.now (by (spec_seen spec.now)) context.now out.old out.new) }
@@ -71,7 +71,7 @@ impl<A: Allocator + Copy> Lines<'_, A> {
         &self,
         arena: &'a Bump<A>,
         spec: &'a Spec<A>,
-        context: &Context<'a, A>,
+        context: &Context<'a, '_, A>,
         out: &mut Vec<u8, A>,
     ) -> Result<Evaluation, AllocError>
         ensures ok { IfOk result (EvaluatesBy self.now (by (spec_seen spec.now)) context.now out.old out.new) }
@@ -111,7 +111,7 @@ impl<A: Allocator + Copy> Lines<'_, A> {
         begin(self.name, out)?;
         put_clause(before, out)?;
         out.extend_from_slice(b": ")?;
-        put_reason(self.alloc, reason, out)?;
+        put_reason(reason, out)?;
         out.push(b'\n')?;
         Ok(())
     }
@@ -120,7 +120,7 @@ impl<A: Allocator + Copy> Lines<'_, A> {
     fn put_firing(
         &self,
         before: usize,
-        effects: &[Effect<A>],
+        effects: &[Effect<'_, A>],
         out: &mut Vec<u8, A>,
     ) -> Result<(), AllocError>
         ensures ok { OnOk result (Adds self.now (firing_lines before (map effect_seen effects.now)) out.old out.new) }

@@ -160,8 +160,8 @@ impl<A: Allocator + Copy> Lines<'_, A> {
         &self,
         difference: Difference,
         dialect: Dialect,
-        context: &Context<'_, A>,
-        effects: &[Effect<A>],
+        context: &Context<'_, '_, A>,
+        effects: &[Effect<'_, A>],
         out: &mut Vec<u8, A>,
     ) -> Result<(), AllocError>
         ensures ok { OnOk result
@@ -177,8 +177,8 @@ impl<A: Allocator + Copy> Lines<'_, A> {
         &self,
         of_clause: ClauseDifferences,
         dialect: Dialect,
-        context: &Context<'_, A>,
-        effects: &[Effect<A>],
+        context: &Context<'_, '_, A>,
+        effects: &[Effect<'_, A>],
         out: &mut Vec<u8, A>,
     ) -> Result<(), AllocError>
         ensures ok { OnOk result

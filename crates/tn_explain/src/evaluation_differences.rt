@@ -28,8 +28,8 @@ use tn_verdict::{Verdict, verdict};
 fn clause_differs<A: Allocator>(
     of_clause: ClauseDifferences,
     dialect: Dialect,
-    context: &Context<'_, A>,
-    effects: &[Effect<A>],
+    context: &Context<'_, '_, A>,
+    effects: &[Effect<'_, A>],
 ) -> bool
     ensures { result ≡ differs_with of_clause dialect context.now effects.now }
 {
@@ -46,7 +46,7 @@ fn clauses_differ<'a, A: Allocator + Copy>(
     alloc: A,
     arena: &'a Bump<A>,
     spec: &'a Spec<A>,
-    context: &Context<'a, A>,
+    context: &Context<'a, '_, A>,
 ) -> Result<bool, AllocError>
     ensures { IfOk result (DiffersBy (by (spec_seen spec.now)) context.now) }
 {
@@ -69,7 +69,7 @@ fn clauses_differ<'a, A: Allocator + Copy>(
 fn spec_differs<A: Allocator + Copy>(
     alloc: A,
     spec: &Spec<A>,
-    context: &Context<'_, A>,
+    context: &Context<'_, '_, A>,
 ) -> Result<bool, AllocError>
     ensures { IfOk result (DiffersBy (by (spec_seen spec.now)) context.now) }
 {
@@ -81,7 +81,7 @@ fn spec_differs<A: Allocator + Copy>(
 fn setting_differs<A: Allocator + Copy>(
     alloc: A,
     setting: Setting<&Spec<A>>,
-    context: &Context<'_, A>,
+    context: &Context<'_, '_, A>,
 ) -> Result<bool, AllocError>
     ensures { IfOk result (DiffersBy (look_setting setting.entry) context.now) }
 {

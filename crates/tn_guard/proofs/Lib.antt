@@ -1,3 +1,4 @@
 pub mod Places
 pub mod Same
+pub mod Texts
 pub mod Views

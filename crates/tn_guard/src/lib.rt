@@ -1,6 +1,6 @@
 //! The functions of conditions and bodies, on values.
 //!
-//! Depends on tn_term, on tn_spec and on the definitions of def_spec. Promises that `apply` answers the
+//! Depends on tn_term, tn_text, tn_spec and on the definitions of def_spec. Promises that `apply` answers the
 //! value of one function on values, and none exactly where that is a fault. A term that a function looks
 //! at is lent, and no function takes memory: only `copy_into` does, and `lent_values` for its list.
 #![tactic(auto)]
@@ -15,8 +15,10 @@ mod logic;
 mod shape;
 mod shared_terms;
 mod value;
+mod value_text;
 
 pub use functions::apply;
 pub use list_view::ListView;
 pub use shared_terms::lent_values;
 pub use value::{AtomConst, Value};
+pub use value_text::write_value;

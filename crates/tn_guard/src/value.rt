@@ -111,6 +111,13 @@ impl<'a, A: Allocator> Value<'a, A> {
         }
     }
 
+    /// Whether it is the atom of this text.
+    pub fn is_word(self, text: &str) -> bool
+        ensures { result ≡ same (value_seen self.entry) (atom text.now) }
+    {
+        self.shape().is_word(text)
+    }
+
     /// The text of an atom; None of any other term.
     pub fn atom_text(self) -> Option<&'a str>
         ensures { option_map (λ s. s.now) result ≡ text_in (value_seen self.entry) }

@@ -2,7 +2,7 @@
 //!
 //! Depends on tn_code, tn_guard and tn_action, and on the definitions of def_machine. Promises that
 //! `execute` answers the outcome that the code's run ends with, and takes no step that the code doesn't
-//! name. What is evaluated lies in the caller's arena; effects are copied out of it.
+//! name. What is evaluated lies in the arena of the caller, the terms of messages too.
 #![tactic(auto)]
 
 mod execution;

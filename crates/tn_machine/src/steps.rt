@@ -38,7 +38,7 @@ pub fn step<'a, A: Allocator + Copy>(
     instr: &'a Instr<A>,
     place: usize,
     registers: &mut [Option<Value<'a, A>>],
-    effects: &mut Vec<Effect<A>, A>,
+    effects: &mut Vec<Effect<'a, A>, A>,
     scene: &EvalContext<'a, '_, A>,
 ) -> Result<Next, AllocError>
     requires set { Each (λ r. IsSetIn registers.old r) (reads (instruction_of instr.now)) }
@@ -266,7 +266,7 @@ fn performed_on<'a, A: Allocator + Copy>(
     request: ActionRequest,
     registers: &[Option<Value<'a, A>>],
     from: &[usize],
-    effects: &mut Vec<Effect<A>, A>,
+    effects: &mut Vec<Effect<'a, A>, A>,
     scene: &EvalContext<'a, '_, A>,
 ) -> Result<Value<'a, A>, AllocError>
     requires { Each (λ r. IsSetIn registers.now r) from.now }
@@ -281,7 +281,7 @@ fn performed_on<'a, A: Allocator + Copy>(
 fn perform_action<'a, A: Allocator + Copy>(
     request: ActionRequest,
     values: &SomeValues<'a, A>,
-    effects: &mut Vec<Effect<A>, A>,
+    effects: &mut Vec<Effect<'a, A>, A>,
     scene: &EvalContext<'a, '_, A>,
 ) -> Result<Value<'a, A>, AllocError>
     ensures { IfOk result (λ v. IsPerformed scene.now request values.now.items v effects.old effects.new) }
@@ -309,7 +309,7 @@ fn flags_changed<'a, A: Allocator + Copy>(
     process: Value<'a, A>,
     off: Value<'a, A>,
     on: Value<'a, A>,
-    effects: &mut Vec<Effect<A>, A>,
+    effects: &mut Vec<Effect<'a, A>, A>,
     scene: &EvalContext<'a, '_, A>,
 ) -> Result<Option<Value<'a, A>>, AllocError>
     ensures { IfOk result (λ v. IsTraced scene.now process.entry off.entry on.entry v effects.old effects.new) }
@@ -322,11 +322,11 @@ fn flags_changed<'a, A: Allocator + Copy>(
 }
 
 /// Puts an effect after the others, where there is one.
-fn add<A: Allocator>(
-    effect: Option<Effect<A>>,
-    effects: &mut Vec<Effect<A>, A>,
+fn add<'a, A: Allocator>(
+    effect: Option<Effect<'a, A>>,
+    effects: &mut Vec<Effect<'a, A>, A>,
 ) -> Result<(), AllocError>
-    ensures { IfOk result (λ _. AreAfter (effect_list effect) effects.old effects.new) }
+    ensures { IfOk result (λ _. AreAfter (effect_list effect.entry) effects.old effects.new) }
 {
     match effect {
         Some(effect) => effects.push(effect)?,

@@ -22,7 +22,7 @@ pub fn verdict<'a, A: Allocator + Copy>(
     arena: &'a Bump<A>,
     dialect: Dialect,
     clause: &'a Clause<A>,
-    context: &Context<'a, A>,
+    context: &Context<'a, '_, A>,
 ) -> Result<Verdict<'a, A>, AllocError>
     ensures { IfOk result (λ v. verdict_seen v ≡ clause_verdict_of dialect clause.now context.now) }
 {

@@ -12,6 +12,7 @@ ghost use Rattle.tn_verdict.specs.Effects.{text_where, said_of, next_effect_text
 use std::alloc::{AllocError, Allocator};
 use tn_action::Effect;
 use tn_flags::Flags;
+use tn_guard::write_value;
 use tn_term::Term;
 use tn_text::write_term;
 
@@ -104,16 +105,16 @@ fn put_change<B: Allocator>(
 
 /// Appends what an effect is.
 fn put_effect<A: Allocator, B: Allocator>(
-    effect: &Effect<A>,
+    effect: &Effect<'_, A>,
     out: &mut Vec<u8, B>,
 ) -> Result<(), AllocError>
     ensures ok { OnOk result (out.new.items ≡ out.old.items ++ effect_text (effect_seen effect.now)) }
     ensures grows { Grows out.old.items out.new.items }
 {
     match effect {
-        Effect::Message(term) => {
+        Effect::Message(value) => {
             out.extend_from_slice(b"message ")?;
-            write_term(term, out)
+            write_value(*value, out)
         }
         Effect::ReturnTrace => out.extend_from_slice(b"return_trace"),
         Effect::ExceptionTrace => out.extend_from_slice(b"exception_trace"),
@@ -124,7 +125,7 @@ fn put_effect<A: Allocator, B: Allocator>(
 
 /// Appends a comma and what an effect is.
 fn put_next_effect<A: Allocator, B: Allocator>(
-    effect: &Effect<A>,
+    effect: &Effect<'_, A>,
     out: &mut Vec<u8, B>,
 ) -> Result<(), AllocError>
     ensures ok { OnOk result (out.new.items ≡ out.old.items ++ next_effect_text (effect_seen effect.now)) }
@@ -137,7 +138,7 @@ fn put_next_effect<A: Allocator, B: Allocator>(
 /// Appends several effects, with a comma between any two, after a colon. After an `Err` a part of it may
 /// stand there.
 pub fn put_effects<A: Allocator, B: Allocator>(
-    effects: &[Effect<A>],
+    effects: &[Effect<'_, A>],
     out: &mut Vec<u8, B>,
 ) -> Result<(), AllocError>
     ensures ok { OnOk result (out.new.items ≡ out.old.items ++ effects_text (map effect_seen effects.now)) }

@@ -13,7 +13,7 @@ use tn_spec::Expr;
 pub fn fault_in<'a, A: Allocator + Copy>(
     expr: &'a Expr<A>,
     scene: &EvalContext<'a, '_, A>,
-    effects: &mut Vec<Effect<A>, A>,
+    effects: &mut Vec<Effect<'a, A>, A>,
 ) -> Result<Option<&'a Expr<A>>, AllocError>
     requires { IsOfConditions scene.now }
     ensures { IfOk result (λ r. part_at r ≡ fault_of scene.now expr.now) }
@@ -44,7 +44,7 @@ pub fn fault_in<'a, A: Allocator + Copy>(
 fn fault_in_one<'a, A: Allocator + Copy>(
     exprs: &'a Vec<Expr<A>, A>,
     scene: &EvalContext<'a, '_, A>,
-    effects: &mut Vec<Effect<A>, A>,
+    effects: &mut Vec<Effect<'a, A>, A>,
 ) -> Result<Option<&'a Expr<A>>, AllocError>
     requires { IsOfConditions scene.now }
     ensures { IfOk result (λ r. part_at r ≡ fault_of_one scene.now exprs.now) }
@@ -63,7 +63,7 @@ fn fault_in_turn<'a, A: Allocator + Copy>(
     stop: bool,
     exprs: &'a Vec<Expr<A>, A>,
     scene: &EvalContext<'a, '_, A>,
-    effects: &mut Vec<Effect<A>, A>,
+    effects: &mut Vec<Effect<'a, A>, A>,
 ) -> Result<Option<&'a Expr<A>>, AllocError>
     requires { IsOfConditions scene.now }
     ensures { IfOk result (λ r. part_at r ≡ fault_in_turn scene.now stop (exprs_seen exprs.now.items)) }

@@ -6,15 +6,15 @@ ghost use Rattle.tn_text.specs.Writes.{Grows};
 ghost use Rattle.tn_verdict.specs.MismatchTexts.{level_text};
 
 use crate::expression_text::put_variable;
-use crate::reason_text::{put_number, put_value};
+use crate::reason_text::put_number;
 use itoa::Buffer;
 use std::alloc::{AllocError, Allocator};
+use tn_guard::write_value;
 use tn_mismatch::{HeadPart, Mismatch};
 use tn_text::write_term;
 
 /// Appends the place, what the head has there, and the term.
-pub fn put_mismatch<A: Allocator, C: Allocator + Copy, B: Allocator>(
-    alloc: C,
+pub fn put_mismatch<A: Allocator, B: Allocator>(
     mismatch: Mismatch<'_, A>,
     out: &mut Vec<u8, B>,
 ) -> Result<(), AllocError>
@@ -23,9 +23,9 @@ pub fn put_mismatch<A: Allocator, C: Allocator + Copy, B: Allocator>(
 {
     put_place(mismatch.place, out)?;
     out.extend_from_slice(b": ")?;
-    put_head_part(alloc, mismatch.part, out)?;
+    put_head_part(mismatch.part, out)?;
     out.extend_from_slice(b", found ")?;
-    put_value(alloc, mismatch.value, out)
+    write_value(mismatch.value, out)
 }
 
 /// Appends the number of an element, level by level.
@@ -49,8 +49,7 @@ fn put_element<B: Allocator>(before: usize, out: &mut Vec<u8, B>) -> Result<(), 
 }
 
 /// Appends what a head has at a place.
-fn put_head_part<A: Allocator, C: Allocator + Copy, B: Allocator>(
-    alloc: C,
+fn put_head_part<A: Allocator, B: Allocator>(
     part: HeadPart<'_, A>,
     out: &mut Vec<u8, B>,
 ) -> Result<(), AllocError>
@@ -65,7 +64,7 @@ fn put_head_part<A: Allocator, C: Allocator + Copy, B: Allocator>(
         HeadPart::Bound { number, value } => {
             put_variable(number, out)?;
             out.extend_from_slice(b" is ")?;
-            put_value(alloc, value, out)
+            write_value(value, out)
         }
         HeadPart::Tuple(size) => put_size(b"a tuple of ", size, out),
         HeadPart::List(size) => put_size(b"a list of ", size, out),

@@ -51,6 +51,6 @@ pub enum Verdict<'a, A: Allocator + Copy> {
     /// It fires, and its body asks for these effects. What its variables are bound to lies in the arena.
     Fires {
         bindings: &'a Bindings<'a, A, &'a Bump<A>>,
-        effects: Vec<Effect<A>, A>,
+        effects: Vec<Effect<'a, A>, A>,
     },
 }

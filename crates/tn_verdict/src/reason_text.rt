@@ -1,8 +1,6 @@
 // The texts of reasons.
 ghost use Rattle.std.specs.Prelude.{◌≡◌, ◌++◌, OnOk, suc, decimal};
-ghost use Rattle.def_term.specs.Text.{w};
 ghost use Rattle.def_explain.specs.Texts.{head_reason_text, condition_reason_text, reason_text};
-ghost use Rattle.tn_guard.specs.Views.{value_seen};
 ghost use Rattle.tn_verdict.specs.Views.{head_reason_seen, condition_seen, reason_seen};
 ghost use Rattle.tn_text.specs.Writes.{Grows};
 
@@ -11,8 +9,7 @@ use crate::mismatch_text::put_mismatch;
 use crate::reason::{ConditionReason, HeadReason, Reason};
 use itoa::Buffer;
 use std::alloc::{AllocError, Allocator};
-use tn_guard::Value;
-use tn_text::write_term;
+use tn_guard::write_value;
 
 /// Appends the number of what stands after so many.
 pub fn put_number<B: Allocator>(before: usize, out: &mut Vec<u8, B>) -> Result<(), AllocError>
@@ -23,22 +20,8 @@ pub fn put_number<B: Allocator>(before: usize, out: &mut Vec<u8, B>) -> Result<(
     out.extend_from_slice(buffer.format(before as u128 + 1).as_bytes())
 }
 
-/// Appends the text of a value.
-pub fn put_value<A: Allocator, C: Allocator + Copy, B: Allocator>(
-    alloc: C,
-    value: Value<'_, A>,
-    out: &mut Vec<u8, B>,
-) -> Result<(), AllocError>
-    ensures ok { OnOk result (out.new.items ≡ out.old.items ++ w (value_seen value.entry)) }
-    ensures grows { Grows out.old.items out.new.items }
-{
-    let term = value.copy_into(alloc)?;
-    write_term(&term, out)
-}
-
 /// Appends why a head doesn't match.
-fn put_head_reason<A: Allocator, C: Allocator + Copy, B: Allocator>(
-    alloc: C,
+fn put_head_reason<A: Allocator, B: Allocator>(
     why: HeadReason<'_, A>,
     out: &mut Vec<u8, B>,
 ) -> Result<(), AllocError>
@@ -53,14 +36,13 @@ fn put_head_reason<A: Allocator, C: Allocator + Copy, B: Allocator>(
         HeadReason::AfterMatching { count, mismatch } => {
             out.extend_from_slice(b"the head doesn't match at element ")?;
             put_number(count, out)?;
-            put_mismatch(alloc, mismatch, out)
+            put_mismatch(mismatch, out)
         }
     }
 }
 
 /// Appends why a condition isn't `true`.
-fn put_condition_reason<A: Allocator, C: Allocator + Copy, B: Allocator>(
-    alloc: C,
+fn put_condition_reason<A: Allocator, B: Allocator>(
     why: ConditionReason<'_, A>,
     out: &mut Vec<u8, B>,
 ) -> Result<(), AllocError>
@@ -70,7 +52,7 @@ fn put_condition_reason<A: Allocator, C: Allocator + Copy, B: Allocator>(
     match why {
         ConditionReason::HasValue(value) => {
             out.extend_from_slice(b" is ")?;
-            put_value(alloc, value, out)
+            write_value(value, out)
         }
         ConditionReason::FaultsAt(expr) => {
             out.extend_from_slice(b" faults at ")?;
@@ -80,8 +62,7 @@ fn put_condition_reason<A: Allocator, C: Allocator + Copy, B: Allocator>(
 }
 
 /// Appends why a clause doesn't fire. After an `Err` a part of it may stand there.
-pub fn put_reason<A: Allocator, C: Allocator + Copy, B: Allocator>(
-    alloc: C,
+pub fn put_reason<A: Allocator, B: Allocator>(
     reason: Reason<'_, A>,
     out: &mut Vec<u8, B>,
 ) -> Result<(), AllocError>
@@ -89,11 +70,11 @@ pub fn put_reason<A: Allocator, C: Allocator + Copy, B: Allocator>(
     ensures grows { Grows out.old.items out.new.items }
 {
     match reason {
-        Reason::ByHead(why) => put_head_reason(alloc, why, out),
+        Reason::ByHead(why) => put_head_reason(why, out),
         Reason::ByCondition { index, why } => {
             out.extend_from_slice(b"condition ")?;
             put_number(index, out)?;
-            put_condition_reason(alloc, why, out)
+            put_condition_reason(why, out)
         }
     }
 }

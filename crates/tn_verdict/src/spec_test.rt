@@ -8,7 +8,7 @@ ghost use Rattle.tn_action.specs.Views.{effect_seen};
 ghost use Rattle.tn_verdict.specs.Views.{reason_seen};
 ghost use Rattle.tn_text.specs.Writes.{Grows};
 ghost use Rattle.tn_difference.specs.Logic.{logic_of_clause};
-ghost use Rattle.tn_difference.specs.Effects.{lent_tree};
+ghost use Rattle.tn_difference.specs.Effects.{message_term};
 ghost use Rattle.tn_verdict.specs.SpecTests.{spec_test_of};
 ghost use Rattle.tn_verdict.specs.SpecTests.{spec_test_in, failed_text, fired_text};
 ghost use Rattle.tn_verdict.specs.SpecTests.{fires_line, message_line, Appends};
@@ -19,22 +19,19 @@ use crate::clauses::verdict;
 use crate::effects::put_effects;
 use crate::expression_text::put_variable;
 use crate::reason::{Reason, Verdict};
-use crate::reason_text::{put_number, put_reason, put_value};
+use crate::reason_text::{put_number, put_reason};
 use bumpalo::Bump;
 use std::alloc::{AllocError, Allocator};
 use tn_action::{Context, Effect};
 use tn_difference::{
     Difference, body_differs, is_silent, last_message, logic_differs, order_differs, put_difference,
 };
-use tn_guard::Value;
+use tn_guard::{Value, write_value};
 use tn_head::{Binding, Bindings};
 use tn_spec::{Clause, Dialect, Spec};
-use tn_term::Term;
-use tn_text::write_term;
 
 /// Appends the line of a binding.
-fn put_binding<A: Allocator, C: Allocator + Copy, B: Allocator>(
-    alloc: C,
+fn put_binding<A: Allocator, B: Allocator>(
     number: u16,
     value: Value<'_, A>,
     out: &mut Vec<u8, B>,
@@ -45,14 +42,13 @@ fn put_binding<A: Allocator, C: Allocator + Copy, B: Allocator>(
     out.extend_from_slice(b"  ")?;
     put_variable(number, out)?;
     out.extend_from_slice(b" is ")?;
-    put_value(alloc, value, out)?;
+    write_value(value, out)?;
     out.push(b'\n')?;
     Ok(())
 }
 
 /// Appends the line of each of the bindings.
-fn put_each<A: Allocator, C: Allocator + Copy, B: Allocator>(
-    alloc: C,
+fn put_each<A: Allocator, B: Allocator>(
     bindings: &[Binding<'_, A>],
     out: &mut Vec<u8, B>,
 ) -> Result<(), AllocError>
@@ -60,14 +56,13 @@ fn put_each<A: Allocator, C: Allocator + Copy, B: Allocator>(
     ensures grows { Grows out.old.items out.new.items }
 {
     for binding in bindings {
-        put_binding(alloc, binding.number, binding.value, out)?;
+        put_binding(binding.number, binding.value, out)?;
     }
     Ok(())
 }
 
 /// Appends the line of each binding, by rising number.
-fn put_bindings<'a, A: Allocator, D: Allocator, C: Allocator + Copy, B: Allocator>(
-    alloc: C,
+fn put_bindings<'a, A: Allocator, D: Allocator, B: Allocator>(
     bindings: &Bindings<'a, A, D>,
     out: &mut Vec<u8, B>,
 ) -> Result<(), AllocError>
@@ -75,37 +70,37 @@ fn put_bindings<'a, A: Allocator, D: Allocator, C: Allocator + Copy, B: Allocato
     ensures grows { Grows out.old.items out.new.items }
 {
     match bindings {
-        Bindings::Whole(number, list) => put_binding(alloc, *number, list.list(), out),
-        Bindings::Each(bindings) => put_each(alloc, bindings.as_slice(), out),
+        Bindings::Whole(number, list) => put_binding(*number, list.list(), out),
+        Bindings::Each(bindings) => put_each(bindings.as_slice(), out),
     }
 }
 
 /// Appends what the last message makes of the message's end.
 fn put_ending<A: Allocator, B: Allocator>(
-    last: Option<&Term<A>>,
+    last: Option<Value<'_, A>>,
     out: &mut Vec<u8, B>,
 ) -> Result<(), AllocError>
-    ensures ok { OnOk result (out.new.items ≡ out.old.items ++ ending_text (lent_tree last.entry)) }
+    ensures ok { OnOk result (out.new.items ≡ out.old.items ++ ending_text (message_term last.entry)) }
     ensures grows { Grows out.old.items out.new.items }
 {
-    let Some(term) = last else {
+    let Some(value) = last else {
         return out.extend_from_slice(b"a message");
     };
-    if term.is_word("true") {
+    if value.is_word("true") {
         return out.extend_from_slice(b"a message");
     }
-    if term.is_word("false") {
+    if value.is_word("false") {
         return out.extend_from_slice(b"no message: it is false");
     }
     out.extend_from_slice(b"a message that ends in ")?;
-    Ok(write_term(term, out)?)
+    Ok(write_value(value, out)?)
 }
 
 /// Appends what the effects of a clause that fires in this process make of the message.
 fn put_end<A: Allocator, B: Allocator>(
     dialect: Dialect,
     self_pid: u32,
-    effects: &[Effect<A>],
+    effects: &[Effect<'_, A>],
     out: &mut Vec<u8, B>,
 ) -> Result<(), AllocError>
     ensures ok { Appends (end_text (dialect_of dialect) self_pid (map effect_seen effects.now)) result out.old out.new }
@@ -131,7 +126,7 @@ pub fn put_clause<B: Allocator>(before: usize, out: &mut Vec<u8, B>) -> Result<(
 /// Appends that the clause fires, and what its body asks for.
 fn put_fires<A: Allocator, B: Allocator>(
     before: usize,
-    effects: &[Effect<A>],
+    effects: &[Effect<'_, A>],
     out: &mut Vec<u8, B>,
 ) -> Result<(), AllocError>
     ensures ok { OnOk result (out.new.items ≡ out.old.items ++ fires_line before (map effect_seen effects.now)) }
@@ -148,7 +143,7 @@ fn put_fires<A: Allocator, B: Allocator>(
 fn put_message<A: Allocator, B: Allocator>(
     dialect: Dialect,
     pid: u32,
-    effects: &[Effect<A>],
+    effects: &[Effect<'_, A>],
     out: &mut Vec<u8, B>,
 ) -> Result<(), AllocError>
     ensures ok { Appends (message_line (dialect_of dialect) pid (map effect_seen effects.now)) result out.old out.new }
@@ -180,12 +175,12 @@ fn put_where_differs<B: Allocator>(
 /// A specification that is held against a list.
 #[derive_where(Clone, Copy)]
 struct SpecTest<'a, 'c, A: Allocator + Copy> {
-    /// For the effects, and for the terms that values are written as.
+    /// For the effects.
     alloc: A,
     /// For what is evaluated.
     arena: &'a Bump<A>,
     spec: &'a Spec<A>,
-    context: &'c Context<'a, A>,
+    context: &'c Context<'a, 'c, A>,
 }
 
 impl<'a, 'c, A: Allocator + Copy> SpecTest<'a, 'c, A> {
@@ -201,7 +196,7 @@ impl<'a, 'c, A: Allocator + Copy> SpecTest<'a, 'c, A> {
     {
         put_clause(before, out)?;
         out.extend_from_slice(b": ")?;
-        put_reason(self.alloc, reason, out)?;
+        put_reason(reason, out)?;
         out.push(b'\n')?;
         Ok(())
     }
@@ -212,14 +207,14 @@ impl<'a, 'c, A: Allocator + Copy> SpecTest<'a, 'c, A> {
         before: usize,
         clause: &'a Clause<A>,
         bindings: &Bindings<'a, A, &'a Bump<A>>,
-        effects: &[Effect<A>],
+        effects: &[Effect<'_, A>],
         out: &mut Vec<u8, B>,
     ) -> Result<(), AllocError>
         ensures ok { Appends (fired_text self.now before clause.now bindings.now effects.now) result out.old out.new }
         ensures grows { Grows out.old.items out.new.items }
     {
         put_fires(before, effects, out)?;
-        put_bindings(self.alloc, bindings, out)?;
+        put_bindings(bindings, out)?;
         put_message(self.spec.dialect, self.context.self_pid, effects, out)?;
         self.put_differences(clause, bindings, effects, out)
     }
@@ -228,7 +223,7 @@ impl<'a, 'c, A: Allocator + Copy> SpecTest<'a, 'c, A> {
     fn put_body_difference<B: Allocator>(
         &self,
         difference: Difference,
-        effects: &[Effect<A>],
+        effects: &[Effect<'_, A>],
         out: &mut Vec<u8, B>,
     ) -> Result<(), AllocError>
         ensures ok { Appends (line_of_difference self.now effects.now difference) result out.old out.new }
@@ -262,7 +257,7 @@ impl<'a, 'c, A: Allocator + Copy> SpecTest<'a, 'c, A> {
         &self,
         clause: &'a Clause<A>,
         bindings: &Bindings<'a, A, &'a Bump<A>>,
-        effects: &[Effect<A>],
+        effects: &[Effect<'_, A>],
         out: &mut Vec<u8, B>,
     ) -> Result<(), AllocError>
         ensures ok { Appends (differences_text self.now clause.now bindings.now effects.now) result out.old out.new }
@@ -308,7 +303,7 @@ impl<'a, 'c, A: Allocator + Copy> SpecTest<'a, 'c, A> {
 pub fn put_spec_test<A: Allocator + Copy, B: Allocator>(
     alloc: A,
     spec: &Spec<A>,
-    context: &Context<'_, A>,
+    context: &Context<'_, '_, A>,
     out: &mut Vec<u8, B>,
 ) -> Result<(), AllocError>
     ensures ok { OnOk result (out.new.items ≡ out.old.items ++ spec_test_of spec.now context.now) }

@@ -11,11 +11,11 @@ use Rattle.tn_action.specs.Views.{context_seen}
 use Rattle.tn_action.proofs.TraceFlags.{with_true}
 use Rattle.tn_action.proofs.actions.perform.Goals as goal
 
-pub returns-in_ok-message-in-Message : goal.returns-in_ok-message-in-Message
-returns-in_ok-message-in-Message g c =
+pub returns-in-Message : goal.returns-in-Message
+returns-in-Message g c =
     let d = dialect_of c.args.scene.now.dialect in
     let context = context_at c.args.scene.now.context.now c.args.effects.now in
-    c.in_ok-message-in-Message.ensures d context ∙ sym (ap (λ a. ex.action_done d (action_of a) (map value_seen c.args.args.now) context) c.in-Message.is)
+    c.message.ensures d context ∙ sym (ap (λ a. ex.action_done d (action_of a) (map value_seen c.args.args.now) context) c.in-Message.is)
 
 pub returns-in-Silent : goal.returns-in-Silent
 returns-in-Silent g c =
