@@ -10,8 +10,8 @@ use tn_session::Kind;
 
 /// `tn_session::mark_for` has one answer.
 pub fn mark_for<A: Allocator>(
-    one: &[Effect<A>],
-    other: &[Effect<A>],
+    one: &[Effect<'_, A>],
+    other: &[Effect<'_, A>],
 ) -> (Option<Kind>, Option<Kind>)
     requires { asks one.now ≡ asks other.now }
     ensures { option_map mark_kind_seen result.0 ≡ option_map mark_kind_seen result.1 }

@@ -11,7 +11,7 @@ ghost use Rattle.complete_session.specs.Afterwards.{term_seen};
 
 use std::alloc::{AllocError, Allocator};
 use tn_flags::{Command, Event};
-use tn_session::{Look, Message, Session};
+use tn_session::{Look, Message, Room, Session};
 use tn_term::{Alive, Mfa, Term};
 
 /// `tn_session::Session::created` has one answer.
@@ -81,12 +81,14 @@ pub fn event<A: Allocator + Copy>(
     (first, second)
 }
 
-/// `tn_session::Session::tell` has one answer. It includes the session afterwards.
+/// `tn_session::Session::tell` has one answer, whatever the room is. It includes the session afterwards.
 pub fn tell<'a, A: Allocator + Copy>(
     one: &mut Session<A>,
     other: &mut Session<A>,
     event: &'a Event<A>,
     same_event: &'a Event<A>,
+    room: &'a mut Room<A>,
+    other_room: &'a mut Room<A>,
 ) -> (
     Result<Option<Message<'a, A>>, AllocError>,
     Result<Option<Message<'a, A>>, AllocError>,
@@ -98,7 +100,7 @@ pub fn tell<'a, A: Allocator + Copy>(
     ensures refused { OnErr result.0 (IsNone (value_in one.new)) }
     ensures spent { IsNone (value_in one.old) → IsErr result.0 }
 {
-    let first = one.tell(event);
-    let second = other.tell(same_event);
+    let first = one.tell(event, room);
+    let second = other.tell(same_event, other_room);
     (first, second)
 }

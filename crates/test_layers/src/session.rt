@@ -7,7 +7,7 @@ use std::process::Abort;
 use std::test::Fail;
 use tn_flags::{Class, Event};
 use tn_script::{Form, forms};
-use tn_session::{Message, Session};
+use tn_session::{Message, Room, Session};
 use tn_term::Alive;
 
 /// What is asked or told of a session, and what it answers.
@@ -376,7 +376,8 @@ fn check_told(
     event: &Event<Global>,
     wanted: &str,
 ) -> Result<(), AllocError> {
-    match session.tell(event)? {
+    let mut room = Room::new(alloc);
+    match session.tell(event, &mut room)? {
         Some(message) => check_message(rt, alloc, &message, wanted),
         None => {
             check(rt, wanted.is_empty(), wanted);

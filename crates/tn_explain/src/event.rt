@@ -18,7 +18,7 @@ use crate::step_differences::StepDifferences;
 use std::alloc::{AllocError, Allocator};
 use tn_flags::Event;
 use tn_node::Outlook;
-use tn_session::{Look, Message, Session};
+use tn_session::{Look, Message, Room, Session};
 use tn_term::Atom;
 
 /// Appends, a line each, what the session of this name makes of an event of a step of which this was known before it,
@@ -41,7 +41,8 @@ pub fn put_event_lines<A: Allocator + Copy>(
         return Err(AllocError);
     };
     if !look.is_live() {
-        session.tell(event)?;
+        let mut room = Room::new(alloc);
+        session.tell(event, &mut room)?;
         return Ok(());
     }
     match both_of(event) {
@@ -84,7 +85,8 @@ impl<A: Allocator + Copy> Lines<'_, A> {
         let evaluation = self.put_before(&look, event, out)?;
         let mut behind = Vec::new(self.alloc);
         self.put_after(&look, event, evaluation, &mut behind)?;
-        let message = session.tell(event)?;
+        let mut room = Room::new(self.alloc);
+        let message = session.tell(event, &mut room)?;
         let steps = before.after(outlook, event, message.is_some());
         self.put_reported(session, evaluation, event, &message, out)?;
         put_text(&behind, out)?;

@@ -14,7 +14,7 @@ use crate::differences::{Change, inherited_difference};
 use crate::line::Lines;
 use std::alloc::{AllocError, Allocator};
 use tn_flags::Event;
-use tn_session::{Message, Session};
+use tn_session::{Message, Room, Session};
 use tn_verdict::put_flags;
 
 /// The process that gives flags and the one that inherits them, where the event is of that.
@@ -70,7 +70,8 @@ impl<A: Allocator + Copy> Lines<'_, A> {
         };
         let given_by = look.flags_at(giver);
         let had = look.flags_at(taker);
-        let message = session.tell(event)?;
+        let mut room = Room::new(self.alloc);
+        let message = session.tell(event, &mut room)?;
         let Some(look) = session.look() else {
             return Err(AllocError);
         };

@@ -11,7 +11,7 @@ use crate::evaluation_differences::evaluation_differs;
 use crate::inheritance::both_of;
 use std::alloc::{AllocError, Allocator};
 use tn_flags::Event;
-use tn_session::Session;
+use tn_session::{Room, Session};
 use tn_trace::Slot;
 
 /// A live session sees an event by which no process inherits flags: whether a node does otherwise in what it makes of
@@ -29,13 +29,15 @@ fn compare_evaluated<A: Allocator + Copy>(
     };
     let at_end = end_difference(&look, event).is_some();
     let evaluated = evaluation_differs(alloc, &look, event)?;
-    session.tell(event)?;
+    let mut room = Room::new(alloc);
+    session.tell(event, &mut room)?;
     Ok(evaluated | at_end)
 }
 
 /// A live session sees an event by which one process inherits flags of another: whether a node does otherwise in what
 /// it makes of it.
 fn compare_inheriting<A: Allocator + Copy>(
+    alloc: A,
     session: &mut Session<A>,
     event: &Event<A>,
     giver: u32,
@@ -49,7 +51,8 @@ fn compare_inheriting<A: Allocator + Copy>(
     };
     let given_by = look.flags_at(giver);
     let had = look.flags_at(taker);
-    session.tell(event)?;
+    let mut room = Room::new(alloc);
+    session.tell(event, &mut room)?;
     let Some(look) = session.look() else {
         return Err(AllocError);
     };
@@ -78,11 +81,12 @@ fn compare<A: Allocator + Copy>(
         return Err(AllocError);
     };
     if !look.is_live() {
-        session.tell(event)?;
+        let mut room = Room::new(alloc);
+        session.tell(event, &mut room)?;
         return Ok(false);
     }
     match both_of(event) {
-        Some((giver, taker)) => compare_inheriting(session, event, giver, taker),
+        Some((giver, taker)) => compare_inheriting(alloc, session, event, giver, taker),
         None => compare_evaluated(alloc, session, event),
     }
 }

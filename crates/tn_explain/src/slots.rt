@@ -16,6 +16,7 @@ use std::alloc::{AllocError, Allocator};
 use tn_difference::Difference;
 use tn_flags::{Command, Event};
 use tn_script::Function;
+use tn_session::Room;
 use tn_term::Alive;
 use tn_trace::Slot;
 
@@ -45,7 +46,8 @@ fn tell_one<A: Allocator + Copy>(
     if is_asked {
         put_event_lines(alloc, &slot.name, session, step.outlook, event, out)
     } else {
-        session.tell(event)?;
+        let mut room = Room::new(alloc);
+        session.tell(event, &mut room)?;
         Ok(())
     }
 }

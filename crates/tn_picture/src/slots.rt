@@ -7,6 +7,7 @@ use crate::row::Report;
 use std::alloc::{AllocError, Allocator};
 use tn_flags::{Command, Event};
 use tn_script::Function;
+use tn_session::Room;
 use tn_term::Alive;
 use tn_trace::Slot;
 
@@ -23,7 +24,8 @@ fn report_one<A: Allocator + Copy>(
     let Some(session) = &mut slot.session else {
         return Ok(());
     };
-    let Some(message) = session.tell(event)? else {
+    let mut room = Room::new(alloc);
+    let Some(message) = session.tell(event, &mut room)? else {
         return Ok(());
     };
     let mut text = Vec::new(alloc);

@@ -50,6 +50,7 @@ use Rattle.indexmap.specs.contracts.index_table.IndexTable as index_table
 use Rattle.indexmap.specs.contracts.columns.Columns as columns
 use Rattle.indexmap.specs.contracts.map.IndexMap as index_map
 use Rattle.tn_session.specs.contracts.compiled_spec.CompiledSpec as compiled
+use Rattle.tn_session.specs.contracts.shared_spec.SharedSpec as shared_spec
 use Rattle.tn_session.specs.contracts.state.State as state
 use Rattle.tn_session.specs.contracts.session.Session as session
 use Rattle.tn_trace.specs.contracts.sinks.Terms as terms
@@ -277,6 +278,61 @@ module _ (T : RattleType) (g : Ghosts T.Denot) (s : IsSend T) (f : Frees g g.dea
   compiled_field_send : IsSend (compiled.the_field T g).row
   compiled_field_send = search (sendable, crosses, spec_send, spec_field_send, code_send, code_field_send, compiled_send) depth 40 fits 3000 parts 0
 
+  -- a specification with its code, which a session shares with the room of an event
+  expr_sync : IsSync (expr.the_row T g)
+  expr_sync = search (sendable, crosses, term_sync, term_field_sync, expr_knot.sync-Expr, func_sent.the_sync, func_sent.the_field_sync, action_sent.the_sync, action_sent.the_field_sync) depth 40 fits 3000 parts 0
+
+  expr_field_sync : IsSync (expr.the_field T g).row
+  expr_field_sync = search (sendable, crosses, term_sync, term_field_sync, expr_knot.sync-Expr, func_sent.the_sync, func_sent.the_field_sync, action_sent.the_sync, action_sent.the_field_sync, expr_sync) depth 40 fits 3000 parts 0
+
+  pattern_sync : IsSync (pattern.the_row T g)
+  pattern_sync = search (sendable, crosses, term_sync, term_field_sync, atom_sync, atom_field_sync, pattern_knot.sync-Pattern) depth 40 fits 3000 parts 0
+
+  pattern_field_sync : IsSync (pattern.the_field T g).row
+  pattern_field_sync = search (sendable, crosses, term_sync, term_field_sync, atom_sync, atom_field_sync, pattern_knot.sync-Pattern, pattern_sync) depth 40 fits 3000 parts 0
+
+  head_sync : IsSync (head.the_row T g)
+  head_sync = search (sendable, crosses, pattern_sync, pattern_field_sync) depth 40 fits 3000 parts 0
+
+  head_field_sync : IsSync (head.the_field T g).row
+  head_field_sync = search (sendable, crosses, pattern_sync, pattern_field_sync, head_sync) depth 40 fits 3000 parts 0
+
+  clause_sync : IsSync (clause.the_row T g)
+  clause_sync = search (sendable, crosses, head_sync, head_field_sync, expr_sync, expr_field_sync) depth 40 fits 3000 parts 0
+
+  clause_field_sync : IsSync (clause.the_field T g).row
+  clause_field_sync = search (sendable, crosses, head_sync, head_field_sync, expr_sync, expr_field_sync, clause_sync) depth 40 fits 3000 parts 0
+
+  spec_sync : IsSync (spec.the_row T g)
+  spec_sync = search (sendable, crosses, clause_sync, clause_field_sync) depth 40 fits 3000 parts 0
+
+  spec_field_sync : IsSync (spec.the_field T g).row
+  spec_field_sync = search (sendable, crosses, clause_sync, clause_field_sync, spec_sync) depth 40 fits 3000 parts 0
+
+  instruction_sync : IsSync (instruction.the_row T g)
+  instruction_sync = search (sendable, crosses, term_sync, term_field_sync, func_sent.the_sync, func_sent.the_field_sync, action_sent.the_sync, action_sent.the_field_sync, dialect_sent.the_sync, dialect_sent.the_field_sync, kind_sent.the_sync, kind_sent.the_field_sync, on_fault_sent.the_sync, on_fault_sent.the_field_sync) depth 40 fits 3000 parts 0
+
+  instruction_field_sync : IsSync (instruction.the_field T g).row
+  instruction_field_sync = search (sendable, crosses, term_sync, term_field_sync, func_sent.the_sync, func_sent.the_field_sync, action_sent.the_sync, action_sent.the_field_sync, dialect_sent.the_sync, dialect_sent.the_field_sync, kind_sent.the_sync, kind_sent.the_field_sync, on_fault_sent.the_sync, on_fault_sent.the_field_sync, instruction_sync) depth 40 fits 3000 parts 0
+
+  code_sync : IsSync (code.the_row T g)
+  code_sync = search (sendable, crosses, instruction_sync, instruction_field_sync) depth 40 fits 3000 parts 0
+
+  code_field_sync : IsSync (code.the_field T g).row
+  code_field_sync = search (sendable, crosses, instruction_sync, instruction_field_sync, code_sync) depth 40 fits 3000 parts 0
+
+  compiled_sync : IsSync (compiled.the_row T g)
+  compiled_sync = search (sendable, crosses, spec_sync, spec_field_sync, code_sync, code_field_sync) depth 40 fits 3000 parts 0
+
+  compiled_field_sync : IsSync (compiled.the_field T g).row
+  compiled_field_sync = search (sendable, crosses, spec_sync, spec_field_sync, code_sync, code_field_sync, compiled_sync) depth 40 fits 3000 parts 0
+
+  shared_spec_send : IsSend (shared_spec.the_row T g)
+  shared_spec_send = search (sendable, crosses, compiled_send, compiled_field_send, compiled_sync, compiled_field_sync) depth 40 fits 3000 parts 0
+
+  shared_spec_field_send : IsSend (shared_spec.the_field T g).row
+  shared_spec_field_send = search (sendable, crosses, compiled_send, compiled_field_send, compiled_sync, compiled_field_sync, shared_spec_send) depth 40 fits 3000 parts 0
+
   setting_send : (S : RattleType) → IsSend S → IsSend (setting.the_row S)
   setting_send S k = search (sendable, crosses) depth 40 fits 3000 parts 0
 
@@ -333,10 +389,10 @@ module _ (T : RattleType) (g : Ghosts T.Denot) (s : IsSend T) (f : Frees g g.dea
   settings_field_send S k = search (sendable, crosses, covering_send, covering_field_send, indexed_send, indexed_field_send, index_map_send, index_map_field_send, hashing_send, hashing_field_send, folding_sent.the_send, settings_send) depth 40 fits 3000 parts 0
 
   state_send : IsSend (state.the_row T g)
-  state_send = search (sendable, crosses, mfa_send, mfa_field_send, compiled_send, compiled_field_send, settings_send, settings_field_send, setting_send, setting_field_send, alive_sent.the_send, alive_sent.the_field_send, flags_sent.the_send, flags_sent.the_field_send, phase_sent.the_send, phase_sent.the_field_send, mark_sent.the_send, mark_sent.the_field_send, mark_kind_sent.the_send, mark_kind_sent.the_field_send) depth 40 fits 3000 parts 0
+  state_send = search (sendable, crosses, mfa_send, mfa_field_send, shared_spec_send, shared_spec_field_send, settings_send, settings_field_send, setting_send, setting_field_send, alive_sent.the_send, alive_sent.the_field_send, flags_sent.the_send, flags_sent.the_field_send, phase_sent.the_send, phase_sent.the_field_send, mark_sent.the_send, mark_sent.the_field_send, mark_kind_sent.the_send, mark_kind_sent.the_field_send) depth 40 fits 3000 parts 0
 
   state_field_send : IsSend (state.the_field T g).row
-  state_field_send = search (sendable, crosses, mfa_send, mfa_field_send, compiled_send, compiled_field_send, settings_send, settings_field_send, setting_send, setting_field_send, alive_sent.the_send, alive_sent.the_field_send, flags_sent.the_send, flags_sent.the_field_send, phase_sent.the_send, phase_sent.the_field_send, mark_sent.the_send, mark_sent.the_field_send, mark_kind_sent.the_send, mark_kind_sent.the_field_send, state_send) depth 40 fits 3000 parts 0
+  state_field_send = search (sendable, crosses, mfa_send, mfa_field_send, shared_spec_send, shared_spec_field_send, settings_send, settings_field_send, setting_send, setting_field_send, alive_sent.the_send, alive_sent.the_field_send, flags_sent.the_send, flags_sent.the_field_send, phase_sent.the_send, phase_sent.the_field_send, mark_sent.the_send, mark_sent.the_field_send, mark_kind_sent.the_send, mark_kind_sent.the_field_send, state_send) depth 40 fits 3000 parts 0
 
   session_send : IsSend (session.the_row T g)
   session_send = search (sendable, crosses, state_send, state_field_send) depth 40 fits 3000 parts 0

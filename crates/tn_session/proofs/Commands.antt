@@ -19,7 +19,7 @@ use Rattle.def_session.specs.State.{Session}
 use Rattle.def_session.specs.Commands.{refuse, function_set, function_set_if}
 use Rattle.std.specs.Option.{option_map}
 use Rattle.def_term.specs.Names.{Mfa}
-use Rattle.tn_session.specs.declared.compiled_spec.CompiledSpec.{CompiledSpec}
+use Rattle.tn_session.specs.declared.shared_spec.SharedSpec.{SharedSpec}
 use Rattle.tn_index.specs.declared.function_setting.FunctionSetting.{FunctionSetting}
 use Rattle.tn_index.specs.Views.{covers}
 use Rattle.tn_index.specs.Newest.{newest_setting}
@@ -93,13 +93,13 @@ no_options (x ∷ xs) e = absurd (omega arith)
 
 -- ---- from the newest
 
-newest_by : {A : Type 0} (b : Bool) (k : FunctionSetting (CompiledSpec A) A) (ks : List (FunctionSetting (CompiledSpec A) A)) (f : Mfa) (x : Bool) → newest_with (settings_seen ks) f x ≡ option_map function_setting_seen (newest_setting ks f x)
+newest_by : {A : Type 0} (b : Bool) (k : FunctionSetting (SharedSpec A) A) (ks : List (FunctionSetting (SharedSpec A) A)) (f : Mfa) (x : Bool) → newest_with (settings_seen ks) f x ≡ option_map function_setting_seen (newest_setting ks f x)
     → (if b then Some (function_setting_seen k) else newest_with (settings_seen ks) f x) ≡ option_map function_setting_seen (if b then Some k else newest_setting ks f x)
 newest_by true k ks f x older = refl
 newest_by false k ks f x older = older
 
 -- the newest of the code's is the definition's
-pub newest_seen : {A : Type 0} (ks : List (FunctionSetting (CompiledSpec A) A)) (f : Mfa) (x : Bool) → newest_with (settings_seen ks) f x ≡ option_map function_setting_seen (newest_setting ks f x)
+pub newest_seen : {A : Type 0} (ks : List (FunctionSetting (SharedSpec A) A)) (f : Mfa) (x : Bool) → newest_with (settings_seen ks) f x ≡ option_map function_setting_seen (newest_setting ks f x)
 newest_seen [] f x = refl
 newest_seen (k ∷ ks) f x = newest_by (covers k f x) k ks f x (newest_seen ks f x)
 

@@ -6,7 +6,7 @@ use Rattle.def_spec.specs.Expressions.{Effect, gives_message, traces_return, tra
 use Rattle.def_session.specs.State.{MarkKind}
 use Rattle.def_session.specs.Messages.{later, last_message, followed_by}
 use Rattle.def_session.specs.Session.{or_for_returns}
-use Rattle.tn_term.specs.declared.term.Term.{Term}
+use Rattle.tn_guard.specs.declared.value.Value.{Value}
 use Rattle.tn_machine.specs.Types.{effect_seen}
 use Rattle.tn_machine.specs.Types as code
 use Rattle.tn_machine.specs.Types.{Message, ReturnTrace, ExceptionTrace, Silent, Change}
@@ -41,8 +41,8 @@ pub popped : {A : Type 0} (xs ys : List (code.Effect A)) (e : code.Effect A) →
 popped xs ys e is =
     ap (λ zs. last_message (map effect_seen zs)) is ∙ ap last_message (map-append effect_seen ys (e ∷ [])) ∙ last_after (map effect_seen ys) (effect_seen e)
 
-pub no_message : {A : Type 0} (e : code.Effect A) → ((t : Term A) → e ≡ Message t → ⊥) → last_message (effect_seen e ∷ []) ≡ None
-no_message (Message t) h = absurd (h t refl)
+pub no_message : {A : Type 0} (e : code.Effect A) → ((v : Value A) → e ≡ Message v → ⊥) → last_message (effect_seen e ∷ []) ≡ None
+no_message (Message v) h = absurd (h v refl)
 no_message ReturnTrace h = refl
 no_message ExceptionTrace h = refl
 no_message (Silent b) h = refl

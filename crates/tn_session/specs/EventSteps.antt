@@ -24,7 +24,7 @@ use Rattle.tn_session.specs.Views.{setting_seen, state_seen}
 use Rattle.tn_session.specs.Messages.{message_seen}
 use Rattle.tn_session.specs.declared.message.Message.{Message}
 use Rattle.tn_index.specs.declared.function_setting.Setting.{Setting}
-use Rattle.tn_session.specs.declared.compiled_spec.CompiledSpec.{CompiledSpec}
+use Rattle.tn_session.specs.declared.shared_spec.SharedSpec.{SharedSpec}
 use Rattle.tn_session.specs.declared.state.State.{State}
 
 -- a message, where there is one
@@ -78,7 +78,7 @@ abbrev pub send_evaluation : {A B : Type 0} → State A → ℕ → Term B → �
 send_evaluation s p t to alive = evaluation s (sent p (tree_of t) to alive)
 
 -- by a setting
-abbrev pub evaluation_by : {A : Type 0} → Setting (CompiledSpec A) → Context → Option (List DefinedEffect)
+abbrev pub evaluation_by : {A : Type 0} → Setting (SharedSpec A) → Context → Option (List DefinedEffect)
 evaluation_by s c = evaluated_by (setting_seen s) c
 
 -- the function that called, where it is lent
@@ -89,6 +89,6 @@ caller_seen caller = option_map (λ m. mfa_seen m.now) caller
 abbrev pub on_values : {A B : Type 0} → State A → ℕ → Option (Bor (mfas.Mfa A)) → List (Value B) → Context
 on_values s self_pid caller vs = context (state_seen s) self_pid (map value_seen vs) (caller_seen caller)
 
--- the message of an event, by the last term that its effects give
-abbrev pub decision : {A B : Type 0} → Bool → Event A → Option (Term B) → Option Tree
-decision short e last = message_by (option_map tree_of last) (elements_of short (event_of e))
+-- the message of an event, by the last value that its effects give
+abbrev pub decision : {A B : Type 0} → Bool → Event A → Option (Value B) → Option Tree
+decision short e last = message_by (option_map value_seen last) (elements_of short (event_of e))

@@ -1,4 +1,5 @@
 pub mod Compilations
+pub mod SharedSpecs
 pub mod Views
 pub mod Looks
 pub mod Messages

@@ -15,6 +15,8 @@ use Rattle.tn_term.specs.declared.term.Term.{Term}
 use Rattle.tn_flags.specs.Views.{class_of, event_of}
 use Rattle.tn_flags.specs.declared.class.Class.{Class}
 use Rattle.tn_flags.specs.declared.event.Event as events
+use Rattle.tn_guard.specs.Views.{value_seen}
+use Rattle.tn_guard.specs.declared.value.Value.{Value}
 use Rattle.tn_session.specs.declared.message.Message.{Message}
 
 -- the terms of a list
@@ -33,9 +35,9 @@ call_tree f args = call_term (mfa_seen f) (shared_trees args)
 abbrev pub exception_tree : {A : Type 0} → Class → Term A → Tree
 exception_tree c t = exception_term (class_of c) (tree_of t)
 
--- the last term, where there is one
-abbrev pub last_seen : {A : Type 0} → Option (Term A) → List Tree
-last_seen t = option_to_list (option_map tree_of t)
+-- the last element, where there is one
+abbrev pub last_seen : {A : Type 0} → Option (Value A) → List Tree
+last_seen v = option_to_list (option_map value_seen v)
 
 -- the elements of the message of a return
 abbrev pub elements_of_return : {A B : Type 0} → ℕ → mfas.Mfa A → Term B → List Tree
@@ -57,11 +59,11 @@ elements_with_call p kind to f args = first_three p kind ++ pid to ∷ call_tree
 abbrev pub pair : Tree → Tree → Tree
 pair s t = tuple (of_elements (s ∷ t ∷ []))
 
--- the event's elements, and the last term where there is one
+-- the event's elements, and the last element where there is one
 abbrev pub message_seen : {A : Type 0} → Message A → Tree
 message_seen m = tuple (of_elements (elements_of m.short (event_of m.event.now) ++ last_seen m.last))
 
--- the same of another event: its elements, and the last term where there is one
+-- the same of another event: its elements, and the last element where there is one
 abbrev pub message_of : {A B : Type 0} → events.Event A → Message B → Tree
 message_of e m = tuple (of_elements (elements_of m.short (event_of e) ++ last_seen m.last))
 

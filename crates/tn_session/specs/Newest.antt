@@ -6,7 +6,7 @@ use Rattle.def_term.specs.Names.{Mfa}
 use Rattle.def_session.specs.Settings.{FunctionSetting, Setting, off, has_among}
 use Rattle.tn_index.specs.declared.function_setting.Setting as code
 use Rattle.tn_session.specs.Views.{setting_seen}
-use Rattle.tn_session.specs.declared.compiled_spec.CompiledSpec.{CompiledSpec}
+use Rattle.tn_session.specs.declared.shared_spec.SharedSpec.{SharedSpec}
 
 -- the first of these, which are the newest first, that has the function among its own
 abbrev pub newest_with : List FunctionSetting → Mfa → Bool → Option FunctionSetting
@@ -19,7 +19,7 @@ setting_in None = off
 setting_in (Some s) = s
 
 -- the setting that is lent; a disabled one where there is none
-abbrev pub lent_setting : {A : Type 0} → Option (Bor (code.Setting (CompiledSpec A))) → Setting
+abbrev pub lent_setting : {A : Type 0} → Option (Bor (code.Setting (SharedSpec A))) → Setting
 lent_setting r = setting_in (option_map (λ s. setting_seen s.now) r)
 
 -- the setting of a command, where it concerns a call that names the module or not

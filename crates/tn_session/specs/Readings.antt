@@ -10,7 +10,7 @@ use Rattle.tn_spec.specs.Views.{dialect_of}
 use Rattle.tn_spec.specs.Readings.{TOO_LARGE}
 use Rattle.tn_session.specs.Views.{setting_seen}
 use Rattle.tn_index.specs.declared.function_setting.Setting.{Setting}
-use Rattle.tn_session.specs.declared.compiled_spec.CompiledSpec.{CompiledSpec}
+use Rattle.tn_session.specs.declared.shared_spec.SharedSpec.{SharedSpec}
 
 -- a fault of a term that is read as a setting: its first, or that it is too large; want of memory reports nothing of it
 abbrev pub IsSettingFaultIn : {A : Type 0} → Dialect → Tree → SpecFault A → Type 0
@@ -20,5 +20,5 @@ IsSettingFaultIn d t TooLarge = TOO_LARGE ≤ size t
 IsSettingFaultIn d t OutOfMemory = Unit {0}
 
 -- the setting that the term spells, or its fault
-abbrev pub IsSettingRead : {A : Type 0} → Dialect → Tree → Result (Setting (CompiledSpec A)) (SpecFault A) → Type 0
+abbrev pub IsSettingRead : {A : Type 0} → Dialect → Tree → Result (Setting (SharedSpec A)) (SpecFault A) → Type 0
 IsSettingRead d t result = MatchResult result (λ s. setting_of (dialect_of d) t ≡ Ok (setting_seen s)) (λ fault. IsSettingFaultIn d t fault)

@@ -8,9 +8,9 @@ use Rattle.def_session.specs.State as definition
 use Rattle.def_session.specs.Settings as settings
 use Rattle.tn_term.specs.Views.{mfa_seen, alive_of}
 use Rattle.tn_flags.specs.Views.{flags_of, table_of}
-use Rattle.tn_session.specs.Compilations.{compiled_seen}
+use Rattle.tn_session.specs.SharedSpecs.{shared_seen}
 use Rattle.tn_term.specs.declared.mfa.Mfa.{Mfa}
-use Rattle.tn_session.specs.declared.compiled_spec.CompiledSpec.{CompiledSpec}
+use Rattle.tn_session.specs.declared.shared_spec.SharedSpec.{SharedSpec}
 use Rattle.tn_index.specs.Views.{function_pattern_seen}
 use Rattle.tn_index.specs.declared.function_setting.Setting.{Setting}
 use Rattle.tn_index.specs.declared.function_setting.Setting.TheVariants.{Disabled, Always, Specification}
@@ -23,16 +23,16 @@ use Rattle.tn_session.specs.declared.state.Kind.TheVariants.{Returns, Exceptions
 use Rattle.tn_session.specs.declared.state.Mark.{Mark}
 use Rattle.tn_session.specs.declared.state.State.{State}
 
-abbrev pub setting_seen : {A : Type 0} → Setting (CompiledSpec A) → settings.Setting
+abbrev pub setting_seen : {A : Type 0} → Setting (SharedSpec A) → settings.Setting
 setting_seen Disabled = settings.off
 setting_seen Always = settings.plain
-setting_seen (Specification s) = settings.by (compiled_seen s)
+setting_seen (Specification s) = settings.by (shared_seen s)
 
-abbrev pub function_setting_seen : {A : Type 0} → FunctionSetting (CompiledSpec A) A → settings.FunctionSetting
+abbrev pub function_setting_seen : {A : Type 0} → FunctionSetting (SharedSpec A) A → settings.FunctionSetting
 function_setting_seen k = record { covered = function_pattern_seen k.covered; setting = setting_seen k.setting; local = k.local }
 
 -- the newest first
-abbrev pub settings_seen : {A : Type 0} → List (FunctionSetting (CompiledSpec A) A) → List settings.FunctionSetting
+abbrev pub settings_seen : {A : Type 0} → List (FunctionSetting (SharedSpec A) A) → List settings.FunctionSetting
 settings_seen ks = map function_setting_seen ks
 
 abbrev pub phase_seen : Phase → definition.Phase

@@ -8,7 +8,7 @@ ghost use Rattle.tn_term.specs.Views.{tree_of, trees_of};
 ghost use Rattle.tn_session.specs.Readings.{IsSettingRead};
 ghost use Rattle.tn_session.specs.Views.{Covers};
 
-use crate::compiled_spec::CompiledSpec;
+use crate::shared_spec::SharedSpec;
 use std::alloc::{AllocError, Allocator};
 use tn_index::{FunctionPattern, Setting};
 use tn_spec::{Dialect, SpecFault, spec_of};
@@ -197,7 +197,7 @@ pub(crate) fn setting_of<A: Allocator + Copy>(
     alloc: A,
     term: &Term<A>,
     dialect: Dialect,
-) -> Result<Setting<CompiledSpec<A>>, SpecFault<A>>
+) -> Result<Setting<SharedSpec<A>>, SpecFault<A>>
     ensures { IsSettingRead dialect (tree_of term.now) result }
 {
     if term.is_word("true") || is_empty_list(term) {
@@ -207,7 +207,7 @@ pub(crate) fn setting_of<A: Allocator + Copy>(
         return Ok(Setting::Disabled);
     }
     match spec_of(alloc, term, dialect) {
-        Ok(specification) => Ok(Setting::Specification(CompiledSpec::of(alloc, specification)?)),
+        Ok(specification) => Ok(Setting::Specification(SharedSpec::of(alloc, specification)?)),
         Err(fault) => Err(fault),
     }
 }

@@ -15,8 +15,8 @@ ghost use Rattle.tn_session.specs.Replies.{reply_seen, opening_in, AreFlagsSet, 
 ghost use Rattle.tn_session.specs.Replies.{IsFunctionDone, IsSendDone, IsReceiveDone, IsLiveDone, IsCommandDone};
 
 use crate::arguments::{options_of, pattern_of, setting_of};
-use crate::compiled_spec::CompiledSpec;
 use crate::reply::{Reply, count_reply, reply_to};
+use crate::shared_spec::SharedSpec;
 use crate::state::{Phase, State};
 use std::alloc::{AllocError, Allocator};
 use tn_flags::{Command, FlagTable, Flags, flag_of};
@@ -191,7 +191,7 @@ impl<A: Allocator + Copy> State<A> {
     }
 
     /// How many functions the command matches.
-    fn match_count(&self, setting: &FunctionSetting<CompiledSpec<A>, A>) -> usize
+    fn match_count(&self, setting: &FunctionSetting<SharedSpec<A>, A>) -> usize
         ensures value { (n : ℕ) → result ≡ matching_count (opening_in self.now n) (function_setting_seen setting.now) }
         ensures small { result < 2 ^ 63 }
     {
@@ -205,10 +205,7 @@ impl<A: Allocator + Copy> State<A> {
     }
 
     /// An accepted function command is the newest.
-    fn cover(
-        &mut self,
-        setting: FunctionSetting<CompiledSpec<A>, A>,
-    ) -> Result<Reply<A>, AllocError>
+    fn cover(&mut self, setting: FunctionSetting<SharedSpec<A>, A>) -> Result<Reply<A>, AllocError>
         ensures done { IfOk result (λ r. AddsSetting self.old (function_setting_seen setting) self.new (reply_seen r)) }
         ensures functions { self.new.functions ≡ self.old.functions }
     {

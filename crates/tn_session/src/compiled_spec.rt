@@ -43,16 +43,16 @@ impl<A: Allocator + Copy> CompiledSpec<A> {
         &self.specification
     }
 
-    /// What the specification gives in a context. What is evaluated lies in an arena that is given up
-    /// before the answer. An error is refused memory.
-    pub(crate) fn outcome(
-        &self,
+    /// What the specification gives in a context. The values lie in the arena, or are lent. An error is refused
+    /// memory.
+    pub(crate) fn outcome<'a>(
+        &'a self,
         alloc: A,
-        context: &Context<'_, A>,
-    ) -> Result<Outcome<A>, AllocError>
+        context: &Context<'a, '_, A>,
+        arena: &'a Bump<A>,
+    ) -> Result<Outcome<'a, A>, AllocError>
         ensures { IfOk result (λ o. outcome_seen o ≡ outcome_of (compiled_seen self.now) (context_seen context.now)) }
     {
-        let arena = Bump::new(alloc);
-        Ok(execute(alloc, &self.code, context, &arena)?)
+        Ok(execute(alloc, &self.code, context, arena)?)
     }
 }

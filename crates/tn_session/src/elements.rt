@@ -12,6 +12,7 @@ ghost use Rattle.tn_session.specs.Messages.{elements_of_return, elements_of_rais
 
 use std::alloc::{AllocError, Allocator};
 use tn_flags::{Call, Class, Event};
+use tn_guard::Value;
 use tn_term::{Mfa, SharedTerm, Term};
 
 /// The elements of the message of an event; a call's names the arity alone where `short`. There is room
@@ -316,16 +317,16 @@ fn call_with_args<A: Allocator, B: Allocator + Copy>(
     tuple_of_three(alloc, module, name, args)
 }
 
-/// Puts a copy of the last term after the others, where there is one.
+/// Puts a copy of the last value after the others, where there is one.
 pub(crate) fn push_last<A: Allocator, B: Allocator + Copy>(
     alloc: B,
-    last: &Option<Term<A>>,
+    last: Option<Value<'_, A>>,
     items: &mut Vec<Term<B>, B>,
 ) -> Result<(), AllocError>
-    ensures { IfOk result (λ _. trees items.new ≡ trees items.old ++ last_seen last.now) }
+    ensures { IfOk result (λ _. trees items.new ≡ trees items.old ++ last_seen last.entry) }
 {
-    if let Some(term) = last {
-        items.push(term.copy_into(alloc)?)?;
+    if let Some(value) = last {
+        items.push(value.copy_into(alloc)?)?;
     }
     Ok(())
 }

@@ -1,17 +1,19 @@
 // What a session makes of an event.
 ghost use Rattle.std.specs.Prelude.{◌≡◌, Bool, if◌then◌else◌, List, [], IfOk, IfSome};
 ghost use Rattle.std.specs.Option.{option_map};
-ghost use Rattle.def_term.specs.Names.{Mfa};
+ghost use Rattle.def_term.specs.Names.{Mfa, word};
+ghost use Rattle.def_term.specs.Order.{same};
 ghost use Rattle.def_term.specs.Tree.{Tree};
 ghost use Rattle.def_script.specs.Program.{Class};
 ghost use Rattle.def_spec.specs.Expressions.{Effect as DefinedEffect};
 ghost use Rattle.def_node.specs.Event.{received, called, returned, raised, exited};
 ghost use Rattle.def_session.specs.Messages as messages;
 ghost use Rattle.def_session.specs.Session as session;
-ghost use Rattle.def_session.specs.Session.{message_after};
+ghost use Rattle.def_session.specs.Session.{effects_of_outcome, message_after};
 ghost use Rattle.tn_term.specs.Views.{tree_of};
 ghost use Rattle.tn_flags.specs.Views.{event_of, call_seen};
-ghost use Rattle.tn_machine.specs.Types.{context_seen};
+ghost use Rattle.tn_guard.specs.Views.{value_seen};
+ghost use Rattle.tn_machine.specs.Types.{outcome_seen};
 ghost use Rattle.tn_session.specs.Views.{mark_kind_seen, state_seen};
 ghost use Rattle.tn_session.specs.EventSteps.{event_result, reported_as_term, event_step, live_event_step};
 ghost use Rattle.tn_session.specs.EventSteps.{event_step_by, alive_step, plain_finish};
@@ -19,11 +21,13 @@ ghost use Rattle.tn_session.specs.EventSteps.{asks, effects_in, evaluation};
 ghost use Rattle.tn_session.specs.EventSteps.{evaluation_by, send_evaluation, on_values};
 ghost use Rattle.tn_session.specs.EventSteps.{message_in, decision};
 
-use crate::compiled_spec::CompiledSpec;
 use crate::marks::mark_for;
 use crate::message::Message;
+use crate::room::{Room, keep};
 use crate::setting::setting_for;
+use crate::shared_spec::SharedSpec;
 use crate::state::{Kind, Phase, State};
+use bumpalo::Bump;
 use std::alloc::{AllocError, Allocator};
 use tn_flags::{Call, Event, Flags, inherit_link, inherit_spawn};
 use tn_guard::{AtomConst, ListView, Value, lent_values};
@@ -34,18 +38,19 @@ use tn_term::Term;
 // ---- one event
 
 impl<A: Allocator + Copy> State<A> {
-    /// What the session makes of an event: the state afterwards, and at most one message. A destroyed
-    /// session follows who lives, and reports nothing.
+    /// What the session makes of an event: the state afterwards, and at most one message, which borrows from the
+    /// event and from the room that it is evaluated in. A destroyed session follows who lives, and reports nothing.
     pub(crate) fn tell<'a>(
         &mut self,
         event: &'a Event<A>,
+        room: &'a mut Room<A>,
     ) -> Result<Option<Message<'a, A>>, AllocError>
         ensures reported { IfOk result (λ m. event_step self.old event.now ≡ event_result self.new m) }
         ensures of_event { IfOk result (λ m. IfSome m (λ k. k.event.now ≡ event.now)) }
         ensures functions { self.new.functions ≡ self.old.functions }
     {
         match self.phase {
-            Phase::Live => Ok(self.tell_live(event)?),
+            Phase::Live => Ok(self.tell_live(event, room)?),
             Phase::Destroyed => {
                 self.follow(event);
                 Ok(None)
@@ -59,20 +64,25 @@ impl<A: Allocator + Copy> State<A> {
         ensures functions { self.new.functions ≡ self.old.functions }
     {
         let alloc = self.alloc;
-        match self.tell(event)? {
+        let mut room = Room::new(alloc);
+        match self.tell(event, &mut room)? {
             Some(message) => Ok(Some(message.term(alloc)?)),
             None => Ok(None),
         }
     }
 
     /// What a live session makes of an event.
-    fn tell_live<'a>(&mut self, event: &'a Event<A>) -> Result<Option<Message<'a, A>>, AllocError>
+    fn tell_live<'a>(
+        &mut self,
+        event: &'a Event<A>,
+        room: &'a mut Room<A>,
+    ) -> Result<Option<Message<'a, A>>, AllocError>
         ensures reported { IfOk result (λ m. live_event_step self.old event.now ≡ event_result self.new m) }
         ensures of_event { IfOk result (λ m. IfSome m (λ k. k.event.now ≡ event.now)) }
         ensures functions { self.new.functions ≡ self.old.functions }
     {
         self.inherit(event);
-        match self.effects_of(event)? {
+        match self.effects_of(event, room)? {
             Some(effects) => Ok(self.tell_by(event, effects)?),
             None => {
                 self.finish(event, None)?;
@@ -85,9 +95,10 @@ impl<A: Allocator + Copy> State<A> {
     fn tell_by<'a>(
         &mut self,
         event: &'a Event<A>,
-        effects: Vec<Effect<A>, A>,
+        effects: Vec<Effect<'a, A>, A>,
     ) -> Result<Option<Message<'a, A>>, AllocError>
-        ensures reported { IfOk result (λ m. event_step_by effects.items self.old event.now ≡ event_result self.new m) }
+        ensures reported { IfOk result (λ m.
+            event_step_by effects.entry.items self.old event.now ≡ event_result self.new m) }
         ensures of_event { IfOk result (λ m. IfSome m (λ k. k.event.now ≡ event.now)) }
         ensures functions { self.new.functions ≡ self.old.functions }
     {
@@ -156,7 +167,11 @@ pub(crate) fn process_of<A: Allocator>(event: &Event<A>) -> u32
 
 impl<A: Allocator + Copy> State<A> {
     /// The effects of an event; None where it gives no message.
-    fn effects_of(&self, event: &Event<A>) -> Result<Option<Vec<Effect<A>, A>>, AllocError>
+    fn effects_of<'a>(
+        &self,
+        event: &'a Event<A>,
+        room: &'a mut Room<A>,
+    ) -> Result<Option<Vec<Effect<'a, A>, A>>, AllocError>
         ensures { IfOk result (λ r. effects_in r ≡ evaluation self.now (event_of event.now)) }
     {
         match event {
@@ -165,13 +180,13 @@ impl<A: Allocator + Copy> State<A> {
                 message,
                 to,
                 ..
-            } => Ok(self.evaluated_send(*pid, message.term(), *to)?),
+            } => Ok(self.evaluated_send(*pid, message.term(), *to, room)?),
             Event::Received {
                 pid,
                 sender,
                 message,
-            } => Ok(self.evaluated_receive(*pid, *sender, message.term())?),
-            Event::Called { pid, call } => Ok(self.evaluated_call(*pid, call)?),
+            } => Ok(self.evaluated_receive(*pid, *sender, message.term(), room)?),
+            Event::Called { pid, call } => Ok(self.evaluated_call(*pid, call, room)?),
             Event::Returned { pid, depth, .. } => Ok(self.evaluated_return(*pid, *depth)),
             Event::Raised { pid, depth, .. } => Ok(self.evaluated_raise(*pid, *depth)),
             Event::Spawn { pid, .. }
@@ -185,7 +200,7 @@ impl<A: Allocator + Copy> State<A> {
     }
 
     /// No effects, where the message is reported.
-    fn plainly(&self, reported: bool) -> Option<Vec<Effect<A>, A>>
+    fn plainly<'a>(&self, reported: bool) -> Option<Vec<Effect<'a, A>, A>>
         ensures { effects_in result ≡ (if reported then Some [] else None) }
     {
         if reported {
@@ -196,28 +211,30 @@ impl<A: Allocator + Copy> State<A> {
     }
 
     /// The effects of a send, by the send setting.
-    fn evaluated_send(
+    fn evaluated_send<'a>(
         &self,
         pid: u32,
-        message: &Term<A>,
+        message: &'a Term<A>,
         to: u32,
-    ) -> Result<Option<Vec<Effect<A>, A>>, AllocError>
+        room: &'a mut Room<A>,
+    ) -> Result<Option<Vec<Effect<'a, A>, A>>, AllocError>
         ensures { (b : Bool) → IfOk result (λ r. effects_in r ≡ send_evaluation self.now pid message.now to b) }
     {
         if !self.flags_at(pid).send {
             return Ok(None);
         }
         let list = [Value::Pid(to), Value::Lent(message)];
-        Ok(self.evaluated_values(&self.sending, pid, None, &list)?)
+        Ok(self.evaluated_values(&self.sending, pid, None, &list, room)?)
     }
 
     /// The effects of a receive, by the receive setting.
-    fn evaluated_receive(
+    fn evaluated_receive<'a>(
         &self,
         pid: u32,
         sender: u32,
-        message: &Term<A>,
-    ) -> Result<Option<Vec<Effect<A>, A>>, AllocError>
+        message: &'a Term<A>,
+        room: &'a mut Room<A>,
+    ) -> Result<Option<Vec<Effect<'a, A>, A>>, AllocError>
         ensures { IfOk result (λ r. effects_in r ≡ evaluation self.now (received pid sender (tree_of message.now))) }
     {
         if !self.flags_at(pid).receive {
@@ -228,36 +245,49 @@ impl<A: Allocator + Copy> State<A> {
             Value::Pid(sender),
             Value::Lent(message),
         ];
-        Ok(self.evaluated_values(&self.receiving, pid, None, &list)?)
+        Ok(self.evaluated_values(&self.receiving, pid, None, &list, room)?)
     }
 
-    /// The effects by a setting, on these values.
+    /// The effects by a setting, on these values; None where it is off, or where no clause of its specification
+    /// fires. The values that a specification is evaluated on lie in the room.
     fn evaluated_values<'a>(
-        &'a self,
-        setting: &Setting<CompiledSpec<A>>,
+        &self,
+        setting: &Setting<SharedSpec<A>>,
         self_pid: u32,
         caller: Option<&'a tn_term::Mfa<A>>,
-        list: &'a [Value<'a, A>],
-    ) -> Result<Option<Vec<Effect<A>, A>>, AllocError>
+        list: &[Value<'a, A>],
+        room: &'a mut Room<A>,
+    ) -> Result<Option<Vec<Effect<'a, A>, A>>, AllocError>
         ensures { IfOk result (λ r.
             effects_in r ≡ evaluation_by setting.now (on_values self.now self_pid caller.entry list.now)) }
     {
-        let context = Context {
-            list: ListView::Values(list),
-            self_pid,
-            caller,
-            alive: &self.alive,
-            flags: &self.flags,
-        };
-        Ok(evaluated_by(self.alloc, setting, &context)?)
+        match setting {
+            Setting::Disabled => Ok(None),
+            Setting::Always => Ok(Some(Vec::new(self.alloc))),
+            Setting::Specification(shared) => {
+                let arena: &'a Bump<A> = &room.arena;
+                let list: &'a [Value<'a, A>] = arena.try_alloc_slice_copy(list)?;
+                let context = Context {
+                    list: ListView::Values(list),
+                    self_pid,
+                    caller,
+                    alive: &self.alive,
+                    flags: &self.flags,
+                };
+                let specification = keep(&mut room.specification, shared.share()?);
+                let outcome = specification.outcome(self.alloc, &context, arena)?;
+                Ok(matched_effects(outcome))
+            }
+        }
     }
 
     /// The effects of a call, by the setting of its function.
-    fn evaluated_call(
+    fn evaluated_call<'a>(
         &self,
         pid: u32,
-        call: &Call<A>,
-    ) -> Result<Option<Vec<Effect<A>, A>>, AllocError>
+        call: &'a Call<A>,
+        room: &'a mut Room<A>,
+    ) -> Result<Option<Vec<Effect<'a, A>, A>>, AllocError>
         ensures { IfOk result (λ r. effects_in r ≡ evaluation self.now (called pid (call_seen call.now))) }
     {
         if !self.flags_at(pid).call {
@@ -267,14 +297,14 @@ impl<A: Allocator + Copy> State<A> {
             Some(setting) => {
                 let args = lent_values(self.alloc, &call.args)?;
                 let caller = call.caller.as_ref();
-                Ok(self.evaluated_values(setting, pid, caller, args.as_slice())?)
+                Ok(self.evaluated_values(setting, pid, caller, args.as_slice(), room)?)
             }
             None => Ok(None),
         }
     }
 
     /// The effects of a return, where its frame is marked: none.
-    fn evaluated_return(&self, pid: u32, depth: usize) -> Option<Vec<Effect<A>, A>>
+    fn evaluated_return<'a>(&self, pid: u32, depth: usize) -> Option<Vec<Effect<'a, A>, A>>
         ensures { (f : Mfa) (t : Tree) → effects_in result ≡ evaluation self.now (returned pid f t depth) }
     {
         let reported = self.flags_at(pid).call && self.is_marked(pid, depth);
@@ -282,7 +312,7 @@ impl<A: Allocator + Copy> State<A> {
     }
 
     /// The effects of an exception, where the frame that it leaves is marked for exceptions: none.
-    fn evaluated_raise(&self, pid: u32, depth: usize) -> Option<Vec<Effect<A>, A>>
+    fn evaluated_raise<'a>(&self, pid: u32, depth: usize) -> Option<Vec<Effect<'a, A>, A>>
         ensures { (f : Mfa) (c : Class) (t : Tree) → effects_in result ≡ evaluation self.now (raised pid f c t depth) }
     {
         match self.mark_of(pid, depth) {
@@ -293,21 +323,13 @@ impl<A: Allocator + Copy> State<A> {
     }
 }
 
-/// The effects by a setting; None where it is off, or where no clause of its specification fires.
-fn evaluated_by<A: Allocator + Copy>(
-    alloc: A,
-    setting: &Setting<CompiledSpec<A>>,
-    context: &Context<'_, A>,
-) -> Result<Option<Vec<Effect<A>, A>>, AllocError>
-    ensures { IfOk result (λ r. effects_in r ≡ evaluation_by setting.now (context_seen context.now)) }
+/// The effects of an outcome; None where no clause fires.
+fn matched_effects<'a, A: Allocator>(outcome: Outcome<'a, A>) -> Option<Vec<Effect<'a, A>, A>>
+    ensures { effects_in result ≡ effects_of_outcome (outcome_seen outcome.entry) }
 {
-    match setting {
-        Setting::Disabled => Ok(None),
-        Setting::Always => Ok(Some(Vec::new(alloc))),
-        Setting::Specification(compiled) => match compiled.outcome(alloc, context)? {
-            Outcome::Matched(effects) => Ok(Some(effects)),
-            Outcome::NoMatch => Ok(None),
-        },
+    match outcome {
+        Outcome::Matched(effects) => Some(effects),
+        Outcome::NoMatch => None,
     }
 }
 
@@ -315,7 +337,7 @@ fn evaluated_by<A: Allocator + Copy>(
 
 impl<A: Allocator> State<A> {
     /// The effects, in order, of an event of this process.
-    fn affect_all(&mut self, self_pid: u32, effects: &[Effect<A>])
+    fn affect_all(&mut self, self_pid: u32, effects: &[Effect<'_, A>])
         ensures state { state_seen self.new ≡ session.all_affected self_pid (state_seen self.old) (asks effects.now) }
         ensures functions { self.new.functions ≡ self.old.functions }
     {
@@ -332,10 +354,10 @@ impl<A: Allocator> State<A> {
     fn message_after<'a>(
         &self,
         event: &'a Event<A>,
-        effects: Vec<Effect<A>, A>,
+        effects: Vec<Effect<'a, A>, A>,
     ) -> Option<Message<'a, A>>
         ensures message { message_in result ≡
-            message_after (state_seen self.now) (event_of event.now) (asks effects.items) }
+            message_after (state_seen self.now) (event_of event.now) (asks effects.entry.items) }
         ensures of_event { IfSome result (λ k. k.event.now ≡ event.now) }
     {
         if self.is_silenced(event) {
@@ -357,43 +379,50 @@ impl<A: Allocator> State<A> {
     }
 }
 
-/// The term of the last `message`, where there is one.
-fn last_message<A: Allocator>(mut effects: Vec<Effect<A>, A>) -> Option<Term<A>>
-    ensures { option_map tree_of result ≡ messages.last_message (asks effects.items) }
+/// The value of the last `message`, where there is one.
+fn last_message<'a, A: Allocator>(mut effects: Vec<Effect<'a, A>, A>) -> Option<Value<'a, A>>
+    ensures { option_map value_seen result ≡ messages.last_message (asks effects.entry.items) }
 {
     while let Some(effect) = effects.pop() {
-        if let Effect::Message(term) = effect {
-            return Some(term);
+        if let Effect::Message(value) = effect {
+            return Some(value);
         }
     }
     None
 }
 
-/// The message by the last term that an effect gives: `false` suppresses it, `true` or none reports it
+/// Whether the value is the atom `false`.
+fn is_false<A: Allocator>(value: Value<'_, A>) -> bool
+    ensures { result ≡ same (value_seen value.entry) (word "false") }
+{
+    value.same(Value::<A>::truth(false))
+}
+
+/// The message by the last value that an effect gives: `false` suppresses it, `true` or none reports it
 /// plain, any other is its last element.
 fn message_by<'a, A: Allocator>(
     event: &'a Event<A>,
     short: bool,
-    last: Option<Term<A>>,
+    last: Option<Value<'a, A>>,
 ) -> Option<Message<'a, A>>
-    ensures message { message_in result ≡ decision short event.now last }
+    ensures message { message_in result ≡ decision short event.now last.entry }
     ensures of_event { IfSome result (λ k. k.event.now ≡ event.now) }
 {
     match last {
-        Some(term) => {
-            if term.is_word("true") {
+        Some(value) => {
+            if value.is_true() {
                 Some(Message {
                     event,
                     short,
                     last: None,
                 })
-            } else if term.is_word("false") {
+            } else if is_false(value) {
                 None
             } else {
                 Some(Message {
                     event,
                     short,
-                    last: Some(term),
+                    last: Some(value),
                 })
             }
         }

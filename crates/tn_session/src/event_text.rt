@@ -101,7 +101,7 @@ impl<'a, A: Allocator> EventText<'a, A> {
         self.event
     }
 
-    /// Appends the text of the event's message that is as short as this one and has its last term. After an
+    /// Appends the text of the event's message that is as short as this one and has its last value. After an
     /// `Err`, which is refused memory, the vector is as it was.
     pub fn append_text<B: Allocator>(
         &mut self,
@@ -120,7 +120,7 @@ impl<'a, A: Allocator> EventText<'a, A> {
         done
     }
 
-    /// The event's message that is as short as this one and has its last term. An error is refused memory.
+    /// The event's message that is as short as this one and has its last value. An error is refused memory.
     pub fn term<B: Allocator + Copy>(
         &self,
         alloc: B,
@@ -129,7 +129,7 @@ impl<'a, A: Allocator> EventText<'a, A> {
         ensures { IfOk result (λ t. tree_of t ≡ message_of (event_in self.now) message.now) }
     {
         let mut items = elements(alloc, self.event, message.short)?;
-        push_last(alloc, &message.last, &mut items)?;
+        push_last(alloc, message.last, &mut items)?;
         Ok(Term::Tuple(items))
     }
 
@@ -139,7 +139,7 @@ impl<'a, A: Allocator> EventText<'a, A> {
     }
 }
 
-/// Appends the text of the event's message that is as short as this one and has its last term; after an `Err`
+/// Appends the text of the event's message that is as short as this one and has its last value; after an `Err`
 /// a part of it may stand there.
 fn put<A: Allocator, B: Allocator>(
     event: &Event<A>,
@@ -153,7 +153,7 @@ fn put<A: Allocator, B: Allocator>(
     ensures written { IsWritten event.now written.new.items }
 {
     copy_elements(event, written, message.short, out)?;
-    put_last(&message.last, out)?;
+    put_last(message.last, out)?;
     out.push(b'}')?;
     Ok(())
 }

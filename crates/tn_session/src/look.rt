@@ -3,7 +3,7 @@ ghost use Rattle.std.specs.Prelude.{◌≡◌};
 ghost use Rattle.tn_session.specs.Looks.{look_setting};
 ghost use Rattle.tn_session.specs.Views.{setting_seen};
 
-use crate::compiled_spec::CompiledSpec;
+use crate::shared_spec::SharedSpec;
 use crate::state::{Kind, Phase, State};
 use std::alloc::Allocator;
 use tn_flags::{Call, FlagTable, Flags};
@@ -26,13 +26,15 @@ pub struct NewestSetting<'a, A: Allocator> {
 }
 
 /// The setting, with its specification borrowed.
-fn borrow_setting<A: Allocator + Copy>(setting: &Setting<CompiledSpec<A>>) -> Setting<&Spec<A>>
+fn borrow_setting<A: Allocator + Copy>(setting: &Setting<SharedSpec<A>>) -> Setting<&Spec<A>>
     ensures { look_setting result ≡ setting_seen setting.now }
 {
     match setting {
         Setting::Disabled => Setting::Disabled,
         Setting::Always => Setting::Always,
-        Setting::Specification(compiled) => Setting::Specification(compiled.specification()),
+        Setting::Specification(shared) => Setting::Specification(
+            shared.compiled_spec().specification(),
+        ),
     }
 }
 

@@ -16,7 +16,7 @@ use tn_term::PROCESSES;
 
 /// The mark that the effects of a call ask for: `exception_trace` one for exceptions, whatever the other effects are,
 /// and `return_trace` without it one for returns.
-pub fn mark_for<A: Allocator>(effects: &[Effect<A>]) -> Option<Kind>
+pub fn mark_for<A: Allocator>(effects: &[Effect<'_, A>]) -> Option<Kind>
     ensures { option_map mark_kind_seen result ≡ session.mark_asked (asks effects.now) }
 {
     let mut returns = false;

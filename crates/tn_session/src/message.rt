@@ -9,15 +9,17 @@ use crate::elements::{elements, push_last};
 use crate::text::{put_elements, put_last};
 use std::alloc::{AllocError, Allocator};
 use tn_flags::Event;
+use tn_guard::Value;
 use tn_term::Term;
 
 /// The message of an event (module `trace`, "trace messages"): it borrows from the event, and says whether a call
-/// is reported by its arity alone, and which term is at the end, if any.
-#[derive(Drop)]
+/// is reported by its arity alone, and which value is at the end, if any: one that the event or a specification lends,
+/// or that lies in the room in which it was evaluated.
+#[derive_where(Clone, Copy)]
 pub struct Message<'a, A: Allocator> {
     pub event: &'a Event<A>,
     pub short: bool,
-    pub last: Option<Term<A>>,
+    pub last: Option<Value<'a, A>>,
 }
 
 impl<A: Allocator> Message<'_, A> {
@@ -26,7 +28,7 @@ impl<A: Allocator> Message<'_, A> {
         ensures { IfOk result (λ t. tree_of t ≡ message_seen self.now) }
     {
         let mut items = elements(alloc, self.event, self.short)?;
-        push_last(alloc, &self.last, &mut items)?;
+        push_last(alloc, self.last, &mut items)?;
         Ok(Term::Tuple(items))
     }
 
@@ -49,7 +51,7 @@ impl<A: Allocator> Message<'_, A> {
         ensures grows { Grows out.old.items out.new.items }
     {
         put_elements(self.event, self.short, out)?;
-        put_last(&self.last, out)?;
+        put_last(self.last, out)?;
         out.push(b'}')?;
         Ok(())
     }

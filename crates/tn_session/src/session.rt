@@ -2,6 +2,7 @@
 
 use crate::look::Look;
 use crate::message::Message;
+use crate::room::Room;
 use crate::state::{Phase, State};
 use std::alloc::{AllocError, Allocator};
 use tn_flags::{Command, Event, FlagTable, Flags};
@@ -110,12 +111,17 @@ impl<A: Allocator + Copy> Session<A> {
         }
     }
 
-    /// The same, with a message that borrows from the event.
+    /// The same, with a message that borrows from the event and from the room that the event is evaluated in. All
+    /// rooms give the same message.
     ///
     /// # Errors
     ///
     /// AllocError where memory was refused, in this call or an earlier one: the session is spent.
-    pub fn tell<'a>(&mut self, event: &'a Event<A>) -> Result<Option<Message<'a, A>>, AllocError>
+    pub fn tell<'a>(
+        &mut self,
+        event: &'a Event<A>,
+        room: &'a mut Room<A>,
+    ) -> Result<Option<Message<'a, A>>, AllocError>
         ensures reported { let e = event_of event.now in IfOk result (λ m. IsSomeAnd (value_in self.old) (λ s.
             next_session s (event_reported s.state e) ≡ (value_in self.new, option_map message_seen m))) }
         ensures of_event { IfOk result (λ m. IfSome m (λ k. k.event.now ≡ event.now)) }
@@ -124,7 +130,7 @@ impl<A: Allocator + Copy> Session<A> {
         if self.is_spent {
             return Err(AllocError);
         }
-        match self.state.tell(event) {
+        match self.state.tell(event, room) {
             Ok(message) => Ok(message),
             Err(refused) => {
                 self.is_spent = true;

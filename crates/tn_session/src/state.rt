@@ -4,7 +4,7 @@ ghost use Rattle.def_session.specs.State as definition;
 ghost use Rattle.tn_flags.specs.Views.{flags_of};
 ghost use Rattle.tn_session.specs.Views.{state_seen};
 
-use crate::compiled_spec::CompiledSpec;
+use crate::shared_spec::SharedSpec;
 use std::alloc::Allocator;
 use tn_flags::{FlagTable, Flags};
 use tn_index::{Setting, Settings};
@@ -42,9 +42,9 @@ pub(crate) struct State<A: Allocator> {
     pub flags: FlagTable,
     /// Of new processes.
     pub new_process_flags: Flags,
-    pub settings: Settings<CompiledSpec<A>, A>,
-    pub sending: Setting<CompiledSpec<A>>,
-    pub receiving: Setting<CompiledSpec<A>>,
+    pub settings: Settings<SharedSpec<A>, A>,
+    pub sending: Setting<SharedSpec<A>>,
+    pub receiving: Setting<SharedSpec<A>>,
     /// Of the processes from 100 on, the marks of frames, the newest last; those past the end have none.
     pub marks: Vec<Vec<Mark, A>, A>,
 }

@@ -13,6 +13,7 @@ ghost use Rattle.tn_session.specs.Messages.{names_text, shared_trees, call_tree,
 use crate::event::process_of;
 use std::alloc::{AllocError, Allocator};
 use tn_flags::{Class, Event};
+use tn_guard::{Value, write_value};
 use tn_term::{Mfa, SharedTerm, Term};
 use tn_text::{write_atom, write_term};
 
@@ -135,18 +136,19 @@ fn put_details<A: Allocator, B: Allocator>(
     Ok(())
 }
 
-/// Appends a comma and the last term, where there is one.
+/// Appends a comma and the last value, where there is one.
 pub(crate) fn put_last<A: Allocator, B: Allocator>(
-    last: &Option<Term<A>>,
+    last: Option<Value<'_, A>>,
     out: &mut Vec<u8, B>,
 ) -> Result<(), AllocError>
-    ensures ok { OnOk result (out.new.items ≡ out.old.items ++ each_after_comma (of_elements (last_seen last.now))) }
+    ensures ok { OnOk result (out.new.items ≡ out.old.items ++ each_after_comma (of_elements (last_seen last.entry))) }
     ensures grows { Grows out.old.items out.new.items }
 {
-    match last {
-        Some(term) => Ok(put_more(term, out)?),
-        None => Ok(()),
+    if let Some(value) = last {
+        out.push(b',')?;
+        write_value(value, out)?;
     }
+    Ok(())
 }
 
 /// Appends a comma and the term.

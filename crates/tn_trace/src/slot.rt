@@ -6,7 +6,7 @@ use crate::sink::MessageSink;
 use std::alloc::{AllocError, Allocator};
 use tn_flags::Command;
 use tn_script::Function;
-use tn_session::{EventText, Session};
+use tn_session::{EventText, Room, Session};
 use tn_term::{Alive, Atom, Term};
 
 /// A session of the control list: its number from 1, its name, its state once it is created, and what is
@@ -39,7 +39,8 @@ impl<A: Allocator + Copy, K: MessageSink<A> + Drop> Slot<A, K> {
         let Some(session) = &mut self.session else {
             return Ok(());
         };
-        match session.tell(text.event())? {
+        let mut room = Room::new(alloc);
+        match session.tell(text.event(), &mut room)? {
             None => Ok(()),
             Some(message) => {
                 self.kept

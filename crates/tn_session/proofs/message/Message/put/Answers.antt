@@ -1,8 +1,8 @@
 use Rattle.std.proofs.Common.{◌∷◌, sym, ap, refl}
 use Rattle.std.specs.Prelude.{option_to_list}
 use Rattle.std.specs.Option.{option_map}
-use Rattle.tn_term.specs.Views.{tree_of}
 use Rattle.tn_flags.specs.Views.{event_of}
+use Rattle.tn_guard.specs.Views.{value_seen}
 use Rattle.tn_text.proofs.Growth.{grows_on, on_failed}
 use Rattle.tn_session.proofs.Texts.{twice, more_at_the_end, grows_by}
 use Rattle.tn_session.proofs.message.Message.put.Goals as goal
@@ -12,7 +12,7 @@ returns-clause-ok g c =
     let m = c.args.self.now in
     twice _ _ _ _ _ _
     (twice _ _ _ _ _ _ c.in_ok-put_elements.ensures.ok c.in_ok-put_last.ensures.ok
-    (ap (λ s. 123 ∷ s) (sym (more_at_the_end m.short (event_of m.event.now) (option_to_list (option_map tree_of m.last))))))
+    (ap (λ s. 123 ∷ s) (sym (more_at_the_end m.short (event_of m.event.now) (option_to_list (option_map value_seen m.last))))))
     c.in_ok-push.ensures.items refl
 
 pub returns-in_err-put_elements-clause-ok : goal.returns-in_err-put_elements-clause-ok

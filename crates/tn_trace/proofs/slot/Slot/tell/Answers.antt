@@ -8,8 +8,8 @@ use Rattle.tn_trace.specs.Tracks.{item_at, with_event, reported_to, IsOneMore, A
 use Rattle.tn_trace.proofs.OneSession.{tracked_none, given_none, tracked_some, given_some}
 use Rattle.tn_trace.proofs.slot.Slot.tell.Goals as goal
 
-pub returns-in_ok-keep_message-in-Some-2-clause-tracked : goal.returns-in_ok-keep_message-in-Some-2-clause-tracked
-returns-in_ok-keep_message-in-Some-2-clause-tracked g c = λ o living t h.
+pub returns-clause-tracked : goal.returns-clause-tracked
+returns-clause-tracked g c = λ o living t h.
     let old = c.args.self.now in
     let m = c.in-Some-2.message in
     let new = record old { session = Some c.tell.new.self; kept = c.keep_message.new.self } in
@@ -18,8 +18,8 @@ returns-in_ok-keep_message-in-Some-2-clause-tracked g c = λ o living t h.
     (tracked_some g.K.MessageSink.keeps g.K.MessageSink.gives o living t old h (event_of c.event.result.now) c.in-Some.session c.tell.new.self c.in_ok-tell.field-0 c.in-Some.is c.in_ok-tell.ensures.reported m c.keep_message.new.self c.in-Some-2.is
     (subst (λ e. IsOneMore g.K.MessageSink.keeps (message_of e m) old.kept c.keep_message.new.self) same c.in_ok-keep_message-in-Some-2.ensures.kept))
 
-pub returns-in_ok-keep_message-in-Some-2-clause-given : goal.returns-in_ok-keep_message-in-Some-2-clause-given
-returns-in_ok-keep_message-in-Some-2-clause-given g c = λ o living t h.
+pub returns-clause-given : goal.returns-clause-given
+returns-clause-given g c = λ o living t h.
     let old = c.args.self.now in
     let m = c.in-Some-2.message in
     let same : event_in c.args.text.now ≡ m.event.now = sym (subst (λ x. IfSome x (λ k. k.event.now ≡ c.event.result.now)) c.in-Some-2.is c.in_ok-tell.ensures.of_event ∙ c.event.ensures) in
