@@ -2,3 +2,4 @@ mod LinesLemmas
 mod PiecesLemmas
 mod WrittenLemmas
 pub mod OutputLemmas
+pub mod OutputLengths

@@ -1,7 +1,9 @@
 -- The listings of an output, session by session, and its parts.
-use Rattle.std.proofs.Common.{◌≡◌, ◌∙◌, ℕ, zero, suc, ◌+◌, ◌≤◌, List, [], ◌∷◌, ◌++◌, length, take, Option, Some, None, refl, sym, ap, append_assoc, append-nil, add-one, codes, arith}
+use Rattle.std.proofs.Common.{◌≡◌, ◌∙◌, ℕ, zero, suc, ◌+◌, ◌≤◌, List, [], ◌∷◌, ◌++◌, length, take, Option, Some, None, refl, sym, ap, append_assoc, append-nil, add-one, codes, arith, true, eqb, vec_len}
 use Rattle.std.specs.Prelude.{slice_get, slice_set, option_to_list}
 use Rattle.std.specs.Option.{option_map}
+use Rattle.std.specs.declared.vec.Vec.{Vec}
+use Rattle.std.proofs.lemmas.Bool.{eqb-true}
 use Rattle.std.proofs.lemmas.Option.{slice_get-map}
 use Rattle.def_term.specs.Tree.{Tree}
 use Rattle.def_term.specs.Names.{Name}
@@ -109,3 +111,11 @@ whole_run p picks replied journal out are_replies is_journal made =
     made
     ∙ ap (λ l. all_listings p picks ++ codes "== replies\n" ++ l ++ codes "== journal\n" ++ picks_text journal ++ 10 ∷ []) are_replies
     ∙ ap (λ l. all_listings p picks ++ codes "== replies\n" ++ lines_of (replies p picks) ++ codes "== journal\n" ++ picks_text l ++ 10 ∷ []) is_journal
+
+no_length : {X : Type 0} (xs : List X) → length xs ≡ 0 → xs ≡ []
+no_length [] e = refl
+no_length (x ∷ xs) e = absurd (omega (arith, e))
+
+-- nothing is in an empty vector
+pub nothing_there : {A X : Type 0} (v : Vec X A) → true ≡ eqb (vec_len v) 0 → v.len ≡ length v.items → v.items ≡ []
+nothing_there v empty size = let none = eqb-true (vec_len v) 0 (sym empty) in no_length v.items (omega (arith, size, none))

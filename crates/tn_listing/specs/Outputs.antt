@@ -1,5 +1,5 @@
 -- The parts of an output, and what adds them to a text.
-use Rattle.std.specs.Prelude.{◌≡◌, ℕ, List, ◌++◌, Option, Result, IfOk, option_to_list, slice_get}
+use Rattle.std.specs.Prelude.{◌≡◌, ◌≤◌, ℕ, List, ◌++◌, length, Option, Result, IfOk, option_to_list, slice_get}
 use Rattle.std.specs.Option.{option_map}
 use Rattle.std.specs.declared.vec.Vec.{Vec}
 use Rattle.def_script.specs.Program.{Program}
@@ -8,7 +8,7 @@ use Rattle.def_run.specs.Listing.{messages, listings_text, program_output}
 use Rattle.def_run.specs.Round.{round}
 use Rattle.tn_program.specs.declared.parts.Program as code
 use Rattle.tn_program.specs.Views.{program_of}
-use Rattle.tn_trace.specs.Transcripts.{TranscriptValue, transcript_of}
+use Rattle.tn_trace.specs.Transcripts.{TranscriptValue, transcript_of, listing_bytes}
 
 -- the new text is the old one with these bytes after it
 abbrev pub AddsText : {A : Type 0} → List ℕ → Vec ℕ A → Vec ℕ A → Type 0
@@ -25,6 +25,14 @@ all_listings p picks = listings_text (λ s. messages s p picks) (creations p.com
 -- the output for the picks of a round with this limit
 abbrev pub output_of_round : Program → ℕ → List ℕ
 output_of_round p limit = program_output p (round p limit)
+
+-- how many bytes the lines of all sessions have then together
+abbrev pub listing_bytes_of_round : Program → ℕ → ℕ
+listing_bytes_of_round p limit = listing_bytes p (round p limit)
+
+-- an output has at least as many bytes as the lines of all sessions together
+abbrev pub OutputHasTheListings : Type 0
+OutputHasTheListings = (p : Program) (picks : List ℕ) → listing_bytes p picks ≤ length (program_output p picks)
 
 -- this is so of the program and of whichever picks of it the transcript is of
 abbrev pub OnItsPicks : {A : Type 0} → code.Program A → TranscriptValue → (Program → List ℕ → Type 0) → Type 0

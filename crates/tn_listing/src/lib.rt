@@ -4,15 +4,18 @@
 //! def_run. Promises that a `Line` is its item's message as text with a line feed; that `listing_text`
 //! appends a session's header and its messages, a line each, and `lines_text` any terms so; that
 //! `read_picks` and `write_picks` are of the one text of a list of picks; and that `replay`, `round`
-//! and `transcript_output` give the defined output of a program.
+//! and `transcript_output` give the defined output of a program, of which the first two say that its listings are too
+//! long only where they are; and that an output is at least as long as its listings.
 #![tactic(auto)]
 
+mod laws;
 mod line;
 mod listing;
 mod output;
 mod picks;
 mod undo;
 
+pub use laws::an_output_has_the_listings;
 pub use line::{Line, line_of};
 pub use listing::{lines_text, listing_text};
 pub use output::{replay, round, transcript_output};

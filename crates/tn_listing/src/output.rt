@@ -1,17 +1,36 @@
 // The text of an output.
-ghost use Rattle.std.specs.Prelude.{◌≡◌, IfOk};
-ghost use Rattle.def_run.specs.Listing.{program_output};
+ghost use Rattle.std.specs.Prelude.{◌≡◌, ◌++◌, ◌<◌, ◌≤◌, IfOk, OnOk, IsErrOf};
+ghost use Rattle.def_run.specs.Listing.{header_line, program_output};
 ghost use Rattle.tn_program.specs.Views.{program_of};
+ghost use Rattle.tn_trace.specs.Transcripts.{listing_bytes};
 ghost use Rattle.tn_listing.specs.Outputs.{OnItsPicks, Outputs, AppendsListing, SaysTheRest};
-ghost use Rattle.tn_listing.specs.Outputs.{all_listings, output_of_round};
+ghost use Rattle.tn_listing.specs.Outputs.{all_listings, listing_bytes_of_round, output_of_round};
 
 use crate::listing::put_header;
 use crate::picks::write_picks;
 use std::alloc::{AllocError, Allocator};
 use tn_program::Program;
-use tn_trace::Transcript;
+use tn_term::Atom;
+use tn_trace::{Transcript, TranscriptFault};
 
-/// Appends the header of the session with this number, from 0, and these lines, which are its messages.
+/// Puts the header of a session before its lines, which are copied to no other vector. After an `Err` the lines are
+/// of no use.
+fn put_header_before<A: Allocator>(
+    name: &Atom<A>,
+    tracer: &Atom<A>,
+    lines: &mut Vec<u8, A>,
+) -> Result<(), AllocError>
+    ensures { OnOk result (lines.new.items ≡ header_line name.now tracer.now ++ lines.old.items) }
+{
+    let len = lines.len();
+    put_header(name, tracer, lines)?;
+    let header = lines.len() - len;
+    lines.rotate_right(header);
+    Ok(())
+}
+
+/// Appends the header of the session with this number, from 0, and these lines, which are its messages. Where nothing
+/// is there yet, the lines become the text.
 fn append_listing<A: Allocator + Copy>(
     text: &mut Vec<u8, A>,
     lines: Option<Vec<u8, A>>,
@@ -26,9 +45,39 @@ fn append_listing<A: Allocator + Copy>(
     let Some(lines) = lines else {
         return Ok(());
     };
+    if text.is_empty() {
+        *text = lines;
+        return Ok(put_header_before(name, tracer, text)?);
+    }
     put_header(name, tracer, text)?;
     text.extend_from_slice(&lines)?;
     Ok(())
+}
+
+/// How many bytes the lines have that the transcript still has.
+fn lines_left<A: Allocator + Copy>(transcript: &Transcript<A>, program: &Program<A>) -> usize {
+    let mut bytes: usize = 0;
+    for number in 0..program.session_count() {
+        if let Some(lines) = transcript.lines(number) {
+            bytes = bytes.saturating_add(lines.len());
+        }
+    }
+    bytes
+}
+
+/// Makes room for the lines that the transcript still has, after those of the first session.
+fn make_room<A: Allocator + Copy>(
+    text: &mut Vec<u8, A>,
+    transcript: &Transcript<A>,
+    program: &Program<A>,
+    number: usize,
+) -> Result<(), AllocError>
+    ensures { text.new.items ≡ text.old.items }
+{
+    if number > 0 {
+        return Ok(());
+    }
+    text.try_reserve(lines_left(transcript, program))
 }
 
 /// Appends each session's header and messages. The lines of each leave the transcript before those of the next.
@@ -43,23 +92,14 @@ fn append_listings<A: Allocator + Copy>(
     for number in 0..program.session_count() {
         let lines = transcript.take_lines(number);
         append_listing(text, lines, program, number)?;
+        make_room(text, transcript, program, number)?;
     }
     Ok(())
 }
 
-/// How many bytes the lines of all sessions have.
-fn listing_bytes<A: Allocator + Copy>(transcript: &Transcript<A>, program: &Program<A>) -> usize {
-    let mut bytes: usize = 0;
-    for number in 0..program.session_count() {
-        if let Some(lines) = transcript.lines(number) {
-            bytes = bytes.saturating_add(lines.len());
-        }
-    }
-    bytes
-}
-
-/// The output of a run, whose transcript this is: each session's listing, the replies and the journal. The lines of a
-/// session are given back as soon as they are in the output, so that they are in memory once.
+/// The output of a run, whose transcript this is: each session's listing, the replies and the journal. The lines of the
+/// first session become the output, and those of another are given back as soon as they are in it, so that they are in
+/// memory once.
 ///
 /// # Errors
 ///
@@ -72,7 +112,7 @@ pub fn transcript_output<A: Allocator + Copy>(
     ensures { OnItsPicks program.now transcript (λ p picks. IfOk result (λ v. v.items ≡ program_output p picks)) }
 {
     let mut transcript = transcript;
-    let mut text = Vec::with_capacity(alloc, listing_bytes(&transcript, program))?;
+    let mut text = Vec::new(alloc);
     append_listings(&mut text, &mut transcript, program)?;
     text.extend_from_slice(b"== replies\n")?;
     text.extend_from_slice(transcript.replies())?;
@@ -82,34 +122,50 @@ pub fn transcript_output<A: Allocator + Copy>(
     Ok(text)
 }
 
-/// The output of a program for these picks: each session's listing, the replies and the journal.
+/// The output of a program for these picks: each session's listing, the replies and the journal, where the lines of
+/// all sessions together have at most so many bytes.
 ///
 /// # Errors
 ///
-/// AllocError where memory was refused.
+/// TooLong as soon as they have more, after the move that made them so: the output would have more, too. OutOfMemory
+/// where memory was refused.
 pub fn replay<A: Allocator + Copy>(
     alloc: A,
     program: &Program<A>,
     picks: &[u32],
-) -> Result<Vec<u8, A>, AllocError>
-    ensures { IfOk result (λ v. v.items ≡ program_output (program_of program.now) picks.now) }
+    most: usize,
+) -> Result<Vec<u8, A>, TranscriptFault>
+    ensures output { IfOk result (λ v. v.items ≡ program_output (program_of program.now) picks.now) }
+    ensures within { OnOk result (listing_bytes (program_of program.now) picks.now ≤ most) }
+    ensures long { IsErrOf result TranscriptFault.TooLong →
+        most < listing_bytes (program_of program.now) picks.now }
 {
-    let transcript = Transcript::of_picks(alloc, program, picks)?;
-    transcript_output(alloc, transcript, program)
+    let transcript = Transcript::of_picks(alloc, program, picks, most)?;
+    match transcript_output(alloc, transcript, program) {
+        Ok(output) => Ok(output),
+        Err(_) => Err(TranscriptFault::OutOfMemory),
+    }
 }
 
-/// The output of a program for the picks of its round with this limit on the number of moves.
+/// The output of a program for the picks of its round with this limit on the number of moves, as `replay` makes it.
 ///
 /// # Errors
 ///
-/// AllocError where memory was refused.
+/// Those of `replay`.
 pub fn round<A: Allocator + Copy>(
     alloc: A,
     program: &Program<A>,
     limit: u32,
-) -> Result<Vec<u8, A>, AllocError>
-    ensures { IfOk result (λ v. v.items ≡ output_of_round (program_of program.now) limit) }
+    most: usize,
+) -> Result<Vec<u8, A>, TranscriptFault>
+    ensures output { IfOk result (λ v. v.items ≡ output_of_round (program_of program.now) limit) }
+    ensures within { OnOk result (listing_bytes_of_round (program_of program.now) limit ≤ most) }
+    ensures long { IsErrOf result TranscriptFault.TooLong →
+        most < listing_bytes_of_round (program_of program.now) limit }
 {
-    let transcript = Transcript::of_round(alloc, program, limit)?;
-    transcript_output(alloc, transcript, program)
+    let transcript = Transcript::of_round(alloc, program, limit, most)?;
+    match transcript_output(alloc, transcript, program) {
+        Ok(output) => Ok(output),
+        Err(_) => Err(TranscriptFault::OutOfMemory),
+    }
 }

@@ -9,4 +9,6 @@ pub mod RecorderSteps
 pub mod SinkLemmas
 pub mod CoreLemmas
 pub mod TranscriptLemmas
+pub mod ListingBytes
+pub mod Bounds
 pub mod Passes

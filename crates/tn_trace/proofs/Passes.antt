@@ -154,7 +154,7 @@ repeated_sum once (suc a) b =
     append_assoc once (repeat_picks once a) (repeat_picks once b) ∙ ap (λ ys. once ++ ys) (repeated_sum once a b) ∙ ap (repeat_picks once) sum
 
 -- so many lists, and then the others
-turns_in_all : (before once : List ℕ) (turn count : ℕ) → turn ≤ count → (before ++ repeat_picks once turn) ++ repeat_picks once (count - turn) ≡ before ++ repeat_picks once count
+pub turns_in_all : (before once : List ℕ) (turn count : ℕ) → turn ≤ count → (before ++ repeat_picks once turn) ++ repeat_picks once (count - turn) ≡ before ++ repeat_picks once count
 turns_in_all before once turn count below =
     let sum : turn + (count - turn) ≡ count = omega (arith, below) in
     append_assoc before (repeat_picks once turn) (repeat_picks once (count - turn)) ∙ ap (λ ys. before ++ ys) (repeated_sum once turn (count - turn) ∙ ap (repeat_picks once) sum)

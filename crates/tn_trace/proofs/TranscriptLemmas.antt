@@ -1,6 +1,6 @@
 -- What a transcript stands for, where its run is that of some picks.
 use Rattle.std.proofs.Common.{◌≡◌, ◌∙◌, ℕ, ◌<◌, ◌≤◌, List, [], ◌∷◌, length, map, get_or, Some, None, refl, suc, ap, ap₂, sym, subst}
-use Rattle.std.specs.Prelude.{filter, slice_get}
+use Rattle.std.specs.Prelude.{slice_get}
 use Rattle.std.specs.Option.{option_map}
 use Rattle.std.proofs.lemmas.Option.{slice_get-map, slice_get-get_or, slice_get_past}
 use Rattle.def_term.specs.Alive.{Alive}
@@ -8,10 +8,8 @@ use Rattle.def_term.specs.Names.{Name}
 use Rattle.def_script.specs.Program.{Program}
 use Rattle.def_script.specs.Exports.{Exports, exports_of}
 use Rattle.def_script.specs.Script.{creations}
-use Rattle.def_session.specs.State.{absent_session}
 use Rattle.def_run.specs.Run.{HistoryItem, moves, events}
-use Rattle.def_run.specs.View.{is_own}
-use Rattle.def_run.specs.Listing.{messages_from, replies_from, lines_of}
+use Rattle.def_run.specs.Listing.{replies_from, lines_of}
 use Rattle.def_run.proofs.Replay.{events_again}
 use Rattle.tn_term.specs.Views.{alive_of}
 use Rattle.tn_trace.specs.Items.{AreTexts}
@@ -20,16 +18,13 @@ use Rattle.tn_trace.specs.Slots.{IsTracked, EachPair}
 use Rattle.tn_trace.specs.Recorders.{HasRecorded}
 use Rattle.tn_trace.specs.Runs.{IsRun}
 use Rattle.tn_trace.specs.Transcripts.{TranscriptValue, transcript_of, slot_lines}
+use Rattle.tn_trace.proofs.ListingBytes.{lines_over}
 use Rattle.tn_trace.specs.declared.recorder.Recorder.{Recorder}
 use Rattle.tn_trace.specs.declared.run.Run.{Run}
 use Rattle.tn_trace.specs.declared.slot.Slot.{Slot}
 use Rattle.tn_trace.specs.declared.sinks.Lines.{Lines}
 
--- the lines of a session after these items
-abbrev lines_over : Exports → List HistoryItem → Name × Name → List ℕ
-lines_over o items s = lines_of (messages_from o (absent_session o) (filter (is_own s.0) items))
-
-lines_there : {A : Type 0} (o : Exports) (living : Alive) (items : List HistoryItem) (n : ℕ) (ss : List (Name × Name)) (slots : List (Slot A (Lines A)))
+pub lines_there : {A : Type 0} (o : Exports) (living : Alive) (items : List HistoryItem) (n : ℕ) (ss : List (Name × Name)) (slots : List (Slot A (Lines A)))
     → EachPair (IsTracked AreTexts o living) (tracks_from o items n ss) slots → slot_lines slots ≡ map (lines_over o items) ss
 lines_there o living items n [] [] h = refl
 lines_there o living items n [] (x ∷ slots) h = absurd h

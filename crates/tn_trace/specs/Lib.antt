@@ -12,3 +12,4 @@ pub mod Codes
 pub mod Cores
 pub mod Transcripts
 pub mod Follows
+pub mod Bounds

@@ -1,5 +1,5 @@
 -- What a transcript stands for.
-use Rattle.std.specs.Prelude.{ℕ, List, [], map, slice_set}
+use Rattle.std.specs.Prelude.{ℕ, List, [], length, map, slice_set, sum}
 use Rattle.def_script.specs.Program.{Program}
 use Rattle.def_script.specs.Script.{creations}
 use Rattle.def_run.specs.Run.{moves}
@@ -20,6 +20,14 @@ transcript_of p picks = record {
   replied = lines_of (replies p picks);
   journal = moves p picks;
 }
+
+-- how many bytes the lines of all sessions have together
+abbrev pub bytes_in_all : List (List ℕ) → ℕ
+bytes_in_all listings = sum (map length listings)
+
+-- those of the program's run by these picks
+abbrev pub listing_bytes : Program → List ℕ → ℕ
+listing_bytes p picks = bytes_in_all (transcript_of p picks).listings
 
 -- the same without the lines of the session at this place
 abbrev pub without_lines : TranscriptValue → ℕ → TranscriptValue

@@ -5,8 +5,9 @@
 //! core that isn't spent is the core of its journal: its node, listings and replies are those that def_run defines for
 //! its program and its journal's picks, each of which moved; that a step adds exactly the answer of its
 //! move; that a listing goes by the session's view, which no other session changes; and that the transcript of
-//! a run, which keeps text alone, has the lines, the replies and the journal of its picks. What is kept of a
-//! session's messages is its user's, by `MessageSink`, and what is made of a run its user's, by `Observer`.
+//! a run, which keeps text alone, has the lines, the replies and the journal of its picks, where the lines have at
+//! most so many bytes, and is refused for its length only where they have more. What is kept of a session's messages
+//! is its user's, by `MessageSink`, and what is made of a run its user's, by `Observer`.
 #![tactic(auto)]
 
 mod functions;
@@ -23,6 +24,7 @@ mod sinks;
 mod slot;
 mod texts;
 mod transcript;
+mod transcript_fault;
 
 pub use functions::command_at;
 pub use item::{Answer, Item, StepFault};
@@ -34,3 +36,4 @@ pub use sessions::{absent_sessions, living_after};
 pub use sink::MessageSink;
 pub use slot::Slot;
 pub use transcript::Transcript;
+pub use transcript_fault::TranscriptFault;

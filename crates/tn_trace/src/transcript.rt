@@ -2,7 +2,8 @@
 use crate::recorder::Recorder;
 use crate::sinks::Lines;
 use crate::texts::{run_of_picks, run_of_round};
-use std::alloc::{AllocError, Allocator};
+use crate::transcript_fault::TranscriptFault;
+use std::alloc::Allocator;
 use std::marker::Model;
 use std::mem::replace;
 use tn_program::Program;
@@ -28,40 +29,54 @@ impl<A: Allocator> Model for Transcript<A> {
 }
 
 impl<A: Allocator + Copy> Transcript<A> {
-    ghost use Rattle.std.specs.Prelude.{◌≡◌, IfOk, slice_get};
+    ghost use Rattle.std.specs.Prelude.{◌≡◌, ◌<◌, ◌≤◌, IfOk, OnOk, IsErrOf, slice_get};
     ghost use Rattle.std.specs.Option.{option_map};
     ghost use Rattle.def_run.specs.Round.{round};
     ghost use Rattle.tn_program.specs.Views.{program_of};
-    ghost use Rattle.tn_trace.specs.Transcripts.{transcript_of, without_lines};
+    ghost use Rattle.tn_trace.specs.Transcripts.{listing_bytes, transcript_of, without_lines};
 
-    /// The transcript of the run by these picks.
+    /// The transcript of the run by these picks, where its listings together have at most so many bytes.
     ///
     /// # Errors
     ///
-    /// AllocError where memory was refused.
+    /// TooLong as soon as they have more, after the move that made them so; OutOfMemory where memory was refused.
     pub fn of_picks(
         alloc: A,
         program: &Program<A>,
         picks: &[u32],
-    ) -> Result<Transcript<A>, AllocError>
-        ensures { IfOk result (λ t. t ≡ transcript_of (program_of program.now) picks.now) }
+        most: usize,
+    ) -> Result<Transcript<A>, TranscriptFault>
+        ensures run { IfOk result (λ t. t ≡ transcript_of (program_of program.now) picks.now) }
+        ensures within { OnOk result (listing_bytes (program_of program.now) picks.now ≤ most) }
+        ensures long { IsErrOf result TranscriptFault.TooLong →
+            most < listing_bytes (program_of program.now) picks.now }
     {
-        let run = run_of_picks(alloc, program, picks)?;
+        let run = run_of_picks(alloc, program, picks, most)?;
         Ok(Transcript {
             recorder: run.observer,
             journal: run.journal,
         })
     }
 
-    /// The transcript of the round with this limit on the number of moves.
+    /// The transcript of the round with this limit on the number of moves, where its listings together have at most so
+    /// many bytes.
     ///
     /// # Errors
     ///
-    /// AllocError where memory was refused.
-    pub fn of_round(alloc: A, program: &Program<A>, limit: u32) -> Result<Transcript<A>, AllocError>
-        ensures { IfOk result (λ t. t ≡ transcript_of (program_of program.now) (round (program_of program.now) limit)) }
+    /// TooLong as soon as they have more, after the move that made them so; OutOfMemory where memory was refused.
+    pub fn of_round(
+        alloc: A,
+        program: &Program<A>,
+        limit: u32,
+        most: usize,
+    ) -> Result<Transcript<A>, TranscriptFault>
+        ensures run { let p = program_of program.now in IfOk result (λ t. t ≡ transcript_of p (round p limit)) }
+        ensures within { OnOk result
+            (listing_bytes (program_of program.now) (round (program_of program.now) limit) ≤ most) }
+        ensures long { IsErrOf result TranscriptFault.TooLong →
+            most < listing_bytes (program_of program.now) (round (program_of program.now) limit) }
     {
-        let run = run_of_round(alloc, program, limit)?;
+        let run = run_of_round(alloc, program, limit, most)?;
         Ok(Transcript {
             recorder: run.observer,
             journal: run.journal,

@@ -17,8 +17,8 @@ loop-number-preserved g c =
     let at = c.loop-number.invariant in record {
       text = λ picks run.
           let there = c.take_lines-lines.ensures.lines ∙ at.rest.later n (omega arith) ∙ ap (λ (t : TranscriptValue). slice_get t.listings n) run in
-          one_more_listing (program_of c.args.program.now) picks n c.args.text.now.items c.loop-number.text.items c.append_listing.new.text.items (at.text picks run)
-          (c.in_ok-append_listing.ensures picks there);
+          one_more_listing (program_of c.args.program.now) picks n c.args.text.now.items c.loop-number.text.items c.make_room.new.text.items (at.text picks run)
+          (c.make_room.ensures ∙ c.in_ok-append_listing.ensures picks there);
       rest = rest_after n c.loop-number.transcript c.take_lines-lines.new.self c.args.transcript.now c.take_lines-lines.ensures.others at.rest;
     }
 
