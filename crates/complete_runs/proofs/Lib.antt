@@ -2,3 +2,4 @@ pub mod Both
 pub mod SameSteps
 pub mod SameSlots
 pub mod ObservedRuns
+pub mod Within

@@ -21,6 +21,8 @@ use Rattle.tn_trace.specs.declared.item.Answer.TheVariants.{Moved, Idle}
 use Rattle.tn_trace.specs.declared.item.StepFault.{StepFault}
 use Rattle.tn_trace.specs.declared.item.StepFault.TheVariants.{LimitReached, Spent, OutOfMemory}
 use Rattle.tn_trace.specs.declared.slot.Slot.{Slot}
+use Rattle.tn_trace.specs.declared.transcript_fault.TranscriptFault.{TranscriptFault}
+use Rattle.tn_trace.specs.declared.transcript_fault.TranscriptFault.TheVariants as transcripts
 use Rattle.complete_scripts.specs.Agreement.{Agree, WhereBoth, answer_of}
 
 -- ---- cores
@@ -61,6 +63,13 @@ seen_by see (Err e) = Err e
 abbrev pub picks_fault_seen : PicksFault → Option PicksFault
 picks_fault_seen picks.BadPicks = Some picks.BadPicks
 picks_fault_seen picks.OutOfMemory = None
+
+-- ---- transcripts
+
+-- the fault of a run that keeps text; none where memory was refused
+abbrev pub transcript_fault_seen : TranscriptFault → Option TranscriptFault
+transcript_fault_seen transcripts.TooLong = Some transcripts.TooLong
+transcript_fault_seen transcripts.OutOfMemory = None
 
 -- ---- slots
 

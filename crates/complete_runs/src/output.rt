@@ -2,10 +2,12 @@
 ghost use Rattle.std.specs.Prelude.{◌≡◌, IfOk};
 ghost use Rattle.tn_program.specs.Views.{program_of};
 ghost use Rattle.tn_trace.specs.Transcripts.{transcript_of};
+ghost use Rattle.complete_scripts.specs.Agreement.{Agree, answer_of};
+ghost use Rattle.complete_runs.specs.Alike.{transcript_fault_seen};
 
 use std::alloc::{AllocError, Allocator};
 use tn_program::Program;
-use tn_trace::Transcript;
+use tn_trace::{Transcript, TranscriptFault};
 
 /// `tn_listing::transcript_output` has one answer, of transcripts of the program's run by some picks.
 pub fn transcript_output<A: Allocator + Copy>(
@@ -34,16 +36,17 @@ pub fn replay<A: Allocator + Copy>(
     other: &Program<A>,
     picks: &[u32],
     same_picks: &[u32],
+    most: usize,
 ) -> (
-    Result<Vec<u8, A>, AllocError>,
-    Result<Vec<u8, A>, AllocError>,
+    Result<Vec<u8, A>, TranscriptFault>,
+    Result<Vec<u8, A>, TranscriptFault>,
 )
     requires programs { program_of one.now ≡ program_of other.now }
     requires picks { picks.now ≡ same_picks.now }
-    ensures { IfOk result.0 (λ v. IfOk result.1 (λ w. v.items ≡ w.items)) }
+    ensures { let told = answer_of (λ v. v.items) transcript_fault_seen in Agree (told result.0) (told result.1) }
 {
-    let first = tn_listing::replay(alloc, one, picks);
-    let second = tn_listing::replay(alloc, other, same_picks);
+    let first = tn_listing::replay(alloc, one, picks, most);
+    let second = tn_listing::replay(alloc, other, same_picks, most);
     (first, second)
 }
 
@@ -53,14 +56,15 @@ pub fn round<A: Allocator + Copy>(
     one: &Program<A>,
     other: &Program<A>,
     limit: u32,
+    most: usize,
 ) -> (
-    Result<Vec<u8, A>, AllocError>,
-    Result<Vec<u8, A>, AllocError>,
+    Result<Vec<u8, A>, TranscriptFault>,
+    Result<Vec<u8, A>, TranscriptFault>,
 )
     requires { program_of one.now ≡ program_of other.now }
-    ensures { IfOk result.0 (λ v. IfOk result.1 (λ w. v.items ≡ w.items)) }
+    ensures { let told = answer_of (λ v. v.items) transcript_fault_seen in Agree (told result.0) (told result.1) }
 {
-    let first = tn_listing::round(alloc, one, limit);
-    let second = tn_listing::round(alloc, other, limit);
+    let first = tn_listing::round(alloc, one, limit, most);
+    let second = tn_listing::round(alloc, other, limit, most);
     (first, second)
 }

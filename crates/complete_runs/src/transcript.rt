@@ -1,11 +1,13 @@
 // The transcript of a run.
-ghost use Rattle.std.specs.Prelude.{◌≡◌, IfOk};
+ghost use Rattle.std.specs.Prelude.{◌≡◌};
 ghost use Rattle.std.specs.Option.{option_map};
 ghost use Rattle.tn_program.specs.Views.{program_of};
+ghost use Rattle.complete_scripts.specs.Agreement.{Agree, answer_of};
+ghost use Rattle.complete_runs.specs.Alike.{transcript_fault_seen};
 
-use std::alloc::{AllocError, Allocator};
+use std::alloc::Allocator;
 use tn_program::Program;
-use tn_trace::Transcript;
+use tn_trace::{Transcript, TranscriptFault};
 
 /// `tn_trace::Transcript::of_picks` has one answer.
 pub fn of_picks<A: Allocator + Copy>(
@@ -14,16 +16,17 @@ pub fn of_picks<A: Allocator + Copy>(
     other: &Program<A>,
     picks: &[u32],
     same_picks: &[u32],
+    most: usize,
 ) -> (
-    Result<Transcript<A>, AllocError>,
-    Result<Transcript<A>, AllocError>,
+    Result<Transcript<A>, TranscriptFault>,
+    Result<Transcript<A>, TranscriptFault>,
 )
     requires programs { program_of one.now ≡ program_of other.now }
     requires picks { picks.now ≡ same_picks.now }
-    ensures { IfOk result.0 (λ t. IfOk result.1 (λ u. t ≡ u)) }
+    ensures { let told = answer_of (λ t. t) transcript_fault_seen in Agree (told result.0) (told result.1) }
 {
-    let first = Transcript::of_picks(alloc, one, picks);
-    let second = Transcript::of_picks(alloc, other, same_picks);
+    let first = Transcript::of_picks(alloc, one, picks, most);
+    let second = Transcript::of_picks(alloc, other, same_picks, most);
     (first, second)
 }
 
@@ -33,15 +36,16 @@ pub fn of_round<A: Allocator + Copy>(
     one: &Program<A>,
     other: &Program<A>,
     limit: u32,
+    most: usize,
 ) -> (
-    Result<Transcript<A>, AllocError>,
-    Result<Transcript<A>, AllocError>,
+    Result<Transcript<A>, TranscriptFault>,
+    Result<Transcript<A>, TranscriptFault>,
 )
     requires { program_of one.now ≡ program_of other.now }
-    ensures { IfOk result.0 (λ t. IfOk result.1 (λ u. t ≡ u)) }
+    ensures { let told = answer_of (λ t. t) transcript_fault_seen in Agree (told result.0) (told result.1) }
 {
-    let first = Transcript::of_round(alloc, one, limit);
-    let second = Transcript::of_round(alloc, other, limit);
+    let first = Transcript::of_round(alloc, one, limit, most);
+    let second = Transcript::of_round(alloc, other, limit, most);
     (first, second)
 }
 

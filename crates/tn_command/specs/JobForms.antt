@@ -5,14 +5,14 @@ use Rattle.def_script.specs.Program.{Program}
 use Rattle.def_formats.specs.Formats.{in_format}
 use Rattle.tn_formats.specs.Values.{format_seen}
 use Rattle.tn_formats.specs.declared.format.Format.{Format}
-use Rattle.tn_run.specs.Jobs.{FailedEnd, IsOfNoEnd, JobView, no_end_failed}
+use Rattle.tn_run.specs.Jobs.{FailedEnd, GivesMore, IsOfNoEnd, JobView, no_end_failed}
 use Rattle.tn_run.specs.declared.fault.RunFault.TheVariants.{Read, Write, OutOfMemory}
 use Rattle.tn_run.specs.declared.fault.LiveFault.{LiveFault}
 use Rattle.tn_run.specs.declared.fault.LiveFault.TheVariants.{Run, Pool}
 use Rattle.tn_run.specs.declared.outcome.Outcome.{Outcome}
 use Rattle.tn_run.specs.declared.outcome.Outcome.TheVariants.{Listed, Refused}
 use Rattle.tn_command.specs.declared.output_fault.OutputFault.{OutputFault}
-use Rattle.tn_command.specs.declared.output_fault.OutputFault.TheVariants.{Job, TooLong}
+use Rattle.tn_command.specs.declared.output_fault.OutputFault.TheVariants.{Job, TooLong, ListingsTooLong}
 use Rattle.tn_command.specs.declared.output_form.OutputForm.{OutputForm}
 
 -- ---- formats
@@ -54,6 +54,7 @@ pub record IsTooLong {F : Type 0} (most : ℕ) (output : List ℕ) (fault : Outp
 abbrev pub output_end_of : {F : Type 0} → (F → FailedEnd) → OutputFault F → FailedEnd
 output_end_of end_of (Job fault) = end_of fault
 output_end_of end_of (TooLong bytes most) = no_end_failed
+output_end_of end_of (ListingsTooLong most) = no_end_failed
 
 -- the job that gives what another one gives, where the output has at most so many bytes
 abbrev pub job_within : {O F : Type 0} → (most : ℕ) → JobView O F → JobView O (OutputFault F)
@@ -71,6 +72,7 @@ abbrev pub IsFaultWithin : {O F : Type 0} → (most : ℕ) → JobView O F → P
 IsFaultWithin most job p (Job fault) = IsOfNoEnd job fault
 IsFaultWithin {O} most job p (TooLong bytes bound) =
     (outcome : O) × (output : List ℕ) × job.of_program p outcome output × IsTooLong {F = Unit {0}} most output (TooLong bytes bound)
+IsFaultWithin most job p (ListingsTooLong bound) = GivesMore most job p × (bound ≡ most)
 
 -- ---- runs by workers
 

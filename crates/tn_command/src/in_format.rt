@@ -72,6 +72,19 @@ impl<A: Allocator + Copy, J: DirectJob<A>> DirectJob<A> for InFormat<'_, J> {
             Err(_) => Err(self.job.fault_of(RunFault::OutOfMemory)),
         }
     }
+
+    fn answer_within(
+        &self,
+        alloc: A,
+        picks: &[u32],
+        program: &Program<A>,
+        most: usize,
+    ) -> Result<Option<(J::Outcome, Vec<u8, A>)>, J::Fault> {
+        match self.format {
+            None => self.job.answer_within(alloc, picks, program, most),
+            Some(_) => Ok(Some(self.answer(alloc, picks, program)?)),
+        }
+    }
 }
 
 impl<J: Command> Command for InFormat<'_, J> {

@@ -12,4 +12,7 @@ pub enum OutputFault<F> {
     /// The output has more bytes than it may have. Nothing was written.
     #[error("fault output: the output has {bytes} bytes, and --max-output is {most}")]
     TooLong { bytes: usize, most: usize },
+    /// The run was ended once its listings alone had more bytes than the output may have. Nothing was written.
+    #[error("fault output: the output has more than {most} bytes, and --max-output is {most}")]
+    ListingsTooLong { most: usize },
 }

@@ -83,8 +83,9 @@ impl<A: Allocator + Copy, J: DirectJob<A>> DirectJob<A> for WithinBytes<'_, J> {
         ensures fault { IfErr result (IsOfNoEnd (job_within self.now.most (J.view self.now.job.now))) }
         ensures reason { IfErr result (IsFaultWithin self.now.most (J.view self.now.job.now) (program_of program.now)) }
     {
-        let (outcome, output) = match self.job.answer(alloc, picks, program) {
-            Ok(answer) => answer,
+        let (outcome, output) = match self.job.answer_within(alloc, picks, program, self.most) {
+            Ok(Some(answer)) => answer,
+            Ok(None) => return Err(OutputFault::ListingsTooLong { most: self.most }),
             Err(fault) => return Err(OutputFault::Job(fault)),
         };
         match hold(output, self.most) {

@@ -23,3 +23,4 @@ mod CommandDifferences
 pub mod CommandStarts
 pub mod Remarks
 pub mod ReplyTexts
+pub mod LongRuns

@@ -1,9 +1,9 @@
 // A run by a schedule, with the notes of it.
-ghost use Rattle.std.specs.Prelude.{◌≡◌, IfOk};
+ghost use Rattle.std.specs.Prelude.{◌≡◌, IfOk, IsErrOf};
 ghost use Rattle.def_explain.specs.Remarks.{has_remarks};
 ghost use Rattle.tn_program.specs.Views.{program_of};
 ghost use Rattle.tn_listing.specs.Outputs.{OnItsPicks};
-ghost use Rattle.tn_run.specs.Answers.{IsSpelledBy, schedule_seen};
+ghost use Rattle.tn_run.specs.Answers.{IsLongerRun, IsSpelledBy, schedule_seen};
 ghost use Rattle.tn_explain.specs.Notes.{AreNotes, IsTranscriptBy, IsListedWithNotes};
 
 use crate::note::{RunNotes, node_note};
@@ -14,7 +14,7 @@ use std::alloc::{AllocError, Allocator};
 use tn_listing::{PicksFault, transcript_output};
 use tn_program::Program;
 use tn_run::{DirectJob, Job, Refusal, RunFault, Schedule};
-use tn_trace::Transcript;
+use tn_trace::{Transcript, TranscriptFault};
 
 /// A run by a schedule, whose outcome has the notes of the run.
 #[derive(Clone, Copy)]
@@ -33,19 +33,23 @@ pub enum RunEnd {
     Refused(Refusal),
 }
 
-/// The transcript of a program's run by a schedule, whose text of picks spells these.
+/// The transcript of a program's run by a schedule, whose text of picks spells these, where its listings have at most
+/// so many bytes.
 fn transcript_by<A: Allocator + Copy>(
     alloc: A,
     program: &Program<A>,
     schedule: &Schedule<'_>,
     picks: &[u32],
-) -> Result<Transcript<A>, AllocError>
+    most: usize,
+) -> Result<Transcript<A>, TranscriptFault>
     requires { IsSpelledBy (schedule_seen schedule.now) picks.now }
-    ensures { IfOk result (IsTranscriptBy (schedule_seen schedule.now) (program_of program.now)) }
+    ensures run { IfOk result (IsTranscriptBy (schedule_seen schedule.now) (program_of program.now)) }
+    ensures long { IsErrOf result TranscriptFault.TooLong →
+        IsLongerRun most (schedule_seen schedule.now) (program_of program.now) }
 {
     match schedule {
-        Schedule::Picks(_) => Ok(Transcript::of_picks(alloc, program, picks)?),
-        Schedule::Round(limit) => Ok(Transcript::of_round(alloc, program, *limit)?),
+        Schedule::Picks(_) => Ok(Transcript::of_picks(alloc, program, picks, most)?),
+        Schedule::Round(limit) => Ok(Transcript::of_round(alloc, program, *limit, most)?),
     }
 }
 
@@ -78,20 +82,28 @@ fn notes_of<A: Allocator + Copy>(
     })
 }
 
-/// The output of a program by a schedule, whose text of picks spells these, and the notes of its run.
+/// The output of a program by a schedule, whose text of picks spells these, and the notes of its run, where its
+/// listings have at most so many bytes.
 fn listing_and_notes<A: Allocator + Copy>(
     alloc: A,
     program: &Program<A>,
     schedule: &Schedule<'_>,
     picks: &[u32],
-) -> Result<(RunEnd, Vec<u8, A>), AllocError>
+    most: usize,
+) -> Result<(RunEnd, Vec<u8, A>), TranscriptFault>
     requires { IsSpelledBy (schedule_seen schedule.now) picks.now }
-    ensures { IfOk result (λ r.
+    ensures listing { IfOk result (λ r.
         IsListedWithNotes (schedule_seen schedule.now) (program_of program.now) r.0 r.1.items) }
+    ensures long { IsErrOf result TranscriptFault.TooLong →
+        IsLongerRun most (schedule_seen schedule.now) (program_of program.now) }
 {
-    let transcript = transcript_by(alloc, program, schedule, picks)?;
-    let notes = notes_of(alloc, program, &transcript)?;
-    let text = transcript_output(alloc, transcript, program)?;
+    let transcript = transcript_by(alloc, program, schedule, picks, most)?;
+    let Ok(notes) = notes_of(alloc, program, &transcript) else {
+        return Err(TranscriptFault::OutOfMemory);
+    };
+    let Ok(text) = transcript_output(alloc, transcript, program) else {
+        return Err(TranscriptFault::OutOfMemory);
+    };
     Ok((RunEnd::Listed(notes), text))
 }
 
@@ -134,9 +146,23 @@ impl<A: Allocator + Copy> DirectJob<A> for RunAndNote<'_> {
         picks: &[u32],
         program: &Program<A>,
     ) -> Result<(RunEnd, Vec<u8, A>), RunFault> {
-        match listing_and_notes(alloc, program, &self.schedule, picks) {
+        match listing_and_notes(alloc, program, &self.schedule, picks, usize::MAX) {
             Ok(answer) => Ok(answer),
             Err(_) => Err(RunFault::OutOfMemory),
+        }
+    }
+
+    fn answer_within(
+        &self,
+        alloc: A,
+        picks: &[u32],
+        program: &Program<A>,
+        most: usize,
+    ) -> Result<Option<(RunEnd, Vec<u8, A>)>, RunFault> {
+        match listing_and_notes(alloc, program, &self.schedule, picks, most) {
+            Ok(answer) => Ok(Some(answer)),
+            Err(TranscriptFault::TooLong) => Ok(None),
+            Err(TranscriptFault::OutOfMemory) => Err(RunFault::OutOfMemory),
         }
     }
 }

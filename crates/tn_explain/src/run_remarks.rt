@@ -84,7 +84,9 @@ fn round_lines<A: Allocator + Copy>(
     ensures { IfOk result (λ v. AreRemarkLines name.now text.now
         (remarks (program_of program.now) (round (program_of program.now) limit)) v.items) }
 {
-    let transcript = Transcript::of_round(alloc, program, limit)?;
+    let Ok(transcript) = Transcript::of_round(alloc, program, limit, usize::MAX) else {
+        return Err(AllocError);
+    };
     program_lines(alloc, name, text, program, transcript.journal())
 }
 

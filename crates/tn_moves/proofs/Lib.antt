@@ -1,3 +1,4 @@
 mod Numbers
 pub mod PickLogs
 pub mod Readings
+mod LongRuns

@@ -5,3 +5,4 @@ mod ReadLemmas
 mod Answers
 mod RestLemmas
 mod ClosingLemmas
+pub mod LongRuns

@@ -1,6 +1,6 @@
 -- What a run is asked, and what it gives (own).
 -- Depends on what a job is.
-use Rattle.std.specs.Prelude.{◌≡◌, ℕ, Bool, true, false, List, [], Option, Some, None}
+use Rattle.std.specs.Prelude.{◌≡◌, ◌<◌, ℕ, Bool, true, false, List, [], length, Option, Some, None}
 use Rattle.def_script.specs.Program.{Program}
 use Rattle.def_script.specs.Script.{Refusal}
 use Rattle.def_run.specs.Listing.{program_output}
@@ -51,6 +51,12 @@ pub record IsRunListing (a : ScheduleView) (p : Program) (output : List ℕ) : T
   pub picks : List ℕ
   pub given : ArePicks a p picks
   pub listing : output ≡ program_output p picks
+
+-- such an output has more bytes
+pub record IsLongerRun (most : ℕ) (a : ScheduleView) (p : Program) : Type 0 where
+  pub output : List ℕ
+  pub listed : IsRunListing a p output
+  pub exceeds : most < length output
 
 -- the output is that of the program, where the outcome is its listing
 abbrev pub IsListedOutput : ScheduleView → Program → Outcome → List ℕ → Type 0

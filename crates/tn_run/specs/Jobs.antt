@@ -1,6 +1,6 @@
 -- What a job is, and what doing it says of a reader, a writer and an answer (own).
 -- Depends on the known bytes of readers and writers, and on which scripts are accepted or refused.
-use Rattle.std.specs.Prelude.{◌≡◌, ◌≢◌, ℕ, Bool, true, List, Option, Some, None, IfSome, MatchOption, Result, IfOk, IfErr, OnOk}
+use Rattle.std.specs.Prelude.{◌≡◌, ◌≢◌, ◌<◌, ℕ, Bool, true, List, length, Option, Some, None, IfSome, MatchOption, Result, IfOk, IfErr, OnOk}
 use Rattle.std.specs.Io.KnownBytes.{Appends}
 use Rattle.std.specs.declared.vec.Vec.{Vec}
 use Rattle.def_script.specs.Program.{Program}
@@ -124,6 +124,18 @@ pub record IsProgramAnswer {O F : Type 0} (job : JobView O F) (p : Program) (out
   pub given : job.of_program p outcome output
   pub accepted : job.refusal_in outcome ≡ None
   pub outcome_has : job.has outcome
+
+-- what the job gives for the program has more bytes
+pub record GivesMore {O F : Type 0} (most : ℕ) (job : JobView O F) (p : Program) : Type 0 where
+  pub outcome : O
+  pub output : List ℕ
+  pub given : job.of_program p outcome output
+  pub exceeds : most < length output
+
+-- an answer for the program; none only where the output has more bytes
+abbrev pub IsAnswerWithin : {O F A : Type 0} → (most : ℕ) → JobView O F → Program → Option (O × Vec ℕ A) → Type 0
+IsAnswerWithin most job p None = GivesMore most job p
+IsAnswerWithin most job p (Some answer) = IsProgramAnswer job p answer.0 answer.1.items
 
 -- the refusal as an outcome
 pub record IsRefusalOutcome {O F : Type 0} (job : JobView O F) (r : Refusal) (outcome : O) : Type 0 where

@@ -60,7 +60,7 @@ pub trait Job<A: Allocator + Copy> {
 pub trait DirectJob<A: Allocator + Copy>: Job<A> {
     ghost use Rattle.std.specs.Prelude.{IfOk, IfErr};
     ghost use Rattle.tn_program.specs.Views.{program_of};
-    ghost use Rattle.tn_run.specs.Jobs.{IsOfNoEnd, IsProgramAnswer};
+    ghost use Rattle.tn_run.specs.Jobs.{IsAnswerWithin, IsOfNoEnd, IsProgramAnswer};
 
     /// The outcome and the output for the program of an accepted script.
     ///
@@ -76,6 +76,26 @@ pub trait DirectJob<A: Allocator + Copy>: Job<A> {
         requires { Self.takes self.now picks.now }
         ensures given { IfOk result (λ r. IsProgramAnswer (Self.view self.now) (program_of program.now) r.0 r.1.items) }
         ensures fault { IfErr result (IsOfNoEnd (Self.view self.now)) };
+
+    /// The same, or None where the output has more than so many bytes. A job that can't say so before its output is
+    /// whole gives the output.
+    ///
+    /// # Errors
+    ///
+    /// A fault of no end.
+    fn answer_within(
+        &self,
+        alloc: A,
+        picks: &[u32],
+        program: &Program<A>,
+        most: usize,
+    ) -> Result<Option<(Self::Outcome, Vec<u8, A>)>, Self::Fault>
+        requires { Self.takes self.now picks.now }
+        ensures given { IfOk result (IsAnswerWithin most (Self.view self.now) (program_of program.now)) }
+        ensures fault { IfErr result (IsOfNoEnd (Self.view self.now)) }
+    {
+        Ok(Some(self.answer(alloc, picks, program)?))
+    }
 }
 
 /// What was read: the picks and the program, or what a refusal gives.

@@ -1,32 +1,38 @@
 // A run: a script and its picks in, an output out.
-ghost use Rattle.std.specs.Prelude.{IfOk};
+ghost use Rattle.std.specs.Prelude.{IfOk, IsErrOf};
 ghost use Rattle.tn_program.specs.Views.{program_of};
-ghost use Rattle.tn_run.specs.Answers.{IsRunListing, IsSpelledBy, run_by, schedule_seen};
+ghost use Rattle.tn_run.specs.Answers.{IsLongerRun, IsRunListing, IsSpelledBy, run_by, schedule_seen};
 ghost use Rattle.tn_run.specs.Jobs.{Meets};
 
 use crate::fault::RunFault;
 use crate::job::{DirectJob, Job, transact};
 use crate::outcome::{Outcome, Schedule, is_listed};
-use std::alloc::{AllocError, Allocator};
+use std::alloc::Allocator;
 use std::io::{Read, Write};
 use tn_listing::{PicksFault, read_picks, replay, round};
 use tn_program::Program;
 use tn_refusal::Refusal;
 use tn_text::Watched;
+use tn_trace::TranscriptFault;
 
-/// The output of a program by a schedule, whose text of picks spells these.
+/// The output of a program by a schedule, whose text of picks spells these, where its listings have at most so many
+/// bytes.
 fn schedule_output<A: Allocator + Copy>(
     alloc: A,
     program: &Program<A>,
     schedule: &Schedule<'_>,
     picks: &[u32],
-) -> Result<Vec<u8, A>, AllocError>
+    most: usize,
+) -> Result<Vec<u8, A>, TranscriptFault>
     requires { IsSpelledBy (schedule_seen schedule.now) picks.now }
-    ensures { IfOk result (λ v. IsRunListing (schedule_seen schedule.now) (program_of program.now) v.items) }
+    ensures listing { IfOk result (λ v.
+        IsRunListing (schedule_seen schedule.now) (program_of program.now) v.items) }
+    ensures long { IsErrOf result TranscriptFault.TooLong →
+        IsLongerRun most (schedule_seen schedule.now) (program_of program.now) }
 {
     match schedule {
-        Schedule::Picks(_) => Ok(replay(alloc, program, picks)?),
-        Schedule::Round(limit) => Ok(round(alloc, program, *limit)?),
+        Schedule::Picks(_) => Ok(replay(alloc, program, picks, most)?),
+        Schedule::Round(limit) => Ok(round(alloc, program, *limit, most)?),
     }
 }
 
@@ -68,9 +74,23 @@ impl<A: Allocator + Copy> DirectJob<A> for Schedule<'_> {
         picks: &[u32],
         program: &Program<A>,
     ) -> Result<(Outcome, Vec<u8, A>), RunFault> {
-        match schedule_output(alloc, program, self, picks) {
+        match schedule_output(alloc, program, self, picks, usize::MAX) {
             Ok(output) => Ok((Outcome::Listed, output)),
             Err(_) => Err(RunFault::OutOfMemory),
+        }
+    }
+
+    fn answer_within(
+        &self,
+        alloc: A,
+        picks: &[u32],
+        program: &Program<A>,
+        most: usize,
+    ) -> Result<Option<(Outcome, Vec<u8, A>)>, RunFault> {
+        match schedule_output(alloc, program, self, picks, most) {
+            Ok(output) => Ok(Some((Outcome::Listed, output))),
+            Err(TranscriptFault::TooLong) => Ok(None),
+            Err(TranscriptFault::OutOfMemory) => Err(RunFault::OutOfMemory),
         }
     }
 }

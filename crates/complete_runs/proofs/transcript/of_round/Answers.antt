@@ -1,12 +1,17 @@
-use Rattle.std.proofs.Common.{◌∙◌, ◌≡◌, sym, ap}
+use Rattle.std.proofs.Common.{ap}
 use Rattle.def_run.specs.Round.{round}
 use Rattle.tn_program.specs.Views.{program_of}
-use Rattle.tn_trace.specs.Transcripts.{transcript_of}
-use Rattle.complete_runs.proofs.Both.{both_if_ok}
+use Rattle.tn_trace.specs.Transcripts.{transcript_of, listing_bytes}
+use Rattle.complete_runs.proofs.Within.{agree_within}
 use Rattle.complete_runs.proofs.transcript.of_round.Goals as goal
 
 pub returns : goal.returns
 returns g c =
+    let p = program_of c.args.one.now in
+    let q = program_of c.args.other.now in
     let limit = c.args.limit in
-    both_if_ok (λ t. t ≡ transcript_of (program_of c.args.one.now) (round (program_of c.args.one.now) limit)) (λ t. t ≡ transcript_of (program_of c.args.other.now) (round (program_of c.args.other.now) limit)) (λ t u. t ≡ u)
-    (λ t u k l. k ∙ ap (λ p. transcript_of p (round p limit)) c.requires ∙ sym l) _ _ c.of_round-first.ensures c.of_round-second.ensures
+    let first = c.of_round-first.ensures in
+    let second = c.of_round-second.ensures in
+    agree_within (λ t. t) (transcript_of p (round p limit)) (transcript_of q (round q limit)) (listing_bytes p (round p limit)) (listing_bytes q (round q limit)) c.args.most c.of_round-first.result c.of_round-second.result
+    (ap (λ r. transcript_of r (round r limit)) c.requires) (ap (λ r. listing_bytes r (round r limit)) c.requires)
+    (record { run = first.run; within = first.within; long = first.long }) (record { run = second.run; within = second.within; long = second.long })

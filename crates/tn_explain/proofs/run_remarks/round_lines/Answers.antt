@@ -11,4 +11,4 @@ pub returns : goal.returns
 returns g c =
     let p = program_of c.args.program.now in
     subst (λ rs. IfOk c.program_lines.result (λ v. AreRemarkLines c.args.name.now c.args.text.now rs v.items))
-    (ap (remarks p) (c.journal.ensures ∙ ap (λ (t : TranscriptValue). t.journal) c.in_ok-transcript.ensures) ∙ moves_have_the_remarks p (round p c.args.limit)) c.program_lines.ensures
+    (ap (remarks p) (c.journal.ensures ∙ ap (λ (t : TranscriptValue). t.journal) c.in-Ok.ensures.run) ∙ moves_have_the_remarks p (round p c.args.limit)) c.program_lines.ensures
