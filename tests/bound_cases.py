@@ -34,12 +34,26 @@ OTHERS = (
     ["draw", "--moves", "0! 100*2", "--text"],
 )
 
+# Those whose run ends as soon as its listings alone are too long: in 1 byte, the listings of this run are.
+ENDED = (
+    QUIET,
+    ["replay", "--moves", "0! 100*2", "--quiet"],
+    [*QUIET, "--strict"],
+    ["round", "--quiet"],
+    ["round", "--control", "first", "--quiet"],
+)
+
 COMMANDS = (SEND_HI_PICKS, ["round"], ["workers", "--n", "1"], EXPLAIN, DRAW)
 
 
 def fault_of(length, most):
     """The line of an output of this length that may have so many bytes."""
     return b"fault output: the output has %d bytes, and --max-output is %d\n" % (length, most)
+
+
+def fault_of_run(most):
+    """The line of a run that ended since its listings alone have more bytes."""
+    return b"fault output: the output has more than %d bytes, and --max-output is %d\n" % (most, most)
 
 
 def bounds():
@@ -52,7 +66,8 @@ def bounds():
             wants(f"{name} in {most} bytes", run([*words, "--max-output", str(most)], SEND_HI), 0, output, b"")
         for most in (length - 1, 1):
             ran = run([*words, "--max-output", str(most)], SEND_HI)
-            wants(f"{name} in {most} bytes", ran, 3, b"", fault_of(length, most))
+            line = fault_of_run(most) if most == 1 and words in ENDED else fault_of(length, most)
+            wants(f"{name} in {most} bytes", ran, 3, b"", line)
     wants("an empty output as a fault", run(["replay", "--picks", "", "--max-output", "22"]), 3, b"", fault_of(len(EMPTY), 22))
     wants("an empty output", run(["replay", "--picks", "", "--max-output", "23"]), 0, EMPTY, NO_FORMS)
     held = [*QUIET, "--max-output", "112", "--expect-line", "hi"]
@@ -109,6 +124,31 @@ def large_output():
     return f"{listings}== replies\n{replies}== journal\n{picks}\n".encode()
 
 
+# 128 sessions report sends of such tuples, 60 in one call of f, 60 calls of f in one of g.
+MANY_SESSIONS = range(1, 129)
+MANY_SET = ",".join(f"{{session_create,s{n},t{n},[]}},{{process,s{n},<0.100.0>,true,[send]}}" for n in MANY_SESSIONS)
+ENDLESS = f"""{{function,m,f,exported,['To','X'],[{','.join([STEP] * SENDS)}]}}.
+{{function,m,g,exported,['To','X'],[{','.join(["{call,'_',{m,f},['To','X']}"] * SENDS)}]}}.
+{{function,m,go,exported,['To','X'],[{','.join(["{call,'_',{m,g},['To','X']}"] * SENDS)}]}}.
+{{function,m,rest,exported,[],[{{'receive','_'}}]}}.
+{{process,m,go,[<0.101.0>,{LETTERS}]}}.
+{{process,m,rest,[]}}.
+{{control,[{MANY_SET}]}}.
+""".encode()
+ENDLESS_PICKS = " ".join(["0"] * (2 * len(MANY_SESSIONS)) + ["100"] * 30_000)
+
+
+def endless_outputs():
+    """Runs whose listings would have some hundred GB end once these have more bytes than the output may have."""
+    limited = ("sh", "-c", 'ulimit -v 400000 && exec "$0" "$@"', str(PROGRAM))
+    bound = ["--max-output", "1000000"]
+    for words in (["replay", "--picks", ENDLESS_PICKS], ["round", "--limit", "65536"]):
+        for more in ([], ["--quiet"]):
+            name = " ".join([words[0], *more])
+            ran = run([*words, *more, *bound], ENDLESS, command=limited)
+            wants(f"an output of some hundred GB of {name}", ran, 3, b"", fault_of_run(1_000_000))
+
+
 def little_memory():
     """A run that needs more memory than the shell lets it have is a fault, and nothing is written."""
     limited = ("sh", "-c", 'ulimit -v 40000 && exec "$0" "$@"', str(PROGRAM))
@@ -119,7 +159,7 @@ def little_memory():
     ran = run(words, LARGE)
     check("the large output", (ran.returncode, ran.stdout, ran.stderr) == (0, output, b""), (ran.returncode, ran.stderr))
     ran = run([*words, "--max-output", "1000"], LARGE)
-    wants("the large output in 1000 bytes", ran, 3, b"", fault_of(len(output), 1000))
+    wants("the large output in 1000 bytes", ran, 3, b"", fault_of_run(1000))
     wants("a small output in little memory", run(QUIET, SEND_HI, command=limited), 0, SEND_HI_OUTPUT, b"")
     for words in (words, ["round"], ["explain", *moves], ["draw", *moves]):
         wants(f"{words[0]} in little memory", run(words, LARGE, command=limited), 3, b"", b"fault memory\n")

@@ -60,7 +60,13 @@ SUBJECTS = {
         specification_cases.specifications,
     ),
     "format": (format_cases.formats,),
-    "bound": (bound_cases.bounds, bound_cases.refusals_in_bounds, bound_cases.bad_bounds, bound_cases.little_memory),
+    "bound": (
+        bound_cases.bounds,
+        bound_cases.refusals_in_bounds,
+        bound_cases.bad_bounds,
+        bound_cases.endless_outputs,
+        bound_cases.little_memory,
+    ),
     "command_line": (
         command_line_cases.tries,
         command_line_cases.files,
