@@ -1,8 +1,8 @@
 //! The functions of conditions and bodies, on values.
 //!
-//! Depends on tn_term, tn_text, tn_spec and on the definitions of def_spec. Promises that `apply` answers the
-//! value of one function on values, and none exactly where that is a fault. A term that a function looks
-//! at is lent, and no function takes memory: only `copy_into` does, and `lent_values` for its list.
+//! Depends on tn_term, tn_text, tn_spec and on the definitions of def_spec. Promises that `apply` answers the value of
+//! one function on values, and none exactly where that is a fault, and that `write_value` appends the text of a value.
+//! A term that is looked at is lent. `copy_into`, `lent_values` for its list and `write_value` alone take memory.
 #![tactic(auto)]
 
 mod arithmetic;
