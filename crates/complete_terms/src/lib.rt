@@ -18,3 +18,4 @@ mod table;
 mod term;
 mod watched;
 mod write;
+mod written_term;

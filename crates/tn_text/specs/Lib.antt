@@ -4,4 +4,5 @@ pub mod Values
 pub mod Stack
 pub mod Answers
 pub mod Writes
+pub mod WrittenTrees
 pub mod Watch
