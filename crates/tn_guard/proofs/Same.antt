@@ -1,6 +1,6 @@
 -- Equality of terms as a test, by what it decides.
 use Rattle.std.proofs.Common.{◌≡◌, ◌↔◌, Bool, true, false, IsTrue, refl, sym, ap, subst}
-use Rattle.def_term.specs.Tree.{Tree, list, Trees}
+use Rattle.def_term.specs.Tree.{Tree, tuple, list, Trees}
 use Rattle.def_term.specs.Order.{same}
 use Rattle.def_term.proofs.Same.{same-is, same-self}
 
@@ -15,3 +15,11 @@ decided false t u h = go (same t u) refl
 -- of lists, by what it decides of their elements
 pub decided-lists : (b : Bool) (ts us : Trees) → IsTrue b ↔ (ts ≡ us) → b ≡ same (list ts) (list us)
 decided-lists b ts us h = decided b (list ts) (list us) ((λ x. ap list (h.0 x)), (λ e. let is : ts ≡ us = cc in h.1 is))
+
+-- of tuples, as of lists
+pub same-tuples : (ts us : Trees) → same (list ts) (list us) ≡ same (tuple ts) (tuple us)
+same-tuples ts us =
+    decided (same (list ts) (list us)) (tuple ts) (tuple us) (
+      (λ yes. let is : list ts ≡ list us = same-is (list ts) (list us) yes in cc),
+      (λ e. let is : ts ≡ us = cc in subst (λ vs. same (list ts) (list vs) ≡ true) is (same-self (list ts))),
+    )

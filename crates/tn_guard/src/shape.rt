@@ -54,11 +54,13 @@ impl<'a, A: Allocator> Shape<'a, A> {
         order_shapes(self, other)
     }
 
-    /// Whether both are the same term. Two lists of terms are compared without a shape for each element.
+    /// Whether both are the same term. Two tuples or two lists of terms are compared without a shape for each
+    /// element.
     pub fn same<'b, B: Allocator>(self, other: Shape<'b, B>) -> bool
         ensures { result ≡ same (shape_seen self.entry) (shape_seen other.entry) }
     {
         match (self, other) {
+            (Shape::Tuple(parts), Shape::Tuple(others)) => same_parts(parts, others),
             (Shape::List(parts), Shape::List(others)) => same_parts(parts, others),
             _ => self.order(other).is_eq(),
         }

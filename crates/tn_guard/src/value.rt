@@ -142,8 +142,9 @@ impl<'a, A: Allocator> Value<'a, A> {
     pub fn tuple_parts(self) -> Option<ListView<'a, A>>
         ensures { option_map list_view_seen result ≡ tuple_trees (value_seen self.entry) }
     {
-        match self.shape() {
-            Shape::Tuple(parts) => Some(parts),
+        match self {
+            Value::Lent(Term::Tuple(items)) => Some(ListView::Terms(items.as_slice())),
+            Value::Tuple(items) => Some(ListView::Values(items)),
             _ => None,
         }
     }
@@ -152,8 +153,10 @@ impl<'a, A: Allocator> Value<'a, A> {
     pub fn list_parts(self) -> Option<ListView<'a, A>>
         ensures { option_map list_view_seen result ≡ list_trees (value_seen self.entry) }
     {
-        match self.shape() {
-            Shape::List(parts) => Some(parts),
+        match self {
+            Value::Lent(Term::List(items)) => Some(ListView::Terms(items.as_slice())),
+            Value::Rest(items) => Some(ListView::Terms(items)),
+            Value::List(items) => Some(ListView::Values(items)),
             _ => None,
         }
     }
