@@ -1,5 +1,6 @@
 pub mod FormStarts
 mod NumberedLines
+mod Pieces
 pub mod Printables
 pub mod RefusedItems
 pub mod Refusals

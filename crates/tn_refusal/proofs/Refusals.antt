@@ -70,8 +70,11 @@ all-spanned : (xs : List TokenSpan) → are_good (tokens_of xs) ≡ true → All
 all-spanned [] g = tt
 all-spanned (x ∷ xs) g = (good-token x.token (first-good (is_good x.token) (are_good (tokens_of xs)) g), all-spanned xs (rest-is-good (is_good x.token) (are_good (tokens_of xs)) g))
 
+pub spelled_good : (bytes : List ℕ) (ts : List Tree) (s : SpellsTerms bytes ts) → AllGood s.tokens
+spelled_good bytes ts s = all-spanned s.tokens (script-good (tokens_of s.tokens) ts s.derives)
+
 listable : (bytes : List ℕ) (ts : List Tree) → SpellsTerms bytes ts → IsListable bytes
-listable bytes ts s = record { short = s.short; tokens = s.tokens; are = s.are; good = all-spanned s.tokens (script-good (tokens_of s.tokens) ts s.derives) }
+listable bytes ts s = record { short = s.short; tokens = s.tokens; are = s.are; good = spelled_good bytes ts s }
 
 pub refused_placed : RefusedTextIsPlaced
 refused_placed bytes script.too_long r = tt

@@ -19,7 +19,7 @@ use Rattle.tn_refusal.specs.declared.skim.Aim.TheVariants.{Stops, Commas}
 use Rattle.tn_refusal.specs.Skims.{zone_after, sign_of_byte, sign_in, role_of_sign, is_stop_sign, left_after, offset_past, AreAhead}
 
 -- what a token does
-abbrev sign_of : Token → Sign
+abbrev pub sign_of : Token → Sign
 sign_of open_brace = Opener
 sign_of close_brace = Closer
 sign_of open_bracket = Opener
@@ -244,7 +244,7 @@ past_token a d n at bad u rest h = absurd h
 
 -- ---- all tokens
 
-token_there : (t : Token) (u rest : List ℕ) → (t ≢ bad) → Stands u rest t → IsToken u rest t
+pub token_there : (t : Token) (u rest : List ℕ) → (t ≢ bad) → Stands u rest t → IsToken u rest t
 token_there open_brace u rest g h = h
 token_there close_brace u rest g h = h
 token_there open_bracket u rest g h = h
@@ -304,7 +304,7 @@ after_first bytes at x xs h =
 pub no_token_left : (bytes : List ℕ) (at : ℕ) → AreAhead bytes at [] → drop (at + gap_len false (drop at bytes)) bytes ≡ []
 no_token_left bytes at h = sym (drop-drop (gap_len false (drop at bytes)) at bytes) ∙ h.are
 
-past_first : (bytes : List ℕ) (a : Aim) (d n at : ℕ) (x : TokenSpan) (xs : List TokenSpan) → AfterFirst bytes at x xs
+pub past_first : (bytes : List ℕ) (a : Aim) (d n at : ℕ) (x : TokenSpan) (xs : List TokenSpan) → AfterFirst bytes at x xs
     → offset_past a Code d (suc n) at (drop at bytes) ≡ offset_past a Code (depth_after d (role_of_sign (sign_of x.token))) (left_after a d (suc n) (sign_of x.token)) x.to (drop x.to bytes)
 past_first bytes a d n at x xs f =
     let gap = gap_len false (drop at bytes) in
@@ -334,7 +334,7 @@ tokens_ahead bytes a (x ∷ xs) d (suc n) at h =
 
 -- ---- full stops, and commas
 
-stop_sign : (t : Token) → is_stop t ≡ is_stop_sign (sign_of t)
+pub stop_sign : (t : Token) → is_stop t ≡ is_stop_sign (sign_of t)
 stop_sign open_brace = refl
 stop_sign close_brace = refl
 stop_sign open_bracket = refl

@@ -1,5 +1,6 @@
 pub mod Starts
 pub mod Skims
+pub mod Pieces
 pub mod RefusedItems
 pub mod Refusals
 pub mod Words

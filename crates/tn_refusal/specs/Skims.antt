@@ -1,6 +1,6 @@
 -- Going through the bytes of a text, without its tokens, past full stops or past commas.
 -- Depends on the tokens of a text and on what they do to a tuple or a list.
-use Rattle.std.specs.Prelude.{ℕ, ◌+◌, ◌-◌, ◌==◌, ◌&&◌, ◌||◌, Bool, true, false, List, [], ◌∷◌, drop, if◌then◌else◌}
+use Rattle.std.specs.Prelude.{◌≡◌, ℕ, ◌+◌, ◌-◌, ◌==◌, ◌&&◌, ◌||◌, Bool, true, false, List, [], ◌∷◌, drop, if◌then◌else◌}
 use Rattle.def_text.specs.Tokens.{ends_form, TokenSpan, TokensFrom}
 use Rattle.def_refusal.specs.ItemStarts.{TokenRole, opener, closer, separator, no_role, depth_after, commas_after}
 use Rattle.tn_text.specs.Lexer.{AllGood}
@@ -32,6 +32,11 @@ sign_in Code b bs = sign_of_byte b bs
 sign_in Comment b bs = Plain
 sign_in (Quoted q) b bs = Plain
 sign_in (Escaped q) b bs = Plain
+
+-- the byte does nothing there, and the next one stands there too
+pub record IsIdle (z : Zone) (b : ℕ) : Type 0 where
+  pub stays : zone_after z b ≡ z
+  pub plain : (bs : List ℕ) → sign_in z b bs ≡ Plain
 
 -- what that is of a token that does the same
 abbrev pub role_of_sign : Sign → TokenRole

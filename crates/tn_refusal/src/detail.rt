@@ -9,11 +9,11 @@ use crate::syntax::put_token;
 use std::alloc::{AllocError, Allocator};
 
 /// Appends what breaks a rule on the whole text.
-fn put_whole<A: Allocator + Copy>(alloc: A, out: &mut Detail<A>, text: &[u8], refusal: Refusal) {
+fn put_whole<A: Allocator>(out: &mut Detail<A>, text: &[u8], refusal: Refusal) {
     match refusal {
         Refusal::BadPicks => put_picks(out, text),
         Refusal::TooLong => out.number(b": there are ", text.len()),
-        _ => put_form_count(alloc, out, text),
+        _ => put_form_count(out, text),
     }
 }
 
@@ -44,7 +44,7 @@ fn put_detail<A: Allocator + Copy>(
     match refusal_part(refusal) {
         RefusedPart::Token { at } => put_token(alloc, out, text, refusal, at, kind),
         RefusedPart::Form { form } => put_form(alloc, out, mark, refusal, form),
-        RefusedPart::Whole => put_whole(alloc, out, text, refusal),
+        RefusedPart::Whole => put_whole(out, text, refusal),
     }
 }
 

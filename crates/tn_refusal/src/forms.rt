@@ -5,6 +5,7 @@ use crate::put::Detail;
 use crate::refusal::Refusal;
 use crate::sessions::{Role, put_taken, put_unmade};
 use crate::shape::put_shape;
+use crate::skim::full_stops;
 use crate::variables::{put_in_function, put_in_process};
 use std::alloc::Allocator;
 use tn_flags::Command;
@@ -95,11 +96,7 @@ pub fn put_broken<A: Allocator>(
     }
 }
 
-/// Appends how many forms there are.
-pub fn put_form_count<A: Allocator + Copy>(alloc: A, out: &mut Detail<A>, text: &[u8]) {
-    match read_terms(alloc, text) {
-        Ok(terms) => out.number(b": there are ", terms.len()),
-        Err(TextFault::OutOfMemory) => out.refuse(),
-        Err(_) => {}
-    }
+/// Appends how many forms there are: of a text of tokens, each with its full stop.
+pub fn put_form_count<A: Allocator>(out: &mut Detail<A>, text: &[u8]) {
+    out.number(b": there are ", full_stops(text).count);
 }

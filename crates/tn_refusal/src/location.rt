@@ -1,16 +1,20 @@
 // Where a line says that a refusal is.
-ghost use Rattle.std.specs.Prelude.{◌≡◌, ◌<◌, ◌++◌, length, codes, decimal, IfOk, OnOk};
+ghost use Rattle.std.specs.Prelude.{◌≡◌, ◌≤◌, ◌<◌, ◌-◌, ◌++◌, List, length, codes, decimal, IfOk, OnOk};
 ghost use Rattle.std.specs.Option.{option_map};
+ghost use Rattle.def_text.specs.Tokens.{TokenSpan};
+ghost use Rattle.def_text.specs.Forms.{after_stops};
 ghost use Rattle.tn_script.specs.Items.{form_item_of};
 ghost use Rattle.tn_refusal.specs.Locations.{mark_text, IsMarkOf, IsFormMark, IsItemMark, location_of_item, spot_at};
 ghost use Rattle.tn_refusal.specs.Refusals.{refusal_of, refused_part};
+ghost use Rattle.tn_refusal.specs.Skims.{AreAhead};
 ghost use Rattle.tn_refusal.specs.Starts.{IsListable};
 
 use crate::item_starts::item_offset;
 use crate::line_column::line_column_of;
 use crate::refusal::{Refusal, RefusedPart, refusal_part};
 use crate::refused_item::{ItemInForms, refused_item};
-use crate::starts::{form_end, form_start};
+use crate::skim::next_start;
+use crate::starts::{before_form, bytes_of_form};
 use itoa::Buffer;
 use std::alloc::{AllocError, Allocator};
 use tn_script::{Form, FormItem};
@@ -43,7 +47,7 @@ pub enum Location {
     },
 }
 
-/// Where a refusal is, and the text of the form that is refused; it is empty where no form is.
+/// Where a refusal is, and the bytes of the form that is refused, with its full stop; there are none where no form is.
 #[derive(Drop)]
 pub struct Mark<'t, A: Allocator> {
     pub location: Location,
@@ -97,24 +101,21 @@ fn item_spot(text: &[u8], form: usize, item: FormItem, at: usize) -> Location
     }
 }
 
-/// Where a form is, or the step or the command of it: of a text of tokens.
-fn item_location(text: &[u8], form: usize, item: Option<FormItem>) -> Location
-    requires { length text.now < usize.MAX }
+/// Where a form is, or the step or the command of it: of a text of tokens, in which the form is after this offset.
+fn item_location(text: &[u8], form: usize, before: usize, item: Option<FormItem>) -> Location
+    requires short { length text.now < usize.MAX }
+    requires fits { before ≤ length text.now }
+    requires tokens { (xs : List TokenSpan) → AreAhead text.now 0 xs
+        → AreAhead text.now before (after_stops (form - 1) xs) }
     ensures { IsListable text.now → IsItemMark text.now form (option_map form_item_of item) result }
 {
     match item {
         Some(item) => item_spot(text, form, item, item_offset(text, form, item)),
         None => Location::InForm {
-            line: line_column_of(text, form_start(text, form)).line,
+            line: line_column_of(text, next_start(text, before)).line,
             form,
         },
     }
-}
-
-/// The text of a form, with its full stop.
-fn form_text(text: &[u8], form: usize) -> &[u8] {
-    text.get(form_start(text, form)..form_end(text, form))
-        .unwrap_or(b"")
 }
 
 /// Where the refusal for a form is, and the form's text.
@@ -128,9 +129,10 @@ fn form_mark<A: Allocator + Copy>(
     ensures { IfOk result (λ m. IsFormMark text.now (refusal_of refusal) form m.location) }
 {
     let ItemInForms { item, forms } = refused_item(alloc, text, refusal)?;
+    let before = before_form(text, form);
     Ok(Mark {
-        location: item_location(text, form, item),
-        form: form_text(text, form),
+        location: item_location(text, form, before, item),
+        form: bytes_of_form(text, before),
         forms,
     })
 }

@@ -1,5 +1,6 @@
 // How far a text is read: what is open, and what may stand next.
-use crate::bytes::first_bytes;
+use crate::bytes::{first_bytes, rest_at};
+use crate::skim::full_stops;
 use std::alloc::{AllocError, Allocator};
 use tn_text::{Kind, TextFault, Token, tokens};
 
@@ -37,8 +38,8 @@ pub struct ReadState {
     pub innermost: Option<OpenFrame>,
 }
 
-/// The innermost tuple or list that these tokens open and don't close.
-fn innermost_in(tokens: &[Token]) -> Option<OpenFrame> {
+/// The innermost tuple or list that these tokens, of a text from this offset on, open and don't close.
+fn innermost_in(tokens: &[Token], from: usize) -> Option<OpenFrame> {
     let mut closed = 0usize;
     let mut commas = 0usize;
     for i in 0..tokens.len() {
@@ -51,7 +52,7 @@ fn innermost_in(tokens: &[Token]) -> Option<OpenFrame> {
             Kind::OpenBrace | Kind::OpenBracket => {
                 return Some(OpenFrame {
                     is_tuple: matches!(token.kind, Kind::OpenBrace),
-                    at: token.from,
+                    at: from.saturating_add(token.from),
                     commas,
                 });
             }
@@ -75,23 +76,26 @@ fn position_after(tokens: &[Token], is_open: bool) -> Position {
     }
 }
 
-/// How far a text of these tokens is read.
-fn standing_after(tokens: &[Token]) -> ReadState {
-    let innermost = innermost_in(tokens);
+/// How far a text is read that has these tokens from this offset on, where a form begins.
+fn standing_after(tokens: &[Token], from: usize) -> ReadState {
+    let innermost = innermost_in(tokens, from);
     ReadState {
         position: position_after(tokens, innermost.is_some()),
         innermost,
     }
 }
 
-/// How far the text is read before an offset; none where no tokens end there.
+/// How far the text is read before an offset; none where no tokens of the form there end at it. The tokens of earlier
+/// forms are not listed.
 pub fn standing_at<A: Allocator>(
     alloc: A,
     text: &[u8],
     at: usize,
 ) -> Result<Option<ReadState>, AllocError> {
-    match tokens(alloc, first_bytes(text, at)) {
-        Ok(found) => Ok(Some(standing_after(&found))),
+    let front = first_bytes(text, at);
+    let from = full_stops(front).end;
+    match tokens(alloc, rest_at(front, from)) {
+        Ok(found) => Ok(Some(standing_after(&found, from))),
         Err(TextFault::OutOfMemory) => Err(AllocError),
         Err(_) => Ok(None),
     }

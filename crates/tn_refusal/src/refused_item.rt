@@ -10,6 +10,7 @@ ghost use Rattle.tn_refusal.specs.Refusals.{refusal_of};
 ghost use Rattle.tn_refusal.specs.RefusedItems.{IsItemOfBroken};
 
 use crate::refusal::Refusal;
+use crate::starts::{before_form, bytes_of_form};
 use std::alloc::{AllocError, Allocator};
 use tn_program::{RuleFault, breaking_item};
 use tn_script::{Form, FormItem, ScriptFault, forms, shapeless_item};
@@ -49,8 +50,8 @@ fn item_of_terms<A: Allocator>(
     }
 }
 
-/// The item for which the form with this number, from 1, has no shape; none of a text that spells no terms.
-fn item_without_shape<A: Allocator + Copy>(
+/// The item for which the term with this number, from 1, of a text has no shape; none of a text that spells no terms.
+fn item_of_text<A: Allocator + Copy>(
     alloc: A,
     text: &[u8],
     form: usize,
@@ -65,6 +66,24 @@ fn item_without_shape<A: Allocator + Copy>(
         Err(TextFault::TooDeep { .. }) => Ok(None),
         Err(TextFault::TooLarge { .. }) => Ok(None),
     }
+}
+
+/// The item for which the form with this number, from 1, has no shape; none of a text that spells no terms. The form
+/// alone is read first, where it is a small part of the text: no more is read where it shows no item.
+fn item_without_shape<A: Allocator + Copy>(
+    alloc: A,
+    text: &[u8],
+    form: usize,
+) -> Result<Option<FormItem>, AllocError>
+    ensures { IfOk result (λ o. IsShapelessItem text.now form (option_map form_item_of o)) }
+{
+    let own = bytes_of_form(text, before_form(text, form));
+    if own.len() < text.len() / 4 {
+        let Some(_) = item_of_text(alloc, own, 1)? else {
+            return Ok(None);
+        };
+    }
+    item_of_text(alloc, text, form)
 }
 
 /// The item for which a form breaks its rule, and the forms; none of a text that spells no forms.

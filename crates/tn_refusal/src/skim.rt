@@ -1,12 +1,13 @@
 // Going through the bytes of a text, past full stops or past commas.
-ghost use Rattle.std.specs.Prelude.{◌≡◌, ◌≤◌, ◌<◌, ◌+◌, List, length, drop, false};
+ghost use Rattle.std.specs.Prelude.{◌≡◌, ◌≤◌, ◌<◌, ◌+◌, List, length, drop, true, false};
 ghost use Rattle.def_text.specs.Tokens.{is_blank, ends_form, gap_len as gap_len_of, TokenSpan};
 ghost use Rattle.def_text.specs.Spelling.{offset_of};
 ghost use Rattle.def_text.specs.Forms.{after_stops};
 ghost use Rattle.def_refusal.specs.ItemStarts.{depth_after, is_opener, in_bracket, tokens_past_commas};
 ghost use Rattle.tn_refusal.specs.declared.skim.Zone.TheVariants.{Code};
+ghost use Rattle.tn_refusal.specs.declared.skim.Aim.TheVariants.{Stops};
 ghost use Rattle.tn_refusal.specs.Skims.{zone_after, sign_of_byte, sign_in, role_of_sign, left_after, offset_past};
-ghost use Rattle.tn_refusal.specs.Skims.{AreAhead};
+ghost use Rattle.tn_refusal.specs.Skims.{IsIdle, AreAhead};
 
 /// Where a byte of a text stands: in a token without quotes or between tokens, in a comment, or between quotes, there
 /// after a backslash or not.
@@ -144,11 +145,25 @@ fn left_after(aim: Aim, depth: usize, left: usize, sign: Sign) -> usize
     }
 }
 
+/// Whether the byte does nothing where it stands, and the next one stands there too. Of a few bytes outside of quotes
+/// and comments that is not said.
+fn is_idle(zone: Zone, b: u8) -> bool
+    ensures { result ≡ true → IsIdle zone b }
+{
+    match zone {
+        Zone::Code => b == b' ' || (b'0' <= b && b <= b'Z') || (b'a' <= b && b <= b'z'),
+        Zone::Comment => b != b'\n',
+        Zone::Quoted { quote } => b != quote && b != b'\\',
+        Zone::Escaped { .. } => false,
+    }
+}
+
 #[tactic(auto, using(crate::proofs::Skims::none_left, crate::proofs::Skims::depth_le, crate::proofs::Skims::one_on))]
 /// The offset after so many full stops, or commas outside of brackets, from this one on; the end where there are fewer.
 fn offset_past(text: &[u8], from: usize, aim: Aim, count: usize) -> usize
     requires { from ≤ length text.now }
     ensures value { result ≡ offset_past aim Code 0 count from (drop from text.now) }
+    ensures onward { from ≤ result }
     ensures fits { result ≤ length text.now }
 {
     let mut zone = Zone::Code;
@@ -158,10 +173,12 @@ fn offset_past(text: &[u8], from: usize, aim: Aim, count: usize) -> usize
         if left == 0 {
             return i;
         }
-        let sign = sign_in(zone, text[i], &text[i + 1..]);
-        left = left_after(aim, depth, left, sign);
-        depth = depth_after(depth, sign);
-        zone = zone_after(zone, text[i]);
+        if !is_idle(zone, text[i]) {
+            let sign = sign_in(zone, text[i], &text[i + 1..]);
+            left = left_after(aim, depth, left, sign);
+            depth = depth_after(depth, sign);
+            zone = zone_after(zone, text[i]);
+        }
     }
     text.len()
 }
@@ -184,12 +201,48 @@ fn gap_len(bytes: &[u8]) -> usize
     bytes.len()
 }
 
+/// The full stops of a text of tokens: how many there are, and the offset after the last of them, which is 0 where
+/// there are none.
+#[derive(Clone, Copy)]
+pub struct FullStops {
+    pub count: usize,
+    pub end: usize,
+}
+
+/// The full stops of a text of tokens. No clause speaks of them.
+pub fn full_stops(text: &[u8]) -> FullStops {
+    let mut zone = Zone::Code;
+    let mut stops = FullStops { count: 0, end: 0 };
+    for i in 0..text.len() {
+        if !is_idle(zone, text[i]) {
+            if matches!(sign_in(zone, text[i], &text[i + 1..]), Sign::Stop) {
+                stops = FullStops {
+                    count: stops.count.saturating_add(1),
+                    end: i + 1,
+                };
+            }
+            zone = zone_after(zone, text[i]);
+        }
+    }
+    stops
+}
+
 /// The offset after so many full stops, or the end where there are fewer.
 pub fn past_stops(text: &[u8], stops: usize) -> usize
     ensures tokens { (xs : List TokenSpan) → AreAhead text.now 0 xs → AreAhead text.now result (after_stops stops xs) }
     ensures fits { result ≤ length text.now }
 {
     offset_past(text, 0, Aim::Stops, stops)
+}
+
+/// The offset after the next full stop from this one on, or the end where there is none.
+pub fn past_stop(text: &[u8], from: usize) -> usize
+    requires { from ≤ length text.now }
+    ensures value { result ≡ offset_past Stops Code 0 1 from (drop from text.now) }
+    ensures onward { from ≤ result }
+    ensures fits { result ≤ length text.now }
+{
+    offset_past(text, from, Aim::Stops, 1)
 }
 
 /// The offset after so many commas outside of brackets, from this one on, or the end where there are fewer.

@@ -4,7 +4,7 @@ use Rattle.def_refusal.specs.RefusedItems.{IsShapelessItem}
 use Rattle.def_refusal.proofs.OneItem.{shapeless_of_terms, shapeless_of_none}
 use Rattle.tn_term.specs.Views.{tree_of}
 use Rattle.tn_refusal.proofs.RefusedItems.{long_no_terms, denied_no_terms}
-use Rattle.tn_refusal.proofs.refused_item.item_without_shape.Goals as goal
+use Rattle.tn_refusal.proofs.refused_item.item_of_text.Goals as goal
 
 pub returns-in_ok-item_of_terms-in-Ok : goal.returns-in_ok-item_of_terms-in-Ok
 returns-in_ok-item_of_terms-in-Ok g c =
