@@ -4,8 +4,8 @@ use Rattle.std.specs.Option.{option_map}
 use Rattle.std.specs.Borrow.{Bor}
 use Rattle.def_script.specs.Program.{Program}
 use Rattle.def_run.specs.Listing.{answer, messages, replies}
-use Rattle.tn_term.specs.declared.term.Term.{Term}
-use Rattle.tn_term.specs.Views.{tree_of}
+use Rattle.tn_text.specs.declared.written_term.WrittenTerm.{WrittenTerm}
+use Rattle.tn_text.specs.WrittenTrees.{written_tree}
 use Rattle.tn_trace.specs.Cores.{Lists, creation_numbered}
 use Rattle.tn_live.specs.declared.entry.Entry.{Entry}
 use Rattle.tn_live.specs.declared.entry.Receipt.{Receipt}
@@ -16,16 +16,16 @@ use Rattle.complete_live.specs.Alike.{receipt_seen}
 use Rattle.complete_live.proofs.SameStarts.{same_truth}
 
 -- the messages of a listing are determined
-lists_seen : {A : Type 0} (p : Program) (picks : List ℕ) (n : ℕ) (o : Option (Bor (List (Term A)))) → Lists p picks n o → listing_seen o ≡ option_map (λ s. messages s.0 p picks) (creation_numbered p n)
+lists_seen : {A : Type 0} (p : Program) (picks : List ℕ) (n : ℕ) (o : Option (Bor (List (WrittenTerm A)))) → Lists p picks n o → listing_seen o ≡ option_map (λ s. messages s.0 p picks) (creation_numbered p n)
 lists_seen p picks n None h = ap (option_map (λ s. messages s.0 p picks)) (sym h)
 lists_seen p picks n (Some v) h = ap Some h.2 ∙ ap (option_map (λ s. messages s.0 p picks)) (sym h.1)
 
-pub same_listings : {A : Type 0} (p q : Program) (es fs : List Entry) (n : ℕ) (o u : Option (Bor (List (Term A)))) → p ≡ q → es ≡ fs → Lists p (picks_of es) n o → Lists q (picks_of fs) n u → listing_seen o ≡ listing_seen u
+pub same_listings : {A : Type 0} (p q : Program) (es fs : List Entry) (n : ℕ) (o u : Option (Bor (List (WrittenTerm A)))) → p ≡ q → es ≡ fs → Lists p (picks_of es) n o → Lists q (picks_of fs) n u → listing_seen o ≡ listing_seen u
 same_listings p q es fs n o u named entries h i =
     let back : (q, fs) ≡ (p, es) = λ j. (sym named j, sym entries j) in
     lists_seen p (picks_of es) n o h ∙ sym (lists_seen p (picks_of es) n u (subst (λ (z : Program × List Entry). Lists z.0 (picks_of z.1) n u) back i))
 
-pub same_replies : {A : Type 0} (p q : Program) (es fs : List Entry) (v w : List (Term A)) → p ≡ q → es ≡ fs → map tree_of v ≡ replies p (picks_of es) → map tree_of w ≡ replies q (picks_of fs) → map tree_of v ≡ map tree_of w
+pub same_replies : {A : Type 0} (p q : Program) (es fs : List Entry) (v w : List (WrittenTerm A)) → p ≡ q → es ≡ fs → map written_tree v ≡ replies p (picks_of es) → map written_tree w ≡ replies q (picks_of fs) → map written_tree v ≡ map written_tree w
 same_replies p q es fs v w named entries h i = h ∙ (λ j. replies (named j) (picks_of (entries j))) ∙ sym i
 
 -- whether it is confirmed goes by what a receipt says

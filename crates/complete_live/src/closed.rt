@@ -1,6 +1,6 @@
 // A closed journal.
 ghost use Rattle.std.specs.Prelude.{◌≡◌, map};
-ghost use Rattle.tn_term.specs.Views.{tree_of};
+ghost use Rattle.tn_text.specs.WrittenTrees.{written_tree};
 ghost use Rattle.tn_program.specs.Views.{program_of};
 ghost use Rattle.complete_runs.specs.Alike.{listing_seen};
 ghost use Rattle.complete_live.specs.Alike.{receipt_seen};
@@ -8,7 +8,7 @@ ghost use Rattle.complete_live.specs.Alike.{receipt_seen};
 use std::alloc::Allocator;
 use tn_live::{Closed, Entry, JournalName, Receipt};
 use tn_program::{Program, Sessions};
-use tn_term::Term;
+use tn_text::WrittenTerm;
 
 /// `tn_live::Closed::journal` has one answer.
 pub fn journal<'a, A: Allocator + Copy, J: JournalName, K: JournalName>(
@@ -48,7 +48,7 @@ pub fn listing<'a, A: Allocator + Copy, J: JournalName, K: JournalName>(
     one: &'a Closed<A, J>,
     other: &'a Closed<A, K>,
     session: u32,
-) -> (Option<&'a [Term<A>]>, Option<&'a [Term<A>]>)
+) -> (Option<&'a [WrittenTerm<A>]>, Option<&'a [WrittenTerm<A>]>)
     requires named { J.program ≡ K.program }
     requires entries { one.now ≡ other.now }
     ensures { listing_seen result.0 ≡ listing_seen result.1 }
@@ -60,10 +60,10 @@ pub fn listing<'a, A: Allocator + Copy, J: JournalName, K: JournalName>(
 pub fn replies<'a, A: Allocator + Copy, J: JournalName, K: JournalName>(
     one: &'a Closed<A, J>,
     other: &'a Closed<A, K>,
-) -> (&'a [Term<A>], &'a [Term<A>])
+) -> (&'a [WrittenTerm<A>], &'a [WrittenTerm<A>])
     requires named { J.program ≡ K.program }
     requires entries { one.now ≡ other.now }
-    ensures { map tree_of result.0.now ≡ map tree_of result.1.now }
+    ensures { map written_tree result.0.now ≡ map written_tree result.1.now }
 {
     (one.replies(), other.replies())
 }

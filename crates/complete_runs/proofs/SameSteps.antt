@@ -9,7 +9,7 @@ use Rattle.def_run.specs.Run.{JOURNAL, moves}
 use Rattle.def_run.specs.Listing.{Item as DefinedItem, answer, messages}
 use Rattle.def_run.specs.Laws.{IsIdleAfter}
 use Rattle.def_run.proofs.Runs.{idle_moved}
-use Rattle.tn_term.specs.declared.term.Term.{Term}
+use Rattle.tn_text.specs.declared.written_term.WrittenTerm.{WrittenTerm}
 use Rattle.tn_trace.specs.Cores.{CoreValue, core_of, spent_core, Lists, IsStepOf, creation_numbered}
 use Rattle.tn_trace.specs.declared.item.Answer.{Answer}
 use Rattle.tn_trace.specs.declared.item.Answer.TheVariants.{Moved, Idle}
@@ -21,11 +21,11 @@ use Rattle.complete_runs.specs.Alike.{StepAlike, listing_seen, seen_by, step_see
 use Rattle.complete_runs.proofs.Both.{where_both}
 
 -- the messages of a listing are determined
-lists_seen : {A : Type 0} (p : Program) (picks : List ℕ) (n : ℕ) (o : Option (Bor (List (Term A)))) → Lists p picks n o → listing_seen o ≡ option_map (λ s. messages s.0 p picks) (creation_numbered p n)
+lists_seen : {A : Type 0} (p : Program) (picks : List ℕ) (n : ℕ) (o : Option (Bor (List (WrittenTerm A)))) → Lists p picks n o → listing_seen o ≡ option_map (λ s. messages s.0 p picks) (creation_numbered p n)
 lists_seen p picks n None h = ap (option_map (λ s. messages s.0 p picks)) (sym h)
 lists_seen p picks n (Some v) h = ap Some h.2 ∙ ap (option_map (λ s. messages s.0 p picks)) (sym h.1)
 
-lists_all : {A : Type 0} (p : Program) (n : ℕ) (o : Option (List ℕ)) (r : Result (Option (Bor (List (Term A)))) StepFault) → IfSome o (λ picks. IsOkAnd r (Lists p picks n))
+lists_all : {A : Type 0} (p : Program) (n : ℕ) (o : Option (List ℕ)) (r : Result (Option (Bor (List (WrittenTerm A)))) StepFault) → IfSome o (λ picks. IsOkAnd r (Lists p picks n))
     → IfSome o (λ picks. IsOkAnd r (λ v. listing_seen v ≡ option_map (λ s. messages s.0 p picks) (creation_numbered p n)))
 lists_all p n None r h = h
 lists_all p n (Some picks) (Ok v) h = lists_seen p picks n v h
@@ -42,7 +42,7 @@ is_read see None y r h k = ap (seen_by see) (k refl)
 is_read see (Some picks) y (Ok x) h k = ap Ok h
 is_read see (Some picks) y (Err f) h k = absurd h
 
-pub is_listed : {A : Type 0} (p : Program) (n : ℕ) (o : Option (List ℕ)) (r : Result (Option (Bor (List (Term A)))) StepFault) → IfSome o (λ picks. IsOkAnd r (Lists p picks n)) → (o ≡ None → r ≡ Err Spent)
+pub is_listed : {A : Type 0} (p : Program) (n : ℕ) (o : Option (List ℕ)) (r : Result (Option (Bor (List (WrittenTerm A)))) StepFault) → IfSome o (λ picks. IsOkAnd r (Lists p picks n)) → (o ≡ None → r ≡ Err Spent)
     → seen_by listing_seen r ≡ read_of o (λ picks. option_map (λ s. messages s.0 p picks) (creation_numbered p n))
 is_listed p n o r h k = is_read listing_seen o (λ picks. option_map (λ s. messages s.0 p picks) (creation_numbered p n)) r (lists_all p n o r h) k
 

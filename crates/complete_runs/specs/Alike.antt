@@ -7,8 +7,8 @@ use Rattle.def_term.specs.Tree.{Tree}
 use Rattle.def_script.specs.Program.{Program}
 use Rattle.def_script.specs.Exports.{Exports}
 use Rattle.def_run.specs.Listing.{Item as DefinedItem}
-use Rattle.tn_term.specs.Views.{tree_of}
-use Rattle.tn_term.specs.declared.term.Term.{Term}
+use Rattle.tn_text.specs.WrittenTrees.{written_tree}
+use Rattle.tn_text.specs.declared.written_term.WrittenTerm.{WrittenTerm}
 use Rattle.tn_trace.specs.Cores.{CoreValue, spent_core}
 use Rattle.tn_trace.specs.Items.{item_seen}
 use Rattle.tn_listing.specs.declared.picks.PicksFault.{PicksFault}
@@ -39,8 +39,8 @@ fault_seen Spent = Some Spent
 fault_seen OutOfMemory = None
 
 -- the messages of a listing; none where there is no such session
-abbrev pub listing_seen : {A : Type 0} → Option (Bor (List (Term A))) → Option (List Tree)
-listing_seen v = option_map (λ ts. map tree_of ts.now) v
+abbrev pub listing_seen : {A : Type 0} → Option (Bor (List (WrittenTerm A))) → Option (List Tree)
+listing_seen v = option_map (λ ts. map written_tree ts.now) v
 
 -- what a step answers; nothing where memory was refused
 abbrev pub step_seen : {A : Type 0} → Result (Answer A) StepFault → Option (Result (Option (List DefinedItem)) StepFault)

@@ -1,18 +1,19 @@
 // The texts of messages and of listings.
 ghost use Rattle.std.specs.Prelude.{◌≡◌, OnOk, OnErr, map};
-ghost use Rattle.tn_term.specs.Views.{tree_of};
+ghost use Rattle.tn_text.specs.WrittenTrees.{written_tree};
 
 use std::alloc::{AllocError, Allocator};
-use tn_term::{Atom, Term};
+use tn_term::Atom;
+use tn_text::WrittenTerm;
 
 /// `tn_listing::lines_text` has one answer. Where memory is refused, the text is as it was.
 pub fn lines_text<A: Allocator, B: Allocator>(
-    one: &[Term<A>],
-    other: &[Term<A>],
+    one: &[WrittenTerm<A>],
+    other: &[WrittenTerm<A>],
     out: &mut Vec<u8, B>,
     same_out: &mut Vec<u8, B>,
 ) -> (Result<(), AllocError>, Result<(), AllocError>)
-    requires terms { map tree_of one.now ≡ map tree_of other.now }
+    requires terms { map written_tree one.now ≡ map written_tree other.now }
     requires outs { out.old.items ≡ same_out.old.items }
     ensures ok { OnOk result.0 (OnOk result.1 (out.new.items ≡ same_out.new.items)) }
     ensures err { OnErr result.0 (out.new.items ≡ out.old.items) }
@@ -25,12 +26,12 @@ pub fn lines_text<A: Allocator, B: Allocator>(
 /// `tn_listing::listing_text` has one answer. Where memory is refused, the text is as it was.
 pub fn listing_text<A: Allocator, B: Allocator>(
     names: (&Atom<A>, &Atom<A>),
-    one: &[Term<A>],
-    other: &[Term<A>],
+    one: &[WrittenTerm<A>],
+    other: &[WrittenTerm<A>],
     out: &mut Vec<u8, B>,
     same_out: &mut Vec<u8, B>,
 ) -> (Result<(), AllocError>, Result<(), AllocError>)
-    requires messages { map tree_of one.now ≡ map tree_of other.now }
+    requires messages { map written_tree one.now ≡ map written_tree other.now }
     requires outs { out.old.items ≡ same_out.old.items }
     ensures ok { OnOk result.0 (OnOk result.1 (out.new.items ≡ same_out.new.items)) }
     ensures err { OnErr result.0 (out.new.items ≡ out.old.items) }

@@ -2,13 +2,13 @@
 ghost use Rattle.std.specs.Prelude.{◌≡◌, length, map, Err, IfOk};
 ghost use Rattle.std.specs.Option.{IsSomeAnd};
 ghost use Rattle.def_run.specs.Run.{JOURNAL};
-ghost use Rattle.tn_term.specs.Views.{tree_of};
+ghost use Rattle.tn_text.specs.WrittenTrees.{written_tree};
 ghost use Rattle.tn_program.specs.Views.{program_of};
 ghost use Rattle.complete_runs.specs.Alike.{StepAlike, listing_seen, seen_by};
 
 use std::alloc::{AllocError, Allocator};
 use tn_program::{Program, Sessions};
-use tn_term::Term;
+use tn_text::WrittenTerm;
 use tn_trace::{Answer, Core, StepFault};
 
 /// `tn_trace::Core::new` has one answer.
@@ -90,11 +90,11 @@ pub fn replies<'a, A: Allocator + Copy>(
     one: &'a Core<A>,
     other: &'a Core<A>,
 ) -> (
-    Result<&'a [Term<A>], StepFault>,
-    Result<&'a [Term<A>], StepFault>,
+    Result<&'a [WrittenTerm<A>], StepFault>,
+    Result<&'a [WrittenTerm<A>], StepFault>,
 )
     requires { one.now ≡ other.now }
-    ensures { seen_by (λ v. map tree_of v.now) result.0 ≡ seen_by (λ v. map tree_of v.now) result.1 }
+    ensures { seen_by (λ v. map written_tree v.now) result.0 ≡ seen_by (λ v. map written_tree v.now) result.1 }
 {
     (one.replies(), other.replies())
 }
@@ -105,8 +105,8 @@ pub fn listing<'a, A: Allocator + Copy>(
     other: &'a Core<A>,
     session: u32,
 ) -> (
-    Result<Option<&'a [Term<A>]>, StepFault>,
-    Result<Option<&'a [Term<A>]>, StepFault>,
+    Result<Option<&'a [WrittenTerm<A>]>, StepFault>,
+    Result<Option<&'a [WrittenTerm<A>]>, StepFault>,
 )
     requires { one.now ≡ other.now }
     ensures { seen_by listing_seen result.0 ≡ seen_by listing_seen result.1 }

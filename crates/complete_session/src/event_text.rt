@@ -1,6 +1,6 @@
-// The text of an event, written once for all messages of it.
+// The text of an event and its message, made once for all messages of it.
 ghost use Rattle.std.specs.Prelude.{◌≡◌, IfOk, OnOk, OnErr};
-ghost use Rattle.tn_term.specs.Views.{tree_of};
+ghost use Rattle.tn_text.specs.WrittenTrees.{written_tree};
 ghost use Rattle.tn_flags.specs.Views.{event_of};
 ghost use Rattle.tn_session.specs.Messages.{message_of};
 ghost use Rattle.tn_session.specs.EventTexts.{event_in};
@@ -8,7 +8,7 @@ ghost use Rattle.tn_session.specs.EventTexts.{event_in};
 use std::alloc::{AllocError, Allocator};
 use tn_flags::Event;
 use tn_session::{EventText, Message};
-use tn_term::Term;
+use tn_text::WrittenTerm;
 
 /// `tn_session::EventText::new` has one answer, whatever the room is.
 pub fn new<'a, A: Allocator>(
@@ -57,18 +57,22 @@ pub fn append_text<A: Allocator, B: Allocator>(
     (first, second)
 }
 
-/// `tn_session::EventText::term` has one answer.
-pub fn term<A: Allocator, B: Allocator + Copy>(
-    one: &EventText<'_, A>,
-    other: &EventText<'_, A>,
-    alloc: B,
+/// `tn_session::EventText::written_term` has one answer.
+pub fn written_term<A: Allocator + Copy>(
+    one: &mut EventText<'_, A>,
+    other: &mut EventText<'_, A>,
+    alloc: A,
     message: &Message<'_, A>,
     same_message: &Message<'_, A>,
-) -> (Result<Term<B>, AllocError>, Result<Term<B>, AllocError>)
-    requires { message_of (event_in one.now) message.now ≡ message_of (event_in other.now) same_message.now }
-    ensures { IfOk result.0 (λ t. IfOk result.1 (λ u. tree_of t ≡ tree_of u)) }
+) -> (
+    Result<WrittenTerm<A>, AllocError>,
+    Result<WrittenTerm<A>, AllocError>,
+)
+    requires { message_of (event_in one.old) message.now ≡ message_of (event_in other.old) same_message.now }
+    ensures ok { IfOk result.0 (λ t. IfOk result.1 (λ u. written_tree t ≡ written_tree u)) }
+    ensures event { event_in one.new ≡ event_in one.old }
 {
-    let first = one.term(alloc, message);
-    let second = other.term(alloc, same_message);
+    let first = one.written_term(alloc, message);
+    let second = other.written_term(alloc, same_message);
     (first, second)
 }

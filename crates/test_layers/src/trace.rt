@@ -6,8 +6,7 @@ use std::process::Abort;
 use std::test::Fail;
 use tn_program::{Program, program};
 use tn_script::forms;
-use tn_term::Term;
-use tn_text::write_term;
+use tn_text::{WrittenTerm, write_term};
 use tn_trace::{Answer, Core, Item, StepFault};
 
 /// Two sessions over a process that sends to another.
@@ -177,12 +176,12 @@ fn take(
 fn check_messages(
     rt: &impl Abort,
     alloc: Global,
-    messages: &[Term<Global>],
+    messages: &[WrittenTerm<Global>],
     wanted: &str,
 ) -> Result<(), AllocError> {
     let mut text = Vec::new(alloc);
     for message in messages {
-        write_term(message, &mut text)?;
+        write_term(message.term(), &mut text)?;
     }
     check(rt, text.as_slice() == wanted.as_bytes(), wanted);
     Ok(())

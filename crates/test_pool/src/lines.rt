@@ -13,6 +13,7 @@ use tn_pool::{Board, assemble};
 use tn_program::{Program, program};
 use tn_script::forms;
 use tn_term::Term;
+use tn_text::WrittenTerm;
 use tn_trace::{Core, Item};
 
 /// A process that spawns two others, of which the first is traced.
@@ -46,7 +47,7 @@ fn number_line(alloc: Global, index: u64, number: i64) -> Result<Line<Global>, F
     let item = Item {
         session: 1,
         index,
-        message: Term::Int(number),
+        message: WrittenTerm::new(alloc, Term::Int(number))?,
     };
     Ok(line_of(alloc, item)?)
 }

@@ -66,7 +66,7 @@ fn lines<J: JournalName>(alloc: Global, closed: &Closed<Global, J>) -> Result<Ve
         return Err(Fail::new("no listing"));
     };
     for message in messages {
-        write_term(message, &mut text)?;
+        write_term(message.term(), &mut text)?;
         text.push(b'\n')?;
     }
     Ok(text)

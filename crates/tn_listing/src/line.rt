@@ -4,7 +4,6 @@ ghost use Rattle.def_run.specs.Listing as definition;
 ghost use Rattle.tn_trace.specs.Items.{item_seen};
 
 use std::alloc::{AllocError, Allocator};
-use tn_text::write_term;
 use tn_trace::Item;
 
 /// A message of a session with its text, which ends with a line feed.
@@ -40,7 +39,7 @@ pub fn line_of<A: Allocator + Copy>(alloc: A, item: Item<A>) -> Result<Line<A>, 
     ensures { IfOk result (λ l. item_seen l.item ≡ item_seen item) }
 {
     let mut text = Vec::new(alloc);
-    write_term(&item.message, &mut text)?;
+    text.extend_from_slice(item.message.text())?;
     text.push(b'\n')?;
     Ok(Line { item, text })
 }

@@ -1,14 +1,14 @@
 // The text of a listing.
 ghost use Rattle.std.specs.Prelude.{◌≡◌, ◌++◌, OnOk, OnErr, map};
 ghost use Rattle.def_run.specs.Listing as definition;
-ghost use Rattle.tn_term.specs.Views.{tree_of};
+ghost use Rattle.tn_text.specs.WrittenTrees.{written_tree};
 ghost use Rattle.tn_text.specs.Writes.{Grows};
 ghost use Rattle.tn_listing.specs.Listings.{listing_of};
 
 use crate::undo::or_as_it_was;
 use std::alloc::{AllocError, Allocator};
-use tn_term::{Atom, Term};
-use tn_text::{write_atom, write_term};
+use tn_term::Atom;
+use tn_text::{WrittenTerm, write_atom};
 
 /// Appends the line `== session NAME tracer TRACER`; after an `Err` a part of it may stand there.
 pub(crate) fn put_header<A: Allocator, B: Allocator>(
@@ -29,23 +29,23 @@ pub(crate) fn put_header<A: Allocator, B: Allocator>(
 
 /// Appends the text of a message with a line feed; after an `Err` a part of it may stand there.
 fn put_line<A: Allocator, B: Allocator>(
-    message: &Term<A>,
+    message: &WrittenTerm<A>,
     out: &mut Vec<u8, B>,
 ) -> Result<(), AllocError>
-    ensures ok { OnOk result (out.new.items ≡ out.old.items ++ definition.line_of (tree_of message.now)) }
+    ensures ok { OnOk result (out.new.items ≡ out.old.items ++ definition.line_of (written_tree message.now)) }
     ensures grows { Grows out.old.items out.new.items }
 {
-    write_term(message, out)?;
+    out.extend_from_slice(message.text())?;
     out.push(b'\n')?;
     Ok(())
 }
 
 /// Appends the text of each message with a line feed; after an `Err` a part of it may stand there.
 fn put_lines<A: Allocator, B: Allocator>(
-    messages: &[Term<A>],
+    messages: &[WrittenTerm<A>],
     out: &mut Vec<u8, B>,
 ) -> Result<(), AllocError>
-    ensures ok { OnOk result (out.new.items ≡ out.old.items ++ definition.lines_of (map tree_of messages.now)) }
+    ensures ok { OnOk result (out.new.items ≡ out.old.items ++ definition.lines_of (map written_tree messages.now)) }
     ensures grows { Grows out.old.items out.new.items }
 {
     for message in messages {
@@ -60,10 +60,10 @@ fn put_lines<A: Allocator, B: Allocator>(
 ///
 /// AllocError where memory was refused: the vector is as it was.
 pub fn lines_text<A: Allocator, B: Allocator>(
-    terms: &[Term<A>],
+    terms: &[WrittenTerm<A>],
     out: &mut Vec<u8, B>,
 ) -> Result<(), AllocError>
-    ensures ok { OnOk result (out.new.items ≡ out.old.items ++ definition.lines_of (map tree_of terms.now)) }
+    ensures ok { OnOk result (out.new.items ≡ out.old.items ++ definition.lines_of (map written_tree terms.now)) }
     ensures err { OnErr result (out.new.items ≡ out.old.items) }
 {
     let len = out.len();
@@ -75,7 +75,7 @@ pub fn lines_text<A: Allocator, B: Allocator>(
 fn put_listing<A: Allocator, B: Allocator>(
     name: &Atom<A>,
     tracer: &Atom<A>,
-    messages: &[Term<A>],
+    messages: &[WrittenTerm<A>],
     out: &mut Vec<u8, B>,
 ) -> Result<(), AllocError>
     ensures ok { OnOk result (out.new.items ≡ out.old.items ++ listing_of name.now tracer.now messages.now) }
@@ -93,7 +93,7 @@ fn put_listing<A: Allocator, B: Allocator>(
 pub fn listing_text<A: Allocator, B: Allocator>(
     name: &Atom<A>,
     tracer: &Atom<A>,
-    messages: &[Term<A>],
+    messages: &[WrittenTerm<A>],
     out: &mut Vec<u8, B>,
 ) -> Result<(), AllocError>
     ensures ok { OnOk result (out.new.items ≡ out.old.items ++ listing_of name.now tracer.now messages.now) }

@@ -7,8 +7,8 @@ use Rattle.def_run.specs.Listing.{Item as DefinedItem, answer, messages}
 use Rattle.tn_trace.specs.Items.{item_seen}
 use Rattle.tn_trace.specs.Cores.{CoreValue, creation_numbered}
 use Rattle.tn_trace.specs.declared.item.Item.{Item}
-use Rattle.tn_term.specs.Views.{tree_of}
-use Rattle.tn_term.specs.declared.term.Term.{Term}
+use Rattle.tn_text.specs.WrittenTrees.{written_tree}
+use Rattle.tn_text.specs.declared.written_term.WrittenTerm.{WrittenTerm}
 use Rattle.std.specs.Option.{option_map}
 use denote.Ref.{Bor}
 use Rattle.tn_live.specs.declared.entry.ItemPlace.{ItemPlace}
@@ -48,6 +48,6 @@ abbrev pub TellsWhether : CoreValue → Bool → (Program → List ℕ → Type 
 TellsWhether core result Holds = (picks : List ℕ) → core.journal ≡ Some picks → IsTrue result ↔ Holds core.program picks
 
 -- this is the message at the place in the listings of the core's program and journal
-abbrev pub IsMessageAt : {A : Type 0} → CoreValue → ItemPlace → Option (Bor (Term A)) → Type 0
+abbrev pub IsMessageAt : {A : Type 0} → CoreValue → ItemPlace → Option (Bor (WrittenTerm A)) → Type 0
 IsMessageAt core place result =
-    (picks : List ℕ) → core.journal ≡ Some picks → option_map (λ t. tree_of t.now) result ≡ message_at core.program picks place
+    (picks : List ℕ) → core.journal ≡ Some picks → option_map (λ t. written_tree t.now) result ≡ message_at core.program picks place

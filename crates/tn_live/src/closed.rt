@@ -5,7 +5,7 @@ use crate::record::Record;
 use std::alloc::Allocator;
 use std::marker::Model;
 use tn_program::{Program, Sessions};
-use tn_term::Term;
+use tn_text::WrittenTerm;
 
 /// A closed journal, with the listings and the replies of its picks.
 #[derive(Drop)]
@@ -29,7 +29,7 @@ impl<A: Allocator + Copy, J: JournalName> Closed<A, J> {
     ghost use Rattle.std.specs.Prelude.{◌≡◌, IsTrue, ◌↔◌, map};
     ghost use Rattle.def_script.specs.Script.{creations};
     ghost use Rattle.def_run.specs.Listing.{replies};
-    ghost use Rattle.tn_term.specs.Views.{tree_of};
+    ghost use Rattle.tn_text.specs.WrittenTrees.{written_tree};
     ghost use Rattle.tn_program.specs.Views.{program_of};
     ghost use Rattle.tn_trace.specs.Cores.{Lists};
     ghost use Rattle.tn_live.specs.Journal.{picks_of};
@@ -58,8 +58,8 @@ impl<A: Allocator + Copy, J: JournalName> Closed<A, J> {
         self.record.core.sessions()
     }
 
-    /// The messages of the session with this number, from 1, in order; None for another number.
-    pub fn listing(&self, session: u32) -> Option<&[Term<A>]>
+    /// The messages of the session with this number, from 1, in order, each beside its text; None for another number.
+    pub fn listing(&self, session: u32) -> Option<&[WrittenTerm<A>]>
         ensures { Lists J.program (picks_of self.now) session result }
     {
         match self.record.core.listing(session) {
@@ -68,9 +68,9 @@ impl<A: Allocator + Copy, J: JournalName> Closed<A, J> {
         }
     }
 
-    /// The replies to the commands that were taken, in order.
-    pub fn replies(&self) -> &[Term<A>]
-        ensures { map tree_of result.now ≡ replies J.program (picks_of self.now) }
+    /// The replies to the commands that were taken, in order, each beside its text.
+    pub fn replies(&self) -> &[WrittenTerm<A>]
+        ensures { map written_tree result.now ≡ replies J.program (picks_of self.now) }
     {
         match self.record.core.replies() {
             Ok(replies) => replies,

@@ -3,11 +3,11 @@ ghost use Rattle.std.specs.Prelude.{◌≡◌, IfOk, map, Some, slice_get};
 ghost use Rattle.tn_trace.specs.Items.{item_seen};
 ghost use Rattle.tn_live.specs.Places.{item_place, reported_at, AreTold, TellsWhether, IsMessageAt};
 ghost use Rattle.std.specs.Option.{option_map};
-ghost use Rattle.tn_term.specs.Views.{tree_of};
+ghost use Rattle.tn_text.specs.WrittenTrees.{written_tree};
 
 use crate::entry::ItemPlace;
 use std::alloc::{AllocError, Allocator};
-use tn_term::Term;
+use tn_text::WrittenTerm;
 use tn_trace::{Core, Item};
 
 /// Where the messages of an answer stand.
@@ -28,8 +28,8 @@ pub(crate) fn find_places<A: Allocator + Copy>(
 }
 
 /// The message with this place in a listing, from 0.
-fn nth_message<A: Allocator>(messages: &[Term<A>], index: u64) -> Option<&Term<A>>
-    ensures { option_map (λ t. tree_of t.now) result ≡ slice_get (map tree_of messages.now) index }
+fn nth_message<A: Allocator>(messages: &[WrittenTerm<A>], index: u64) -> Option<&WrittenTerm<A>>
+    ensures { option_map (λ t. written_tree t.now) result ≡ slice_get (map written_tree messages.now) index }
 {
     match messages.get(index as usize) {
         Some(message) => Some(message),
@@ -38,7 +38,7 @@ fn nth_message<A: Allocator>(messages: &[Term<A>], index: u64) -> Option<&Term<A
 }
 
 /// The message at this place of the core's listings, if any.
-fn find_message<A: Allocator + Copy>(core: &Core<A>, place: ItemPlace) -> Option<&Term<A>>
+fn find_message<A: Allocator + Copy>(core: &Core<A>, place: ItemPlace) -> Option<&WrittenTerm<A>>
     ensures { IsMessageAt core.now place result }
 {
     match core.listing(place.session) {
@@ -56,7 +56,7 @@ fn is_told<A: Allocator + Copy>(core: &Core<A>, place: ItemPlace, item: &Item<A>
         return false;
     }
     match find_message(core, place) {
-        Some(message) => message.same(&item.message),
+        Some(message) => message.term().same(item.message.term()),
         None => false,
     }
 }

@@ -21,6 +21,8 @@ use Rattle.tn_term.specs.contracts.atom.Atom as atom
 use Rattle.tn_term.specs.contracts.mfa.Mfa as mfa
 use Rattle.tn_term.specs.contracts.term.Term as term
 use Rattle.tn_term.specs.contracts.shared_term.SharedTerm as shared
+use Rattle.tn_text.specs.contracts.written_term.TermAndText as pair
+use Rattle.tn_text.specs.contracts.written_term.WrittenTerm as written
 use Rattle.tn_script.specs.contracts.form.Arguments as arguments
 use Rattle.tn_script.specs.contracts.form.Step as step
 use Rattle.tn_script.specs.contracts.form.Function as function
@@ -132,6 +134,31 @@ module _ (T : RattleType) (g : Ghosts T.Denot) (s : IsSend T) (f : Frees g g.dea
 
   shared_field_send : IsSend (shared.the_field T g).row
   shared_field_send = search (sendable, crosses, term_send, term_field_send, term_sync, term_field_sync, shared_send) depth 40 fits 3000 parts 0
+
+  -- a term beside its text, with several owners
+  pair_send : IsSend (pair.the_row T g)
+  pair_send = search (sendable, crosses, term_send, term_field_send) depth 40 fits 3000 parts 0
+
+  pair_field_send : IsSend (pair.the_field T g).row
+  pair_field_send = search (sendable, crosses, term_send, term_field_send, pair_send) depth 40 fits 3000 parts 0
+
+  pair_sync : IsSync (pair.the_row T g)
+  pair_sync = search (sendable, crosses, term_sync, term_field_sync) depth 40 fits 3000 parts 0
+
+  pair_field_sync : IsSync (pair.the_field T g).row
+  pair_field_sync = search (sendable, crosses, term_sync, term_field_sync, pair_sync) depth 40 fits 3000 parts 0
+
+  written_send : IsSend (written.the_row T g)
+  written_send = search (sendable, crosses, pair_send, pair_field_send, pair_sync, pair_field_sync) depth 40 fits 3000 parts 0
+
+  written_field_send : IsSend (written.the_field T g).row
+  written_field_send = search (sendable, crosses, pair_send, pair_field_send, pair_sync, pair_field_sync, written_send) depth 40 fits 3000 parts 0
+
+  written_sync : IsSync (written.the_row T g)
+  written_sync = search (sendable, crosses, pair_send, pair_field_send, pair_sync, pair_field_sync) depth 40 fits 3000 parts 0
+
+  written_field_sync : IsSync (written.the_field T g).row
+  written_field_sync = search (sendable, crosses, pair_send, pair_field_send, pair_sync, pair_field_sync, written_sync) depth 40 fits 3000 parts 0
 
   arguments_send : IsSend (arguments.the_row T g)
   arguments_send = search (sendable, crosses, term_send, term_field_send) depth 40 fits 3000 parts 0
@@ -401,10 +428,10 @@ module _ (T : RattleType) (g : Ghosts T.Denot) (s : IsSend T) (f : Frees g g.dea
   session_field_send = search (sendable, crosses, state_send, state_field_send, session_send) depth 40 fits 3000 parts 0
 
   terms_send : IsSend (terms.the_row T g)
-  terms_send = search (sendable, crosses, term_send, term_field_send) depth 40 fits 3000 parts 0
+  terms_send = search (sendable, crosses, written_send, written_field_send) depth 40 fits 3000 parts 0
 
   terms_field_send : IsSend (terms.the_field T g).row
-  terms_field_send = search (sendable, crosses, term_send, term_field_send, terms_send) depth 40 fits 3000 parts 0
+  terms_field_send = search (sendable, crosses, written_send, written_field_send, terms_send) depth 40 fits 3000 parts 0
 
   slot_send : (K : RattleType) → IsSend K → IsSend (slot.the_row T K g)
   slot_send K k = search (sendable, crosses, atom_send, atom_field_send, session_send, session_field_send) depth 40 fits 3000 parts 0
@@ -431,10 +458,10 @@ module _ (T : RattleType) (g : Ghosts T.Denot) (s : IsSend T) (f : Frees g g.dea
   core_field_send = search (sendable, crosses, program_send, program_field_send, run_send, run_field_send, recorder_send, recorder_field_send, terms_send, terms_field_send, core_send) depth 40 fits 3000 parts 0
 
   item_send : IsSend (item.the_row T g)
-  item_send = search (sendable, crosses, term_send, term_field_send) depth 40 fits 3000 parts 0
+  item_send = search (sendable, crosses, written_send, written_field_send) depth 40 fits 3000 parts 0
 
   item_field_send : IsSend (item.the_field T g).row
-  item_field_send = search (sendable, crosses, term_send, term_field_send, item_send) depth 40 fits 3000 parts 0
+  item_field_send = search (sendable, crosses, written_send, written_field_send, item_send) depth 40 fits 3000 parts 0
 
   line_send : IsSend (line.the_row T g)
   line_send = search (sendable, crosses, item_send, item_field_send) depth 40 fits 3000 parts 0
@@ -484,10 +511,10 @@ module _ (T : RattleType) (g : Ghosts T.Denot) (s : IsSend T) (f : Frees g g.dea
 
   -- a board of lines, of which threads read terms
   item_sync : IsSync (item.the_row T g)
-  item_sync = search (sendable, crosses, term_sync, term_field_sync) depth 40 fits 3000 parts 0
+  item_sync = search (sendable, crosses, written_sync, written_field_sync) depth 40 fits 3000 parts 0
 
   item_field_sync : IsSync (item.the_field T g).row
-  item_field_sync = search (sendable, crosses, term_sync, term_field_sync, item_sync) depth 40 fits 3000 parts 0
+  item_field_sync = search (sendable, crosses, written_sync, written_field_sync, item_sync) depth 40 fits 3000 parts 0
 
   line_sync : IsSync (line.the_row T g)
   line_sync = search (sendable, crosses, item_sync, item_field_sync) depth 40 fits 3000 parts 0

@@ -7,8 +7,8 @@ use Rattle.def_term.specs.Names.{Name}
 use Rattle.def_script.specs.Program.{Program}
 use Rattle.def_script.specs.Script.{creations}
 use Rattle.def_run.specs.Listing.{messages, header_line, line_of, lines_of, listing_text}
-use Rattle.tn_term.specs.Views.{tree_of}
-use Rattle.tn_term.specs.declared.term.Term.{Term}
+use Rattle.tn_text.specs.WrittenTrees.{written_tree}
+use Rattle.tn_text.specs.declared.written_term.WrittenTerm.{WrittenTerm}
 use Rattle.tn_trace.specs.Cores.{Lists}
 use Rattle.tn_listing.specs.Outputs.{listing_numbered}
 use Rattle.tn_listing.proofs.OutputLemmas.{listed_as}
@@ -19,13 +19,13 @@ headed before header lines middle after head added =
     added ∙ ap (λ l. l ++ lines) head ∙ append_assoc before (header ++ []) lines ∙ ap (λ l. before ++ (l ++ lines)) (append-nil header)
 
 -- the header and the lines of the session of this number
-pub terms_listed : {A : Type 0} (p : Program) (picks : List ℕ) (i : ℕ) (v : Bor (List (Term A))) (s : Name × Name) (before middle after : List ℕ) → Lists p picks (suc i) (Some v)
-    → Some s ≡ slice_get (creations p.commands) i → middle ≡ before ++ listing_text s.0 s.1 [] → after ≡ middle ++ lines_of (map tree_of v.now) → after ≡ before ++ listing_numbered p picks i
+pub terms_listed : {A : Type 0} (p : Program) (picks : List ℕ) (i : ℕ) (v : Bor (List (WrittenTerm A))) (s : Name × Name) (before middle after : List ℕ) → Lists p picks (suc i) (Some v)
+    → Some s ≡ slice_get (creations p.commands) i → middle ≡ before ++ listing_text s.0 s.1 [] → after ≡ middle ++ lines_of (map written_tree v.now) → after ≡ before ++ listing_numbered p picks i
 terms_listed p picks i v s before middle after lent named head added =
     let which : Some lent.0 ≡ Some s = sym lent.1 ∙ sym named in
     let own : lent.0 ≡ s = cc in
-    let reported : map tree_of v.now ≡ messages s.0 p picks = lent.2 ∙ ap (λ (n : Name × Name). messages n.0 p picks) own in
-    headed before (header_line s.0 s.1) (lines_of (map tree_of v.now)) middle after head added
+    let reported : map written_tree v.now ≡ messages s.0 p picks = lent.2 ∙ ap (λ (n : Name × Name). messages n.0 p picks) own in
+    headed before (header_line s.0 s.1) (lines_of (map written_tree v.now)) middle after head added
     ∙ ap (λ ts. before ++ listing_text s.0 s.1 ts) reported
     ∙ ap (λ l. before ++ l) (listed_as (λ n. messages n p picks) (creations p.commands) i s named)
 

@@ -2,7 +2,7 @@
 ghost use Rattle.std.specs.Prelude.{◌≡◌, IfOk, map};
 ghost use Rattle.def_run.specs.Run.{moves};
 ghost use Rattle.def_run.specs.Listing.{line_of, lines_of, program_output};
-ghost use Rattle.tn_term.specs.Views.{tree_of};
+ghost use Rattle.tn_text.specs.WrittenTrees.{written_tree};
 ghost use Rattle.tn_listing.specs.Outputs.{AddsText, listing_numbered, all_listings};
 ghost use Rattle.tn_live.specs.Journal.{picks_of};
 
@@ -10,8 +10,7 @@ use crate::board::Board;
 use std::alloc::{AllocError, Allocator};
 use tn_listing::{Line, lines_text, listing_text, write_picks};
 use tn_live::{Closed, JournalName};
-use tn_term::Term;
-use tn_text::write_term;
+use tn_text::WrittenTerm;
 
 /// The output of a closed journal.
 #[derive(Drop)]
@@ -44,17 +43,17 @@ fn journal_picks<A: Allocator + Copy, B: Allocator, J: JournalName>(
 fn append_line<A: Allocator, B: Allocator>(
     text: &mut Vec<u8, B>,
     line: Option<&Line<A>>,
-    message: &Term<A>,
+    message: &WrittenTerm<A>,
 ) -> Result<bool, AllocError>
-    ensures { IfOk result (λ _. AddsText (line_of (tree_of message.now)) text.old text.new) }
+    ensures { IfOk result (λ _. AddsText (line_of (written_tree message.now)) text.old text.new) }
 {
     if let Some(line) = line {
-        if line.item().message.same(message) {
+        if line.item().message.term().same(message.term()) {
             text.extend_from_slice(line.text())?;
             return Ok(true);
         }
     }
-    write_term(message, text)?;
+    text.extend_from_slice(message.text())?;
     text.push(b'\n')?;
     Ok(false)
 }
@@ -64,9 +63,9 @@ fn append_lines<A: Allocator, B: Allocator>(
     text: &mut Vec<u8, B>,
     board: &Board<A>,
     session: u32,
-    messages: &[Term<A>],
+    messages: &[WrittenTerm<A>],
 ) -> Result<u64, AllocError>
-    ensures { IfOk result (λ _. AddsText (lines_of (map tree_of messages.now)) text.old text.new) }
+    ensures { IfOk result (λ _. AddsText (lines_of (map written_tree messages.now)) text.old text.new) }
 {
     let mut taken = 0u64;
     for (index, message) in messages.iter().enumerate() {
@@ -120,8 +119,30 @@ fn append_listings<A: Allocator + Copy, B: Allocator, J: JournalName>(
     Ok(taken)
 }
 
+/// How many bytes the lines of these messages have.
+fn lines_bytes<A: Allocator>(messages: &[WrittenTerm<A>]) -> usize {
+    let mut bytes = 0usize;
+    for message in messages {
+        bytes = bytes.saturating_add(message.text().len()).saturating_add(1);
+    }
+    bytes
+}
+
+/// How many bytes the lines of all sessions have together.
+fn listings_bytes<A: Allocator + Copy, J: JournalName>(closed: &Closed<A, J>) -> usize {
+    let mut bytes = 0usize;
+    let mut session = 0u32;
+    for _ in 0..closed.program().session_count() {
+        session = session.saturating_add(1);
+        if let Some(messages) = closed.listing(session) {
+            bytes = bytes.saturating_add(lines_bytes(messages));
+        }
+    }
+    bytes
+}
+
 /// The output of a closed journal, whatever the board holds: a line of the board is taken where it is of
-/// the message that stands at its index of its session's listing, and else the message is written.
+/// the message that stands at its index of its session's listing, and else the text beside the message.
 ///
 /// # Errors
 ///
@@ -136,7 +157,7 @@ pub fn assemble<A: Allocator + Copy, B: Allocator + Copy, J: JournalName>(
     ensures moved { IfOk result (λ a. moves J.program a.picks.items ≡ a.picks.items) }
 {
     let picks = journal_picks(alloc, closed)?;
-    let mut text = Vec::new(alloc);
+    let mut text = Vec::with_capacity(alloc, listings_bytes(closed))?;
     let taken = append_listings(&mut text, closed, board)?;
     text.extend_from_slice(b"== replies\n")?;
     lines_text(closed.replies(), &mut text)?;

@@ -40,11 +40,11 @@ fn row_of<A: Allocator>(alloc: A, heap: Global, lines: usize) -> Result<Row<A>, 
     Ok(row)
 }
 
-/// The line of an item, which is copied.
+/// The line of an item, whose message has one more owner.
 fn line_for<A: Allocator + Copy>(alloc: A, item: &Item<A>) -> Result<Line<A>, AllocError>
     ensures { IfOk result (λ line. item_seen line.item ≡ item_seen item.now) }
 {
-    let message = item.message.copy_into(alloc)?;
+    let message = item.message.share()?;
     line_of(
         alloc,
         Item {

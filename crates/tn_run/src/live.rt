@@ -18,8 +18,8 @@ use std::marker::{Brand, Send, Sync};
 use std::sync::Wait;
 use std::thread::Threads;
 use tn_listing::PicksFault;
-use tn_live::{Closed, JournalName, Live, NewLog};
-use tn_pool::{Board, Gate, PoolFault, assemble, run_workers};
+use tn_live::{Closed, JournalName, Live, NewLog, Seat};
+use tn_pool::{Board, Gate, PoolFault, Report, assemble, run_workers};
 use tn_program::Program;
 use tn_refusal::Refusal;
 use tn_text::Watched;
@@ -64,6 +64,17 @@ fn finish<J: JournalName>(
     Ok((assembled.picks, assembled.text))
 }
 
+/// The seats of workers, where none of these had a fault. Their receipts are given back.
+fn seats_of<J: JournalName>(report: Report<Global, J>) -> Result<Vec<Seat<Global, J>>, LiveFault>
+    ensures seats { IfOk result (λ seats. seats ≡ report.seats) }
+    ensures faults { IfErr result (IsOfNoEnd live_run) }
+{
+    match report.fault {
+        Some(fault) => Err(LiveFault::Pool(fault)),
+        None => Ok(report.seats),
+    }
+}
+
 /// Workers run the node of a core, and then its first seat until nothing moves: the picks and the output.
 fn run_core<J: JournalName + Send + Sync, T: Threads + Wait + Sync, G: Gate>(
     rt: &T,
@@ -86,10 +97,7 @@ fn run_core<J: JournalName + Send + Sync, T: Threads + Wait + Sync, G: Gate>(
         return Err(OUT_OF_MEMORY);
     };
     let report = run_workers(rt, &live, &board, seats, workers.gate, workers.turns);
-    if let Some(fault) = report.fault {
-        return Err(LiveFault::Pool(fault));
-    }
-    let mut seats = report.seats;
+    let mut seats = seats_of(report)?;
     if let Err(fault) = settle(rt, &live, &mut seats) {
         return Err(LiveFault::Pool(PoolFault::Step(fault)));
     }
@@ -170,8 +178,13 @@ fn answer_live<T: Threads + Wait + Sync, G: Gate>(
     Ok((ran, output))
 }
 
-/// The outcome, the picks and the output of a run by workers, before any of it is written.
-fn prepare_live<R: Read, T: Threads + Wait + Sync, G: Gate>(
+/// Runs the script that the reader holds by so many workers, as `run_live`, and writes nothing: the outcome, the picks
+/// and the output.
+///
+/// # Errors
+///
+/// Those of `run_live` but for a failed write.
+pub fn prepare_live<R: Read, T: Threads + Wait + Sync, G: Gate>(
     rt: &T,
     alloc: Global,
     reader: &mut Watched<R>,

@@ -8,6 +8,7 @@ pub mod MarkLemmas
 pub mod Evaluations
 pub mod EventSteps
 pub mod Texts
+pub mod PlainMessages
 pub mod Longer
 pub mod CallLemmas
 pub mod AtomTexts

@@ -1,8 +1,9 @@
 -- What a message of the code stands for, and the parts of its text.
-use Rattle.std.specs.Prelude.{◌≡◌, ℕ, List, [], ◌∷◌, ◌++◌, Bool, true, false, codes, drop, map, Option, option_to_list}
+use Rattle.std.specs.Prelude.{◌≡◌, ℕ, List, [], ◌∷◌, ◌++◌, Bool, true, false, codes, drop, map, Option, Some, None, option_to_list}
 use Rattle.std.specs.Option.{option_map}
 use Rattle.std.specs.declared.vec.Vec.{Vec}
 use Rattle.def_term.specs.Tree.{Tree, atom, pid, tuple, of_elements}
+use Rattle.def_term.specs.Order.{same}
 use Rattle.def_term.specs.Names.{Name, Mfa, word}
 use Rattle.def_term.specs.Text.{w, comma_list, each_after_comma, atom_text}
 use Rattle.def_node.specs.Event.{Event, sent, received, called, returned, raised, spawning, spawned, exited, linked, unlinked, getting_linked, getting_unlinked}
@@ -12,6 +13,8 @@ use Rattle.tn_term.specs.SharedTree.{shared_tree}
 use Rattle.tn_term.specs.declared.mfa.Mfa as mfas
 use Rattle.tn_term.specs.declared.shared_term.SharedTerm.{SharedTerm}
 use Rattle.tn_term.specs.declared.term.Term.{Term}
+use Rattle.tn_text.specs.WrittenTrees.{written_tree}
+use Rattle.tn_text.specs.declared.written_term.WrittenTerm.{WrittenTerm}
 use Rattle.tn_flags.specs.Views.{class_of, event_of}
 use Rattle.tn_flags.specs.declared.class.Class.{Class}
 use Rattle.tn_flags.specs.declared.event.Event as events
@@ -66,6 +69,19 @@ message_seen m = tuple (of_elements (elements_of m.short (event_of m.event.now) 
 -- the same of another event: its elements, and the last element where there is one
 abbrev pub message_of : {A B : Type 0} → events.Event A → Message B → Tree
 message_of e m = tuple (of_elements (elements_of m.short (event_of e) ++ last_seen m.last))
+
+-- the message of an event with all arguments of a call, and no last element
+abbrev pub plain_message : {A : Type 0} → events.Event A → Tree
+plain_message e = tuple (of_elements (elements_of false (event_of e)))
+
+-- the message that is made; where none is, the plain one
+abbrev pub plain_for : {A B : Type 0} → events.Event A → Option (WrittenTerm B) → Tree
+plain_for e None = plain_message e
+plain_for e (Some m) = written_tree m
+
+-- no message is made, or the plain one
+abbrev pub IsPlain : {A B : Type 0} → events.Event A → Option (WrittenTerm B) → Type 0
+IsPlain e m = same (plain_for e m) (plain_message e) ≡ true
 
 -- the third element of an event's message
 abbrev pub event_name : Event → Name

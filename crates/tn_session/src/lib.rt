@@ -4,10 +4,10 @@
 //! def_session. Promises that `created` is the session at its creation, that `command` and `event` are
 //! one step of the definition of a session, reply and message included, and that a session that was
 //! refused memory is spent. A specification is kept with its code, by which it is evaluated. What a session
-//! reports of an event is a `Message` that borrows from the event and from the `Room` in which the event was
-//! evaluated; a term or a text is made of it, and an `EventText` writes the elements of an event once for the
-//! messages of several sessions. A `Look` shows the session between two steps, `mark_for` is the mark that the
-//! effects of a call ask for, and `procs_of`, `how_of`, `pattern_of` and `options_of` read the arguments of commands.
+//! reports of an event is a `Message` that borrows from the event and from the `Room` of its evaluation. An
+//! `EventText` writes the elements of an event once for several sessions, and makes a message that they share once.
+//! A `Look` shows the session between two steps, `mark_for` is the mark that the effects of a call ask for, and
+//! `procs_of`, `how_of`, `pattern_of` and `options_of` read the arguments of commands.
 #![tactic(auto)]
 
 mod arguments;

@@ -33,8 +33,9 @@ use Rattle.tn_trace.specs.declared.run.PickOutcome.{PickOutcome}
 use Rattle.tn_trace.specs.declared.run.Run.{Run}
 use Rattle.tn_trace.specs.declared.recorder.Recorder.{Recorder}
 use Rattle.tn_trace.specs.declared.sinks.Terms.{Terms}
-use Rattle.tn_term.specs.Views.{tree_of, alive_of}
-use Rattle.tn_term.specs.declared.term.Term.{Term}
+use Rattle.tn_term.specs.Views.{alive_of}
+use Rattle.tn_text.specs.WrittenTrees.{written_tree}
+use Rattle.tn_text.specs.declared.written_term.WrittenTerm.{WrittenTerm}
 
 -- a full journal has no more than 65,536 entries
 pub full_is : (p : Program) (picks : List ℕ) → moves p picks ≡ picks → 65536 ≤ length picks → length picks ≡ 65536
@@ -97,11 +98,11 @@ module _ {A : Type 0} (program : code.Program A) (o : Option (Run A (Recorder A 
   pub not_spent : {Q : Type 0} → v.journal ≡ None → Q
   not_spent none = absurd (cc (ap (λ (w : CoreValue). w.journal) value_is ∙ none))
 
-  pub listed : (n : ℕ) (xs : List (Slot A (Terms A))) (slot : Slot A (Terms A)) (ts : Bor (List (Term A))) → (n ≡ 0 → ⊥) → xs ≡ r.observer.slots.items → n - 1 < length xs → slot ≡ get_or xs (n - 1) slot → ts.now ≡ slot.kept.terms.items
+  pub listed : (n : ℕ) (xs : List (Slot A (Terms A))) (slot : Slot A (Terms A)) (ts : Bor (List (WrittenTerm A))) → (n ≡ 0 → ⊥) → xs ≡ r.observer.slots.items → n - 1 < length xs → slot ≡ get_or xs (n - 1) slot → ts.now ≡ slot.kept.terms.items
       → IfSome v.journal (λ picks. IsOkAnd {E = StepFault} (Ok (Some ts)) (Lists v.program picks n))
   listed n xs slot ts positive same below at terms =
       let found = kept_at AreTerms (program_of program) r.journal.items r.observer run_is.seen (n - 1) xs slot same below at in
-      where_run (λ w picks. IsOkAnd {E = StepFault} (Ok (Some ts)) (Lists w.program picks n)) (found.0, creation_suc (program_of program) n positive ∙ found.1, ap (map tree_of) terms ∙ found.2)
+      where_run (λ w picks. IsOkAnd {E = StepFault} (Ok (Some ts)) (Lists w.program picks n)) (found.0, creation_suc (program_of program) n positive ∙ found.1, ap (map written_tree) terms ∙ found.2)
 
   pub unlisted : (n : ℕ) (xs : List (Slot A (Terms A))) → (n ≡ 0 → ⊥) → xs ≡ r.observer.slots.items → length xs ≤ n - 1
       → IfSome v.journal (λ picks. IsOkAnd {E = StepFault} (Ok None) (Lists {A = A} v.program picks n))

@@ -7,8 +7,8 @@ use Rattle.def_run.specs.Run.{JOURNAL, moves}
 use Rattle.def_run.specs.Listing.{Item as DefinedItem, answer, messages}
 use Rattle.def_script.specs.Script.{creations}
 use Rattle.def_run.specs.Laws.{IsIdleAfter}
-use Rattle.tn_term.specs.Views.{tree_of}
-use Rattle.tn_term.specs.declared.term.Term.{Term}
+use Rattle.tn_text.specs.WrittenTrees.{written_tree}
+use Rattle.tn_text.specs.declared.written_term.WrittenTerm.{WrittenTerm}
 use Rattle.tn_program.specs.Views.{program_of}
 use Rattle.tn_program.specs.declared.parts.Program as code
 use Rattle.tn_trace.specs.Codes.{program_code}
@@ -72,6 +72,6 @@ creation_numbered p zero = None
 creation_numbered p (suc n) = slice_get (creations p.commands) n
 
 -- the terms are the messages of the session of this number; none where there is no such session
-abbrev pub Lists : {A : Type 0} → Program → List ℕ → ℕ → Option (Bor (List (Term A))) → Type 0
+abbrev pub Lists : {A : Type 0} → Program → List ℕ → ℕ → Option (Bor (List (WrittenTerm A))) → Type 0
 Lists p picks n None = creation_numbered p n ≡ None
-Lists p picks n (Some v) = (s : Name × Name) × (creation_numbered p n ≡ Some s) × (map tree_of v.now ≡ messages s.0 p picks)
+Lists p picks n (Some v) = (s : Name × Name) × (creation_numbered p n ≡ Some s) × (map written_tree v.now ≡ messages s.0 p picks)

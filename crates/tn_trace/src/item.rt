@@ -1,15 +1,15 @@
 // What a step answers.
 use std::alloc::Allocator;
 use thiserror::Error;
-use tn_term::Term;
+use tn_text::WrittenTerm;
 
 /// A message of a session: the session's number, from 1 in the control list's order, and the message's
-/// place in its listing, from 0.
+/// place in its listing, from 0. The message has the listing as another owner.
 #[derive(Drop)]
 pub struct Item<A: Allocator> {
     pub session: u32,
     pub index: u64,
-    pub message: Term<A>,
+    pub message: WrittenTerm<A>,
 }
 
 /// What a pick came to.

@@ -9,7 +9,7 @@ use crate::sinks::Terms;
 use std::alloc::{AllocError, Allocator};
 use std::marker::Model;
 use tn_program::{Program, Sessions};
-use tn_term::Term;
+use tn_text::WrittenTerm;
 
 /// A program, and its node, sessions, listings, replies and journal after the picks that moved. It has
 /// none of these but the program once it was refused memory: it is spent.
@@ -56,7 +56,7 @@ impl<A: Allocator + Copy> Core<A> {
     ghost use Rattle.std.specs.Result.{IsOkAnd};
     ghost use Rattle.def_script.specs.Script.{creations};
     ghost use Rattle.def_run.specs.Listing.{replies};
-    ghost use Rattle.tn_term.specs.Views.{tree_of};
+    ghost use Rattle.tn_text.specs.WrittenTrees.{written_tree};
     ghost use Rattle.tn_program.specs.Views.{program_of};
     ghost use Rattle.tn_trace.specs.Cores.{core_of, IsStepOf, Lists};
 
@@ -126,14 +126,14 @@ impl<A: Allocator + Copy> Core<A> {
         }
     }
 
-    /// The replies to the commands that were taken, in order.
+    /// The replies to the commands that were taken, in order, each beside its text.
     ///
     /// # Errors
     ///
     /// Spent after a step that was refused memory.
-    pub fn replies(&self) -> Result<&[Term<A>], StepFault>
+    pub fn replies(&self) -> Result<&[WrittenTerm<A>], StepFault>
         ensures replies { IfSome self.now.journal (λ picks.
-            IsOkAnd result (λ v. map tree_of v.now ≡ replies self.now.program picks)) }
+            IsOkAnd result (λ v. map written_tree v.now ≡ replies self.now.program picks)) }
         ensures spent { self.now.journal ≡ None → result ≡ Err StepFault.Spent }
     {
         match &self.run {
@@ -142,12 +142,12 @@ impl<A: Allocator + Copy> Core<A> {
         }
     }
 
-    /// The messages of the session with this number, from 1, in order; None for another number.
+    /// The messages of the session with this number, from 1, in order, each beside its text; None for another number.
     ///
     /// # Errors
     ///
     /// Spent after a step that was refused memory.
-    pub fn listing(&self, session: u32) -> Result<Option<&[Term<A>]>, StepFault>
+    pub fn listing(&self, session: u32) -> Result<Option<&[WrittenTerm<A>]>, StepFault>
         ensures listing { IfSome self.now.journal (λ picks. IsOkAnd result (Lists self.now.program picks session)) }
         ensures spent { self.now.journal ≡ None → result ≡ Err StepFault.Spent }
     {

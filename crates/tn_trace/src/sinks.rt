@@ -1,15 +1,15 @@
-// Messages kept as terms, and messages kept as text.
+// Messages kept as terms beside their texts, and messages kept as text.
 use crate::item::Item;
 use crate::sink::MessageSink;
 use std::alloc::{AllocError, Allocator};
 use tn_session::{EventText, Message};
 use tn_term::Term;
-use tn_text::write_term;
+use tn_text::{WrittenTerm, write_term};
 
-/// Messages kept as terms.
+/// Messages kept as terms beside their texts.
 #[derive(Drop)]
 pub(crate) struct Terms<A: Allocator> {
-    pub terms: Vec<Term<A>, A>,
+    pub terms: Vec<WrittenTerm<A>, A>,
 }
 
 /// Messages kept as text, each with a line feed.
@@ -37,7 +37,8 @@ impl<A: Allocator + Copy> MessageSink<A> for Terms<A> {
     fn keep_reply(&mut self, alloc: A, reply: &Term<A>) -> Result<(), AllocError>
         ensures { IfOk result (λ _. IsOneMore AreTerms (tree_of reply.now) self.old self.new) }
     {
-        self.terms.push(reply.copy_into(alloc)?)?;
+        let copy = reply.copy_into(alloc)?;
+        self.terms.push(WrittenTerm::new(alloc, copy)?)?;
         Ok(())
     }
 
@@ -50,8 +51,8 @@ impl<A: Allocator + Copy> MessageSink<A> for Terms<A> {
         given: &mut Vec<Item<A>, A>,
     ) -> Result<(), AllocError> {
         let index = self.terms.len() as u64;
-        let kept = text.term(alloc, message)?;
-        let reported = kept.copy_into(alloc)?;
+        let kept = text.written_term(alloc, message)?;
+        let reported = kept.share()?;
         self.terms.push(kept)?;
         given.push(Item {
             session: number,
