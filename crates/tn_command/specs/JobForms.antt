@@ -6,9 +6,9 @@ use Rattle.def_formats.specs.Formats.{in_format}
 use Rattle.tn_formats.specs.Values.{format_seen}
 use Rattle.tn_formats.specs.declared.format.Format.{Format}
 use Rattle.tn_run.specs.Jobs.{FailedEnd, GivesMore, IsOfNoEnd, JobView, no_end_failed}
-use Rattle.tn_run.specs.declared.fault.RunFault.TheVariants.{Read, Write, OutOfMemory}
+use Rattle.tn_run.specs.declared.fault.RunFault.TheVariants.{OutOfMemory}
 use Rattle.tn_run.specs.declared.fault.LiveFault.{LiveFault}
-use Rattle.tn_run.specs.declared.fault.LiveFault.TheVariants.{Run, Pool}
+use Rattle.tn_run.specs.declared.fault.LiveFault.TheVariants.{Run}
 use Rattle.tn_run.specs.declared.outcome.Outcome.{Outcome}
 use Rattle.tn_run.specs.declared.outcome.Outcome.TheVariants.{Listed, Refused}
 use Rattle.tn_command.specs.declared.output_fault.OutputFault.{OutputFault}
@@ -89,10 +89,3 @@ IsInForm form (Refused r) plain output = output ≡ plain
 abbrev pub IsFormFault : OutputForm → Outcome → (plain : List ℕ) → OutputFault LiveFault → Type 0
 IsFormFault form Listed plain fault = (fault ≡ Job (Run OutOfMemory)) ⊎ IsTooLong form.most (text_in_format form.format plain) fault
 IsFormFault form (Refused r) plain fault = ⊥
-
--- a write to memory that failed is refused memory
-abbrev pub without_write : LiveFault → LiveFault
-without_write (Run Read) = Run Read
-without_write (Run (Write n)) = Run OutOfMemory
-without_write (Run OutOfMemory) = Run OutOfMemory
-without_write (Pool f) = Pool f

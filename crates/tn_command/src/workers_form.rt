@@ -4,7 +4,7 @@ ghost use Rattle.std.specs.Process.{exit_status};
 ghost use Rattle.tn_run.specs.Answers.{live_run};
 ghost use Rattle.tn_run.specs.Jobs.{Meets, Prepares};
 ghost use Rattle.tn_run.specs.Workers.{IsWorkerCount};
-ghost use Rattle.tn_command.specs.JobForms.{IsFormFault, IsInForm, job_in_form, without_write};
+ghost use Rattle.tn_command.specs.JobForms.{IsFormFault, IsInForm, job_in_form};
 ghost use Rattle.tn_command.specs.Status.{IsStatus, OnFaultUntouchedOrFailed, WroteAs, status_of};
 
 use crate::in_format::{InFormat, text_in_format};
@@ -18,7 +18,7 @@ use std::marker::Sync;
 use std::sync::Wait;
 use std::thread::Threads;
 use tn_pool::Gate;
-use tn_run::{LiveFault, LiveRun, Outcome, Ran, RunFault, Workers, run_live, write_output};
+use tn_run::{LiveFault, LiveRun, Outcome, Ran, RunFault, Workers, prepare_live, write_output};
 use tn_text::Watched;
 
 /// The output of a listing in a form.
@@ -56,17 +56,6 @@ fn run_in_form(
     }
 }
 
-/// The fault of a run that writes to memory: a write that fails is refused memory.
-fn without_write(fault: LiveFault) -> LiveFault
-    ensures { result ≡ without_write fault }
-{
-    match fault {
-        LiveFault::Run(RunFault::Write { .. }) => LiveFault::Run(RunFault::OutOfMemory),
-        LiveFault::Run(fault) => LiveFault::Run(fault),
-        LiveFault::Pool(fault) => LiveFault::Pool(fault),
-    }
-}
-
 /// The outcome, the picks and the output in a form of a run by workers, before any of it is written.
 fn prepare_in_form<R: Read, T: Threads + Wait + Sync, G: Gate>(
     rt: &T,
@@ -78,10 +67,9 @@ fn prepare_in_form<R: Read, T: Threads + Wait + Sync, G: Gate>(
     requires { IsWorkerCount workers.now.count }
     ensures { Prepares (job_in_form form live_run) R.remaining reader.old reader.new result }
 {
-    let mut buffer = Watched::of(Vec::new(alloc));
-    match run_live(rt, alloc, reader, &mut buffer, workers) {
-        Ok(ran) => run_in_form(alloc, form, ran, buffer.into_inner()),
-        Err(fault) => Err(OutputFault::Job(without_write(fault))),
+    match prepare_live(rt, alloc, reader, workers) {
+        Ok((ran, output)) => run_in_form(alloc, form, ran, output),
+        Err(fault) => Err(OutputFault::Job(fault)),
     }
 }
 

@@ -1,12 +1,13 @@
 -- What a run is asked, and what it gives (own).
 -- Depends on what a job is.
-use Rattle.std.specs.Prelude.{◌≡◌, ◌<◌, ℕ, Bool, true, false, List, [], length, Option, Some, None}
+use Rattle.std.specs.Prelude.{◌≡◌, ◌<◌, ◌≤◌, ℕ, Bool, true, false, List, [], length, Option, Some, None}
 use Rattle.def_script.specs.Program.{Program}
 use Rattle.def_script.specs.Script.{Refusal}
 use Rattle.def_run.specs.Listing.{program_output}
 use Rattle.def_run.specs.Picks.{SpellsPicks}
 use Rattle.def_run.specs.Round.{round}
 use Rattle.tn_refusal.specs.Refusals.{refusal_of}
+use Rattle.tn_trace.specs.Transcripts.{listing_bytes}
 use Rattle.tn_run.specs.Jobs.{JobView, FailedEnd, failed_end, no_end_failed}
 use Rattle.tn_run.specs.RestingSeats.{IsAtRest}
 use Rattle.tn_run.specs.declared.outcome.Outcome.{Outcome}
@@ -57,6 +58,12 @@ pub record IsLongerRun (most : ℕ) (a : ScheduleView) (p : Program) : Type 0 wh
   pub output : List ℕ
   pub listed : IsRunListing a p output
   pub exceeds : most < length output
+
+-- the picks that are asked have listings of at most so many bytes
+pub record ListsWithin (most : ℕ) (a : ScheduleView) (p : Program) : Type 0 where
+  pub picks : List ℕ
+  pub given : ArePicks a p picks
+  pub within : listing_bytes p picks ≤ most
 
 -- the output is that of the program, where the outcome is its listing
 abbrev pub IsListedOutput : ScheduleView → Program → Outcome → List ℕ → Type 0

@@ -24,7 +24,7 @@ pub use ends::{read_text, write_output};
 pub use fault::{LiveFault, RunFault};
 pub use job::{DirectJob, Job, Reading, read_script, transact};
 pub use laws::{a_rest_is_of_all_picks, a_run_is_as_defined};
-pub use live::{LiveRun, Ran, Workers, run_live};
+pub use live::{LiveRun, Ran, Workers, prepare_live, run_live};
 pub use outcome::{Outcome, Schedule};
 pub use runs::run;
 pub use tn_refusal::{Denial, Refusal, refusal_bytes};

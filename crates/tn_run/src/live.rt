@@ -1,5 +1,6 @@
 // A run by workers: a script in, and the output of the journal that they made out.
-ghost use Rattle.std.specs.Prelude.{◌≡◌, [], IfOk, IfErr};
+ghost use Rattle.std.specs.Prelude.{◌≡◌, [], None, Some, IfOk, IfErr, OnOk};
+ghost use Rattle.std.specs.Option.{option_map};
 ghost use Rattle.tn_program.specs.Views.{program_of};
 ghost use Rattle.tn_trace.specs.Cores.{core_of};
 ghost use Rattle.tn_run.specs.RestingSeats.{RunsToRest, IsClosedOutput};
@@ -67,6 +68,8 @@ fn finish<J: JournalName>(
 /// The seats of workers, where none of these had a fault. Their receipts are given back.
 fn seats_of<J: JournalName>(report: Report<Global, J>) -> Result<Vec<Seat<Global, J>>, LiveFault>
     ensures seats { IfOk result (λ seats. seats ≡ report.seats) }
+    ensures unfaulted { OnOk result (report.fault ≡ None) }
+    ensures fault { IfErr result (λ e. option_map (λ fault. LiveFault.Pool fault) report.fault ≡ Some e) }
     ensures faults { IfErr result (IsOfNoEnd live_run) }
 {
     match report.fault {

@@ -1,7 +1,8 @@
 // A run: a script and its picks in, an output out.
-ghost use Rattle.std.specs.Prelude.{IfOk, IsErrOf};
+ghost use Rattle.std.specs.Prelude.{IfOk, OnOk, IsErrOf};
 ghost use Rattle.tn_program.specs.Views.{program_of};
-ghost use Rattle.tn_run.specs.Answers.{IsLongerRun, IsRunListing, IsSpelledBy, run_by, schedule_seen};
+ghost use Rattle.tn_run.specs.Answers.{IsLongerRun, IsRunListing, IsSpelledBy, ListsWithin};
+ghost use Rattle.tn_run.specs.Answers.{run_by, schedule_seen};
 ghost use Rattle.tn_run.specs.Jobs.{Meets};
 
 use crate::fault::RunFault;
@@ -27,6 +28,7 @@ fn schedule_output<A: Allocator + Copy>(
     requires { IsSpelledBy (schedule_seen schedule.now) picks.now }
     ensures listing { IfOk result (λ v.
         IsRunListing (schedule_seen schedule.now) (program_of program.now) v.items) }
+    ensures within { OnOk result (ListsWithin most (schedule_seen schedule.now) (program_of program.now)) }
     ensures long { IsErrOf result TranscriptFault.TooLong →
         IsLongerRun most (schedule_seen schedule.now) (program_of program.now) }
 {

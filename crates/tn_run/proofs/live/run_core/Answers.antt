@@ -7,8 +7,8 @@ use Rattle.tn_run.proofs.live.run_core.Goals as goal
 pub returns-clause-output : goal.returns-clause-output
 returns-clause-output g c =
     let p = g.J.JournalName.program in
-    let size : c.run_workers-report.result.seats.len ≡ length c.run_workers-report.result.seats.items = search rules in
-    let same : c.run_workers-report.result.seats.len ≡ length c.settle.new.seats = search rules in
+    let size : c.in_ok-seats.seats.len ≡ length c.in_ok-seats.seats.items = search rules in
+    let same : c.in_ok-seats.seats.len ≡ length c.settle.new.seats = search rules in
     let ends : EndsJournal c.settle.new.seats c.in-Ok-close.closed = subst (λ seats. EndsJournal seats c.in-Ok-close.closed) (first_again c.settle.new.seats _ _ same) c.in-Ok-close.ensures.1 in
     if_ok_of (λ r. IsClosedOutput p c.in-Ok-close.closed r.0.items r.1.items) (λ r. RunsToRest p r.0.items r.1.items) c.finish.result
     (λ r out. closed_rests p c.settle.new.seats c.in-Ok-close.closed r.0.items r.1.items c.in_default-settle.ensures.settled ends out) c.finish.ensures.output

@@ -1,7 +1,7 @@
 use Rattle.std.proofs.Common.{refl, subst, sym}
 use Rattle.def_run.specs.Round.{round}
 use Rattle.tn_program.specs.Views.{program_of}
-use Rattle.tn_run.specs.Answers.{ArePicks, IsRunListing, IsSpelledBy, schedule_seen}
+use Rattle.tn_run.specs.Answers.{ArePicks, IsRunListing, IsSpelledBy, ListsWithin, schedule_seen}
 use Rattle.tn_run.proofs.LongRuns.{long_before, longer_run}
 use Rattle.tn_run.proofs.runs.schedule_output.Goals as goal
 
@@ -14,6 +14,16 @@ pub returns-in_ok-round-in-Round-clause-listing : goal.returns-in_ok-round-in-Ro
 returns-in_ok-round-in-Round-clause-listing g c =
     subst (λ s. IsRunListing (schedule_seen s) (program_of c.args.program.now) c.in_ok-round-in-Round.field-0.items) (sym c.in-Round.is)
     (record { picks = _; given = refl; listing = c.in_ok-round-in-Round.ensures.output })
+
+pub returns-in_ok-replay-in-Picks-clause-within : goal.returns-in_ok-replay-in-Picks-clause-within
+returns-in_ok-replay-in-Picks-clause-within g c =
+    subst (λ s. ListsWithin c.args.most (schedule_seen s) (program_of c.args.program.now)) (sym c.in-Picks.is)
+    (record { picks = c.args.picks.now; given = subst (λ s. IsSpelledBy (schedule_seen s) c.args.picks.now) c.in-Picks.is c.requires; within = c.in_ok-replay-in-Picks.ensures.within })
+
+pub returns-in_ok-round-in-Round-clause-within : goal.returns-in_ok-round-in-Round-clause-within
+returns-in_ok-round-in-Round-clause-within g c =
+    subst (λ s. ListsWithin c.args.most (schedule_seen s) (program_of c.args.program.now)) (sym c.in-Round.is)
+    (record { picks = _; given = refl; within = c.in_ok-round-in-Round.ensures.within })
 
 pub returns-in_err-replay-in-Picks-clause-long : goal.returns-in_err-replay-in-Picks-clause-long
 returns-in_err-replay-in-Picks-clause-long g c = λ is.
