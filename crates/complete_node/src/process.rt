@@ -4,11 +4,11 @@ ghost use Rattle.std.specs.Option.{option_map};
 ghost use Rattle.tn_term.specs.Views.{tree_of};
 ghost use Rattle.tn_term.specs.SharedTree.{shared_tree};
 ghost use Rattle.tn_script.specs.Views.{entry_of, functions_of};
-ghost use Rattle.tn_process.specs.Outlooks.{error_seen};
+ghost use Rattle.tn_process.specs.Outlooks.{error_seen, own_link_seen};
 ghost use Rattle.tn_process.specs.Views.{process_seen, act_of};
 
 use std::alloc::{AllocError, Allocator};
-use tn_process::{Act, Process, RuntimeError};
+use tn_process::{Act, OwnLink, Process, RuntimeError};
 use tn_script::{Entry, Function};
 use tn_term::{SharedTerm, Term};
 
@@ -167,6 +167,19 @@ pub fn addressee<A: Allocator + Copy>(
     ensures { result.0 ≡ result.1 }
 {
     (one.addressee(functions), other.addressee(functions))
+}
+
+/// `tn_process::Process::own_link` has one answer.
+pub fn own_link<A: Allocator + Copy>(
+    one: &Process<A>,
+    other: &Process<A>,
+    functions: &[Function<A>],
+    pid: u32,
+) -> (Option<OwnLink>, Option<OwnLink>)
+    requires { process_seen one.now ≡ process_seen other.now }
+    ensures { option_map own_link_seen result.0 ≡ option_map own_link_seen result.1 }
+{
+    (one.own_link(functions, pid), other.own_link(functions, pid))
 }
 
 /// `tn_process::Process::catch_depth` has one answer.

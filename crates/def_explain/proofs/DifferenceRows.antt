@@ -210,7 +210,7 @@ link_of_the_giver = refl
 
 -- the end by an error that a catch catches, and by one that none does; of a process without flags
 abbrev ahead : RuntimeError → Option ℕ → Outlook
-ahead x depth = record { error = Some x; caught_at = depth; is_awaited = false }
+ahead x depth = record { error = Some x; caught_at = depth; is_awaited = false; own_link = None }
 
 pub caught_error : step_differences (with_these (only procs_flag)) (ahead calls_past_limit (Some 2)) (exited 100 (word "system_limit")) ≡ catches_error ∷ adds_calls ∷ []
 caught_error = refl

@@ -1,2 +1,3 @@
 pub mod Outlooks
 mod Limits
+mod OwnLinks

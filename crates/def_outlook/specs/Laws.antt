@@ -1,12 +1,14 @@
 -- What is promised of what is known of a process's next step before it is made (own).
 -- Depends on what a process does at its next step, and on what is known of it.
 use Rattle.std.specs.Bool.{⊤}
-use Rattle.std.specs.Prelude.{◌≡◌, ℕ, nat_le, true, false, Bool, List, [], ◌∷◌, ◌++◌, length, Option, Some, None}
+use Rattle.std.specs.Prelude.{◌≡◌, ℕ, ◌-◌, nat_le, true, false, Bool, List, [], ◌∷◌, ◌++◌, length, Option, Some, None}
 use Rattle.def_term.specs.Tree.{Tree}
+use Rattle.def_term.specs.Alive.{FIRST_PID}
 use Rattle.def_script.specs.Program.{Function}
-use Rattle.def_node.specs.Process.{FRAMES, Frame, Process, Act, waits, sends, exits, act}
+use Rattle.def_node.specs.Process.{FRAMES, Frame, Process, Act, waits, sends, links_to, unlinks_from, exits, step_on, act}
+use Rattle.def_node.specs.Node.{World, moved, put_at, next_of}
 use Rattle.def_node.specs.Laws.{NoneByCatch}
-use Rattle.def_outlook.specs.Outlook.{RuntimeError, calls_past_limit, spawns_past_limit, error_reason, runtime_error, is_waiting, addressee, catch_depth}
+use Rattle.def_outlook.specs.Outlook.{RuntimeError, calls_past_limit, spawns_past_limit, error_reason, runtime_error, is_waiting, addressee, OwnLink, links_itself, unlinks_itself, own_link, catch_depth, process_with}
 
 -- where it is a run-time error, the process ends with the reason of the error, and the step has no other event
 abbrev pub ErrorEndsTheProcess : Type 0
@@ -41,6 +43,31 @@ WaitingIsOfTheAct = (ks : List Function) (n : ℕ) (child : Option ℕ) (q : Pro
 abbrev pub SendGoesToTheAddressee : Type 0
 SendGoesToTheAddressee =
     (ks : List Function) (n : ℕ) (child : Option ℕ) (q r : Process) (to : ℕ) (t : Tree) → act ks n child q ≡ sends r to t → addressee ks q ≡ Some to
+
+-- the act by which the process with the pid n links to itself or unlinks from itself; afterwards it is r
+abbrev pub own_act : Process → ℕ → OwnLink → Act
+own_act r n links_itself = links_to r n
+own_act r n unlinks_itself = unlinks_from r n
+
+-- the newest frame of the process goes one step on, and nothing else of it changes
+abbrev pub GoesOneStepOn : (before after : Process) → Type 0
+GoesOneStepOn q r = (f : Frame) × (fs : List Frame) × (q.frames ≡ f ∷ fs) × (r ≡ step_on q f fs)
+
+-- where a process is said to link to itself or to unlink from itself, it does so, and goes one step on
+abbrev pub OwnLinkIsOfTheAct : Type 0
+OwnLinkIsOfTheAct =
+    (ks : List Function) (n : ℕ) (child : Option ℕ) (q : Process) (x : OwnLink) → own_link ks n q ≡ Some x →
+    (r : Process) × GoesOneStepOn q r × (act ks n child q ≡ own_act r n x)
+
+-- and where it does so, that is said
+abbrev pub OwnActIsAnOwnLink : Type 0
+OwnActIsAnOwnLink = (ks : List Function) (n : ℕ) (child : Option ℕ) (q r : Process) (x : OwnLink) → act ks n child q ≡ own_act r n x → own_link ks n q ≡ Some x
+
+-- the move has no event, and changes no other process
+abbrev pub OwnLinkHasNoEvent : Type 0
+OwnLinkHasNoEvent =
+    (ks : List Function) (w : World) (n : ℕ) (q : Process) (x : OwnLink) → process_with w n ≡ Some q → own_link ks n q ≡ Some x →
+    (r : Process) × GoesOneStepOn q r × (next_of ks w n ≡ moved (put_at w (n - FIRST_PID) r) [])
 
 -- the newest frame that a catch step called has this depth: that of the last frame that a raise leaves
 abbrev pub CatchHasItsDepth : Type 0

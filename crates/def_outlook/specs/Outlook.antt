@@ -1,7 +1,8 @@
 -- What is known of the next step of a process before it is made: whether it is a run-time error, whether a catch step called one of its frames,
--- and whether the process that it sends to waits (own). Nothing is built for it. Laws say how it follows from the act.
+-- whether the process that it sends to waits, and whether it links the process with itself or unlinks it from itself (own). Nothing is built for it.
+-- Laws say how it follows from the act.
 -- Depends on what a process does at its next step, and on the node.
-use Rattle.std.specs.Prelude.{ℕ, suc, ◌-◌, nat_le, Bool, true, false, if◌then◌else◌, List, [], ◌∷◌, map, length, slice_get, Option, Some, None}
+use Rattle.std.specs.Prelude.{ℕ, suc, ◌-◌, ◌==◌, nat_le, Bool, true, false, if◌then◌else◌, List, [], ◌∷◌, map, length, slice_get, Option, Some, None}
 use Rattle.def_term.specs.Tree.{Tree, pid_in}
 use Rattle.def_term.specs.Names.{Name, word}
 use Rattle.def_term.specs.Alive.{FIRST_PID}
@@ -162,6 +163,33 @@ addressee_of (makes_step k f n s) = addressee_by f.env s
 abbrev pub addressee : List Function → Process → Option ℕ
 addressee ks q = addressee_of (upcoming ks q)
 
+-- a link of the process with itself, or an unlink from itself
+pub data OwnLink : Type 0 where
+  links_itself : OwnLink
+  unlinks_itself : OwnLink
+
+-- this one, where the process with the pid n links to itself, or unlinks from itself
+abbrev pub own_link_to : ℕ → OwnLink → Option ℕ → Option OwnLink
+own_link_to n x None = None
+own_link_to n x (Some m) = if n == m then Some x else None
+
+-- that of a step, by these values of variables
+abbrev pub own_link_by : ℕ → Env → Option Step → Option OwnLink
+own_link_by n env (Some (link t)) = own_link_to n links_itself (pid_in (instance_of env t))
+own_link_by n env (Some (unlink t)) = own_link_to n unlinks_itself (pid_in (instance_of env t))
+own_link_by n env s = None
+
+-- the one that it is
+abbrev pub own_link_of : ℕ → Upcoming → Option OwnLink
+own_link_of n takes_signal = None
+own_link_of n (makes_entry e) = None
+own_link_of n has_no_step = None
+own_link_of n (makes_step k f count s) = own_link_by n f.env s
+
+-- the one that the next step of the process with the pid n is
+abbrev pub own_link : List Function → ℕ → Process → Option OwnLink
+own_link ks n q = own_link_of n (upcoming ks q)
+
 -- the depth of the newest frame that a catch step called
 abbrev pub catch_depth : List Frame → Option ℕ
 catch_depth [] = None
@@ -169,12 +197,13 @@ catch_depth (f ∷ fs) = if f.by_catch then Some (suc (length fs)) else catch_de
 
 -- ---- a process among others
 
--- the error that the next step of the picked process is, the depth of its newest frame that a catch step called, and whether the process to which the
--- step sends waits
+-- the error that the next step of the picked process is, the depth of its newest frame that a catch step called, whether the process to which the
+-- step sends waits, and the link with itself or the unlink from itself that the step is
 pub record Outlook : Type 0 where
   pub error : Option RuntimeError
   pub caught_at : Option ℕ
   pub is_awaited : Bool
+  pub own_link : Option OwnLink
 
 -- the process at a place
 abbrev pub living_at : Option (Option Process) → Option Process
@@ -197,13 +226,18 @@ waits_at ks w (Some n) = one_waits ks (process_with w n)
 
 -- where no process is picked nothing is ahead
 abbrev pub nothing_ahead : Outlook
-nothing_ahead = record { error = None; caught_at = None; is_awaited = false }
+nothing_ahead = record { error = None; caught_at = None; is_awaited = false; own_link = None }
 
--- of this process
-abbrev pub outlook_of : List Function → World → Option Process → Outlook
-outlook_of ks w None = nothing_ahead
-outlook_of ks w (Some q) = record { error = runtime_error ks (next_pid w) q; caught_at = catch_depth q.frames; is_awaited = waits_at ks w (addressee ks q) }
+-- of this process, which has the pid n
+abbrev pub outlook_of : List Function → World → ℕ → Option Process → Outlook
+outlook_of ks w n None = nothing_ahead
+outlook_of ks w n (Some q) = record {
+  error = runtime_error ks (next_pid w) q;
+  caught_at = catch_depth q.frames;
+  is_awaited = waits_at ks w (addressee ks q);
+  own_link = own_link ks n q;
+}
 
 -- what is known of the next step of the process that is picked
 abbrev pub outlook : List Function → World → ℕ → Outlook
-outlook ks w n = outlook_of ks w (process_with w n)
+outlook ks w n = outlook_of ks w n (process_with w n)

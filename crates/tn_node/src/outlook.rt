@@ -9,7 +9,7 @@ ghost use Rattle.tn_node.specs.Worlds.{world_of};
 
 use crate::world::World;
 use std::alloc::Allocator;
-use tn_process::{Process, RuntimeError};
+use tn_process::{OwnLink, Process, RuntimeError};
 use tn_script::Function;
 use tn_term::FIRST_PID;
 
@@ -22,6 +22,8 @@ pub struct Outlook {
     pub caught_at: Option<usize>,
     /// Whether the process to which it sends waits.
     pub is_awaited: bool,
+    /// The link of the process with itself, or the unlink from itself, that it is, if it is one.
+    pub own_link: Option<OwnLink>,
 }
 
 impl Outlook {
@@ -33,6 +35,7 @@ impl Outlook {
             error: None,
             caught_at: None,
             is_awaited: false,
+            own_link: None,
         }
     }
 }
@@ -68,15 +71,16 @@ impl<A: Allocator + Copy> World<A> {
         }
     }
 
-    /// What is known of the next step of one of the processes.
-    fn outlook_of(&self, functions: &[Function<A>], process: &Process<A>) -> Outlook
+    /// What is known of the next step of one of the processes, which has this pid.
+    fn outlook_of(&self, functions: &[Function<A>], pid: u32, process: &Process<A>) -> Outlook
         ensures { outlook_seen result ≡
-            outlook_of (functions_of functions.now) (world_of self.now) (Some (process_seen process.now)) }
+            outlook_of (functions_of functions.now) (world_of self.now) pid (Some (process_seen process.now)) }
     {
         Outlook {
             error: process.runtime_error(functions, self.next_pid()),
             caught_at: process.catch_depth(),
             is_awaited: self.waits(functions, process.addressee(functions)),
+            own_link: process.own_link(functions, pid),
         }
     }
 
@@ -85,7 +89,7 @@ impl<A: Allocator + Copy> World<A> {
         ensures { outlook_seen result ≡ outlook (functions_of functions.now) (world_of self.now) pid }
     {
         match self.process(pid) {
-            Some(process) => self.outlook_of(functions, process),
+            Some(process) => self.outlook_of(functions, pid, process),
             None => Outlook::nothing(),
         }
     }

@@ -12,6 +12,8 @@ use Rattle.tn_script.specs.declared.form.Function.{Function}
 use Rattle.tn_script.specs.declared.form.Step.{Step}
 use Rattle.tn_process.specs.declared.outlook.RuntimeError as code
 use Rattle.tn_process.specs.declared.outlook.RuntimeError.TheVariants.{CallsNothing, BuildsPastLimit, CallsPastLimit, SpawnsPastLimit, SendsToNoPid, LinksToNoPid, UnlinksFromNoPid}
+use Rattle.tn_process.specs.declared.outlook.OwnLink as own
+use Rattle.tn_process.specs.declared.outlook.OwnLink.TheVariants.{Links, Unlinks}
 use Rattle.tn_process.specs.declared.outlook.Upcoming as next
 use Rattle.tn_process.specs.declared.outlook.Upcoming.TheVariants as variants
 use Rattle.tn_process.specs.declared.process.Frame.{Frame}
@@ -26,6 +28,10 @@ error_seen SpawnsPastLimit = outlook.spawns_past_limit
 error_seen SendsToNoPid = outlook.sends_to_no_pid
 error_seen LinksToNoPid = outlook.links_to_no_pid
 error_seen UnlinksFromNoPid = outlook.unlinks_from_no_pid
+
+abbrev pub own_link_seen : own.OwnLink → outlook.OwnLink
+own_link_seen Links = outlook.links_itself
+own_link_seen Unlinks = outlook.unlinks_itself
 
 -- of a process with so many frames
 abbrev pub upcoming_seen : {A : Type 0} → ℕ → next.Upcoming A → outlook.Upcoming

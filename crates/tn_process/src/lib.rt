@@ -22,5 +22,5 @@ mod values;
 
 pub use act::Act;
 pub use function::function_mfa;
-pub use outlook::RuntimeError;
+pub use outlook::{OwnLink, RuntimeError};
 pub use process::Process;

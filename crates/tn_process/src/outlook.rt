@@ -5,12 +5,13 @@ ghost use Rattle.def_term.specs.Tree.{pid_in};
 ghost use Rattle.def_outlook.specs.Outlook.{error_past, error_without_pid, error_entering, error_without_child};
 ghost use Rattle.def_outlook.specs.Outlook.{runtime_error, is_waiting, addressee, catch_depth};
 ghost use Rattle.def_outlook.specs.Outlook.{upcoming, upcoming_of, addressee_by};
+ghost use Rattle.def_outlook.specs.Outlook.{own_link, own_link_by, own_link_to};
 ghost use Rattle.tn_term.specs.Views.{tree_of};
 ghost use Rattle.tn_script.specs.Views.{function_of, functions_of, step_of};
 ghost use Rattle.tn_process.specs.Templates.{built_in};
 ghost use Rattle.tn_process.specs.Views.{env_of, process_seen};
 ghost use Rattle.tn_process.specs.Outlooks.{error_seen, upcoming_seen, error_calling_in, error_linking_in};
-ghost use Rattle.tn_process.specs.Outlooks.{error_sending_in, error_of_step_in};
+ghost use Rattle.tn_process.specs.Outlooks.{error_sending_in, error_of_step_in, own_link_seen};
 
 use crate::function::find_function;
 use crate::process::{FRAMES, Frame, Process};
@@ -36,6 +37,15 @@ pub enum RuntimeError {
     LinksToNoPid,
     /// An unlink of what is no pid: `badarg`.
     UnlinksFromNoPid,
+}
+
+/// A link of a process with itself, or an unlink from itself.
+#[derive(Clone, Copy, Debug, PartialEq, Eq, Drop)]
+pub enum OwnLink {
+    /// It links to itself.
+    Links,
+    /// It unlinks from itself.
+    Unlinks,
 }
 
 /// What a process does next.
@@ -109,6 +119,16 @@ fn error_entering<A: Allocator>(
     }
 }
 
+/// The link or the unlink that is given, where its target is the process itself.
+fn own_link_to(pid: u32, link: OwnLink, target: Option<u32>) -> Option<OwnLink>
+    ensures { option_map own_link_seen result ≡ own_link_to pid (own_link_seen link) target }
+{
+    match target {
+        None => None,
+        Some(other) => { if pid == other { Some(link) } else { None } }
+    }
+}
+
 /// The step at a place; None where the steps are used up.
 fn step_at<'a, A: Allocator>(function: &'a Function<A>, place: usize) -> Option<&'a Step<A>>
     ensures { option_map (λ s. step_of s.now) result ≡ slice_get (function_of function.now).steps place }
@@ -179,6 +199,18 @@ impl<A: Allocator + Copy> Frame<A> {
     {
         match step {
             Step::Send { to, .. } => self.built_pid(to),
+            _ => None,
+        }
+    }
+
+    /// The link with itself, or the unlink from itself, that a step of this frame is, of the process with this pid.
+    fn own_link(&self, pid: u32, step: &Step<A>) -> Option<OwnLink>
+        ensures { option_map own_link_seen result ≡
+            own_link_by pid (env_of self.now.env) (Some (step_of step.now)) }
+    {
+        match step {
+            Step::Link(other) => own_link_to(pid, OwnLink::Links, self.built_pid(other)),
+            Step::Unlink(other) => own_link_to(pid, OwnLink::Unlinks, self.built_pid(other)),
             _ => None,
         }
     }
@@ -312,6 +344,20 @@ impl<A: Allocator + Copy> Process<A> {
             Upcoming::Signal | Upcoming::Entry(_) | Upcoming::Nothing => None,
             Upcoming::Step { frame, step, .. } => match step {
                 Some(step) => frame.addressee(step),
+                None => None,
+            },
+        }
+    }
+
+    /// The link with itself, or the unlink from itself, that its next step is; this is its pid.
+    pub fn own_link(&self, functions: &[Function<A>], pid: u32) -> Option<OwnLink>
+        ensures { option_map own_link_seen result ≡
+            own_link (functions_of functions.now) pid (process_seen self.now) }
+    {
+        match self.upcoming(functions) {
+            Upcoming::Signal | Upcoming::Entry(_) | Upcoming::Nothing => None,
+            Upcoming::Step { frame, step, .. } => match step {
+                Some(step) => frame.own_link(pid, step),
                 None => None,
             },
         }
