@@ -55,6 +55,17 @@ pub fn flags_at<A: Allocator + Copy>(
     (one.flags_at(pid), other.flags_at(pid))
 }
 
+/// `tn_session::Look::new_process_flags` has one answer.
+pub fn new_process_flags<A: Allocator + Copy>(
+    one: &Look<'_, A>,
+    other: &Look<'_, A>,
+) -> (Flags, Flags)
+    requires { look_seen one.now ≡ look_seen other.now }
+    ensures { flags_of result.0 ≡ flags_of result.1 }
+{
+    (one.new_process_flags(), other.new_process_flags())
+}
+
 /// `tn_session::Look::is_marked` has one answer.
 pub fn is_marked<A: Allocator + Copy>(
     one: &Look<'_, A>,

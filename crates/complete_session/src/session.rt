@@ -2,7 +2,7 @@
 ghost use Rattle.std.specs.Prelude.{◌≡◌, IfOk, IsErr, IsNone, OnErr, map};
 ghost use Rattle.std.specs.Option.{option_map};
 ghost use Rattle.tn_term.specs.Views.{alive_of, tree_of};
-ghost use Rattle.tn_flags.specs.Views.{command_of, event_of};
+ghost use Rattle.tn_flags.specs.Views.{command_of, event_of, flags_of};
 ghost use Rattle.tn_session.specs.Sessions.{value_in};
 ghost use Rattle.tn_session.specs.Looks.{look_seen};
 ghost use Rattle.tn_session.specs.EventSteps.{message_in};
@@ -10,7 +10,7 @@ ghost use Rattle.tn_session.specs.Views.{function_seen};
 ghost use Rattle.complete_session.specs.Afterwards.{term_seen};
 
 use std::alloc::{AllocError, Allocator};
-use tn_flags::{Command, Event};
+use tn_flags::{Command, Event, Flags};
 use tn_session::{Look, Message, Room, Session};
 use tn_term::{Alive, Mfa, Term};
 
@@ -38,6 +38,21 @@ pub fn look<'a, A: Allocator + Copy>(
     ensures { option_map look_seen result.0 ≡ option_map look_seen result.1 }
 {
     (one.look(), other.look())
+}
+
+/// `tn_session::Session::set_new_process_flags` leaves one session.
+pub fn set_new_process_flags<A: Allocator + Copy>(
+    one: &mut Session<A>,
+    other: &mut Session<A>,
+    flags: Flags,
+    same_flags: Flags,
+)
+    requires sessions { value_in one.old ≡ value_in other.old }
+    requires flags { flags_of flags ≡ flags_of same_flags }
+    ensures { value_in one.new ≡ value_in other.new }
+{
+    one.set_new_process_flags(flags);
+    other.set_new_process_flags(same_flags);
 }
 
 /// `tn_session::Session::command` has one answer. It includes the session afterwards.

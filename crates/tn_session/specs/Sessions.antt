@@ -1,6 +1,7 @@
 -- What a session stands for, and what its calls give.
 use Rattle.std.specs.Prelude.{ℕ, List, Bool, map, Option, Some, None, if◌then◌else◌}
 use Rattle.def_term.specs.Names as names
+use Rattle.def_spec.specs.Flags.{Flags}
 use Rattle.def_session.specs.State as definition
 use Rattle.def_script.specs.Exports.{Exports}
 use Rattle.tn_session.specs.Views.{state_seen, function_seen}
@@ -22,6 +23,10 @@ value_in c = if c.is_spent then None else Some (session_seen c.state)
 -- the session in the state that the definition gives, beside what it answers
 abbrev pub next_session : {T : Type 0} → SessionValue → definition.Session × T → Option SessionValue × T
 next_session s r = (Some (record s { state = r.0 }), r.1)
+
+-- the session with these flags for new processes
+abbrev pub with_new_process_flags : Flags → SessionValue → SessionValue
+with_new_process_flags f s = record s { state = record s.state { new_process_flags = f } }
 
 -- what the definition needs of the program for a command, which has so many processes at its start
 abbrev pub exports_in : SessionValue → ℕ → Exports

@@ -79,6 +79,13 @@ impl<'a, A: Allocator + Copy> Look<'a, A> {
         self.state.flags_at(pid)
     }
 
+    /// The flags that new processes get (`trace:process/4`).
+    pub fn new_process_flags(&self) -> Flags
+        ensures { flags_of result ≡ (look_seen self.now).new_process_flags }
+    {
+        self.state.new_process_flags
+    }
+
     /// Whether the frame of this depth is marked: its return is reported.
     pub fn is_marked(&self, pid: u32, depth: usize) -> bool
         ensures { result ≡ session.is_marked (look_seen self.now) pid depth }

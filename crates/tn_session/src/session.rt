@@ -23,11 +23,11 @@ impl<A: Allocator + Copy> Session<A> {
     ghost use Rattle.def_session.specs.Session.{event_reported};
     ghost use Rattle.def_session.specs.Commands.{command_done};
     ghost use Rattle.tn_term.specs.Views.{tree_of, alive_of};
-    ghost use Rattle.tn_flags.specs.Views.{event_of, command_of};
+    ghost use Rattle.tn_flags.specs.Views.{event_of, command_of, flags_of};
     ghost use Rattle.tn_session.specs.Views.{function_seen};
     ghost use Rattle.tn_session.specs.Messages.{message_seen};
     ghost use Rattle.tn_session.specs.Looks.{look_seen};
-    ghost use Rattle.tn_session.specs.Sessions.{value_in, exports_in, next_session};
+    ghost use Rattle.tn_session.specs.Sessions.{value_in, exports_in, next_session, with_new_process_flags};
 
     /// The session at its creation: live, without flags and settings of functions, with send and receive
     /// `true`, where these processes live. The functions are those of the program, each once, with whether
@@ -64,6 +64,14 @@ impl<A: Allocator + Copy> Session<A> {
             return None;
         }
         Some(Look { state: &self.state })
+    }
+
+    /// The session with these flags for new processes. For comparisons: a session as another rule would have it. One
+    /// that is spent stays spent.
+    pub fn set_new_process_flags(&mut self, flags: Flags)
+        ensures { value_in self.new ≡ option_map (with_new_process_flags (flags_of flags)) (value_in self.old) }
+    {
+        self.state.new_process_flags = flags;
     }
 
     /// What a command does to the session, and its reply. The session's name in the command isn't looked
