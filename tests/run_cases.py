@@ -7,9 +7,8 @@ from harness import EMPTY, EXAMPLES, NO_FORMS, PLAIN, PROBE, ROWS, SEND_HI, chec
 
 
 # The worked runs of which a running node does some moves otherwise: how many, and how many moves there are. `badarg`
-# ends a process with calls that are marked for exceptions; three calls are made in silence, and a fourth move ends them;
-# a link hands on flags.
-DIFFERING_ROWS = {"badarg-is-no-exception": (1, 7), "exceptions-in-silence": (4, 7), "set-on-link": (1, 7)}
+# ends a process with calls that are marked for exceptions; three calls are made in silence, and a fourth move ends them.
+DIFFERING_ROWS = {"badarg-is-no-exception": (1, 7), "exceptions-in-silence": (4, 7)}
 
 
 def note_of(row):

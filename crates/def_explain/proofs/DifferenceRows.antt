@@ -2,7 +2,7 @@
 use Rattle.std.proofs.Common.{◌≡◌, ℕ, Option, true, false, [], ◌∷◌, Some, None, codes, refl}
 use Rattle.std.specs.Prelude.{replicate}
 use Rattle.def_term.specs.Names.{Mfa, word}
-use Rattle.def_spec.specs.Flags.{Flag, Flags, no_flags, only, union, with_flags_in, send_flag, receive_flag, call_flag, procs_flag, silent_flag, set_on_spawn, set_on_first_spawn, set_on_link, set_on_first_link}
+use Rattle.def_spec.specs.Flags.{Flag, Flags, no_flags, only, union, with_flags_in, send_flag, receive_flag, call_flag, procs_flag, silent_flag, set_on_spawn, set_on_first_spawn, set_on_link}
 use Rattle.def_spec.specs.Expressions.{for_calls, for_sends, for_receives, Expr, constant, tuple_of, list_of, call, and_also, perform, message, Exprs, no_exprs, and_expr, Context, Effect, gives_message, traces_return, traces_exception, silences, changes}
 use Rattle.def_spec.specs.Functions as fn
 use Rattle.def_script.specs.Program.{error}
@@ -10,7 +10,7 @@ use Rattle.def_outlook.specs.Outlook.{RuntimeError, calls_past_limit, sends_to_n
 use Rattle.def_session.specs.Settings.{off}
 use Rattle.def_node.specs.Event.{Event, received, returned, raised, spawned, exited, linked, getting_linked}
 use Rattle.def_session.specs.State.{for_returns, for_exceptions, live, new_session, alive_at_start, Session, MarkKind, with_flags, with_marks}
-use Rattle.def_explain.specs.Differences.{node_ends, finds_no_tracer, suppresses_message, leaves_no_mark, reports_end, reports_exceptions, clears_spawn_flags, gives_no_flags, evaluates_from_right, catches_error, reports_attempt, raises_noproc, reports_later, adds_calls, order_difference, body_differences, event_difference, step_differences, has_mark_below}
+use Rattle.def_explain.specs.Differences.{node_ends, finds_no_tracer, suppresses_message, leaves_no_mark, reports_end, reports_exceptions, clears_spawn_flags, evaluates_from_right, catches_error, reports_attempt, raises_noproc, reports_later, adds_calls, order_difference, body_differences, event_difference, step_differences, has_mark_below}
 
 -- ---- bodies, in the process 100
 
@@ -193,18 +193,9 @@ first_spawn_of_a_plain_child = refl
 pub later_spawn : event_difference (record (with_these (and procs_flag set_on_spawn)) { new_process_flags = only set_on_spawn }) (spawned 101 100 function []) ≡ None
 later_spawn = refl
 
--- a link by a process with `set_on_link`, with `set_on_first_link`, and with neither; and what is no `getting_linked`
-pub link_that_gives_flags : event_difference (with_these (and procs_flag set_on_link)) (getting_linked 101 100) ≡ Some gives_no_flags
+-- a link that hands on flags
+pub link_that_gives_flags : event_difference (with_these (and procs_flag set_on_link)) (getting_linked 101 100) ≡ None
 link_that_gives_flags = refl
-
-pub first_link_that_gives_flags : event_difference (with_these (and procs_flag set_on_first_link)) (getting_linked 101 100) ≡ Some gives_no_flags
-first_link_that_gives_flags = refl
-
-pub link_that_gives_none : event_difference (with_these (only procs_flag)) (getting_linked 101 100) ≡ None
-link_that_gives_none = refl
-
-pub link_of_the_giver : event_difference (with_these (and procs_flag set_on_link)) (linked 100 101) ≡ None
-link_of_the_giver = refl
 
 -- ---- by the step at an event
 

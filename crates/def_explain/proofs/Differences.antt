@@ -16,7 +16,7 @@ use Rattle.def_session.specs.State.{MarkKind, for_returns, for_exceptions, Sessi
 use Rattle.def_session.specs.Session.{effects_of, reported_for, mark_asked, is_marked, is_for_exceptions, is_marked_for_exceptions}
 use Rattle.def_session.specs.Messages.{last_message}
 use Rattle.def_explain.specs.Causes.{is_false_message}
-use Rattle.def_explain.specs.Differences.{Difference, node_ends, finds_no_tracer, suppresses_message, leaves_no_mark, reports_end, reports_exceptions, clears_spawn_flags, gives_no_flags, evaluates_from_right, faults_in_logic, leaves_other_setting, takes_local_setting, catches_error, reports_attempt, raises_noproc, reports_later, adds_calls, HasFlags, attempt_flag, IsErrorReason, is_error_reason, StepDiffers, is_traced, has_that_flag, is_attempt_by, step_differs, CallsAction, OneCallsAction, TwoCallActions, ShowsOrder, OneShowsOrder, calls_action, one_calls_action, two_call_actions, shows_order, one_shows_order, HasNone, has_none, is_change, LosesLastFlag, loses_last_flag, ChangesWithoutFlags, changes_without_flags, is_of_sends, is_of_calls, has_mark_below, difference_where}
+use Rattle.def_explain.specs.Differences.{Difference, node_ends, finds_no_tracer, suppresses_message, leaves_no_mark, reports_end, reports_exceptions, clears_spawn_flags, evaluates_from_right, faults_in_logic, leaves_other_setting, takes_local_setting, catches_error, reports_attempt, raises_noproc, reports_later, adds_calls, HasFlags, attempt_flag, IsErrorReason, is_error_reason, StepDiffers, is_traced, has_that_flag, is_attempt_by, step_differs, CallsAction, OneCallsAction, TwoCallActions, ShowsOrder, OneShowsOrder, calls_action, one_calls_action, two_call_actions, shows_order, one_shows_order, HasNone, has_none, is_change, LosesLastFlag, loses_last_flag, ChangesWithoutFlags, changes_without_flags, is_of_sends, is_of_calls, has_mark_below, difference_where}
 use Rattle.def_explain.specs.Laws.{BodyDifferenceIsComputed, OrderDifferenceIsComputed, EventDifferenceIsComputed, StepDifferenceIsComputed}
 
 -- ---- truth values
@@ -194,7 +194,6 @@ body_difference_is_computed d c es leaves_no_mark = (
 body_difference_is_computed d c es reports_end = (λ h. absurd (cc h), λ h. absurd h)
 body_difference_is_computed d c es reports_exceptions = (λ h. absurd (cc h), λ h. absurd h)
 body_difference_is_computed d c es clears_spawn_flags = (λ h. absurd (cc h), λ h. absurd h)
-body_difference_is_computed d c es gives_no_flags = (λ h. absurd (cc h), λ h. absurd h)
 body_difference_is_computed d c es evaluates_from_right = (λ h. absurd (cc h), λ h. absurd h)
 body_difference_is_computed d c es faults_in_logic = (λ h. absurd (cc h), λ h. absurd h)
 body_difference_is_computed d c es leaves_other_setting = (λ h. absurd (cc h), λ h. absurd h)
@@ -359,13 +358,13 @@ event_difference_is_computed s (exited p r) x =
     )
 event_difference_is_computed s (spawned child parent f args) x =
     where-holds _ clears_spawn_flags x _ (λ h. and_parts (flags_at s parent set_on_first_spawn) _ h, λ h. both_are _ _ h.0 h.1)
-event_difference_is_computed s (getting_linked p linker) x = where-holds _ gives_no_flags x _ (λ h. not_is _ h, λ h. is_not _ h)
 event_difference_is_computed s (sent p t to alive) x = (λ h. absurd (cc h), λ h. absurd h)
 event_difference_is_computed s (received p sender t) x = (λ h. absurd (cc h), λ h. absurd h)
 event_difference_is_computed s (called p c) x = (λ h. absurd (cc h), λ h. absurd h)
 event_difference_is_computed s (spawning p child f args) x = (λ h. absurd (cc h), λ h. absurd h)
 event_difference_is_computed s (linked p q) x = (λ h. absurd (cc h), λ h. absurd h)
 event_difference_is_computed s (unlinked p q) x = (λ h. absurd (cc h), λ h. absurd h)
+event_difference_is_computed s (getting_linked p q) x = (λ h. absurd (cc h), λ h. absurd h)
 event_difference_is_computed s (getting_unlinked p q) x = (λ h. absurd (cc h), λ h. absurd h)
 
 pub order_difference_is_computed : OrderDifferenceIsComputed
@@ -442,7 +441,6 @@ at-exit s l p r leaves_no_mark = (λ h. absurd (cc h), λ h. absurd h)
 at-exit s l p r reports_end = (λ h. absurd (cc h), λ h. absurd h)
 at-exit s l p r reports_exceptions = (λ h. absurd (cc h), λ h. absurd h)
 at-exit s l p r clears_spawn_flags = (λ h. absurd (cc h), λ h. absurd h)
-at-exit s l p r gives_no_flags = (λ h. absurd (cc h), λ h. absurd h)
 at-exit s l p r evaluates_from_right = (λ h. absurd (cc h), λ h. absurd h)
 at-exit s l p r faults_in_logic = (λ h. absurd (cc h), λ h. absurd h)
 at-exit s l p r leaves_other_setting = (λ h. absurd (cc h), λ h. absurd h)
@@ -466,7 +464,6 @@ at-link s l p other leaves_no_mark = (λ h. absurd (cc h), λ h. absurd h)
 at-link s l p other reports_end = (λ h. absurd (cc h), λ h. absurd h)
 at-link s l p other reports_exceptions = (λ h. absurd (cc h), λ h. absurd h)
 at-link s l p other clears_spawn_flags = (λ h. absurd (cc h), λ h. absurd h)
-at-link s l p other gives_no_flags = (λ h. absurd (cc h), λ h. absurd h)
 at-link s l p other evaluates_from_right = (λ h. absurd (cc h), λ h. absurd h)
 at-link s l p other faults_in_logic = (λ h. absurd (cc h), λ h. absurd h)
 at-link s l p other leaves_other_setting = (λ h. absurd (cc h), λ h. absurd h)
@@ -490,7 +487,6 @@ at-receive s l p sender t leaves_no_mark = (λ h. absurd (cc h), λ h. absurd h)
 at-receive s l p sender t reports_end = (λ h. absurd (cc h), λ h. absurd h)
 at-receive s l p sender t reports_exceptions = (λ h. absurd (cc h), λ h. absurd h)
 at-receive s l p sender t clears_spawn_flags = (λ h. absurd (cc h), λ h. absurd h)
-at-receive s l p sender t gives_no_flags = (λ h. absurd (cc h), λ h. absurd h)
 at-receive s l p sender t evaluates_from_right = (λ h. absurd (cc h), λ h. absurd h)
 at-receive s l p sender t faults_in_logic = (λ h. absurd (cc h), λ h. absurd h)
 at-receive s l p sender t leaves_other_setting = (λ h. absurd (cc h), λ h. absurd h)

@@ -7,7 +7,7 @@ use Rattle.def_term.specs.Names.{word}
 use Rattle.def_term.specs.Alive.{FIRST_PID, PROCESSES, Alive, with_alive, is_alive}
 use Rattle.def_script.specs.Program.{Command, create, destroy, set_processes, set_function, set_send, set_receive}
 use Rattle.def_script.specs.Exports.{Exports}
-use Rattle.def_spec.specs.Flags.{Flag, send_flag, receive_flag, call_flag, procs_flag, silent_flag, arity_flag, set_on_spawn, set_on_first_spawn, set_on_link, set_on_first_link, Flags, no_flags, only, union, without, has_all, same_flags, flags_listed, given_and_kept, after_spawn, after_link}
+use Rattle.def_spec.specs.Flags.{Flag, send_flag, receive_flag, call_flag, procs_flag, silent_flag, arity_flag, set_on_spawn, set_on_first_spawn, set_on_link, set_on_first_link, Flags, no_flags, only, union, without, flags_listed, given_and_kept, after_spawn, after_link}
 use Rattle.def_spec.specs.Expressions.{for_calls, for_sends, for_receives, Effect}
 use Rattle.def_spec.specs.Reading.{Reads}
 use Rattle.def_node.specs.Process.{FRAMES}
@@ -18,7 +18,7 @@ use Rattle.def_session.specs.State.{Phase, absent, live, destroyed, MarkKind, fo
 use Rattle.def_session.specs.Messages.{process_of}
 use Rattle.def_session.specs.Session.{with_both, inherit, context, is_marked, is_for_exceptions, is_marked_for_exceptions, effects_of, where_marked, all_affected, mark_asked, mark_frame, unmark_frame, finish, reported_for, reported_in, event_reported}
 use Rattle.def_session.specs.Commands.{Procs, one_process, existing, new_processes, all_processes, procs_of, how_of, changed_flags, all_changed, existing_changed, new_changed, number_term, refuse, flags_set, flags_set_if, function_set, function_set_if, send_set, receive_set, done_live, done_absent, done_destroyed, done_in, command_done}
-use Rattle.def_explain.specs.Differences.{Difference, reports_end, reports_exceptions, clears_spawn_flags, gives_no_flags, is_same_for, difference_where, differences_if, setting_differences, evaluation_differences, has_mark_below, event_difference}
+use Rattle.def_explain.specs.Differences.{Difference, reports_end, reports_exceptions, clears_spawn_flags, difference_where, differences_if, setting_differences, evaluation_differences, has_mark_below, event_difference}
 use Rattle.def_explain.specs.Accounts.{differences_in_lines, event_lines_in, event_lines}
 use Rattle.def_explain.specs.NodeCommands.{setting_can_differ, read_can_differ, flags_can_differ, listed_can_differ, command_can_differ}
 use Rattle.def_explain.proofs.DifferenceLines.{lines_tell_the_difference}
@@ -50,15 +50,9 @@ module _ {X : Type 0} (P : X → Type 0) where
       go true k = (h.0, k)
       go false k = k
 
--- writing what is there changes nothing
-with-own-element : {X : Type 0} (xs : List X) (i : ℕ) (d : X) → slice_set xs i (unwrap_or (slice_get xs i) d) ≡ xs
-with-own-element [] i d = refl
-with-own-element (x ∷ xs) zero d = refl
-with-own-element (x ∷ xs) (suc i) d = ap (λ ys. x ∷ ys) (with-own-element xs i d)
-
 -- ---- flags
 
--- `silent`, and those that are inherited
+-- `silent`, and those that hand on flags at a spawn
 abbrev flag_can_differ : Flag → Bool
 flag_can_differ send_flag = false
 flag_can_differ receive_flag = false
@@ -68,8 +62,8 @@ flag_can_differ silent_flag = true
 flag_can_differ arity_flag = false
 flag_can_differ set_on_spawn = true
 flag_can_differ set_on_first_spawn = true
-flag_can_differ set_on_link = true
-flag_can_differ set_on_first_link = true
+flag_can_differ set_on_link = false
+flag_can_differ set_on_first_link = false
 
 -- none of them is set
 abbrev HasPlainFlags : Flags → Type 0
@@ -77,23 +71,21 @@ HasPlainFlags f = (x : Flag) → flag_can_differ x ≡ true → f x ≡ false
 
 plain-flags : (f : Flags) → flags_can_differ f ≡ false → HasPlainFlags f
 plain-flags f h =
-    let a : _ × (f set_on_first_link ≡ false) = or_parts _ (f set_on_first_link) h in
-    let b : _ × (f set_on_link ≡ false) = or_parts _ (f set_on_link) a.0 in
-    let c : _ × (f set_on_first_spawn ≡ false) = or_parts _ (f set_on_first_spawn) b.0 in
-    let d : (f silent_flag ≡ false) × (f set_on_spawn ≡ false) = or_parts (f silent_flag) (f set_on_spawn) c.0 in
-    each d.0 d.1 c.1 b.1 a.1
+    let a : _ × (f set_on_first_spawn ≡ false) = or_parts _ (f set_on_first_spawn) h in
+    let b : (f silent_flag ≡ false) × (f set_on_spawn ≡ false) = or_parts (f silent_flag) (f set_on_spawn) a.0 in
+    each b.0 b.1 a.1
   where
-    each : f silent_flag ≡ false → f set_on_spawn ≡ false → f set_on_first_spawn ≡ false → f set_on_link ≡ false → f set_on_first_link ≡ false → HasPlainFlags f
-    each a b c d e send_flag k = absurd (cc k)
-    each a b c d e receive_flag k = absurd (cc k)
-    each a b c d e call_flag k = absurd (cc k)
-    each a b c d e procs_flag k = absurd (cc k)
-    each a b c d e silent_flag k = a
-    each a b c d e arity_flag k = absurd (cc k)
-    each a b c d e set_on_spawn k = b
-    each a b c d e set_on_first_spawn k = c
-    each a b c d e set_on_link k = d
-    each a b c d e set_on_first_link k = e
+    each : f silent_flag ≡ false → f set_on_spawn ≡ false → f set_on_first_spawn ≡ false → HasPlainFlags f
+    each a b c send_flag k = absurd (cc k)
+    each a b c receive_flag k = absurd (cc k)
+    each a b c call_flag k = absurd (cc k)
+    each a b c procs_flag k = absurd (cc k)
+    each a b c silent_flag k = a
+    each a b c arity_flag k = absurd (cc k)
+    each a b c set_on_spawn k = b
+    each a b c set_on_first_spawn k = c
+    each a b c set_on_link k = absurd (cc k)
+    each a b c set_on_first_link k = absurd (cc k)
 
 -- nor is one after a change
 plain-union : (f g : Flags) → HasPlainFlags f → HasPlainFlags g → HasPlainFlags (union f g)
@@ -124,37 +116,11 @@ plain-spawn parent child h k =
     let pair : HasPlainFlags (given_and_kept set_on_spawn set_on_first_spawn parent).0 × HasPlainFlags (given_and_kept set_on_spawn set_on_first_spawn parent).1 = plain-pair set_on_spawn set_on_first_spawn parent h in
     (pair.1, plain-union child _ k pair.0)
 
--- no flag more
-or-none : (b : Bool) → (b || false) ≡ b
-or-none true = refl
-or-none false = refl
-
-union-none : (f : Flags) → union f no_flags ≡ f
-union-none f = λ i. λ x. or-none (f x) i
-
--- a link without a flag for links leaves both as they are
-link-same : (f g : Flags) → HasPlainFlags f → after_link f g ≡ (f, g)
-link-same f g h =
-    ap₂ (λ a b. let pair : Flags × Flags = pair_by f set_on_link set_on_first_link a b in (pair.1, union g pair.0)) (h set_on_first_link refl) (h set_on_link refl)
-    ∙ ap {B = Flags × Flags} (λ k. (f, k)) (union-none g)
-
--- a set of flags is the same as itself
-or-not : (b : Bool) → (b || not b) ≡ true
-or-not true = refl
-or-not false = refl
-
-has-all-itself : (f : Flags) → has_all f f ≡ true
-has-all-itself f =
-    both (n send_flag) (both (n receive_flag) (both (n call_flag) (both (n procs_flag) (both (n silent_flag) (both (n arity_flag) (both (n set_on_spawn) (both (n set_on_first_spawn) (both (n set_on_link) (n set_on_first_link)))))))))
-  where
-    n : (x : Flag) → (f x || not (f x)) ≡ true
-    n x = or-not (f x)
-
-    both : {a b : Bool} → a ≡ true → b ≡ true → (a && b) ≡ true
-    both {a} {b} h k = and_from a b h k
-
-same-as-itself : (f : Flags) → same_flags f f ≡ true
-same-as-itself f = and_from (has_all f f) _ (has-all-itself f) (has-all-itself f)
+-- the flags of a process that links and of its partner
+plain-link : (linker partner : Flags) → HasPlainFlags linker → HasPlainFlags partner → HasPlainFlags (after_link linker partner).0 × HasPlainFlags (after_link linker partner).1
+plain-link linker partner h k =
+    let pair : HasPlainFlags (given_and_kept set_on_link set_on_first_link linker).0 × HasPlainFlags (given_and_kept set_on_link set_on_first_link linker).1 = plain-pair set_on_link set_on_first_link linker h in
+    (pair.1, plain-union partner _ k pair.0)
 
 -- ---- marks
 
@@ -231,23 +197,16 @@ no-mark-for-exceptions s p depth h = not-for-exceptions (mark_of s p depth) (pla
 
 -- ---- inheritance
 
--- a link gives nothing
-with-its-flags : (s : Session) (n : ℕ) → with_flags s n (flags_at s n) ≡ s
-with-its-flags s n = ap (λ t. record s { flags = t }) (with-own-element s.flags (n - FIRST_PID) no_flags)
-
-link-inherits-none : (s : Session) (p linker : ℕ) → IsPlain s → inherit s (getting_linked p linker) ≡ s
-link-inherits-none s p linker h =
-    ap (with_both s linker p) (link-same (flags_at s linker) (flags_at s p) (flags-of s linker h))
-    ∙ ap (λ t. with_flags t p (flags_at s p)) (with-its-flags s linker)
-    ∙ with-its-flags s p
-
 plain-inherit : (s : Session) (e : Event) → IsPlain s → IsPlain (inherit s e)
 plain-inherit s (spawned child parent f args) h =
     let t : Session = record s { alive = with_alive s.alive child true } in
     let pair : Flags × Flags = after_spawn (flags_at s parent) s.new_process_flags in
     let both : HasPlainFlags pair.0 × HasPlainFlags pair.1 = plain-spawn (flags_at s parent) s.new_process_flags (flags-of s parent h) h.of_new_processes in
     plain-with-flags (with_flags t parent pair.0) child pair.1 both.1 (plain-with-flags t parent pair.0 both.0 (plain-alive s _ h))
-plain-inherit s (getting_linked p linker) h = subst IsPlain (sym (link-inherits-none s p linker h)) h
+plain-inherit s (getting_linked p linker) h =
+    let pair : Flags × Flags = after_link (flags_at s linker) (flags_at s p) in
+    let both : HasPlainFlags pair.0 × HasPlainFlags pair.1 = plain-link (flags_at s linker) (flags_at s p) (flags-of s linker h) (flags-of s p h) in
+    plain-with-flags (with_flags s linker pair.0) p pair.1 both.1 (plain-with-flags s linker pair.0 both.0 h)
 plain-inherit s (sent p t to alive) h = h
 plain-inherit s (received p sender t) h = h
 plain-inherit s (called p c) h = h
@@ -459,9 +418,7 @@ no-event-difference s (returned p f t depth) h = not-where _ reports_end (no-sil
 no-event-difference s (raised p f c t depth) h = not-where _ reports_end (no-silent-end s p (is_marked_for_exceptions s p depth) h)
 no-event-difference s (exited p r) h = not-where _ reports_exceptions (and_right (flags_at s p call_flag) _ (no-mark-below s p (suc FRAMES) h))
 no-event-difference s (spawned child parent f args) h = not-where _ clears_spawn_flags (and_left (flags_at s parent set_on_first_spawn) _ (flags-of s parent h set_on_first_spawn refl))
-no-event-difference s (getting_linked p linker) h =
-    ap (λ t. difference_where (not (is_same_for s t linker p)) gives_no_flags) (link-inherits-none s p linker h)
-    ∙ ap (λ b. difference_where (not b) gives_no_flags) (and_from _ _ (same-as-itself (flags_at s linker)) (same-as-itself (flags_at s p)))
+no-event-difference s (getting_linked p linker) h = refl
 no-event-difference s (sent p t to alive) h = refl
 no-event-difference s (received p sender t) h = refl
 no-event-difference s (called p c) h = refl

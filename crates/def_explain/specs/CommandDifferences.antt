@@ -1,4 +1,4 @@
--- What a node does otherwise by a function command, since it has a global and a local setting for each function (own, as measured on OTP 25 (erts 13.1.5)).
+-- What a node does otherwise by a function command, since it has a global and a local setting for each function (own, as measured on OTP 27.3.4 (erts 15.2.7)).
 -- Depends on the function commands that a session accepted before, and on the functions of the program.
 use Rattle.std.specs.Prelude.{◌≡◌, ◌≢◌, Bool, true, false, not, ◌&&◌, if◌then◌else◌, List, [], ◌∷◌, Option, Some, None, Ok}
 use Rattle.std.specs.List.{list_any}

@@ -1,4 +1,4 @@
--- Where a running node does otherwise than a session (own), as measured on OTP 25 (erts 13.1.5). Of `silent` and `set_on_link` OTP's documentation says what the session does.
+-- Where a running node does otherwise than a session (own), as measured on OTP 27.3.4 (erts 15.2.7). Of `silent` OTP's documentation says what the session does.
 -- Depends on match specifications, on the state of a session before an event, and on what is known of the step of a process before it is made.
 use Rattle.std.specs.Prelude.{◌≡◌, ◌≢◌, ◌≤◌, ℕ, zero, suc, ◌==◌, Bool, true, false, not, ◌&&◌, ◌||◌, ◌⊎◌, if◌then◌else◌, List, [], ◌∷◌, ◌++◌, filter, Option, Some, None, option_to_list, codes}
 use Rattle.std.specs.Bool.{⊤}
@@ -7,13 +7,13 @@ use Rattle.def_term.specs.Alive.{is_alive}
 use Rattle.def_term.specs.Tree.{Tree, pid}
 use Rattle.def_term.specs.Names.{word}
 use Rattle.def_term.specs.Order.{same}
-use Rattle.def_spec.specs.Flags.{Flag, Flags, no_flags, has_all, same_flags, FlagTable, flags_in, send_flag, receive_flag, call_flag, procs_flag, silent_flag, set_on_spawn, set_on_first_spawn}
+use Rattle.def_spec.specs.Flags.{Flag, Flags, no_flags, has_all, FlagTable, flags_in, send_flag, receive_flag, call_flag, procs_flag, silent_flag, set_on_spawn, set_on_first_spawn}
 use Rattle.def_spec.specs.Matching.{Bindings}
 use Rattle.def_spec.specs.Expressions.{Dialect, for_calls, for_sends, Expr, bound_to, whole_list, all_bound, constant, tuple_of, list_of, call, and_also, or_else, perform, Exprs, no_exprs, and_expr, Context, Effect, silences, changes, flags_by, flags_after}
 use Rattle.def_node.specs.Process.{FRAMES}
 use Rattle.def_spec.specs.Outcome.{Clause}
 use Rattle.def_session.specs.Settings.{Setting, off, plain, by, setting_for}
-use Rattle.def_node.specs.Event.{Event, sent, received, called, returned, raised, exited, spawned, linked, getting_linked}
+use Rattle.def_node.specs.Event.{Event, sent, received, called, returned, raised, exited, spawned, linked}
 use Rattle.def_outlook.specs.Outlook.{RuntimeError, error_reason, sends_to_no_pid, links_to_no_pid, unlinks_from_no_pid, Outlook}
 use Rattle.def_session.specs.State.{MarkKind, for_exceptions, Session, flags_at, mark_of}
 use Rattle.def_session.specs.Messages.{last_message}
@@ -30,7 +30,6 @@ use Rattle.def_explain.specs.Verdicts.{Verdict, fails, fires, verdict_of}
 -- the return or the exception is reported unless `silent` was set at the call;
 -- each call that is marked for exceptions has `exception_from` before the exit;
 -- the first spawn clears both flags for spawns of the child;
--- a link gives no flags;
 -- the arguments of a call and the elements of a tuple are evaluated from the right;
 -- a catch step called one of the frames, and its catch catches the run-time error that ends the process here;
 -- the send, link or unlink of what is no pid is reported before its error;
@@ -48,7 +47,6 @@ pub data Difference : Type 0 where
   reports_end : Difference
   reports_exceptions : Difference
   clears_spawn_flags : Difference
-  gives_no_flags : Difference
   evaluates_from_right : Difference
   catches_error : Difference
   reports_attempt : Difference
@@ -153,7 +151,7 @@ abbrev mutual
   OneShowsOrder no_exprs = ⊥
   OneShowsOrder (and_expr e es) = ShowsOrder e ⊎ OneShowsOrder es
 
--- ---- an event without a body: a return, an exception, an exit, a child, a link
+-- ---- an event without a body: a return, an exception, an exit, a child
 
 -- the process of a return or an exception of a marked frame has `call`, and is silent
 abbrev pub IsSilentEnd : Session → Event → (p : ℕ) → Type 0
@@ -171,17 +169,12 @@ has_spawn_flag f = f set_on_spawn || f set_on_first_spawn
 abbrev pub IsFirstSpawn : Session → Event → (parent child : ℕ) → Type 0
 IsFirstSpawn s e parent child = (flags_at s parent set_on_first_spawn ≡ true) × (has_spawn_flag (flags_at (inherit s e) child) ≡ true)
 
--- both have the flags that they had before
-abbrev pub is_same_for : Session → Session → (p q : ℕ) → Bool
-is_same_for s t p q = same_flags (flags_at s p) (flags_at t p) && same_flags (flags_at s q) (flags_at t q)
-
 -- a node does this otherwise at this event of a session in this state
 abbrev pub EventDiffers : Session → Event → Difference → Type 0
 EventDiffers s (returned p f t depth) x = (x ≡ reports_end) × IsSilentEnd s (returned p f t depth) p
 EventDiffers s (raised p f c t depth) x = (x ≡ reports_end) × IsSilentEnd s (raised p f c t depth) p
 EventDiffers s (exited p r) x = (x ≡ reports_exceptions) × HasMarkedFrame s p
 EventDiffers s (spawned child parent f args) x = (x ≡ clears_spawn_flags) × IsFirstSpawn s (spawned child parent f args) parent child
-EventDiffers s (getting_linked p linker) x = (x ≡ gives_no_flags) × (is_same_for s (inherit s (getting_linked p linker)) linker p ≡ false)
 EventDiffers s e x = ⊥
 
 -- ---- an event by a step of which this was known before it
@@ -365,7 +358,6 @@ event_difference s (raised p f c t depth) = difference_where (is_marked_for_exce
 event_difference s (exited p r) = difference_where (flags_at s p call_flag && has_mark_below s p (suc FRAMES)) reports_exceptions
 event_difference s (spawned child parent f args) =
     difference_where (flags_at s parent set_on_first_spawn && has_spawn_flag (flags_at (inherit s (spawned child parent f args)) child)) clears_spawn_flags
-event_difference s (getting_linked p linker) = difference_where (not (is_same_for s (inherit s (getting_linked p linker)) linker p)) gives_no_flags
 event_difference s e = None
 
 -- the process has a flag
@@ -414,7 +406,6 @@ difference_text leaves_no_mark = codes "no mark: the call is silent"
 difference_text reports_end = codes "a message, unless the call was silent"
 difference_text reports_exceptions = codes "exception_from first, of each call that is marked for exceptions"
 difference_text clears_spawn_flags = codes "the child has neither set_on_spawn nor set_on_first_spawn"
-difference_text gives_no_flags = codes "a link gives no flags"
 difference_text evaluates_from_right = codes "arguments and elements of tuples are evaluated from the right, and two of them have actions here"
 difference_text catches_error = codes "the end is by an error, which a catch catches here"
 difference_text reports_attempt = codes "the send, link or unlink is reported first, as one to a pid is"

@@ -1,5 +1,5 @@
 -- Logic on what is no boolean: it counts as `false` here. On a node it is a fault, but the last argument of `andalso` and `orelse` is their value
--- (own, as measured on OTP 25 (erts 13.1.5)).
+-- (own, as measured on OTP 27.3.4 (erts 15.2.7)).
 -- Depends on what expressions come to after the effects before them, and on the functions of logic.
 use Rattle.std.specs.Prelude.{◌≡◌, Bool, true, false, not, ◌&&◌, ◌||◌, ◌⊎◌, if◌then◌else◌, List, []}
 use Rattle.std.specs.List.{list_any}

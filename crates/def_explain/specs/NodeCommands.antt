@@ -3,7 +3,7 @@
 use Rattle.std.specs.Prelude.{Bool, true, false, ◌||◌, Option, Some, None, Ok, Err}
 use Rattle.std.specs.List.{list_any}
 use Rattle.def_script.specs.Program.{Command, create, destroy, set_processes, set_function, set_send, set_receive, Program}
-use Rattle.def_spec.specs.Flags.{Flags, silent_flag, set_on_spawn, set_on_first_spawn, set_on_link, set_on_first_link, flags_listed}
+use Rattle.def_spec.specs.Flags.{Flags, silent_flag, set_on_spawn, set_on_first_spawn, flags_listed}
 use Rattle.def_spec.specs.Expressions.{Action, exception_trace, silent, enable_trace, disable_trace, trace, for_calls, for_sends, for_receives, Expr, bound_to, whole_list, all_bound, constant, tuple_of, list_of, call, and_also, or_else, perform, Exprs, no_exprs, and_expr}
 use Rattle.def_spec.specs.Outcome.{Clause}
 use Rattle.def_spec.specs.Reading.{Reads}
@@ -73,9 +73,9 @@ abbrev pub read_can_differ : Reads Setting → Bool
 read_can_differ (Ok setting) = setting_can_differ setting
 read_can_differ (Err e) = false
 
--- one of these flags is `silent`, or is inherited
+-- one of these flags is `silent`, or hands on flags at a spawn
 abbrev pub flags_can_differ : Flags → Bool
-flags_can_differ f = f silent_flag || f set_on_spawn || f set_on_first_spawn || f set_on_link || f set_on_first_link
+flags_can_differ f = f silent_flag || f set_on_spawn || f set_on_first_spawn
 
 abbrev pub listed_can_differ : Option Flags → Bool
 listed_can_differ None = false

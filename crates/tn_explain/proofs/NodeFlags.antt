@@ -1,6 +1,6 @@
--- Flags that are listed, read from the last on: whether one of them is `silent` or inherited.
+-- Flags that are listed, read from the last on: whether one of them is `silent` or hands on flags at a spawn.
 use Rattle.std.proofs.Common.{◌≡◌, ◌∙◌, Bool, true, false, ◌||◌, refl, ap}
-use Rattle.def_spec.specs.Flags.{Flags, union, silent_flag, set_on_spawn, set_on_first_spawn, set_on_link, set_on_first_link}
+use Rattle.def_spec.specs.Flags.{Flags, union, silent_flag, set_on_spawn, set_on_first_spawn}
 use Rattle.def_explain.specs.NodeCommands.{flags_can_differ}
 
 swap : (a b c d : Bool) → ((a || b) || (c || d)) ≡ ((a || c) || (b || d))
@@ -14,12 +14,8 @@ swap false false false d = refl
 pub one_of_both : (f g : Flags) → flags_can_differ (union f g) ≡ (flags_can_differ f || flags_can_differ g)
 one_of_both f g =
     let x : Bool = f set_on_first_spawn || g set_on_first_spawn in
-    let y : Bool = f set_on_link || g set_on_link in
-    let z : Bool = f set_on_first_link || g set_on_first_link in
-    ap (λ b. ((b || x) || y) || z) (swap (f silent_flag) (g silent_flag) (f set_on_spawn) (g set_on_spawn))
-    ∙ ap (λ b. (b || y) || z) (swap _ _ (f set_on_first_spawn) (g set_on_first_spawn))
-    ∙ ap (λ b. b || z) (swap _ _ (f set_on_link) (g set_on_link))
-    ∙ swap _ _ (f set_on_first_link) (g set_on_first_link)
+    ap (λ b. b || x) (swap (f silent_flag) (g silent_flag) (f set_on_spawn) (g set_on_spawn))
+    ∙ swap _ _ (f set_on_first_spawn) (g set_on_first_spawn)
 
 pub turned : (a b : Bool) → (a || b) ≡ (b || a)
 turned true true = refl

@@ -102,10 +102,6 @@ pub(crate) fn inherited_difference<A: Allocator>(
             let holds = giver.old.set_on_first_spawn && has_spawn_flag;
             difference_where(holds, Difference::ClearsSpawnFlags)
         }
-        Event::GettingLinked { .. } => {
-            let holds = giver.old.same(giver.new) && taker.old.same(taker.new);
-            difference_where(!holds, Difference::GivesNoFlags)
-        }
         _ => None,
     }
 }

@@ -136,15 +136,11 @@ fn setting_can_differ<A: Allocator + Copy>(
     }
 }
 
-/// Whether one of these flags is `silent`, or is inherited.
+/// Whether one of these flags is `silent`, or hands on flags at a spawn.
 fn flags_can_differ(flags: Flags) -> bool
     ensures { result ≡ flags_can_differ (flags_of flags) }
 {
-    flags.silent
-        || flags.set_on_spawn
-        || flags.set_on_first_spawn
-        || flags.set_on_link
-        || flags.set_on_first_link
+    flags.silent || flags.set_on_spawn || flags.set_on_first_spawn
 }
 
 /// Whether one of the flags that the terms name is such, where each is a flag.
