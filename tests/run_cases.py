@@ -6,9 +6,9 @@ import layers
 from harness import EMPTY, EXAMPLES, NO_FORMS, PLAIN, PROBE, ROWS, SEND_HI, check, note_of_nobody, run, wants
 
 
-# The worked runs of which a running node does some moves otherwise: how many, and how many moves there are. `badarg`
-# ends a process with calls that are marked for exceptions; three calls are made in silence, and a fourth move ends them.
-DIFFERING_ROWS = {"badarg-is-no-exception": (1, 7), "exceptions-in-silence": (4, 7)}
+# The worked runs of which a running node does some moves otherwise: how many, and how many moves there are. Three calls
+# are made in silence, and a fourth move ends them.
+DIFFERING_ROWS = {"exceptions-in-silence": (4, 7)}
 
 
 def note_of(row):

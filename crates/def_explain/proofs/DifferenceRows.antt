@@ -1,5 +1,5 @@
 -- Rows: where a node does otherwise, and where it doesn't.
-use Rattle.std.proofs.Common.{◌≡◌, ℕ, Option, true, false, [], ◌∷◌, Some, None, codes, refl}
+use Rattle.std.proofs.Common.{◌≡◌, ℕ, Option, true, false, List, [], ◌∷◌, Some, None, codes, refl}
 use Rattle.std.specs.Prelude.{replicate}
 use Rattle.def_term.specs.Names.{Mfa, word}
 use Rattle.def_spec.specs.Flags.{Flag, Flags, no_flags, only, union, with_flags_in, send_flag, receive_flag, call_flag, procs_flag, silent_flag, set_on_spawn, set_on_first_spawn, set_on_link}
@@ -10,7 +10,7 @@ use Rattle.def_outlook.specs.Outlook.{RuntimeError, calls_past_limit, sends_to_n
 use Rattle.def_session.specs.Settings.{off}
 use Rattle.def_node.specs.Event.{Event, received, returned, raised, spawned, exited, linked, getting_linked}
 use Rattle.def_session.specs.State.{for_returns, for_exceptions, live, new_session, alive_at_start, Session, MarkKind, with_flags, with_marks}
-use Rattle.def_explain.specs.Differences.{node_ends, finds_no_tracer, suppresses_message, leaves_no_mark, reports_end, reports_exceptions, clears_spawn_flags, evaluates_from_right, catches_error, reports_attempt, raises_noproc, reports_later, adds_calls, order_difference, body_differences, event_difference, step_differences, has_mark_below}
+use Rattle.def_explain.specs.Differences.{Difference, node_ends, finds_no_tracer, suppresses_message, leaves_no_mark, reports_end, reports_exceptions, clears_spawn_flags, evaluates_from_right, catches_error, reports_attempt, raises_noproc, reports_later, adds_calls, order_difference, body_differences, event_difference, step_differences, has_mark_below}
 
 -- ---- bodies, in the process 100
 
@@ -167,22 +167,6 @@ silent_exception = refl
 pub exception_of_returns : event_difference (marked for_returns (with_these (and call_flag silent_flag))) exception ≡ None
 exception_of_returns = refl
 
--- an exit with a call that is marked for exceptions; for returns; without `call`; and of another process
-pub exit_with_a_marked_call : event_difference (marked for_exceptions (with_these (only call_flag))) (exited 100 (word "boom")) ≡ Some reports_exceptions
-unfolding has_mark_below
-exit_with_a_marked_call = refl
-
-pub exit_with_a_call_for_returns : event_difference (marked for_returns (with_these (only call_flag))) (exited 100 (word "boom")) ≡ None
-unfolding has_mark_below
-exit_with_a_call_for_returns = refl
-
-pub exit_without_flag : event_difference (marked for_exceptions (with_these (only send_flag))) (exited 100 (word "boom")) ≡ None
-exit_without_flag = refl
-
-pub exit_of_another : event_difference (with_flags (marked for_exceptions (with_these (only call_flag))) 101 (only call_flag)) (exited 101 (word "boom")) ≡ None
-unfolding has_mark_below
-exit_of_another = refl
-
 -- the first spawn where new processes have `set_on_spawn`; where they don't; and a later spawn
 pub first_spawn : event_difference (record (with_these (and procs_flag set_on_first_spawn)) { new_process_flags = only set_on_spawn }) (spawned 101 100 function []) ≡ Some clears_spawn_flags
 first_spawn = refl
@@ -230,6 +214,28 @@ unlink_from_no_pid = refl
 
 pub unlink_from_no_pid_without_flag : step_differences (with_these (only send_flag)) (ahead unlinks_from_no_pid None) (exited 100 (word "badarg")) ≡ adds_calls ∷ []
 unlink_from_no_pid_without_flag = refl
+
+-- an error with a call that is marked for exceptions; for returns; without `call`; of another process; and an exit signal
+abbrev error_marked : Session → List Difference
+error_marked s = step_differences s (ahead calls_past_limit None) (exited 100 (word "system_limit"))
+
+pub error_with_a_marked_call : error_marked (marked for_exceptions (with_these (only call_flag))) ≡ adds_calls ∷ reports_exceptions ∷ []
+unfolding has_mark_below
+error_with_a_marked_call = refl
+
+pub error_with_a_call_for_returns : error_marked (marked for_returns (with_these (only call_flag))) ≡ adds_calls ∷ []
+unfolding has_mark_below
+error_with_a_call_for_returns = refl
+
+pub error_without_flag : error_marked (marked for_exceptions (with_these (only send_flag))) ≡ adds_calls ∷ []
+error_without_flag = refl
+
+pub error_of_another : step_differences (with_flags (marked for_exceptions (with_these (only call_flag))) 101 (only call_flag)) (ahead calls_past_limit None) (exited 101 (word "system_limit")) ≡ adds_calls ∷ []
+unfolding has_mark_below
+error_of_another = refl
+
+pub signal_with_a_marked_call : step_differences (marked for_exceptions (with_these (only call_flag))) nothing_ahead (exited 100 (word "boom")) ≡ []
+signal_with_a_marked_call = refl
 
 -- a link to a process that isn't alive, with a flag and without
 pub link_to_no_process : step_differences (with_these (only send_flag)) nothing_ahead (linked 100 163) ≡ raises_noproc ∷ []

@@ -348,20 +348,13 @@ event_difference_is_computed s (raised p f c t depth) x =
           (for-exceptions (mark_of s p depth) y.0, y.1, y.2),
       λ h. three_are _ _ _ (ap is_for_exceptions h.0) h.1 h.2,
     )
-event_difference_is_computed s (exited p r) x =
-    where-holds _ reports_exceptions x _ (
-      λ h.
-          let y : (flags_at s p call_flag ≡ true) × (has_mark_below s p (suc FRAMES) ≡ true) = and_parts (flags_at s p call_flag) _ h in
-          let m : (depth : ℕ) × (depth < suc FRAMES) × (mark_of s p depth ≡ Some for_exceptions) = mark-below s p (suc FRAMES) y.1 in
-          (y.0, (m.0, omega (arith, m.1), m.2)),
-      λ h. both_are _ _ h.0 (below-mark s p (suc FRAMES) h.1.0 (omega (arith, h.1.1)) h.1.2),
-    )
 event_difference_is_computed s (spawned child parent f args) x =
     where-holds _ clears_spawn_flags x _ (λ h. and_parts (flags_at s parent set_on_first_spawn) _ h, λ h. both_are _ _ h.0 h.1)
 event_difference_is_computed s (sent p t to alive) x = (λ h. absurd (cc h), λ h. absurd h)
 event_difference_is_computed s (received p sender t) x = (λ h. absurd (cc h), λ h. absurd h)
 event_difference_is_computed s (called p c) x = (λ h. absurd (cc h), λ h. absurd h)
 event_difference_is_computed s (spawning p child f args) x = (λ h. absurd (cc h), λ h. absurd h)
+event_difference_is_computed s (exited p r) x = (λ h. absurd (cc h), λ h. absurd h)
 event_difference_is_computed s (linked p q) x = (λ h. absurd (cc h), λ h. absurd h)
 event_difference_is_computed s (unlinked p q) x = (λ h. absurd (cc h), λ h. absurd h)
 event_difference_is_computed s (getting_linked p q) x = (λ h. absurd (cc h), λ h. absurd h)
@@ -439,7 +432,13 @@ at-exit s l p r finds_no_tracer = (λ h. absurd (cc h), λ h. absurd h)
 at-exit s l p r suppresses_message = (λ h. absurd (cc h), λ h. absurd h)
 at-exit s l p r leaves_no_mark = (λ h. absurd (cc h), λ h. absurd h)
 at-exit s l p r reports_end = (λ h. absurd (cc h), λ h. absurd h)
-at-exit s l p r reports_exceptions = (λ h. absurd (cc h), λ h. absurd h)
+at-exit s l p r reports_exceptions = (
+  λ h.
+      let y : (is_some l.error ≡ true) × (flags_at s p call_flag ≡ true) × (has_mark_below s p (suc FRAMES) ≡ true) = three_parts (is_some l.error) _ _ h in
+      let m : (depth : ℕ) × (depth < suc FRAMES) × (mark_of s p depth ≡ Some for_exceptions) = mark-below s p (suc FRAMES) y.2 in
+      (some-is l.error y.0, (y.1, (m.0, omega (arith, m.1), m.2))),
+  λ h. three_are _ _ _ (ap is_some h.0.1) h.1.0 (below-mark s p (suc FRAMES) h.1.1.0 (omega (arith, h.1.1.1)) h.1.1.2),
+)
 at-exit s l p r clears_spawn_flags = (λ h. absurd (cc h), λ h. absurd h)
 at-exit s l p r evaluates_from_right = (λ h. absurd (cc h), λ h. absurd h)
 at-exit s l p r faults_in_logic = (λ h. absurd (cc h), λ h. absurd h)

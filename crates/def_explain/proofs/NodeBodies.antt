@@ -1,4 +1,4 @@
--- Of a body without the actions by which a node can differ: its effects change no flags and ask for no mark for exceptions, and a node does nothing otherwise with them.
+-- Of a body without the actions by which a node can differ: its effects change no flags, and a node does nothing otherwise with them.
 use Rattle.std.proofs.Common.{◌≡◌, ℕ, Bool, true, false, not, ◌||◌, List, [], ◌∷◌, ◌++◌, filter, Option, Some, None, option_to_list, refl, ap, ap₂, ◌∙◌, if◌then◌else◌}
 use Rattle.std.specs.List.{list_any, AllByRecursion}
 use Rattle.std.proofs.lemmas.Bool.{or_parts, or_from, and_left, and_right}
@@ -10,8 +10,7 @@ use Rattle.def_spec.specs.Expressions.{Dialect, for_calls, for_sends, for_receiv
 use Rattle.def_spec.specs.Outcome.{Clause, or_next, firing_bindings, outcome_in}
 use Rattle.def_node.specs.Event.{Call}
 use Rattle.def_session.specs.Settings.{FunctionSetting, Setting, off, plain, by, has_among, setting_for}
-use Rattle.def_session.specs.State.{MarkKind, for_returns}
-use Rattle.def_session.specs.Session.{effects_of_outcome, evaluated_by, or_for_returns, mark_asked}
+use Rattle.def_session.specs.Session.{effects_of_outcome, evaluated_by}
 use Rattle.def_explain.specs.Reasons.{Reason, reason_of}
 use Rattle.def_explain.specs.Verdicts.{verdict_by}
 use Rattle.def_explain.specs.Differences.{node_ends, finds_no_tracer, suppresses_message, leaves_no_mark, evaluates_from_right, faults_in_logic, later_silent, is_silent_by, has_none, loses_last_flag, changes_without_flags, one_shows_order, difference_where, is_of_sends, is_of_calls, body_differs, body_differences, clause_differences, differences_by, firing_differences, setting_differences}
@@ -21,11 +20,11 @@ use Rattle.def_explain.proofs.Logic.{no_logic_in_clause}
 
 -- ---- effects
 
--- a change of flags, or a request for a mark for exceptions
+-- a change of flags
 abbrev pub effect_can_differ : Effect → Bool
 effect_can_differ (gives_message t) = false
 effect_can_differ traces_return = false
-effect_can_differ traces_exception = true
+effect_can_differ traces_exception = false
 effect_can_differ (silences b) = true
 effect_can_differ (changes n cleared set) = true
 
@@ -61,7 +60,7 @@ plain-action d message (t ∷ []) c h = (refl, tt)
 plain-action d message (t ∷ u ∷ ts) c h = tt
 plain-action d return_trace ts c h = plain-of-calls d traces_return refl
 plain-action d caller ts c h = tt
-plain-action d exception_trace ts c h = absurd (cc h)
+plain-action d exception_trace ts c h = plain-of-calls d traces_exception refl
 plain-action d silent ts c h = absurd (cc h)
 plain-action d enable_trace ts c h = absurd (cc h)
 plain-action d disable_trace ts c h = absurd (cc h)
@@ -157,27 +156,9 @@ pub flags_same_after : (p : ℕ) (t : FlagTable) (es : List Effect) → ArePlain
 flags_same_after p t [] h = refl
 flags_same_after p t (gives_message u ∷ es) h = flags_same_after p t es h.1
 flags_same_after p t (traces_return ∷ es) h = flags_same_after p t es h.1
-flags_same_after p t (traces_exception ∷ es) h = absurd (cc h.0)
+flags_same_after p t (traces_exception ∷ es) h = flags_same_after p t es h.1
 flags_same_after p t (silences b ∷ es) h = absurd (cc h.0)
 flags_same_after p t (changes n cleared set ∷ es) h = absurd (cc h.0)
-
--- a mark, where there is one, is for returns
-abbrev pub IsForReturns : Option MarkKind → Type 0
-IsForReturns None = Unit {0}
-IsForReturns (Some k) = k ≡ for_returns
-
-or-for-returns : (o : Option MarkKind) → IsForReturns o → IsForReturns (or_for_returns o)
-or-for-returns None h = refl
-or-for-returns (Some k) h = h
-
--- the mark that the effects ask for
-pub plain_mark : (es : List Effect) → ArePlainEffects es → IsForReturns (mark_asked es)
-plain_mark [] h = tt
-plain_mark (gives_message t ∷ es) h = plain_mark es h.1
-plain_mark (traces_return ∷ es) h = or-for-returns (mark_asked es) (plain_mark es h.1)
-plain_mark (traces_exception ∷ es) h = absurd (cc h.0)
-plain_mark (silences b ∷ es) h = absurd (cc h.0)
-plain_mark (changes n cleared set ∷ es) h = absurd (cc h.0)
 
 -- ---- what a node does with them
 
@@ -196,7 +177,7 @@ loses-none : (p : ℕ) (t : FlagTable) (es : List Effect) → has_none (flags_in
 loses-none p t [] f h = refl
 loses-none p t (gives_message u ∷ es) f h = or_from (has_none (flags_in t p)) _ f (loses-none p t es f h.1)
 loses-none p t (traces_return ∷ es) f h = or_from (has_none (flags_in t p)) _ f (loses-none p t es f h.1)
-loses-none p t (traces_exception ∷ es) f h = absurd (cc h.0)
+loses-none p t (traces_exception ∷ es) f h = or_from (has_none (flags_in t p)) _ f (loses-none p t es f h.1)
 loses-none p t (silences b ∷ es) f h = absurd (cc h.0)
 loses-none p t (changes n cleared set ∷ es) f h = absurd (cc h.0)
 
@@ -204,7 +185,7 @@ changes-none : (p : ℕ) (t : FlagTable) (es : List Effect) → ArePlainEffects 
 changes-none p t [] h = refl
 changes-none p t (gives_message u ∷ es) h = changes-none p t es h.1
 changes-none p t (traces_return ∷ es) h = changes-none p t es h.1
-changes-none p t (traces_exception ∷ es) h = absurd (cc h.0)
+changes-none p t (traces_exception ∷ es) h = changes-none p t es h.1
 changes-none p t (silences b ∷ es) h = absurd (cc h.0)
 changes-none p t (changes n cleared set ∷ es) h = absurd (cc h.0)
 
@@ -212,7 +193,7 @@ silent-none : (p : ℕ) (b : Bool) (es : List Effect) → ArePlainEffects es →
 silent-none p b [] h = refl
 silent-none p b (gives_message u ∷ es) h = silent-none p b es h.1
 silent-none p b (traces_return ∷ es) h = silent-none p b es h.1
-silent-none p b (traces_exception ∷ es) h = absurd (cc h.0)
+silent-none p b (traces_exception ∷ es) h = silent-none p b es h.1
 silent-none p b (silences x ∷ es) h = absurd (cc h.0)
 silent-none p b (changes n cleared set ∷ es) h = absurd (cc h.0)
 

@@ -1,4 +1,4 @@
--- Where no command of a program can lead to one, a node does no move of any run otherwise: its sessions have no flag, setting or mark by which a node can differ.
+-- Where no command of a program can lead to one, a node does no move of any run otherwise: its sessions have no flag or setting by which a node can differ.
 use Rattle.std.proofs.Common.{◌≡◌, ℕ, zero, suc, Bool, true, false, List, [], ◌∷◌, map, option_to_list, refl, ap, if◌then◌else◌}
 use Rattle.std.specs.List.{list_any, AllByRecursion}
 use Rattle.std.specs.Str.{bytes_eq}
@@ -22,7 +22,7 @@ use Rattle.def_explain.specs.NodeCommands.{command_can_differ}
 use Rattle.def_explain.specs.RunLaws.{NoCommandNoDifference}
 use Rattle.def_explain.proofs.NodeSessions.{IsPlain, new_is_plain, event_leaves_plain, command_leaves_plain, event_without_difference}
 
--- no session has a flag, a setting or a mark by which a node can differ
+-- no session has a flag or a setting by which a node can differ
 abbrev SessionsArePlain : List NamedSession → Type 0
 SessionsArePlain ss = AllByRecursion (λ s. IsPlain s.1) ss
 

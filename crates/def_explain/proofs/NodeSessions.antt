@@ -1,4 +1,4 @@
--- A session with no flag, setting or mark by which a node can differ is still such a session after an event, or after a command that adds none; and a node does nothing otherwise at an event of it.
+-- A session with no flag or setting by which a node can differ is still such a session after an event, or after a command that adds none; and a node does nothing otherwise at an event of it.
 use Rattle.std.proofs.Common.{◌≡◌, ℕ, zero, suc, ◌-◌, Bool, true, false, not, ◌&&◌, ◌||◌, List, [], ◌∷◌, ◌++◌, filter, replicate, slice_get, slice_set, unwrap_or, Option, Some, None, option_to_list, Ok, Err, refl, sym, ap, ap₂, subst, ◌∙◌, ◌==◌, if◌then◌else◌}
 use Rattle.std.specs.List.{AllByRecursion}
 use Rattle.std.proofs.lemmas.Bool.{or_parts, or_from, and_from, and_left, and_right}
@@ -18,11 +18,11 @@ use Rattle.def_session.specs.State.{Phase, absent, live, destroyed, MarkKind, fo
 use Rattle.def_session.specs.Messages.{process_of}
 use Rattle.def_session.specs.Session.{with_both, inherit, context, is_marked, is_for_exceptions, is_marked_for_exceptions, effects_of, where_marked, all_affected, mark_asked, mark_frame, unmark_frame, finish, reported_for, reported_in, event_reported}
 use Rattle.def_session.specs.Commands.{Procs, one_process, existing, new_processes, all_processes, procs_of, how_of, changed_flags, all_changed, existing_changed, new_changed, number_term, refuse, flags_set, flags_set_if, function_set, function_set_if, send_set, receive_set, done_live, done_absent, done_destroyed, done_in, command_done}
-use Rattle.def_explain.specs.Differences.{Difference, reports_end, reports_exceptions, clears_spawn_flags, difference_where, differences_if, setting_differences, evaluation_differences, has_mark_below, event_difference}
+use Rattle.def_explain.specs.Differences.{Difference, reports_end, clears_spawn_flags, difference_where, differences_if, setting_differences, evaluation_differences, event_difference}
 use Rattle.def_explain.specs.Accounts.{differences_in_lines, event_lines_in, event_lines}
 use Rattle.def_explain.specs.NodeCommands.{setting_can_differ, read_can_differ, flags_can_differ, listed_can_differ, command_can_differ}
 use Rattle.def_explain.proofs.DifferenceLines.{lines_tell_the_difference}
-use Rattle.def_explain.proofs.NodeBodies.{ArePlainEffects, HasPlainEffects, plain_effects_of_setting, flags_same_after, IsForReturns, plain_mark, has_send, has_receive, has_call, no_difference_by_setting, FunctionsArePlain, plain_setting_for}
+use Rattle.def_explain.proofs.NodeBodies.{ArePlainEffects, HasPlainEffects, plain_effects_of_setting, flags_same_after, has_send, has_receive, has_call, no_difference_by_setting, FunctionsArePlain, plain_setting_for}
 
 -- ---- elements of lists
 
@@ -41,14 +41,6 @@ module _ {X : Type 0} (P : X → Type 0) where
   each-of-same : (n : ℕ) (x : X) → P x → AllByRecursion P (replicate n x)
   each-of-same zero x k = tt
   each-of-same (suc n) x k = (k, each-of-same n x k)
-
-  each-in-filter : (f : X → Bool) (xs : List X) → AllByRecursion P xs → AllByRecursion P (filter f xs)
-  each-in-filter f [] h = tt
-  each-in-filter f (x ∷ xs) h = go (f x) (each-in-filter f xs h.1)
-    where
-      go : (b : Bool) → AllByRecursion P (filter f xs) → AllByRecursion P (if b then x ∷ filter f xs else filter f xs)
-      go true k = (h.0, k)
-      go false k = k
 
 -- ---- flags
 
@@ -122,34 +114,15 @@ plain-link linker partner h k =
     let pair : HasPlainFlags (given_and_kept set_on_link set_on_first_link linker).0 × HasPlainFlags (given_and_kept set_on_link set_on_first_link linker).1 = plain-pair set_on_link set_on_first_link linker h in
     (pair.1, plain-union partner _ k pair.0)
 
--- ---- marks
-
--- each is for returns
-abbrev AreForReturns : List Mark → Type 0
-AreForReturns ms = AllByRecursion (λ m. m.kind ≡ for_returns) ms
-
-plain-kind : (ms : List Mark) (depth : ℕ) → AreForReturns ms → IsForReturns (kind_among ms depth)
-plain-kind [] depth h = tt
-plain-kind (m ∷ ms) depth h = go (m.depth == depth) (plain-kind ms depth h.1)
-  where
-    go : (b : Bool) → IsForReturns (kind_among ms depth) → IsForReturns (if b then Some m.kind else kind_among ms depth)
-    go true k = h.0
-    go false k = k
-
-not-for-exceptions : (o : Option MarkKind) → IsForReturns o → is_for_exceptions o ≡ false
-not-for-exceptions None h = refl
-not-for-exceptions (Some k) h = ap (λ x. is_for_exceptions (Some x)) h
-
 -- ---- a session
 
--- none of its flags, settings and marks is one by which a node can differ
+-- none of its flags and settings is one by which a node can differ
 pub record IsPlain (s : Session) : Type 0 where
   pub of_flags : AllByRecursion HasPlainFlags s.flags
   pub of_new_processes : HasPlainFlags s.new_process_flags
   pub of_functions : FunctionsArePlain s.functions
   pub of_sending : setting_can_differ s.sending ≡ false
   pub of_receiving : setting_can_differ s.receiving ≡ false
-  pub of_marks : AllByRecursion AreForReturns s.marks
 
 -- a new session is plain
 pub new_is_plain : (phase : Phase) (alive : Alive) → IsPlain (new_session phase alive)
@@ -159,41 +132,27 @@ new_is_plain phase alive = record {
   of_functions = tt;
   of_sending = refl;
   of_receiving = refl;
-  of_marks = each-of-same AreForReturns PROCESSES [] tt;
 }
 
 -- with another phase, other living processes, other flags or other marks
 plain-phase : (s : Session) (phase : Phase) → IsPlain s → IsPlain (record s { phase = phase })
-plain-phase s phase h = record { of_flags = h.of_flags; of_new_processes = h.of_new_processes; of_functions = h.of_functions; of_sending = h.of_sending; of_receiving = h.of_receiving; of_marks = h.of_marks }
+plain-phase s phase h = record { of_flags = h.of_flags; of_new_processes = h.of_new_processes; of_functions = h.of_functions; of_sending = h.of_sending; of_receiving = h.of_receiving }
 
 plain-alive : (s : Session) (alive : Alive) → IsPlain s → IsPlain (record s { alive = alive })
-plain-alive s alive h = record { of_flags = h.of_flags; of_new_processes = h.of_new_processes; of_functions = h.of_functions; of_sending = h.of_sending; of_receiving = h.of_receiving; of_marks = h.of_marks }
+plain-alive s alive h = record { of_flags = h.of_flags; of_new_processes = h.of_new_processes; of_functions = h.of_functions; of_sending = h.of_sending; of_receiving = h.of_receiving }
 
 plain-table : (s : Session) (t : List Flags) → AllByRecursion HasPlainFlags t → IsPlain s → IsPlain (record s { flags = t })
-plain-table s t k h = record { of_flags = k; of_new_processes = h.of_new_processes; of_functions = h.of_functions; of_sending = h.of_sending; of_receiving = h.of_receiving; of_marks = h.of_marks }
+plain-table s t k h = record { of_flags = k; of_new_processes = h.of_new_processes; of_functions = h.of_functions; of_sending = h.of_sending; of_receiving = h.of_receiving }
 
 plain-with-flags : (s : Session) (n : ℕ) (f : Flags) → HasPlainFlags f → IsPlain s → IsPlain (with_flags s n f)
 plain-with-flags s n f k h = plain-table s _ (each-with HasPlainFlags s.flags (n - FIRST_PID) f k h.of_flags) h
 
-plain-with-marks : (s : Session) (n : ℕ) (ms : List Mark) → AreForReturns ms → IsPlain s → IsPlain (with_marks s n ms)
-plain-with-marks s n ms k h = record {
-  of_flags = h.of_flags;
-  of_new_processes = h.of_new_processes;
-  of_functions = h.of_functions;
-  of_sending = h.of_sending;
-  of_receiving = h.of_receiving;
-  of_marks = each-with AreForReturns s.marks (n - FIRST_PID) ms k h.of_marks;
-}
+plain-with-marks : (s : Session) (n : ℕ) (ms : List Mark) → IsPlain s → IsPlain (with_marks s n ms)
+plain-with-marks s n ms h = record { of_flags = h.of_flags; of_new_processes = h.of_new_processes; of_functions = h.of_functions; of_sending = h.of_sending; of_receiving = h.of_receiving }
 
 -- what is read of it
 flags-of : (s : Session) (n : ℕ) → IsPlain s → HasPlainFlags (flags_at s n)
 flags-of s n h = each-at HasPlainFlags s.flags (n - FIRST_PID) no_flags h.of_flags (λ x e. refl)
-
-marks-of : (s : Session) (n : ℕ) → IsPlain s → AreForReturns (marks_at s n)
-marks-of s n h = each-at AreForReturns s.marks (n - FIRST_PID) [] h.of_marks tt
-
-no-mark-for-exceptions : (s : Session) (p depth : ℕ) → IsPlain s → is_marked_for_exceptions s p depth ≡ false
-no-mark-for-exceptions s p depth h = not-for-exceptions (mark_of s p depth) (plain-kind (marks_at s p) depth (marks-of s p h))
 
 -- ---- inheritance
 
@@ -242,33 +201,30 @@ plain-effects s (unlinked p q) h = plain-where-flag s (flags_at s p procs_flag) 
 plain-effects s (getting_linked p q) h = plain-where-flag s (flags_at s p procs_flag) (Some []) tt
 plain-effects s (getting_unlinked p q) h = plain-where-flag s (flags_at s p procs_flag) (Some []) tt
 
-plain-mark-frame : (s : Session) (p depth : ℕ) (o : Option MarkKind) → IsForReturns o → IsPlain s → IsPlain (mark_frame s p depth o)
-plain-mark-frame s p depth None k h = h
-plain-mark-frame s p depth (Some kind) k h = plain-with-marks s p (record { depth = depth; kind = kind } ∷ marks_at s p) (k, marks-of s p h) h
+plain-mark-frame : (s : Session) (p depth : ℕ) (o : Option MarkKind) → IsPlain s → IsPlain (mark_frame s p depth o)
+plain-mark-frame s p depth None h = h
+plain-mark-frame s p depth (Some kind) h = plain-with-marks s p (record { depth = depth; kind = kind } ∷ marks_at s p) h
 
-plain-unmark-frame : (s : Session) (p depth : ℕ) → IsPlain s → IsPlain (unmark_frame s p depth)
-plain-unmark-frame s p depth h = plain-with-marks s p _ (each-in-filter (λ m. m.kind ≡ for_returns) _ (marks_at s p) (marks-of s p h)) h
-
-plain-finish : (s : Session) (e : Event) (es : List Effect) → ArePlainEffects es → IsPlain s → IsPlain (finish s e es)
-plain-finish s (called p c) es k h = plain-mark-frame s p c.depth (mark_asked es) (plain_mark es k) h
-plain-finish s (returned p f t depth) es k h = plain-unmark-frame s p depth h
-plain-finish s (raised p f c t depth) es k h = plain-unmark-frame s p depth h
-plain-finish s (exited p r) es k h =
+plain-finish : (s : Session) (e : Event) (es : List Effect) → IsPlain s → IsPlain (finish s e es)
+plain-finish s (called p c) es h = plain-mark-frame s p c.depth (mark_asked es) h
+plain-finish s (returned p f t depth) es h = plain-with-marks s p _ h
+plain-finish s (raised p f c t depth) es h = plain-with-marks s p _ h
+plain-finish s (exited p r) es h =
     let t : Session = record s { alive = with_alive s.alive p false } in
-    plain-with-marks (with_flags t p no_flags) p [] tt (plain-with-flags t p no_flags (λ x e. refl) (plain-alive s _ h))
-plain-finish s (sent p t to alive) es k h = h
-plain-finish s (received p sender t) es k h = h
-plain-finish s (spawning p child f args) es k h = h
-plain-finish s (spawned p parent f args) es k h = h
-plain-finish s (linked p q) es k h = h
-plain-finish s (unlinked p q) es k h = h
-plain-finish s (getting_linked p q) es k h = h
-plain-finish s (getting_unlinked p q) es k h = h
+    plain-with-marks (with_flags t p no_flags) p [] (plain-with-flags t p no_flags (λ x e. refl) (plain-alive s _ h))
+plain-finish s (sent p t to alive) es h = h
+plain-finish s (received p sender t) es h = h
+plain-finish s (spawning p child f args) es h = h
+plain-finish s (spawned p parent f args) es h = h
+plain-finish s (linked p q) es h = h
+plain-finish s (unlinked p q) es h = h
+plain-finish s (getting_linked p q) es h = h
+plain-finish s (getting_unlinked p q) es h = h
 
 plain-report : (s : Session) (e : Event) (o : Option (List Effect)) → HasPlainEffects o → IsPlain s → IsPlain (reported_for s e o).0
-plain-report s e None k h = plain-finish s e [] tt h
+plain-report s e None k h = plain-finish s e [] h
 plain-report s e (Some es) k h =
-    plain-finish (all_affected (process_of e) s es) e es k (subst (λ t. IsPlain (record s { flags = t })) (sym (flags_same_after (process_of e) s.flags es k)) h)
+    plain-finish (all_affected (process_of e) s es) e es (subst (λ t. IsPlain (record s { flags = t })) (sym (flags_same_after (process_of e) s.flags es k)) h)
 
 plain-report-in : (x : Phase) (s : Session) (e : Event) → IsPlain s → IsPlain (reported_in x s e).0
 plain-report-in absent s e h = plain-alive s _ h
@@ -299,7 +255,6 @@ plain-new-processes set f s k h = record {
   of_functions = h.of_functions;
   of_sending = h.of_sending;
   of_receiving = h.of_receiving;
-  of_marks = h.of_marks;
 }
 
 plain-flags-command : (s : Session) (procs : Procs) (set : Bool) (f : Flags) → HasPlainFlags f → IsPlain s → IsPlain (flags_set s procs set f).0
@@ -331,16 +286,15 @@ plain-function-command o s (Some covered) (Some local) spec k h = go (setting_of
       of_functions = (g, h.of_functions);
       of_sending = h.of_sending;
       of_receiving = h.of_receiving;
-      of_marks = h.of_marks;
     }
 
 plain-send-command : (s : Session) (r : Reads Setting) → read_can_differ r ≡ false → IsPlain s → IsPlain (send_set s r).0
 plain-send-command s (Err e) k h = h
-plain-send-command s (Ok setting) k h = record { of_flags = h.of_flags; of_new_processes = h.of_new_processes; of_functions = h.of_functions; of_sending = k; of_receiving = h.of_receiving; of_marks = h.of_marks }
+plain-send-command s (Ok setting) k h = record { of_flags = h.of_flags; of_new_processes = h.of_new_processes; of_functions = h.of_functions; of_sending = k; of_receiving = h.of_receiving }
 
 plain-receive-command : (s : Session) (r : Reads Setting) → read_can_differ r ≡ false → IsPlain s → IsPlain (receive_set s r).0
 plain-receive-command s (Err e) k h = h
-plain-receive-command s (Ok setting) k h = record { of_flags = h.of_flags; of_new_processes = h.of_new_processes; of_functions = h.of_functions; of_sending = h.of_sending; of_receiving = k; of_marks = h.of_marks }
+plain-receive-command s (Ok setting) k h = record { of_flags = h.of_flags; of_new_processes = h.of_new_processes; of_functions = h.of_functions; of_sending = h.of_sending; of_receiving = k }
 
 plain-command-in-live : (o : Exports) (s : Session) (c : Command) → command_can_differ c ≡ false → IsPlain s → IsPlain (done_live o s c).0
 plain-command-in-live o s (create name tracer) k h = h
@@ -402,11 +356,6 @@ no-evaluation-difference s (unlinked p q) h = refl
 no-evaluation-difference s (getting_linked p q) h = refl
 no-evaluation-difference s (getting_unlinked p q) h = refl
 
-no-mark-below : (s : Session) (p n : ℕ) → IsPlain s → has_mark_below s p n ≡ false
-unfolding has_mark_below
-no-mark-below s p zero h = refl
-no-mark-below s p (suc n) h = or_from (is_marked_for_exceptions s p n) (has_mark_below s p n) (no-mark-for-exceptions s p n h) (no-mark-below s p n h)
-
 not-where : (b : Bool) (x : Difference) → b ≡ false → difference_where b x ≡ None
 not-where b x h = ap (λ a. difference_where a x) h
 
@@ -416,13 +365,13 @@ no-silent-end s p m h = and_right m _ (and_right (flags_at s p call_flag) _ (fla
 no-event-difference : (s : Session) (e : Event) → IsPlain s → event_difference s e ≡ None
 no-event-difference s (returned p f t depth) h = not-where _ reports_end (no-silent-end s p (is_marked s p depth) h)
 no-event-difference s (raised p f c t depth) h = not-where _ reports_end (no-silent-end s p (is_marked_for_exceptions s p depth) h)
-no-event-difference s (exited p r) h = not-where _ reports_exceptions (and_right (flags_at s p call_flag) _ (no-mark-below s p (suc FRAMES) h))
 no-event-difference s (spawned child parent f args) h = not-where _ clears_spawn_flags (and_left (flags_at s parent set_on_first_spawn) _ (flags-of s parent h set_on_first_spawn refl))
 no-event-difference s (getting_linked p linker) h = refl
 no-event-difference s (sent p t to alive) h = refl
 no-event-difference s (received p sender t) h = refl
 no-event-difference s (called p c) h = refl
 no-event-difference s (spawning p child f args) h = refl
+no-event-difference s (exited p r) h = refl
 no-event-difference s (linked p q) h = refl
 no-event-difference s (unlinked p q) h = refl
 no-event-difference s (getting_unlinked p q) h = refl

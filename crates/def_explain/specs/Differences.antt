@@ -28,7 +28,7 @@ use Rattle.def_explain.specs.Verdicts.{Verdict, fails, fires, verdict_of}
 -- `silent` suppresses the message of a send or a receive that a match specification decides;
 -- a call that is silent gets no mark;
 -- the return or the exception is reported unless `silent` was set at the call;
--- each call that is marked for exceptions has `exception_from` before the exit;
+-- each call that is marked for exceptions has `exception_from` before the end by a run-time error;
 -- the first spawn clears both flags for spawns of the child;
 -- the arguments of a call and the elements of a tuple are evaluated from the right;
 -- a catch step called one of the frames, and its catch catches the run-time error that ends the process here;
@@ -151,15 +151,11 @@ abbrev mutual
   OneShowsOrder no_exprs = ⊥
   OneShowsOrder (and_expr e es) = ShowsOrder e ⊎ OneShowsOrder es
 
--- ---- an event without a body: a return, an exception, an exit, a child
+-- ---- an event without a body: a return, an exception, a child
 
 -- the process of a return or an exception of a marked frame has `call`, and is silent
 abbrev pub IsSilentEnd : Session → Event → (p : ℕ) → Type 0
 IsSilentEnd s e p = IsOfMarked s e × (flags_at s p call_flag ≡ true) × (flags_at s p silent_flag ≡ true)
-
--- a process with `call` has a frame that is marked for exceptions
-abbrev pub HasMarkedFrame : Session → (p : ℕ) → Type 0
-HasMarkedFrame s p = (flags_at s p call_flag ≡ true) × ((depth : ℕ) × (depth ≤ FRAMES) × (mark_of s p depth ≡ Some for_exceptions))
 
 -- it has a flag for spawns
 abbrev pub has_spawn_flag : Flags → Bool
@@ -173,7 +169,6 @@ IsFirstSpawn s e parent child = (flags_at s parent set_on_first_spawn ≡ true) 
 abbrev pub EventDiffers : Session → Event → Difference → Type 0
 EventDiffers s (returned p f t depth) x = (x ≡ reports_end) × IsSilentEnd s (returned p f t depth) p
 EventDiffers s (raised p f c t depth) x = (x ≡ reports_end) × IsSilentEnd s (raised p f c t depth) p
-EventDiffers s (exited p r) x = (x ≡ reports_exceptions) × HasMarkedFrame s p
 EventDiffers s (spawned child parent f args) x = (x ≡ clears_spawn_flags) × IsFirstSpawn s (spawned child parent f args) parent child
 EventDiffers s e x = ⊥
 
@@ -183,9 +178,17 @@ EventDiffers s e x = ⊥
 abbrev pub HasFlags : Session → (p : ℕ) → Type 0
 HasFlags s p = HasNone (flags_at s p) → ⊥
 
+-- the step is a run-time error
+abbrev pub HasError : Outlook → Type 0
+HasError l = (x : RuntimeError) × (l.error ≡ Some x)
+
+-- a process with `call` has a frame that is marked for exceptions
+abbrev pub HasMarkedFrame : Session → (p : ℕ) → Type 0
+HasMarkedFrame s p = (flags_at s p call_flag ≡ true) × ((depth : ℕ) × (depth ≤ FRAMES) × (mark_of s p depth ≡ Some for_exceptions))
+
 -- a run-time error ends a process that has a flag, and a catch step called one of its frames
 abbrev pub IsCaughtError : Session → Outlook → (p : ℕ) → Type 0
-IsCaughtError s l p = HasFlags s p × ((x : RuntimeError) × (l.error ≡ Some x)) × ((depth : ℕ) × (l.caught_at ≡ Some depth))
+IsCaughtError s l p = HasFlags s p × HasError l × ((depth : ℕ) × (l.caught_at ≡ Some depth))
 
 -- the flag by which a node reports a step with this error before the error
 abbrev pub attempt_flag : RuntimeError → Option Flag
@@ -219,6 +222,7 @@ abbrev pub StepDiffers : Session → Outlook → Event → Difference → Type 0
 StepDiffers s l (exited p r) reports_attempt = IsAttempt s l p
 StepDiffers s l (exited p r) catches_error = IsCaughtError s l p
 StepDiffers s l (exited p r) adds_calls = EndsWithErrorReason s p r
+StepDiffers s l (exited p r) reports_exceptions = HasError l × HasMarkedFrame s p
 StepDiffers s l (linked p other) raises_noproc = IsLinkToNoProcess s p other
 StepDiffers s l (received p sender t) reports_later = IsReportedEarly s l (received p sender t)
 StepDiffers s l e x = ⊥
@@ -346,16 +350,10 @@ evaluation_differences s (received p sender t) = differences_if (flags_at s p re
 evaluation_differences s (called p c) = differences_if (flags_at s p call_flag) (setting_differences (setting_for s.functions c) (context s p c.args c.caller))
 evaluation_differences s e = []
 
--- one of the first so many depths has a mark for exceptions
-unfoldable pub has_mark_below : Session → (p : ℕ) → ℕ → Bool
-has_mark_below s p zero = false
-has_mark_below s p (suc n) = is_marked_for_exceptions s p n || has_mark_below s p n
-
 -- what a node does otherwise at an event without a body
 abbrev pub event_difference : Session → Event → Option Difference
 event_difference s (returned p f t depth) = difference_where (is_marked s p depth && (flags_at s p call_flag && flags_at s p silent_flag)) reports_end
 event_difference s (raised p f c t depth) = difference_where (is_marked_for_exceptions s p depth && (flags_at s p call_flag && flags_at s p silent_flag)) reports_end
-event_difference s (exited p r) = difference_where (flags_at s p call_flag && has_mark_below s p (suc FRAMES)) reports_exceptions
 event_difference s (spawned child parent f args) =
     difference_where (flags_at s parent set_on_first_spawn && has_spawn_flag (flags_at (inherit s (spawned child parent f args)) child)) clears_spawn_flags
 event_difference s e = None
@@ -363,6 +361,11 @@ event_difference s e = None
 -- the process has a flag
 abbrev pub is_traced : Session → (p : ℕ) → Bool
 is_traced s p = not (has_none (flags_at s p))
+
+-- one of the first so many depths has a mark for exceptions
+unfoldable pub has_mark_below : Session → (p : ℕ) → ℕ → Bool
+has_mark_below s p zero = false
+has_mark_below s p (suc n) = is_marked_for_exceptions s p n || has_mark_below s p n
 
 -- it has this flag, if there is one
 abbrev pub has_that_flag : Session → (p : ℕ) → Option Flag → Bool
@@ -382,18 +385,23 @@ is_reported_early l m = not l.is_awaited && is_some m
 abbrev pub is_error_reason : Tree → Bool
 is_error_reason r = same r (word "undef") || (same r (word "system_limit") || (same r (word "badarg") || same r (word "noproc")))
 
+-- it has `call`, and a frame that is marked for exceptions
+abbrev pub has_marked_frame : Session → (p : ℕ) → Bool
+has_marked_frame s p = flags_at s p call_flag && has_mark_below s p (suc FRAMES)
+
 -- whether a node does this otherwise by the step at this event
 abbrev pub step_differs : Session → Outlook → Event → Difference → Bool
 step_differs s l (exited p r) reports_attempt = is_attempt_by s p l.error
 step_differs s l (exited p r) catches_error = is_traced s p && (is_some l.error && is_some l.caught_at)
 step_differs s l (exited p r) adds_calls = is_traced s p && is_error_reason r
+step_differs s l (exited p r) reports_exceptions = is_some l.error && has_marked_frame s p
 step_differs s l (linked p other) raises_noproc = is_traced s p && not (is_alive s.alive other)
 step_differs s l (received p sender t) reports_later = is_reported_early l (reported_for s (received p sender t) (effects_of s (received p sender t))).1
 step_differs s l e x = false
 
 -- all that a node does otherwise by the step at this event
 abbrev pub step_differences : Session → Outlook → Event → List Difference
-step_differences s l e = filter (step_differs s l e) (reports_attempt ∷ catches_error ∷ raises_noproc ∷ reports_later ∷ adds_calls ∷ [])
+step_differences s l e = filter (step_differs s l e) (reports_attempt ∷ catches_error ∷ raises_noproc ∷ reports_later ∷ adds_calls ∷ reports_exceptions ∷ [])
 
 -- ---- its text
 

@@ -4,16 +4,15 @@ use Rattle.std.specs.Prelude.{Bool, true, false, ◌||◌, Option, Some, None, O
 use Rattle.std.specs.List.{list_any}
 use Rattle.def_script.specs.Program.{Command, create, destroy, set_processes, set_function, set_send, set_receive, Program}
 use Rattle.def_spec.specs.Flags.{Flags, silent_flag, set_on_spawn, set_on_first_spawn, flags_listed}
-use Rattle.def_spec.specs.Expressions.{Action, exception_trace, silent, enable_trace, disable_trace, trace, for_calls, for_sends, for_receives, Expr, bound_to, whole_list, all_bound, constant, tuple_of, list_of, call, and_also, or_else, perform, Exprs, no_exprs, and_expr}
+use Rattle.def_spec.specs.Expressions.{Action, silent, enable_trace, disable_trace, trace, for_calls, for_sends, for_receives, Expr, bound_to, whole_list, all_bound, constant, tuple_of, list_of, call, and_also, or_else, perform, Exprs, no_exprs, and_expr}
 use Rattle.def_spec.specs.Outcome.{Clause}
 use Rattle.def_spec.specs.Reading.{Reads}
 use Rattle.def_session.specs.Settings.{Setting, off, plain, by, setting_of}
 use Rattle.def_explain.specs.Logic.{is_logic}
 use Rattle.def_explain.specs.Differences.{one_shows_order}
 
--- by this action a process can be silent, or have other flags, or a mark for exceptions
+-- by this action a process can be silent, or have other flags
 abbrev pub can_differ_by : Action → Bool
-can_differ_by exception_trace = true
 can_differ_by silent = true
 can_differ_by enable_trace = true
 can_differ_by disable_trace = true

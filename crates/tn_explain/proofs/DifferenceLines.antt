@@ -25,7 +25,7 @@ use Rattle.def_outlook.specs.Outlook.{Outlook}
 use Rattle.def_session.specs.State.{live}
 use Rattle.def_session.specs.Session.{reported_in, event_reported}
 use Rattle.def_explain.specs.Accounts.{differs_uncounted}
-use Rattle.def_explain.specs.Differences.{catches_error, reports_attempt, raises_noproc, reports_later, adds_calls, step_differs, step_differences}
+use Rattle.def_explain.specs.Differences.{catches_error, reports_attempt, raises_noproc, reports_later, adds_calls, reports_exceptions, step_differs, step_differences}
 use Rattle.tn_explain.specs.LineParts.{step_where}
 use Rattle.tn_explain.specs.Lines.{lines_text}
 use Rattle.tn_explain.specs.StepDifferences.{one_before, step_differences_seen, is_reported_later, AreBefore, AreAfterEvent}
@@ -89,13 +89,14 @@ step-where true x xs = refl
 step-where false x xs = refl
 
 pub each_step : (d : StepDifferences) → map differs_uncounted (step_differences_seen d)
-    ≡ step_where d.attempt reports_attempt ++ (step_where d.caught catches_error ++ (step_where d.noproc raises_noproc ++ (step_where d.later reports_later ++ (step_where d.calls adds_calls ++ []))))
+    ≡ step_where d.attempt reports_attempt ++ (step_where d.caught catches_error ++ (step_where d.noproc raises_noproc ++ (step_where d.later reports_later ++ (step_where d.calls adds_calls ++ (step_where d.exceptions reports_exceptions ++ [])))))
 each_step d =
     step-where d.attempt reports_attempt _
     ∙ ap (λ l. step_where d.attempt reports_attempt ++ l) (step-where d.caught catches_error _
     ∙ ap (λ l. step_where d.caught catches_error ++ l) (step-where d.noproc raises_noproc _
     ∙ ap (λ l. step_where d.noproc raises_noproc ++ l) (step-where d.later reports_later _
-    ∙ ap (λ l. step_where d.later reports_later ++ l) (step-where d.calls adds_calls []))))
+    ∙ ap (λ l. step_where d.later reports_later ++ l) (step-where d.calls adds_calls _
+    ∙ ap (λ l. step_where d.calls adds_calls ++ l) (step-where d.exceptions reports_exceptions [])))))
 
 -- a line by the step has the text of any other difference
 pub same_text : (n : Name) (b : Bool) (x : Difference) → lines_text n (differs_where b x) ≡ lines_text n (step_where b x)
@@ -122,12 +123,13 @@ later-is s l (getting_unlinked p q) reported phase is = refl
 -- what is known before an event and what is known afterwards are all that a node does otherwise by the step
 pub all_known : (s : Session) (l : Outlook) (e : Event) (reported : Bool) (d f : StepDifferences) → s.phase ≡ live → reported ≡ is_some (event_reported s e).1 → AreBefore s l e d → AreAfterEvent l e reported d f → step_differences_seen f ≡ step_differences s l e
 all_known s l e reported d f phase is before after =
-    let last : Bool → Bool → List Difference = λ b q. one_before b reports_later (one_before q adds_calls []) in
-    ap (λ b. one_before b reports_attempt (one_before f.caught catches_error (one_before f.noproc raises_noproc (last f.later f.calls)))) (after.attempt ∙ before.attempt)
-    ∙ ap (λ b. one_before (step_differs s l e reports_attempt) reports_attempt (one_before b catches_error (one_before f.noproc raises_noproc (last f.later f.calls)))) (after.caught ∙ before.caught)
-    ∙ ap (λ b. one_before (step_differs s l e reports_attempt) reports_attempt (one_before (step_differs s l e catches_error) catches_error (one_before b raises_noproc (last f.later f.calls)))) (after.noproc ∙ before.noproc)
-    ∙ ap (λ b. one_before (step_differs s l e reports_attempt) reports_attempt (one_before (step_differs s l e catches_error) catches_error (one_before (step_differs s l e raises_noproc) raises_noproc (last b f.calls)))) (after.later ∙ later-is s l e reported phase is)
-    ∙ ap (λ b. one_before (step_differs s l e reports_attempt) reports_attempt (one_before (step_differs s l e catches_error) catches_error (one_before (step_differs s l e raises_noproc) raises_noproc (last (step_differs s l e reports_later) b)))) (after.calls ∙ before.calls)
+    let g : Difference → Bool = step_differs s l e in
+    ap (λ b. one_before b reports_attempt (one_before f.caught catches_error (one_before f.noproc raises_noproc (one_before f.later reports_later (one_before f.calls adds_calls (one_before f.exceptions reports_exceptions [])))))) (after.attempt ∙ before.attempt)
+    ∙ ap (λ b. one_before (g reports_attempt) reports_attempt (one_before b catches_error (one_before f.noproc raises_noproc (one_before f.later reports_later (one_before f.calls adds_calls (one_before f.exceptions reports_exceptions [])))))) (after.caught ∙ before.caught)
+    ∙ ap (λ b. one_before (g reports_attempt) reports_attempt (one_before (g catches_error) catches_error (one_before b raises_noproc (one_before f.later reports_later (one_before f.calls adds_calls (one_before f.exceptions reports_exceptions [])))))) (after.noproc ∙ before.noproc)
+    ∙ ap (λ b. one_before (g reports_attempt) reports_attempt (one_before (g catches_error) catches_error (one_before (g raises_noproc) raises_noproc (one_before b reports_later (one_before f.calls adds_calls (one_before f.exceptions reports_exceptions [])))))) (after.later ∙ later-is s l e reported phase is)
+    ∙ ap (λ b. one_before (g reports_attempt) reports_attempt (one_before (g catches_error) catches_error (one_before (g raises_noproc) raises_noproc (one_before (g reports_later) reports_later (one_before b adds_calls (one_before f.exceptions reports_exceptions [])))))) (after.calls ∙ before.calls)
+    ∙ ap (λ b. one_before (g reports_attempt) reports_attempt (one_before (g catches_error) catches_error (one_before (g raises_noproc) raises_noproc (one_before (g reports_later) reports_later (one_before (g adds_calls) adds_calls (one_before b reports_exceptions [])))))) (after.exceptions ∙ before.exceptions)
 
 -- a mapped option
 pub some-mapped : {X Y : Type 0} (f : X → Y) (o : Option X) → is_some (option_map f o) ≡ is_some o

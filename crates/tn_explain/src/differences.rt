@@ -3,7 +3,7 @@ ghost use Rattle.std.specs.Prelude.{◌≡◌, ◌++◌, ◌∷◌, [], OnOk, No
 ghost use Rattle.std.specs.Option.{option_map};
 ghost use Rattle.def_session.specs.Session.{is_marked_for_exceptions};
 ghost use Rattle.def_explain.specs.Accounts.{differs};
-ghost use Rattle.def_explain.specs.Differences.{event_difference, difference_where, has_mark_below};
+ghost use Rattle.def_explain.specs.Differences.{event_difference, difference_where};
 ghost use Rattle.tn_flags.specs.Views.{event_of};
 ghost use Rattle.tn_session.specs.Looks.{look_seen};
 ghost use Rattle.tn_text.specs.Writes.{Grows};
@@ -22,9 +22,6 @@ use tn_flags::{Event, Flags};
 use tn_session::{Kind, Look};
 use tn_spec::Dialect;
 
-/// The greatest depth of a frame.
-const FRAMES: usize = 64;
-
 /// The flags of a process before an event and after it.
 #[derive(Clone, Copy)]
 pub(crate) struct Change {
@@ -40,25 +37,13 @@ pub(crate) fn difference_where(holds: bool, difference: Difference) -> Option<Di
 }
 
 /// Whether the frame of this depth is marked for exceptions.
-fn is_for_exceptions<A: Allocator + Copy>(look: &Look<'_, A>, pid: u32, depth: usize) -> bool
+pub(crate) fn is_for_exceptions<A: Allocator + Copy>(look: &Look<'_, A>, pid: u32, depth: usize) -> bool
     ensures { result ≡ is_marked_for_exceptions (look_seen look.now) pid depth }
 {
     match look.mark_of(pid, depth) {
         Some(Kind::Exceptions) => true,
         Some(Kind::Returns) | None => false,
     }
-}
-
-/// Whether one of the first so many depths of a process is marked for exceptions.
-fn has_mark_below<A: Allocator + Copy>(look: &Look<'_, A>, pid: u32, depths: usize) -> bool
-    ensures { result ≡ has_mark_below (look_seen look.now) pid depths }
-{
-    for above in 0..depths {
-        if is_for_exceptions(look, pid, depths - 1 - above) {
-            return true;
-        }
-    }
-    false
 }
 
 /// What a node does otherwise at an event by which no process inherits flags.
@@ -79,10 +64,6 @@ pub(crate) fn end_difference<A: Allocator + Copy>(
             let flags = look.flags_at(*pid);
             let holds = is_for_exceptions(look, *pid, *depth) && flags.call && flags.silent;
             difference_where(holds, Difference::ReportsEnd)
-        }
-        Event::Exited { pid, .. } => {
-            let holds = look.flags_at(*pid).call && has_mark_below(look, *pid, FRAMES + 1);
-            difference_where(holds, Difference::ReportsExceptions)
         }
         _ => None,
     }

@@ -20,17 +20,13 @@ use tn_program::Program;
 use tn_spec::{Action, Clause, Dialect, Expr, Spec, SpecFault, spec_of};
 use tn_term::Term;
 
-/// Whether a process can be silent by an action, or have other flags, or a mark for exceptions.
+/// Whether a process can be silent by an action, or have other flags.
 fn can_differ_by(action: Action) -> bool
     ensures { result ≡ can_differ_by (action_of action) }
 {
     match action {
-        Action::ExceptionTrace
-        | Action::Silent
-        | Action::EnableTrace
-        | Action::DisableTrace
-        | Action::Trace => true,
-        Action::Message | Action::ReturnTrace | Action::Caller => false,
+        Action::Silent | Action::EnableTrace | Action::DisableTrace | Action::Trace => true,
+        Action::Message | Action::ReturnTrace | Action::ExceptionTrace | Action::Caller => false,
     }
 }
 

@@ -4,6 +4,7 @@ ghost use Rattle.std.specs.Option.{is_some, option_map};
 ghost use Rattle.def_explain.specs.Accounts.{differs_uncounted};
 ghost use Rattle.def_explain.specs.Differences.{is_traced, is_attempt_by, is_error_reason, step_differs};
 ghost use Rattle.def_explain.specs.Differences.{reports_attempt, catches_error, raises_noproc, adds_calls};
+ghost use Rattle.def_explain.specs.Differences.{reports_exceptions, has_marked_frame, has_mark_below};
 ghost use Rattle.def_term.specs.Alive.{is_alive};
 ghost use Rattle.tn_flags.specs.Views.{event_of};
 ghost use Rattle.tn_term.specs.Views.{tree_of};
@@ -16,6 +17,7 @@ ghost use Rattle.tn_explain.specs.LineParts.{step_where};
 ghost use Rattle.tn_explain.specs.Lines.{Adds};
 ghost use Rattle.tn_explain.specs.StepDifferences.{AreBefore, AreAfterEvent, is_reported_later, step_differences_seen};
 
+use crate::differences::is_for_exceptions;
 use crate::line::Lines;
 use std::alloc::{AllocError, Allocator};
 use tn_difference::Difference;
@@ -24,6 +26,9 @@ use tn_node::Outlook;
 use tn_process::RuntimeError;
 use tn_session::Look;
 use tn_term::Term;
+
+/// The greatest depth of a frame.
+const FRAMES: usize = 64;
 
 /// Whether a process has a flag.
 fn is_traced<A: Allocator + Copy>(look: &Look<'_, A>, pid: u32) -> bool
@@ -127,6 +132,40 @@ fn adds_calls<A: Allocator + Copy>(look: &Look<'_, A>, outlook: Outlook, event: 
     }
 }
 
+/// Whether one of the first so many depths of a process is marked for exceptions.
+fn has_mark_below<A: Allocator + Copy>(look: &Look<'_, A>, pid: u32, depths: usize) -> bool
+    ensures { result ≡ has_mark_below (look_seen look.now) pid depths }
+{
+    for above in 0..depths {
+        if is_for_exceptions(look, pid, depths - 1 - above) {
+            return true;
+        }
+    }
+    false
+}
+
+/// Whether a process that has the flag `call` has a frame that is marked for exceptions.
+fn has_marked_frame<A: Allocator + Copy>(look: &Look<'_, A>, pid: u32) -> bool
+    ensures { result ≡ has_marked_frame (look_seen look.now) pid }
+{
+    look.flags_at(pid).call && has_mark_below(look, pid, FRAMES + 1)
+}
+
+/// Whether a run-time error ends a process that has a call which is marked for exceptions.
+fn reports_exceptions<A: Allocator + Copy>(
+    look: &Look<'_, A>,
+    outlook: Outlook,
+    event: &Event<A>,
+) -> bool
+    ensures { result ≡
+        step_differs (look_seen look.now) (outlook_seen outlook) (event_of event.now) reports_exceptions }
+{
+    match event {
+        Event::Exited { pid, .. } => outlook.error.is_some() && has_marked_frame(look, *pid),
+        _ => false,
+    }
+}
+
 /// Whether a receive is reported whose process doesn't wait.
 fn is_reported_later<A: Allocator>(outlook: Outlook, event: &Event<A>, reported: bool) -> bool
     ensures { result ≡ is_reported_later (outlook_seen outlook) (event_of event.now) reported }
@@ -138,8 +177,8 @@ fn is_reported_later<A: Allocator>(outlook: Outlook, event: &Event<A>, reported:
 }
 
 /// What a node does otherwise by the step at an event: whether it reports the step before its error, whether a catch
-/// catches the error, whether the step of a link raises `noproc`, whether a receive is reported later, and whether the
-/// reason of the end has the list of calls.
+/// catches the error, whether the step of a link raises `noproc`, whether a receive is reported later, whether the
+/// reason of the end has the list of calls, and whether exceptions of calls are reported first.
 #[derive(Clone, Copy)]
 pub(crate) struct StepDifferences {
     pub attempt: bool,
@@ -147,6 +186,7 @@ pub(crate) struct StepDifferences {
     pub noproc: bool,
     pub later: bool,
     pub calls: bool,
+    pub exceptions: bool,
 }
 
 impl StepDifferences {
@@ -164,6 +204,7 @@ impl StepDifferences {
             noproc: raises_noproc(look, outlook, event),
             later: false,
             calls: adds_calls(look, outlook, event),
+            exceptions: reports_exceptions(look, outlook, event),
         }
     }
 
@@ -182,6 +223,7 @@ impl StepDifferences {
             noproc: self.noproc,
             later: is_reported_later(outlook, event, reported),
             calls: self.calls,
+            exceptions: self.exceptions,
         }
     }
 }
@@ -213,6 +255,7 @@ impl<A: Allocator + Copy> Lines<'_, A> {
         self.put_where_steps(steps.caught, Difference::CatchesError, out)?;
         self.put_where_steps(steps.noproc, Difference::RaisesNoproc, out)?;
         self.put_where_steps(steps.later, Difference::ReportsLater, out)?;
-        self.put_where_steps(steps.calls, Difference::AddsCalls, out)
+        self.put_where_steps(steps.calls, Difference::AddsCalls, out)?;
+        self.put_where_steps(steps.exceptions, Difference::ReportsExceptions, out)
     }
 }

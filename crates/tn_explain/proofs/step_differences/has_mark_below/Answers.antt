@@ -2,7 +2,7 @@ use Rattle.std.proofs.Common.{◌≡◌, ◌∙◌, ◌+◌, ◌-◌, suc, sym, 
 use Rattle.def_explain.specs.Differences.{has_mark_below}
 use Rattle.tn_session.specs.Looks.{look_seen}
 use Rattle.tn_explain.proofs.DifferenceLines.{mark_here, mark_not_here, no_mark_below}
-use Rattle.tn_explain.proofs.differences.has_mark_below.Goals as goal
+use Rattle.tn_explain.proofs.step_differences.has_mark_below.Goals as goal
 
 pub returns-then-is_for_exceptions : goal.returns-then-is_for_exceptions
 returns-then-is_for_exceptions g c =
