@@ -244,15 +244,9 @@ link_to_no_process = refl
 pub link_to_no_process_without_flag : step_differences (with_these no_flags) nothing_ahead (linked 100 163) ≡ []
 link_to_no_process_without_flag = refl
 
--- an exit signal with the reason `noproc`, with a flag and without; and one with the reason `boom`
-pub signal_of_an_error : step_differences (with_these (only send_flag)) nothing_ahead (exited 100 (word "noproc")) ≡ adds_calls ∷ []
+-- an exit signal with the reason `noproc`
+pub signal_of_an_error : step_differences (with_these (only send_flag)) nothing_ahead (exited 100 (word "noproc")) ≡ []
 signal_of_an_error = refl
-
-pub signal_of_an_error_without_flag : step_differences (with_these no_flags) nothing_ahead (exited 100 (word "noproc")) ≡ []
-signal_of_an_error_without_flag = refl
-
-pub signal_of_no_error : step_differences (with_these (only send_flag)) nothing_ahead (exited 100 (word "boom")) ≡ []
-signal_of_no_error = refl
 
 -- a receive while its process does something else; while it waits; and one that isn't reported
 abbrev a_receive : Event

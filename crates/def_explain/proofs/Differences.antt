@@ -11,12 +11,12 @@ use Rattle.def_spec.specs.Flags.{Flag, send_flag, receive_flag, call_flag, procs
 use Rattle.def_spec.specs.Expressions.{Dialect, for_calls, for_sends, for_receives, Expr, bound_to, whole_list, all_bound, constant, tuple_of, list_of, call, and_also, or_else, perform, Exprs, no_exprs, and_expr, Effect, flags_by, flags_after}
 use Rattle.def_node.specs.Process.{FRAMES}
 use Rattle.def_node.specs.Event.{sent, received, called, returned, raised, spawning, spawned, exited, linked, unlinked, getting_linked, getting_unlinked}
-use Rattle.def_outlook.specs.Outlook.{RuntimeError, calls_nothing, builds_past_limit, calls_past_limit, spawns_past_limit, sends_to_no_pid, links_to_no_pid, unlinks_from_no_pid, Outlook}
+use Rattle.def_outlook.specs.Outlook.{RuntimeError, Outlook}
 use Rattle.def_session.specs.State.{MarkKind, for_returns, for_exceptions, Session, flags_at, mark_of}
 use Rattle.def_session.specs.Session.{effects_of, reported_for, mark_asked, is_marked, is_for_exceptions, is_marked_for_exceptions}
 use Rattle.def_session.specs.Messages.{last_message}
 use Rattle.def_explain.specs.Causes.{is_false_message}
-use Rattle.def_explain.specs.Differences.{Difference, node_ends, finds_no_tracer, suppresses_message, leaves_no_mark, reports_end, reports_exceptions, clears_spawn_flags, evaluates_from_right, faults_in_logic, leaves_other_setting, takes_local_setting, catches_error, reports_attempt, raises_noproc, reports_later, adds_calls, HasFlags, attempt_flag, IsErrorReason, is_error_reason, StepDiffers, is_traced, has_that_flag, is_attempt_by, step_differs, CallsAction, OneCallsAction, TwoCallActions, ShowsOrder, OneShowsOrder, calls_action, one_calls_action, two_call_actions, shows_order, one_shows_order, HasNone, has_none, is_change, LosesLastFlag, loses_last_flag, ChangesWithoutFlags, changes_without_flags, is_of_sends, is_of_calls, has_mark_below, difference_where}
+use Rattle.def_explain.specs.Differences.{Difference, node_ends, finds_no_tracer, suppresses_message, leaves_no_mark, reports_end, reports_exceptions, clears_spawn_flags, evaluates_from_right, faults_in_logic, leaves_other_setting, takes_local_setting, catches_error, reports_attempt, raises_noproc, reports_later, adds_calls, HasFlags, attempt_flag, StepDiffers, is_traced, has_that_flag, is_attempt_by, step_differs, CallsAction, OneCallsAction, TwoCallActions, ShowsOrder, OneShowsOrder, calls_action, one_calls_action, two_call_actions, shows_order, one_shows_order, HasNone, has_none, is_change, LosesLastFlag, loses_last_flag, ChangesWithoutFlags, changes_without_flags, is_of_sends, is_of_calls, has_mark_below, difference_where}
 use Rattle.def_explain.specs.Laws.{BodyDifferenceIsComputed, OrderDifferenceIsComputed, EventDifferenceIsComputed, StepDifferenceIsComputed}
 
 -- ---- truth values
@@ -389,32 +389,6 @@ attempt-is : (s : Session) (p : ℕ) (o : Option RuntimeError) → is_attempt_by
 attempt-is s p None h = absurd (cc h)
 attempt-is s p (Some x) h = let f : (f : Flag) × (attempt_flag x ≡ Some f) × (flags_at s p f ≡ true) = that-flag-is s p (attempt_flag x) h in (x, f.0, refl, f.1, f.2)
 
--- the reason of an error
-error_reason_is : (r : Tree) → is_error_reason r ≡ true → IsErrorReason r
-error_reason_is r h = first (same r (word "undef")) refl
-  where
-    last : (b : Bool) → same r (word "badarg") ≡ b → (b || same r (word "noproc")) ≡ true → IsErrorReason r
-    last true e k = inl (sends_to_no_pid, same-is r (word "badarg") e)
-    last false e k = inr (same-is r (word "noproc") k)
-
-    second : (b : Bool) → same r (word "system_limit") ≡ b → (b || (same r (word "badarg") || same r (word "noproc"))) ≡ true → IsErrorReason r
-    second true e k = inl (builds_past_limit, same-is r (word "system_limit") e)
-    second false e k = last (same r (word "badarg")) refl k
-
-    first : (b : Bool) → same r (word "undef") ≡ b → IsErrorReason r
-    first true e = inl (calls_nothing, same-is r (word "undef") e)
-    first false e = second (same r (word "system_limit")) refl (sym (ap (λ b. b || (same r (word "system_limit") || (same r (word "badarg") || same r (word "noproc")))) e) ∙ h)
-
-error_reason_of : (r : Tree) → IsErrorReason r → is_error_reason r ≡ true
-error_reason_of r (inl (calls_nothing, e)) = ap is_error_reason e
-error_reason_of r (inl (builds_past_limit, e)) = ap is_error_reason e
-error_reason_of r (inl (calls_past_limit, e)) = ap is_error_reason e
-error_reason_of r (inl (spawns_past_limit, e)) = ap is_error_reason e
-error_reason_of r (inl (sends_to_no_pid, e)) = ap is_error_reason e
-error_reason_of r (inl (links_to_no_pid, e)) = ap is_error_reason e
-error_reason_of r (inl (unlinks_from_no_pid, e)) = ap is_error_reason e
-error_reason_of r (inr e) = ap is_error_reason e
-
 at-exit : (s : Session) (l : Outlook) (p : ℕ) (r : Tree) (x : Difference) → (step_differs s l (exited p r) x ≡ true) ↔ StepDiffers s l (exited p r) x
 at-exit s l p r reports_attempt = (
   attempt-is s p l.error,
@@ -446,8 +420,8 @@ at-exit s l p r leaves_other_setting = (λ h. absurd (cc h), λ h. absurd h)
 at-exit s l p r takes_local_setting = (λ h. absurd (cc h), λ h. absurd h)
 at-exit s l p r raises_noproc = (λ h. absurd (cc h), λ h. absurd h)
 at-exit s l p r adds_calls = (
-  λ h. let y : (is_traced s p ≡ true) × (is_error_reason r ≡ true) = and_parts (is_traced s p) _ h in (traced-is s p y.0, error_reason_is r y.1),
-  λ h. both_are _ _ (is-traced s p h.0) (error_reason_of r h.1),
+  λ h. let y : (is_traced s p ≡ true) × (is_some l.error ≡ true) = and_parts (is_traced s p) _ h in (traced-is s p y.0, some-is l.error y.1),
+  λ h. both_are _ _ (is-traced s p h.0) (ap is_some h.1.1),
 )
 at-exit s l p r reports_later = (λ h. absurd (cc h), λ h. absurd h)
 

@@ -6,7 +6,6 @@ use Rattle.std.specs.Option.{is_some}
 use Rattle.def_term.specs.Alive.{is_alive}
 use Rattle.def_term.specs.Tree.{Tree, pid}
 use Rattle.def_term.specs.Names.{word}
-use Rattle.def_term.specs.Order.{same}
 use Rattle.def_spec.specs.Flags.{Flag, Flags, no_flags, has_all, FlagTable, flags_in, send_flag, receive_flag, call_flag, procs_flag, silent_flag, set_on_spawn, set_on_first_spawn}
 use Rattle.def_spec.specs.Matching.{Bindings}
 use Rattle.def_spec.specs.Expressions.{Dialect, for_calls, for_sends, Expr, bound_to, whole_list, all_bound, constant, tuple_of, list_of, call, and_also, or_else, perform, Exprs, no_exprs, and_expr, Context, Effect, silences, changes, flags_by, flags_after}
@@ -14,7 +13,7 @@ use Rattle.def_node.specs.Process.{FRAMES}
 use Rattle.def_spec.specs.Outcome.{Clause}
 use Rattle.def_session.specs.Settings.{Setting, off, plain, by, setting_for}
 use Rattle.def_node.specs.Event.{Event, sent, received, called, returned, raised, exited, spawned, linked}
-use Rattle.def_outlook.specs.Outlook.{RuntimeError, error_reason, sends_to_no_pid, links_to_no_pid, unlinks_from_no_pid, Outlook}
+use Rattle.def_outlook.specs.Outlook.{RuntimeError, sends_to_no_pid, links_to_no_pid, unlinks_from_no_pid, Outlook}
 use Rattle.def_session.specs.State.{MarkKind, for_exceptions, Session, flags_at, mark_of}
 use Rattle.def_session.specs.Messages.{last_message}
 use Rattle.def_session.specs.Session.{inherit, context, effects_of, reported_for, mark_asked, is_marked, is_marked_for_exceptions}
@@ -35,7 +34,7 @@ use Rattle.def_explain.specs.Verdicts.{Verdict, fails, fires, verdict_of}
 -- the send, link or unlink of what is no pid is reported before its error;
 -- the error `noproc` is raised in the step of the link;
 -- the receive is reported when the process next looks at its mailbox;
--- the reason of an error has the list of calls;
+-- the reason of a run-time error that ends the process has the list of calls;
 -- logic on what is no boolean is a fault, but the last argument of `andalso` and `orelse` is their value;
 -- a function keeps its setting of the other kind;
 -- a function that isn't exported loses its local setting
@@ -209,19 +208,11 @@ IsLinkToNoProcess s p other = HasFlags s p × (is_alive s.alive other ≡ false)
 abbrev pub IsReportedEarly : Session → Outlook → Event → Type 0
 IsReportedEarly s l e = (l.is_awaited ≡ false) × ((m : Tree) × ((reported_for s e (effects_of s e)).1 ≡ Some m))
 
--- the reason of a run-time error, or of a link to a process that isn't alive
-abbrev pub IsErrorReason : Tree → Type 0
-IsErrorReason r = ((x : RuntimeError) × (r ≡ error_reason x)) ⊎ (r ≡ word "noproc")
-
--- a process that has a flag ends with such a reason, by its own step or by an exit signal
-abbrev pub EndsWithErrorReason : Session → (p : ℕ) → Tree → Type 0
-EndsWithErrorReason s p r = HasFlags s p × IsErrorReason r
-
 -- a node does this otherwise by the step at this event of a session in this state
 abbrev pub StepDiffers : Session → Outlook → Event → Difference → Type 0
 StepDiffers s l (exited p r) reports_attempt = IsAttempt s l p
 StepDiffers s l (exited p r) catches_error = IsCaughtError s l p
-StepDiffers s l (exited p r) adds_calls = EndsWithErrorReason s p r
+StepDiffers s l (exited p r) adds_calls = HasFlags s p × HasError l
 StepDiffers s l (exited p r) reports_exceptions = HasError l × HasMarkedFrame s p
 StepDiffers s l (linked p other) raises_noproc = IsLinkToNoProcess s p other
 StepDiffers s l (received p sender t) reports_later = IsReportedEarly s l (received p sender t)
@@ -381,10 +372,6 @@ is_attempt_by s p (Some x) = has_that_flag s p (attempt_flag x)
 abbrev pub is_reported_early : Outlook → Option Tree → Bool
 is_reported_early l m = not l.is_awaited && is_some m
 
--- it is the reason of such an error
-abbrev pub is_error_reason : Tree → Bool
-is_error_reason r = same r (word "undef") || (same r (word "system_limit") || (same r (word "badarg") || same r (word "noproc")))
-
 -- it has `call`, and a frame that is marked for exceptions
 abbrev pub has_marked_frame : Session → (p : ℕ) → Bool
 has_marked_frame s p = flags_at s p call_flag && has_mark_below s p (suc FRAMES)
@@ -393,7 +380,7 @@ has_marked_frame s p = flags_at s p call_flag && has_mark_below s p (suc FRAMES)
 abbrev pub step_differs : Session → Outlook → Event → Difference → Bool
 step_differs s l (exited p r) reports_attempt = is_attempt_by s p l.error
 step_differs s l (exited p r) catches_error = is_traced s p && (is_some l.error && is_some l.caught_at)
-step_differs s l (exited p r) adds_calls = is_traced s p && is_error_reason r
+step_differs s l (exited p r) adds_calls = is_traced s p && is_some l.error
 step_differs s l (exited p r) reports_exceptions = is_some l.error && has_marked_frame s p
 step_differs s l (linked p other) raises_noproc = is_traced s p && not (is_alive s.alive other)
 step_differs s l (received p sender t) reports_later = is_reported_early l (reported_for s (received p sender t) (effects_of s (received p sender t))).1
@@ -419,7 +406,7 @@ difference_text catches_error = codes "the end is by an error, which a catch cat
 difference_text reports_attempt = codes "the send, link or unlink is reported first, as one to a pid is"
 difference_text raises_noproc = codes "noproc is raised in this step"
 difference_text reports_later = codes "reported when the process next looks at its mailbox"
-difference_text adds_calls = codes "the reason has the list of calls, if it is that of an error"
+difference_text adds_calls = codes "the reason has the list of calls"
 difference_text faults_in_logic = codes "logic on what is no boolean is a fault, but the last argument of andalso or orelse is its value"
 difference_text leaves_other_setting = codes "a function has a setting of the other kind, which stays"
 difference_text takes_local_setting = codes "a function that isn't exported loses its local setting"

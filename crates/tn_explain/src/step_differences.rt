@@ -2,12 +2,11 @@
 ghost use Rattle.std.specs.Prelude.{◌≡◌, ◌∷◌, [], ◌&&◌, not, OnOk, None, map};
 ghost use Rattle.std.specs.Option.{is_some, option_map};
 ghost use Rattle.def_explain.specs.Accounts.{differs_uncounted};
-ghost use Rattle.def_explain.specs.Differences.{is_traced, is_attempt_by, is_error_reason, step_differs};
+ghost use Rattle.def_explain.specs.Differences.{is_traced, is_attempt_by, step_differs};
 ghost use Rattle.def_explain.specs.Differences.{reports_attempt, catches_error, raises_noproc, adds_calls};
 ghost use Rattle.def_explain.specs.Differences.{reports_exceptions, has_marked_frame, has_mark_below};
 ghost use Rattle.def_term.specs.Alive.{is_alive};
 ghost use Rattle.tn_flags.specs.Views.{event_of};
-ghost use Rattle.tn_term.specs.Views.{tree_of};
 ghost use Rattle.tn_process.specs.Outlooks.{error_seen};
 ghost use Rattle.tn_node.specs.Outlooks.{outlook_seen};
 ghost use Rattle.tn_session.specs.Looks.{look_seen};
@@ -25,7 +24,6 @@ use tn_flags::{Event, Flags};
 use tn_node::Outlook;
 use tn_process::RuntimeError;
 use tn_session::Look;
-use tn_term::Term;
 
 /// The greatest depth of a frame.
 const FRAMES: usize = 64;
@@ -111,23 +109,13 @@ fn is_caught<A: Allocator + Copy>(look: &Look<'_, A>, outlook: Outlook, event: &
     }
 }
 
-/// Whether it is the reason of a run-time error, or of a link to a process that isn't alive.
-fn is_error_reason<A: Allocator>(reason: &Term<A>) -> bool
-    ensures { result ≡ is_error_reason (tree_of reason.now) }
-{
-    reason.is_word("undef")
-        || reason.is_word("system_limit")
-        || reason.is_word("badarg")
-        || reason.is_word("noproc")
-}
-
-/// Whether a process that has a flag ends with the reason of an error.
+/// Whether a run-time error ends a process that has a flag.
 fn adds_calls<A: Allocator + Copy>(look: &Look<'_, A>, outlook: Outlook, event: &Event<A>) -> bool
     ensures { result ≡
         step_differs (look_seen look.now) (outlook_seen outlook) (event_of event.now) adds_calls }
 {
     match event {
-        Event::Exited { pid, reason } => is_traced(look, *pid) && is_error_reason(reason),
+        Event::Exited { pid, .. } => is_traced(look, *pid) && outlook.error.is_some(),
         _ => false,
     }
 }
