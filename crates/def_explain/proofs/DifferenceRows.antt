@@ -10,7 +10,7 @@ use Rattle.def_outlook.specs.Outlook.{RuntimeError, calls_past_limit, sends_to_n
 use Rattle.def_session.specs.Settings.{off}
 use Rattle.def_node.specs.Event.{Event, received, returned, raised, spawned, exited, linked, getting_linked}
 use Rattle.def_session.specs.State.{for_returns, for_exceptions, live, new_session, alive_at_start, Session, MarkKind, with_flags, with_marks}
-use Rattle.def_explain.specs.Differences.{Difference, node_ends, finds_no_tracer, suppresses_message, leaves_no_mark, reports_end, reports_exceptions, clears_spawn_flags, evaluates_from_right, catches_error, reports_attempt, raises_noproc, reports_later, adds_calls, order_difference, body_differences, event_difference, step_differences, has_mark_below}
+use Rattle.def_explain.specs.Differences.{Difference, node_ends, finds_no_tracer, suppresses_message, leaves_no_mark, reports_end, reports_exceptions, inherits_alone, evaluates_from_right, catches_error, reports_attempt, raises_noproc, reports_later, adds_calls, order_difference, body_differences, event_difference, step_differences, has_mark_below}
 
 -- ---- bodies, in the process 100
 
@@ -167,15 +167,24 @@ silent_exception = refl
 pub exception_of_returns : event_difference (marked for_returns (with_these (and call_flag silent_flag))) exception ≡ None
 exception_of_returns = refl
 
--- the first spawn where new processes have `set_on_spawn`; where they don't; and a later spawn
-pub first_spawn : event_difference (record (with_these (and procs_flag set_on_first_spawn)) { new_process_flags = only set_on_spawn }) (spawned 101 100 function []) ≡ Some clears_spawn_flags
+-- a spawn where new processes have another flag than the parent hands on; where they have the same; by a parent with both flags for spawns; and where the parent hands on nothing
+abbrev new_with : (parent new : Flags) → Session
+new_with parent new = record (with_these parent) { new_process_flags = new }
+
+pub first_spawn : event_difference (new_with (and procs_flag set_on_first_spawn) (only send_flag)) (spawned 101 100 function []) ≡ Some inherits_alone
 first_spawn = refl
 
-pub first_spawn_of_a_plain_child : event_difference (with_these (and procs_flag set_on_first_spawn)) (spawned 101 100 function []) ≡ None
-first_spawn_of_a_plain_child = refl
+pub every_spawn : event_difference (new_with (only set_on_spawn) (only procs_flag)) (spawned 101 100 function []) ≡ Some inherits_alone
+every_spawn = refl
 
-pub later_spawn : event_difference (record (with_these (and procs_flag set_on_spawn)) { new_process_flags = only set_on_spawn }) (spawned 101 100 function []) ≡ None
-later_spawn = refl
+pub spawn_with_the_same_flag : event_difference (new_with (and procs_flag set_on_first_spawn) (only procs_flag)) (spawned 101 100 function []) ≡ None
+spawn_with_the_same_flag = refl
+
+pub spawn_with_its_own_flag : event_difference (new_with (and procs_flag set_on_first_spawn) (only set_on_first_spawn)) (spawned 101 100 function []) ≡ Some inherits_alone
+spawn_with_its_own_flag = refl
+
+pub spawn_that_hands_on_nothing : event_difference (new_with (only procs_flag) (only send_flag)) (spawned 101 100 function []) ≡ None
+spawn_that_hands_on_nothing = refl
 
 -- a link that hands on flags
 pub link_that_gives_flags : event_difference (with_these (and procs_flag set_on_link)) (getting_linked 101 100) ≡ None

@@ -1,22 +1,22 @@
 -- What a node does otherwise is what is computed.
-use Rattle.std.proofs.Common.{◌≡◌, ◌≢◌, ◌↔◌, ◌⊎◌, inl, inr, ◌<◌, ℕ, zero, suc, arith, Bool, true, false, not, ◌&&◌, ◌||◌, List, [], ◌∷◌, ◌++◌, Option, Some, None, refl, sym, ap, subst, ◌∙◌}
+use Rattle.std.proofs.Common.{◌≡◌, ◌≢◌, ◌↔◌, ◌⊎◌, inl, inr, ◌<◌, ℕ, zero, suc, arith, Bool, true, false, not, ◌&&◌, ◌||◌, List, [], ◌∷◌, ◌++◌, Option, Some, None, refl, sym, ap, ap₂, subst, ◌∙◌}
 use Rattle.std.specs.Option.{is_some}
-use Rattle.std.proofs.lemmas.Bool.{and_parts}
+use Rattle.std.proofs.lemmas.Bool.{and_parts, and_left, and_right}
 use Rattle.def_term.specs.Alive.{is_alive}
 use Rattle.def_term.specs.Tree.{Tree}
 use Rattle.def_term.specs.Order.{same}
 use Rattle.def_term.specs.Names.{word}
 use Rattle.def_term.proofs.Same.{same-is, same-self}
-use Rattle.def_spec.specs.Flags.{Flag, send_flag, receive_flag, call_flag, procs_flag, silent_flag, arity_flag, set_on_spawn, set_on_first_spawn, set_on_link, set_on_first_link, Flags, FlagTable, flags_in}
+use Rattle.def_spec.specs.Flags.{Flag, send_flag, receive_flag, call_flag, procs_flag, silent_flag, arity_flag, set_on_spawn, set_on_first_spawn, set_on_link, set_on_first_link, Flags, has_all, FlagTable, flags_in}
 use Rattle.def_spec.specs.Expressions.{Dialect, for_calls, for_sends, for_receives, Expr, bound_to, whole_list, all_bound, constant, tuple_of, list_of, call, and_also, or_else, perform, Exprs, no_exprs, and_expr, Effect, flags_by, flags_after}
 use Rattle.def_node.specs.Process.{FRAMES}
 use Rattle.def_node.specs.Event.{sent, received, called, returned, raised, spawning, spawned, exited, linked, unlinked, getting_linked, getting_unlinked}
 use Rattle.def_outlook.specs.Outlook.{RuntimeError, Outlook}
 use Rattle.def_session.specs.State.{MarkKind, for_returns, for_exceptions, Session, flags_at, mark_of}
-use Rattle.def_session.specs.Session.{effects_of, reported_for, mark_asked, is_marked, is_for_exceptions, is_marked_for_exceptions}
+use Rattle.def_session.specs.Session.{inherit, effects_of, reported_for, mark_asked, is_marked, is_for_exceptions, is_marked_for_exceptions}
 use Rattle.def_session.specs.Messages.{last_message}
 use Rattle.def_explain.specs.Causes.{is_false_message}
-use Rattle.def_explain.specs.Differences.{Difference, node_ends, finds_no_tracer, suppresses_message, leaves_no_mark, reports_end, reports_exceptions, clears_spawn_flags, evaluates_from_right, faults_in_logic, leaves_other_setting, takes_local_setting, catches_error, reports_attempt, raises_noproc, reports_later, adds_calls, HasFlags, attempt_flag, StepDiffers, is_traced, has_that_flag, is_attempt_by, step_differs, CallsAction, OneCallsAction, TwoCallActions, ShowsOrder, OneShowsOrder, calls_action, one_calls_action, two_call_actions, shows_order, one_shows_order, HasNone, has_none, is_change, LosesLastFlag, loses_last_flag, ChangesWithoutFlags, changes_without_flags, is_of_sends, is_of_calls, has_mark_below, difference_where}
+use Rattle.def_explain.specs.Differences.{Difference, node_ends, finds_no_tracer, suppresses_message, leaves_no_mark, reports_end, reports_exceptions, inherits_alone, evaluates_from_right, faults_in_logic, leaves_other_setting, takes_local_setting, catches_error, reports_attempt, raises_noproc, reports_later, adds_calls, HasFlags, attempt_flag, StepDiffers, is_traced, has_that_flag, is_attempt_by, step_differs, CallsAction, OneCallsAction, TwoCallActions, ShowsOrder, OneShowsOrder, calls_action, one_calls_action, two_call_actions, shows_order, one_shows_order, HasNone, has_none, hands_on, handed_on, HasOther, has_other, is_change, LosesLastFlag, loses_last_flag, ChangesWithoutFlags, changes_without_flags, is_of_sends, is_of_calls, has_mark_below, difference_where}
 use Rattle.def_explain.specs.Laws.{BodyDifferenceIsComputed, OrderDifferenceIsComputed, EventDifferenceIsComputed, StepDifferenceIsComputed}
 
 -- ---- truth values
@@ -71,6 +71,47 @@ set-none : (f : Flags) → HasNone f → has_none f ≡ true
 set-none f h =
     let n : (x : Flag) → not (f x) ≡ true = λ x. is_not (f x) (h x) in
     both_are _ _ (n send_flag) (both_are _ _ (n receive_flag) (both_are _ _ (n call_flag) (both_are _ _ (n procs_flag) (both_are _ _ (n silent_flag) (both_are _ _ (n arity_flag) (both_are _ _ (n set_on_spawn) (both_are _ _ (n set_on_first_spawn) (both_are _ _ (n set_on_link) (n set_on_first_link)))))))))
+
+-- ---- a flag of a set that isn't one of another
+
+lacks : (a b : Bool) → (a || not b) ≡ false → (b ≡ true) × (a ≡ false)
+lacks true b h = absurd (cc h)
+lacks false true h = (refl, refl)
+lacks false false h = absurd (cc h)
+
+and-fails : (a b : Bool) {P : Type 0} → (a ≡ false → P) → (b ≡ false → P) → (a && b) ≡ false → P
+and-fails true b p q h = q h
+and-fails false b p q h = p refl
+
+other-is : (f g : Flags) → has_other f g ≡ true → HasOther f g
+other-is f g h = rest (not_is _ h)
+  where
+    one : (x : Flag) → (g x || not (f x)) ≡ false → HasOther f g
+    one x e = let l : (f x ≡ true) × (g x ≡ false) = lacks (g x) (f x) e in (x, l.0, l.1)
+
+    last : (g arity_flag || not (f arity_flag)) && ((g set_on_spawn || not (f set_on_spawn)) && ((g set_on_first_spawn || not (f set_on_first_spawn)) && ((g set_on_link || not (f set_on_link)) && (g set_on_first_link || not (f set_on_first_link))))) ≡ false → HasOther f g
+    last = and-fails _ _ (one arity_flag) (and-fails _ _ (one set_on_spawn) (and-fails _ _ (one set_on_first_spawn) (and-fails _ _ (one set_on_link) (one set_on_first_link))))
+
+    rest : has_all g f ≡ false → HasOther f g
+    rest = and-fails _ _ (one send_flag) (and-fails _ _ (one receive_flag) (and-fails _ _ (one call_flag) (and-fails _ _ (one procs_flag) (and-fails _ _ (one silent_flag) last))))
+
+is-other : (f g : Flags) → HasOther f g → has_other f g ≡ true
+is-other f g h = ap not (go h.0 (ap₂ (λ a b. a || not b) h.2 h.1))
+  where
+    n : Flag → Bool
+    n x = g x || not (f x)
+
+    go : (x : Flag) → (g x || not (f x)) ≡ false → has_all g f ≡ false
+    go send_flag e = and_left (n send_flag) _ e
+    go receive_flag e = and_right (n send_flag) _ (and_left (n receive_flag) _ e)
+    go call_flag e = and_right (n send_flag) _ (and_right (n receive_flag) _ (and_left (n call_flag) _ e))
+    go procs_flag e = and_right (n send_flag) _ (and_right (n receive_flag) _ (and_right (n call_flag) _ (and_left (n procs_flag) _ e)))
+    go silent_flag e = and_right (n send_flag) _ (and_right (n receive_flag) _ (and_right (n call_flag) _ (and_right (n procs_flag) _ (and_left (n silent_flag) _ e))))
+    go arity_flag e = and_right (n send_flag) _ (and_right (n receive_flag) _ (and_right (n call_flag) _ (and_right (n procs_flag) _ (and_right (n silent_flag) _ (and_left (n arity_flag) _ e)))))
+    go set_on_spawn e = and_right (n send_flag) _ (and_right (n receive_flag) _ (and_right (n call_flag) _ (and_right (n procs_flag) _ (and_right (n silent_flag) _ (and_right (n arity_flag) _ (and_left (n set_on_spawn) _ e))))))
+    go set_on_first_spawn e = and_right (n send_flag) _ (and_right (n receive_flag) _ (and_right (n call_flag) _ (and_right (n procs_flag) _ (and_right (n silent_flag) _ (and_right (n arity_flag) _ (and_right (n set_on_spawn) _ (and_left (n set_on_first_spawn) _ e)))))))
+    go set_on_link e = and_right (n send_flag) _ (and_right (n receive_flag) _ (and_right (n call_flag) _ (and_right (n procs_flag) _ (and_right (n silent_flag) _ (and_right (n arity_flag) _ (and_right (n set_on_spawn) _ (and_right (n set_on_first_spawn) _ (and_left (n set_on_link) _ e))))))))
+    go set_on_first_link e = and_right (n send_flag) _ (and_right (n receive_flag) _ (and_right (n call_flag) _ (and_right (n procs_flag) _ (and_right (n silent_flag) _ (and_right (n arity_flag) _ (and_right (n set_on_spawn) _ (and_right (n set_on_first_spawn) _ (and_right (n set_on_link) _ e))))))))
 
 -- ---- effects one after another
 
@@ -193,7 +234,7 @@ body_difference_is_computed d c es leaves_no_mark = (
 )
 body_difference_is_computed d c es reports_end = (λ h. absurd (cc h), λ h. absurd h)
 body_difference_is_computed d c es reports_exceptions = (λ h. absurd (cc h), λ h. absurd h)
-body_difference_is_computed d c es clears_spawn_flags = (λ h. absurd (cc h), λ h. absurd h)
+body_difference_is_computed d c es inherits_alone = (λ h. absurd (cc h), λ h. absurd h)
 body_difference_is_computed d c es evaluates_from_right = (λ h. absurd (cc h), λ h. absurd h)
 body_difference_is_computed d c es faults_in_logic = (λ h. absurd (cc h), λ h. absurd h)
 body_difference_is_computed d c es leaves_other_setting = (λ h. absurd (cc h), λ h. absurd h)
@@ -349,7 +390,12 @@ event_difference_is_computed s (raised p f c t depth) x =
       λ h. three_are _ _ _ (ap is_for_exceptions h.0) h.1 h.2,
     )
 event_difference_is_computed s (spawned child parent f args) x =
-    where-holds _ clears_spawn_flags x _ (λ h. and_parts (flags_at s parent set_on_first_spawn) _ h, λ h. both_are _ _ h.0 h.1)
+    where-holds _ inherits_alone x _ (
+      λ h.
+          let y : (hands_on (flags_at s parent) ≡ true) × (has_other (flags_at (inherit s (spawned child parent f args)) child) (handed_on (flags_at s parent)) ≡ true) = and_parts (hands_on (flags_at s parent)) _ h in
+          (y.0, other-is _ (handed_on (flags_at s parent)) y.1),
+      λ h. both_are _ _ h.0 (is-other _ (handed_on (flags_at s parent)) h.1),
+    )
 event_difference_is_computed s (sent p t to alive) x = (λ h. absurd (cc h), λ h. absurd h)
 event_difference_is_computed s (received p sender t) x = (λ h. absurd (cc h), λ h. absurd h)
 event_difference_is_computed s (called p c) x = (λ h. absurd (cc h), λ h. absurd h)
@@ -413,7 +459,7 @@ at-exit s l p r reports_exceptions = (
       (some-is l.error y.0, (y.1, (m.0, omega (arith, m.1), m.2))),
   λ h. three_are _ _ _ (ap is_some h.0.1) h.1.0 (below-mark s p (suc FRAMES) h.1.1.0 (omega (arith, h.1.1.1)) h.1.1.2),
 )
-at-exit s l p r clears_spawn_flags = (λ h. absurd (cc h), λ h. absurd h)
+at-exit s l p r inherits_alone = (λ h. absurd (cc h), λ h. absurd h)
 at-exit s l p r evaluates_from_right = (λ h. absurd (cc h), λ h. absurd h)
 at-exit s l p r faults_in_logic = (λ h. absurd (cc h), λ h. absurd h)
 at-exit s l p r leaves_other_setting = (λ h. absurd (cc h), λ h. absurd h)
@@ -436,7 +482,7 @@ at-link s l p other suppresses_message = (λ h. absurd (cc h), λ h. absurd h)
 at-link s l p other leaves_no_mark = (λ h. absurd (cc h), λ h. absurd h)
 at-link s l p other reports_end = (λ h. absurd (cc h), λ h. absurd h)
 at-link s l p other reports_exceptions = (λ h. absurd (cc h), λ h. absurd h)
-at-link s l p other clears_spawn_flags = (λ h. absurd (cc h), λ h. absurd h)
+at-link s l p other inherits_alone = (λ h. absurd (cc h), λ h. absurd h)
 at-link s l p other evaluates_from_right = (λ h. absurd (cc h), λ h. absurd h)
 at-link s l p other faults_in_logic = (λ h. absurd (cc h), λ h. absurd h)
 at-link s l p other leaves_other_setting = (λ h. absurd (cc h), λ h. absurd h)
@@ -459,7 +505,7 @@ at-receive s l p sender t suppresses_message = (λ h. absurd (cc h), λ h. absur
 at-receive s l p sender t leaves_no_mark = (λ h. absurd (cc h), λ h. absurd h)
 at-receive s l p sender t reports_end = (λ h. absurd (cc h), λ h. absurd h)
 at-receive s l p sender t reports_exceptions = (λ h. absurd (cc h), λ h. absurd h)
-at-receive s l p sender t clears_spawn_flags = (λ h. absurd (cc h), λ h. absurd h)
+at-receive s l p sender t inherits_alone = (λ h. absurd (cc h), λ h. absurd h)
 at-receive s l p sender t evaluates_from_right = (λ h. absurd (cc h), λ h. absurd h)
 at-receive s l p sender t faults_in_logic = (λ h. absurd (cc h), λ h. absurd h)
 at-receive s l p sender t leaves_other_setting = (λ h. absurd (cc h), λ h. absurd h)

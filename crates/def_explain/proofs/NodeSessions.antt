@@ -18,7 +18,7 @@ use Rattle.def_session.specs.State.{Phase, absent, live, destroyed, MarkKind, fo
 use Rattle.def_session.specs.Messages.{process_of}
 use Rattle.def_session.specs.Session.{with_both, inherit, context, is_marked, is_for_exceptions, is_marked_for_exceptions, effects_of, where_marked, all_affected, mark_asked, mark_frame, unmark_frame, finish, reported_for, reported_in, event_reported}
 use Rattle.def_session.specs.Commands.{Procs, one_process, existing, new_processes, all_processes, procs_of, how_of, changed_flags, all_changed, existing_changed, new_changed, number_term, refuse, flags_set, flags_set_if, function_set, function_set_if, send_set, receive_set, done_live, done_absent, done_destroyed, done_in, command_done}
-use Rattle.def_explain.specs.Differences.{Difference, reports_end, clears_spawn_flags, difference_where, differences_if, setting_differences, evaluation_differences, event_difference}
+use Rattle.def_explain.specs.Differences.{Difference, reports_end, inherits_alone, hands_on, difference_where, differences_if, setting_differences, evaluation_differences, event_difference}
 use Rattle.def_explain.specs.Accounts.{differences_in_lines, event_lines_in, event_lines}
 use Rattle.def_explain.specs.NodeCommands.{setting_can_differ, read_can_differ, flags_can_differ, listed_can_differ, command_can_differ}
 use Rattle.def_explain.proofs.DifferenceLines.{lines_tell_the_difference}
@@ -365,7 +365,9 @@ no-silent-end s p m h = and_right m _ (and_right (flags_at s p call_flag) _ (fla
 no-event-difference : (s : Session) (e : Event) → IsPlain s → event_difference s e ≡ None
 no-event-difference s (returned p f t depth) h = not-where _ reports_end (no-silent-end s p (is_marked s p depth) h)
 no-event-difference s (raised p f c t depth) h = not-where _ reports_end (no-silent-end s p (is_marked_for_exceptions s p depth) h)
-no-event-difference s (spawned child parent f args) h = not-where _ clears_spawn_flags (and_left (flags_at s parent set_on_first_spawn) _ (flags-of s parent h set_on_first_spawn refl))
+no-event-difference s (spawned child parent f args) h =
+    let own : HasPlainFlags (flags_at s parent) = flags-of s parent h in
+    not-where _ inherits_alone (and_left (hands_on (flags_at s parent)) _ (or_from (flags_at s parent set_on_spawn) _ (own set_on_spawn refl) (own set_on_first_spawn refl)))
 no-event-difference s (getting_linked p linker) h = refl
 no-event-difference s (sent p t to alive) h = refl
 no-event-difference s (received p sender t) h = refl

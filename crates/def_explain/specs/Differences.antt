@@ -6,7 +6,7 @@ use Rattle.std.specs.Option.{is_some}
 use Rattle.def_term.specs.Alive.{is_alive}
 use Rattle.def_term.specs.Tree.{Tree, pid}
 use Rattle.def_term.specs.Names.{word}
-use Rattle.def_spec.specs.Flags.{Flag, Flags, no_flags, has_all, FlagTable, flags_in, send_flag, receive_flag, call_flag, procs_flag, silent_flag, set_on_spawn, set_on_first_spawn}
+use Rattle.def_spec.specs.Flags.{Flag, Flags, no_flags, has_all, FlagTable, flags_in, send_flag, receive_flag, call_flag, procs_flag, silent_flag, set_on_spawn, set_on_first_spawn, given_and_kept}
 use Rattle.def_spec.specs.Matching.{Bindings}
 use Rattle.def_spec.specs.Expressions.{Dialect, for_calls, for_sends, Expr, bound_to, whole_list, all_bound, constant, tuple_of, list_of, call, and_also, or_else, perform, Exprs, no_exprs, and_expr, Context, Effect, silences, changes, flags_by, flags_after}
 use Rattle.def_node.specs.Process.{FRAMES}
@@ -28,7 +28,7 @@ use Rattle.def_explain.specs.Verdicts.{Verdict, fails, fires, verdict_of}
 -- a call that is silent gets no mark;
 -- the return or the exception is reported unless `silent` was set at the call;
 -- each call that is marked for exceptions has `exception_from` before the end by a run-time error;
--- the first spawn clears both flags for spawns of the child;
+-- a child that inherits flags has those alone, and none of the flags for new processes;
 -- the arguments of a call and the elements of a tuple are evaluated from the right;
 -- a catch step called one of the frames, and its catch catches the run-time error that ends the process here;
 -- the send, link or unlink of what is no pid is reported before its error;
@@ -45,7 +45,7 @@ pub data Difference : Type 0 where
   leaves_no_mark : Difference
   reports_end : Difference
   reports_exceptions : Difference
-  clears_spawn_flags : Difference
+  inherits_alone : Difference
   evaluates_from_right : Difference
   catches_error : Difference
   reports_attempt : Difference
@@ -156,19 +156,27 @@ abbrev mutual
 abbrev pub IsSilentEnd : Session → Event → (p : ℕ) → Type 0
 IsSilentEnd s e p = IsOfMarked s e × (flags_at s p call_flag ≡ true) × (flags_at s p silent_flag ≡ true)
 
--- it has a flag for spawns
-abbrev pub has_spawn_flag : Flags → Bool
-has_spawn_flag f = f set_on_spawn || f set_on_first_spawn
+-- a process with these flags hands on flags at a spawn
+abbrev pub hands_on : Flags → Bool
+hands_on f = f set_on_spawn || f set_on_first_spawn
 
--- the first spawn of the parent leaves the child a flag for spawns
-abbrev pub IsFirstSpawn : Session → Event → (parent child : ℕ) → Type 0
-IsFirstSpawn s e parent child = (flags_at s parent set_on_first_spawn ≡ true) × (has_spawn_flag (flags_at (inherit s e) child) ≡ true)
+-- those that it hands on
+abbrev pub handed_on : Flags → Flags
+handed_on f = (given_and_kept set_on_spawn set_on_first_spawn f).0
+
+-- a flag of these isn't one of those
+abbrev pub HasOther : (these those : Flags) → Type 0
+HasOther these those = (x : Flag) × (these x ≡ true) × (those x ≡ false)
+
+-- the parent hands on flags, and the child has others too
+abbrev pub InheritsMore : Session → Event → (parent child : ℕ) → Type 0
+InheritsMore s e parent child = (hands_on (flags_at s parent) ≡ true) × HasOther (flags_at (inherit s e) child) (handed_on (flags_at s parent))
 
 -- a node does this otherwise at this event of a session in this state
 abbrev pub EventDiffers : Session → Event → Difference → Type 0
 EventDiffers s (returned p f t depth) x = (x ≡ reports_end) × IsSilentEnd s (returned p f t depth) p
 EventDiffers s (raised p f c t depth) x = (x ≡ reports_end) × IsSilentEnd s (raised p f c t depth) p
-EventDiffers s (spawned child parent f args) x = (x ≡ clears_spawn_flags) × IsFirstSpawn s (spawned child parent f args) parent child
+EventDiffers s (spawned child parent f args) x = (x ≡ inherits_alone) × InheritsMore s (spawned child parent f args) parent child
 EventDiffers s e x = ⊥
 
 -- ---- an event by a step of which this was known before it
@@ -341,12 +349,19 @@ evaluation_differences s (received p sender t) = differences_if (flags_at s p re
 evaluation_differences s (called p c) = differences_if (flags_at s p call_flag) (setting_differences (setting_for s.functions c) (context s p c.args c.caller))
 evaluation_differences s e = []
 
+-- a flag of these isn't one of those
+abbrev pub has_other : (these those : Flags) → Bool
+has_other these those = not (has_all those these)
+
+-- a parent with these flags hands on flags, and its child has others too
+abbrev pub inherits_more : (parent child : Flags) → Bool
+inherits_more parent child = hands_on parent && has_other child (handed_on parent)
+
 -- what a node does otherwise at an event without a body
 abbrev pub event_difference : Session → Event → Option Difference
 event_difference s (returned p f t depth) = difference_where (is_marked s p depth && (flags_at s p call_flag && flags_at s p silent_flag)) reports_end
 event_difference s (raised p f c t depth) = difference_where (is_marked_for_exceptions s p depth && (flags_at s p call_flag && flags_at s p silent_flag)) reports_end
-event_difference s (spawned child parent f args) =
-    difference_where (flags_at s parent set_on_first_spawn && has_spawn_flag (flags_at (inherit s (spawned child parent f args)) child)) clears_spawn_flags
+event_difference s (spawned child parent f args) = difference_where (inherits_more (flags_at s parent) (flags_at (inherit s (spawned child parent f args)) child)) inherits_alone
 event_difference s e = None
 
 -- the process has a flag
@@ -400,7 +415,7 @@ difference_text suppresses_message = codes "no message: silent"
 difference_text leaves_no_mark = codes "no mark: the call is silent"
 difference_text reports_end = codes "a message, unless the call was silent"
 difference_text reports_exceptions = codes "exception_from first, of each call that is marked for exceptions"
-difference_text clears_spawn_flags = codes "the child has neither set_on_spawn nor set_on_first_spawn"
+difference_text inherits_alone = codes "the child has the flags of its parent alone"
 difference_text evaluates_from_right = codes "arguments and elements of tuples are evaluated from the right, and two of them have actions here"
 difference_text catches_error = codes "the end is by an error, which a catch catches here"
 difference_text reports_attempt = codes "the send, link or unlink is reported first, as one to a pid is"

@@ -1,9 +1,9 @@
 -- The lines of an event by when they are known: before the session sees the event, and afterwards.
-use Rattle.std.specs.Prelude.{ℕ, Bool, true, false, ◌&&◌, if◌then◌else◌, List, [], ◌∷◌, ◌++◌, map, Option, Some, None, option_to_list, codes}
+use Rattle.std.specs.Prelude.{ℕ, Bool, true, false, if◌then◌else◌, List, [], ◌∷◌, ◌++◌, map, Option, Some, None, option_to_list, codes}
 use Rattle.def_term.specs.Tree.{Tree}
 use Rattle.def_term.specs.Names.{Mfa}
 use Rattle.def_term.specs.Text.{w}
-use Rattle.def_spec.specs.Flags.{Flags, flags_by_name, set_on_first_spawn}
+use Rattle.def_spec.specs.Flags.{Flags, flags_by_name}
 use Rattle.def_spec.specs.Expressions.{Effect}
 use Rattle.def_node.specs.Event.{Event, spawned, getting_linked}
 use Rattle.def_session.specs.State.{Session}
@@ -13,7 +13,7 @@ use Rattle.def_explain.specs.CommandReasons.{CommandReason}
 use Rattle.def_explain.specs.ReasonTexts.{mfa_text, reason_after_reply}
 use Rattle.def_explain.specs.Causes.{cause_of}
 use Rattle.def_explain.specs.Texts.{clause_text, reason_text, effects_text, said_of_each}
-use Rattle.def_explain.specs.Differences.{Difference, clears_spawn_flags, clause_differences, has_spawn_flag, difference_where}
+use Rattle.def_explain.specs.Differences.{Difference, inherits_alone, clause_differences, inherits_more, difference_where}
 use Rattle.def_explain.specs.Accounts.{Line, said, tells, differs, differs_uncounted, line_where, changed_text, message_lines, evaluation_lines, mark_lines, end_lines}
 use Rattle.tn_flags.specs.Views.{flags_of}
 use Rattle.tn_head.specs.Views.{bindings_seen}
@@ -52,7 +52,7 @@ difference_lines_of d k b c es = map differs (clause_differences (dialect_of d) 
 
 -- the difference at an event by which one process inherits flags of another, by the flags of both
 abbrev pub inherited_by_flags : Event → (given_by giver had taker : Flags) → Option Difference
-inherited_by_flags (spawned child parent f args) given_by giver had taker = difference_where (given_by set_on_first_spawn && has_spawn_flag taker) clears_spawn_flags
+inherited_by_flags (spawned child parent f args) given_by giver had taker = difference_where (inherits_more given_by taker) inherits_alone
 inherited_by_flags e given_by giver had taker = None
 
 abbrev pub inherited_difference : Event → Change → Change → Option Difference

@@ -17,7 +17,7 @@ use crate::clause_differences::ClauseDifferences;
 use crate::line::{Lines, begin};
 use std::alloc::{AllocError, Allocator};
 use tn_action::{Context, Effect};
-use tn_difference::{Difference, body_differs, put_difference};
+use tn_difference::{Difference, body_differs, inherits_more, put_difference};
 use tn_flags::{Event, Flags};
 use tn_session::{Kind, Look};
 use tn_spec::Dialect;
@@ -79,9 +79,8 @@ pub(crate) fn inherited_difference<A: Allocator>(
 {
     match event {
         Event::Spawned { .. } => {
-            let has_spawn_flag = taker.new.set_on_spawn || taker.new.set_on_first_spawn;
-            let holds = giver.old.set_on_first_spawn && has_spawn_flag;
-            difference_where(holds, Difference::ClearsSpawnFlags)
+            let holds = inherits_more(giver.old, taker.new);
+            difference_where(holds, Difference::InheritsAlone)
         }
         _ => None,
     }
