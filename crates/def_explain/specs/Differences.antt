@@ -33,7 +33,7 @@ use Rattle.def_explain.specs.Verdicts.{Verdict, fails, fires, verdict_of}
 -- a catch step called one of the frames, and its catch catches the run-time error that ends the process here;
 -- the send, link or unlink of what is no pid is reported before its error;
 -- the error `noproc` is raised in the step of the link;
--- the receive is reported when the process next looks at its mailbox;
+-- the receive is reported when the process next runs;
 -- the reason of a run-time error that ends the process has the list of calls;
 -- logic on what is no boolean is a fault, but the last argument of `andalso` and `orelse` is their value;
 -- a function keeps its setting of the other kind;
@@ -420,7 +420,7 @@ difference_text evaluates_from_right = codes "arguments and elements of tuples a
 difference_text catches_error = codes "the end is by an error, which a catch catches here"
 difference_text reports_attempt = codes "the send, link or unlink is reported first, as one to a pid is"
 difference_text raises_noproc = codes "noproc is raised in this step"
-difference_text reports_later = codes "reported when the process next looks at its mailbox"
+difference_text reports_later = codes "reported when the process next runs"
 difference_text adds_calls = codes "the reason has the list of calls"
 difference_text faults_in_logic = codes "logic on what is no boolean is a fault, but the last argument of andalso or orelse is its value"
 difference_text leaves_other_setting = codes "a function has a setting of the other kind, which stays"
