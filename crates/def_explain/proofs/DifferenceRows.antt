@@ -10,7 +10,7 @@ use Rattle.def_outlook.specs.Outlook.{RuntimeError, calls_past_limit, sends_to_n
 use Rattle.def_session.specs.Settings.{off}
 use Rattle.def_node.specs.Event.{Event, received, returned, raised, spawned, exited, linked, getting_linked}
 use Rattle.def_session.specs.State.{for_returns, for_exceptions, live, new_session, alive_at_start, Session, MarkKind, with_flags, with_marks}
-use Rattle.def_explain.specs.Differences.{Difference, node_ends, finds_no_tracer, suppresses_message, leaves_no_mark, reports_end, reports_exceptions, inherits_alone, evaluates_from_right, catches_error, reports_attempt, raises_noproc, reports_later, adds_calls, order_difference, body_differences, event_difference, step_differences, has_mark_below}
+use Rattle.def_explain.specs.Differences.{Difference, node_ends, reads_freed, suppresses_message, leaves_no_mark, reports_end, reports_exceptions, inherits_alone, evaluates_from_right, catches_error, reports_attempt, raises_noproc, reports_later, adds_calls, order_difference, body_differences, event_difference, step_differences, has_mark_below}
 
 -- ---- bodies, in the process 100
 
@@ -46,7 +46,7 @@ pub both_flags_of_a_sender : body_differences for_sends (having (and send_flag p
 both_flags_of_a_sender = refl
 
 -- set again
-pub last_flag_set_again : body_differences for_sends (having (only send_flag)) (loses send_flag ∷ gets send_flag ∷ []) ≡ node_ends ∷ finds_no_tracer ∷ []
+pub last_flag_set_again : body_differences for_sends (having (only send_flag)) (loses send_flag ∷ gets send_flag ∷ []) ≡ node_ends ∷ []
 last_flag_set_again = refl
 
 -- {trace,[send],[send]} clears and sets in one change
@@ -66,15 +66,31 @@ last_flag_of_a_receiver = refl
 pub last_flag_of_a_caller : body_differences for_calls (having (only call_flag)) (loses call_flag ∷ []) ≡ []
 last_flag_of_a_caller = refl
 
--- [{disable_trace,call},{enable_trace,<0.101.0>,procs}] with the flags [call], in the other order, and with another flag left
-pub change_after_the_last_flag : body_differences for_calls (having (only call_flag)) (loses call_flag ∷ changes 101 no_flags (only procs_flag) ∷ []) ≡ finds_no_tracer ∷ []
-change_after_the_last_flag = refl
+-- [{disable_trace,call},{enable_trace,procs}] with the flags [call]; the same by `trace` after an effect of another kind; and where the last flag isn't taken before
+pub flag_given_again : body_differences for_calls (having (only call_flag)) (loses call_flag ∷ gets procs_flag ∷ []) ≡ reads_freed ∷ []
+flag_given_again = refl
 
-pub change_before_the_last_flag : body_differences for_calls (having (only call_flag)) (changes 101 no_flags (only procs_flag) ∷ loses call_flag ∷ []) ≡ []
-change_before_the_last_flag = refl
+pub flag_given_again_later : body_differences for_calls (having (only call_flag)) (loses call_flag ∷ traces_return ∷ changes 100 (only send_flag) (only call_flag) ∷ []) ≡ reads_freed ∷ []
+flag_given_again_later = refl
 
-pub change_with_a_flag : body_differences for_calls (having (and call_flag send_flag)) (loses call_flag ∷ changes 101 no_flags (only procs_flag) ∷ []) ≡ []
-change_with_a_flag = refl
+pub flag_given_before : body_differences for_calls (having (only call_flag)) (gets procs_flag ∷ loses call_flag ∷ []) ≡ []
+flag_given_before = refl
+
+pub flag_given_with_a_flag : body_differences for_calls (having (and call_flag send_flag)) (loses call_flag ∷ gets procs_flag ∷ []) ≡ []
+flag_given_with_a_flag = refl
+
+pub call_flag_cleared_and_set : body_differences for_calls (having (only call_flag)) (changes 100 (only call_flag) (only call_flag) ∷ []) ≡ []
+call_flag_cleared_and_set = refl
+
+-- by a change of another process; by one that sets none; and where there is no message
+pub flag_of_another_given : body_differences for_calls (having (only call_flag)) (loses call_flag ∷ changes 101 no_flags (only procs_flag) ∷ []) ≡ []
+flag_of_another_given = refl
+
+pub no_flag_given : body_differences for_calls (having (only call_flag)) (loses call_flag ∷ loses procs_flag ∷ []) ≡ []
+no_flag_given = refl
+
+pub flag_given_without_message : body_differences for_calls (having (only call_flag)) (loses call_flag ∷ gets call_flag ∷ gives_message (word "false") ∷ []) ≡ []
+flag_given_without_message = refl
 
 -- a silent send and a silent receive, and where silence ends
 pub silent_send : body_differences for_sends (having (only send_flag)) (silences true ∷ []) ≡ suppresses_message ∷ []

@@ -1,5 +1,5 @@
 -- What a node does otherwise is what is computed.
-use Rattle.std.proofs.Common.{◌≡◌, ◌≢◌, ◌↔◌, ◌⊎◌, inl, inr, ◌<◌, ℕ, zero, suc, arith, Bool, true, false, not, ◌&&◌, ◌||◌, List, [], ◌∷◌, ◌++◌, Option, Some, None, refl, sym, ap, ap₂, subst, ◌∙◌}
+use Rattle.std.proofs.Common.{◌≡◌, ◌≢◌, ◌↔◌, ◌⊎◌, inl, inr, ◌<◌, ℕ, zero, suc, ◌==◌, eqb-true, eq-eqb, arith, Bool, true, false, not, ◌&&◌, ◌||◌, List, [], ◌∷◌, ◌++◌, Option, Some, None, refl, sym, ap, ap₂, subst, ◌∙◌}
 use Rattle.std.specs.Option.{is_some}
 use Rattle.std.proofs.lemmas.Bool.{and_parts, and_left, and_right}
 use Rattle.def_term.specs.Alive.{is_alive}
@@ -7,8 +7,8 @@ use Rattle.def_term.specs.Tree.{Tree}
 use Rattle.def_term.specs.Order.{same}
 use Rattle.def_term.specs.Names.{word}
 use Rattle.def_term.proofs.Same.{same-is, same-self}
-use Rattle.def_spec.specs.Flags.{Flag, send_flag, receive_flag, call_flag, procs_flag, silent_flag, arity_flag, set_on_spawn, set_on_first_spawn, set_on_link, set_on_first_link, Flags, has_all, FlagTable, flags_in}
-use Rattle.def_spec.specs.Expressions.{Dialect, for_calls, for_sends, for_receives, Expr, bound_to, whole_list, all_bound, constant, tuple_of, list_of, call, and_also, or_else, perform, Exprs, no_exprs, and_expr, Effect, flags_by, flags_after}
+use Rattle.def_spec.specs.Flags.{Flag, send_flag, receive_flag, call_flag, procs_flag, silent_flag, arity_flag, set_on_spawn, set_on_first_spawn, set_on_link, set_on_first_link, Flags, no_flags, has_all, FlagTable, flags_in}
+use Rattle.def_spec.specs.Expressions.{Dialect, for_calls, for_sends, for_receives, Expr, bound_to, whole_list, all_bound, constant, tuple_of, list_of, call, and_also, or_else, perform, Exprs, no_exprs, and_expr, Effect, gives_message, traces_return, traces_exception, silences, changes, flags_by, flags_after}
 use Rattle.def_node.specs.Process.{FRAMES}
 use Rattle.def_node.specs.Event.{sent, received, called, returned, raised, spawning, spawned, exited, linked, unlinked, getting_linked, getting_unlinked}
 use Rattle.def_outlook.specs.Outlook.{RuntimeError, Outlook}
@@ -16,7 +16,7 @@ use Rattle.def_session.specs.State.{MarkKind, for_returns, for_exceptions, Sessi
 use Rattle.def_session.specs.Session.{inherit, effects_of, reported_for, mark_asked, is_marked, is_for_exceptions, is_marked_for_exceptions}
 use Rattle.def_session.specs.Messages.{last_message}
 use Rattle.def_explain.specs.Causes.{is_false_message}
-use Rattle.def_explain.specs.Differences.{Difference, node_ends, finds_no_tracer, suppresses_message, leaves_no_mark, reports_end, reports_exceptions, inherits_alone, evaluates_from_right, faults_in_logic, leaves_other_setting, takes_local_setting, catches_error, reports_attempt, raises_noproc, reports_later, adds_calls, HasFlags, attempt_flag, StepDiffers, is_traced, has_that_flag, is_attempt_by, step_differs, CallsAction, OneCallsAction, TwoCallActions, ShowsOrder, OneShowsOrder, calls_action, one_calls_action, two_call_actions, shows_order, one_shows_order, HasNone, has_none, hands_on, handed_on, HasOther, has_other, is_change, LosesLastFlag, loses_last_flag, ChangesWithoutFlags, changes_without_flags, is_of_sends, is_of_calls, has_mark_below, difference_where}
+use Rattle.def_explain.specs.Differences.{Difference, node_ends, reads_freed, suppresses_message, leaves_no_mark, reports_end, reports_exceptions, inherits_alone, evaluates_from_right, faults_in_logic, leaves_other_setting, takes_local_setting, catches_error, reports_attempt, raises_noproc, reports_later, adds_calls, HasFlags, attempt_flag, StepDiffers, is_traced, has_that_flag, is_attempt_by, step_differs, CallsAction, OneCallsAction, TwoCallActions, ShowsOrder, OneShowsOrder, calls_action, one_calls_action, two_call_actions, shows_order, one_shows_order, HasNone, has_none, hands_on, handed_on, HasOther, has_other, LosesLastFlag, loses_last_flag, GivesFlag, gives_flag, GetsFlagAgain, gets_flag_again, is_of_sends, is_of_calls, has_mark_below, difference_where}
 use Rattle.def_explain.specs.Laws.{BodyDifferenceIsComputed, OrderDifferenceIsComputed, EventDifferenceIsComputed, StepDifferenceIsComputed}
 
 -- ---- truth values
@@ -151,33 +151,73 @@ last-lost p t (x ∷ es) (d ∷ ds) e fs h n =
     or_right true b k = refl
     or_right false b k = k
 
-changes-without : (p : ℕ) (t : FlagTable) (es : List Effect) → changes_without_flags p t es ≡ true → ChangesWithoutFlags p t es
-changes-without p t [] h = absurd (cc h)
-changes-without p t (e ∷ es) h = go (changes-without p (flags_by p t e) es) (is_change e && has_none (flags_in t p)) refl
+-- the effect gives the process a flag
+gives-flag : (p : ℕ) (e : Effect) → gives_flag p e ≡ true → GivesFlag p e
+gives-flag p (changes n cleared set) h =
+    let both : ((n == p) ≡ true) × (not (has_none set) ≡ true) = and_parts (n == p) _ h in
+    let one : HasOther set no_flags = other-is set no_flags both.1 in
+    (cleared, set, one.0, ap (λ m. changes m cleared set) (eqb-true n p both.0), one.1)
+gives-flag p (gives_message t) h = absurd (cc h)
+gives-flag p traces_return h = absurd (cc h)
+gives-flag p traces_exception h = absurd (cc h)
+gives-flag p (silences b) h = absurd (cc h)
+
+flag-given : (p : ℕ) (e : Effect) → GivesFlag p e → gives_flag p e ≡ true
+flag-given p e h = ap (gives_flag p) h.3 ∙ both_are (p == p) _ (eq-eqb p p refl) (is-other h.1 no_flags (h.2, h.4, refl))
+
+-- after the last was lost, before these effects or by some of them
+or-third : (a b c : Bool) → ((a || b) || c) ≡ (a || (b || c))
+or-third true b c = refl
+or-third false b c = refl
+
+or-none : (a : Bool) → (a || false) ≡ true → a ≡ true
+or-none true h = refl
+or-none false h = h
+
+or-case : (a b : Bool) {P : Type 0} → (a ≡ true → P) → (b ≡ true → P) → (a || b) ≡ true → P
+or-case true b p q h = p refl
+or-case false b p q h = q h
+
+or-second : (a b : Bool) → b ≡ true → (a || b) ≡ true
+or-second true b h = refl
+or-second false b h = h
+
+abbrev GetsAgain : ℕ → FlagTable → Bool → List Effect → Type 0
+GetsAgain p t lost es = (ds : List Effect) × (e : Effect) × (fs : List Effect) × (es ≡ ds ++ e ∷ fs) × ((lost || loses_last_flag p t ds) ≡ true) × (gives_flag p e ≡ true)
+
+again-there : (p : ℕ) (t : FlagTable) (lost : Bool) (es : List Effect) → gets_flag_again p t lost es ≡ true → GetsAgain p t lost es
+again-there p t lost [] h = absurd (cc h)
+again-there p t lost (e ∷ es) h = or-case (lost && gives_flag p e) _ here (λ k. later (again-there p (flags_by p t e) (lost || none) es k)) h
   where
-    later : ChangesWithoutFlags p (flags_by p t e) es → ChangesWithoutFlags p t (e ∷ es)
-    later l = (e ∷ l.0, l.1, l.2, ap (λ x. e ∷ x) l.3, l.4, l.5)
+    none : Bool
+    none = has_none (flags_in (flags_by p t e) p)
 
-    go : (changes_without_flags p (flags_by p t e) es ≡ true → ChangesWithoutFlags p (flags_by p t e) es) → (b : Bool) → (is_change e && has_none (flags_in t p)) ≡ b → ChangesWithoutFlags p t (e ∷ es)
-    go more true n =
-        let both : (is_change e ≡ true) × (has_none (flags_in t p) ≡ true) = and_parts (is_change e) _ n in
-        ([], e, es, refl, both.0, none-set _ both.1)
-    go more false n = later (more (ap (λ b. b || changes_without_flags p (flags_by p t e) es) (sym n) ∙ h))
+    here : (lost && gives_flag p e) ≡ true → GetsAgain p t lost (e ∷ es)
+    here k = let both : (lost ≡ true) × (gives_flag p e ≡ true) = and_parts lost _ k in ([], e, es, refl, ap (λ b. b || false) both.0, both.1)
 
-without-changed : (p : ℕ) (t : FlagTable) (es ds : List Effect) (e : Effect) (fs : List Effect) → es ≡ ds ++ e ∷ fs → is_change e ≡ true → HasNone (flags_in (flags_after p t ds) p) → changes_without_flags p t es ≡ true
-without-changed p t [] ds e fs h k n = absurd (no-effects ds e fs h)
-without-changed p t (x ∷ es) [] e fs h k n =
+    later : GetsAgain p (flags_by p t e) (lost || none) es → GetsAgain p t lost (e ∷ es)
+    later l = (e ∷ l.0, l.1, l.2, ap (λ x. e ∷ x) l.3, sym (or-third lost none (loses_last_flag p (flags_by p t e) l.0)) ∙ l.4, l.5)
+
+there-again : (p : ℕ) (t : FlagTable) (lost : Bool) (es ds : List Effect) (e : Effect) (fs : List Effect) → es ≡ ds ++ e ∷ fs → (lost || loses_last_flag p t ds) ≡ true → gives_flag p e ≡ true → gets_flag_again p t lost es ≡ true
+there-again p t lost [] ds e fs h l g = absurd (no-effects ds e fs h)
+there-again p t lost (x ∷ es) [] e fs h l g =
     let is : x ≡ e = head-is x e es fs h in
-    ap (λ b. b || changes_without_flags p (flags_by p t x) es) (both_are (is_change x) _ (ap is_change is ∙ k) (set-none _ n))
-without-changed p t (x ∷ es) (d ∷ ds) e fs h k n =
+    ap (λ b. b || gets_flag_again p (flags_by p t x) (lost || has_none (flags_in (flags_by p t x) p)) es) (both_are lost _ (or-none lost l) (ap (gives_flag p) is ∙ g))
+there-again p t lost (x ∷ es) (d ∷ ds) e fs h l g =
     let is : x ≡ d = head-is x d es (ds ++ e ∷ fs) h in
-    let more : changes_without_flags p (flags_by p t x) es ≡ true =
-    without-changed p (flags_by p t x) es ds e fs (tail-is x d es (ds ++ e ∷ fs) h) k (subst (λ y. HasNone (flags_in (flags_after p (flags_by p t y) ds) p)) (sym is) n) in
-    or_right (is_change x && has_none (flags_in t p)) _ more
-  where
-    or_right : (a b : Bool) → b ≡ true → (a || b) ≡ true
-    or_right true b k = refl
-    or_right false b k = k
+    let none : Bool = has_none (flags_in (flags_by p t x) p) in
+    let here : (lost || loses_last_flag p t (x ∷ ds)) ≡ true = ap (λ y. lost || loses_last_flag p t (y ∷ ds)) is ∙ l in
+    let more : gets_flag_again p (flags_by p t x) (lost || none) es ≡ true =
+    there-again p (flags_by p t x) (lost || none) es ds e fs (tail-is x d es (ds ++ e ∷ fs) h) (or-third lost none (loses_last_flag p (flags_by p t x) ds) ∙ here) g in
+    or-second (lost && gives_flag p x) _ more
+
+gets-again : (p : ℕ) (t : FlagTable) (es : List Effect) → gets_flag_again p t false es ≡ true → GetsFlagAgain p t es
+gets-again p t es h =
+    let l : GetsAgain p t false es = again-there p t false es h in
+    (l.0, l.1, l.2, l.3, loses-last p t l.0 l.4, gives-flag p l.1 l.5)
+
+again-got : (p : ℕ) (t : FlagTable) (es : List Effect) → GetsFlagAgain p t es → gets_flag_again p t false es ≡ true
+again-got p t es h = there-again p t false es h.0 h.1 h.2 h.3 (last-lost p t h.0 h.4.0 h.4.1 h.4.2 h.4.3 h.4.4) (flag-given p h.1 h.5)
 
 -- ---- messages, marks and dialects
 
@@ -218,8 +258,12 @@ body_difference_is_computed d c es node_ends = (
       ((of-sends d).0 x.0, loses-last c.self_pid c.flags es x.1, message-there _ x.2),
   λ h. three_are _ _ _ ((of-sends d).1 h.0) (last-lost c.self_pid c.flags es h.1.0 h.1.1 h.1.2 h.1.3 h.1.4) (there-message _ h.2),
 )
-body_difference_is_computed d c es finds_no_tracer =
-    (λ h. changes-without c.self_pid c.flags es h, λ h. without-changed c.self_pid c.flags es h.0 h.1 h.2 h.3 h.4 h.5)
+body_difference_is_computed d c es reads_freed = (
+  λ h.
+      let x : (is_of_calls d ≡ true) × (gets_flag_again c.self_pid c.flags false es ≡ true) × (not (is_false_message (last_message es)) ≡ true) = three_parts (is_of_calls d) _ _ h in
+      ((of-calls d).0 x.0, gets-again c.self_pid c.flags es x.1, message-there _ x.2),
+  λ h. three_are _ _ _ ((of-calls d).1 h.0) (again-got c.self_pid c.flags es h.1) (there-message _ h.2),
+)
 body_difference_is_computed d c es suppresses_message = (
   λ h.
       let x : (not (is_of_calls d) ≡ true) × _ × (not (is_false_message (last_message es)) ≡ true) = three_parts (not (is_of_calls d)) _ _ h in
@@ -448,7 +492,7 @@ at-exit s l p r catches_error = (
   λ h. three_are _ _ _ (is-traced s p h.0) (ap is_some h.1.1) (ap is_some h.2.1),
 )
 at-exit s l p r node_ends = (λ h. absurd (cc h), λ h. absurd h)
-at-exit s l p r finds_no_tracer = (λ h. absurd (cc h), λ h. absurd h)
+at-exit s l p r reads_freed = (λ h. absurd (cc h), λ h. absurd h)
 at-exit s l p r suppresses_message = (λ h. absurd (cc h), λ h. absurd h)
 at-exit s l p r leaves_no_mark = (λ h. absurd (cc h), λ h. absurd h)
 at-exit s l p r reports_end = (λ h. absurd (cc h), λ h. absurd h)
@@ -477,7 +521,7 @@ at-link s l p other raises_noproc = (
   λ h. both_are _ _ (is-traced s p h.0) (is_not _ h.1),
 )
 at-link s l p other node_ends = (λ h. absurd (cc h), λ h. absurd h)
-at-link s l p other finds_no_tracer = (λ h. absurd (cc h), λ h. absurd h)
+at-link s l p other reads_freed = (λ h. absurd (cc h), λ h. absurd h)
 at-link s l p other suppresses_message = (λ h. absurd (cc h), λ h. absurd h)
 at-link s l p other leaves_no_mark = (λ h. absurd (cc h), λ h. absurd h)
 at-link s l p other reports_end = (λ h. absurd (cc h), λ h. absurd h)
@@ -500,7 +544,7 @@ at-receive s l p sender t reports_later = (
   λ h. both_are _ _ (is_not _ h.0) (ap is_some h.1.1),
 )
 at-receive s l p sender t node_ends = (λ h. absurd (cc h), λ h. absurd h)
-at-receive s l p sender t finds_no_tracer = (λ h. absurd (cc h), λ h. absurd h)
+at-receive s l p sender t reads_freed = (λ h. absurd (cc h), λ h. absurd h)
 at-receive s l p sender t suppresses_message = (λ h. absurd (cc h), λ h. absurd h)
 at-receive s l p sender t leaves_no_mark = (λ h. absurd (cc h), λ h. absurd h)
 at-receive s l p sender t reports_end = (λ h. absurd (cc h), λ h. absurd h)

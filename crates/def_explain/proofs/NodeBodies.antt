@@ -13,7 +13,7 @@ use Rattle.def_session.specs.Settings.{FunctionSetting, Setting, off, plain, by,
 use Rattle.def_session.specs.Session.{effects_of_outcome, evaluated_by}
 use Rattle.def_explain.specs.Reasons.{Reason, reason_of}
 use Rattle.def_explain.specs.Verdicts.{verdict_by}
-use Rattle.def_explain.specs.Differences.{node_ends, finds_no_tracer, suppresses_message, leaves_no_mark, evaluates_from_right, faults_in_logic, later_silent, is_silent_by, has_none, loses_last_flag, changes_without_flags, one_shows_order, difference_where, is_of_sends, is_of_calls, body_differs, body_differences, clause_differences, differences_by, firing_differences, setting_differences}
+use Rattle.def_explain.specs.Differences.{node_ends, reads_freed, suppresses_message, leaves_no_mark, evaluates_from_right, faults_in_logic, later_silent, is_silent_by, has_none, loses_last_flag, gets_flag_again, one_shows_order, difference_where, is_of_sends, is_of_calls, body_differs, body_differences, clause_differences, differences_by, firing_differences, setting_differences}
 use Rattle.def_explain.specs.Logic.{clause_has_logic_on_other}
 use Rattle.def_explain.specs.NodeCommands.{can_differ_by, expression_can_differ, one_can_differ, one_calls_logic, clause_can_differ, setting_can_differ}
 use Rattle.def_explain.proofs.Logic.{no_logic_in_clause}
@@ -172,7 +172,7 @@ has_receive f h = and_right (not (f send_flag)) _ (and_left (not (f receive_flag
 pub has_call : (f : Flags) → f call_flag ≡ true → has_none f ≡ false
 has_call f h = and_right (not (f send_flag)) _ (and_right (not (f receive_flag)) _ (and_left (not (f call_flag)) _ (ap not h)))
 
--- the last flag isn't lost, no flag is changed, and nothing becomes silent
+-- the last flag isn't lost
 loses-none : (p : ℕ) (t : FlagTable) (es : List Effect) → has_none (flags_in t p) ≡ false → ArePlainEffects es → loses_last_flag p t es ≡ false
 loses-none p t [] f h = refl
 loses-none p t (gives_message u ∷ es) f h = or_from (has_none (flags_in t p)) _ f (loses-none p t es f h.1)
@@ -181,14 +181,16 @@ loses-none p t (traces_exception ∷ es) f h = or_from (has_none (flags_in t p))
 loses-none p t (silences b ∷ es) f h = absurd (cc h.0)
 loses-none p t (changes n cleared set ∷ es) f h = absurd (cc h.0)
 
-changes-none : (p : ℕ) (t : FlagTable) (es : List Effect) → ArePlainEffects es → changes_without_flags p t es ≡ false
-changes-none p t [] h = refl
-changes-none p t (gives_message u ∷ es) h = changes-none p t es h.1
-changes-none p t (traces_return ∷ es) h = changes-none p t es h.1
-changes-none p t (traces_exception ∷ es) h = changes-none p t es h.1
-changes-none p t (silences b ∷ es) h = absurd (cc h.0)
-changes-none p t (changes n cleared set ∷ es) h = absurd (cc h.0)
+-- none gives a flag
+again-none : (p : ℕ) (t : FlagTable) (es : List Effect) → has_none (flags_in t p) ≡ false → ArePlainEffects es → gets_flag_again p t false es ≡ false
+again-none p t [] f h = refl
+again-none p t (gives_message u ∷ es) f h = ap (λ b. gets_flag_again p t b es) f ∙ again-none p t es f h.1
+again-none p t (traces_return ∷ es) f h = ap (λ b. gets_flag_again p t b es) f ∙ again-none p t es f h.1
+again-none p t (traces_exception ∷ es) f h = ap (λ b. gets_flag_again p t b es) f ∙ again-none p t es f h.1
+again-none p t (silences b ∷ es) f h = absurd (cc h.0)
+again-none p t (changes n cleared set ∷ es) f h = absurd (cc h.0)
 
+-- nothing becomes silent
 silent-none : (p : ℕ) (b : Bool) (es : List Effect) → ArePlainEffects es → later_silent p b es ≡ b
 silent-none p b [] h = refl
 silent-none p b (gives_message u ∷ es) h = silent-none p b es h.1
@@ -209,10 +211,10 @@ module _ (c : Context) (some : has_none (flags_in c.flags c.self_pid) ≡ false)
       let last : loses_last_flag c.self_pid c.flags es ≡ false = loses-none c.self_pid c.flags es some h in
       let silent_after : is_silent_by c es ≡ false = silent-none c.self_pid _ es h ∙ not_silent in
       let ends : body_differs d c es node_ends ≡ false = and_right (is_of_sends d) _ (and_left (loses_last_flag c.self_pid c.flags es) _ last) in
-      let tracer : body_differs d c es finds_no_tracer ≡ false = changes-none c.self_pid c.flags es h in
+      let freed : body_differs d c es reads_freed ≡ false = and_right (is_of_calls d) _ (and_left (gets_flag_again c.self_pid c.flags false es) _ (again-none c.self_pid c.flags es some h)) in
       let of_message : body_differs d c es suppresses_message ≡ false = and_right (not (is_of_calls d)) _ (and_left (is_silent_by c es) _ silent_after) in
       let of_mark : body_differs d c es leaves_no_mark ≡ false = and_right (is_of_calls d) _ (and_left (is_silent_by c es) _ silent_after) in
-      filter-none (body_differs d c es) (node_ends ∷ finds_no_tracer ∷ suppresses_message ∷ leaves_no_mark ∷ []) (ends, (tracer, (of_message, (of_mark, tt))))
+      filter-none (body_differs d c es) (node_ends ∷ reads_freed ∷ suppresses_message ∷ leaves_no_mark ∷ []) (ends, (freed, (of_message, (of_mark, tt))))
 
   no-difference-by-clause : (d : Dialect) (k : Clause) (b : Bindings) (es : List Effect) → one_shows_order k.body ≡ false → clause_has_logic_on_other d k b c ≡ false → ArePlainEffects es → clause_differences d k b c es ≡ []
   no-difference-by-clause d k b es o l h =

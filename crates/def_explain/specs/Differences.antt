@@ -23,7 +23,7 @@ use Rattle.def_explain.specs.Verdicts.{Verdict, fails, fires, verdict_of}
 
 -- what a node does:
 -- the send ends it with a segmentation fault, where the body clears the sender's last flag;
--- the tracer is gone with the last flag of the process, and a later change of the same body clears all flags of the process that it is of;
+-- the message of a call is written from memory that was freed, where the body takes the last flag of its process and gives it one again;
 -- `silent` suppresses the message of a send or a receive that a match specification decides;
 -- a call that is silent gets no mark;
 -- the return or the exception is reported unless `silent` was set at the call;
@@ -40,7 +40,7 @@ use Rattle.def_explain.specs.Verdicts.{Verdict, fails, fires, verdict_of}
 -- a function that isn't exported loses its local setting
 pub data Difference : Type 0 where
   node_ends : Difference
-  finds_no_tracer : Difference
+  reads_freed : Difference
   suppresses_message : Difference
   leaves_no_mark : Difference
   reports_end : Difference
@@ -62,18 +62,17 @@ pub data Difference : Type 0 where
 abbrev pub HasNone : Flags → Type 0
 HasNone f = (x : Flag) → f x ≡ false
 
--- an effect is a change of flags
-abbrev pub is_change : Effect → Bool
-is_change (changes n cleared set) = true
-is_change e = false
-
 -- after some of these effects the process of this pid has no flag
 abbrev pub LosesLastFlag : ℕ → FlagTable → List Effect → Type 0
 LosesLastFlag p t es = (ds : List Effect) × (e : Effect) × (fs : List Effect) × (es ≡ ds ++ e ∷ fs) × HasNone (flags_in (flags_after p t (ds ++ e ∷ [])) p)
 
--- a change of flags comes where it has none
-abbrev pub ChangesWithoutFlags : ℕ → FlagTable → List Effect → Type 0
-ChangesWithoutFlags p t es = (ds : List Effect) × (e : Effect) × (fs : List Effect) × (es ≡ ds ++ e ∷ fs) × (is_change e ≡ true) × HasNone (flags_in (flags_after p t ds) p)
+-- the effect gives the process of this pid a flag
+abbrev pub GivesFlag : ℕ → Effect → Type 0
+GivesFlag p e = (cleared : Flags) × (set : Flags) × (x : Flag) × (e ≡ changes p cleared set) × (set x ≡ true)
+
+-- after some of these effects the process has no flag, and a later one gives it a flag
+abbrev pub GetsFlagAgain : ℕ → FlagTable → List Effect → Type 0
+GetsFlagAgain p t es = (ds : List Effect) × (e : Effect) × (fs : List Effect) × (es ≡ ds ++ e ∷ fs) × LosesLastFlag p t ds × GivesFlag p e
 
 -- whether the process of this pid has the flag `silent` after these effects; `b` is whether it had it before
 abbrev pub later_silent : ℕ → Bool → List Effect → Bool
@@ -100,7 +99,7 @@ AsksForMark es = (k : MarkKind) × (mark_asked es ≡ Some k)
 -- a node does this otherwise at a clause of this dialect that fires in this context with these effects
 abbrev pub BodyDiffers : Dialect → Context → List Effect → Difference → Type 0
 BodyDiffers d c es node_ends = (d ≡ for_sends) × LosesLastFlag c.self_pid c.flags es × IsMessage es
-BodyDiffers d c es finds_no_tracer = ChangesWithoutFlags c.self_pid c.flags es
+BodyDiffers d c es reads_freed = (d ≡ for_calls) × GetsFlagAgain c.self_pid c.flags es × IsMessage es
 BodyDiffers d c es suppresses_message = (d ≢ for_calls) × IsSilent c es × IsMessage es
 BodyDiffers d c es leaves_no_mark = (d ≡ for_calls) × IsSilent c es × AsksForMark es
 BodyDiffers d c es x = ⊥
@@ -237,10 +236,15 @@ abbrev pub loses_last_flag : ℕ → FlagTable → List Effect → Bool
 loses_last_flag p t [] = false
 loses_last_flag p t (e ∷ es) = has_none (flags_in (flags_by p t e) p) || loses_last_flag p (flags_by p t e) es
 
--- a change of flags comes where it has no flag
-abbrev pub changes_without_flags : ℕ → FlagTable → List Effect → Bool
-changes_without_flags p t [] = false
-changes_without_flags p t (e ∷ es) = (is_change e && has_none (flags_in t p)) || changes_without_flags p (flags_by p t e) es
+-- the effect gives the process of this pid a flag
+abbrev pub gives_flag : ℕ → Effect → Bool
+gives_flag p (changes n cleared set) = (n == p) && not (has_none set)
+gives_flag p e = false
+
+-- one of these effects gives it a flag after it lost the last; `lost` is whether it had lost it before them
+abbrev pub gets_flag_again : ℕ → FlagTable → (lost : Bool) → List Effect → Bool
+gets_flag_again p t lost [] = false
+gets_flag_again p t lost (e ∷ es) = (lost && gives_flag p e) || gets_flag_again p (flags_by p t e) (lost || has_none (flags_in (flags_by p t e) p)) es
 
 abbrev mutual
   -- the expression calls an action
@@ -305,14 +309,14 @@ is_of_calls d = false
 -- whether a node does this otherwise at a clause that fires
 abbrev pub body_differs : Dialect → Context → List Effect → Difference → Bool
 body_differs d c es node_ends = is_of_sends d && (loses_last_flag c.self_pid c.flags es && not (is_false_message (last_message es)))
-body_differs d c es finds_no_tracer = changes_without_flags c.self_pid c.flags es
+body_differs d c es reads_freed = is_of_calls d && (gets_flag_again c.self_pid c.flags false es && not (is_false_message (last_message es)))
 body_differs d c es suppresses_message = not (is_of_calls d) && (is_silent_by c es && not (is_false_message (last_message es)))
 body_differs d c es leaves_no_mark = is_of_calls d && (is_silent_by c es && is_some (mark_asked es))
 body_differs d c es x = false
 
 -- by its effects
 abbrev pub body_differences : Dialect → Context → List Effect → List Difference
-body_differences d c es = filter (body_differs d c es) (node_ends ∷ finds_no_tracer ∷ suppresses_message ∷ leaves_no_mark ∷ [])
+body_differences d c es = filter (body_differs d c es) (node_ends ∷ reads_freed ∷ suppresses_message ∷ leaves_no_mark ∷ [])
 
 -- that of logic on what is no boolean
 abbrev pub logic_difference : Dialect → Clause → Bindings → Context → Option Difference
@@ -410,7 +414,7 @@ step_differences s l e = filter (step_differs s l e) (reports_attempt ∷ catche
 -- what a node does
 abbrev pub difference_text : Difference → List ℕ
 difference_text node_ends = codes "this send ends the node with a segmentation fault, since the body clears the sender's last flag"
-difference_text finds_no_tracer = codes "the tracer is gone with the last flag, and a later change of this body clears all flags of its process"
+difference_text reads_freed = codes "the message may be missing, or have other parts: the node reads freed memory"
 difference_text suppresses_message = codes "no message: silent"
 difference_text leaves_no_mark = codes "no mark: the call is silent"
 difference_text reports_end = codes "a message, unless the call was silent"

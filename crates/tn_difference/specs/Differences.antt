@@ -11,11 +11,11 @@ use Rattle.tn_action.specs.Views.{context_seen, effect_seen}
 use Rattle.tn_action.specs.declared.context.Context.{Context}
 use Rattle.tn_action.specs.declared.effect.Effect as code
 use Rattle.tn_difference.specs.declared.differences.Difference.{Difference}
-use Rattle.tn_difference.specs.declared.differences.Difference.TheVariants.{NodeEnds, FindsNoTracer, SuppressesMessage, LeavesNoMark, ReportsEnd, ReportsExceptions, CatchesError, ReportsAttempt, RaisesNoproc, ReportsLater, AddsCalls, InheritsAlone, EvaluatesFromRight, FaultsInLogic, LeavesOtherSetting, TakesLocalSetting}
+use Rattle.tn_difference.specs.declared.differences.Difference.TheVariants.{NodeEnds, ReadsFreed, SuppressesMessage, LeavesNoMark, ReportsEnd, ReportsExceptions, CatchesError, ReportsAttempt, RaisesNoproc, ReportsLater, AddsCalls, InheritsAlone, EvaluatesFromRight, FaultsInLogic, LeavesOtherSetting, TakesLocalSetting}
 
 abbrev pub difference_seen : Difference → definition.Difference
 difference_seen NodeEnds = definition.node_ends
-difference_seen FindsNoTracer = definition.finds_no_tracer
+difference_seen ReadsFreed = definition.reads_freed
 difference_seen SuppressesMessage = definition.suppresses_message
 difference_seen LeavesNoMark = definition.leaves_no_mark
 difference_seen ReportsEnd = definition.reports_end

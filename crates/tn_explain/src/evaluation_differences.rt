@@ -36,7 +36,7 @@ fn clause_differs<A: Allocator>(
     of_clause.order
         || of_clause.logic
         || body_differs(Difference::NodeEnds, dialect, context, effects)
-        || body_differs(Difference::FindsNoTracer, dialect, context, effects)
+        || body_differs(Difference::ReadsFreed, dialect, context, effects)
         || body_differs(Difference::SuppressesMessage, dialect, context, effects)
         || body_differs(Difference::LeavesNoMark, dialect, context, effects)
 }

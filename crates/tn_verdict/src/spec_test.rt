@@ -267,7 +267,7 @@ impl<'a, 'c, A: Allocator + Copy> SpecTest<'a, 'c, A> {
         let logic = self.logic_differs(clause, bindings)?;
         put_where_differs(logic, Difference::FaultsInLogic, out)?;
         self.put_body_difference(Difference::NodeEnds, effects, out)?;
-        self.put_body_difference(Difference::FindsNoTracer, effects, out)?;
+        self.put_body_difference(Difference::ReadsFreed, effects, out)?;
         self.put_body_difference(Difference::SuppressesMessage, effects, out)?;
         self.put_body_difference(Difference::LeavesNoMark, effects, out)
     }

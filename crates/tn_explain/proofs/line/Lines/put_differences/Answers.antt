@@ -2,7 +2,7 @@ use Rattle.std.proofs.Common.{◌++◌, [], map, sym, ap, append-nil}
 use Rattle.def_explain.specs.Differences.{evaluates_from_right, faults_in_logic}
 use Rattle.tn_spec.specs.Views.{dialect_of}
 use Rattle.tn_action.specs.Views.{context_seen, effect_seen}
-use Rattle.tn_difference.specs.declared.differences.Difference.TheVariants.{NodeEnds, FindsNoTracer, SuppressesMessage, LeavesNoMark}
+use Rattle.tn_difference.specs.declared.differences.Difference.TheVariants.{NodeEnds, ReadsFreed, SuppressesMessage, LeavesNoMark}
 use Rattle.tn_explain.specs.LineParts.{differs_where, body_difference_line}
 use Rattle.tn_text.proofs.Growth.{grows_on}
 use Rattle.tn_explain.proofs.DifferenceLines.{each_of_body}
@@ -18,7 +18,7 @@ returns-clause-ok g c =
     let order = differs_where c.args.of_clause.order evaluates_from_right in
     let logic = differs_where c.args.of_clause.logic faults_in_logic in
     let one = body_difference_line NodeEnds d k es in
-    let two = body_difference_line FindsNoTracer d k es in
+    let two = body_difference_line ReadsFreed d k es in
     let three = body_difference_line SuppressesMessage d k es in
     let four = body_difference_line LeavesNoMark d k es in
     on_ok c.put_body_difference-4.result _ _

@@ -7,7 +7,7 @@ use Rattle.tn_difference.specs.Differences.{difference_line_where}
 use Rattle.tn_head.specs.Views.{bindings_seen}
 use Rattle.tn_difference.specs.Logic.{logic_of_clause}
 use Rattle.tn_verdict.specs.SpecTests.{line_of_difference}
-use Rattle.tn_difference.specs.declared.differences.Difference.TheVariants.{NodeEnds, FindsNoTracer, SuppressesMessage, LeavesNoMark}
+use Rattle.tn_difference.specs.declared.differences.Difference.TheVariants.{NodeEnds, ReadsFreed, SuppressesMessage, LeavesNoMark}
 use Rattle.tn_verdict.proofs.ClauseTexts.{each_where}
 use Rattle.tn_verdict.proofs.Pieces.{after_ok, read_as}
 use Rattle.tn_verdict.proofs.spec_test.SpecTest.put_differences.Goals as goal
@@ -24,7 +24,7 @@ returns-clause-ok g c =
     let bs = bindings_seen c.args.bindings.now in
     let logic = difference_line_where (logic_of_clause self.spec.now.dialect c.args.clause.now c.args.bindings.now self.context.now) faults_in_logic in
     let one = line_of_difference self effects NodeEnds in
-    let two = line_of_difference self effects FindsNoTracer in
+    let two = line_of_difference self effects ReadsFreed in
     let three = line_of_difference self effects SuppressesMessage in
     let four = line_of_difference self effects LeavesNoMark in
     let first : c.put_where_differs.new.out.items ≡ o ++ zero = c.in_ok-put_where_differs.ensures.ok ∙ ap (λ b. o ++ difference_line_where b evaluates_from_right) c.order_differs.ensures in
