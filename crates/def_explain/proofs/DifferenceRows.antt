@@ -10,7 +10,7 @@ use Rattle.def_outlook.specs.Outlook.{RuntimeError, calls_past_limit, sends_to_n
 use Rattle.def_session.specs.Settings.{off}
 use Rattle.def_node.specs.Event.{Event, received, returned, raised, spawned, exited, linked, getting_linked}
 use Rattle.def_session.specs.State.{for_returns, for_exceptions, live, new_session, alive_at_start, Session, MarkKind, with_flags, with_marks}
-use Rattle.def_explain.specs.Differences.{Difference, node_ends, reads_freed, suppresses_message, leaves_no_mark, reports_end, reports_exceptions, inherits_alone, evaluates_from_right, catches_error, reports_attempt, raises_noproc, reports_later, adds_calls, order_difference, body_differences, event_difference, step_differences, has_mark_below}
+use Rattle.def_explain.specs.Differences.{Difference, node_ends, reads_freed, suppresses_message, leaves_no_mark, ignores_silent, reports_end, reports_exceptions, inherits_alone, evaluates_from_right, catches_error, reports_attempt, raises_noproc, reports_later, adds_calls, order_difference, body_differences, event_difference, step_differences, has_mark_below}
 
 -- ---- bodies, in the process 100
 
@@ -114,6 +114,26 @@ call_with_a_mark = refl
 
 pub silent_call_without_mark : body_differences for_calls (having (only call_flag)) (silences true ∷ []) ≡ []
 silent_call_without_mark = refl
+
+-- [{disable_trace,call},{silent,true}] with the flags [call]; the other way round; with another flag left; where silence ends; and a send
+pub silent_without_flags : body_differences for_calls (having (only call_flag)) (loses call_flag ∷ silences true ∷ []) ≡ ignores_silent ∷ []
+silent_without_flags = refl
+
+pub silent_with_a_flag : body_differences for_calls (having (only call_flag)) (silences true ∷ loses call_flag ∷ []) ≡ []
+silent_with_a_flag = refl
+
+pub silent_with_a_flag_left : body_differences for_calls (having (and call_flag send_flag)) (loses call_flag ∷ silences true ∷ []) ≡ []
+silent_with_a_flag_left = refl
+
+pub silence_that_ends_without_flags : body_differences for_calls (having (only call_flag)) (loses call_flag ∷ silences false ∷ []) ≡ []
+silence_that_ends_without_flags = refl
+
+pub silent_send_without_flags : body_differences for_sends (having (only send_flag)) (loses send_flag ∷ silences true ∷ []) ≡ node_ends ∷ suppresses_message ∷ []
+silent_send_without_flags = refl
+
+-- what is silent has no flag, and then a flag is given
+pub silent_and_given_again : body_differences for_calls (having (only call_flag)) (loses call_flag ∷ silences true ∷ gets call_flag ∷ []) ≡ reads_freed ∷ ignores_silent ∷ []
+silent_and_given_again = refl
 
 -- ---- the order of evaluation
 

@@ -16,7 +16,7 @@ use Rattle.def_session.specs.State.{MarkKind, for_returns, for_exceptions, Sessi
 use Rattle.def_session.specs.Session.{inherit, effects_of, reported_for, mark_asked, is_marked, is_for_exceptions, is_marked_for_exceptions}
 use Rattle.def_session.specs.Messages.{last_message}
 use Rattle.def_explain.specs.Causes.{is_false_message}
-use Rattle.def_explain.specs.Differences.{Difference, node_ends, reads_freed, suppresses_message, leaves_no_mark, reports_end, reports_exceptions, inherits_alone, evaluates_from_right, faults_in_logic, leaves_other_setting, takes_local_setting, catches_error, reports_attempt, raises_noproc, reports_later, adds_calls, HasFlags, attempt_flag, StepDiffers, is_traced, has_that_flag, is_attempt_by, step_differs, CallsAction, OneCallsAction, TwoCallActions, ShowsOrder, OneShowsOrder, calls_action, one_calls_action, two_call_actions, shows_order, one_shows_order, HasNone, has_none, hands_on, handed_on, HasOther, has_other, LosesLastFlag, loses_last_flag, GivesFlag, gives_flag, GetsFlagAgain, gets_flag_again, is_of_sends, is_of_calls, has_mark_below, difference_where}
+use Rattle.def_explain.specs.Differences.{Difference, node_ends, reads_freed, suppresses_message, leaves_no_mark, ignores_silent, reports_end, reports_exceptions, inherits_alone, evaluates_from_right, faults_in_logic, leaves_other_setting, takes_local_setting, catches_error, reports_attempt, raises_noproc, reports_later, adds_calls, HasFlags, attempt_flag, StepDiffers, is_traced, has_that_flag, is_attempt_by, step_differs, CallsAction, OneCallsAction, TwoCallActions, ShowsOrder, OneShowsOrder, calls_action, one_calls_action, two_call_actions, shows_order, one_shows_order, HasNone, has_none, hands_on, handed_on, HasOther, has_other, LosesLastFlag, loses_last_flag, GivesFlag, gives_flag, GetsFlagAgain, gets_flag_again, sets_silent, SilencesWithoutFlags, silences_without_flags, is_of_sends, is_of_calls, has_mark_below, difference_where}
 use Rattle.def_explain.specs.Laws.{BodyDifferenceIsComputed, OrderDifferenceIsComputed, EventDifferenceIsComputed, StepDifferenceIsComputed}
 
 -- ---- truth values
@@ -219,6 +219,28 @@ gets-again p t es h =
 again-got : (p : ℕ) (t : FlagTable) (es : List Effect) → GetsFlagAgain p t es → gets_flag_again p t false es ≡ true
 again-got p t es h = there-again p t false es h.0 h.1 h.2 h.3 (last-lost p t h.0 h.4.0 h.4.1 h.4.2 h.4.3 h.4.4) (flag-given p h.1 h.5)
 
+-- `silent` is set where there is no flag
+silences-without : (p : ℕ) (t : FlagTable) (es : List Effect) → silences_without_flags p t es ≡ true → SilencesWithoutFlags p t es
+silences-without p t [] h = absurd (cc h)
+silences-without p t (e ∷ es) h = or-case (sets_silent e && has_none (flags_in t p)) _ here (λ k. later (silences-without p (flags_by p t e) es k)) h
+  where
+    here : (sets_silent e && has_none (flags_in t p)) ≡ true → SilencesWithoutFlags p t (e ∷ es)
+    here k = let both : (sets_silent e ≡ true) × (has_none (flags_in t p) ≡ true) = and_parts (sets_silent e) _ k in ([], e, es, refl, both.0, none-set _ both.1)
+
+    later : SilencesWithoutFlags p (flags_by p t e) es → SilencesWithoutFlags p t (e ∷ es)
+    later l = (e ∷ l.0, l.1, l.2, ap (λ x. e ∷ x) l.3, l.4, l.5)
+
+without-silenced : (p : ℕ) (t : FlagTable) (es ds : List Effect) (e : Effect) (fs : List Effect) → es ≡ ds ++ e ∷ fs → sets_silent e ≡ true → HasNone (flags_in (flags_after p t ds) p) → silences_without_flags p t es ≡ true
+without-silenced p t [] ds e fs h k n = absurd (no-effects ds e fs h)
+without-silenced p t (x ∷ es) [] e fs h k n =
+    let is : x ≡ e = head-is x e es fs h in
+    ap (λ b. b || silences_without_flags p (flags_by p t x) es) (both_are (sets_silent x) _ (ap sets_silent is ∙ k) (set-none _ n))
+without-silenced p t (x ∷ es) (d ∷ ds) e fs h k n =
+    let is : x ≡ d = head-is x d es (ds ++ e ∷ fs) h in
+    let more : silences_without_flags p (flags_by p t x) es ≡ true =
+    without-silenced p (flags_by p t x) es ds e fs (tail-is x d es (ds ++ e ∷ fs) h) k (subst (λ y. HasNone (flags_in (flags_after p (flags_by p t y) ds) p)) (sym is) n) in
+    or-second (sets_silent x && has_none (flags_in t p)) _ more
+
 -- ---- messages, marks and dialects
 
 message-there : (o : Option Tree) → not (is_false_message o) ≡ true → o ≢ Some (word "false")
@@ -275,6 +297,12 @@ body_difference_is_computed d c es leaves_no_mark = (
       let x : (is_of_calls d ≡ true) × _ × (is_some (mark_asked es) ≡ true) = three_parts (is_of_calls d) _ _ h in
       ((of-calls d).0 x.0, x.1, mark-there _ x.2),
   λ h. three_are _ _ _ ((of-calls d).1 h.0) h.1 (ap is_some h.2.1),
+)
+body_difference_is_computed d c es ignores_silent = (
+  λ h.
+      let x : (is_of_calls d ≡ true) × (silences_without_flags c.self_pid c.flags es ≡ true) = and_parts (is_of_calls d) _ h in
+      ((of-calls d).0 x.0, silences-without c.self_pid c.flags es x.1),
+  λ h. both_are _ _ ((of-calls d).1 h.0) (without-silenced c.self_pid c.flags es h.1.0 h.1.1 h.1.2 h.1.3 h.1.4 h.1.5),
 )
 body_difference_is_computed d c es reports_end = (λ h. absurd (cc h), λ h. absurd h)
 body_difference_is_computed d c es reports_exceptions = (λ h. absurd (cc h), λ h. absurd h)
@@ -495,6 +523,7 @@ at-exit s l p r node_ends = (λ h. absurd (cc h), λ h. absurd h)
 at-exit s l p r reads_freed = (λ h. absurd (cc h), λ h. absurd h)
 at-exit s l p r suppresses_message = (λ h. absurd (cc h), λ h. absurd h)
 at-exit s l p r leaves_no_mark = (λ h. absurd (cc h), λ h. absurd h)
+at-exit s l p r ignores_silent = (λ h. absurd (cc h), λ h. absurd h)
 at-exit s l p r reports_end = (λ h. absurd (cc h), λ h. absurd h)
 at-exit s l p r reports_exceptions = (
   λ h.
@@ -524,6 +553,7 @@ at-link s l p other node_ends = (λ h. absurd (cc h), λ h. absurd h)
 at-link s l p other reads_freed = (λ h. absurd (cc h), λ h. absurd h)
 at-link s l p other suppresses_message = (λ h. absurd (cc h), λ h. absurd h)
 at-link s l p other leaves_no_mark = (λ h. absurd (cc h), λ h. absurd h)
+at-link s l p other ignores_silent = (λ h. absurd (cc h), λ h. absurd h)
 at-link s l p other reports_end = (λ h. absurd (cc h), λ h. absurd h)
 at-link s l p other reports_exceptions = (λ h. absurd (cc h), λ h. absurd h)
 at-link s l p other inherits_alone = (λ h. absurd (cc h), λ h. absurd h)
@@ -547,6 +577,7 @@ at-receive s l p sender t node_ends = (λ h. absurd (cc h), λ h. absurd h)
 at-receive s l p sender t reads_freed = (λ h. absurd (cc h), λ h. absurd h)
 at-receive s l p sender t suppresses_message = (λ h. absurd (cc h), λ h. absurd h)
 at-receive s l p sender t leaves_no_mark = (λ h. absurd (cc h), λ h. absurd h)
+at-receive s l p sender t ignores_silent = (λ h. absurd (cc h), λ h. absurd h)
 at-receive s l p sender t reports_end = (λ h. absurd (cc h), λ h. absurd h)
 at-receive s l p sender t reports_exceptions = (λ h. absurd (cc h), λ h. absurd h)
 at-receive s l p sender t inherits_alone = (λ h. absurd (cc h), λ h. absurd h)

@@ -13,7 +13,7 @@ use Rattle.def_session.specs.Settings.{FunctionSetting, Setting, off, plain, by,
 use Rattle.def_session.specs.Session.{effects_of_outcome, evaluated_by}
 use Rattle.def_explain.specs.Reasons.{Reason, reason_of}
 use Rattle.def_explain.specs.Verdicts.{verdict_by}
-use Rattle.def_explain.specs.Differences.{node_ends, reads_freed, suppresses_message, leaves_no_mark, evaluates_from_right, faults_in_logic, later_silent, is_silent_by, has_none, loses_last_flag, gets_flag_again, one_shows_order, difference_where, is_of_sends, is_of_calls, body_differs, body_differences, clause_differences, differences_by, firing_differences, setting_differences}
+use Rattle.def_explain.specs.Differences.{node_ends, reads_freed, suppresses_message, leaves_no_mark, ignores_silent, evaluates_from_right, faults_in_logic, later_silent, is_silent_by, has_none, loses_last_flag, gets_flag_again, silences_without_flags, one_shows_order, difference_where, is_of_sends, is_of_calls, body_differs, body_differences, clause_differences, differences_by, firing_differences, setting_differences}
 use Rattle.def_explain.specs.Logic.{clause_has_logic_on_other}
 use Rattle.def_explain.specs.NodeCommands.{can_differ_by, expression_can_differ, one_can_differ, one_calls_logic, clause_can_differ, setting_can_differ}
 use Rattle.def_explain.proofs.Logic.{no_logic_in_clause}
@@ -190,6 +190,15 @@ again-none p t (traces_exception ∷ es) f h = ap (λ b. gets_flag_again p t b e
 again-none p t (silences b ∷ es) f h = absurd (cc h.0)
 again-none p t (changes n cleared set ∷ es) f h = absurd (cc h.0)
 
+-- none sets `silent`
+silences-none : (p : ℕ) (t : FlagTable) (es : List Effect) → ArePlainEffects es → silences_without_flags p t es ≡ false
+silences-none p t [] h = refl
+silences-none p t (gives_message u ∷ es) h = silences-none p t es h.1
+silences-none p t (traces_return ∷ es) h = silences-none p t es h.1
+silences-none p t (traces_exception ∷ es) h = silences-none p t es h.1
+silences-none p t (silences b ∷ es) h = absurd (cc h.0)
+silences-none p t (changes n cleared set ∷ es) h = absurd (cc h.0)
+
 -- nothing becomes silent
 silent-none : (p : ℕ) (b : Bool) (es : List Effect) → ArePlainEffects es → later_silent p b es ≡ b
 silent-none p b [] h = refl
@@ -214,7 +223,8 @@ module _ (c : Context) (some : has_none (flags_in c.flags c.self_pid) ≡ false)
       let freed : body_differs d c es reads_freed ≡ false = and_right (is_of_calls d) _ (and_left (gets_flag_again c.self_pid c.flags false es) _ (again-none c.self_pid c.flags es some h)) in
       let of_message : body_differs d c es suppresses_message ≡ false = and_right (not (is_of_calls d)) _ (and_left (is_silent_by c es) _ silent_after) in
       let of_mark : body_differs d c es leaves_no_mark ≡ false = and_right (is_of_calls d) _ (and_left (is_silent_by c es) _ silent_after) in
-      filter-none (body_differs d c es) (node_ends ∷ reads_freed ∷ suppresses_message ∷ leaves_no_mark ∷ []) (ends, (freed, (of_message, (of_mark, tt))))
+      let of_silent : body_differs d c es ignores_silent ≡ false = and_right (is_of_calls d) _ (silences-none c.self_pid c.flags es h) in
+      filter-none (body_differs d c es) (node_ends ∷ reads_freed ∷ suppresses_message ∷ leaves_no_mark ∷ ignores_silent ∷ []) (ends, (freed, (of_message, (of_mark, (of_silent, tt)))))
 
   no-difference-by-clause : (d : Dialect) (k : Clause) (b : Bindings) (es : List Effect) → one_shows_order k.body ≡ false → clause_has_logic_on_other d k b c ≡ false → ArePlainEffects es → clause_differences d k b c es ≡ []
   no-difference-by-clause d k b es o l h =

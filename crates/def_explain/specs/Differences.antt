@@ -26,6 +26,7 @@ use Rattle.def_explain.specs.Verdicts.{Verdict, fails, fires, verdict_of}
 -- the message of a call is written from memory that was freed, where the body takes the last flag of its process and gives it one again;
 -- `silent` suppresses the message of a send or a receive that a match specification decides;
 -- a call that is silent gets no mark;
+-- `silent` does nothing where the process of a call has no flag;
 -- the return or the exception is reported unless `silent` was set at the call;
 -- each call that is marked for exceptions has `exception_from` before the end by a run-time error;
 -- a child that inherits flags has those alone, and none of the flags for new processes;
@@ -43,6 +44,7 @@ pub data Difference : Type 0 where
   reads_freed : Difference
   suppresses_message : Difference
   leaves_no_mark : Difference
+  ignores_silent : Difference
   reports_end : Difference
   reports_exceptions : Difference
   inherits_alone : Difference
@@ -74,6 +76,15 @@ GivesFlag p e = (cleared : Flags) × (set : Flags) × (x : Flag) × (e ≡ chang
 abbrev pub GetsFlagAgain : ℕ → FlagTable → List Effect → Type 0
 GetsFlagAgain p t es = (ds : List Effect) × (e : Effect) × (fs : List Effect) × (es ≡ ds ++ e ∷ fs) × LosesLastFlag p t ds × GivesFlag p e
 
+-- the effect sets the flag `silent`
+abbrev pub sets_silent : Effect → Bool
+sets_silent (silences b) = b
+sets_silent e = false
+
+-- one of these effects sets `silent` where the process has no flag
+abbrev pub SilencesWithoutFlags : ℕ → FlagTable → List Effect → Type 0
+SilencesWithoutFlags p t es = (ds : List Effect) × (e : Effect) × (fs : List Effect) × (es ≡ ds ++ e ∷ fs) × (sets_silent e ≡ true) × HasNone (flags_in (flags_after p t ds) p)
+
 -- whether the process of this pid has the flag `silent` after these effects; `b` is whether it had it before
 abbrev pub later_silent : ℕ → Bool → List Effect → Bool
 later_silent self_pid b [] = b
@@ -102,6 +113,7 @@ BodyDiffers d c es node_ends = (d ≡ for_sends) × LosesLastFlag c.self_pid c.f
 BodyDiffers d c es reads_freed = (d ≡ for_calls) × GetsFlagAgain c.self_pid c.flags es × IsMessage es
 BodyDiffers d c es suppresses_message = (d ≢ for_calls) × IsSilent c es × IsMessage es
 BodyDiffers d c es leaves_no_mark = (d ≡ for_calls) × IsSilent c es × AsksForMark es
+BodyDiffers d c es ignores_silent = (d ≡ for_calls) × SilencesWithoutFlags c.self_pid c.flags es
 BodyDiffers d c es x = ⊥
 
 -- ---- the order of evaluation
@@ -246,6 +258,11 @@ abbrev pub gets_flag_again : ℕ → FlagTable → (lost : Bool) → List Effect
 gets_flag_again p t lost [] = false
 gets_flag_again p t lost (e ∷ es) = (lost && gives_flag p e) || gets_flag_again p (flags_by p t e) (lost || has_none (flags_in (flags_by p t e) p)) es
 
+-- one of these effects sets `silent` where the process has no flag
+abbrev pub silences_without_flags : ℕ → FlagTable → List Effect → Bool
+silences_without_flags p t [] = false
+silences_without_flags p t (e ∷ es) = (sets_silent e && has_none (flags_in t p)) || silences_without_flags p (flags_by p t e) es
+
 abbrev mutual
   -- the expression calls an action
   pub calls_action : Expr → Bool
@@ -312,11 +329,12 @@ body_differs d c es node_ends = is_of_sends d && (loses_last_flag c.self_pid c.f
 body_differs d c es reads_freed = is_of_calls d && (gets_flag_again c.self_pid c.flags false es && not (is_false_message (last_message es)))
 body_differs d c es suppresses_message = not (is_of_calls d) && (is_silent_by c es && not (is_false_message (last_message es)))
 body_differs d c es leaves_no_mark = is_of_calls d && (is_silent_by c es && is_some (mark_asked es))
+body_differs d c es ignores_silent = is_of_calls d && silences_without_flags c.self_pid c.flags es
 body_differs d c es x = false
 
 -- by its effects
 abbrev pub body_differences : Dialect → Context → List Effect → List Difference
-body_differences d c es = filter (body_differs d c es) (node_ends ∷ reads_freed ∷ suppresses_message ∷ leaves_no_mark ∷ [])
+body_differences d c es = filter (body_differs d c es) (node_ends ∷ reads_freed ∷ suppresses_message ∷ leaves_no_mark ∷ ignores_silent ∷ [])
 
 -- that of logic on what is no boolean
 abbrev pub logic_difference : Dialect → Clause → Bindings → Context → Option Difference
@@ -417,6 +435,7 @@ difference_text node_ends = codes "this send ends the node with a segmentation f
 difference_text reads_freed = codes "the message may be missing, or have other parts: the node reads freed memory"
 difference_text suppresses_message = codes "no message: silent"
 difference_text leaves_no_mark = codes "no mark: the call is silent"
+difference_text ignores_silent = codes "silent does nothing: the process has no flag then"
 difference_text reports_end = codes "a message, unless the call was silent"
 difference_text reports_exceptions = codes "exception_from first, of each call that is marked for exceptions"
 difference_text inherits_alone = codes "the child has the flags of its parent alone"

@@ -4,7 +4,7 @@ use Rattle.def_spec.specs.Expressions.{Dialect, Context, Effect}
 use Rattle.def_session.specs.State.{Session}
 use Rattle.def_session.specs.Session.{is_marked_for_exceptions}
 use Rattle.def_explain.specs.Accounts.{differs}
-use Rattle.def_explain.specs.Differences.{Difference, node_ends, reads_freed, suppresses_message, leaves_no_mark, evaluates_from_right, faults_in_logic, one_shows_order, difference_where, body_differs, body_differences, has_mark_below}
+use Rattle.def_explain.specs.Differences.{Difference, node_ends, reads_freed, suppresses_message, leaves_no_mark, ignores_silent, evaluates_from_right, faults_in_logic, one_shows_order, difference_where, body_differs, body_differences, has_mark_below}
 use Rattle.def_explain.specs.Logic.{clause_has_logic_on_other}
 use Rattle.tn_head.specs.Views.{bindings_seen}
 use Rattle.tn_head.specs.declared.bindings.Bindings as code
@@ -39,13 +39,14 @@ one-where false x xs = refl
 -- a line for each that there is by the effects of a clause that fires
 pub each_of_body : (d : Dialect) (c : Context) (es : List Effect) → map differs (body_differences d c es)
     ≡ differs_where (body_differs d c es node_ends) node_ends ++ (differs_where (body_differs d c es reads_freed) reads_freed
-    ++ (differs_where (body_differs d c es suppresses_message) suppresses_message ++ (differs_where (body_differs d c es leaves_no_mark) leaves_no_mark ++ [])))
+    ++ (differs_where (body_differs d c es suppresses_message) suppresses_message ++ (differs_where (body_differs d c es leaves_no_mark) leaves_no_mark ++ (differs_where (body_differs d c es ignores_silent) ignores_silent ++ []))))
 each_of_body d c es =
     let f : Difference → Bool = body_differs d c es in
     one-where (f node_ends) node_ends _
     ∙ ap (λ l. differs_where (f node_ends) node_ends ++ l) (one-where (f reads_freed) reads_freed _
     ∙ ap (λ l. differs_where (f reads_freed) reads_freed ++ l) (one-where (f suppresses_message) suppresses_message _
-    ∙ ap (λ l. differs_where (f suppresses_message) suppresses_message ++ l) (one-where (f leaves_no_mark) leaves_no_mark [])))
+    ∙ ap (λ l. differs_where (f suppresses_message) suppresses_message ++ l) (one-where (f leaves_no_mark) leaves_no_mark _
+    ∙ ap (λ l. differs_where (f leaves_no_mark) leaves_no_mark ++ l) (one-where (f ignores_silent) ignores_silent []))))
 
 -- before them those of the clause
 first-where : (q : Bool) (x : Difference) (xs : List Difference) → map differs (option_to_list (difference_where q x) ++ xs) ≡ differs_where q x ++ map differs xs

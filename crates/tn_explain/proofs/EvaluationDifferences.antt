@@ -13,7 +13,7 @@ use Rattle.def_session.specs.Settings.{FunctionSetting, Setting, off, setting_fo
 use Rattle.def_explain.specs.Reasons.{Reason}
 use Rattle.def_explain.specs.Verdicts.{fails, fires, verdict_of}
 use Rattle.def_explain.specs.Causes.{newest_of}
-use Rattle.def_explain.specs.Differences.{Difference, node_ends, reads_freed, suppresses_message, leaves_no_mark, evaluates_from_right, faults_in_logic, one_shows_order, difference_where, body_differs, body_differences, clause_differences, differences_by, firing_differences, setting_differences, evaluation_differences, differences_if}
+use Rattle.def_explain.specs.Differences.{Difference, node_ends, reads_freed, suppresses_message, leaves_no_mark, ignores_silent, evaluates_from_right, faults_in_logic, one_shows_order, difference_where, body_differs, body_differences, clause_differences, differences_by, firing_differences, setting_differences, evaluation_differences, differences_if}
 use Rattle.def_explain.specs.NodeMoves.{is_some_difference}
 use Rattle.tn_session.specs.Looks.{parts_of}
 use Rattle.tn_session.specs.Newest.{newest_with}
@@ -50,15 +50,16 @@ first-where : (q : Bool) (x : Difference) (xs : List Difference) → is_some_dif
 first-where true x xs = refl
 first-where false x xs = refl
 
--- one of four by the effects
-pub one_of_four : (d : Dialect) (c : Context) (es : List Effect) → is_some_difference (body_differences d c es)
-    ≡ (body_differs d c es node_ends || (body_differs d c es reads_freed || (body_differs d c es suppresses_message || (body_differs d c es leaves_no_mark || false))))
-one_of_four d c es =
+-- one of five by the effects
+pub one_of_five : (d : Dialect) (c : Context) (es : List Effect) → is_some_difference (body_differences d c es)
+    ≡ (body_differs d c es node_ends || (body_differs d c es reads_freed || (body_differs d c es suppresses_message || (body_differs d c es leaves_no_mark || (body_differs d c es ignores_silent || false)))))
+one_of_five d c es =
     let f : Difference → Bool = body_differs d c es in
     one-where (f node_ends) node_ends _
     ∙ ap (λ b. f node_ends || b) (one-where (f reads_freed) reads_freed _
     ∙ ap (λ b. f reads_freed || b) (one-where (f suppresses_message) suppresses_message _
-    ∙ ap (λ b. f suppresses_message || b) (one-where (f leaves_no_mark) leaves_no_mark [])))
+    ∙ ap (λ b. f suppresses_message || b) (one-where (f leaves_no_mark) leaves_no_mark _
+    ∙ ap (λ b. f leaves_no_mark || b) (one-where (f ignores_silent) ignores_silent []))))
 
 -- that of the order or of logic, or one of these
 pub one_of_clause : {A B : Type 0} (d : func.Dialect) (k : Clause A) (b : code.Bindings A B) (c : action.Context A) (es : List (action_effect.Effect A)) (these : ClauseDifferences) → AreOfClause d k b c these

@@ -172,6 +172,7 @@ impl<A: Allocator + Copy> Lines<'_, A> {
             effects,
             out,
         )?;
-        self.put_body_difference(Difference::LeavesNoMark, dialect, context, effects, out)
+        self.put_body_difference(Difference::LeavesNoMark, dialect, context, effects, out)?;
+        self.put_body_difference(Difference::IgnoresSilent, dialect, context, effects, out)
     }
 }

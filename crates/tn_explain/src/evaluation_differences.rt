@@ -39,6 +39,7 @@ fn clause_differs<A: Allocator>(
         || body_differs(Difference::ReadsFreed, dialect, context, effects)
         || body_differs(Difference::SuppressesMessage, dialect, context, effects)
         || body_differs(Difference::LeavesNoMark, dialect, context, effects)
+        || body_differs(Difference::IgnoresSilent, dialect, context, effects)
 }
 
 /// Whether it does at the first clause that fires, where one does. What is evaluated lies in the arena.

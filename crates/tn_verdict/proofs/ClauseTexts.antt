@@ -6,7 +6,7 @@ use Rattle.def_spec.specs.Outcome as outcome
 use Rattle.def_spec.specs.Matching.{Bindings}
 use Rattle.def_explain.specs.Reasons.{Reason}
 use Rattle.def_explain.specs.Verdicts.{fails, fires, verdict_of}
-use Rattle.def_explain.specs.Differences.{Difference, node_ends, reads_freed, suppresses_message, leaves_no_mark, evaluates_from_right, faults_in_logic, one_shows_order, difference_where, body_differs, body_differences, clause_differences}
+use Rattle.def_explain.specs.Differences.{Difference, node_ends, reads_freed, suppresses_message, leaves_no_mark, ignores_silent, evaluates_from_right, faults_in_logic, one_shows_order, difference_where, body_differs, body_differences, clause_differences}
 use Rattle.def_explain.specs.Logic.{clause_has_logic_on_other}
 use Rattle.def_explain.specs.Texts.{binding_line, clause_text, reason_text, effects_text, end_text, difference_line, fires_text, verdict_text, spec_test_text_after}
 use Rattle.tn_spec.specs.Views.{clause_seen}
@@ -41,13 +41,14 @@ one-where true x xs = refl
 one-where false x xs = refl
 
 each_of_body : (d : ex.Dialect) (c : ex.Context) (es : List ex.Effect) → flat_map difference_line (body_differences d c es)
-    ≡ difference_line_where (body_differs d c es node_ends) node_ends ++ (difference_line_where (body_differs d c es reads_freed) reads_freed ++ (difference_line_where (body_differs d c es suppresses_message) suppresses_message ++ (difference_line_where (body_differs d c es leaves_no_mark) leaves_no_mark ++ [])))
+    ≡ difference_line_where (body_differs d c es node_ends) node_ends ++ (difference_line_where (body_differs d c es reads_freed) reads_freed ++ (difference_line_where (body_differs d c es suppresses_message) suppresses_message ++ (difference_line_where (body_differs d c es leaves_no_mark) leaves_no_mark ++ (difference_line_where (body_differs d c es ignores_silent) ignores_silent ++ []))))
 each_of_body d c es =
     let f : Difference → Bool = body_differs d c es in
     one-where (f node_ends) node_ends _
     ∙ ap (λ l. difference_line_where (f node_ends) node_ends ++ l) (one-where (f reads_freed) reads_freed _
     ∙ ap (λ l. difference_line_where (f reads_freed) reads_freed ++ l) (one-where (f suppresses_message) suppresses_message _
-    ∙ ap (λ l. difference_line_where (f suppresses_message) suppresses_message ++ l) (one-where (f leaves_no_mark) leaves_no_mark [])))
+    ∙ ap (λ l. difference_line_where (f suppresses_message) suppresses_message ++ l) (one-where (f leaves_no_mark) leaves_no_mark _
+    ∙ ap (λ l. difference_line_where (f leaves_no_mark) leaves_no_mark ++ l) (one-where (f ignores_silent) ignores_silent []))))
 
 -- before them those of the order of evaluation and of logic
 first-where : (q : Bool) (x : Difference) (xs : List Difference) → flat_map difference_line (option_to_list (difference_where q x) ++ xs) ≡ difference_line_where q x ++ flat_map difference_line xs
@@ -55,7 +56,7 @@ first-where true x xs = refl
 first-where false x xs = refl
 
 pub each_where : (d : ex.Dialect) (k : outcome.Clause) (b : Bindings) (c : ex.Context) (es : List ex.Effect) → flat_map difference_line (clause_differences d k b c es)
-    ≡ difference_line_where (one_shows_order k.body) evaluates_from_right ++ (difference_line_where (clause_has_logic_on_other d k b c) faults_in_logic ++ (difference_line_where (body_differs d c es node_ends) node_ends ++ (difference_line_where (body_differs d c es reads_freed) reads_freed ++ (difference_line_where (body_differs d c es suppresses_message) suppresses_message ++ (difference_line_where (body_differs d c es leaves_no_mark) leaves_no_mark ++ [])))))
+    ≡ difference_line_where (one_shows_order k.body) evaluates_from_right ++ (difference_line_where (clause_has_logic_on_other d k b c) faults_in_logic ++ (difference_line_where (body_differs d c es node_ends) node_ends ++ (difference_line_where (body_differs d c es reads_freed) reads_freed ++ (difference_line_where (body_differs d c es suppresses_message) suppresses_message ++ (difference_line_where (body_differs d c es leaves_no_mark) leaves_no_mark ++ (difference_line_where (body_differs d c es ignores_silent) ignores_silent ++ []))))))
 each_where d k b c es =
     first-where (one_shows_order k.body) evaluates_from_right _
     ∙ ap (λ l. difference_line_where (one_shows_order k.body) evaluates_from_right ++ l) (first-where (clause_has_logic_on_other d k b c) faults_in_logic (body_differences d c es)

@@ -2,7 +2,7 @@ use Rattle.std.proofs.Common.{◌++◌, [], map, sym, ap, append-nil}
 use Rattle.def_explain.specs.Differences.{evaluates_from_right, faults_in_logic}
 use Rattle.tn_spec.specs.Views.{dialect_of}
 use Rattle.tn_action.specs.Views.{context_seen, effect_seen}
-use Rattle.tn_difference.specs.declared.differences.Difference.TheVariants.{NodeEnds, ReadsFreed, SuppressesMessage, LeavesNoMark}
+use Rattle.tn_difference.specs.declared.differences.Difference.TheVariants.{NodeEnds, ReadsFreed, SuppressesMessage, LeavesNoMark, IgnoresSilent}
 use Rattle.tn_explain.specs.LineParts.{differs_where, body_difference_line}
 use Rattle.tn_text.proofs.Growth.{grows_on}
 use Rattle.tn_explain.proofs.DifferenceLines.{each_of_body}
@@ -21,17 +21,19 @@ returns-clause-ok g c =
     let two = body_difference_line ReadsFreed d k es in
     let three = body_difference_line SuppressesMessage d k es in
     let four = body_difference_line LeavesNoMark d k es in
-    on_ok c.put_body_difference-4.result _ _
-    (λ made. other n (order ++ (logic ++ (one ++ (two ++ (three ++ (four ++ [])))))) _ _ _ (ap (λ ls. order ++ (logic ++ ls)) (sym (each_of_body (dialect_of d) (context_seen k) (map effect_seen es))))
-    (more n order (logic ++ (one ++ (two ++ (three ++ (four ++ []))))) _ _ _ c.in_ok-put_where_differs.ensures.ok
-    (more n logic (one ++ (two ++ (three ++ (four ++ [])))) _ _ _ c.in_ok-put_where_differs-2.ensures.ok
-    (more n one (two ++ (three ++ (four ++ []))) _ _ _ c.in_ok-put_body_difference.ensures.ok
-    (more n two (three ++ (four ++ [])) _ _ _ c.in_ok-put_body_difference-2.ensures.ok
-    (more n three (four ++ []) _ _ _ c.in_ok-put_body_difference-3.ensures.ok
-    (other n four (four ++ []) _ _ (sym (append-nil four)) made)))))))
-    c.put_body_difference-4.ensures.ok
+    let five = body_difference_line IgnoresSilent d k es in
+    on_ok c.put_body_difference-5.result _ _
+    (λ made. other n (order ++ (logic ++ (one ++ (two ++ (three ++ (four ++ (five ++ []))))))) _ _ _ (ap (λ ls. order ++ (logic ++ ls)) (sym (each_of_body (dialect_of d) (context_seen k) (map effect_seen es))))
+    (more n order (logic ++ (one ++ (two ++ (three ++ (four ++ (five ++ [])))))) _ _ _ c.in_ok-put_where_differs.ensures.ok
+    (more n logic (one ++ (two ++ (three ++ (four ++ (five ++ []))))) _ _ _ c.in_ok-put_where_differs-2.ensures.ok
+    (more n one (two ++ (three ++ (four ++ (five ++ [])))) _ _ _ c.in_ok-put_body_difference.ensures.ok
+    (more n two (three ++ (four ++ (five ++ []))) _ _ _ c.in_ok-put_body_difference-2.ensures.ok
+    (more n three (four ++ (five ++ [])) _ _ _ c.in_ok-put_body_difference-3.ensures.ok
+    (more n four (five ++ []) _ _ _ c.in_ok-put_body_difference-4.ensures.ok
+    (other n five (five ++ []) _ _ (sym (append-nil five)) made))))))))
+    c.put_body_difference-5.ensures.ok
 
 pub returns-clause-grows : goal.returns-clause-grows
 returns-clause-grows g c =
     grows_on (grows_on c.put_where_differs.ensures.grows c.put_where_differs-2.ensures.grows)
-    (grows_on (grows_on c.put_body_difference.ensures.grows c.put_body_difference-2.ensures.grows) (grows_on c.put_body_difference-3.ensures.grows c.put_body_difference-4.ensures.grows))
+    (grows_on (grows_on c.put_body_difference.ensures.grows c.put_body_difference-2.ensures.grows) (grows_on (grows_on c.put_body_difference-3.ensures.grows c.put_body_difference-4.ensures.grows) c.put_body_difference-5.ensures.grows))
