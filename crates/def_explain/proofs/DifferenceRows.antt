@@ -3,14 +3,16 @@ use Rattle.std.proofs.Common.{◌≡◌, ℕ, Option, true, false, List, [], ◌
 use Rattle.std.specs.Prelude.{replicate}
 use Rattle.def_term.specs.Names.{Mfa, word}
 use Rattle.def_spec.specs.Flags.{Flag, Flags, no_flags, only, union, with_flags_in, send_flag, receive_flag, call_flag, procs_flag, silent_flag, set_on_spawn, set_on_first_spawn, set_on_link}
-use Rattle.def_spec.specs.Expressions.{for_calls, for_sends, for_receives, Expr, constant, tuple_of, list_of, call, and_also, perform, message, Exprs, no_exprs, and_expr, Context, Effect, gives_message, traces_return, traces_exception, silences, changes}
+use Rattle.def_spec.specs.Expressions.{for_calls, for_sends, for_receives, Expr, whole_list, all_bound, constant, tuple_of, list_of, call, and_also, perform, message, Exprs, no_exprs, and_expr, Context, Effect, gives_message, traces_return, traces_exception, silences, changes}
 use Rattle.def_spec.specs.Functions as fn
+use Rattle.def_spec.specs.Matching.{Pattern, anything, in_list, no_patterns, and_pattern}
+use Rattle.def_spec.specs.Outcome.{Clause}
 use Rattle.def_script.specs.Program.{error}
 use Rattle.def_outlook.specs.Outlook.{RuntimeError, calls_past_limit, sends_to_no_pid, links_to_no_pid, unlinks_from_no_pid, Outlook, nothing_ahead}
 use Rattle.def_session.specs.Settings.{off}
 use Rattle.def_node.specs.Event.{Event, received, returned, raised, spawned, exited, linked, getting_linked}
 use Rattle.def_session.specs.State.{for_returns, for_exceptions, live, new_session, alive_at_start, Session, MarkKind, with_flags, with_marks}
-use Rattle.def_explain.specs.Differences.{Difference, node_ends, reads_freed, suppresses_message, leaves_no_mark, ignores_silent, reports_end, reports_exceptions, inherits_alone, evaluates_from_right, catches_error, reports_attempt, raises_noproc, reports_later, adds_calls, order_difference, body_differences, event_difference, step_differences, has_mark_below}
+use Rattle.def_explain.specs.Differences.{Difference, node_ends, reads_freed, suppresses_message, leaves_no_mark, ignores_silent, reports_end, reports_exceptions, inherits_alone, evaluates_from_right, reads_no_list, catches_error, reports_attempt, raises_noproc, reports_later, adds_calls, order_difference, list_difference, body_differences, event_difference, step_differences, has_mark_below}
 
 -- ---- bodies, in the process 100
 
@@ -165,6 +167,33 @@ two_actions_of_a_list = refl
 
 pub two_actions_of_andalso : order_difference (and_expr (and_also (both says says)) no_exprs) ≡ None
 two_actions_of_andalso = refl
+
+-- ---- the list of no elements
+
+abbrev clause : Pattern → (conditions body : Exprs) → Clause
+clause head conditions body = record { head = head; conditions = conditions; body = body }
+
+abbrev says_whole : Expr
+says_whole = perform message (and_expr (list_of (and_expr whole_list no_exprs)) no_exprs)
+
+-- {[],[],[{message,['$_']}]}, {[],['$_'],[]}, and the same after another head, for sends, and without '$_'
+pub whole_list_of_none : list_difference for_calls (clause (in_list no_patterns) no_exprs (and_expr says_whole no_exprs)) ≡ Some reads_no_list
+whole_list_of_none = refl
+
+pub condition_of_none : list_difference for_calls (clause (in_list no_patterns) (and_expr whole_list no_exprs) no_exprs) ≡ Some reads_no_list
+condition_of_none = refl
+
+pub whole_list_of_any : list_difference for_calls (clause anything no_exprs (and_expr says_whole no_exprs)) ≡ None
+whole_list_of_any = refl
+
+pub whole_list_of_one : list_difference for_calls (clause (in_list (and_pattern anything no_patterns)) no_exprs (and_expr says_whole no_exprs)) ≡ None
+whole_list_of_one = refl
+
+pub whole_list_of_a_send : list_difference for_sends (clause (in_list no_patterns) no_exprs (and_expr says_whole no_exprs)) ≡ None
+whole_list_of_a_send = refl
+
+pub none_without_whole_list : list_difference for_calls (clause (in_list no_patterns) no_exprs (and_expr says (and_expr all_bound no_exprs))) ≡ None
+none_without_whole_list = refl
 
 -- ---- events of the process 100
 

@@ -8,6 +8,8 @@ use Rattle.def_term.specs.Order.{same}
 use Rattle.def_term.specs.Names.{word}
 use Rattle.def_term.proofs.Same.{same-is, same-self}
 use Rattle.def_spec.specs.Flags.{Flag, send_flag, receive_flag, call_flag, procs_flag, silent_flag, arity_flag, set_on_spawn, set_on_first_spawn, set_on_link, set_on_first_link, Flags, no_flags, has_all, FlagTable, flags_in}
+use Rattle.def_spec.specs.Matching.{Pattern, variable, anything, only_term, in_tuple, in_list, no_patterns, and_pattern}
+use Rattle.def_spec.specs.Outcome.{Clause}
 use Rattle.def_spec.specs.Expressions.{Dialect, for_calls, for_sends, for_receives, Expr, bound_to, whole_list, all_bound, constant, tuple_of, list_of, call, and_also, or_else, perform, Exprs, no_exprs, and_expr, Effect, gives_message, traces_return, traces_exception, silences, changes, flags_by, flags_after}
 use Rattle.def_node.specs.Process.{FRAMES}
 use Rattle.def_node.specs.Event.{sent, received, called, returned, raised, spawning, spawned, exited, linked, unlinked, getting_linked, getting_unlinked}
@@ -16,8 +18,8 @@ use Rattle.def_session.specs.State.{MarkKind, for_returns, for_exceptions, Sessi
 use Rattle.def_session.specs.Session.{inherit, effects_of, reported_for, mark_asked, is_marked, is_for_exceptions, is_marked_for_exceptions}
 use Rattle.def_session.specs.Messages.{last_message}
 use Rattle.def_explain.specs.Causes.{is_false_message}
-use Rattle.def_explain.specs.Differences.{Difference, node_ends, reads_freed, suppresses_message, leaves_no_mark, ignores_silent, reports_end, reports_exceptions, inherits_alone, evaluates_from_right, faults_in_logic, leaves_other_setting, takes_local_setting, catches_error, reports_attempt, raises_noproc, reports_later, adds_calls, HasFlags, attempt_flag, StepDiffers, is_traced, has_that_flag, is_attempt_by, step_differs, CallsAction, OneCallsAction, TwoCallActions, ShowsOrder, OneShowsOrder, calls_action, one_calls_action, two_call_actions, shows_order, one_shows_order, HasNone, has_none, hands_on, handed_on, HasOther, has_other, LosesLastFlag, loses_last_flag, GivesFlag, gives_flag, GetsFlagAgain, gets_flag_again, sets_silent, SilencesWithoutFlags, silences_without_flags, is_of_sends, is_of_calls, has_mark_below, difference_where}
-use Rattle.def_explain.specs.Laws.{BodyDifferenceIsComputed, OrderDifferenceIsComputed, EventDifferenceIsComputed, StepDifferenceIsComputed}
+use Rattle.def_explain.specs.Differences.{Difference, node_ends, reads_freed, suppresses_message, leaves_no_mark, ignores_silent, reports_end, reports_exceptions, inherits_alone, evaluates_from_right, reads_no_list, faults_in_logic, leaves_other_setting, takes_local_setting, catches_error, reports_attempt, raises_noproc, reports_later, adds_calls, HasFlags, attempt_flag, StepDiffers, is_traced, has_that_flag, is_attempt_by, step_differs, CallsAction, OneCallsAction, TwoCallActions, ShowsOrder, OneShowsOrder, calls_action, one_calls_action, two_call_actions, shows_order, one_shows_order, HasWholeList, OneHasWholeList, HasListOfNone, ReadsNoList, has_whole_list, one_has_whole_list, is_list_of_none, has_list_of_none, HasNone, has_none, hands_on, handed_on, HasOther, has_other, LosesLastFlag, loses_last_flag, GivesFlag, gives_flag, GetsFlagAgain, gets_flag_again, sets_silent, SilencesWithoutFlags, silences_without_flags, is_of_sends, is_of_calls, has_mark_below, difference_where}
+use Rattle.def_explain.specs.Laws.{BodyDifferenceIsComputed, OrderDifferenceIsComputed, ListDifferenceIsComputed, EventDifferenceIsComputed, StepDifferenceIsComputed}
 
 -- ---- truth values
 
@@ -308,6 +310,7 @@ body_difference_is_computed d c es reports_end = (λ h. absurd (cc h), λ h. abs
 body_difference_is_computed d c es reports_exceptions = (λ h. absurd (cc h), λ h. absurd h)
 body_difference_is_computed d c es inherits_alone = (λ h. absurd (cc h), λ h. absurd h)
 body_difference_is_computed d c es evaluates_from_right = (λ h. absurd (cc h), λ h. absurd h)
+body_difference_is_computed d c es reads_no_list = (λ h. absurd (cc h), λ h. absurd h)
 body_difference_is_computed d c es faults_in_logic = (λ h. absurd (cc h), λ h. absurd h)
 body_difference_is_computed d c es leaves_other_setting = (λ h. absurd (cc h), λ h. absurd h)
 body_difference_is_computed d c es takes_local_setting = (λ h. absurd (cc h), λ h. absurd h)
@@ -481,6 +484,65 @@ event_difference_is_computed s (getting_unlinked p q) x = (λ h. absurd (cc h), 
 pub order_difference_is_computed : OrderDifferenceIsComputed
 order_difference_is_computed body x = where-holds _ evaluates_from_right x _ (one-order-there body, there-one-order body)
 
+-- ---- the list of no elements
+
+mutual
+  whole-there : (e : Expr) → has_whole_list e ≡ true → HasWholeList e
+  whole-there whole_list h = tt
+  whole-there (tuple_of es) h = one-whole-there es h
+  whole-there (list_of es) h = one-whole-there es h
+  whole-there (call f es) h = one-whole-there es h
+  whole-there (perform a es) h = one-whole-there es h
+  whole-there (and_also es) h = one-whole-there es h
+  whole-there (or_else es) h = one-whole-there es h
+  whole-there (bound_to n) h = absurd (cc h)
+  whole-there all_bound h = absurd (cc h)
+  whole-there (constant t) h = absurd (cc h)
+
+  one-whole-there : (es : Exprs) → one_has_whole_list es ≡ true → OneHasWholeList es
+  one-whole-there no_exprs h = absurd (cc h)
+  one-whole-there (and_expr e es) h = or-either (has_whole_list e) (one_has_whole_list es) (whole-there e) (one-whole-there es) h
+
+mutual
+  there-whole : (e : Expr) → HasWholeList e → has_whole_list e ≡ true
+  there-whole whole_list h = refl
+  there-whole (tuple_of es) h = there-one-whole es h
+  there-whole (list_of es) h = there-one-whole es h
+  there-whole (call f es) h = there-one-whole es h
+  there-whole (perform a es) h = there-one-whole es h
+  there-whole (and_also es) h = there-one-whole es h
+  there-whole (or_else es) h = there-one-whole es h
+  there-whole (bound_to n) h = absurd h
+  there-whole all_bound h = absurd h
+  there-whole (constant t) h = absurd h
+
+  there-one-whole : (es : Exprs) → OneHasWholeList es → one_has_whole_list es ≡ true
+  there-one-whole no_exprs h = absurd h
+  there-one-whole (and_expr e es) h = either-or (has_whole_list e) (one_has_whole_list es) (there-whole e) (there-one-whole es) h
+
+none-is : (p : Pattern) → is_list_of_none p ≡ true → p ≡ in_list no_patterns
+none-is (in_list no_patterns) h = refl
+none-is (in_list (and_pattern p ps)) h = absurd (cc h)
+none-is (variable n) h = absurd (cc h)
+none-is anything h = absurd (cc h)
+none-is (only_term t) h = absurd (cc h)
+none-is (in_tuple ps) h = absurd (cc h)
+
+list-of-none : (k : Clause) → has_list_of_none k ≡ true → HasListOfNone k
+list-of-none k h =
+    let both : (is_list_of_none k.head ≡ true) × ((one_has_whole_list k.conditions || one_has_whole_list k.body) ≡ true) = and_parts (is_list_of_none k.head) _ h in
+    (none-is k.head both.0, or-either (one_has_whole_list k.conditions) (one_has_whole_list k.body) (one-whole-there k.conditions) (one-whole-there k.body) both.1)
+
+none-listed : (k : Clause) → HasListOfNone k → has_list_of_none k ≡ true
+none-listed k h =
+    both_are _ _ (ap is_list_of_none h.0) (either-or (one_has_whole_list k.conditions) (one_has_whole_list k.body) (there-one-whole k.conditions) (there-one-whole k.body) h.1)
+
+pub list_difference_is_computed : ListDifferenceIsComputed
+list_difference_is_computed d k x = where-holds _ reads_no_list x (ReadsNoList d k) (
+  λ h. let y : (is_of_calls d ≡ true) × (has_list_of_none k ≡ true) = and_parts (is_of_calls d) _ h in ((of-calls d).0 y.0, list-of-none k y.1),
+  λ h. both_are _ _ ((of-calls d).1 h.0) (none-listed k h.1),
+)
+
 -- ---- by the step at an event
 
 -- a process that has a flag
@@ -534,6 +596,7 @@ at-exit s l p r reports_exceptions = (
 )
 at-exit s l p r inherits_alone = (λ h. absurd (cc h), λ h. absurd h)
 at-exit s l p r evaluates_from_right = (λ h. absurd (cc h), λ h. absurd h)
+at-exit s l p r reads_no_list = (λ h. absurd (cc h), λ h. absurd h)
 at-exit s l p r faults_in_logic = (λ h. absurd (cc h), λ h. absurd h)
 at-exit s l p r leaves_other_setting = (λ h. absurd (cc h), λ h. absurd h)
 at-exit s l p r takes_local_setting = (λ h. absurd (cc h), λ h. absurd h)
@@ -558,6 +621,7 @@ at-link s l p other reports_end = (λ h. absurd (cc h), λ h. absurd h)
 at-link s l p other reports_exceptions = (λ h. absurd (cc h), λ h. absurd h)
 at-link s l p other inherits_alone = (λ h. absurd (cc h), λ h. absurd h)
 at-link s l p other evaluates_from_right = (λ h. absurd (cc h), λ h. absurd h)
+at-link s l p other reads_no_list = (λ h. absurd (cc h), λ h. absurd h)
 at-link s l p other faults_in_logic = (λ h. absurd (cc h), λ h. absurd h)
 at-link s l p other leaves_other_setting = (λ h. absurd (cc h), λ h. absurd h)
 at-link s l p other takes_local_setting = (λ h. absurd (cc h), λ h. absurd h)
@@ -582,6 +646,7 @@ at-receive s l p sender t reports_end = (λ h. absurd (cc h), λ h. absurd h)
 at-receive s l p sender t reports_exceptions = (λ h. absurd (cc h), λ h. absurd h)
 at-receive s l p sender t inherits_alone = (λ h. absurd (cc h), λ h. absurd h)
 at-receive s l p sender t evaluates_from_right = (λ h. absurd (cc h), λ h. absurd h)
+at-receive s l p sender t reads_no_list = (λ h. absurd (cc h), λ h. absurd h)
 at-receive s l p sender t faults_in_logic = (λ h. absurd (cc h), λ h. absurd h)
 at-receive s l p sender t leaves_other_setting = (λ h. absurd (cc h), λ h. absurd h)
 at-receive s l p sender t takes_local_setting = (λ h. absurd (cc h), λ h. absurd h)

@@ -13,7 +13,7 @@ use Rattle.def_session.specs.Settings.{FunctionSetting, Setting, off, plain, by,
 use Rattle.def_session.specs.Session.{effects_of_outcome, evaluated_by}
 use Rattle.def_explain.specs.Reasons.{Reason, reason_of}
 use Rattle.def_explain.specs.Verdicts.{verdict_by}
-use Rattle.def_explain.specs.Differences.{node_ends, reads_freed, suppresses_message, leaves_no_mark, ignores_silent, evaluates_from_right, faults_in_logic, later_silent, is_silent_by, has_none, loses_last_flag, gets_flag_again, silences_without_flags, one_shows_order, difference_where, is_of_sends, is_of_calls, body_differs, body_differences, clause_differences, differences_by, firing_differences, setting_differences}
+use Rattle.def_explain.specs.Differences.{node_ends, reads_freed, suppresses_message, leaves_no_mark, ignores_silent, evaluates_from_right, reads_no_list, faults_in_logic, later_silent, is_silent_by, has_none, loses_last_flag, gets_flag_again, silences_without_flags, has_list_of_none, one_shows_order, difference_where, is_of_sends, is_of_calls, body_differs, body_differences, clause_differences, differences_by, firing_differences, setting_differences}
 use Rattle.def_explain.specs.Logic.{clause_has_logic_on_other}
 use Rattle.def_explain.specs.NodeCommands.{can_differ_by, expression_can_differ, one_can_differ, one_calls_logic, clause_can_differ, setting_can_differ}
 use Rattle.def_explain.proofs.Logic.{no_logic_in_clause}
@@ -226,10 +226,11 @@ module _ (c : Context) (some : has_none (flags_in c.flags c.self_pid) ≡ false)
       let of_silent : body_differs d c es ignores_silent ≡ false = and_right (is_of_calls d) _ (silences-none c.self_pid c.flags es h) in
       filter-none (body_differs d c es) (node_ends ∷ reads_freed ∷ suppresses_message ∷ leaves_no_mark ∷ ignores_silent ∷ []) (ends, (freed, (of_message, (of_mark, (of_silent, tt)))))
 
-  no-difference-by-clause : (d : Dialect) (k : Clause) (b : Bindings) (es : List Effect) → one_shows_order k.body ≡ false → clause_has_logic_on_other d k b c ≡ false → ArePlainEffects es → clause_differences d k b c es ≡ []
-  no-difference-by-clause d k b es o l h =
+  no-difference-by-clause : (d : Dialect) (k : Clause) (b : Bindings) (es : List Effect) → one_shows_order k.body ≡ false → clause_has_logic_on_other d k b c ≡ false → has_list_of_none k ≡ false → ArePlainEffects es → clause_differences d k b c es ≡ []
+  no-difference-by-clause d k b es o l n h =
       ap₂ (λ a b. a ++ b) (ap (λ b. option_to_list (difference_where b evaluates_from_right)) o)
-      (ap₂ (λ a b. a ++ b) (ap (λ b. option_to_list (difference_where b faults_in_logic)) l) (no-difference-by-body d es h))
+      (ap₂ (λ a b. a ++ b) (ap (λ b. option_to_list (difference_where b faults_in_logic)) l)
+      (ap₂ (λ a b. a ++ b) (ap (λ b. option_to_list (difference_where b reads_no_list)) (and_right (is_of_calls d) _ n)) (no-difference-by-body d es h)))
 
   no-difference-by-clauses : (d : Dialect) (ks : List Clause) → list_any clause_can_differ ks ≡ false → firing_differences d ks c ≡ []
   no-difference-by-clauses d [] h = refl
@@ -237,13 +238,14 @@ module _ (c : Context) (some : has_none (flags_in c.flags c.self_pid) ≡ false)
       let both : (clause_can_differ k ≡ false) × (list_any clause_can_differ ks ≡ false) = or_parts (clause_can_differ k) (list_any clause_can_differ ks) h in
       let parts : (one_can_differ k.body ≡ false) × _ = or_parts (one_can_differ k.body) _ both.0 in
       let order : (one_shows_order k.body ≡ false) × _ = or_parts (one_shows_order k.body) _ parts.1 in
-      let logic : (one_calls_logic k.conditions ≡ false) × (one_calls_logic k.body ≡ false) = or_parts (one_calls_logic k.conditions) (one_calls_logic k.body) order.1 in
-      go (reason_of d k c) parts.0 order.0 (λ b. no_logic_in_clause d k b c logic.0 logic.1) (no-difference-by-clauses d ks both.1)
+      let logic : (one_calls_logic k.conditions ≡ false) × _ = or_parts (one_calls_logic k.conditions) _ order.1 in
+      let none : (one_calls_logic k.body ≡ false) × (has_list_of_none k ≡ false) = or_parts (one_calls_logic k.body) (has_list_of_none k) logic.1 in
+      go (reason_of d k c) parts.0 order.0 (λ b. no_logic_in_clause d k b c logic.0 none.0) none.1 (no-difference-by-clauses d ks both.1)
     where
-      go : (o : Option Reason) → one_can_differ k.body ≡ false → one_shows_order k.body ≡ false → ((b : Bindings) → clause_has_logic_on_other d k b c ≡ false) → firing_differences d ks c ≡ []
+      go : (o : Option Reason) → one_can_differ k.body ≡ false → one_shows_order k.body ≡ false → ((b : Bindings) → clause_has_logic_on_other d k b c ≡ false) → has_list_of_none k ≡ false → firing_differences d ks c ≡ []
           → differences_by d k c (verdict_by d k c o) (firing_differences d ks c) ≡ []
-      go (Some r) body order logic rest = rest
-      go None body order logic rest = no-difference-by-clause d k _ _ order (logic _) (plain-body d _ c k.body body)
+      go (Some r) body order logic none rest = rest
+      go None body order logic none rest = no-difference-by-clause d k _ _ order (logic _) none (plain-body d _ c k.body body)
 
   pub no_difference_by_setting : (g : Setting) → setting_can_differ g ≡ false → setting_differences g c ≡ []
   no_difference_by_setting off h = refl

@@ -7,7 +7,7 @@ use Rattle.def_term.specs.Alive.{is_alive}
 use Rattle.def_term.specs.Tree.{Tree, pid}
 use Rattle.def_term.specs.Names.{word}
 use Rattle.def_spec.specs.Flags.{Flag, Flags, no_flags, has_all, FlagTable, flags_in, send_flag, receive_flag, call_flag, procs_flag, silent_flag, set_on_spawn, set_on_first_spawn, given_and_kept}
-use Rattle.def_spec.specs.Matching.{Bindings}
+use Rattle.def_spec.specs.Matching.{Pattern, in_list, no_patterns, Bindings}
 use Rattle.def_spec.specs.Expressions.{Dialect, for_calls, for_sends, Expr, bound_to, whole_list, all_bound, constant, tuple_of, list_of, call, and_also, or_else, perform, Exprs, no_exprs, and_expr, Context, Effect, silences, changes, flags_by, flags_after}
 use Rattle.def_node.specs.Process.{FRAMES}
 use Rattle.def_spec.specs.Outcome.{Clause}
@@ -31,6 +31,7 @@ use Rattle.def_explain.specs.Verdicts.{Verdict, fails, fires, verdict_of}
 -- each call that is marked for exceptions has `exception_from` before the end by a run-time error;
 -- a child that inherits flags has those alone, and none of the flags for new processes;
 -- the arguments of a call and the elements of a tuple are evaluated from the right;
+-- `'$_'` after the head `[]` of a call reads memory that isn't the term's;
 -- a catch step called one of the frames, and its catch catches the run-time error that ends the process here;
 -- the send, link or unlink of what is no pid is reported before its error;
 -- the error `noproc` is raised in the step of the link;
@@ -49,6 +50,7 @@ pub data Difference : Type 0 where
   reports_exceptions : Difference
   inherits_alone : Difference
   evaluates_from_right : Difference
+  reads_no_list : Difference
   catches_error : Difference
   reports_attempt : Difference
   raises_noproc : Difference
@@ -160,6 +162,35 @@ abbrev mutual
   pub OneShowsOrder : Exprs → Type 0
   OneShowsOrder no_exprs = ⊥
   OneShowsOrder (and_expr e es) = ShowsOrder e ⊎ OneShowsOrder es
+
+-- ---- the list of no elements
+
+abbrev mutual
+  -- `'$_'` stands in the expression
+  pub HasWholeList : Expr → Type 0
+  HasWholeList whole_list = ⊤
+  HasWholeList (tuple_of es) = OneHasWholeList es
+  HasWholeList (list_of es) = OneHasWholeList es
+  HasWholeList (call f es) = OneHasWholeList es
+  HasWholeList (perform a es) = OneHasWholeList es
+  HasWholeList (and_also es) = OneHasWholeList es
+  HasWholeList (or_else es) = OneHasWholeList es
+  HasWholeList (bound_to n) = ⊥
+  HasWholeList all_bound = ⊥
+  HasWholeList (constant t) = ⊥
+
+  -- in one of several
+  pub OneHasWholeList : Exprs → Type 0
+  OneHasWholeList no_exprs = ⊥
+  OneHasWholeList (and_expr e es) = HasWholeList e ⊎ OneHasWholeList es
+
+-- the clause's head is the list of no elements, and `'$_'` stands in its conditions or its body
+abbrev pub HasListOfNone : Clause → Type 0
+HasListOfNone k = (k.head ≡ in_list no_patterns) × (OneHasWholeList k.conditions ⊎ OneHasWholeList k.body)
+
+-- and it is for calls
+abbrev pub ReadsNoList : Dialect → Clause → Type 0
+ReadsNoList d k = (d ≡ for_calls) × HasListOfNone k
 
 -- ---- an event without a body: a return, an exception, a child
 
@@ -310,6 +341,34 @@ abbrev mutual
 abbrev pub difference_where : Bool → Difference → Option Difference
 difference_where b x = if b then Some x else None
 
+abbrev mutual
+  -- `'$_'` stands in the expression
+  pub has_whole_list : Expr → Bool
+  has_whole_list whole_list = true
+  has_whole_list (tuple_of es) = one_has_whole_list es
+  has_whole_list (list_of es) = one_has_whole_list es
+  has_whole_list (call f es) = one_has_whole_list es
+  has_whole_list (perform a es) = one_has_whole_list es
+  has_whole_list (and_also es) = one_has_whole_list es
+  has_whole_list (or_else es) = one_has_whole_list es
+  has_whole_list (bound_to n) = false
+  has_whole_list all_bound = false
+  has_whole_list (constant t) = false
+
+  -- in one of several
+  pub one_has_whole_list : Exprs → Bool
+  one_has_whole_list no_exprs = false
+  one_has_whole_list (and_expr e es) = has_whole_list e || one_has_whole_list es
+
+-- a head that is the list of no elements
+abbrev pub is_list_of_none : Pattern → Bool
+is_list_of_none (in_list no_patterns) = true
+is_list_of_none p = false
+
+-- with `'$_'` in the conditions or the body after it
+abbrev pub has_list_of_none : Clause → Bool
+has_list_of_none k = is_list_of_none k.head && (one_has_whole_list k.conditions || one_has_whole_list k.body)
+
 -- that of the order of evaluation of a body
 abbrev pub order_difference : Exprs → Option Difference
 order_difference body = difference_where (one_shows_order body) evaluates_from_right
@@ -340,9 +399,16 @@ body_differences d c es = filter (body_differs d c es) (node_ends ∷ reads_free
 abbrev pub logic_difference : Dialect → Clause → Bindings → Context → Option Difference
 logic_difference d k b c = difference_where (clause_has_logic_on_other d k b c) faults_in_logic
 
+-- that of the list of no elements
+abbrev pub list_differs : Dialect → Clause → Bool
+list_differs d k = is_of_calls d && has_list_of_none k
+
+abbrev pub list_difference : Dialect → Clause → Option Difference
+list_difference d k = difference_where (list_differs d k) reads_no_list
+
 -- all that a node does otherwise at a clause that fires with these bindings
 abbrev pub clause_differences : Dialect → Clause → Bindings → Context → List Effect → List Difference
-clause_differences d k b c es = option_to_list (order_difference k.body) ++ (option_to_list (logic_difference d k b c) ++ body_differences d c es)
+clause_differences d k b c es = option_to_list (order_difference k.body) ++ (option_to_list (logic_difference d k b c) ++ (option_to_list (list_difference d k) ++ body_differences d c es))
 
 -- at a clause or, where it doesn't fire, at those after it
 abbrev pub differences_by : Dialect → Clause → Context → Verdict → List Difference → List Difference
@@ -440,6 +506,7 @@ difference_text reports_end = codes "a message, unless the call was silent"
 difference_text reports_exceptions = codes "exception_from first, of each call that is marked for exceptions"
 difference_text inherits_alone = codes "the child has the flags of its parent alone"
 difference_text evaluates_from_right = codes "arguments and elements of tuples are evaluated from the right, and two of them have actions here"
+difference_text reads_no_list = codes "the node ends: '$_' after the head [] reads memory that isn't the term's"
 difference_text catches_error = codes "the end is by an error, which a catch catches here"
 difference_text reports_attempt = codes "the send, link or unlink is reported first, as one to a pid is"
 difference_text raises_noproc = codes "noproc is raised in this step"

@@ -12,7 +12,7 @@ use Rattle.def_explain.specs.Heads.{HeadReason, IsHeadReason}
 use Rattle.def_explain.specs.Mismatches.{Mismatch, IsMismatch, mismatch_of}
 use Rattle.def_explain.specs.Values.{FaultsAt}
 use Rattle.def_explain.specs.Spellings.{function_name, action_name}
-use Rattle.def_explain.specs.Differences.{Difference, evaluates_from_right, faults_in_logic, OneShowsOrder, order_difference, logic_difference, BodyDiffers, body_differs, EventDiffers, event_difference, StepDiffers, step_differs, evaluation_differences}
+use Rattle.def_explain.specs.Differences.{Difference, evaluates_from_right, faults_in_logic, reads_no_list, ReadsNoList, list_difference, OneShowsOrder, order_difference, logic_difference, BodyDiffers, body_differs, EventDiffers, event_difference, StepDiffers, step_differs, evaluation_differences}
 use Rattle.def_explain.specs.Logic.{ClauseHasLogicOnOther}
 use Rattle.def_explain.specs.CommandDifferences.{CommandDiffers, command_difference}
 use Rattle.def_explain.specs.Accounts.{reported_in_lines, differences_in_lines, event_lines}
@@ -107,6 +107,10 @@ OrderDifferenceIsComputed = (body : Exprs) (x : Difference) → (order_differenc
 abbrev pub LogicDifferenceIsComputed : Type 0
 LogicDifferenceIsComputed =
     (d : Dialect) (k : Clause) (b : Bindings) (c : Context) (x : Difference) → (logic_difference d k b c ≡ Some x) ↔ ((x ≡ faults_in_logic) × ClauseHasLogicOnOther d k b c)
+
+-- and by the list of no elements
+abbrev pub ListDifferenceIsComputed : Type 0
+ListDifferenceIsComputed = (d : Dialect) (k : Clause) (x : Difference) → (list_difference d k ≡ Some x) ↔ ((x ≡ reads_no_list) × ReadsNoList d k)
 
 -- and at an event without a body
 abbrev pub EventDifferenceIsComputed : Type 0

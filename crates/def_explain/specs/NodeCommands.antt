@@ -1,5 +1,5 @@
 -- Which commands can lead to a move that a running node does otherwise (own).
--- Depends on the reading of flags and of specifications, on the order that a body shows and on the functions of logic.
+-- Depends on the reading of flags and of specifications, on the order that a body shows, on the functions of logic and on `'$_'` after the head `[]`.
 use Rattle.std.specs.Prelude.{Bool, true, false, ◌||◌, Option, Some, None, Ok, Err}
 use Rattle.std.specs.List.{list_any}
 use Rattle.def_script.specs.Program.{Command, create, destroy, set_processes, set_function, set_send, set_receive, Program}
@@ -9,7 +9,7 @@ use Rattle.def_spec.specs.Outcome.{Clause}
 use Rattle.def_spec.specs.Reading.{Reads}
 use Rattle.def_session.specs.Settings.{Setting, off, plain, by, setting_of}
 use Rattle.def_explain.specs.Logic.{is_logic}
-use Rattle.def_explain.specs.Differences.{one_shows_order}
+use Rattle.def_explain.specs.Differences.{one_shows_order, has_list_of_none}
 
 -- by this action a process can be silent, or have other flags
 abbrev pub can_differ_by : Action → Bool
@@ -57,9 +57,9 @@ abbrev mutual
   one_calls_logic no_exprs = false
   one_calls_logic (and_expr e es) = calls_logic e || one_calls_logic es
 
--- the body of a clause has such an action, or shows the order of evaluation; or its conditions or its body call logic
+-- the body of a clause has such an action, or shows the order of evaluation; its conditions or its body call logic; or `'$_'` stands in them after the head `[]`
 abbrev pub clause_can_differ : Clause → Bool
-clause_can_differ k = one_can_differ k.body || (one_shows_order k.body || (one_calls_logic k.conditions || one_calls_logic k.body))
+clause_can_differ k = one_can_differ k.body || (one_shows_order k.body || (one_calls_logic k.conditions || (one_calls_logic k.body || has_list_of_none k)))
 
 -- a clause of the specification is such
 abbrev pub setting_can_differ : Setting → Bool

@@ -21,6 +21,7 @@ ghost use Rattle.def_explain.specs.Laws.{LimitIsSaid, OnlyLimitsAreSaid};
 ghost use Rattle.def_explain.specs.Laws.{BodyDifferenceIsComputed, EventDifferenceIsComputed};
 ghost use Rattle.def_explain.specs.Laws.{OrderDifferenceIsComputed, StepDifferenceIsComputed};
 ghost use Rattle.def_explain.specs.Laws.{LogicDifferenceIsComputed, CommandDifferenceIsComputed};
+ghost use Rattle.def_explain.specs.Laws.{ListDifferenceIsComputed};
 ghost use Rattle.def_explain.specs.Laws.{CauseWhereNothingTold, CauseIsOne, CauseIsComputed};
 ghost use Rattle.def_explain.specs.RunLaws.{AccountTellsTheListing, CommandTermIsRead};
 ghost use Rattle.def_explain.specs.RunLaws.{MoveDifferenceIsComputed, NoCommandNoDifference};
@@ -92,6 +93,7 @@ pub fn a_difference_is_where_it_applies()
     ensures body { BodyDifferenceIsComputed }
     ensures order { OrderDifferenceIsComputed }
     ensures logic { LogicDifferenceIsComputed }
+    ensures list { ListDifferenceIsComputed }
     ensures event { EventDifferenceIsComputed }
     ensures step { StepDifferenceIsComputed }
     ensures command { CommandDifferenceIsComputed }

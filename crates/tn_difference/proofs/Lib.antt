@@ -1,1 +1,2 @@
 pub mod LogicSteps
+mod EmptyLists

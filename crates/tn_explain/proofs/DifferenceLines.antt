@@ -4,7 +4,7 @@ use Rattle.def_spec.specs.Expressions.{Dialect, Context, Effect}
 use Rattle.def_session.specs.State.{Session}
 use Rattle.def_session.specs.Session.{is_marked_for_exceptions}
 use Rattle.def_explain.specs.Accounts.{differs}
-use Rattle.def_explain.specs.Differences.{Difference, node_ends, reads_freed, suppresses_message, leaves_no_mark, ignores_silent, evaluates_from_right, faults_in_logic, one_shows_order, difference_where, body_differs, body_differences, has_mark_below}
+use Rattle.def_explain.specs.Differences.{Difference, node_ends, reads_freed, suppresses_message, leaves_no_mark, ignores_silent, evaluates_from_right, faults_in_logic, reads_no_list, one_shows_order, list_differs, difference_where, body_differs, body_differences, has_mark_below}
 use Rattle.def_explain.specs.Logic.{clause_has_logic_on_other}
 use Rattle.tn_head.specs.Views.{bindings_seen}
 use Rattle.tn_head.specs.declared.bindings.Bindings as code
@@ -57,11 +57,16 @@ pub lines_of_clause : {A B : Type 0} (d : func.Dialect) (k : spec.Clause A) (b :
     → lines_with these d c es ≡ difference_lines_of d k b c es
 lines_of_clause d k b c es these h =
     let by_effects : List Difference = body_differences (dialect_of d) (context_seen c) (map effect_seen es) in
+    let o : Bool = one_shows_order (clause_seen k).body in
     let l : Bool = clause_has_logic_on_other (dialect_of d) (clause_seen k) (bindings_seen b) (context_seen c) in
-    ap (λ q. differs_where q evaluates_from_right ++ (differs_where these.logic faults_in_logic ++ map differs by_effects)) h.order
-    ∙ ap (λ q. differs_where (one_shows_order (clause_seen k).body) evaluates_from_right ++ (differs_where q faults_in_logic ++ map differs by_effects)) h.logic
-    ∙ ap (λ ls. differs_where (one_shows_order (clause_seen k).body) evaluates_from_right ++ ls) (sym (first-where l faults_in_logic by_effects))
-    ∙ sym (first-where (one_shows_order (clause_seen k).body) evaluates_from_right (option_to_list (difference_where l faults_in_logic) ++ by_effects))
+    let n : Bool = list_differs (dialect_of d) (clause_seen k) in
+    let after_list : List Difference = option_to_list (difference_where n reads_no_list) ++ by_effects in
+    ap (λ q. differs_where q evaluates_from_right ++ (differs_where these.logic faults_in_logic ++ (differs_where these.list reads_no_list ++ map differs by_effects))) h.order
+    ∙ ap (λ q. differs_where o evaluates_from_right ++ (differs_where q faults_in_logic ++ (differs_where these.list reads_no_list ++ map differs by_effects))) h.logic
+    ∙ ap (λ q. differs_where o evaluates_from_right ++ (differs_where l faults_in_logic ++ (differs_where q reads_no_list ++ map differs by_effects))) h.list
+    ∙ ap (λ ls. differs_where o evaluates_from_right ++ (differs_where l faults_in_logic ++ ls)) (sym (first-where n reads_no_list by_effects))
+    ∙ ap (λ ls. differs_where o evaluates_from_right ++ ls) (sym (first-where l faults_in_logic after_list))
+    ∙ sym (first-where o evaluates_from_right (option_to_list (difference_where l faults_in_logic) ++ after_list))
 
 -- the depths of a process, from the greatest down
 module _ (s : Session) (p n m : ℕ) (is : n ≡ suc m) where

@@ -13,7 +13,7 @@ use Rattle.def_session.specs.Settings.{FunctionSetting, Setting, off, setting_fo
 use Rattle.def_explain.specs.Reasons.{Reason}
 use Rattle.def_explain.specs.Verdicts.{fails, fires, verdict_of}
 use Rattle.def_explain.specs.Causes.{newest_of}
-use Rattle.def_explain.specs.Differences.{Difference, node_ends, reads_freed, suppresses_message, leaves_no_mark, ignores_silent, evaluates_from_right, faults_in_logic, one_shows_order, difference_where, body_differs, body_differences, clause_differences, differences_by, firing_differences, setting_differences, evaluation_differences, differences_if}
+use Rattle.def_explain.specs.Differences.{Difference, node_ends, reads_freed, suppresses_message, leaves_no_mark, ignores_silent, evaluates_from_right, faults_in_logic, reads_no_list, one_shows_order, list_differs, difference_where, body_differs, body_differences, clause_differences, differences_by, firing_differences, setting_differences, evaluation_differences, differences_if}
 use Rattle.def_explain.specs.NodeMoves.{is_some_difference}
 use Rattle.tn_session.specs.Looks.{parts_of}
 use Rattle.tn_session.specs.Newest.{newest_with}
@@ -66,11 +66,16 @@ pub one_of_clause : {A B : Type 0} (d : func.Dialect) (k : Clause A) (b : code.B
     → differs_with these d c es ≡ is_some_difference (clause_differences (dialect_of d) (clause_seen k) (bindings_seen b) (context_seen c) (map effect_seen es))
 one_of_clause d k b c es these h =
     let by_effects : List Difference = body_differences (dialect_of d) (context_seen c) (map effect_seen es) in
+    let o : Bool = one_shows_order (clause_seen k).body in
     let l : Bool = clause_has_logic_on_other (dialect_of d) (clause_seen k) (bindings_seen b) (context_seen c) in
-    ap (λ q. q || (these.logic || is_some_difference by_effects)) h.order
-    ∙ ap (λ q. one_shows_order (clause_seen k).body || (q || is_some_difference by_effects)) h.logic
-    ∙ ap (λ q. one_shows_order (clause_seen k).body || q) (sym (first-where l faults_in_logic by_effects))
-    ∙ sym (first-where (one_shows_order (clause_seen k).body) evaluates_from_right (option_to_list (difference_where l faults_in_logic) ++ by_effects))
+    let n : Bool = list_differs (dialect_of d) (clause_seen k) in
+    let after_list : List Difference = option_to_list (difference_where n reads_no_list) ++ by_effects in
+    ap (λ q. q || (these.logic || (these.list || is_some_difference by_effects))) h.order
+    ∙ ap (λ q. o || (q || (these.list || is_some_difference by_effects))) h.logic
+    ∙ ap (λ q. o || (l || (q || is_some_difference by_effects))) h.list
+    ∙ ap (λ q. o || (l || q)) (sym (first-where n reads_no_list by_effects))
+    ∙ ap (λ q. o || q) (sym (first-where l faults_in_logic after_list))
+    ∙ sym (first-where o evaluates_from_right (option_to_list (difference_where l faults_in_logic) ++ after_list))
 
 -- ---- clauses, one after another
 

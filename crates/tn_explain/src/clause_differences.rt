@@ -5,15 +5,17 @@ ghost use Rattle.tn_explain.specs.ClauseDifferences.{AreOfClause};
 use bumpalo::Bump;
 use std::alloc::{AllocError, Allocator};
 use tn_action::Context;
-use tn_difference::{logic_differs, order_differs};
+use tn_difference::{list_differs, logic_differs, order_differs};
 use tn_head::Bindings;
 use tn_spec::{Clause, Dialect};
 
-/// Whether a running node does otherwise at a clause by the order of evaluation, and by logic on what is no boolean.
+/// Whether a running node does otherwise at a clause by the order of evaluation, by logic on what is no boolean, and by
+/// the list of no elements.
 #[derive(Clone, Copy)]
 pub(crate) struct ClauseDifferences {
     pub order: bool,
     pub logic: bool,
+    pub list: bool,
 }
 
 /// Those of a clause that fires with these bindings. An error is refused memory.
@@ -29,5 +31,6 @@ pub(crate) fn clause_differences<'a, A: Allocator + Copy>(
 {
     let logic = logic_differs(alloc, arena, dialect, clause, bindings, context)?;
     let order = order_differs(clause);
-    Ok(ClauseDifferences { order, logic })
+    let list = list_differs(dialect, clause);
+    Ok(ClauseDifferences { order, logic, list })
 }

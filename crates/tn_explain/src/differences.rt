@@ -163,6 +163,7 @@ impl<A: Allocator + Copy> Lines<'_, A> {
     {
         self.put_where_differs(of_clause.order, Difference::EvaluatesFromRight, out)?;
         self.put_where_differs(of_clause.logic, Difference::FaultsInLogic, out)?;
+        self.put_where_differs(of_clause.list, Difference::ReadsNoList, out)?;
         self.put_body_difference(Difference::NodeEnds, dialect, context, effects, out)?;
         self.put_body_difference(Difference::ReadsFreed, dialect, context, effects, out)?;
         self.put_body_difference(

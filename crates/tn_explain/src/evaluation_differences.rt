@@ -35,6 +35,7 @@ fn clause_differs<A: Allocator>(
 {
     of_clause.order
         || of_clause.logic
+        || of_clause.list
         || body_differs(Difference::NodeEnds, dialect, context, effects)
         || body_differs(Difference::ReadsFreed, dialect, context, effects)
         || body_differs(Difference::SuppressesMessage, dialect, context, effects)

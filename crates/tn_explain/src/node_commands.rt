@@ -14,7 +14,7 @@ ghost use Rattle.tn_spec.specs.Wholes.{spec_seen};
 ghost use Rattle.tn_program.specs.Views.{program_of};
 
 use std::alloc::{AllocError, Allocator};
-use tn_difference::{is_logic, order_differs};
+use tn_difference::{has_list_of_none, is_logic, order_differs};
 use tn_flags::{Command, Flags, flag_of};
 use tn_program::Program;
 use tn_spec::{Action, Clause, Dialect, Expr, Spec, SpecFault, spec_of};
@@ -94,8 +94,8 @@ fn one_calls_logic<A: Allocator>(exprs: &Vec<Expr<A>, A>) -> bool
     false
 }
 
-/// Whether the body of a clause has such an action, or shows the order of evaluation; or its conditions or its body
-/// call logic.
+/// Whether the body of a clause has such an action, or shows the order of evaluation; its conditions or its body call
+/// logic; or `'$_'` stands in them after the head `[]`.
 fn clause_can_differ<A: Allocator>(clause: &Clause<A>) -> bool
     ensures { result ≡ clause_can_differ (clause_seen clause.now) }
 {
@@ -103,6 +103,7 @@ fn clause_can_differ<A: Allocator>(clause: &Clause<A>) -> bool
         || order_differs(clause)
         || one_calls_logic(&clause.conditions)
         || one_calls_logic(&clause.body)
+        || has_list_of_none(clause)
 }
 
 /// Whether that is so of one of the clauses of a specification.

@@ -6,7 +6,7 @@ use Rattle.def_spec.specs.Outcome as outcome
 use Rattle.def_spec.specs.Matching.{Bindings}
 use Rattle.def_explain.specs.Reasons.{Reason}
 use Rattle.def_explain.specs.Verdicts.{fails, fires, verdict_of}
-use Rattle.def_explain.specs.Differences.{Difference, node_ends, reads_freed, suppresses_message, leaves_no_mark, ignores_silent, evaluates_from_right, faults_in_logic, one_shows_order, difference_where, body_differs, body_differences, clause_differences}
+use Rattle.def_explain.specs.Differences.{Difference, node_ends, reads_freed, suppresses_message, leaves_no_mark, ignores_silent, evaluates_from_right, faults_in_logic, reads_no_list, one_shows_order, list_differs, difference_where, body_differs, body_differences, clause_differences}
 use Rattle.def_explain.specs.Logic.{clause_has_logic_on_other}
 use Rattle.def_explain.specs.Texts.{binding_line, clause_text, reason_text, effects_text, end_text, difference_line, fires_text, verdict_text, spec_test_text_after}
 use Rattle.tn_spec.specs.Views.{clause_seen}
@@ -56,11 +56,12 @@ first-where true x xs = refl
 first-where false x xs = refl
 
 pub each_where : (d : ex.Dialect) (k : outcome.Clause) (b : Bindings) (c : ex.Context) (es : List ex.Effect) → flat_map difference_line (clause_differences d k b c es)
-    ≡ difference_line_where (one_shows_order k.body) evaluates_from_right ++ (difference_line_where (clause_has_logic_on_other d k b c) faults_in_logic ++ (difference_line_where (body_differs d c es node_ends) node_ends ++ (difference_line_where (body_differs d c es reads_freed) reads_freed ++ (difference_line_where (body_differs d c es suppresses_message) suppresses_message ++ (difference_line_where (body_differs d c es leaves_no_mark) leaves_no_mark ++ (difference_line_where (body_differs d c es ignores_silent) ignores_silent ++ []))))))
+    ≡ difference_line_where (one_shows_order k.body) evaluates_from_right ++ (difference_line_where (clause_has_logic_on_other d k b c) faults_in_logic ++ (difference_line_where (list_differs d k) reads_no_list ++ (difference_line_where (body_differs d c es node_ends) node_ends ++ (difference_line_where (body_differs d c es reads_freed) reads_freed ++ (difference_line_where (body_differs d c es suppresses_message) suppresses_message ++ (difference_line_where (body_differs d c es leaves_no_mark) leaves_no_mark ++ (difference_line_where (body_differs d c es ignores_silent) ignores_silent ++ [])))))))
 each_where d k b c es =
     first-where (one_shows_order k.body) evaluates_from_right _
-    ∙ ap (λ l. difference_line_where (one_shows_order k.body) evaluates_from_right ++ l) (first-where (clause_has_logic_on_other d k b c) faults_in_logic (body_differences d c es)
-    ∙ ap (λ l. difference_line_where (clause_has_logic_on_other d k b c) faults_in_logic ++ l) (each_of_body d c es))
+    ∙ ap (λ l. difference_line_where (one_shows_order k.body) evaluates_from_right ++ l) (first-where (clause_has_logic_on_other d k b c) faults_in_logic _
+    ∙ ap (λ l. difference_line_where (clause_has_logic_on_other d k b c) faults_in_logic ++ l) (first-where (list_differs d k) reads_no_list (body_differences d c es)
+    ∙ ap (λ l. difference_line_where (list_differs d k) reads_no_list ++ l) (each_of_body d c es)))
 
 module _ {A : Type 0} (d : ex.Dialect) (c : ex.Context) (ks : List (Clause A)) (i : ℕ) where
   abbrev pub text_after : ℕ → List ℕ

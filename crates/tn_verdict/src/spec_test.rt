@@ -24,7 +24,8 @@ use bumpalo::Bump;
 use std::alloc::{AllocError, Allocator};
 use tn_action::{Context, Effect};
 use tn_difference::{
-    Difference, body_differs, is_silent, last_message, logic_differs, order_differs, put_difference,
+    Difference, body_differs, is_silent, last_message, list_differs, logic_differs, order_differs,
+    put_difference,
 };
 use tn_guard::{Value, write_value};
 use tn_head::{Binding, Bindings};
@@ -266,6 +267,8 @@ impl<'a, 'c, A: Allocator + Copy> SpecTest<'a, 'c, A> {
         put_where_differs(order_differs(clause), Difference::EvaluatesFromRight, out)?;
         let logic = self.logic_differs(clause, bindings)?;
         put_where_differs(logic, Difference::FaultsInLogic, out)?;
+        let list = list_differs(self.spec.dialect, clause);
+        put_where_differs(list, Difference::ReadsNoList, out)?;
         self.put_body_difference(Difference::NodeEnds, effects, out)?;
         self.put_body_difference(Difference::ReadsFreed, effects, out)?;
         self.put_body_difference(Difference::SuppressesMessage, effects, out)?;

@@ -1,5 +1,5 @@
 use Rattle.std.proofs.Common.{◌≡◌, ◌∙◌, ◌++◌, [], map, sym, ap, append-nil}
-use Rattle.def_explain.specs.Differences.{evaluates_from_right, faults_in_logic, one_shows_order}
+use Rattle.def_explain.specs.Differences.{evaluates_from_right, faults_in_logic, reads_no_list, one_shows_order, list_differs}
 use Rattle.tn_spec.specs.Views.{dialect_of, clause_seen}
 use Rattle.tn_action.specs.Views.{context_seen, effect_seen}
 use Rattle.tn_text.proofs.Growth.{grows_on}
@@ -23,6 +23,7 @@ returns-clause-ok g c =
     let zero = difference_line_where (one_shows_order k.body) evaluates_from_right in
     let bs = bindings_seen c.args.bindings.now in
     let logic = difference_line_where (logic_of_clause self.spec.now.dialect c.args.clause.now c.args.bindings.now self.context.now) faults_in_logic in
+    let list = difference_line_where (list_differs (dialect_of self.spec.now.dialect) k) reads_no_list in
     let one = line_of_difference self effects NodeEnds in
     let two = line_of_difference self effects ReadsFreed in
     let three = line_of_difference self effects SuppressesMessage in
@@ -31,16 +32,25 @@ returns-clause-ok g c =
     let first : c.put_where_differs.new.out.items ≡ o ++ zero = c.in_ok-put_where_differs.ensures.ok ∙ ap (λ b. o ++ difference_line_where b evaluates_from_right) c.order_differs.ensures in
     let second : c.put_where_differs-2.new.out.items ≡ c.put_where_differs.new.out.items ++ logic =
     c.in_ok-put_where_differs-2.ensures.ok ∙ ap (λ b. c.put_where_differs.new.out.items ++ difference_line_where b faults_in_logic) c.in_ok-logic.ensures in
+    let third : c.put_where_differs-3.new.out.items ≡ c.put_where_differs-2.new.out.items ++ list =
+    c.in_ok-put_where_differs-3.ensures.ok ∙ ap (λ b. c.put_where_differs-2.new.out.items ++ difference_line_where b reads_no_list) c.list_differs-list.ensures in
     read_as done o _ _ last (sym (each_where (dialect_of self.spec.now.dialect) k bs (context_seen self.context.now) (map effect_seen effects)))
-    (after_ok done o zero (logic ++ (one ++ (two ++ (three ++ (four ++ (five ++ [])))))) c.put_where_differs.new.out.items last first
-    (after_ok done c.put_where_differs.new.out.items logic (one ++ (two ++ (three ++ (four ++ (five ++ []))))) c.put_where_differs-2.new.out.items last second
-    (after_ok done c.put_where_differs-2.new.out.items one (two ++ (three ++ (four ++ (five ++ [])))) c.put_body_difference.new.out.items last c.in_ok-put_body_difference.ensures.ok
+    (after_ok done o zero (logic ++ (list ++ (one ++ (two ++ (three ++ (four ++ (five ++ []))))))) c.put_where_differs.new.out.items last first
+    (after_ok done c.put_where_differs.new.out.items logic (list ++ (one ++ (two ++ (three ++ (four ++ (five ++ [])))))) c.put_where_differs-2.new.out.items last second
+    (after_ok done c.put_where_differs-2.new.out.items list (one ++ (two ++ (three ++ (four ++ (five ++ []))))) c.put_where_differs-3.new.out.items last third
+    (after_ok done c.put_where_differs-3.new.out.items one (two ++ (three ++ (four ++ (five ++ [])))) c.put_body_difference.new.out.items last c.in_ok-put_body_difference.ensures.ok
     (after_ok done c.put_body_difference.new.out.items two (three ++ (four ++ (five ++ []))) c.put_body_difference-2.new.out.items last c.in_ok-put_body_difference-2.ensures.ok
     (after_ok done c.put_body_difference-2.new.out.items three (four ++ (five ++ [])) c.put_body_difference-3.new.out.items last c.in_ok-put_body_difference-3.ensures.ok
     (after_ok done c.put_body_difference-3.new.out.items four (five ++ []) c.put_body_difference-4.new.out.items last c.in_ok-put_body_difference-4.ensures.ok
-    (read_as done c.put_body_difference-4.new.out.items five (five ++ []) last (sym (append-nil five)) c.put_body_difference-5.ensures.ok)))))))
+    (read_as done c.put_body_difference-4.new.out.items five (five ++ []) last (sym (append-nil five)) c.put_body_difference-5.ensures.ok))))))))
 
 pub returns-clause-grows : goal.returns-clause-grows
 returns-clause-grows g c =
-    grows_on (grows_on c.put_where_differs.ensures.grows c.put_where_differs-2.ensures.grows)
+    grows_on (grows_on (grows_on c.put_where_differs.ensures.grows c.put_where_differs-2.ensures.grows) c.put_where_differs-3.ensures.grows)
     (grows_on (grows_on c.put_body_difference.ensures.grows c.put_body_difference-2.ensures.grows) (grows_on (grows_on c.put_body_difference-3.ensures.grows c.put_body_difference-4.ensures.grows) c.put_body_difference-5.ensures.grows))
+
+pub returns-in_err-put_body_difference-3-clause-grows : goal.returns-in_err-put_body_difference-3-clause-grows
+returns-in_err-put_body_difference-3-clause-grows g c = grows_on (grows_on (grows_on (grows_on (grows_on c.put_where_differs.ensures.grows c.put_where_differs-2.ensures.grows) c.put_where_differs-3.ensures.grows) c.put_body_difference.ensures.grows) c.put_body_difference-2.ensures.grows) c.put_body_difference-3.ensures.grows
+
+pub returns-in_err-put_body_difference-4-clause-grows : goal.returns-in_err-put_body_difference-4-clause-grows
+returns-in_err-put_body_difference-4-clause-grows g c = grows_on (grows_on (grows_on (grows_on (grows_on (grows_on c.put_where_differs.ensures.grows c.put_where_differs-2.ensures.grows) c.put_where_differs-3.ensures.grows) c.put_body_difference.ensures.grows) c.put_body_difference-2.ensures.grows) c.put_body_difference-3.ensures.grows) c.put_body_difference-4.ensures.grows
