@@ -6,7 +6,7 @@ lists must be all that there is.
 import re
 
 from contracts import CRATES, TOP, chapter, tables
-from node_differences import DIFFERENCES
+from node_differences import DIFFERENCES, OF_TESTS
 
 DOCS = TOP / "docs"
 README = TOP / "README.md"
@@ -155,11 +155,11 @@ def node_differences():
     lines = {line.rstrip(".") for line in re.findall(r"^\* \*\*(.+?)\*\*", text, re.M)}
     defined = (CRATES / "def_explain" / "specs" / "Differences.antt").read_text()
     names = re.findall(r"^  (\w+) : Difference$", defined, re.M)
-    known = [name for name, *_ in DIFFERENCES]
+    known = [name for name, *_ in DIFFERENCES + OF_TESTS]
     yield "the differences that have moves", known == names, (known, names)
     words = dict(re.findall(r'^difference_text (\w+) = codes "(.*)"$', defined, re.M))
     manual = (DOCS / "MANUAL.md").read_text()
-    for name, line, first, *_ in DIFFERENCES:
+    for name, line, first, *_ in DIFFERENCES + OF_TESTS:
         yield f"the words of {name}", words.get(name) == line, words.get(name)
         yield f"the line of {name} on the page of differences", first in lines, first
         yield f"the row of {name} in the manual", f"| `on a node: {line}` |" in manual, line

@@ -4,6 +4,12 @@ Each row of TRIALS has a list, a specification of calls, and the lines that `tra
 others are rows for each head, each kind of term and each limit.
 """
 
+# What a test has whose body changes flags.
+ENDS = (
+    "on a node: erlang:match_spec_test/3 with this list ends the node, "
+    "and so do dbg:tp, dbg:tpl and dbg:tpe where the list is []"
+)
+
 TRIALS = (
     (
         "[hi,1]",
@@ -151,6 +157,7 @@ TRIALS = (
         (
             "clause 1 fires: <0.100.0> gets send, <0.100.0> loses 'receive'",
             "=> a message",
+            ENDS,
         ),
     ),
     (
@@ -160,6 +167,7 @@ TRIALS = (
             "clause 1 fires: <0.101.0> gets silent",
             "  '$1' is <0.101.0>",
             "=> a message",
+            ENDS,
         ),
     ),
     (
@@ -168,6 +176,7 @@ TRIALS = (
         (
             "clause 1 fires: <0.100.0> gets silent",
             "=> no message: silent",
+            ENDS,
         ),
     ),
     (
@@ -176,6 +185,7 @@ TRIALS = (
         (
             "clause 1 fires: silent true, <0.100.0> loses silent",
             "=> a message",
+            ENDS,
         ),
     ),
     # Flags that are cleared and then set; the process has the flag call alone, and no process another.
@@ -185,6 +195,7 @@ TRIALS = (
         (
             "clause 1 fires: <0.100.0> loses call gets send gets arity",
             "=> a message",
+            ENDS,
         ),
     ),
     (
@@ -194,6 +205,7 @@ TRIALS = (
             "clause 1 fires: <0.101.0> gets 'receive' gets call gets set_on_link, message true",
             "  '$1' is <0.101.0>",
             "=> a message",
+            ENDS,
         ),
     ),
     (
@@ -202,6 +214,7 @@ TRIALS = (
         (
             "clause 1 fires: <0.100.0> loses send loses procs, message false",
             "=> no message: it is false",
+            ENDS,
         ),
     ),
     # It keeps its flags where both lists name none.
@@ -222,6 +235,7 @@ TRIALS = (
             "clause 1 fires: <0.100.0> gets call, <0.100.0> gets send, <0.100.0> gets send, <0.100.0> loses send, "
             "<0.100.0> loses call gets call, <0.100.0> loses arity gets arity, message [false,true,false,true,false,true]",
             "=> a message that ends in [false,true,false,true,false,true]",
+            ENDS,
         ),
     ),
     (
@@ -232,6 +246,7 @@ TRIALS = (
             "clause 1 fires: <0.100.0> gets send, <0.101.0> loses call, <0.100.0> gets send, <0.101.0> loses call, "
             "<0.101.0> gets call, <0.102.0> gets call, message [false,false,true,true]",
             "=> a message that ends in [false,false,true,true]",
+            ENDS,
         ),
     ),
     (
@@ -241,6 +256,7 @@ TRIALS = (
             "clause 1 fires: silent true, <0.100.0> gets silent, <0.100.0> loses silent, silent true, "
             "<0.100.0> loses silent, message [false,true,true,true]",
             "=> a message that ends in [false,true,true,true]",
+            ENDS,
         ),
     ),
     (
@@ -249,6 +265,7 @@ TRIALS = (
         (
             "clause 1 fires: message b, <0.100.0> gets silent",
             "=> no message: silent",
+            ENDS,
         ),
     ),
     # An argument comes before the call, and what isn't evaluated changes nothing.
@@ -262,6 +279,7 @@ TRIALS = (
             "<0.100.0> gets arity, message [false,true,false,true]",
             "=> a message that ends in [false,true,false,true]",
             "on a node: arguments and elements of tuples are evaluated from the right, and two of them have actions here",
+            ENDS,
         ),
     ),
     # What is no living process's pid, or no list of flags, is a fault, and changes nothing.
@@ -277,6 +295,7 @@ TRIALS = (
             "  '$2' is send",
             "=> a message that ends in "
             "['EXIT','EXIT','EXIT','EXIT','EXIT','EXIT','EXIT','EXIT','EXIT','EXIT',true,true]",
+            ENDS,
         ),
     ),
     # A call that faults in a body has no effect of its own, and the value 'EXIT'.

@@ -11,11 +11,11 @@ use Rattle.def_session.specs.Settings.{FunctionPattern, Setting, off, plain, by,
 use Rattle.def_session.specs.State.{Phase, absent, live, destroyed, Session}
 use Rattle.def_explain.specs.Lists.{One}
 use Rattle.def_explain.specs.CommandReasons.{any_setting}
-use Rattle.def_explain.specs.Differences.{Difference, node_ends, reads_freed, suppresses_message, leaves_no_mark, ignores_silent, reports_end, reports_exceptions, inherits_alone, evaluates_from_right, reads_no_list, catches_error, reports_attempt, raises_noproc, reports_later, adds_calls, faults_in_logic, leaves_other_setting, takes_local_setting, difference_where}
+use Rattle.def_explain.specs.Differences.{Difference, node_ends, reads_freed, suppresses_message, leaves_no_mark, ignores_silent, reports_end, reports_exceptions, inherits_alone, evaluates_from_right, reads_no_list, catches_error, reports_attempt, raises_noproc, reports_later, adds_calls, faults_in_logic, leaves_other_setting, takes_local_setting, ends_test, difference_where}
 use Rattle.def_explain.specs.CommandDifferences.{newest_about, IsSetByKind, IsSetOtherwise, IsInternalAndSet, SettingDiffers, CommandDiffers, is_on, is_of_kind, is_on_of_kind, is_set_by_kind, is_set_otherwise, is_internal_and_set, taken_difference, setting_difference, read_difference, live_difference, difference_in, command_difference}
 use Rattle.def_explain.specs.Laws.{CommandDifferenceIsComputed}
 use Rattle.def_explain.proofs.Differences.{both_are, not_is}
-use Rattle.def_explain.proofs.Logic.{one_by_any, any_by_one}
+use Rattle.def_explain.proofs.Several.{one_by_any, any_by_one}
 
 -- ---- one function
 
@@ -105,6 +105,7 @@ module _ (o : Exports) (s : Session) (covered : FunctionPattern) where
   found-setting local plain takes_local_setting h = takes local h.1 h.2
   found-setting local (by k) takes_local_setting h = takes local h.1 h.2
   found-setting local k node_ends h = absurd h
+  found-setting local k ends_test h = absurd h
   found-setting local k reads_freed h = absurd h
   found-setting local k suppresses_message h = absurd h
   found-setting local k leaves_no_mark h = absurd h

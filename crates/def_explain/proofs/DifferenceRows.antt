@@ -12,7 +12,7 @@ use Rattle.def_outlook.specs.Outlook.{RuntimeError, calls_past_limit, sends_to_n
 use Rattle.def_session.specs.Settings.{off}
 use Rattle.def_node.specs.Event.{Event, received, returned, raised, spawned, exited, linked, getting_linked}
 use Rattle.def_session.specs.State.{for_returns, for_exceptions, live, new_session, alive_at_start, Session, MarkKind, with_flags, with_marks}
-use Rattle.def_explain.specs.Differences.{Difference, node_ends, reads_freed, suppresses_message, leaves_no_mark, ignores_silent, reports_end, reports_exceptions, inherits_alone, evaluates_from_right, reads_no_list, catches_error, reports_attempt, raises_noproc, reports_later, adds_calls, order_difference, list_difference, body_differences, event_difference, step_differences, has_mark_below}
+use Rattle.def_explain.specs.Differences.{Difference, node_ends, reads_freed, suppresses_message, leaves_no_mark, ignores_silent, reports_end, reports_exceptions, inherits_alone, evaluates_from_right, reads_no_list, catches_error, reports_attempt, raises_noproc, reports_later, adds_calls, ends_test, order_difference, list_difference, body_differences, test_differences, event_difference, step_differences, has_mark_below}
 
 -- ---- bodies, in the process 100
 
@@ -136,6 +136,21 @@ silent_send_without_flags = refl
 -- what is silent has no flag, and then a flag is given
 pub silent_and_given_again : body_differences for_calls (having (only call_flag)) (loses call_flag ∷ silences true ∷ gets call_flag ∷ []) ≡ reads_freed ∷ ignores_silent ∷ []
 silent_and_given_again = refl
+
+-- ---- a test of a specification
+
+-- [{enable_trace,send}], of the flags of another process, for sends, without flags, and without a change
+pub test_that_changes : test_differences for_calls (having (only call_flag)) (gets send_flag ∷ []) ≡ ends_test ∷ []
+test_that_changes = refl
+
+pub test_that_clears : test_differences for_calls (having (only call_flag)) (traces_return ∷ changes 101 (only send_flag) no_flags ∷ []) ≡ ends_test ∷ []
+test_that_clears = refl
+
+pub test_of_a_send : test_differences for_sends (having (only send_flag)) (gets procs_flag ∷ []) ≡ []
+test_of_a_send = refl
+
+pub test_without_flags : test_differences for_calls (having (only call_flag)) (changes 100 no_flags no_flags ∷ silences true ∷ gives_message (word "a") ∷ []) ≡ []
+test_without_flags = refl
 
 -- ---- the order of evaluation
 

@@ -1,5 +1,6 @@
 -- What a node does otherwise is what is computed.
 use Rattle.std.proofs.Common.{◌≡◌, ◌≢◌, ◌↔◌, ◌⊎◌, inl, inr, ◌<◌, ℕ, zero, suc, ◌==◌, eqb-true, eq-eqb, arith, Bool, true, false, not, ◌&&◌, ◌||◌, List, [], ◌∷◌, ◌++◌, Option, Some, None, refl, sym, ap, ap₂, subst, ◌∙◌}
+use Rattle.std.specs.List.{list_any}
 use Rattle.std.specs.Option.{is_some}
 use Rattle.std.proofs.lemmas.Bool.{and_parts, and_left, and_right}
 use Rattle.def_term.specs.Alive.{is_alive}
@@ -18,7 +19,8 @@ use Rattle.def_session.specs.State.{MarkKind, for_returns, for_exceptions, Sessi
 use Rattle.def_session.specs.Session.{inherit, effects_of, reported_for, mark_asked, is_marked, is_for_exceptions, is_marked_for_exceptions}
 use Rattle.def_session.specs.Messages.{last_message}
 use Rattle.def_explain.specs.Causes.{is_false_message}
-use Rattle.def_explain.specs.Differences.{Difference, node_ends, reads_freed, suppresses_message, leaves_no_mark, ignores_silent, reports_end, reports_exceptions, inherits_alone, evaluates_from_right, reads_no_list, faults_in_logic, leaves_other_setting, takes_local_setting, catches_error, reports_attempt, raises_noproc, reports_later, adds_calls, HasFlags, attempt_flag, StepDiffers, is_traced, has_that_flag, is_attempt_by, step_differs, CallsAction, OneCallsAction, TwoCallActions, ShowsOrder, OneShowsOrder, calls_action, one_calls_action, two_call_actions, shows_order, one_shows_order, HasWholeList, OneHasWholeList, HasListOfNone, ReadsNoList, has_whole_list, one_has_whole_list, is_list_of_none, has_list_of_none, HasNone, has_none, hands_on, handed_on, HasOther, has_other, LosesLastFlag, loses_last_flag, GivesFlag, gives_flag, GetsFlagAgain, gets_flag_again, sets_silent, SilencesWithoutFlags, silences_without_flags, is_of_sends, is_of_calls, has_mark_below, difference_where}
+use Rattle.def_explain.specs.Differences.{Difference, node_ends, reads_freed, suppresses_message, leaves_no_mark, ignores_silent, reports_end, reports_exceptions, inherits_alone, evaluates_from_right, reads_no_list, faults_in_logic, leaves_other_setting, takes_local_setting, ends_test, catches_error, reports_attempt, raises_noproc, reports_later, adds_calls, HasFlags, attempt_flag, StepDiffers, is_traced, has_that_flag, is_attempt_by, step_differs, CallsAction, OneCallsAction, TwoCallActions, ShowsOrder, OneShowsOrder, calls_action, one_calls_action, two_call_actions, shows_order, one_shows_order, HasWholeList, OneHasWholeList, HasListOfNone, ReadsNoList, has_whole_list, one_has_whole_list, is_list_of_none, has_list_of_none, HasNone, has_none, hands_on, handed_on, HasOther, has_other, LosesLastFlag, loses_last_flag, GivesFlag, gives_flag, GetsFlagAgain, gets_flag_again, NamesFlag, names_flag, sets_silent, SilencesWithoutFlags, silences_without_flags, is_of_sends, is_of_calls, has_mark_below, difference_where}
+use Rattle.def_explain.proofs.Several.{one_by_any, any_by_one}
 use Rattle.def_explain.specs.Laws.{BodyDifferenceIsComputed, OrderDifferenceIsComputed, ListDifferenceIsComputed, EventDifferenceIsComputed, StepDifferenceIsComputed}
 
 -- ---- truth values
@@ -167,6 +169,33 @@ gives-flag p (silences b) h = absurd (cc h)
 flag-given : (p : ℕ) (e : Effect) → GivesFlag p e → gives_flag p e ≡ true
 flag-given p e h = ap (gives_flag p) h.3 ∙ both_are (p == p) _ (eq-eqb p p refl) (is-other h.1 no_flags (h.2, h.4, refl))
 
+-- one of two is true
+or-case : (a b : Bool) {P : Type 0} → (a ≡ true → P) → (b ≡ true → P) → (a || b) ≡ true → P
+or-case true b p q h = p refl
+or-case false b p q h = q h
+
+or-second : (a b : Bool) → b ≡ true → (a || b) ≡ true
+or-second true b h = refl
+or-second false b h = h
+
+-- a change of flags names one
+names-flag : (e : Effect) → names_flag e ≡ true → NamesFlag e
+names-flag (changes n cleared set) h =
+    or-case (not (has_none cleared)) _
+    (λ k. let o : HasOther cleared no_flags = other-is cleared no_flags k in (n, cleared, set, o.0, refl, inl o.1))
+    (λ k. let o : HasOther set no_flags = other-is set no_flags k in (n, cleared, set, o.0, refl, inr o.1)) h
+names-flag (gives_message t) h = absurd (cc h)
+names-flag traces_return h = absurd (cc h)
+names-flag traces_exception h = absurd (cc h)
+names-flag (silences b) h = absurd (cc h)
+
+flag-named : (e : Effect) → NamesFlag e → names_flag e ≡ true
+flag-named e h = ap names_flag h.4 ∙ go h.5
+  where
+    go : ((h.1 h.3 ≡ true) ⊎ (h.2 h.3 ≡ true)) → (not (has_none h.1) || not (has_none h.2)) ≡ true
+    go (inl x) = ap (λ b. b || not (has_none h.2)) (is-other h.1 no_flags (h.3, x, refl))
+    go (inr x) = or-second (not (has_none h.1)) _ (is-other h.2 no_flags (h.3, x, refl))
+
 -- after the last was lost, before these effects or by some of them
 or-third : (a b c : Bool) → ((a || b) || c) ≡ (a || (b || c))
 or-third true b c = refl
@@ -175,14 +204,6 @@ or-third false b c = refl
 or-none : (a : Bool) → (a || false) ≡ true → a ≡ true
 or-none true h = refl
 or-none false h = h
-
-or-case : (a b : Bool) {P : Type 0} → (a ≡ true → P) → (b ≡ true → P) → (a || b) ≡ true → P
-or-case true b p q h = p refl
-or-case false b p q h = q h
-
-or-second : (a b : Bool) → b ≡ true → (a || b) ≡ true
-or-second true b h = refl
-or-second false b h = h
 
 abbrev GetsAgain : ℕ → FlagTable → Bool → List Effect → Type 0
 GetsAgain p t lost es = (ds : List Effect) × (e : Effect) × (fs : List Effect) × (es ≡ ds ++ e ∷ fs) × ((lost || loses_last_flag p t ds) ≡ true) × (gives_flag p e ≡ true)
@@ -314,6 +335,12 @@ body_difference_is_computed d c es reads_no_list = (λ h. absurd (cc h), λ h. a
 body_difference_is_computed d c es faults_in_logic = (λ h. absurd (cc h), λ h. absurd h)
 body_difference_is_computed d c es leaves_other_setting = (λ h. absurd (cc h), λ h. absurd h)
 body_difference_is_computed d c es takes_local_setting = (λ h. absurd (cc h), λ h. absurd h)
+body_difference_is_computed d c es ends_test = (
+  λ h.
+      let x : (is_of_calls d ≡ true) × (list_any names_flag es ≡ true) = and_parts (is_of_calls d) _ h in
+      ((of-calls d).0 x.0, one_by_any names_flag NamesFlag names-flag es x.1),
+  λ h. both_are _ _ ((of-calls d).1 h.0) (any_by_one names_flag NamesFlag flag-named es h.1),
+)
 body_difference_is_computed d c es catches_error = (λ h. absurd (cc h), λ h. absurd h)
 body_difference_is_computed d c es reports_attempt = (λ h. absurd (cc h), λ h. absurd h)
 body_difference_is_computed d c es raises_noproc = (λ h. absurd (cc h), λ h. absurd h)
@@ -600,6 +627,7 @@ at-exit s l p r reads_no_list = (λ h. absurd (cc h), λ h. absurd h)
 at-exit s l p r faults_in_logic = (λ h. absurd (cc h), λ h. absurd h)
 at-exit s l p r leaves_other_setting = (λ h. absurd (cc h), λ h. absurd h)
 at-exit s l p r takes_local_setting = (λ h. absurd (cc h), λ h. absurd h)
+at-exit s l p r ends_test = (λ h. absurd (cc h), λ h. absurd h)
 at-exit s l p r raises_noproc = (λ h. absurd (cc h), λ h. absurd h)
 at-exit s l p r adds_calls = (
   λ h. let y : (is_traced s p ≡ true) × (is_some l.error ≡ true) = and_parts (is_traced s p) _ h in (traced-is s p y.0, some-is l.error y.1),
@@ -625,6 +653,7 @@ at-link s l p other reads_no_list = (λ h. absurd (cc h), λ h. absurd h)
 at-link s l p other faults_in_logic = (λ h. absurd (cc h), λ h. absurd h)
 at-link s l p other leaves_other_setting = (λ h. absurd (cc h), λ h. absurd h)
 at-link s l p other takes_local_setting = (λ h. absurd (cc h), λ h. absurd h)
+at-link s l p other ends_test = (λ h. absurd (cc h), λ h. absurd h)
 at-link s l p other catches_error = (λ h. absurd (cc h), λ h. absurd h)
 at-link s l p other reports_attempt = (λ h. absurd (cc h), λ h. absurd h)
 at-link s l p other reports_later = (λ h. absurd (cc h), λ h. absurd h)
@@ -650,6 +679,7 @@ at-receive s l p sender t reads_no_list = (λ h. absurd (cc h), λ h. absurd h)
 at-receive s l p sender t faults_in_logic = (λ h. absurd (cc h), λ h. absurd h)
 at-receive s l p sender t leaves_other_setting = (λ h. absurd (cc h), λ h. absurd h)
 at-receive s l p sender t takes_local_setting = (λ h. absurd (cc h), λ h. absurd h)
+at-receive s l p sender t ends_test = (λ h. absurd (cc h), λ h. absurd h)
 at-receive s l p sender t catches_error = (λ h. absurd (cc h), λ h. absurd h)
 at-receive s l p sender t reports_attempt = (λ h. absurd (cc h), λ h. absurd h)
 at-receive s l p sender t raises_noproc = (λ h. absurd (cc h), λ h. absurd h)

@@ -16,6 +16,7 @@ pub mod AccountPicks
 mod RunMessages
 pub mod Logic
 mod Differences
+mod Several
 mod CommandDifferences
 pub mod DifferenceLines
 mod DifferenceRows

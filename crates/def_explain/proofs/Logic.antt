@@ -12,33 +12,10 @@ use Rattle.def_explain.specs.Logic.{is_logic, OneIsNoBoolean, one_is_no_boolean,
 use Rattle.def_explain.specs.Differences.{faults_in_logic, difference_where, logic_difference}
 use Rattle.def_explain.specs.NodeCommands.{calls_logic, one_calls_logic}
 use Rattle.def_explain.specs.Laws.{LogicDifferenceIsComputed}
+use Rattle.def_explain.proofs.Several.{split, left_is, right_is, one_by_any, any_by_one}
 use Rattle.def_explain.proofs.Differences.{both_are, not_is}
 
--- ---- truth values
-
--- of two one is true, and what follows of that
-split : {P Q : Type 0} (a b : Bool) → (a ≡ true → P) → (b ≡ true → Q) → (a || b) ≡ true → P ⊎ Q
-split true b f g h = inl (f refl)
-split false b f g h = inr (g h)
-
-left-is : (a b : Bool) → a ≡ true → (a || b) ≡ true
-left-is a b h = ap (λ x. x || b) h
-
-right-is : (a b : Bool) → b ≡ true → (a || b) ≡ true
-right-is true b h = refl
-right-is false b h = h
-
 -- ---- several
-
--- one passes exactly where one is such
-pub one_by_any : {X : Type 0} (f : X → Bool) (P : X → Type 0) (each : (x : X) → f x ≡ true → P x) (xs : List X) → list_any f xs ≡ true → One P xs
-one_by_any f P each [] h = absurd (cc h)
-one_by_any f P each (x ∷ xs) h = split (f x) (list_any f xs) (each x) (one_by_any f P each xs) h
-
-pub any_by_one : {X : Type 0} (f : X → Bool) (P : X → Type 0) (each : (x : X) → P x → f x ≡ true) (xs : List X) → One P xs → list_any f xs ≡ true
-any_by_one f P each [] h = absurd h
-any_by_one f P each (x ∷ xs) (inl h) = left-is (f x) (list_any f xs) (each x h)
-any_by_one f P each (x ∷ xs) (inr h) = right-is (f x) (list_any f xs) (any_by_one f P each xs h)
 
 other-found : (ts : List Tree) → one_is_no_boolean ts ≡ true → OneIsNoBoolean ts
 other-found ts h = one_by_any (λ t. not (boolean_test t)) (λ t. boolean_test t ≡ false) (λ t k. not_is (boolean_test t) k) ts h
@@ -77,8 +54,8 @@ gone false false more e h = h
 
 -- one is no boolean itself, or one after it is such
 here_or_later : {P : Type 0} (is_boolean s q more : Bool) → (is_boolean ≡ false) ⊎ ((s ≡ q) × P) → (P → more ≡ true) → (not is_boolean || goes s q more) ≡ true
-here_or_later is_boolean s q more (inl h) f = left-is (not is_boolean) _ (ap not h)
-here_or_later is_boolean s q more (inr h) f = right-is (not is_boolean) _ (gone s q more h.0 (f h.1))
+here_or_later is_boolean s q more (inl h) f = left_is (not is_boolean) _ (ap not h)
+here_or_later is_boolean s q more (inr h) f = right_is (not is_boolean) _ (gone s q more h.0 (f h.1))
 
 -- ---- expressions
 
@@ -139,21 +116,21 @@ module _ (d : Dialect) (part : Position) (b : Bindings) (c : Context) where
     counted (constant t) x h = absurd h
     counted (tuple_of es) x h = counted-one es x h
     counted (list_of es) x h = counted-one es x h
-    counted (call f es) x (inl h) = left-is (is_logic_on_other d part b c f es x) _ (found-call f es x h)
-    counted (call f es) x (inr h) = right-is (is_logic_on_other d part b c f es x) _ (counted-one es x h)
+    counted (call f es) x (inl h) = left_is (is_logic_on_other d part b c f es x) _ (found-call f es x h)
+    counted (call f es) x (inr h) = right_is (is_logic_on_other d part b c f es x) _ (counted-one es x h)
     counted (and_also es) x h = counted-while true es x h
     counted (or_else es) x h = counted-while false es x h
     counted (perform a es) x h = counted-one es x h
 
     counted-one : (es : Exprs) (x : List Effect) → OneHasLogicOnOther d part b c es x → one_has_logic_on_other d part b c es x ≡ true
     counted-one no_exprs x h = absurd h
-    counted-one (and_expr e es) x (inl h) = left-is (has_logic_on_other d part b c e x) _ (counted e x h)
-    counted-one (and_expr e es) x (inr h) = right-is (has_logic_on_other d part b c e x) _ (there-value (evaluation d part b c e x) _ h.0 h.1 h.2 (counted-one es h.1 h.3))
+    counted-one (and_expr e es) x (inl h) = left_is (has_logic_on_other d part b c e x) _ (counted e x h)
+    counted-one (and_expr e es) x (inr h) = right_is (has_logic_on_other d part b c e x) _ (there-value (evaluation d part b c e x) _ h.0 h.1 h.2 (counted-one es h.1 h.3))
 
     counted-while : (q : Bool) (es : Exprs) (x : List Effect) → HasLogicOnOtherWhile d part b c q es x → has_logic_on_other_while d part b c q es x ≡ true
     counted-while q no_exprs x h = absurd h
-    counted-while q (and_expr e es) x (inl h) = left-is (has_logic_on_other d part b c e x) _ (counted e x h)
-    counted-while q (and_expr e es) x (inr h) = right-is (has_logic_on_other d part b c e x) _ (there-value (evaluation d part b c e x) _ h.0 h.1 h.2 (here_or_later (boolean_test h.0) (is_true h.0) q _ h.3 (λ k. counted-while q es h.1 k)))
+    counted-while q (and_expr e es) x (inl h) = left_is (has_logic_on_other d part b c e x) _ (counted e x h)
+    counted-while q (and_expr e es) x (inr h) = right_is (has_logic_on_other d part b c e x) _ (there-value (evaluation d part b c e x) _ h.0 h.1 h.2 (here_or_later (boolean_test h.0) (is_true h.0) q _ h.3 (λ k. counted-while q es h.1 k)))
 
   -- ---- where no logic is called
 
@@ -191,8 +168,8 @@ clause-found d k b c h =
     split (one_has_logic_on_other d in_condition b c k.conditions []) _ (found-one d in_condition b c k.conditions []) (found-one d in_body b c k.body []) h
 
 clause-counted : (d : Dialect) (k : Clause) (b : Bindings) (c : Context) → ClauseHasLogicOnOther d k b c → clause_has_logic_on_other d k b c ≡ true
-clause-counted d k b c (inl h) = left-is (one_has_logic_on_other d in_condition b c k.conditions []) _ (counted-one d in_condition b c k.conditions [] h)
-clause-counted d k b c (inr h) = right-is (one_has_logic_on_other d in_condition b c k.conditions []) _ (counted-one d in_body b c k.body [] h)
+clause-counted d k b c (inl h) = left_is (one_has_logic_on_other d in_condition b c k.conditions []) _ (counted-one d in_condition b c k.conditions [] h)
+clause-counted d k b c (inr h) = right_is (one_has_logic_on_other d in_condition b c k.conditions []) _ (counted-one d in_body b c k.body [] h)
 
 pub logic_difference_is_computed : LogicDifferenceIsComputed
 logic_difference_is_computed d k b c x = (sound, complete)

@@ -98,7 +98,7 @@ no_tuple = refl
 
 -- two clauses that don't fire, one that does, and one that isn't reached
 pub third_fires : spec_test_text for_calls (of_integer ∷ of_twice ∷ with_message ∷ of_head ∷ []) hi_one
-    ≡ codes "clause 1: condition 1 is false\nclause 2: the head doesn't match at element 2: '$1' is hi, found 1\nclause 3 fires: message {second,hi}, <0.100.0> gets send\n  '$1' is hi\n=> a message that ends in {second,hi}\n"
+    ≡ codes "clause 1: condition 1 is false\nclause 2: the head doesn't match at element 2: '$1' is hi, found 1\nclause 3 fires: message {second,hi}, <0.100.0> gets send\n  '$1' is hi\n=> a message that ends in {second,hi}\non a node: erlang:match_spec_test/3 with this list ends the node, and so do dbg:tp, dbg:tpl and dbg:tpe where the list is []\n"
 unfolding is_written_bare digits
 third_fires = refl
 
@@ -129,13 +129,14 @@ pub last_flag_of_a_sender : spec_test_text for_sends (clears_send ∷ []) on_sen
 unfolding is_written_bare digits
 last_flag_of_a_sender = refl
 
-pub another_flag_of_a_caller : spec_test_text for_calls (clears_send ∷ []) hi_one ≡ codes "clause 1 fires: <0.100.0> loses send\n=> a message\n"
+pub another_flag_of_a_caller : spec_test_text for_calls (clears_send ∷ []) hi_one 
+    ≡ codes "clause 1 fires: <0.100.0> loses send\n=> a message\non a node: erlang:match_spec_test/3 with this list ends the node, and so do dbg:tp, dbg:tpl and dbg:tpe where the list is []\n"
 unfolding is_written_bare digits
 another_flag_of_a_caller = refl
 
 -- a change is reported as it is asked for, whatever it changes; the process has `call` before it
 pub changed_flags : spec_test_text for_calls (tracing ∷ []) hi_one
-    ≡ codes "clause 1 fires: <0.100.0> gets send, message true, <0.100.0> loses call gets call, message false, <0.100.0> keeps its flags\n=> no message: it is false\n"
+    ≡ codes "clause 1 fires: <0.100.0> gets send, message true, <0.100.0> loses call gets call, message false, <0.100.0> keeps its flags\n=> no message: it is false\non a node: erlang:match_spec_test/3 with this list ends the node, and so do dbg:tp, dbg:tpl and dbg:tpe where the list is []\n"
 unfolding is_written_bare digits
 changed_flags = refl
 

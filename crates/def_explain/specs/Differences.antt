@@ -2,6 +2,7 @@
 -- Depends on match specifications, on the state of a session before an event, and on what is known of the step of a process before it is made.
 use Rattle.std.specs.Prelude.{◌≡◌, ◌≢◌, ◌≤◌, ℕ, zero, suc, ◌==◌, Bool, true, false, not, ◌&&◌, ◌||◌, ◌⊎◌, if◌then◌else◌, List, [], ◌∷◌, ◌++◌, filter, Option, Some, None, option_to_list, codes}
 use Rattle.std.specs.Bool.{⊤}
+use Rattle.std.specs.List.{list_any}
 use Rattle.std.specs.Option.{is_some}
 use Rattle.def_term.specs.Alive.{is_alive}
 use Rattle.def_term.specs.Tree.{Tree, pid}
@@ -18,6 +19,7 @@ use Rattle.def_session.specs.State.{MarkKind, for_exceptions, Session, flags_at,
 use Rattle.def_session.specs.Messages.{last_message}
 use Rattle.def_session.specs.Session.{inherit, context, effects_of, reported_for, mark_asked, is_marked, is_marked_for_exceptions}
 use Rattle.def_explain.specs.Causes.{IsOfMarked, is_false_message}
+use Rattle.def_explain.specs.Lists.{One}
 use Rattle.def_explain.specs.Logic.{clause_has_logic_on_other}
 use Rattle.def_explain.specs.Verdicts.{Verdict, fails, fires, verdict_of}
 
@@ -39,7 +41,8 @@ use Rattle.def_explain.specs.Verdicts.{Verdict, fails, fires, verdict_of}
 -- the reason of a run-time error that ends the process has the list of calls;
 -- logic on what is no boolean is a fault, but the last argument of `andalso` and `orelse` is their value;
 -- a function keeps its setting of the other kind;
--- a function that isn't exported loses its local setting
+-- a function that isn't exported loses its local setting;
+-- a test of a specification for calls ends the node, where the body changes flags (no session tests one: it has no line of `explain`)
 pub data Difference : Type 0 where
   node_ends : Difference
   reads_freed : Difference
@@ -59,6 +62,7 @@ pub data Difference : Type 0 where
   faults_in_logic : Difference
   leaves_other_setting : Difference
   takes_local_setting : Difference
+  ends_test : Difference
 
 -- ---- the body of a clause that fires
 
@@ -86,6 +90,10 @@ sets_silent e = false
 -- one of these effects sets `silent` where the process has no flag
 abbrev pub SilencesWithoutFlags : ℕ → FlagTable → List Effect → Type 0
 SilencesWithoutFlags p t es = (ds : List Effect) × (e : Effect) × (fs : List Effect) × (es ≡ ds ++ e ∷ fs) × (sets_silent e ≡ true) × HasNone (flags_in (flags_after p t ds) p)
+
+-- a change of flags that names one
+abbrev pub NamesFlag : Effect → Type 0
+NamesFlag e = (n : ℕ) × (cleared : Flags) × (set : Flags) × (x : Flag) × (e ≡ changes n cleared set) × ((cleared x ≡ true) ⊎ (set x ≡ true))
 
 -- whether the process of this pid has the flag `silent` after these effects; `b` is whether it had it before
 abbrev pub later_silent : ℕ → Bool → List Effect → Bool
@@ -116,6 +124,7 @@ BodyDiffers d c es reads_freed = (d ≡ for_calls) × GetsFlagAgain c.self_pid c
 BodyDiffers d c es suppresses_message = (d ≢ for_calls) × IsSilent c es × IsMessage es
 BodyDiffers d c es leaves_no_mark = (d ≡ for_calls) × IsSilent c es × AsksForMark es
 BodyDiffers d c es ignores_silent = (d ≡ for_calls) × SilencesWithoutFlags c.self_pid c.flags es
+BodyDiffers d c es ends_test = (d ≡ for_calls) × One NamesFlag es
 BodyDiffers d c es x = ⊥
 
 -- ---- the order of evaluation
@@ -294,6 +303,11 @@ abbrev pub silences_without_flags : ℕ → FlagTable → List Effect → Bool
 silences_without_flags p t [] = false
 silences_without_flags p t (e ∷ es) = (sets_silent e && has_none (flags_in t p)) || silences_without_flags p (flags_by p t e) es
 
+-- a change of flags that names one
+abbrev pub names_flag : Effect → Bool
+names_flag (changes n cleared set) = not (has_none cleared) || not (has_none set)
+names_flag e = false
+
 abbrev mutual
   -- the expression calls an action
   pub calls_action : Expr → Bool
@@ -389,11 +403,16 @@ body_differs d c es reads_freed = is_of_calls d && (gets_flag_again c.self_pid c
 body_differs d c es suppresses_message = not (is_of_calls d) && (is_silent_by c es && not (is_false_message (last_message es)))
 body_differs d c es leaves_no_mark = is_of_calls d && (is_silent_by c es && is_some (mark_asked es))
 body_differs d c es ignores_silent = is_of_calls d && silences_without_flags c.self_pid c.flags es
+body_differs d c es ends_test = is_of_calls d && list_any names_flag es
 body_differs d c es x = false
 
--- by its effects
+-- by its effects, in a session
 abbrev pub body_differences : Dialect → Context → List Effect → List Difference
 body_differences d c es = filter (body_differs d c es) (node_ends ∷ reads_freed ∷ suppresses_message ∷ leaves_no_mark ∷ ignores_silent ∷ [])
+
+-- by its effects, in a test of the specification alone
+abbrev pub test_differences : Dialect → Context → List Effect → List Difference
+test_differences d c es = filter (body_differs d c es) (ends_test ∷ [])
 
 -- that of logic on what is no boolean
 abbrev pub logic_difference : Dialect → Clause → Bindings → Context → Option Difference
@@ -515,6 +534,7 @@ difference_text adds_calls = codes "the reason has the list of calls"
 difference_text faults_in_logic = codes "logic on what is no boolean is a fault, but the last argument of andalso or orelse is its value"
 difference_text leaves_other_setting = codes "a function has a setting of the other kind, which stays"
 difference_text takes_local_setting = codes "a function that isn't exported loses its local setting"
+difference_text ends_test = codes "erlang:match_spec_test/3 with this list ends the node, and so do dbg:tp, dbg:tpl and dbg:tpe where the list is []"
 
 -- of a node
 abbrev pub on_node : Difference → List ℕ

@@ -17,7 +17,7 @@ use Rattle.def_explain.specs.Reasons.{ConditionReason, has_value, faults_at, Rea
 use Rattle.def_explain.specs.ReasonTexts.{found_text}
 use Rattle.def_explain.specs.Spellings.{spelling}
 use Rattle.def_explain.specs.Verdicts.{Verdict, fails, fires, verdict_of}
-use Rattle.def_explain.specs.Differences.{Difference, later_silent, clause_differences, on_node}
+use Rattle.def_explain.specs.Differences.{Difference, later_silent, clause_differences, test_differences, on_node}
 
 -- ---- flags
 
@@ -122,10 +122,14 @@ end_text d self_pid es = if is_for_calls d && later_silent self_pid false es the
 abbrev pub difference_line : Difference → List ℕ
 difference_line x = on_node x ++ 10 ∷ []
 
+-- what a node does otherwise at a clause that fires, in a session and in a test
+abbrev pub fires_differences : Dialect → Clause → Bindings → Context → List Effect → List Difference
+fires_differences d k b c es = clause_differences d k b c es ++ test_differences d c es
+
 -- a clause that fires in this context, its bindings by rising number, the message, and what a node does otherwise
 abbrev pub fires_text : Dialect → Clause → Context → ℕ → Bindings → List Effect → List ℕ
 fires_text d k c n b es =
-    clause_text n (codes " fires" ++ effects_text es ++ 10 ∷ flat_map binding_line b ++ codes "=> " ++ end_text d c.self_pid es ++ 10 ∷ flat_map difference_line (clause_differences d k b c es))
+    clause_text n (codes " fires" ++ effects_text es ++ 10 ∷ flat_map binding_line b ++ codes "=> " ++ end_text d c.self_pid es ++ 10 ∷ flat_map difference_line (fires_differences d k b c es))
 
 -- a clause and, where it doesn't fire, those after it
 abbrev pub verdict_text : Dialect → Clause → Context → ℕ → Verdict → List ℕ → List ℕ

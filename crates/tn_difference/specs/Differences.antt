@@ -11,7 +11,7 @@ use Rattle.tn_action.specs.Views.{context_seen, effect_seen}
 use Rattle.tn_action.specs.declared.context.Context.{Context}
 use Rattle.tn_action.specs.declared.effect.Effect as code
 use Rattle.tn_difference.specs.declared.differences.Difference.{Difference}
-use Rattle.tn_difference.specs.declared.differences.Difference.TheVariants.{NodeEnds, ReadsFreed, SuppressesMessage, LeavesNoMark, IgnoresSilent, ReportsEnd, ReportsExceptions, CatchesError, ReportsAttempt, RaisesNoproc, ReportsLater, AddsCalls, InheritsAlone, EvaluatesFromRight, ReadsNoList, FaultsInLogic, LeavesOtherSetting, TakesLocalSetting}
+use Rattle.tn_difference.specs.declared.differences.Difference.TheVariants.{NodeEnds, ReadsFreed, SuppressesMessage, LeavesNoMark, IgnoresSilent, ReportsEnd, ReportsExceptions, CatchesError, ReportsAttempt, RaisesNoproc, ReportsLater, AddsCalls, InheritsAlone, EvaluatesFromRight, ReadsNoList, FaultsInLogic, LeavesOtherSetting, TakesLocalSetting, EndsTest}
 
 abbrev pub difference_seen : Difference → definition.Difference
 difference_seen NodeEnds = definition.node_ends
@@ -32,6 +32,7 @@ difference_seen ReadsNoList = definition.reads_no_list
 difference_seen FaultsInLogic = definition.faults_in_logic
 difference_seen LeavesOtherSetting = definition.leaves_other_setting
 difference_seen TakesLocalSetting = definition.takes_local_setting
+difference_seen EndsTest = definition.ends_test
 
 -- an effect asks for a mark, or leaves it to those after it
 abbrev pub AsksOrLeaves : Effect → Bool → Type 0

@@ -6,9 +6,9 @@ use Rattle.def_spec.specs.Outcome as outcome
 use Rattle.def_spec.specs.Matching.{Bindings}
 use Rattle.def_explain.specs.Reasons.{Reason}
 use Rattle.def_explain.specs.Verdicts.{fails, fires, verdict_of}
-use Rattle.def_explain.specs.Differences.{Difference, node_ends, reads_freed, suppresses_message, leaves_no_mark, ignores_silent, evaluates_from_right, faults_in_logic, reads_no_list, one_shows_order, list_differs, difference_where, body_differs, body_differences, clause_differences}
+use Rattle.def_explain.specs.Differences.{Difference, node_ends, reads_freed, suppresses_message, leaves_no_mark, ignores_silent, ends_test, evaluates_from_right, faults_in_logic, reads_no_list, one_shows_order, list_differs, difference_where, body_differs, body_differences, test_differences}
 use Rattle.def_explain.specs.Logic.{clause_has_logic_on_other}
-use Rattle.def_explain.specs.Texts.{binding_line, clause_text, reason_text, effects_text, end_text, difference_line, fires_text, verdict_text, spec_test_text_after}
+use Rattle.def_explain.specs.Texts.{binding_line, clause_text, reason_text, effects_text, end_text, difference_line, fires_differences, fires_text, verdict_text, spec_test_text_after}
 use Rattle.tn_spec.specs.Views.{clause_seen}
 use Rattle.tn_spec.specs.declared.spec.Clause.{Clause}
 use Rattle.tn_difference.specs.Differences.{difference_line_where}
@@ -28,9 +28,9 @@ regroup effects bindings arrow end rest = simp append_assoc
 
 -- the lines of a clause that fires
 pub fired_is : (d : ex.Dialect) (k : outcome.Clause) (c : ex.Context) (n : ℕ) (b : Bindings) (es : List ex.Effect)
-    → fires_text d k c n b es ≡ fires_line n es ++ (flat_map binding_line b ++ (message_line d c.self_pid es ++ flat_map difference_line (clause_differences d k b c es)))
+    → fires_text d k c n b es ≡ fires_line n es ++ (flat_map binding_line b ++ (message_line d c.self_pid es ++ flat_map difference_line (fires_differences d k b c es)))
 fired_is d k c n b es =
-    let others : List ℕ = flat_map difference_line (clause_differences d k b c es) in
+    let others : List ℕ = flat_map difference_line (fires_differences d k b c es) in
     let rest : List ℕ = flat_map binding_line b ++ (message_line d c.self_pid es ++ others) in
     ap (λ l. codes "clause " ++ (decimal (suc n) ++ (codes " fires" ++ l))) (regroup (effects_text es) (flat_map binding_line b) (codes "=> ") (end_text d c.self_pid es) others)
     ∙ ap (λ l. codes "clause " ++ l) (sym (append_assoc (decimal (suc n)) (codes " fires" ++ effects_text es ++ 10 ∷ []) rest))
@@ -40,27 +40,34 @@ one-where : (b : Bool) (x : Difference) (xs : List Difference) → flat_map diff
 one-where true x xs = refl
 one-where false x xs = refl
 
-each_of_body : (d : ex.Dialect) (c : ex.Context) (es : List ex.Effect) → flat_map difference_line (body_differences d c es)
-    ≡ difference_line_where (body_differs d c es node_ends) node_ends ++ (difference_line_where (body_differs d c es reads_freed) reads_freed ++ (difference_line_where (body_differs d c es suppresses_message) suppresses_message ++ (difference_line_where (body_differs d c es leaves_no_mark) leaves_no_mark ++ (difference_line_where (body_differs d c es ignores_silent) ignores_silent ++ []))))
+-- with others after these
+one-more : (b : Bool) (x : Difference) (xs ys : List Difference) → flat_map difference_line ((if b then x ∷ xs else xs) ++ ys) ≡ difference_line_where b x ++ flat_map difference_line (xs ++ ys)
+one-more true x xs ys = refl
+one-more false x xs ys = refl
+
+each_of_body : (d : ex.Dialect) (c : ex.Context) (es : List ex.Effect) → flat_map difference_line (body_differences d c es ++ test_differences d c es)
+    ≡ difference_line_where (body_differs d c es node_ends) node_ends ++ (difference_line_where (body_differs d c es reads_freed) reads_freed ++ (difference_line_where (body_differs d c es suppresses_message) suppresses_message ++ (difference_line_where (body_differs d c es leaves_no_mark) leaves_no_mark ++ (difference_line_where (body_differs d c es ignores_silent) ignores_silent ++ (difference_line_where (body_differs d c es ends_test) ends_test ++ [])))))
 each_of_body d c es =
     let f : Difference → Bool = body_differs d c es in
-    one-where (f node_ends) node_ends _
-    ∙ ap (λ l. difference_line_where (f node_ends) node_ends ++ l) (one-where (f reads_freed) reads_freed _
-    ∙ ap (λ l. difference_line_where (f reads_freed) reads_freed ++ l) (one-where (f suppresses_message) suppresses_message _
-    ∙ ap (λ l. difference_line_where (f suppresses_message) suppresses_message ++ l) (one-where (f leaves_no_mark) leaves_no_mark _
-    ∙ ap (λ l. difference_line_where (f leaves_no_mark) leaves_no_mark ++ l) (one-where (f ignores_silent) ignores_silent []))))
+    one-more (f node_ends) node_ends _ _
+    ∙ ap (λ l. difference_line_where (f node_ends) node_ends ++ l) (one-more (f reads_freed) reads_freed _ _
+    ∙ ap (λ l. difference_line_where (f reads_freed) reads_freed ++ l) (one-more (f suppresses_message) suppresses_message _ _
+    ∙ ap (λ l. difference_line_where (f suppresses_message) suppresses_message ++ l) (one-more (f leaves_no_mark) leaves_no_mark _ _
+    ∙ ap (λ l. difference_line_where (f leaves_no_mark) leaves_no_mark ++ l) (one-more (f ignores_silent) ignores_silent _ _
+    ∙ ap (λ l. difference_line_where (f ignores_silent) ignores_silent ++ l) (one-where (f ends_test) ends_test [])))))
 
--- before them those of the order of evaluation and of logic
-first-where : (q : Bool) (x : Difference) (xs : List Difference) → flat_map difference_line (option_to_list (difference_where q x) ++ xs) ≡ difference_line_where q x ++ flat_map difference_line xs
-first-where true x xs = refl
-first-where false x xs = refl
+-- before them those of the order of evaluation, of logic and of the list of no elements
+first-more : (q : Bool) (x : Difference) (xs ys : List Difference) → flat_map difference_line ((option_to_list (difference_where q x) ++ xs) ++ ys) ≡ difference_line_where q x ++ flat_map difference_line (xs ++ ys)
+first-more true x xs ys = refl
+first-more false x xs ys = refl
 
-pub each_where : (d : ex.Dialect) (k : outcome.Clause) (b : Bindings) (c : ex.Context) (es : List ex.Effect) → flat_map difference_line (clause_differences d k b c es)
-    ≡ difference_line_where (one_shows_order k.body) evaluates_from_right ++ (difference_line_where (clause_has_logic_on_other d k b c) faults_in_logic ++ (difference_line_where (list_differs d k) reads_no_list ++ (difference_line_where (body_differs d c es node_ends) node_ends ++ (difference_line_where (body_differs d c es reads_freed) reads_freed ++ (difference_line_where (body_differs d c es suppresses_message) suppresses_message ++ (difference_line_where (body_differs d c es leaves_no_mark) leaves_no_mark ++ (difference_line_where (body_differs d c es ignores_silent) ignores_silent ++ [])))))))
+pub each_where : (d : ex.Dialect) (k : outcome.Clause) (b : Bindings) (c : ex.Context) (es : List ex.Effect) → flat_map difference_line (fires_differences d k b c es)
+    ≡ difference_line_where (one_shows_order k.body) evaluates_from_right ++ (difference_line_where (clause_has_logic_on_other d k b c) faults_in_logic ++ (difference_line_where (list_differs d k) reads_no_list ++ (difference_line_where (body_differs d c es node_ends) node_ends ++ (difference_line_where (body_differs d c es reads_freed) reads_freed ++ (difference_line_where (body_differs d c es suppresses_message) suppresses_message ++ (difference_line_where (body_differs d c es leaves_no_mark) leaves_no_mark ++ (difference_line_where (body_differs d c es ignores_silent) ignores_silent ++ (difference_line_where (body_differs d c es ends_test) ends_test ++ []))))))))
 each_where d k b c es =
-    first-where (one_shows_order k.body) evaluates_from_right _
-    ∙ ap (λ l. difference_line_where (one_shows_order k.body) evaluates_from_right ++ l) (first-where (clause_has_logic_on_other d k b c) faults_in_logic _
-    ∙ ap (λ l. difference_line_where (clause_has_logic_on_other d k b c) faults_in_logic ++ l) (first-where (list_differs d k) reads_no_list (body_differences d c es)
+    let ys : List Difference = test_differences d c es in
+    first-more (one_shows_order k.body) evaluates_from_right _ ys
+    ∙ ap (λ l. difference_line_where (one_shows_order k.body) evaluates_from_right ++ l) (first-more (clause_has_logic_on_other d k b c) faults_in_logic _ ys
+    ∙ ap (λ l. difference_line_where (clause_has_logic_on_other d k b c) faults_in_logic ++ l) (first-more (list_differs d k) reads_no_list (body_differences d c es) ys
     ∙ ap (λ l. difference_line_where (list_differs d k) reads_no_list ++ l) (each_of_body d c es)))
 
 module _ {A : Type 0} (d : ex.Dialect) (c : ex.Context) (ks : List (Clause A)) (i : ℕ) where

@@ -7,8 +7,7 @@ use Rattle.std.specs.declared.vec.Vec.{Vec}
 use Rattle.def_term.specs.Tree.{Tree}
 use Rattle.def_spec.specs.Expressions.{Dialect, Effect}
 use Rattle.def_explain.specs.Reasons.{Reason}
-use Rattle.def_explain.specs.Differences.{clause_differences}
-use Rattle.def_explain.specs.Texts.{clause_text, reason_text, effects_text, end_text, difference_line, fires_text, spec_test_text}
+use Rattle.def_explain.specs.Texts.{clause_text, reason_text, effects_text, end_text, difference_line, fires_differences, fires_text, spec_test_text}
 use Rattle.tn_term.specs.Views.{tree_of}
 use Rattle.tn_term.specs.declared.term.Term.{Term}
 use Rattle.tn_head.specs.Views.{bindings_seen}
@@ -54,7 +53,7 @@ module _ {A : Type 0} {G : Ghosts A} (t : SpecTest A G) where
 
   -- a line for each
   abbrev pub differences_text : {B : Type 0} → Clause A → Bindings A B → List (code.Effect A) → List ℕ
-  differences_text k b es = flat_map difference_line (clause_differences (dialect_of t.spec.now.dialect) (clause_seen k) (bindings_seen b) (context_seen t.context.now) (map effect_seen es))
+  differences_text k b es = flat_map difference_line (fires_differences (dialect_of t.spec.now.dialect) (clause_seen k) (bindings_seen b) (context_seen t.context.now) (map effect_seen es))
 
   -- all lines
   abbrev pub spec_test_in : List ℕ

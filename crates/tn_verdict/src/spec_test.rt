@@ -273,7 +273,8 @@ impl<'a, 'c, A: Allocator + Copy> SpecTest<'a, 'c, A> {
         self.put_body_difference(Difference::ReadsFreed, effects, out)?;
         self.put_body_difference(Difference::SuppressesMessage, effects, out)?;
         self.put_body_difference(Difference::LeavesNoMark, effects, out)?;
-        self.put_body_difference(Difference::IgnoresSilent, effects, out)
+        self.put_body_difference(Difference::IgnoresSilent, effects, out)?;
+        self.put_body_difference(Difference::EndsTest, effects, out)
     }
 
     /// Appends what becomes of the clauses, up to the first that fires.
