@@ -129,7 +129,7 @@ pub last_flag_of_a_sender : spec_test_text for_sends (clears_send ∷ []) on_sen
 unfolding is_written_bare digits
 last_flag_of_a_sender = refl
 
-pub another_flag_of_a_caller : spec_test_text for_calls (clears_send ∷ []) hi_one 
+pub another_flag_of_a_caller : spec_test_text for_calls (clears_send ∷ []) hi_one
     ≡ codes "clause 1 fires: <0.100.0> loses send\n=> a message\non a node: erlang:match_spec_test/3 with this list ends the node, and so do dbg:tp, dbg:tpl and dbg:tpe where the list is []\n"
 unfolding is_written_bare digits
 another_flag_of_a_caller = refl

@@ -37,7 +37,11 @@ pub(crate) fn difference_where(holds: bool, difference: Difference) -> Option<Di
 }
 
 /// Whether the frame of this depth is marked for exceptions.
-pub(crate) fn is_for_exceptions<A: Allocator + Copy>(look: &Look<'_, A>, pid: u32, depth: usize) -> bool
+pub(crate) fn is_for_exceptions<A: Allocator + Copy>(
+    look: &Look<'_, A>,
+    pid: u32,
+    depth: usize,
+) -> bool
     ensures { result ≡ is_marked_for_exceptions (look_seen look.now) pid depth }
 {
     match look.mark_of(pid, depth) {
