@@ -1,5 +1,5 @@
 """The functions of match specifications, and changes of the calls in a specification."""
-from witness.terms import Atom
+from witness.terms import Atom, TRUE
 
 CALLS, SENDS, RECEIVES = "calls", "sends", "receives"
 
@@ -132,23 +132,52 @@ def order_shows(expression):
 
 
 def shows_order(specification):
-    """The order of effects shows in a body, which no change of the question hides."""
+    """The order of effects shows in a body."""
     return any(order_shows(expression) for clause in specification for expression in clause[2:3])
 
 
-def takes_last_flag(specification, dialect):
-    """A body may change flags after the last flag of the process is gone, or takes flags of a process that sends.
+def takes_flags(call):
+    """The call takes flags, or may: a list that isn't written out may have any flag."""
+    if call[0] not in CHANGES:
+        return False
+    return bool(flags_named(call)[0]) or (call[0] == "trace" and len(call) > 2 and flags_in(call[-2]) is None)
 
-    No change of the question hides the first, and the second may end a node of OTP 25.
-    """
-    for clause in specification:
-        calls = calls_in([(*clause[:1], [], *clause[2:3])])
-        # A list that isn't written out may have any flag.
-        changes = [
-            bool(flags_named(call)[0]) or (call[0] == "trace" and len(call) > 2 and flags_in(call[-2]) is None)
-            for call in calls
-            if call[0] in CHANGES
-        ]
-        if (True in changes and len(changes) > 1) or (dialect == SENDS and True in changes):
-            return True
-    return False
+
+def bodies_of(specification):
+    """The calls in each body, one list for each clause."""
+    return [calls_in([(*clause[:1], [], *clause[2:3])]) for clause in specification]
+
+
+def may_lose_flags(specification):
+    """A body may take flags of the process whose event it is."""
+    return any(takes_flags(call) for calls in bodies_of(specification) for call in calls)
+
+
+def without_order(call):
+    """The call, or the tuple, with effects in the first of its parts that has some, and in no other."""
+    seen = False
+    parts = []
+    for part in call:
+        parts.append(without_effects(part) if seen else part)
+        seen = seen or bool(effects_in(part))
+    return tuple(parts)
+
+
+def without_effects(expression):
+    """The expression with `true` in place of each call that has an effect."""
+    return changed_expression(expression, lambda call: TRUE if call[0] in EFFECTS else call)
+
+
+def ordered_expression(expression):
+    """The expression without what shows the order of evaluation of arguments of calls and parts of tuples."""
+    if isinstance(expression, list):
+        return [ordered_expression(part) for part in expression]
+    if not isinstance(expression, tuple) or not expression:
+        return expression
+    first, *rest = expression
+    if isinstance(first, tuple) and not rest:
+        return (without_order(tuple(ordered_expression(part) for part in first)),)
+    if not isinstance(first, Atom) or (first == "const" and len(rest) == 1):
+        return expression
+    parts = tuple(ordered_expression(part) for part in rest)
+    return (first, *(parts if first in ("andalso", "orelse") else without_order(parts)))

@@ -1,4 +1,4 @@
-"""Random scripts with one session, as questions to both sides."""
+"""Random scripts with one to four sessions, as questions to both sides."""
 import collections
 
 from witness.chooser import Chooser
@@ -33,6 +33,7 @@ class ScriptChooser:
             self.fill(function, self.functions[place + 1 :])
         self.hide()
         self.processes = [self.process(number) for number in range(self.started)]
+        self.session = Atom("s1")
 
     def often(self, share):
         """True so often."""
@@ -155,13 +156,34 @@ class ScriptChooser:
 
     # ---- commands
 
+    def all_commands(self, sessions, destroys):
+        """Commands of so many sessions, one among the other; each session's in their order."""
+        lists = []
+        for number in range(1, sessions + 1):
+            self.session = Atom(f"s{number}")
+            own = [(Atom("session_create"), self.session, Atom(f"t{number}"), []), *self.commands()]
+            if sessions > 1:
+                own = own[: 1 + self.chance.randint(1, len(own) - 1)]
+            if destroys and self.often(0.45):
+                own.insert(self.chance.randint(max(1, len(own) - 2), len(own)), (Atom("session_destroy"), self.session))
+            lists.append(own)
+        chosen = []
+        while any(lists):
+            own = self.chance.choices(lists, [len(each) for each in lists])[0]
+            chosen.append(own.pop(0))
+        return chosen
+
+    def sessions(self, most):
+        """How many sessions there are, more than one where there may be many."""
+        return self.chance.choices(range(2, most + 1), [most + 2 - number for number in range(2, most + 1)])[0]
+
     def commands(self):
-        """Commands of the session s, without its creation."""
+        """Commands of the session, without its creation."""
         chosen = [self.first_command(), self.function_command()]
         if self.often(0.8):
             body = [(Atom("exception_trace"),)] if self.often(0.75) else [(Atom("return_trace"),)]
             how = self.one([[], [Atom("local")]])
-            chosen.insert(1, (Atom("function"), Atom("s"), (ANYTHING,) * 3, [(ANYTHING, [], body)], how))
+            chosen.insert(1, (Atom("function"), self.session, (ANYTHING,) * 3, [(ANYTHING, [], body)], how))
         makers = [self.process_command, self.function_command, self.function_command, self.decides_messages]
         return chosen + [self.one(makers)() for _ in range(self.chance.randint(2, 7))]
 
@@ -169,18 +191,15 @@ class ScriptChooser:
         """Sets most of the flags that tell something."""
         telling = [Atom("send"), Atom("receive"), Atom("call"), Atom("call"), Atom("procs")]
         flags = sorted(set(self.chance.sample(telling, 4)))
-        return (Atom("process"), Atom("s"), self.one([Atom("all"), Atom("existing"), Pid(100)]), TRUE, flags)
+        return (Atom("process"), self.session, self.one([Atom("all"), Atom("existing"), Pid(100)]), TRUE, flags)
 
     def process_command(self):
-        """Sets flags, or sometimes clears some."""
+        """Sets flags, or sometimes clears some, or none."""
         whom = self.one([Atom("all"), Atom("all"), Atom("existing"), Atom("new"), Pid(100), Pid(101), Pid(102)])
         weights = [5, 5, 7, 5, 1.5, 1, 1.2, 1, 1.2, 1]
         flags = sorted(set(self.chance.choices(FLAGS, weights, k=self.chance.randint(1, 5))))
-        if whom in (Atom("all"), Atom("new")):
-            # At a first spawn a node takes this flag from the child, that of new processes too.
-            flags = [flag for flag in flags if flag != "set_on_first_spawn"]
         how = FALSE if self.often(0.12) else TRUE
-        return (Atom("process"), Atom("s"), whom, how, [Atom(flag) for flag in flags])
+        return (Atom("process"), self.session, whom, how, [] if self.often(0.02) else [Atom(flag) for flag in flags])
 
     def function_command(self):
         """Says which calls are told."""
@@ -191,14 +210,17 @@ class ScriptChooser:
         )
         options = self.one([[], [Atom("global")], [Atom("local")], [Atom("local")]])
         decides = self.decides(CALLS, [Pid(101), 5][:arity])
-        return (Atom("function"), Atom("s"), covered, decides, options)
+        if self.often(0.02):
+            # What the documentation doesn't have.
+            covered, options = self.one([((module, name, 256), options), (covered, options * 2)])
+        return (Atom("function"), self.session, covered, decides, options)
 
     def decides_messages(self):
         """Says which sends, or which receives, are told."""
         if self.often(0.5):
-            return (Atom("send"), Atom("s"), self.decides(SENDS, [Pid(101), (Atom("hi"), 1)]), [])
+            return (Atom("send"), self.session, self.decides(SENDS, [Pid(101), (Atom("hi"), 1)]), [])
         arguments = [Atom("nonode@nohost"), Pid(100), (Atom("hi"), 1)]
-        return (Atom("recv"), Atom("s"), self.decides(RECEIVES, arguments), [])
+        return (Atom("recv"), self.session, self.decides(RECEIVES, arguments), [])
 
     def decides(self, dialect, arguments):
         """`true`, `false`, `[]` or a specification."""
@@ -208,8 +230,97 @@ class ScriptChooser:
         return {"true": TRUE, "none": [], "false": FALSE}[how]
 
 
+class FlagChooser(ScriptChooser):
+    """Small scripts in which specifications mostly fire, and mostly change flags of processes that have one or two."""
+
+    CHANGED = [Atom(name) for name in ("call", "send", "procs", "receive", "silent", "arity")]
+
+    def __init__(self, chance):
+        super().__init__(chance)
+        self.started = 2
+        self.processes = [(Atom("m"), Atom("go"), [Pid(101)]), (Atom("m"), Atom("go"), [Pid(100)])]
+
+    def signatures(self):
+        return [Function(Atom("m"), Atom(name), [Atom("To")]) for name in ("go", "f", "g")]
+
+    def fill(self, function, later):
+        kinds = [
+            (Atom("send"), Atom("To"), Atom("a")),
+            (Atom("send"), Atom("To"), (Atom("b"), 1)),
+            (Atom("send"), Pid(163), 7),
+            (Atom("link"), Atom("To")),
+            (Atom("receive"), Atom("X")),
+        ]
+        if later:
+            # Mostly calls of the next function.
+            names = [(Atom("m"), later[place].name) for place in (0, 0, 0, -1)]
+            whom = [self.one([Atom("To"), Atom("Self")])]
+            kinds += [(Atom("call"), ANYTHING, name, whom) for name in names] * 2
+            kinds += [(Atom("catch"), ANYTHING, names[-1], whom), (Atom("spawn"), ANYTHING, names[-1], [Atom("Self")])]
+        function.steps += [self.one(kinds) for _ in range(self.chance.randint(3, 6) if later else self.chance.randint(1, 2))]
+        if self.often(0.25):
+            last = [("return", 1), ("throw", Atom("x")), ("error", Atom("y")), ("exit", Atom("z"))]
+            kind, value = self.one(last)
+            function.steps.append((Atom(kind), value))
+
+    def sessions(self, most):
+        return self.chance.randint(1, most)
+
+    def hide(self):
+        """All are exported."""
+
+    def process(self, number):
+        """They are given."""
+
+    def flag_set(self, most):
+        """Up to so many flags, mostly those that tell something."""
+        few = self.CHANGED[:2] if self.often(0.6) else self.CHANGED[:3] * 2 + self.CHANGED
+        return sorted({self.one(few) for _ in range(self.chance.randint(1, most))})
+
+    def change(self):
+        """An action, mostly a change of flags."""
+        pid = [self.one([(Atom("self"),), Pid(100), Pid(101)])] if self.often(0.3) else []
+        kind = self.one(["on", "off", "off", "trace", "trace", "silent", "return", "exception", "message", "told"])
+        lists = [self.flag_set(2) if self.often(0.7) else [] for _ in range(2)]
+        if kind in ("on", "off"):
+            return (Atom("enable_trace" if kind == "on" else "disable_trace"), *pid, self.flag_set(1)[0])
+        if kind == "trace":
+            return (Atom("trace"), *pid, *lists)
+        if kind == "told":
+            return (Atom("message"), [(Atom("trace"), *pid, *lists), (Atom("trace"), *pid, *lists[::-1])])
+        if kind in ("return", "exception"):
+            return (Atom(f"{kind}_trace"),)
+        values = [TRUE, FALSE] if kind == "silent" else [TRUE, FALSE, Atom("w")]
+        return (Atom(kind), self.one(values))
+
+    def firing(self):
+        """A specification that fires."""
+        return [(ANYTHING, [], [self.change() for _ in range(self.chance.randint(1, 3))])]
+
+    def function_command(self):
+        """A function command whose specification fires."""
+        covered = (Atom("m"), self.one([ANYTHING, Atom("f")]), ANYTHING)
+        return (Atom("function"), self.session, covered, self.firing(), self.one([[], [Atom("local")]]))
+
+    def process_command(self):
+        """Sets a flag or two, or clears them."""
+        whom = self.one([Atom("all"), Atom("new"), Pid(100), Pid(101)])
+        flags = {*self.flag_set(1), *([self.one(FLAGS)] if self.often(0.15) else [])}
+        return (Atom("process"), self.session, whom, self.one([TRUE, TRUE, FALSE]), sorted(flags))
+
+    def commands(self):
+        """Commands of the session, without its creation."""
+        whom = self.one([Atom("all"), Atom("existing"), Pid(100)])
+        flags = self.flag_set(1 if self.often(0.6) else 2)
+        chosen = [(Atom("process"), self.session, whom, TRUE, flags), self.function_command()]
+        if self.often(0.35):
+            chosen.append((Atom("send"), self.session, self.firing(), []))
+        makers = [self.process_command, self.process_command, self.function_command]
+        return chosen + [self.one(makers)() for _ in range(self.chance.randint(0, 2))]
+
+
 class ScriptCase:
-    """A script with one session, and the picks that move it."""
+    """A script with one or more sessions, and the picks that move it."""
 
     MOST_PICKS = 70
 
@@ -222,17 +333,20 @@ class ScriptCase:
         self.journal = []
 
     @classmethod
-    def at_random(cls, chance, name=None):
-        """A random script, whose picks are chosen as it runs. With a name, a specification calls the function of it."""
+    def at_random(cls, chance, chooser=ScriptChooser, most=1, name=None):
+        """A random script with up to so many sessions, of which some are destroyed where there is more than one, whose
+        picks are chosen as it runs. With a name, a specification calls the function of it."""
         while True:
-            chosen = ScriptChooser(chance)
-            case = cls(chosen.functions, chosen.processes, chosen.commands(), chance=chance)
+            chosen = chooser(chance)
+            sessions = 1 if most == 1 else chosen.sessions(most)
+            commands = chosen.all_commands(sessions, destroys=most > 1)
+            case = cls(chosen.functions, chosen.processes, commands, chance=chance)
             if not name or any(call[0] == name for call in case.calls()):
                 return case
 
     @classmethod
     def of_text(cls, written, picks):
-        """The script of a text. Its first command creates the session."""
+        """The script of a text."""
         lines = [line for line in written.splitlines() if not line.lstrip().startswith("%")]
         texts = (to_node("\n".join(lines)) + "\n").split(".\n")
         forms = [Reader(form).term() for form in texts if form.strip()]
@@ -242,8 +356,11 @@ class ScriptCase:
         ]
         processes = [form[1:] for form in forms if form[0] == "process"]
         commands = [command for form in forms if form[0] == "control" for command in form[1]]
-        session = [(command[0], Atom("s"), *command[2:]) for command in commands]
-        return cls(functions, processes, session[1:], picks)
+        return cls(functions, processes, commands, picks)
+
+    def names(self):
+        """The names of the sessions."""
+        return [command[1] for command in self.session if command[0] == "session_create"]
 
     def specifications(self):
         """All specifications of the case."""
@@ -258,7 +375,7 @@ class ScriptCase:
         return integers_in(self.specifications())
 
     def commands(self):
-        """The commands of the session, but for its creation."""
+        """The commands of the sessions."""
         return self.session
 
     def steps(self):
@@ -273,10 +390,9 @@ class ScriptCase:
 
     def script(self, before=()):
         """The text of the script, with these commands before the others."""
-        commands = [*before, (Atom("session_create"), Atom("s"), Atom("t"), []), *self.session]
         forms = [function.form() for function in self.functions]
         forms += [(Atom("process"), *entry) for entry in self.processes]
-        forms.append((Atom("control"), commands))
+        forms.append((Atom("control"), [*before, *self.session]))
         return "".join(text(form) + ".\n" for form in forms)
 
     # ---- picks
@@ -291,46 +407,64 @@ class ScriptCase:
             (Atom("process"), Atom("w"), Atom("all"), TRUE, [Atom("procs")]),
         ]
         script = self.script(watch)
-        picks = [0] * (3 + self.chance.randint(1, len(self.session)))
-        seen, waiting, idle = [], [], 0
-        while waiting or len(picks) < self.MOST_PICKS and idle < 15:
-            pick = waiting.pop(0) if waiting else self.next_pick(seen)
-            lines, _, journal = program.replay(script, [*picks, pick])
-            if len(journal) == len(picks):
-                idle += 1
-                continue
-            idle = 0
-            picks.append(pick)
-            told = lines[1 : lines.index("== session s tracer t")]
-            waiting += signalled(told[len(seen) :], told)
-            seen = told
-        return picks[2:]
+        picks = [0] * (len(watch) + self.first_picks())
+        seen, waiting, most = [], [], self.MOST_PICKS + len(self.session)
+        while waiting or len(picks) < most:
+            more = waiting[:1] or [self.next_pick(seen) for _ in range(15)]
+            moves = program.moves(script, [*picks, *more], "w")[len(picks) :]
+            if not moves and not waiting:
+                break
+            waiting = waiting[1:]
+            for move in moves:
+                picks.append(move.pick)
+                told = move.sent("w")
+                seen += told
+                waiting += signalled(told, seen)
+                if waiting:
+                    break
+        return picks[len(watch) :]
+
+    def first_picks(self):
+        """How many commands are taken before a process moves."""
+        many = len(self.session)
+        if len(self.names()) == 1:
+            return self.chance.randint(min(4, many), many)
+        return self.chance.randint(many // 2, many)
 
     def next_pick(self, seen):
         """The control list or a process that was started."""
         started = len(self.processes) + sum(line_is("spawn")(line) for line in seen)
         return 0 if self.chance.random() < 0.1 else 100 + self.chance.randrange(started)
 
-    def told_by_program(self, program):
-        """The replies, and the lines of each process."""
-        picks = self.choose_picks(program) if self.wanted is None else self.wanted
-        lines, replies, self.journal = program.replay(self.script(), picks)
+    def run(self, program):
+        """The run of the program, by picks that are chosen first where there are none."""
+        if self.wanted is None:
+            self.wanted = self.choose_picks(program)
+        run = program.run(self.script(), self.wanted)
+        self.wanted = run.journal
+        return run
+
+    def told_by_program(self, run, listings):
+        """The replies, and the lines of each process in each session."""
         told = collections.defaultdict(list)
-        told["replies"] = ["badarg" if reply.startswith("{unsupported") else reply for reply in replies[1:]]
-        for line in lines[1:]:
-            told[pid_of(line)].append(line)
+        told["replies"] = ["badarg" if reply.startswith("{unsupported") else reply for reply in run.replies]
+        for session, lines in listings.items():
+            for line in lines:
+                told[f"{session} {pid_of(line)}"].append(line)
         return told
 
     def picks(self):
         """The picks that moved."""
-        return self.journal
+        return self.wanted or []
 
     def as_asked(self, differences):
         """The script as the program must be asked, with the same picks."""
         session = self.session
         for difference in differences:
-            session = [difference.asked(command) for command in session]
-        return ScriptCase(self.functions, self.processes, session, self.journal)
+            session = [
+                difference.asked(changed_specifications(command, difference.asked_specification)) for command in session
+            ]
+        return ScriptCase(self.functions, self.processes, session, self.picks())
 
     # ---- the node
 
@@ -342,28 +476,33 @@ class ScriptCase:
             for name in names
         ]
         commands = iter([self.asked(command, differences) for command in self.session])
-        moves = [(Atom("pick"), pick) if pick else next(commands) for pick in self.journal[1:]]
-        return (Atom("script"), modules, self.processes, moves)
+        moves = [(Atom("pick"), pick) if pick else next(commands) for pick in self.picks()]
+        return (Atom("script"), self.names(), modules, self.processes, moves)
 
     def asked(self, command, differences):
-        """A command for the node, without the session."""
+        """A command for the node."""
         for difference in differences:
-            command = difference.command(
-                tuple(difference.specification(part) if is_specification(part) else part for part in command)
-            )
-        kind, _, *rest = command
-        return (kind, rest[0]) if kind in ("send", "recv") else (kind, *rest)
+            command = difference.command(changed_specifications(command, difference.specification))
+        if command[0] in ("session_create", "session_destroy"):
+            return (Atom(command[0].removeprefix("session_")), command[1])
+        return command
 
     def told_by_node(self, answer):
         """The same, of real processes."""
-        replies, messages, stuck = answer
+        replies, sessions, stuck = answer
         told = collections.defaultdict(list)
         told["replies"] = [text(reply) for reply in replies]
-        for message in messages:
-            told[text(message[1])].append(text(message))
+        for name, messages in sessions:
+            for message in messages:
+                told[f"{text(name)} {text(message[1])}"].append(text(message))
         if stuck:
             told["stuck"] = [text(number) for number in stuck]
         return told
+
+
+def changed_specifications(command, change):
+    """The command with its specification changed."""
+    return tuple(change(part) if is_specification(part) else part for part in command)
 
 
 def signalled(lines, seen):

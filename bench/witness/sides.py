@@ -1,11 +1,14 @@
-"""The two that are held against each other: the built program and a real node."""
+"""The two that are held against each other: the built program and a real node of OTP 27."""
 import pathlib
 import re
+import shutil
 import subprocess
 import sys
+import tempfile
 import threading
 
-from witness.terms import Atom, Reader, node_text, text
+from witness.accounts import Account
+from witness.terms import Atom, Reader, node_text
 
 GATE = pathlib.Path(__file__).resolve().parent / "node_gate.erl"
 SECONDS = 120
@@ -17,16 +20,32 @@ ENDED = Atom("ended")
 QUIET = ["-kernel", "logger_level", "none"]
 
 
+class Run:
+    """What the program answers to a script and picks: its replies, its journal, and its account of each move."""
+
+    def __init__(self, replies, journal, account):
+        self.replies = replies
+        self.journal = journal
+        self.account = account
+
+
 class Program:
     """The built program."""
 
+    # A receive by a process that doesn't wait: by its line a program is known that was measured on OTP 25.
+    PROBE = (
+        "{function,m,go,exported,[],[{send,'Self',hi},{'receive','_'}]}.\n{process,m,go,[]}.\n"
+        "{control,[{session_create,s,t,[]},{process,s,all,true,['receive']}]}.\n"
+    )
+
     def __init__(self, path):
         self.path = path
+        self.is_older = "looks at its mailbox" in self.output("explain", self.PROBE, [0, 0, 100, 100])
 
-    def run(self, command, script, picks):
+    def output(self, command, script, picks, *more):
         """The output of a command on a script and picks."""
         ran = subprocess.run(
-            [self.path, command, "--picks", " ".join(map(str, picks))],
+            [self.path, command, "--picks", " ".join(map(str, picks)), *more],
             input=script.encode(),
             stdout=subprocess.PIPE,
             stderr=subprocess.PIPE,
@@ -38,52 +57,94 @@ class Program:
             sys.exit(f"bench: the program answered {output!r} {ran.stderr!r} for\n{script}")
         return output
 
-    def lost_flags(self, script, picks):
-        """The flags that each process loses as it ends, in the session s of a run without spawns and links."""
-        lost = re.findall(r"^  s: <0\.([0-9]+)\.0>((?: loses [a-z_']+)+)$", self.run("explain", script, picks), re.M)
-        return {int(number): re.findall(r" loses '?([a-z_]+)'?", flags) for number, flags in lost}
+    def moves(self, script, picks, session):
+        """The moves of a run, with the messages of one session."""
+        return Account(self.output("explain", script, picks, "--session", session)).moves
 
-    def replay(self, script, picks):
-        """The listing, the replies and the journal of a run."""
-        output = self.run("replay", script, picks)
-        listings, _, rest = output.partition("== replies\n")
+    def run(self, script, picks):
+        """A run of the program."""
+        listings, _, rest = self.output("replay", script, picks).partition("== replies\n")
         replies, _, journal = rest.partition("== journal\n")
-        return listings.splitlines(), replies.splitlines(), [int(pick) for pick in journal.split()]
+        account = Account(self.output("explain", script, picks), self.is_older)
+        if account.listings() != listed(listings.splitlines()):
+            sys.exit(f"bench: the account and the listings of the program aren't the same for\n{script}")
+        return Run(replies.splitlines(), [int(pick) for pick in journal.split()], account)
+
+
+def listed(lines):
+    """The lines of each session that has some."""
+    found, own = {}, None
+    for line in lines:
+        if session := re.match(r"== session ('(?:[^'\\]|\\.)*'|\S+) tracer ", line):
+            own = found[session[1]] = []
+        else:
+            own.append(line)
+    return {session: own for session, own in found.items() if own}
 
 
 class Node:
-    """A real node that answers questions, each a term."""
+    """A node in a root, which answers questions, each a term."""
 
-    def __init__(self, folder):
-        subprocess.run(["erlc", "-o", folder, GATE], check=True)
-        self.folder = folder
+    def __init__(self, root):
+        self.root = pathlib.Path(root).absolute()
+        self.folder = pathlib.Path(tempfile.mkdtemp(prefix="node_gate.", dir=self.root / "tmp"))
+        self.within = f"/tmp/{self.folder.name}"
+        shutil.copy(GATE, self.folder)
+        subprocess.run([*self.entered(), "erlc", "-o", self.within, f"{self.within}/{GATE.name}"], check=True)
         self.process = self.started()
+
+    def entered(self):
+        """The words that run a program in the root."""
+        return ["chroot", str(self.root)]
 
     def started(self):
         """A new node."""
         return subprocess.Popen(
-            ["erl", "-noshell", *QUIET, "+S", "1:1", "-pa", self.folder, "-s", "node_gate", "serve"],
+            [*self.entered(), "erl", "-noshell", *QUIET, "+S", "1:1", "-pa", self.within, "-s", "node_gate", "serve"],
             stdin=subprocess.PIPE,
             stdout=subprocess.PIPE,
-            cwd=self.folder,
+            stderr=subprocess.DEVNULL,
             text=True,
+            env={"PATH": "/usr/sbin:/usr/bin:/sbin:/bin", "HOME": "/", "LANG": "C.UTF-8", "ERL_CRASH_DUMP_SECONDS": "0"},
         )
 
     def ask(self, question):
         """The answer to a question. Where the node ends, the next question is asked of a new one."""
         watch = threading.Timer(SECONDS, self.process.kill)
         watch.start()
-        self.process.stdin.write(node_text(question) + ".\n")
-        self.process.stdin.flush()
-        line = self.process.stdout.readline()
+        try:
+            self.process.stdin.write(node_text(question) + ".\n")
+            self.process.stdin.flush()
+            line = self.process.stdout.readline()
+        except BrokenPipeError:
+            line = ""
         watch.cancel()
-        if not line:
+        if not line.endswith("\n"):
+            self.process.kill()
             self.process.wait()
             self.process = self.started()
             return ENDED
         return Reader(line.rstrip("\n")).term()
 
     def close(self):
-        """Ends the node."""
+        """Ends the node, and takes the gate out of the root."""
         self.process.stdin.close()
         self.process.wait()
+        shutil.rmtree(self.folder)
+
+
+def missing_in(root):
+    """Why no node can be asked in the root; nothing where one can."""
+    if not (pathlib.Path(root) / "usr/bin/erl").exists():
+        return f"no node of OTP 27 in {root}; bench/otp27 {root} makes one"
+    if not shutil.which("chroot"):
+        return "no chroot on the path"
+    ran = subprocess.run(
+        ["chroot", str(root), "erl", "-noshell", "-eval", "io:put_chars(erlang:system_info(otp_release)), halt()."],
+        stdout=subprocess.PIPE,
+        stderr=subprocess.PIPE,
+        check=False,
+    )
+    if ran.returncode != 0:
+        return f"the node in {root} doesn't start: {ran.stderr.decode().strip()}"
+    return "" if ran.stdout == b"27" else f"the node in {root} is of OTP {ran.stdout.decode()}, not of OTP 27"
