@@ -1,16 +1,17 @@
 """What `explain` says of a run: the messages of each session move by move, and where a node does otherwise."""
 import re
 
-HEADER = re.compile(r"([0-9]+) ([0-9]+)(?: .*)?")
+HEADER = re.compile(r"([0-9]+) ([0-9]+)(?: (.*))?")
 LINE = re.compile(r"  ('(?:[^'\\]|\\.)*'|[a-z][A-Za-z0-9_@]*): (.*)")
 OTHERWISE = "on a node: "
 
 
 class Move:
-    """A move: its pick, and the lines of each session."""
+    """A move: its pick, its events or its command, and the lines of each session."""
 
     def __init__(self, pick):
         self.pick = pick
+        self.shown = []
         self.lines = {}
 
     def sent(self, session):
@@ -33,10 +34,10 @@ class Move:
 
 
 class Account:
-    """The moves of a run, by a program that says what a node of OTP 27 does or, where it is older, of OTP 25."""
+    """The moves of a run, by a program that doesn't say some words yet."""
 
-    def __init__(self, output, is_older=False):
-        self.is_older = is_older
+    def __init__(self, output, unsaid=frozenset()):
+        self.unsaid = unsaid
         self.moves = []
         number = None
         for line in output.splitlines():
@@ -46,6 +47,7 @@ class Account:
                 if header[1] != number:
                     number = header[1]
                     self.moves.append(Move(int(header[2])))
+                self.moves[-1].shown.append(header[3] or "")
             else:
                 raise ValueError(f"no line of an account: {line!r}")
 

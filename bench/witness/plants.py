@@ -25,18 +25,25 @@ class Planted(Program):
         """The account of the same picks by another script, whose control list is as long."""
         if script == changed:
             return account
-        return Account(self.output("explain", changed, picks), account.is_older)
+        return Account(self.output("explain", changed, picks), account.unsaid)
 
 
 class EverySession(Planted):
-    """What a session's move has acts in all sessions: each of them has the line."""
+    """What one session has acts in all that live: the lines of each move are changed, one move after the other."""
 
     def changed(self, account, script, picks):
-        lasting = set()
+        self.begin(script)
+        sessions = set()
         for move in account.moves:
-            lasting |= {session for session, lines in move.lines.items() if "replies {session," in " ".join(lines)}
-            self.share(move, lasting)
+            for session, lines in move.lines.items():
+                if any(line.startswith("replies {session,") for line in lines):
+                    sessions.add(session)
+            self.share(move, sessions)
         return account
+
+    def begin(self, script):
+        """Begins with a script."""
+        raise NotImplementedError
 
     def share(self, move, sessions):
         """Changes one move, where these sessions live."""
@@ -44,27 +51,22 @@ class EverySession(Planted):
 
 
 class SharedMarks(EverySession):
-    """A call that is marked in one session is marked in all: how it ends is told in each that has called it."""
+    """A call that is marked in one session is marked in all: how it ends is told in each that told of a call."""
 
-    def __init__(self, program):
-        super().__init__(program)
+    def begin(self, script):
         self.called = set()
-
-    def changed(self, account, script, picks):
-        self.called = set()
-        return super().changed(account, script, picks)
 
     def share(self, move, sessions):
-        ended = {}
+        ends = set()
         for session in move.lines:
             for line in move.sent(session):
                 kind = line.split(",")[2]
                 if kind == "call":
                     self.called.add((session, pid_of(line)))
                 if kind in ("return_from", "exception_from"):
-                    ended.setdefault(line, session)
-        for line in ended:
-            for session in sessions:
+                    ends.add(line)
+        for session in sessions:
+            for line in ends:
                 if (session, pid_of(line)) in self.called and line not in move.sent(session):
                     move.lines.setdefault(session, []).append(f"=> {line}")
 
@@ -72,33 +74,40 @@ class SharedMarks(EverySession):
 class SharedSilence(EverySession):
     """A process that one session silences is silent in all: its calls, returns and exceptions aren't told."""
 
-    def __init__(self, program):
-        super().__init__(program)
+    def begin(self, script):
         self.silent = set()
-
-    def changed(self, account, script, picks):
-        self.silent = set()
-        return super().changed(account, script, picks)
+        self.pids = [f"<0.{100 + number}.0>" for number in range(len(re.findall("^{process,", script, re.M)))]
 
     def share(self, move, sessions):
+        for shown in move.shown:
+            self.note_shown(shown)
         for lines in move.lines.values():
             for line in lines:
-                self.note(move, line)
+                self.note_line(move, line)
         for session, lines in move.lines.items():
-            told = [line for line in move.sent(session) if line.split(",")[2] in ("call", "return_from", "exception_from")]
-            gone = {f"=> {line}" for line in told if pid_of(line) in self.silent}
+            ends = [line for line in move.sent(session) if line.split(",")[2] in ("call", "return_from", "exception_from")]
+            gone = {f"=> {line}" for line in ends if pid_of(line) in self.silent}
             move.lines[session] = [line for line in lines if line not in gone]
 
-    def note(self, move, line):
-        """Whom a line silences, and whom it doesn't."""
+    def change(self, pids, is_silent):
+        """These processes are silent from now on, or aren't."""
+        self.silent = self.silent | set(pids) if is_silent else self.silent - set(pids)
+
+    def note_shown(self, shown):
+        """Notes a process that was started, or a command that silences."""
+        if born := re.match(r"(<0\.[0-9]+\.0>) spawned ", shown):
+            self.pids.append(born[1])
+        if command := re.match(r"{process,[^,]+,([^,]+),(true|false),(\[.*\])}", shown):
+            if re.search(r"\bsilent\b", command[3]) and command[1] != "new":
+                self.change(self.pids if command[1] in ("all", "existing") else [command[1]], command[2] == "true")
+
+    def note_line(self, move, line):
+        """Notes whom a line silences, and whom it doesn't."""
         for pid, changes in re.findall(r"(<0\.[0-9]+\.0>)((?: (?:gets|loses) '?[a-z_]+'?)+)", line):
-            if "gets silent" in changes:
-                self.silent.add(pid)
-            if "loses silent" in changes:
-                self.silent.discard(pid)
+            if "silent" in changes:
+                self.change([pid], "gets silent" in changes)
         if "fires:" in line and (one := re.search(r"silent (true|false)", line)):
-            pid = f"<0.{move.pick}.0>"
-            (self.silent.add if one[1] == "true" else self.silent.discard)(pid)
+            self.change([f"<0.{move.pick}.0>"], one[1] == "true")
 
 
 class SharedFlags(Planted):
@@ -123,7 +132,7 @@ class SharedFlags(Planted):
         changed = script[: script.index("{control,")] + f"{{control,[{flat}]}}.\n"
         more = iter(shared)
         longer = [each for pick in picks for each in ([0] * len(next(more, [0])) if pick == 0 else [pick])]
-        return Account(self.output("explain", changed, longer), account.is_older)
+        return Account(self.output("explain", changed, longer), account.unsaid)
 
     def commands(self, script):
         """The texts of the commands."""

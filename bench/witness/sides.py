@@ -8,6 +8,7 @@ import tempfile
 import threading
 
 from witness.accounts import Account
+from witness.differences import unsaid_by
 from witness.terms import Atom, Reader, node_text
 
 GATE = pathlib.Path(__file__).resolve().parent / "node_gate.erl"
@@ -32,15 +33,9 @@ class Run:
 class Program:
     """The built program."""
 
-    # A receive by a process that doesn't wait: by its line a program is known that was measured on OTP 25.
-    PROBE = (
-        "{function,m,go,exported,[],[{send,'Self',hi},{'receive','_'}]}.\n{process,m,go,[]}.\n"
-        "{control,[{session_create,s,t,[]},{process,s,all,true,['receive']}]}.\n"
-    )
-
     def __init__(self, path):
         self.path = path
-        self.is_older = "looks at its mailbox" in self.output("explain", self.PROBE, [0, 0, 100, 100])
+        self.unsaid = unsaid_by(self)
 
     def output(self, command, script, picks, *more):
         """The output of a command on a script and picks."""
@@ -65,7 +60,7 @@ class Program:
         """A run of the program."""
         listings, _, rest = self.output("replay", script, picks).partition("== replies\n")
         replies, _, journal = rest.partition("== journal\n")
-        account = Account(self.output("explain", script, picks), self.is_older)
+        account = Account(self.output("explain", script, picks), self.unsaid)
         if account.listings() != listed(listings.splitlines()):
             sys.exit(f"bench: the account and the listings of the program aren't the same for\n{script}")
         return Run(replies.splitlines(), [int(pick) for pick in journal.split()], account)
