@@ -55,6 +55,14 @@ class Account:
         """It says somewhere that a node does otherwise, in words that begin so."""
         return any(line.startswith(words) for move in self.moves for session in move.lines for line in move.said(session))
 
+    def ends_untraced(self, reason):
+        """A process without flags ends by this error of its own step, of which no session says anything."""
+        for move in self.moves:
+            for ended in (re.fullmatch(rf"(<0\.[0-9]+\.0>) exit {reason}", shown) for shown in move.shown):
+                if ended and not any(line.startswith(f"{ended[1]} loses ") for own in move.lines.values() for line in own):
+                    return True
+        return False
+
     def has_lines_of_node(self):
         """It has messages that a node doesn't send, or sends."""
         return any(
