@@ -23,7 +23,7 @@ class Move:
         return [line.removeprefix(OTHERWISE) for line in self.lines.get(session, []) if line.startswith(OTHERWISE)]
 
     def sent_by_node(self, session):
-        """The messages that a node sends: `+` lines come in place of as many of the last messages as there are `-` lines."""
+        """The messages that a node sends: `+` lines come in place of the last messages, which the `-` lines have."""
         lines = self.lines.get(session, [])
         sent = self.sent(session)
         gone = [line[2:] for line in lines if line.startswith("- {trace")]
@@ -51,15 +51,21 @@ class Account:
             else:
                 raise ValueError(f"no line of an account: {line!r}")
 
+    def said(self):
+        """All that it says of a node."""
+        return {line for move in self.moves for session in move.lines for line in move.said(session)}
+
     def says(self, words):
         """It says somewhere that a node does otherwise, in words that begin so."""
-        return any(line.startswith(words) for move in self.moves for session in move.lines for line in move.said(session))
+        return any(line.startswith(words) for line in self.said())
 
     def ends_untraced(self, reason):
         """A process without flags ends by this error of its own step, of which no session says anything."""
         for move in self.moves:
-            for ended in (re.fullmatch(rf"(<0\.[0-9]+\.0>) exit {reason}", shown) for shown in move.shown):
-                if ended and not any(line.startswith(f"{ended[1]} loses ") for own in move.lines.values() for line in own):
+            lines = [line for own in move.lines.values() for line in own]
+            for shown in move.shown:
+                ended = re.fullmatch(rf"(<0\.[0-9]+\.0>) exit {reason}", shown)
+                if ended and not any(line.startswith(f"{ended[1]} loses ") for line in lines):
                     return True
         return False
 

@@ -1,9 +1,9 @@
-"""Wrong rules that are planted in what the program says, so that the comparison must find cases that nothing explains."""
+"""Wrong rules, planted in what the program says, so that the comparison must find cases that nothing explains."""
 import re
 
 from witness.accounts import Account
 from witness.sides import Program, Run
-from witness.terms import pid_of
+from witness.terms import line_is, pid_of
 
 
 class Planted(Program):
@@ -85,8 +85,8 @@ class SharedSilence(EverySession):
             for line in lines:
                 self.note_line(move, line)
         for session, lines in move.lines.items():
-            ends = [line for line in move.sent(session) if line.split(",")[2] in ("call", "return_from", "exception_from")]
-            gone = {f"=> {line}" for line in ends if pid_of(line) in self.silent}
+            ends = line_is("call", "return_from", "exception_from")
+            gone = {f"=> {line}" for line in move.sent(session) if ends(line) and pid_of(line) in self.silent}
             move.lines[session] = [line for line in lines if line not in gone]
 
     def change(self, pids, is_silent):
@@ -155,7 +155,8 @@ class GoesOn(Planted):
     """A session that is destroyed goes on."""
 
     def changed(self, account, script, picks):
-        return self.with_script(account, script, picks, re.sub(r"{session_destroy,(\w+)}", r"{process,\1,new,true,[]}", script))
+        lasting = re.sub(r"{session_destroy,(\w+)}", r"{process,\1,new,true,[]}", script)
+        return self.with_script(account, script, picks, lasting)
 
 
 class NoFlagsByLinks(Planted):

@@ -199,7 +199,7 @@ class ScriptChooser:
         weights = [5, 5, 7, 5, 1.5, 1, 1.2, 1, 1.2, 1]
         flags = sorted(set(self.chance.choices(FLAGS, weights, k=self.chance.randint(1, 5))))
         how = FALSE if self.often(0.12) else TRUE
-        return (Atom("process"), self.session, whom, how, [] if self.often(0.02) else [Atom(flag) for flag in flags])
+        return (Atom("process"), self.session, whom, how, [] if self.often(0.007) else [Atom(flag) for flag in flags])
 
     def function_command(self):
         """Says which calls are told."""
@@ -210,7 +210,7 @@ class ScriptChooser:
         )
         options = self.one([[], [Atom("global")], [Atom("local")], [Atom("local")]])
         decides = self.decides(CALLS, [Pid(101), 5][:arity])
-        if self.often(0.02):
+        if self.often(0.007):
             # What the documentation doesn't have.
             covered, options = self.one([((module, name, 256), options), (covered, options * 2)])
         return (Atom("function"), self.session, covered, decides, options)
@@ -257,7 +257,8 @@ class FlagChooser(ScriptChooser):
             whom = [self.one([Atom("To"), Atom("Self")])]
             kinds += [(Atom("call"), ANYTHING, name, whom) for name in names] * 2
             kinds += [(Atom("catch"), ANYTHING, names[-1], whom), (Atom("spawn"), ANYTHING, names[-1], [Atom("Self")])]
-        function.steps += [self.one(kinds) for _ in range(self.chance.randint(3, 6) if later else self.chance.randint(1, 2))]
+        least, most = (3, 6) if later else (1, 2)
+        function.steps += [self.one(kinds) for _ in range(self.chance.randint(least, most))]
         if self.often(0.25):
             last = [("return", 1), ("throw", Atom("x")), ("error", Atom("y")), ("exit", Atom("z"))]
             kind, value = self.one(last)

@@ -100,7 +100,7 @@ class Node:
             stdout=subprocess.PIPE,
             stderr=subprocess.DEVNULL,
             text=True,
-            env={"PATH": "/usr/sbin:/usr/bin:/sbin:/bin", "HOME": "/", "LANG": "C.UTF-8", "ERL_CRASH_DUMP_SECONDS": "0"},
+            env={"PATH": "/usr/sbin:/usr/bin:/bin", "HOME": "/", "LANG": "C.UTF-8", "ERL_CRASH_DUMP_SECONDS": "0"},
         )
 
     def ask(self, question):
