@@ -160,10 +160,14 @@ class GoesOn(Planted):
 
 
 class NoFlagsByLinks(Planted):
-    """A link hands on nothing."""
+    """A link hands on nothing: no process command sets a flag by which it does."""
 
     def changed(self, account, script, picks):
-        return self.with_script(account, script, picks, re.sub(r"set_on_(first_)?link", "arity", script))
+        def without(command):
+            return command[1] + ",".join(flag for flag in command[2].split(",") if "_link" not in flag) + "]}"
+
+        plain = re.sub(r"({process,[^,{}]+,[^,{}]+,(?:true|false),\[)([^\[\]]*)\]}", without, script)
+        return self.with_script(account, script, picks, plain)
 
 
 RULES = {
