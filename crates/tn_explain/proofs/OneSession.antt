@@ -28,7 +28,7 @@ use Rattle.def_explain.specs.CommandDifferences.{command_difference}
 use Rattle.tn_explain.specs.LineParts.{reply_lines, uncounted_lines}
 use Rattle.tn_explain.specs.NamedSessions.{HasState}
 use Rattle.tn_explain.specs.declared.step.Step.{Step}
-use Rattle.tn_explain.specs.declared.discard.Discard.{Discard}
+use Rattle.tn_trace.specs.declared.discard.Discard.{Discard}
 use Rattle.tn_explain.proofs.MoveTexts.{lines_wanted, lines_not_wanted}
 
 module _ {A : Type 0} (step : Step) (o : Exports) (living : Alive) (s : NamedSession) (old : Slot A Discard) (h : HasState o living s old) where

@@ -33,7 +33,7 @@ use Rattle.tn_explain.specs.Explainers.{sessions_after}
 use Rattle.tn_explain.specs.NamedSessions.{HasState, AreNamedSessions}
 use Rattle.tn_explain.specs.RemarkedSessions.{has_some, HasRemarked, AddsReasons}
 use Rattle.tn_explain.specs.RemarkLines.{remark_line, IsFrontOfPicks, AreRemarkLines}
-use Rattle.tn_explain.specs.declared.discard.Discard.{Discard}
+use Rattle.tn_trace.specs.declared.discard.Discard.{Discard}
 use Rattle.tn_explain.specs.declared.remark_observer.RemarkObserver.{RemarkObserver}
 use Rattle.tn_explain.proofs.Picks.{sessions_more}
 

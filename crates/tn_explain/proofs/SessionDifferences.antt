@@ -27,7 +27,7 @@ use Rattle.tn_trace.proofs.Places.{up_to_none, up_to_all, all_dropped, each_mapp
 use Rattle.tn_explain.specs.Comparisons.{event_differs, Compares}
 use Rattle.tn_explain.specs.LineParts.{both_of, inherited_by_flags}
 use Rattle.tn_explain.specs.NamedSessions.{HasState, AreNamedSessions}
-use Rattle.tn_explain.specs.declared.discard.Discard.{Discard}
+use Rattle.tn_trace.specs.declared.discard.Discard.{Discard}
 use Rattle.tn_explain.specs.declared.sessions.Sessions.{Sessions}
 use Rattle.tn_explain.proofs.EvaluationDifferences.{some_of_both, some_of_one}
 use Rattle.tn_explain.proofs.DifferenceLines.{some-mapped}

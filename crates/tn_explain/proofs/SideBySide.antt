@@ -13,7 +13,7 @@ use Rattle.tn_node.specs.Outlooks.{outlook_seen}
 use Rattle.tn_explain.specs.Filters.{selection_seen, text_by}
 use Rattle.tn_explain.specs.NamedSessions.{HasState}
 use Rattle.tn_explain.specs.declared.step.Step.{Step}
-use Rattle.tn_explain.specs.declared.discard.Discard.{Discard}
+use Rattle.tn_trace.specs.declared.discard.Discard.{Discard}
 use Rattle.tn_explain.proofs.MoveTexts.{are_made, text-append}
 
 -- what the first of some sessions makes, and then the others

@@ -35,7 +35,7 @@ use Rattle.tn_explain.specs.Evaluations.{context_on_values}
 use Rattle.tn_explain.specs.Explainers.{sessions_after, outlook_after}
 use Rattle.tn_explain.specs.LineParts.{both_of}
 use Rattle.tn_explain.specs.NamedSessions.{HasState, AreNamedSessions}
-use Rattle.tn_explain.specs.declared.discard.Discard.{Discard}
+use Rattle.tn_trace.specs.declared.discard.Discard.{Discard}
 use Rattle.tn_explain.specs.declared.node_moves.NodeMoves.{NodeMoves}
 use Rattle.tn_explain.specs.declared.sessions.Sessions.{Sessions}
 

@@ -27,7 +27,7 @@ use Rattle.tn_trace.specs.declared.slot.Slot.{Slot}
 use Rattle.tn_explain.specs.Filters.{text_by}
 use Rattle.tn_explain.specs.declared.slots.Order.{Order}
 use Rattle.tn_explain.specs.declared.step.Step.{Step}
-use Rattle.tn_explain.specs.declared.discard.Discard.{Discard}
+use Rattle.tn_trace.specs.declared.discard.Discard.{Discard}
 use Rattle.tn_explain.specs.declared.sessions.Sessions.{Sessions}
 
 -- the slot is this session's, over the functions of the program and where these processes live

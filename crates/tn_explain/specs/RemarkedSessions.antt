@@ -18,7 +18,7 @@ use Rattle.tn_trace.specs.declared.slot.Slot.{Slot}
 use Rattle.tn_explain.specs.Explainers.{sessions_after}
 use Rattle.tn_explain.specs.NamedSessions.{HasState, AreNamedSessions}
 use Rattle.tn_explain.specs.declared.slots.Order.{Order}
-use Rattle.tn_explain.specs.declared.discard.Discard.{Discard}
+use Rattle.tn_trace.specs.declared.discard.Discard.{Discard}
 use Rattle.tn_explain.specs.declared.remark_observer.RemarkObserver.{RemarkObserver}
 
 -- why the session of a command among these refuses it, or matches no function by it

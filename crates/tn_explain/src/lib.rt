@@ -27,7 +27,6 @@ mod command_reasons;
 mod command_starts;
 mod creations;
 mod differences;
-mod discard;
 mod empty_scripts;
 mod ends;
 mod evaluation_differences;

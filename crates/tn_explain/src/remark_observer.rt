@@ -9,7 +9,6 @@ ghost use Rattle.tn_explain.specs.RemarkedSessions.{SlotsHaveReason, has_some};
 
 use crate::command_reason_texts::reason_text;
 use crate::command_reasons::{CommandReason, absent_reason, command_reason};
-use crate::discard::Discard;
 use crate::node_moves::NOTHING;
 use crate::sessions::Sessions;
 use crate::slots::Order;
@@ -18,7 +17,7 @@ use std::alloc::{AllocError, Allocator};
 use tn_flags::{Command, Event};
 use tn_node::{Node, Outlook};
 use tn_program::Program;
-use tn_trace::{JOURNAL, JournalEntry, Observer, Run, Slot};
+use tn_trace::{Discard, JOURNAL, JournalEntry, Observer, Run, Slot};
 
 /// The sessions of a run whose commands are remarked of.
 #[derive(Drop)]

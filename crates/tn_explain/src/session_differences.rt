@@ -6,13 +6,12 @@ ghost use Rattle.tn_session.specs.Sessions.{value_in};
 ghost use Rattle.tn_explain.specs.Comparisons.{Compares, ComparesLive, SlotCompares, SlotsCompare};
 
 use crate::differences::{Change, end_difference, inherited_difference};
-use crate::discard::Discard;
 use crate::evaluation_differences::evaluation_differs;
 use crate::inheritance::both_of;
 use std::alloc::{AllocError, Allocator};
 use tn_flags::Event;
 use tn_session::{Room, Session};
-use tn_trace::Slot;
+use tn_trace::{Discard, Slot};
 
 /// A live session sees an event by which no process inherits flags: whether a node does otherwise in what it makes of
 /// it.

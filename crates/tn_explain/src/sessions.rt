@@ -1,5 +1,4 @@
 // The sessions of a run, and what they make of a move.
-use crate::discard::Discard;
 use crate::session_differences::compare_each;
 use crate::slots::{Order, obey_each, tell_each};
 use crate::step::Step;
@@ -8,7 +7,7 @@ use tn_flags::{Command, Event};
 use tn_program::Program;
 use tn_script::Function;
 use tn_term::Alive;
-use tn_trace::{Slot, absent_sessions, living_after};
+use tn_trace::{Discard, Slot, absent_sessions, living_after};
 
 /// The sessions of the control list, and who lives.
 #[derive(Drop)]

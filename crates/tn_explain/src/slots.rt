@@ -8,7 +8,6 @@ ghost use Rattle.tn_explain.specs.NamedSessions.{SlotsSeeCommand, SlotHasDiffere
 
 use crate::command_differences::command_difference;
 use crate::command_reasons::{CommandReason, command_reason};
-use crate::discard::Discard;
 use crate::event::put_event_lines;
 use crate::line::{put_command_difference, put_command_line};
 use crate::step::Step;
@@ -18,7 +17,7 @@ use tn_flags::{Command, Event};
 use tn_script::Function;
 use tn_session::Room;
 use tn_term::Alive;
-use tn_trace::Slot;
+use tn_trace::{Discard, Slot};
 
 /// A command with what its session needs to know: the functions of the program, and who lives.
 #[derive(Drop)]

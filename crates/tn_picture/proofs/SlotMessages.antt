@@ -17,7 +17,7 @@ use Rattle.tn_trace.specs.Tracks.{Track, tracks_from}
 use Rattle.tn_trace.specs.declared.slot.Slot.{Slot}
 use Rattle.tn_trace.proofs.Places.{up_to_none, up_to_all, all_dropped, each_mapped, place_here}
 use Rattle.tn_picture.specs.Slots.{IsSlotOf}
-use Rattle.tn_picture.specs.declared.discard.Discard.{Discard}
+use Rattle.tn_trace.specs.declared.discard.Discard.{Discard}
 
 -- ---- one session
 

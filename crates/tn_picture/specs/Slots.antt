@@ -19,7 +19,7 @@ use Rattle.tn_script.specs.declared.form.Function.{Function}
 use Rattle.tn_trace.specs.Slots.{IsSession, EachPair}
 use Rattle.tn_trace.specs.declared.slot.Slot.{Slot}
 use Rattle.tn_picture.specs.declared.row.Report.{Report}
-use Rattle.tn_picture.specs.declared.discard.Discard.{Discard}
+use Rattle.tn_trace.specs.declared.discard.Discard.{Discard}
 use Rattle.tn_picture.specs.Views.{report_seen}
 
 -- the slot is this session's, over the functions of the program and where these processes live

@@ -8,7 +8,6 @@
 //! line of the one refusal, and that a fault says which end failed, and how many bytes of it were taken.
 #![tactic(auto)]
 
-mod discard;
 mod job;
 mod label;
 mod life;

@@ -4,7 +4,6 @@ ghost use Rattle.def_picture.specs.Picture.{rows_of};
 ghost use Rattle.tn_program.specs.Views.{program_of};
 ghost use Rattle.tn_picture.specs.Views.{picture_row_seen};
 
-use crate::discard::Discard;
 use crate::label::{command_label, event_label};
 use crate::row::Row;
 use crate::shape::{Shape, shape_of_event};
@@ -14,7 +13,9 @@ use tn_flags::{Command, Event};
 use tn_node::Node;
 use tn_program::Program;
 use tn_term::Alive;
-use tn_trace::{JOURNAL, JournalEntry, Observer, Run, Slot, absent_sessions, living_after};
+use tn_trace::{
+    Discard, JOURNAL, JournalEntry, Observer, Run, Slot, absent_sessions, living_after,
+};
 
 /// The sessions of the control list, and who lives.
 #[derive(Drop)]

@@ -2,14 +2,13 @@
 ghost use Rattle.std.specs.Prelude.{IfOk};
 ghost use Rattle.tn_picture.specs.Slots.{SlotReports, SlotsReport, SlotObeys, SlotsObey};
 
-use crate::discard::Discard;
 use crate::row::Report;
 use std::alloc::{AllocError, Allocator};
 use tn_flags::{Command, Event};
 use tn_script::Function;
 use tn_session::Room;
 use tn_term::Alive;
-use tn_trace::Slot;
+use tn_trace::{Discard, Slot};
 
 /// A session sees an event, and its message is appended, where it reports one.
 fn report_one<A: Allocator + Copy>(

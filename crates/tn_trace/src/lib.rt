@@ -10,6 +10,7 @@
 //! is its user's, by `MessageSink`, and what is made of a run its user's, by `Observer`.
 #![tactic(auto)]
 
+mod discard;
 mod functions;
 mod item;
 mod journal;
@@ -26,6 +27,7 @@ mod texts;
 mod transcript;
 mod transcript_fault;
 
+pub use discard::Discard;
 pub use functions::command_at;
 pub use item::{Answer, Item, StepFault};
 pub use journal::{JOURNAL, JournalEntry};

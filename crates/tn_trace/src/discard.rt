@@ -1,12 +1,13 @@
 // Messages of which nothing is kept.
+use crate::item::Item;
+use crate::sink::MessageSink;
 use std::alloc::{AllocError, Allocator};
 use tn_session::{EventText, Message};
 use tn_term::Term;
-use tn_trace::{Item, MessageSink};
 
-/// Nothing is kept of messages and replies: an account says what becomes of them as they come.
+/// Nothing is kept of messages and replies: an observer makes something of them as they come.
 #[derive(Drop)]
-pub(crate) struct Discard;
+pub struct Discard;
 
 impl<A: Allocator> MessageSink<A> for Discard {
     ghost use Rattle.std.specs.Prelude.{IfOk};
