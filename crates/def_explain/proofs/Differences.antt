@@ -19,7 +19,7 @@ use Rattle.def_session.specs.State.{MarkKind, for_returns, for_exceptions, Sessi
 use Rattle.def_session.specs.Session.{inherit, effects_of, reported_for, mark_asked, is_marked, is_for_exceptions, is_marked_for_exceptions}
 use Rattle.def_session.specs.Messages.{last_message}
 use Rattle.def_explain.specs.Causes.{is_false_message}
-use Rattle.def_explain.specs.Differences.{Difference, node_ends, reads_freed, suppresses_message, leaves_no_mark, ignores_silent, reports_end, reports_exceptions, inherits_alone, evaluates_from_right, reads_no_list, faults_in_logic, leaves_other_setting, takes_local_setting, ends_test, catches_error, reports_attempt, raises_noproc, reports_later, adds_calls, HasFlags, attempt_flag, StepDiffers, is_traced, has_that_flag, is_attempt_by, step_differs, CallsAction, OneCallsAction, TwoCallActions, ShowsOrder, OneShowsOrder, calls_action, one_calls_action, two_call_actions, shows_order, one_shows_order, HasWholeList, OneHasWholeList, HasListOfNone, ReadsNoList, has_whole_list, one_has_whole_list, is_list_of_none, has_list_of_none, HasNone, has_none, hands_on, handed_on, HasOther, has_other, LosesLastFlag, loses_last_flag, GivesFlag, gives_flag, GetsFlagAgain, gets_flag_again, NamesFlag, names_flag, sets_silent, SilencesWithoutFlags, silences_without_flags, is_of_sends, is_of_calls, has_mark_below, difference_where}
+use Rattle.def_explain.specs.Differences.{Difference, node_ends, reads_freed, suppresses_message, leaves_no_mark, ignores_silent, reports_end, reports_exceptions, inherits_alone, evaluates_from_right, reads_no_list, faults_in_logic, leaves_other_setting, takes_local_setting, ends_test, catches_error, reports_attempt, raises_noproc, reports_later, adds_calls, HasFlags, attempt_flag, StepDiffers, is_traced, has_that_flag, is_attempt_by, step_differs, CallsAction, OneCallsAction, TwoCallActions, ShowsOrder, OneShowsOrder, calls_action, one_calls_action, two_call_actions, shows_order, one_shows_order, HasWholeList, OneHasWholeList, HasListOfNone, ReadsNoList, has_whole_list, one_has_whole_list, is_list_of_none, has_list_of_none, HasNone, has_none, hands_on, handed_on, HasFlagBeside, has_other, LosesLastFlag, loses_last_flag, GivesFlag, gives_flag, GetsFlagAgain, gets_flag_again, NamesFlag, names_flag, sets_silent, SilencesWithoutFlags, silences_without_flags, is_of_sends, is_of_calls, has_mark_below, difference_where}
 use Rattle.def_explain.proofs.Several.{one_by_any, any_by_one}
 use Rattle.def_explain.specs.Laws.{BodyDifferenceIsComputed, OrderDifferenceIsComputed, ListDifferenceIsComputed, EventDifferenceIsComputed, StepDifferenceIsComputed}
 
@@ -87,19 +87,19 @@ and-fails : (a b : Bool) {P : Type 0} → (a ≡ false → P) → (b ≡ false �
 and-fails true b p q h = q h
 and-fails false b p q h = p refl
 
-other-is : (f g : Flags) → has_other f g ≡ true → HasOther f g
+other-is : (f g : Flags) → has_other f g ≡ true → HasFlagBeside f g
 other-is f g h = rest (not_is _ h)
   where
-    one : (x : Flag) → (g x || not (f x)) ≡ false → HasOther f g
+    one : (x : Flag) → (g x || not (f x)) ≡ false → HasFlagBeside f g
     one x e = let l : (f x ≡ true) × (g x ≡ false) = lacks (g x) (f x) e in (x, l.0, l.1)
 
-    last : (g arity_flag || not (f arity_flag)) && ((g set_on_spawn || not (f set_on_spawn)) && ((g set_on_first_spawn || not (f set_on_first_spawn)) && ((g set_on_link || not (f set_on_link)) && (g set_on_first_link || not (f set_on_first_link))))) ≡ false → HasOther f g
+    last : (g arity_flag || not (f arity_flag)) && ((g set_on_spawn || not (f set_on_spawn)) && ((g set_on_first_spawn || not (f set_on_first_spawn)) && ((g set_on_link || not (f set_on_link)) && (g set_on_first_link || not (f set_on_first_link))))) ≡ false → HasFlagBeside f g
     last = and-fails _ _ (one arity_flag) (and-fails _ _ (one set_on_spawn) (and-fails _ _ (one set_on_first_spawn) (and-fails _ _ (one set_on_link) (one set_on_first_link))))
 
-    rest : has_all g f ≡ false → HasOther f g
+    rest : has_all g f ≡ false → HasFlagBeside f g
     rest = and-fails _ _ (one send_flag) (and-fails _ _ (one receive_flag) (and-fails _ _ (one call_flag) (and-fails _ _ (one procs_flag) (and-fails _ _ (one silent_flag) last))))
 
-is-other : (f g : Flags) → HasOther f g → has_other f g ≡ true
+is-other : (f g : Flags) → HasFlagBeside f g → has_other f g ≡ true
 is-other f g h = ap not (go h.0 (ap₂ (λ a b. a || not b) h.2 h.1))
   where
     n : Flag → Bool
@@ -159,7 +159,7 @@ last-lost p t (x ∷ es) (d ∷ ds) e fs h n =
 gives-flag : (p : ℕ) (e : Effect) → gives_flag p e ≡ true → GivesFlag p e
 gives-flag p (changes n cleared set) h =
     let both : ((n == p) ≡ true) × (not (has_none set) ≡ true) = and_parts (n == p) _ h in
-    let one : HasOther set no_flags = other-is set no_flags both.1 in
+    let one : HasFlagBeside set no_flags = other-is set no_flags both.1 in
     (cleared, set, one.0, ap (λ m. changes m cleared set) (eqb-true n p both.0), one.1)
 gives-flag p (gives_message t) h = absurd (cc h)
 gives-flag p traces_return h = absurd (cc h)
@@ -182,8 +182,8 @@ or-second false b h = h
 names-flag : (e : Effect) → names_flag e ≡ true → NamesFlag e
 names-flag (changes n cleared set) h =
     or-case (not (has_none cleared)) _
-    (λ k. let o : HasOther cleared no_flags = other-is cleared no_flags k in (n, cleared, set, o.0, refl, inl o.1))
-    (λ k. let o : HasOther set no_flags = other-is set no_flags k in (n, cleared, set, o.0, refl, inr o.1)) h
+    (λ k. let o : HasFlagBeside cleared no_flags = other-is cleared no_flags k in (n, cleared, set, o.0, refl, inl o.1))
+    (λ k. let o : HasFlagBeside set no_flags = other-is set no_flags k in (n, cleared, set, o.0, refl, inr o.1)) h
 names-flag (gives_message t) h = absurd (cc h)
 names-flag traces_return h = absurd (cc h)
 names-flag traces_exception h = absurd (cc h)

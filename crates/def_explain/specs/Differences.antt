@@ -216,12 +216,12 @@ abbrev pub handed_on : Flags → Flags
 handed_on f = (given_and_kept set_on_spawn set_on_first_spawn f).0
 
 -- a flag of these isn't one of those
-abbrev pub HasOther : (these those : Flags) → Type 0
-HasOther these those = (x : Flag) × (these x ≡ true) × (those x ≡ false)
+abbrev pub HasFlagBeside : (these those : Flags) → Type 0
+HasFlagBeside these those = (x : Flag) × (these x ≡ true) × (those x ≡ false)
 
 -- the parent hands on flags, and the child has others too
 abbrev pub InheritsMore : Session → Event → (parent child : ℕ) → Type 0
-InheritsMore s e parent child = (hands_on (flags_at s parent) ≡ true) × HasOther (flags_at (inherit s e) child) (handed_on (flags_at s parent))
+InheritsMore s e parent child = (hands_on (flags_at s parent) ≡ true) × HasFlagBeside (flags_at (inherit s e) child) (handed_on (flags_at s parent))
 
 -- a node does this otherwise at this event of a session in this state
 abbrev pub EventDiffers : Session → Event → Difference → Type 0
