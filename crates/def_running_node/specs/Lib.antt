@@ -1,0 +1,4 @@
+pub mod NodeSessions
+pub mod NodeRuns
+pub mod NodeReplies
+pub mod NodeComparisons

@@ -1,0 +1,95 @@
+-- A session here and on a node, after an event.
+use Rattle.std.proofs.Common.{◌≡◌, ◌∙◌, ℕ, Bool, not, ◌&&◌, List, refl, sym, ap, subst, Option, Some, option_to_list}
+use Rattle.std.specs.Option.{IsSomeAnd}
+use Rattle.std.specs.declared.vec.Vec.{Vec}
+use Rattle.def_term.specs.Alive.{Alive}
+use Rattle.def_term.specs.Tree.{Tree}
+use Rattle.def_node.specs.Event.{Event}
+use Rattle.def_outlook.specs.Outlook as outlook
+use Rattle.def_script.specs.Exports.{Exports}
+use Rattle.def_session.specs.State as definition
+use Rattle.def_session.specs.Session.{event_reported}
+use Rattle.def_running_node.specs.NodeSessions as node
+use Rattle.def_running_node.specs.NodeSessions.{marks_after, reported_there}
+use Rattle.def_running_node.specs.NodeRuns as runs
+use Rattle.def_running_node.specs.NodeRuns.{run_after, run_messages, lines_by_openness}
+use Rattle.def_running_node.specs.NodeComparisons as comparison
+use Rattle.def_running_node.specs.NodeComparisons.{texts}
+use Rattle.tn_flags.specs.Views.{event_of}
+use Rattle.tn_flags.specs.declared.event.Event as flags
+use Rattle.tn_node.specs.Outlooks.{outlook_seen}
+use Rattle.tn_session.specs.Sessions.{SessionValue, value_in}
+use Rattle.tn_session.specs.declared.session.Session.{Session}
+use Rattle.tn_trace.specs.Slots.{IsSession}
+use Rattle.tn_running_node.specs.Lines.{PutsBothLines}
+use Rattle.tn_running_node.specs.NodeSessions.{SeesHere, SeesHereFrom, SeesThere, SeesThereFrom}
+use Rattle.tn_running_node.specs.Pairs.{IsThere, IsPair, SawBoth, live_pair_after}
+use Rattle.tn_running_node.specs.RunChanges.{determined_after}
+use Rattle.tn_running_node.specs.Views.{node_marks_seen, node_run_seen, lines_seen}
+use Rattle.tn_running_node.specs.declared.lines.LineKinds.{LineKinds}
+use Rattle.tn_running_node.specs.declared.node_session.NodeSession.{NodeSession}
+use Rattle.tn_running_node.specs.declared.pair.SessionPair.{SessionPair}
+use Rattle.tn_running_node.specs.declared.pair.NodeStep.{NodeStep}
+use Rattle.tn_running_node.specs.declared.pair.Openness.{Openness}
+use Rattle.tn_running_node.proofs.Runs.{determined_is}
+
+module _ {A : Type 0} (step : NodeStep A) (event : flags.Event A) (openness : Openness) (old : SessionPair A) (o : Exports) (living : Alive) (c : comparison.SessionPair) (h : IsPair o living c old) (here here' : Session A) (there there' : NodeSession A) (lh lt : Vec (Vec ℕ A) A) where
+  abbrev e : Event
+  e = event_of event
+
+  abbrev r : runs.NodeRun
+  r = node_run_seen step.run.now
+
+  abbrev l : outlook.Outlook
+  l = outlook_seen step.outlook
+
+  -- the session there, and its message
+  abbrev result-there : definition.Session × Option Tree
+  result-there = reported_there c.there.session e
+
+  abbrev new : SessionPair A
+  new = record old { here = record old.here { session = Some here' }; there = Some there'; is_determined = old.is_determined && not openness.opens }
+
+  of-here : old.here.session ≡ Some here → SeesHere e here here' lh → SeesHereFrom here' lh o.functions (event_reported c.here e)
+  of-here is seen =
+      let at : value_in here ≡ Some (record { functions = o.functions; state = c.here }) = subst (IsSession o.functions living c.here) is h.here in
+      subst (λ v. IsSomeAnd v (λ u. SeesHereFrom here' lh u.functions (event_reported u.state e))) at seen
+
+  of-there : old.there ≡ Some there → SeesThere step.run.now step.outlook event there there' lt
+      → SeesThereFrom step.run.now step.outlook event there there' lt (record { functions = o.functions; state = c.there.session }) result-there
+  of-there is seen =
+      let at : IsThere o.functions living c.there (Some there) = subst (IsThere o.functions living c.there) is h.there in
+      subst (λ v. IsSomeAnd v (λ u. SeesThereFrom step.run.now step.outlook event there there' lt u (reported_there u.state e))) at.0 seen
+
+  marks-there : old.there ≡ Some there → node_marks_seen there.marks ≡ c.there.marks
+  marks-there is = (subst (IsThere o.functions living c.there) is h.there).1
+
+  module _ (is-here : old.here.session ≡ Some here) (is-there : old.there ≡ Some there) (seen-here : SeesHere e here here' lh) (seen-there : SeesThere step.run.now step.outlook event there there' lt) where
+    pair-after : (later : Alive) → IsPair o later (live_pair_after c e openness.opens) new
+    pair-after later =
+        let there-after = of-there is-there seen-there in
+        record {
+          name = h.name;
+          here = (of-here is-here seen-here).session;
+          there = (there-after.session, there-after.marks ∙ ap (λ ms. marks_after result-there.0 ms e) (marks-there is-there));
+          determined = ap (λ b. b && not openness.opens) h.determined;
+        }
+
+    messages-there : lines_seen lt ≡ texts (run_messages r l c.there result-there.0 e result-there.1)
+    messages-there =
+        (of-there is-there seen-there).messages ∙ ap (λ ms. texts (run_messages r l (record { session = c.there.session; marks = ms }) result-there.0 e result-there.1)) (marks-there is-there)
+
+    pub saw_both : (b : Bool) (kinds : LineKinds) (out out' : Vec ℕ A) → b ≡ determined_after r l e
+        → PutsBothLines old.here.name (lines_by_openness (r.was_determined && old.is_determined) (b && ((old.is_determined && not openness.opens) && not openness.hides)) (lines_seen lh) (lines_seen lt)) out out' kinds
+        → SawBoth o step event openness c new out out' kinds
+    saw_both b kinds out out' is puts = record {
+      pair = pair-after;
+      lines =
+          let messages = texts (option_to_list (event_reported c.here e).1) in
+          let messages' = texts (run_messages r l c.there result-there.0 e result-there.1) in
+          subst (λ n. PutsBothLines n (lines_by_openness (r.was_determined && c.is_determined) ((run_after r l e).is_determined && ((c.is_determined && not openness.opens) && not openness.hides)) messages messages') out out' kinds) h.name
+          (subst (λ d. PutsBothLines old.here.name (lines_by_openness (r.was_determined && d) ((run_after r l e).is_determined && ((d && not openness.opens) && not openness.hides)) messages messages') out out' kinds) h.determined
+          (subst (λ d. PutsBothLines old.here.name (lines_by_openness (r.was_determined && old.is_determined) (d && ((old.is_determined && not openness.opens) && not openness.hides)) messages messages') out out' kinds) (is ∙ determined_is r l e)
+          (subst (λ ms. PutsBothLines old.here.name (lines_by_openness (r.was_determined && old.is_determined) (b && ((old.is_determined && not openness.opens) && not openness.hides)) messages ms) out out' kinds) messages-there
+          (subst (λ ms. PutsBothLines old.here.name (lines_by_openness (r.was_determined && old.is_determined) (b && ((old.is_determined && not openness.opens) && not openness.hides)) ms (lines_seen lt)) out out' kinds) (of-here is-here seen-here).messages puts))));
+    }

@@ -1,0 +1,11 @@
+pub mod Views
+pub mod Lines
+pub mod Messages
+pub mod Scenes
+pub mod RunChanges
+pub mod NodeSessions
+pub mod ClauseDifferences
+pub mod Evaluations
+pub mod Pairs
+pub mod Comparisons
+pub mod Replies

@@ -1,0 +1,101 @@
+-- What the code's sessions here and on a node stand for, and what becomes of them.
+use Rattle.std.specs.Prelude.{◌≡◌, ℕ, Bool, not, ◌&&◌, List, [], Option, Some, None, option_to_list}
+use Rattle.std.specs.Option.{IsSomeAnd}
+use Rattle.std.specs.declared.vec.Vec.{Vec}
+use Rattle.def_term.specs.Alive.{Alive}
+use Rattle.def_term.specs.Names.{Mfa}
+use Rattle.def_term.specs.Tree.{Tree}
+use Rattle.def_node.specs.Event.{Event}
+use Rattle.def_outlook.specs.Outlook.{OwnLink}
+use Rattle.def_script.specs.Exports.{Exports}
+use Rattle.def_session.specs.State as definition
+use Rattle.def_session.specs.State.{absent, live, new_session, alive_after}
+use Rattle.def_session.specs.Session.{event_reported}
+use Rattle.def_running_node.specs.NodeSessions as node
+use Rattle.def_running_node.specs.NodeSessions.{marks_after, reported_there}
+use Rattle.def_running_node.specs.NodeRuns.{run_after, run_messages, opens, hides, lines_by_openness}
+use Rattle.def_running_node.specs.NodeComparisons as comparison
+use Rattle.def_running_node.specs.NodeComparisons.{texts, pair_elsewhere, pair_after_in, lines_of_event_in, own_link_event, lines_of_own_link_in}
+use Rattle.tn_flags.specs.Views.{event_of}
+use Rattle.tn_flags.specs.declared.event.Event as flags
+use Rattle.tn_node.specs.Outlooks.{outlook_seen}
+use Rattle.tn_node.specs.declared.outlook.Outlook.{Outlook}
+use Rattle.tn_session.specs.Sessions.{value_in}
+use Rattle.tn_session.specs.declared.session.Session.{Session}
+use Rattle.tn_trace.specs.Slots.{IsSession}
+use Rattle.tn_running_node.specs.Lines.{PutsBothLines}
+use Rattle.tn_running_node.specs.Views.{node_marks_seen, node_run_seen, lines_seen}
+use Rattle.tn_running_node.specs.declared.lines.LineKinds.{LineKinds}
+use Rattle.tn_running_node.specs.declared.node_run.NodeRun.{NodeRun}
+use Rattle.tn_running_node.specs.declared.node_session.NodeSession.{NodeSession}
+use Rattle.tn_running_node.specs.declared.pair.SessionPair.{SessionPair}
+use Rattle.tn_running_node.specs.declared.pair.NodeStep.{NodeStep}
+use Rattle.tn_running_node.specs.declared.pair.Openness.{Openness}
+
+-- the session saw the event
+abbrev pub SeesSilently : {A : Type 0} → Event → Session A → Session A → Type 0
+SeesSilently e old new = IsSomeAnd (value_in old) (λ v. value_in new ≡ Some (record v { state = (event_reported v.state e).0 }))
+
+-- ---- a pair
+
+-- a session of a node that isn't there is absent, where these processes live, and has no marks
+abbrev pub IsThere : {A : Type 0} → List (Mfa × Bool) → Alive → node.NodeSession → Option (NodeSession A) → Type 0
+IsThere fs living n None = (n.session ≡ new_session absent living) × (n.marks ≡ [])
+IsThere fs living n (Some s) = (value_in s.session ≡ Some (record { functions = fs; state = n.session })) × (node_marks_seen s.marks ≡ n.marks)
+
+-- the pair is this one, over the functions of the program and where these processes live
+pub record IsPair {A : Type 0} (o : Exports) (living : Alive) (c : comparison.SessionPair) (pair : SessionPair A) : Type 0 where
+  pub name : pair.here.name ≡ c.name
+  pub here : IsSession o.functions living c.here pair.here.session
+  pub there : IsThere o.functions living c.there pair.there
+  pub determined : pair.is_determined ≡ c.is_determined
+
+-- a live pair after an event of which this isn't determined
+abbrev pub live_pair_after : comparison.SessionPair → Event → (opens : Bool) → comparison.SessionPair
+live_pair_after c e b =
+    let there : definition.Session × Option Tree = reported_there c.there.session e in
+    record c { here = (event_reported c.here e).0; there = record { session = there.0; marks = marks_after there.0 c.there.marks e }; is_determined = c.is_determined && not b }
+
+-- where both saw the event, the lines between them were appended
+pub record SawBoth {A : Type 0} (o : Exports) (step : NodeStep A) (event : flags.Event A) (openness : Openness) (c : comparison.SessionPair) (new : SessionPair A) (out out' : Vec ℕ A) (kinds : LineKinds) : Type 0 where
+  pub pair : (living : Alive) → IsPair o living (live_pair_after c (event_of event) openness.opens) new
+  pub lines : let e : Event = event_of event in let r = node_run_seen step.run.now in let l = outlook_seen step.outlook in
+      let there : definition.Session × Option Tree = reported_there c.there.session e in
+      PutsBothLines c.name (lines_by_openness (r.was_determined && c.is_determined) ((run_after r l e).is_determined && ((c.is_determined && not openness.opens) && not openness.hides))
+      (texts (option_to_list (event_reported c.here e).1)) (texts (run_messages r l c.there there.0 e there.1))) out out' kinds
+
+abbrev pub PairSeesBoth : {A : Type 0} → NodeStep A → flags.Event A → Openness → SessionPair A → SessionPair A → Vec ℕ A → Vec ℕ A → LineKinds → Type 0
+PairSeesBoth step event openness old new out out' kinds = (o : Exports) (living : Alive) (c : comparison.SessionPair) → IsPair o living c old → SawBoth o step event openness c new out out' kinds
+
+-- the pair of sessions that aren't there saw the event
+abbrev pub PairSeesElsewhere : {A : Type 0} → flags.Event A → SessionPair A → SessionPair A → Type 0
+PairSeesElsewhere event old new =
+    (o : Exports) (living : Alive) (c : comparison.SessionPair) → IsPair o living c old → IsPair o (alive_after living (event_of event)) (pair_elsewhere c (event_of event)) new
+
+-- this isn't determined of an event, by the session there
+pub record IsOpenness (l : Outlook) (e : Event) (s : definition.Session) (openness : Openness) : Type 0 where
+  pub opens : openness.opens ≡ opens s e
+  pub hides : openness.hides ≡ hides s (outlook_seen l) e
+
+abbrev pub HasOpenness : {A : Type 0} → Outlook → flags.Event A → SessionPair A → Openness → Type 0
+HasOpenness l event pair openness =
+    (o : Exports) (living : Alive) (c : comparison.SessionPair) → IsPair o living c pair → IsOpenness l (event_of event) c.there.session openness
+
+-- the pair saw the event, and the lines between both were appended
+pub record Saw {A : Type 0} (o : Exports) (living : Alive) (step : NodeStep A) (e : Event) (c : comparison.SessionPair) (new : SessionPair A) (out out' : Vec ℕ A) (kinds : LineKinds) : Type 0 where
+  pub pair : IsPair o (alive_after living e) (pair_after_in c.here.phase c e) new
+  pub lines : let r = node_run_seen step.run.now in let l = outlook_seen step.outlook in PutsBothLines c.name (lines_of_event_in c.here.phase r (run_after r l e) l c e) out out' kinds
+
+abbrev pub PairSees : {A : Type 0} → NodeStep A → flags.Event A → SessionPair A → SessionPair A → Vec ℕ A → Vec ℕ A → LineKinds → Type 0
+PairSees step event old new out out' kinds = (o : Exports) (living : Alive) (c : comparison.SessionPair) → IsPair o living c old → Saw o living step (event_of event) c new out out' kinds
+
+-- ---- a link of a process with itself
+
+-- the pair is as it was, and the line that the session has there was appended
+pub record SawOwnLink {A : Type 0} (o : Exports) (living : Alive) (r : NodeRun A) (e : Event) (c : comparison.SessionPair) (new : SessionPair A) (out out' : Vec ℕ A) (kinds : LineKinds) : Type 0 where
+  pub pair : IsPair o living c new
+  pub lines : PutsBothLines c.name (lines_of_own_link_in c.here.phase (node_run_seen r) c e) out out' kinds
+
+abbrev pub PairSeesOwnLink : {A : Type 0} → NodeRun A → flags.Event A → SessionPair A → SessionPair A → Vec ℕ A → Vec ℕ A → LineKinds → Type 0
+PairSeesOwnLink r event old new out out' kinds =
+    (o : Exports) (living : Alive) (c : comparison.SessionPair) (p : ℕ) (x : OwnLink) → event_of event ≡ own_link_event p x → IsPair o living c old → SawOwnLink o living r (event_of event) c new out out' kinds

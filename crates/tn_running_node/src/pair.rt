@@ -1,0 +1,176 @@
+// One session here and on a running node.
+ghost use Rattle.std.specs.Prelude.{◌≡◌, IfOk};
+ghost use Rattle.tn_flags.specs.Views.{event_of};
+ghost use Rattle.tn_text.specs.Writes.{Grows};
+ghost use Rattle.def_term.specs.Alive.{Alive};
+ghost use Rattle.def_script.specs.Exports.{Exports};
+ghost use Rattle.def_running_node.specs.NodeComparisons as comparison;
+ghost use Rattle.tn_session.specs.Looks.{is_live};
+ghost use Rattle.tn_running_node.specs.Pairs.{SeesSilently, PairSeesBoth, PairSeesElsewhere};
+ghost use Rattle.tn_running_node.specs.Pairs.{IsPair, HasOpenness, PairSees, PairSeesOwnLink};
+
+use crate::hides::hides;
+use crate::lines::{LineKinds, put_lines};
+use crate::node_run::NodeRun;
+use crate::node_session::{NodeSession, see_here};
+use crate::opens::opens;
+use std::alloc::{AllocError, Allocator};
+use tn_flags::Event;
+use tn_node::Outlook;
+use tn_session::{Room, Session};
+use tn_trace::{Discard, Slot};
+
+/// A session of the control list here, the same on a running node once it is created, and whether what it reports
+/// there is determined.
+#[derive(Drop)]
+pub struct SessionPair<A: Allocator> {
+    pub here: Slot<A, Discard>,
+    pub there: Option<NodeSession<A>>,
+    pub is_determined: bool,
+}
+
+/// What isn't determined of an event: what a session reports from it on, or the message of this event alone.
+#[derive(Clone, Copy, Debug, PartialEq, Eq, Drop)]
+pub struct Openness {
+    pub opens: bool,
+    pub hides: bool,
+}
+
+/// A step of the processes of a running node: what they are before an event, and what was known of the step before it.
+#[derive_where(Clone, Copy)]
+pub struct NodeStep<'a, A: Allocator> {
+    pub run: &'a NodeRun<A>,
+    pub outlook: Outlook,
+}
+
+/// The session sees an event of which it reports nothing. An error is refused memory.
+fn see_silently<A: Allocator + Copy>(
+    alloc: A,
+    session: &mut Session<A>,
+    event: &Event<A>,
+) -> Result<(), AllocError>
+    ensures { IfOk result (λ _. SeesSilently (event_of event.now) session.old session.new) }
+{
+    let mut room = Room::new(alloc);
+    session.tell(event, &mut room)?;
+    Ok(())
+}
+
+impl<A: Allocator + Copy> SessionPair<A> {
+    /// Both sessions, which are live, see an event, and the lines between them are appended.
+    fn see_both(
+        &mut self,
+        alloc: A,
+        step: NodeStep<'_, A>,
+        event: &Event<A>,
+        openness: Openness,
+        out: &mut Vec<u8, A>,
+    ) -> Result<LineKinds, AllocError>
+        ensures ok { IfOk result (PairSeesBoth step.entry event.now openness self.old self.new out.old out.new) }
+        ensures grows { Grows out.old.items out.new.items }
+    {
+        let Some(here) = &mut self.here.session else {
+            return Err(AllocError);
+        };
+        let Some(there) = &mut self.there else {
+            return Err(AllocError);
+        };
+        let lines_here = see_here(alloc, here, event)?;
+        let lines_there = there.see(alloc, step.run, step.outlook, event)?;
+        let was = step.run.was_determined & self.is_determined;
+        self.is_determined = self.is_determined & !openness.opens;
+        let is_determined = step.run.is_determined_after(step.outlook, event);
+        let is = is_determined & (self.is_determined & !openness.hides);
+        let kinds = put_lines(&self.here.name, was, is, &lines_here, &lines_there, out)?;
+        Ok(kinds)
+    }
+
+    /// Both sessions, which aren't live, see an event.
+    fn see_elsewhere(&mut self, alloc: A, event: &Event<A>) -> Result<(), AllocError>
+        ensures { IfOk result (λ _. PairSeesElsewhere event.now self.old self.new) }
+    {
+        if let Some(session) = &mut self.here.session {
+            see_silently(alloc, session, event)?;
+        }
+        if let Some(there) = &mut self.there {
+            see_silently(alloc, &mut there.session, event)?;
+        }
+        Ok(())
+    }
+
+    /// Whether the session is there: created, and not destroyed. An error is a session that is spent.
+    fn is_live(&self) -> Result<bool, AllocError>
+        ensures { IfOk result (λ b. (o : Exports) (living : Alive) (c : comparison.SessionPair) →
+            IsPair o living c self.now → b ≡ is_live c.here.phase) }
+    {
+        let Some(session) = &self.here.session else {
+            return Ok(false);
+        };
+        let Some(look) = session.look() else {
+            return Err(AllocError);
+        };
+        Ok(look.is_live())
+    }
+
+    /// What isn't determined of an event.
+    fn openness(&self, alloc: A, outlook: Outlook, event: &Event<A>) -> Result<Openness, AllocError>
+        ensures { IfOk result (HasOpenness outlook event.now self.now) }
+    {
+        let Some(there) = &self.there else {
+            return Err(AllocError);
+        };
+        let Some(look) = there.session.look() else {
+            return Err(AllocError);
+        };
+        let opens = opens(alloc, &look, event)?;
+        let hides = hides(&look, outlook, event);
+        Ok(Openness { opens, hides })
+    }
+
+    /// Both sessions see an event of a step, and the lines between them are appended. After an `Err`, which is refused
+    /// memory, a part of them may stand there, and the sessions may be spent.
+    pub fn see(
+        &mut self,
+        alloc: A,
+        step: NodeStep<'_, A>,
+        event: &Event<A>,
+        out: &mut Vec<u8, A>,
+    ) -> Result<LineKinds, AllocError>
+        ensures ok { IfOk result (PairSees step.entry event.now self.old self.new out.old out.new) }
+        ensures grows { Grows out.old.items out.new.items }
+    {
+        if !self.is_live()? {
+            self.see_elsewhere(alloc, event)?;
+            return Ok(LineKinds::none());
+        }
+        let openness = self.openness(alloc, step.outlook, event)?;
+        let kinds = self.see_both(alloc, step, event, openness, out)?;
+        Ok(kinds)
+    }
+
+    /// A process links itself to itself, or unlinks itself from itself: the line that the session has of this event on
+    /// the node is appended. It changes neither of the two sessions.
+    pub fn see_own_link(
+        &mut self,
+        alloc: A,
+        run: &NodeRun<A>,
+        event: &Event<A>,
+        out: &mut Vec<u8, A>,
+    ) -> Result<LineKinds, AllocError>
+        ensures ok { IfOk result (PairSeesOwnLink run.now event.now self.old self.new out.old out.new) }
+        ensures grows { Grows out.old.items out.new.items }
+    {
+        if !self.is_live()? {
+            return Ok(LineKinds::none());
+        }
+        let Some(there) = &mut self.there else {
+            return Err(AllocError);
+        };
+        let lines_there = there.see_as_here(alloc, event)?;
+        let lines_here = Vec::new(alloc);
+        let was = run.was_determined & self.is_determined;
+        let is = run.is_determined & self.is_determined;
+        let kinds = put_lines(&self.here.name, was, is, &lines_here, &lines_there, out)?;
+        Ok(kinds)
+    }
+}
