@@ -102,9 +102,9 @@ def once():
     # The 38 layers; def_moves and tn_moves, which say what should run; def_picture and tn_picture, which draw it;
     # def_formats and tn_formats, which print what comes of it; tn_difference, what a node does otherwise;
     # def_refusal, which step or command a script is refused for; tn_reason, why a term is no match specification;
-    # tn_mismatch, where a head that doesn't match first differs; and tn_remark, the lines of what is remarked of
-    # commands.
-    yield "at most 49 crates beside those of completeness and callers", len(layers) <= 49, len(layers)
+    # tn_mismatch, where a head that doesn't match first differs; tn_remark, the lines of what is remarked of commands;
+    # and def_running_node and tn_running_node, what the sessions of a running node report beside those of the model.
+    yield "at most 51 crates beside those of completeness and callers", len(layers) <= 51, len(layers)
 
 
 def findings():
