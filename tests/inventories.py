@@ -13,7 +13,7 @@ README = TOP / "README.md"
 DOCUMENTS = (README, TOP / "CHANGELOG.md", *sorted(DOCS.glob("*.md")))
 
 # Crates without a table of complete contracts: programs, which have no public functions.
-WITHOUT_TABLES = {"tn_cli", "tn_plain", "tn_running_node"}
+WITHOUT_TABLES = {"tn_cli", "tn_plain"}
 
 # What a path of a document begins with.
 FOLDERS = "bench|completions|crates|docs|examples|tests"

@@ -6,19 +6,9 @@ import layers
 from harness import EMPTY, EXAMPLES, NO_FORMS, PLAIN, PROBE, ROWS, SEND_HI, check, note_of_nobody, run, wants
 
 
-# The worked runs of which a running node does some moves otherwise: how many, and how many moves there are. Three calls
-# are made in silence, and a fourth move ends them.
-DIFFERING_ROWS = {"exceptions-in-silence": (4, 7)}
-
-
 def note_of(row):
-    """What a worked run that isn't refused has on standard error: its own file, or the note of a running node."""
-    if (row / "stderr").exists():
-        return (row / "stderr").read_bytes()
-    if row.name not in DIFFERING_ROWS:
-        return None
-    differing, moves = DIFFERING_ROWS[row.name]
-    return f"note: a running node differs at {differing} of {moves} moves; explain --node shows where\n".encode()
+    """What a worked run that isn't refused has on standard error: its own file, or nothing."""
+    return (row / "stderr").read_bytes() if (row / "stderr").exists() else None
 
 
 def rows():

@@ -25,7 +25,7 @@ class Planted(Program):
         """The account of the same picks by another script, whose control list is as long."""
         if script == changed:
             return account
-        return Account(self.output("explain", changed, picks), account.unsaid)
+        return Account(self.output("explain", changed, picks))
 
 
 class EverySession(Planted):
@@ -68,7 +68,7 @@ class SharedMarks(EverySession):
         for session in sessions:
             for line in ends:
                 if (session, pid_of(line)) in self.called and line not in move.sent(session):
-                    move.lines.setdefault(session, []).append(f"=> {line}")
+                    move.add(session, f"=> {line}")
 
 
 class SharedSilence(EverySession):
@@ -79,15 +79,15 @@ class SharedSilence(EverySession):
         self.pids = [f"<0.{100 + number}.0>" for number in range(len(re.findall("^{process,", script, re.M)))]
 
     def share(self, move, sessions):
-        for shown in move.shown:
+        for shown, _ in move.shown:
             self.note_shown(shown)
         for lines in move.lines.values():
             for line in lines:
                 self.note_line(move, line)
-        for session, lines in move.lines.items():
-            ends = line_is("call", "return_from", "exception_from")
+        ends = line_is("call", "return_from", "exception_from")
+        for session in move.lines:
             gone = {f"=> {line}" for line in move.sent(session) if ends(line) and pid_of(line) in self.silent}
-            move.lines[session] = [line for line in lines if line not in gone]
+            move.remove(session, gone)
 
     def change(self, pids, is_silent):
         """These processes are silent from now on, or aren't."""
@@ -132,7 +132,7 @@ class SharedFlags(Planted):
         changed = script[: script.index("{control,")] + f"{{control,[{flat}]}}.\n"
         more = iter(shared)
         longer = [each for pick in picks for each in ([0] * len(next(more, [0])) if pick == 0 else [pick])]
-        return Account(self.output("explain", changed, longer), account.unsaid)
+        return Account(self.output("explain", changed, longer))
 
     def commands(self, script):
         """The texts of the commands."""

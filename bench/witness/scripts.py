@@ -445,10 +445,10 @@ class ScriptCase:
         self.wanted = run.journal
         return run
 
-    def told_by_program(self, run, listings):
+    def told_by_program(self, run, listings, replies):
         """The replies, and the lines of each process in each session."""
         told = collections.defaultdict(list)
-        told["replies"] = ["badarg" if reply.startswith("{unsupported") else reply for reply in run.replies]
+        told["replies"] = ["badarg" if reply.startswith("{unsupported") else reply for reply in replies]
         for session, lines in listings.items():
             for line in lines:
                 told[f"{session} {pid_of(line)}"].append(line)

@@ -8,7 +8,6 @@ import tempfile
 import threading
 
 from witness.accounts import Account
-from witness.differences import unsaid_by
 from witness.terms import Atom, Reader, node_text
 
 GATE = pathlib.Path(__file__).resolve().parent / "node_gate.erl"
@@ -35,7 +34,6 @@ class Program:
 
     def __init__(self, path):
         self.path = path
-        self.unsaid = unsaid_by(self)
 
     def output(self, command, script, picks, *more):
         """The output of a command on a script and picks."""
@@ -60,7 +58,8 @@ class Program:
         """A run of the program."""
         listings, _, rest = self.output("replay", script, picks).partition("== replies\n")
         replies, _, journal = rest.partition("== journal\n")
-        account = Account(self.output("explain", script, picks), self.unsaid)
+        account = Account(self.output("explain", script, picks))
+        account.add_lines_of_node(Account(self.output("explain", script, picks, "--node")))
         if account.listings() != listed(listings.splitlines()):
             sys.exit(f"bench: the account and the listings of the program aren't the same for\n{script}")
         return Run(replies.splitlines(), [int(pick) for pick in journal.split()], account)

@@ -6,7 +6,7 @@ use Rattle.def_script.specs.Script.{IsScript}
 use Rattle.def_script.proofs.OneScript.{one_program}
 use Rattle.def_run.specs.Listing.{program_output}
 use Rattle.def_run.specs.Round.{round}
-use Rattle.def_explain.specs.NodeMoves.{node_note}
+use Rattle.def_running_node.specs.NodeNotes.{node_note}
 use Rattle.def_moves.specs.Directives as definition
 use Rattle.def_moves.specs.Directives.{times, until_idle, everybody}
 use Rattle.def_moves.specs.Texts.{StandsFor}
@@ -17,7 +17,7 @@ use Rattle.tn_run.specs.Jobs.{Gives, IsJobRefusal, OfScript}
 use Rattle.tn_run.specs.declared.outcome.Outcome.TheVariants as run
 use Rattle.tn_refusal.specs.declared.refusal.Refusal.{Refusal}
 use Rattle.tn_explain.specs.Accounts.{IsAnswer}
-use Rattle.tn_explain.specs.Filters.{filter_seen}
+use Rattle.tn_explain.specs.Filters.{question_seen}
 use Rattle.tn_explain.specs.declared.request.ExplainOutcome.TheVariants as explained
 use Rattle.tn_moves.specs.Directives.{directive_seen}
 use Rattle.tn_moves.specs.Readings.{IsMovesRefusal, AreDirectives}
@@ -155,7 +155,7 @@ run_by_moves_has_one job = record {
 same_account : (job : ExplainByMoves) (p : Program) (o u : MovesAccount) (x y : List ℕ) → IsAccountByMoves job p o x → IsAccountByMoves job p u y → (o ≡ u) × (x ≡ y)
 same_account job p (account.Explained a) (account.Explained b) x y h i =
     let picks : i.picks ≡ h.picks = one_picks job.moves p i.picks h.picks i.given h.given in
-    let same : (a ≡ b) × (x ≡ y) = one_answer p h.picks (filter_seen job.filter) a b x y h.answer (subst (λ xs. IsAnswer p xs (filter_seen job.filter) b y) picks i.answer) in
+    let same : (a ≡ b) × (x ≡ y) = one_answer p h.picks (question_seen job.filter) a b x y h.answer (subst (λ xs. IsAnswer p xs (question_seen job.filter) b y) picks i.answer) in
     (ap account.Explained same.0, same.1)
 same_account job p (account.Explained a) (account.BadMoves s) x y h i = absurd (not_bad job.moves p h.picks s h.given i.0)
 same_account job p (account.BadMoves r) (account.Explained b) x y h i = absurd (not_bad job.moves p i.picks r i.given h.0)

@@ -5,13 +5,13 @@ use Rattle.def_script.specs.Program.{Program}
 use Rattle.def_script.proofs.OneScript.{one_program}
 use Rattle.def_run.specs.Listing.{program_output}
 use Rattle.def_run.proofs.Outputs.{picks_are_one}
-use Rattle.def_explain.specs.RunTexts.{Filter, account_text}
+use Rattle.def_running_node.specs.NodeNotes.{Question, question_text}
 use Rattle.tn_run.specs.Answers.{by_picks, HasPicks, run_for}
 use Rattle.tn_run.specs.Jobs.{Gives, OfScript}
 use Rattle.tn_run.specs.declared.outcome.Outcome.TheVariants as run
 use Rattle.tn_refusal.specs.declared.refusal.Refusal.{Refusal}
 use Rattle.tn_explain.specs.Accounts.{HasAskedSession, LacksAskedSession, asks_for_moves, IsAnswer, IsSpelledAnswer, explain_by}
-use Rattle.tn_explain.specs.Filters.{filter_seen}
+use Rattle.tn_explain.specs.Filters.{question_seen}
 use Rattle.tn_explain.specs.declared.request.ExplainRequest.{ExplainRequest}
 use Rattle.tn_explain.specs.declared.request.ExplainOutcome.{ExplainOutcome}
 use Rattle.tn_explain.specs.declared.request.ExplainOutcome.TheVariants.{Account, Refused, NoSession, NoMove, NoDifference}
@@ -28,37 +28,37 @@ no_line : (b : Bool) (x y : List ℕ) → b ≡ true → x ≡ y → (b ≡ true
 no_line b x y asked same h none = h asked (same ∙ none)
 
 -- a move's number asks for a line, and so does a node
-number_asks : (a : Filter) → is_some a.move ≡ true → asks_for_moves a ≡ true
+number_asks : (a : Question) → is_some a.filter.move ≡ true → asks_for_moves a ≡ true
 number_asks a h = go a.node
   where
-    go : (b : Bool) → (b || is_some a.move) ≡ true
+    go : (b : Bool) → (b || is_some a.filter.move) ≡ true
     go true = refl
     go false = h
 
-node_asks : (a : Filter) → a.node ≡ true → asks_for_moves a ≡ true
-node_asks a h = ap (λ b. b || is_some a.move) h
+node_asks : (a : Question) → a.node ≡ true → asks_for_moves a ≡ true
+node_asks a h = ap (λ b. b || is_some a.filter.move) h
 
 not_both_ways : (b : Bool) → b ≡ false → b ≡ true → ⊥
 not_both_ways b h i = cc (sym h ∙ i)
 
-pub one_answer : (p : Program) (picks : List ℕ) (a : Filter) (o u : ExplainOutcome) (x y : List ℕ) → IsAnswer p picks a o x → IsAnswer p picks a u y → (o ≡ u) × (x ≡ y)
+pub one_answer : (p : Program) (picks : List ℕ) (a : Question) (o u : ExplainOutcome) (x y : List ℕ) → IsAnswer p picks a o x → IsAnswer p picks a u y → (o ≡ u) × (x ≡ y)
 one_answer p picks a Account Account x y h i = (refl, h.2 ∙ sym i.2)
-one_answer p picks a Account NoSession x y h i = absurd (no_session a.session p h.0 i.0)
-one_answer p picks a Account NoMove x y h i = absurd (no_line (asks_for_moves a) x (account_text a p picks) (number_asks a i.2) h.2 h.1 i.3)
-one_answer p picks a Account NoDifference x y h i = absurd (no_line (asks_for_moves a) x (account_text a p picks) (node_asks a i.1) h.2 h.1 i.2)
+one_answer p picks a Account NoSession x y h i = absurd (no_session a.filter.session p h.0 i.0)
+one_answer p picks a Account NoMove x y h i = absurd (no_line (asks_for_moves a) x (question_text a p picks) (number_asks a i.2) h.2 h.1 i.3)
+one_answer p picks a Account NoDifference x y h i = absurd (no_line (asks_for_moves a) x (question_text a p picks) (node_asks a i.1) h.2 h.1 i.2)
 one_answer p picks a Account (Refused s) x y h i = absurd i
-one_answer p picks a NoSession Account x y h i = absurd (no_session a.session p i.0 h.0)
+one_answer p picks a NoSession Account x y h i = absurd (no_session a.filter.session p i.0 h.0)
 one_answer p picks a NoSession NoSession x y h i = (refl, h.1 ∙ sym i.1)
-one_answer p picks a NoSession NoMove x y h i = absurd (no_session a.session p i.0 h.0)
-one_answer p picks a NoSession NoDifference x y h i = absurd (no_session a.session p i.0 h.0)
+one_answer p picks a NoSession NoMove x y h i = absurd (no_session a.filter.session p i.0 h.0)
+one_answer p picks a NoSession NoDifference x y h i = absurd (no_session a.filter.session p i.0 h.0)
 one_answer p picks a NoSession (Refused s) x y h i = absurd i
-one_answer p picks a NoMove Account x y h i = absurd (no_line (asks_for_moves a) y (account_text a p picks) (number_asks a h.2) i.2 i.1 h.3)
-one_answer p picks a NoMove NoSession x y h i = absurd (no_session a.session p h.0 i.0)
+one_answer p picks a NoMove Account x y h i = absurd (no_line (asks_for_moves a) y (question_text a p picks) (number_asks a h.2) i.2 i.1 h.3)
+one_answer p picks a NoMove NoSession x y h i = absurd (no_session a.filter.session p h.0 i.0)
 one_answer p picks a NoMove NoMove x y h i = (refl, h.4 ∙ sym i.4)
 one_answer p picks a NoMove NoDifference x y h i = absurd (not_both_ways a.node h.1 i.1)
 one_answer p picks a NoMove (Refused s) x y h i = absurd i
-one_answer p picks a NoDifference Account x y h i = absurd (no_line (asks_for_moves a) y (account_text a p picks) (node_asks a h.1) i.2 i.1 h.2)
-one_answer p picks a NoDifference NoSession x y h i = absurd (no_session a.session p h.0 i.0)
+one_answer p picks a NoDifference Account x y h i = absurd (no_line (asks_for_moves a) y (question_text a p picks) (node_asks a h.1) i.2 i.1 h.2)
+one_answer p picks a NoDifference NoSession x y h i = absurd (no_session a.filter.session p h.0 i.0)
 one_answer p picks a NoDifference NoMove x y h i = absurd (not_both_ways a.node i.1 h.1)
 one_answer p picks a NoDifference NoDifference x y h i = (refl, h.3 ∙ sym i.3)
 one_answer p picks a NoDifference (Refused s) x y h i = absurd i
@@ -68,7 +68,7 @@ one_answer p picks a (Refused r) u x y h i = absurd h
 
 module _ (bytes : List ℕ) (q : ExplainRequest) where
   abbrev IsExplained : ExplainOutcome → List ℕ → Type 0
-  IsExplained o x = OfScript bytes (λ p. IsSpelledAnswer q.picks.now (filter_seen q.filter) p o x)
+  IsExplained o x = OfScript bytes (λ p. IsSpelledAnswer q.picks.now (question_seen q.filter) p o x)
 
   -- the run that is explained
   listing_of : (o : ExplainOutcome) (x : List ℕ) (h : IsExplained o x) → Gives (run_for (by_picks q.picks.now)) bytes run.Listed (program_output h.program h.output.picks)
@@ -76,7 +76,7 @@ module _ (bytes : List ℕ) (q : ExplainRequest) where
 
   same_answer : (o u : ExplainOutcome) (x y : List ℕ) → IsExplained o x → IsExplained u y → (o ≡ u) × (x ≡ y)
   same_answer o u x y h i =
-      let a : Filter = filter_seen q.filter in
+      let a : Question = question_seen q.filter in
       let program : i.program ≡ h.program = one_program bytes i.program h.program i.accepted h.accepted in
       let picks : i.output.picks ≡ h.output.picks = picks_are_one q.picks.now i.output.picks h.output.picks i.output.given h.output.given in
       one_answer h.program h.output.picks a o u x y h.output.answer

@@ -4,8 +4,8 @@ use Rattle.std.specs.Option.{option_map}
 use Rattle.def_script.specs.Program.{Program}
 use Rattle.def_script.proofs.OneScript.{one_program}
 use Rattle.def_run.proofs.Outputs.{picks_are_one}
-use Rattle.def_explain.specs.NodeMoves as definition
-use Rattle.def_explain.specs.NodeMoves.{node_note}
+use Rattle.def_running_node.specs.NodeNotes as definition
+use Rattle.def_running_node.specs.NodeNotes.{node_note}
 use Rattle.def_explain.specs.Remarks.{Remark, has_remarks}
 use Rattle.tn_run.specs.Answers.{ScheduleView, by_picks, by_round, by_workers, schedule_seen, ArePicks, HasPicks, run_for}
 use Rattle.tn_run.specs.Jobs.{Gives, OfScript}

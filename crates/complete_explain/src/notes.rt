@@ -23,25 +23,6 @@ pub fn can_differ<A: Allocator + Copy>(
     )
 }
 
-/// `tn_explain::differing_moves` has one answer for one program and the same picks.
-pub fn differing_moves<A: Allocator + Copy>(
-    alloc: A,
-    first: &Program<A>,
-    second: &Program<A>,
-    picks: &[u32],
-) -> (
-    Result<Vec<bool, A>, AllocError>,
-    Result<Vec<bool, A>, AllocError>,
-)
-    requires { program_of first.now ≡ program_of second.now }
-    ensures { IfOk result.0 (λ v. IfOk result.1 (λ w. v.items ≡ w.items)) }
-{
-    (
-        tn_explain::differing_moves(alloc, first, picks),
-        tn_explain::differing_moves(alloc, second, picks),
-    )
-}
-
 /// `tn_explain::node_note` has one answer for one program and the same picks.
 pub fn node_note<A: Allocator + Copy>(
     alloc: A,

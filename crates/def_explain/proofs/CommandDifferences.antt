@@ -11,7 +11,7 @@ use Rattle.def_session.specs.Settings.{FunctionPattern, Setting, off, plain, by,
 use Rattle.def_session.specs.State.{Phase, absent, live, destroyed, Session}
 use Rattle.def_explain.specs.Lists.{One}
 use Rattle.def_explain.specs.CommandReasons.{any_setting}
-use Rattle.def_explain.specs.Differences.{Difference, node_ends, reads_freed, suppresses_message, leaves_no_mark, ignores_silent, reports_end, reports_exceptions, inherits_alone, evaluates_from_right, reads_no_list, catches_error, reports_attempt, raises_noproc, reports_later, adds_calls, faults_in_logic, leaves_other_setting, takes_local_setting, ends_test, difference_where}
+use Rattle.def_explain.specs.Differences.{Difference, node_ends, reads_freed, suppresses_message, leaves_no_mark, ignores_silent, reports_exceptions, inherits_alone, evaluates_from_right, reads_no_list, catches_error, reports_attempt, raises_noproc, reports_later, adds_calls, faults_in_logic, leaves_other_setting, takes_local_setting, ends_test, difference_where}
 use Rattle.def_explain.specs.CommandDifferences.{newest_about, IsSetByKind, IsSetOtherwise, IsInternalAndSet, SettingDiffers, CommandDiffers, is_on, is_of_kind, is_on_of_kind, is_set_by_kind, is_set_otherwise, is_internal_and_set, taken_difference, setting_difference, read_difference, live_difference, difference_in, command_difference}
 use Rattle.def_explain.specs.Laws.{CommandDifferenceIsComputed}
 use Rattle.def_explain.proofs.Differences.{both_are, not_is}
@@ -110,7 +110,6 @@ module _ (o : Exports) (s : Session) (covered : FunctionPattern) where
   found-setting local k suppresses_message h = absurd h
   found-setting local k leaves_no_mark h = absurd h
   found-setting local k ignores_silent h = absurd h
-  found-setting local k reports_end h = absurd h
   found-setting local k reports_exceptions h = absurd h
   found-setting local k inherits_alone h = absurd h
   found-setting local k evaluates_from_right h = absurd h

@@ -7,12 +7,11 @@ use Rattle.def_spec.specs.Expressions.{for_calls, for_sends, for_receives, Expr,
 use Rattle.def_spec.specs.Functions as fn
 use Rattle.def_spec.specs.Matching.{Pattern, anything, in_list, no_patterns, and_pattern}
 use Rattle.def_spec.specs.Outcome.{Clause}
-use Rattle.def_script.specs.Program.{error}
 use Rattle.def_outlook.specs.Outlook.{RuntimeError, calls_past_limit, sends_to_no_pid, links_to_no_pid, unlinks_from_no_pid, Outlook, nothing_ahead}
 use Rattle.def_session.specs.Settings.{off}
-use Rattle.def_node.specs.Event.{Event, received, returned, raised, spawned, exited, linked, getting_linked}
+use Rattle.def_node.specs.Event.{Event, received, spawned, exited, linked, getting_linked}
 use Rattle.def_session.specs.State.{for_returns, for_exceptions, live, new_session, alive_at_start, Session, MarkKind, with_flags, with_marks}
-use Rattle.def_explain.specs.Differences.{Difference, node_ends, reads_freed, suppresses_message, leaves_no_mark, ignores_silent, reports_end, reports_exceptions, inherits_alone, evaluates_from_right, reads_no_list, catches_error, reports_attempt, raises_noproc, reports_later, adds_calls, ends_test, order_difference, list_difference, body_differences, test_differences, event_difference, step_differences, has_mark_below}
+use Rattle.def_explain.specs.Differences.{Difference, node_ends, reads_freed, suppresses_message, leaves_no_mark, ignores_silent, reports_exceptions, inherits_alone, evaluates_from_right, reads_no_list, catches_error, reports_attempt, raises_noproc, reports_later, adds_calls, ends_test, order_difference, list_difference, body_differences, test_differences, event_difference, step_differences, has_mark_below}
 
 -- ---- bodies, in the process 100
 
@@ -220,32 +219,6 @@ marked k s = with_marks s 100 (record { depth = 2; kind = k } ∷ [])
 
 abbrev function : Mfa
 function = record { module_name = codes "m"; function_name = codes "f"; arity = 0 }
-
-abbrev return : Event
-return = returned 100 function (word "ok") 2
-
-abbrev exception : Event
-exception = raised 100 function error (word "bad") 2
-
--- the return of a marked call in silence; not in silence; without a mark; without `call`
-pub silent_return : event_difference (marked for_returns (with_these (and call_flag silent_flag))) return ≡ Some reports_end
-silent_return = refl
-
-pub return_of_a_call : event_difference (marked for_returns (with_these (only call_flag))) return ≡ None
-return_of_a_call = refl
-
-pub unmarked_return : event_difference (with_these (and call_flag silent_flag)) return ≡ None
-unmarked_return = refl
-
-pub return_without_flag : event_difference (marked for_returns (with_these (only silent_flag))) return ≡ None
-return_without_flag = refl
-
--- an exception in silence, and one that leaves a call that is marked for returns
-pub silent_exception : event_difference (marked for_exceptions (with_these (and call_flag silent_flag))) exception ≡ Some reports_end
-silent_exception = refl
-
-pub exception_of_returns : event_difference (marked for_returns (with_these (and call_flag silent_flag))) exception ≡ None
-exception_of_returns = refl
 
 -- a spawn where new processes have another flag than the parent hands on; where they have the same; by a parent with both flags for spawns; and where the parent hands on nothing
 abbrev new_with : (parent new : Flags) → Session

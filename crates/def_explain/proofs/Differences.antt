@@ -16,10 +16,10 @@ use Rattle.def_node.specs.Process.{FRAMES}
 use Rattle.def_node.specs.Event.{sent, received, called, returned, raised, spawning, spawned, exited, linked, unlinked, getting_linked, getting_unlinked}
 use Rattle.def_outlook.specs.Outlook.{RuntimeError, Outlook}
 use Rattle.def_session.specs.State.{MarkKind, for_returns, for_exceptions, Session, flags_at, mark_of}
-use Rattle.def_session.specs.Session.{inherit, effects_of, reported_for, mark_asked, is_marked, is_for_exceptions, is_marked_for_exceptions}
+use Rattle.def_session.specs.Session.{inherit, effects_of, reported_for, mark_asked, is_for_exceptions, is_marked_for_exceptions}
 use Rattle.def_session.specs.Messages.{last_message}
 use Rattle.def_explain.specs.Causes.{is_false_message}
-use Rattle.def_explain.specs.Differences.{Difference, node_ends, reads_freed, suppresses_message, leaves_no_mark, ignores_silent, reports_end, reports_exceptions, inherits_alone, evaluates_from_right, reads_no_list, faults_in_logic, leaves_other_setting, takes_local_setting, ends_test, catches_error, reports_attempt, raises_noproc, reports_later, adds_calls, HasFlags, attempt_flag, StepDiffers, is_traced, has_that_flag, is_attempt_by, step_differs, CallsAction, OneCallsAction, TwoCallActions, ShowsOrder, OneShowsOrder, calls_action, one_calls_action, two_call_actions, shows_order, one_shows_order, HasWholeList, OneHasWholeList, HasListOfNone, ReadsNoList, has_whole_list, one_has_whole_list, is_list_of_none, has_list_of_none, HasNone, has_none, hands_on, handed_on, HasFlagBeside, has_other, LosesLastFlag, loses_last_flag, GivesFlag, gives_flag, GetsFlagAgain, gets_flag_again, NamesFlag, names_flag, sets_silent, SilencesWithoutFlags, silences_without_flags, is_of_sends, is_of_calls, has_mark_below, difference_where}
+use Rattle.def_explain.specs.Differences.{Difference, node_ends, reads_freed, suppresses_message, leaves_no_mark, ignores_silent, reports_exceptions, inherits_alone, evaluates_from_right, reads_no_list, faults_in_logic, leaves_other_setting, takes_local_setting, ends_test, catches_error, reports_attempt, raises_noproc, reports_later, adds_calls, HasFlags, attempt_flag, StepDiffers, is_traced, has_that_flag, is_attempt_by, step_differs, CallsAction, OneCallsAction, TwoCallActions, ShowsOrder, OneShowsOrder, calls_action, one_calls_action, two_call_actions, shows_order, one_shows_order, HasWholeList, OneHasWholeList, HasListOfNone, ReadsNoList, has_whole_list, one_has_whole_list, is_list_of_none, has_list_of_none, HasNone, has_none, hands_on, handed_on, HasFlagBeside, has_other, LosesLastFlag, loses_last_flag, GivesFlag, gives_flag, GetsFlagAgain, gets_flag_again, NamesFlag, names_flag, sets_silent, SilencesWithoutFlags, silences_without_flags, is_of_sends, is_of_calls, has_mark_below, difference_where}
 use Rattle.def_explain.proofs.Several.{one_by_any, any_by_one}
 use Rattle.def_explain.specs.Laws.{BodyDifferenceIsComputed, OrderDifferenceIsComputed, ListDifferenceIsComputed, EventDifferenceIsComputed, StepDifferenceIsComputed}
 
@@ -327,7 +327,6 @@ body_difference_is_computed d c es ignores_silent = (
       ((of-calls d).0 x.0, silences-without c.self_pid c.flags es x.1),
   λ h. both_are _ _ ((of-calls d).1 h.0) (without-silenced c.self_pid c.flags es h.1.0 h.1.1 h.1.2 h.1.3 h.1.4 h.1.5),
 )
-body_difference_is_computed d c es reports_end = (λ h. absurd (cc h), λ h. absurd h)
 body_difference_is_computed d c es reports_exceptions = (λ h. absurd (cc h), λ h. absurd h)
 body_difference_is_computed d c es inherits_alone = (λ h. absurd (cc h), λ h. absurd h)
 body_difference_is_computed d c es evaluates_from_right = (λ h. absurd (cc h), λ h. absurd h)
@@ -482,15 +481,8 @@ where-holds b y x P e = (
 )
 
 pub event_difference_is_computed : EventDifferenceIsComputed
-event_difference_is_computed s (returned p f t depth) x =
-    where-holds _ reports_end x _ (λ h. three_parts (is_marked s p depth) _ _ h, λ h. three_are _ _ _ h.0 h.1 h.2)
-event_difference_is_computed s (raised p f c t depth) x =
-    where-holds _ reports_end x _ (
-      λ h.
-          let y : (is_marked_for_exceptions s p depth ≡ true) × (flags_at s p call_flag ≡ true) × (flags_at s p silent_flag ≡ true) = three_parts (is_marked_for_exceptions s p depth) _ _ h in
-          (for-exceptions (mark_of s p depth) y.0, y.1, y.2),
-      λ h. three_are _ _ _ (ap is_for_exceptions h.0) h.1 h.2,
-    )
+event_difference_is_computed s (returned p f t depth) x = (λ h. absurd (cc h), λ h. absurd h)
+event_difference_is_computed s (raised p f c t depth) x = (λ h. absurd (cc h), λ h. absurd h)
 event_difference_is_computed s (spawned child parent f args) x =
     where-holds _ inherits_alone x _ (
       λ h.
@@ -613,7 +605,6 @@ at-exit s l p r reads_freed = (λ h. absurd (cc h), λ h. absurd h)
 at-exit s l p r suppresses_message = (λ h. absurd (cc h), λ h. absurd h)
 at-exit s l p r leaves_no_mark = (λ h. absurd (cc h), λ h. absurd h)
 at-exit s l p r ignores_silent = (λ h. absurd (cc h), λ h. absurd h)
-at-exit s l p r reports_end = (λ h. absurd (cc h), λ h. absurd h)
 at-exit s l p r reports_exceptions = (
   λ h.
       let y : (is_some l.error ≡ true) × (flags_at s p call_flag ≡ true) × (has_mark_below s p (suc FRAMES) ≡ true) = three_parts (is_some l.error) _ _ h in
@@ -645,7 +636,6 @@ at-link s l p other reads_freed = (λ h. absurd (cc h), λ h. absurd h)
 at-link s l p other suppresses_message = (λ h. absurd (cc h), λ h. absurd h)
 at-link s l p other leaves_no_mark = (λ h. absurd (cc h), λ h. absurd h)
 at-link s l p other ignores_silent = (λ h. absurd (cc h), λ h. absurd h)
-at-link s l p other reports_end = (λ h. absurd (cc h), λ h. absurd h)
 at-link s l p other reports_exceptions = (λ h. absurd (cc h), λ h. absurd h)
 at-link s l p other inherits_alone = (λ h. absurd (cc h), λ h. absurd h)
 at-link s l p other evaluates_from_right = (λ h. absurd (cc h), λ h. absurd h)
@@ -671,7 +661,6 @@ at-receive s l p sender t reads_freed = (λ h. absurd (cc h), λ h. absurd h)
 at-receive s l p sender t suppresses_message = (λ h. absurd (cc h), λ h. absurd h)
 at-receive s l p sender t leaves_no_mark = (λ h. absurd (cc h), λ h. absurd h)
 at-receive s l p sender t ignores_silent = (λ h. absurd (cc h), λ h. absurd h)
-at-receive s l p sender t reports_end = (λ h. absurd (cc h), λ h. absurd h)
 at-receive s l p sender t reports_exceptions = (λ h. absurd (cc h), λ h. absurd h)
 at-receive s l p sender t inherits_alone = (λ h. absurd (cc h), λ h. absurd h)
 at-receive s l p sender t evaluates_from_right = (λ h. absurd (cc h), λ h. absurd h)

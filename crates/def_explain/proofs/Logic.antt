@@ -1,13 +1,11 @@
 -- What is computed is whether logic is called on what is no boolean; where no logic is called, it isn't.
-use Rattle.std.proofs.Common.{◌≡◌, ◌⊎◌, inl, inr, Bool, true, false, not, ◌&&◌, ◌||◌, List, [], ◌∷◌, Some, refl, sym, ap, ◌∙◌, if◌then◌else◌}
-use Rattle.std.specs.List.{list_any}
+use Rattle.std.proofs.Common.{◌≡◌, ◌⊎◌, inl, inr, Bool, true, false, not, ◌&&◌, ◌||◌, List, [], Some, refl, sym, ap, ◌∙◌, if◌then◌else◌}
 use Rattle.std.proofs.lemmas.Bool.{and_parts, or_parts, or_from}
 use Rattle.def_term.specs.Tree.{Tree}
 use Rattle.def_spec.specs.Matching.{Bindings}
 use Rattle.def_spec.specs.Functions.{Func, boolean_test, is_true}
 use Rattle.def_spec.specs.Expressions.{Dialect, Expr, bound_to, whole_list, all_bound, constant, tuple_of, list_of, call, and_also, or_else, perform, Exprs, no_exprs, and_expr, Context, Effect, Position, in_condition, in_body, Evaluation, comes_to, faults, evaluation, evaluation_of_all}
 use Rattle.def_spec.specs.Outcome.{Clause}
-use Rattle.def_explain.specs.Lists.{One}
 use Rattle.def_explain.specs.Logic.{is_logic, OneIsNoBoolean, one_is_no_boolean, on_value, IsLogicOnOther, HasLogicOnOther, OneHasLogicOnOther, HasLogicOnOtherWhile, is_logic_on_other, has_logic_on_other, one_has_logic_on_other, has_logic_on_other_while, ClauseHasLogicOnOther, clause_has_logic_on_other}
 use Rattle.def_explain.specs.Differences.{faults_in_logic, difference_where, logic_difference}
 use Rattle.def_explain.specs.NodeCommands.{calls_logic, one_calls_logic}

@@ -1,7 +1,7 @@
 -- A session with no flag or setting by which a node can differ is still such a session after an event, or after a command that adds none; and a node does nothing otherwise at an event of it.
-use Rattle.std.proofs.Common.{◌≡◌, ℕ, zero, suc, ◌-◌, Bool, true, false, not, ◌&&◌, ◌||◌, List, [], ◌∷◌, ◌++◌, filter, replicate, slice_get, slice_set, unwrap_or, Option, Some, None, option_to_list, Ok, Err, refl, sym, ap, ap₂, subst, ◌∙◌, ◌==◌, if◌then◌else◌}
+use Rattle.std.proofs.Common.{◌≡◌, ℕ, zero, suc, ◌-◌, Bool, true, false, not, List, [], ◌∷◌, ◌++◌, replicate, slice_get, slice_set, unwrap_or, Option, Some, None, option_to_list, Ok, Err, refl, sym, ap, ap₂, subst, ◌∙◌, if◌then◌else◌}
 use Rattle.std.specs.List.{AllByRecursion}
-use Rattle.std.proofs.lemmas.Bool.{or_parts, or_from, and_from, and_left, and_right}
+use Rattle.std.proofs.lemmas.Bool.{or_parts, or_from, and_left}
 use Rattle.def_term.specs.Tree.{Tree, pid}
 use Rattle.def_term.specs.Names.{word}
 use Rattle.def_term.specs.Alive.{FIRST_PID, PROCESSES, Alive, with_alive, is_alive}
@@ -10,19 +10,18 @@ use Rattle.def_script.specs.Exports.{Exports}
 use Rattle.def_spec.specs.Flags.{Flag, send_flag, receive_flag, call_flag, procs_flag, silent_flag, arity_flag, set_on_spawn, set_on_first_spawn, set_on_link, set_on_first_link, Flags, no_flags, only, union, without, flags_listed, given_and_kept, after_spawn, after_link}
 use Rattle.def_spec.specs.Expressions.{for_calls, for_sends, for_receives, Effect}
 use Rattle.def_spec.specs.Reading.{Reads}
-use Rattle.def_node.specs.Process.{FRAMES}
 use Rattle.def_node.specs.Event.{Event, sent, received, called, returned, raised, spawning, spawned, exited, linked, unlinked, getting_linked, getting_unlinked}
 use Rattle.def_outlook.specs.Outlook.{Outlook}
 use Rattle.def_session.specs.Settings.{FunctionPattern, Setting, setting_of, trace_pattern_of, options_of, setting_for}
-use Rattle.def_session.specs.State.{Phase, absent, live, destroyed, MarkKind, for_returns, Mark, Session, new_session, flags_at, with_flags, marks_at, with_marks, kind_among, mark_of}
+use Rattle.def_session.specs.State.{Phase, absent, live, destroyed, MarkKind, Mark, Session, new_session, flags_at, with_flags, marks_at, with_marks}
 use Rattle.def_session.specs.Messages.{process_of}
-use Rattle.def_session.specs.Session.{with_both, inherit, context, is_marked, is_for_exceptions, is_marked_for_exceptions, effects_of, where_marked, all_affected, mark_asked, mark_frame, unmark_frame, finish, reported_for, reported_in, event_reported}
+use Rattle.def_session.specs.Session.{inherit, context, effects_of, where_marked, all_affected, mark_asked, mark_frame, finish, reported_for, reported_in, event_reported}
 use Rattle.def_session.specs.Commands.{Procs, one_process, existing, new_processes, all_processes, procs_of, how_of, changed_flags, all_changed, existing_changed, new_changed, number_term, refuse, flags_set, flags_set_if, function_set, function_set_if, send_set, receive_set, done_live, done_absent, done_destroyed, done_in, command_done}
-use Rattle.def_explain.specs.Differences.{Difference, reports_end, inherits_alone, hands_on, difference_where, differences_if, setting_differences, evaluation_differences, event_difference}
+use Rattle.def_explain.specs.Differences.{Difference, inherits_alone, hands_on, difference_where, differences_if, setting_differences, evaluation_differences, event_difference}
 use Rattle.def_explain.specs.Accounts.{differences_in_lines, event_lines_in, event_lines}
 use Rattle.def_explain.specs.NodeCommands.{setting_can_differ, read_can_differ, flags_can_differ, listed_can_differ, command_can_differ}
 use Rattle.def_explain.proofs.DifferenceLines.{lines_tell_the_difference}
-use Rattle.def_explain.proofs.NodeBodies.{ArePlainEffects, HasPlainEffects, plain_effects_of_setting, flags_same_after, has_send, has_receive, has_call, no_difference_by_setting, FunctionsArePlain, plain_setting_for}
+use Rattle.def_explain.proofs.NodeBodies.{HasPlainEffects, plain_effects_of_setting, flags_same_after, has_send, has_receive, has_call, no_difference_by_setting, FunctionsArePlain, plain_setting_for}
 
 -- ---- elements of lists
 
@@ -359,12 +358,9 @@ no-evaluation-difference s (getting_unlinked p q) h = refl
 not-where : (b : Bool) (x : Difference) → b ≡ false → difference_where b x ≡ None
 not-where b x h = ap (λ a. difference_where a x) h
 
-no-silent-end : (s : Session) (p : ℕ) (m : Bool) → IsPlain s → (m && (flags_at s p call_flag && flags_at s p silent_flag)) ≡ false
-no-silent-end s p m h = and_right m _ (and_right (flags_at s p call_flag) _ (flags-of s p h silent_flag refl))
-
 no-event-difference : (s : Session) (e : Event) → IsPlain s → event_difference s e ≡ None
-no-event-difference s (returned p f t depth) h = not-where _ reports_end (no-silent-end s p (is_marked s p depth) h)
-no-event-difference s (raised p f c t depth) h = not-where _ reports_end (no-silent-end s p (is_marked_for_exceptions s p depth) h)
+no-event-difference s (returned p f t depth) h = refl
+no-event-difference s (raised p f c t depth) h = refl
 no-event-difference s (spawned child parent f args) h =
     let own : HasPlainFlags (flags_at s parent) = flags-of s parent h in
     not-where _ inherits_alone (and_left (hands_on (flags_at s parent)) _ (or_from (flags_at s parent set_on_spawn) _ (own set_on_spawn refl) (own set_on_first_spawn refl)))

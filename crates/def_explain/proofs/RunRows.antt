@@ -8,18 +8,17 @@ use Rattle.def_term.specs.Text.{is_written_bare}
 use Rattle.def_script.specs.Program.{error, Program, send, catch, give_back, raise}
 use Rattle.def_run.proofs.Samples.{number, braces, brackets, function, entry, call_named, spawns, program, creates, sets, mfa_of, sets_function, sets_send, lines}
 use Rattle.def_explain.specs.Differences.{has_mark_below}
-use Rattle.def_explain.specs.NodeMoves.{node_note}
 use Rattle.def_explain.specs.NodeCommands.{can_differ}
 use Rattle.def_explain.specs.RunTexts.{Filter, account_text}
 
 abbrev everything : Filter
-everything = record { session = None; move = None; node = false }
+everything = record { session = None; move = None }
 
 abbrev only_session : Filter
-only_session = record { session = Some (codes "s2"); move = None; node = false }
+only_session = record { session = Some (codes "s2"); move = None }
 
 abbrev only_move : Filter
-only_move = record { session = None; move = Some 5; node = false }
+only_move = record { session = None; move = Some 5 }
 
 -- a send to another process, traced by one session and not by the other
 abbrev two_sends : Program
@@ -46,30 +45,10 @@ pub of_one_move : account_text only_move two_sends (0 ∷ 0 ∷ 0 ∷ 100 ∷ 10
 unfolding is_written_bare digits
 of_one_move = refl
 
--- a send that takes the sender's last flag, and one that leaves a flag
-abbrev only_node : Filter
-only_node = record { session = None; move = None; node = true }
-
+-- a send whose body clears a flag of the sender
 abbrev taken_flag : List String → String → Program
 taken_flag flags name = program (function "go" [] (send (pid 101) (word "hi") ∷ []) ∷ function "peer" [] [] ∷ []) (entry "go" [] ∷ entry "peer" [] ∷ [])
     (creates "s1" "t1" ∷ sets "s1" (word "all") flags ∷ sets_send "s1" (brackets (braces (word "_" ∷ brackets [] ∷ brackets (braces (word "disable_trace" ∷ word name ∷ []) ∷ []) ∷ []) ∷ [])) ∷ [])
-
-pub moves_of_a_node : account_text only_node (taken_flag ("send" ∷ []) "send") (0 ∷ 0 ∷ 0 ∷ 100 ∷ 100 ∷ [])
-    ≡ lines ("5 100 <0.100.0> send hi <0.101.0>" ∷ "  s1: clause 1 fires: <0.100.0> loses send"
-    ∷ "  s1: on a node: this send ends the node with a segmentation fault, since the body clears the sender's last flag"
-    ∷ "  s1: => {trace,<0.100.0>,send,hi,<0.101.0>}" ∷ "5 100 <0.101.0> 'receive' hi" ∷ "  s1: no flag 'receive'" ∷ [])
-unfolding is_written_bare digits
-moves_of_a_node = refl
-
-pub note_of_a_node : node_note (taken_flag ("send" ∷ []) "send") (0 ∷ 0 ∷ 0 ∷ 100 ∷ 100 ∷ []) ≡ Some (record { differing = 1; moves = 5 })
-note_of_a_node = refl
-
-pub no_moves_of_a_node : account_text only_node (taken_flag ("send" ∷ "call" ∷ []) "send") (0 ∷ 0 ∷ 0 ∷ 100 ∷ 100 ∷ []) ≡ []
-unfolding is_written_bare digits
-no_moves_of_a_node = refl
-
-pub no_note_of_a_node : node_note (taken_flag ("send" ∷ "call" ∷ []) "send") (0 ∷ 0 ∷ 0 ∷ 100 ∷ 100 ∷ []) ≡ None
-no_note_of_a_node = refl
 
 -- what a command can lead to: a body that clears a flag, and one that doesn't
 pub a_flag_can_go : can_differ (taken_flag ("send" ∷ "call" ∷ []) "send") ≡ true

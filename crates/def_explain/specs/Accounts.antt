@@ -23,7 +23,7 @@ use Rattle.def_explain.specs.Limits.{limit_said}
 use Rattle.def_explain.specs.Texts.{said_of_each, effects_text, reason_text, clause_text}
 use Rattle.def_explain.specs.ReasonTexts.{mfa_text, reply_text}
 
--- what is said, a message that is reported, what a running node does otherwise, or what it does otherwise and the note of a run doesn't count: by the step, or by a command
+-- what is said, a message that is reported, what a running node does otherwise by flags and specifications, or what it does otherwise and isn't counted among that: by the step, or by a command
 pub data Line : Type 0 where
   said : List ℕ → Line
   tells : Tree → Line
@@ -38,7 +38,7 @@ reported_in_lines (tells t ∷ ls) = t ∷ reported_in_lines ls
 reported_in_lines (differs x ∷ ls) = reported_in_lines ls
 reported_in_lines (differs_uncounted x ∷ ls) = reported_in_lines ls
 
--- what a node does otherwise among these lines, but for what the note doesn't count
+-- what a node does otherwise among these lines, but for what isn't counted
 abbrev pub differences_in_lines : List Line → List Difference
 differences_in_lines [] = []
 differences_in_lines (said text ∷ ls) = differences_in_lines ls

@@ -13,12 +13,12 @@ use Rattle.def_spec.specs.Expressions.{Dialect, for_calls, for_sends, Expr, boun
 use Rattle.def_node.specs.Process.{FRAMES}
 use Rattle.def_spec.specs.Outcome.{Clause}
 use Rattle.def_session.specs.Settings.{Setting, off, plain, by, setting_for}
-use Rattle.def_node.specs.Event.{Event, sent, received, called, returned, raised, exited, spawned, linked}
+use Rattle.def_node.specs.Event.{Event, sent, received, called, exited, spawned, linked}
 use Rattle.def_outlook.specs.Outlook.{RuntimeError, sends_to_no_pid, links_to_no_pid, unlinks_from_no_pid, Outlook}
 use Rattle.def_session.specs.State.{MarkKind, for_exceptions, Session, flags_at, mark_of}
 use Rattle.def_session.specs.Messages.{last_message}
-use Rattle.def_session.specs.Session.{inherit, context, effects_of, reported_for, mark_asked, is_marked, is_marked_for_exceptions}
-use Rattle.def_explain.specs.Causes.{IsOfMarked, is_false_message}
+use Rattle.def_session.specs.Session.{inherit, context, effects_of, reported_for, mark_asked, is_marked_for_exceptions}
+use Rattle.def_explain.specs.Causes.{is_false_message}
 use Rattle.def_explain.specs.Lists.{One}
 use Rattle.def_explain.specs.Logic.{clause_has_logic_on_other}
 use Rattle.def_explain.specs.Verdicts.{Verdict, fails, fires, verdict_of}
@@ -29,7 +29,6 @@ use Rattle.def_explain.specs.Verdicts.{Verdict, fails, fires, verdict_of}
 -- `silent` suppresses the message of a send or a receive that a match specification decides;
 -- a call that is silent gets no mark;
 -- `silent` does nothing where the process of a call has no flag;
--- the return or the exception is reported unless `silent` was set at the call;
 -- each call that is marked for exceptions has `exception_from` before the end by a run-time error;
 -- a child that inherits flags has those alone, and none of the flags for new processes;
 -- the arguments of a call and the elements of a tuple are evaluated from the right;
@@ -49,7 +48,6 @@ pub data Difference : Type 0 where
   suppresses_message : Difference
   leaves_no_mark : Difference
   ignores_silent : Difference
-  reports_end : Difference
   reports_exceptions : Difference
   inherits_alone : Difference
   evaluates_from_right : Difference
@@ -201,11 +199,7 @@ HasListOfNone k = (k.head ≡ in_list no_patterns) × (OneHasWholeList k.conditi
 abbrev pub ReadsNoList : Dialect → Clause → Type 0
 ReadsNoList d k = (d ≡ for_calls) × HasListOfNone k
 
--- ---- an event without a body: a return, an exception, a child
-
--- the process of a return or an exception of a marked frame has `call`, and is silent
-abbrev pub IsSilentEnd : Session → Event → (p : ℕ) → Type 0
-IsSilentEnd s e p = IsOfMarked s e × (flags_at s p call_flag ≡ true) × (flags_at s p silent_flag ≡ true)
+-- ---- an event without a body: a child
 
 -- a process with these flags hands on flags at a spawn
 abbrev pub hands_on : Flags → Bool
@@ -225,8 +219,6 @@ InheritsMore s e parent child = (hands_on (flags_at s parent) ≡ true) × HasFl
 
 -- a node does this otherwise at this event of a session in this state
 abbrev pub EventDiffers : Session → Event → Difference → Type 0
-EventDiffers s (returned p f t depth) x = (x ≡ reports_end) × IsSilentEnd s (returned p f t depth) p
-EventDiffers s (raised p f c t depth) x = (x ≡ reports_end) × IsSilentEnd s (raised p f c t depth) p
 EventDiffers s (spawned child parent f args) x = (x ≡ inherits_alone) × InheritsMore s (spawned child parent f args) parent child
 EventDiffers s e x = ⊥
 
@@ -466,8 +458,6 @@ inherits_more parent child = hands_on parent && has_other child (handed_on paren
 
 -- what a node does otherwise at an event without a body
 abbrev pub event_difference : Session → Event → Option Difference
-event_difference s (returned p f t depth) = difference_where (is_marked s p depth && (flags_at s p call_flag && flags_at s p silent_flag)) reports_end
-event_difference s (raised p f c t depth) = difference_where (is_marked_for_exceptions s p depth && (flags_at s p call_flag && flags_at s p silent_flag)) reports_end
 event_difference s (spawned child parent f args) = difference_where (inherits_more (flags_at s parent) (flags_at (inherit s (spawned child parent f args)) child)) inherits_alone
 event_difference s e = None
 
@@ -521,7 +511,6 @@ difference_text reads_freed = codes "the message may be missing, or have other p
 difference_text suppresses_message = codes "no message: silent"
 difference_text leaves_no_mark = codes "no mark: the call is silent"
 difference_text ignores_silent = codes "silent does nothing: the process has no flag then"
-difference_text reports_end = codes "a message, unless the call was silent"
 difference_text reports_exceptions = codes "exception_from first, of each call that is marked for exceptions"
 difference_text inherits_alone = codes "the child has the flags of its parent alone"
 difference_text evaluates_from_right = codes "arguments and elements of tuples are evaluated from the right, and two of them have actions here"

@@ -1,7 +1,7 @@
 -- Which moves of a run a running node does otherwise (own).
 -- Depends on the history of a run, and on what a session makes of an event or a command.
-use Rattle.std.specs.Prelude.{◌≢◌, ℕ, Bool, true, false, if◌then◌else◌, List, [], ◌∷◌, map, length, Option, Some, None}
-use Rattle.std.specs.List.{list_any, count_by}
+use Rattle.std.specs.Prelude.{◌≢◌, ℕ, Bool, true, false, List, [], ◌∷◌, map}
+use Rattle.std.specs.List.{list_any}
 use Rattle.def_script.specs.Program.{Program}
 use Rattle.def_script.specs.Exports.{Exports, exports_of}
 use Rattle.def_outlook.specs.Outlook.{Outlook}
@@ -48,16 +48,3 @@ move_differs o h = list_any (moment_differs o h.outlook) h.moments
 -- of each move of a run in order, whether a node does it otherwise
 abbrev pub differing_moves : Program → List ℕ → List Bool
 differing_moves p picks = map (move_differs (exports_of p)) (move_histories p picks)
-
--- how many moves a node does otherwise, and how many there are
-pub record NodeNote : Type 0 where
-  pub differing : ℕ
-  pub moves : ℕ
-
--- the note of these, where a node does one of them otherwise
-abbrev pub note_of : List Bool → Option NodeNote
-note_of bs = if list_any (λ b. b) bs then Some (record { differing = count_by (λ b. b) bs; moves = length bs }) else None
-
--- the note of a run
-abbrev pub node_note : Program → List ℕ → Option NodeNote
-node_note p picks = note_of (differing_moves p picks)

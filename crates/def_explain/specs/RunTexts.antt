@@ -1,7 +1,6 @@
 -- The text of an account: what the sessions make of a run, in lines (own).
--- Depends on what the sessions make of a run, on which moves a running node does otherwise, on the elements of messages and on the written text of terms.
-use Rattle.std.specs.Prelude.{ℕ, zero, suc, ◌==◌, Bool, true, false, ◌&&◌, if◌then◌else◌, List, [], ◌∷◌, ◌++◌, flat_map, Option, Some, None, codes, decimal}
-use Rattle.std.specs.List.{slice_index_or}
+-- Depends on what the sessions make of a run, on the elements of messages and on the written text of terms.
+use Rattle.std.specs.Prelude.{ℕ, ◌==◌, Bool, true, false, ◌&&◌, if◌then◌else◌, List, [], ◌∷◌, ◌++◌, flat_map, Option, Some, None, codes, decimal}
 use Rattle.std.specs.Str.{bytes_eq}
 use Rattle.def_term.specs.Tree.{Tree, atom, tuple, list, none, more}
 use Rattle.def_term.specs.Names.{Name, word}
@@ -12,7 +11,6 @@ use Rattle.def_run.specs.Run.{HistoryItem, event_item, command_item}
 use Rattle.def_explain.specs.Differences.{on_node}
 use Rattle.def_explain.specs.Accounts.{Line, said, tells, differs, differs_uncounted}
 use Rattle.def_explain.specs.Runs.{AccountEntry, shows, shows_nothing, makes, entries}
-use Rattle.def_explain.specs.NodeMoves.{differing_moves}
 
 -- the term that the command was given as
 abbrev pub command_term : Command → Tree
@@ -52,17 +50,10 @@ entry_text (makes n l) = codes "  " ++ atom_text n ++ codes ": " ++ line_text l 
 
 -- ---- the filter
 
--- what is asked for: the session of a name alone, and the move of a number alone, where they are given; and whether only the moves are that a running node does otherwise
+-- what is selected of a run: the session of a name alone, and the move of a number alone, where they are given
 pub record Filter : Type 0 where
   pub session : Option Name
   pub move : Option ℕ
-  pub node : Bool
-
--- what is selected of a run: the session, the move, and of each move in order whether it is, where that is given
-pub record Selection : Type 0 where
-  pub session : Option Name
-  pub move : Option ℕ
-  pub among : Option (List Bool)
 
 -- no name is given, or this one
 abbrev pub is_session : Option Name → Name → Bool
@@ -74,31 +65,13 @@ abbrev pub is_move : Option ℕ → ℕ → Bool
 is_move None k = true
 is_move (Some m) k = m == k
 
--- nothing is given of the moves, or that this one is selected; they are numbered from 1
-abbrev pub is_selected_among : Option (List Bool) → ℕ → Bool
-is_selected_among None k = true
-is_selected_among (Some bs) zero = false
-is_selected_among (Some bs) (suc k) = slice_index_or bs k false
-
--- the move of this number is selected
-abbrev pub selects : Selection → ℕ → Bool
-selects a k = is_move a.move k && is_selected_among a.among k
-
 -- the entries that are selected; those of a session belong to the move before them
-abbrev pub filter_entries : Selection → ℕ → List AccountEntry → List AccountEntry
+abbrev pub filter_entries : Filter → ℕ → List AccountEntry → List AccountEntry
 filter_entries a k [] = []
-filter_entries a k (shows j pick x ∷ es) = if selects a j then shows j pick x ∷ filter_entries a j es else filter_entries a j es
-filter_entries a k (shows_nothing j pick ∷ es) = if selects a j then shows_nothing j pick ∷ filter_entries a j es else filter_entries a j es
-filter_entries a k (makes n l ∷ es) = if selects a k && is_session a.session n then makes n l ∷ filter_entries a k es else filter_entries a k es
+filter_entries a k (shows j pick x ∷ es) = if is_move a.move j then shows j pick x ∷ filter_entries a j es else filter_entries a j es
+filter_entries a k (shows_nothing j pick ∷ es) = if is_move a.move j then shows_nothing j pick ∷ filter_entries a j es else filter_entries a j es
+filter_entries a k (makes n l ∷ es) = if is_move a.move k && is_session a.session n then makes n l ∷ filter_entries a k es else filter_entries a k es
 
--- the text of what is selected of a run
-abbrev pub selected_text : Selection → Program → List ℕ → List ℕ
-selected_text a p picks = flat_map entry_text (filter_entries a 0 (entries p picks))
-
--- what the filter selects of a run
-abbrev pub selection : Filter → Program → List ℕ → Selection
-selection a p picks = record { session = a.session; move = a.move; among = if a.node then Some (differing_moves p picks) else None }
-
--- the account of a run
+-- the account of a run, as far as the filter selects it
 abbrev pub account_text : Filter → Program → List ℕ → List ℕ
-account_text a p picks = selected_text (selection a p picks) p picks
+account_text a p picks = flat_map entry_text (filter_entries a 0 (entries p picks))

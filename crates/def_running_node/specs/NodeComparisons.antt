@@ -1,6 +1,6 @@
 -- A run here and on a node side by side: of each move the lines of the sessions that a node doesn't have, and those that it has in their place (own).
 -- Depends on the history of a run, on what sessions do, and on what the sessions of a node report.
-use Rattle.std.specs.Prelude.{ℕ, Bool, true, false, not, ◌&&◌, if◌then◌else◌, List, [], ◌∷◌, ◌++◌, map, flat_map, Option, Some, None, option_to_list, codes}
+use Rattle.std.specs.Prelude.{ℕ, Bool, true, false, not, ◌&&◌, if◌then◌else◌, List, [], ◌∷◌, ◌++◌, map, flat_map, filter, Option, Some, None, option_to_list, codes}
 use Rattle.std.specs.List.{list_any}
 use Rattle.std.specs.Str.{bytes_eq}
 use Rattle.def_term.specs.Tree.{Tree}
@@ -16,6 +16,7 @@ use Rattle.def_session.specs.Session.{event_reported}
 use Rattle.def_session.specs.Commands.{command_done}
 use Rattle.def_run.specs.Run.{HistoryItem, event_item, command_item}
 use Rattle.def_run.specs.History.{MoveHistory, move_histories}
+use Rattle.def_explain.specs.RunTexts.{is_session}
 use Rattle.def_running_node.specs.NodeSessions.{NodeSession, marks_after, reported_there}
 use Rattle.def_running_node.specs.NodeRuns.{NodeRun, at_move, run_after, run_messages, opens, hides, NodeLine, lacks, adds, is_open, lines_by_openness}
 use Rattle.def_running_node.specs.NodeReplies.{node_command}
@@ -160,15 +161,20 @@ lines_of_moves o c (h ∷ hs) = lines_of_move o h.outlook h.pick c (items_of h) 
 abbrev pub pair_at_start : Exports → Name → SessionPair
 pair_at_start o n = record { name = n; here = absent_session o; there = record { session = absent_session o; marks = [] }; is_determined = true }
 
-abbrev pub comparison_at_start : Program → Comparison
-comparison_at_start p = record {
+-- of all sessions, or of that of a name alone, where one is given
+abbrev pub comparison_at_start : Option Name → Program → Comparison
+comparison_at_start n p = record {
   run = record { alive = alive_at_start (exports_of p).processes; signals = []; ended = None; is_determined = true; was_determined = true };
-  sessions = map (λ s. pair_at_start (exports_of p) s.0) (creations p.commands);
+  sessions = map (λ s. pair_at_start (exports_of p) s.0) (filter (λ s. is_session n s.0) (creations p.commands));
 }
 
+-- after the moves of a run
+abbrev pub comparison_after : Option Name → Program → List ℕ → Comparison
+comparison_after n p picks = after_moves (exports_of p) (comparison_at_start n p) (move_histories p picks)
+
 -- the lines of each move of a run
-abbrev pub node_texts : Program → List ℕ → List (List NamedLine)
-node_texts p picks = lines_of_moves (exports_of p) (comparison_at_start p) (move_histories p picks)
+abbrev pub lines_of_run : Option Name → Program → List ℕ → List (List NamedLine)
+lines_of_run n p picks = lines_of_moves (exports_of p) (comparison_at_start n p) (move_histories p picks)
 
 -- ---- its text
 

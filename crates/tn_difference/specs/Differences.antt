@@ -11,7 +11,7 @@ use Rattle.tn_action.specs.Views.{context_seen, effect_seen}
 use Rattle.tn_action.specs.declared.context.Context.{Context}
 use Rattle.tn_action.specs.declared.effect.Effect as code
 use Rattle.tn_difference.specs.declared.differences.Difference.{Difference}
-use Rattle.tn_difference.specs.declared.differences.Difference.TheVariants.{NodeEnds, ReadsFreed, SuppressesMessage, LeavesNoMark, IgnoresSilent, ReportsEnd, ReportsExceptions, CatchesError, ReportsAttempt, RaisesNoproc, ReportsLater, AddsCalls, InheritsAlone, EvaluatesFromRight, ReadsNoList, FaultsInLogic, LeavesOtherSetting, TakesLocalSetting, EndsTest}
+use Rattle.tn_difference.specs.declared.differences.Difference.TheVariants.{NodeEnds, ReadsFreed, SuppressesMessage, LeavesNoMark, IgnoresSilent, ReportsExceptions, CatchesError, ReportsAttempt, RaisesNoproc, ReportsLater, AddsCalls, InheritsAlone, EvaluatesFromRight, ReadsNoList, FaultsInLogic, LeavesOtherSetting, TakesLocalSetting, EndsTest}
 
 abbrev pub difference_seen : Difference → definition.Difference
 difference_seen NodeEnds = definition.node_ends
@@ -19,7 +19,6 @@ difference_seen ReadsFreed = definition.reads_freed
 difference_seen SuppressesMessage = definition.suppresses_message
 difference_seen LeavesNoMark = definition.leaves_no_mark
 difference_seen IgnoresSilent = definition.ignores_silent
-difference_seen ReportsEnd = definition.reports_end
 difference_seen ReportsExceptions = definition.reports_exceptions
 difference_seen CatchesError = definition.catches_error
 difference_seen ReportsAttempt = definition.reports_attempt

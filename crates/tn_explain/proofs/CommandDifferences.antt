@@ -1,5 +1,5 @@
 -- What a node does otherwise by a command, by what is read of it and by the session that is looked at.
-use Rattle.std.proofs.Common.{◌≡◌, ◌∙◌, Bool, true, false, Option, Some, None, Ok, Err, refl, ap}
+use Rattle.std.proofs.Common.{◌≡◌, ◌∙◌, Bool, true, false, Some, Ok, Err, refl, ap}
 use Rattle.def_script.specs.Exports.{Exports}
 use Rattle.def_script.specs.Program.{Command}
 use Rattle.def_spec.specs.Reading.{Reads}
@@ -7,7 +7,8 @@ use Rattle.def_session.specs.Settings.{FunctionPattern, Setting, off, plain, by}
 use Rattle.def_session.specs.State.{Phase, absent, live, destroyed, Session}
 use Rattle.def_explain.specs.CommandDifferences.{read_difference, live_difference, difference_in, command_difference}
 use Rattle.tn_session.specs.Looks.{is_live}
-use Rattle.tn_explain.specs.CommandDifferences.{on_where_read, difference_by}
+use Rattle.tn_running_node.specs.Replies.{on_where_read}
+use Rattle.tn_explain.specs.CommandDifferences.{difference_by}
 
 pub by_reading : (o : Exports) (s : Session) (covered : FunctionPattern) (local : Bool) (r : Reads Setting) (on : Bool) → on_where_read r ≡ Some on → difference_by o s covered local on ≡ read_difference o s (Some covered) (Some local) r
 by_reading o s covered local (Ok off) true e = absurd (cc e)

@@ -4,7 +4,7 @@ use Rattle.std.specs.Str.{bytes_eq}
 use Rattle.std.proofs.lemmas.Slice.Eq.{bytes_eq-Decides}
 use Rattle.def_text.specs.Tokens.{Token, open_brace, close_brace, open_bracket, close_bracket, comma, stop, integer, atom, characters, pid, TokenSpan, Tokens, in_quotes, IsQuoted}
 use Rattle.def_text.specs.Scan.{IsTokenOf, unescape}
-use Rattle.def_explain.specs.CommandPlaces.{TokenPlace, before_form, at_tag, in_other_form, in_control, is_control, place_after_token, begins_command, command_starts}
+use Rattle.def_explain.specs.CommandPlaces.{TokenPlace, before_form, at_tag, in_other_form, in_control, place_after_token, begins_command, command_starts}
 use Rattle.tn_text.specs.declared.scan.Kind.{Kind}
 use Rattle.tn_text.specs.declared.scan.Kind.TheVariants.{OpenBrace, CloseBrace, OpenBracket, CloseBracket, Comma, Stop, Integer, Bare, Quoted, Characters, Pid}
 use Rattle.tn_text.specs.declared.lexer.Token as code

@@ -1,5 +1,5 @@
 -- The lines of differences, one after another, and the marks of frames.
-use Rattle.std.proofs.Common.{◌≡◌, ◌∙◌, ℕ, suc, Bool, true, false, ◌&&◌, ◌||◌, Some, None, not, option_to_list, Option, is_some, List, [], ◌∷◌, ◌++◌, map, refl, sym, ap, if◌then◌else◌}
+use Rattle.std.proofs.Common.{◌≡◌, ◌∙◌, ℕ, suc, Bool, true, false, ◌&&◌, ◌||◌, Some, None, not, option_to_list, Option, is_some, List, [], ◌∷◌, ◌++◌, map, refl, sym, ap, append-nil, if◌then◌else◌}
 use Rattle.def_spec.specs.Expressions.{Dialect, Context, Effect}
 use Rattle.def_session.specs.State.{Session}
 use Rattle.def_session.specs.Session.{is_marked_for_exceptions}
@@ -14,9 +14,10 @@ use Rattle.tn_spec.specs.declared.func.Dialect as func
 use Rattle.tn_action.specs.Views.{context_seen, effect_seen}
 use Rattle.tn_action.specs.declared.context.Context as action
 use Rattle.tn_action.specs.declared.effect.Effect as action_effect
-use Rattle.tn_explain.specs.ClauseDifferences.{AreOfClause, lines_with}
+use Rattle.tn_running_node.specs.ClauseDifferences.{AreOfClause}
+use Rattle.tn_explain.specs.ClauseDifferences.{lines_with}
 use Rattle.tn_explain.specs.LineParts.{difference_lines_of}
-use Rattle.tn_explain.specs.declared.clause_differences.ClauseDifferences.{ClauseDifferences}
+use Rattle.tn_running_node.specs.declared.clause.ClauseDifferences.{ClauseDifferences}
 use Rattle.tn_explain.specs.LineParts.{differs_where}
 use Rattle.def_term.specs.Names.{Name}
 use Rattle.def_term.specs.Tree.{Tree}
@@ -24,9 +25,9 @@ use Rattle.def_node.specs.Event.{Event, sent, received, called, returned, raised
 use Rattle.def_outlook.specs.Outlook.{Outlook}
 use Rattle.def_session.specs.State.{live}
 use Rattle.def_session.specs.Session.{reported_in, event_reported}
-use Rattle.def_explain.specs.Accounts.{differs_uncounted}
-use Rattle.def_explain.specs.Differences.{catches_error, reports_attempt, raises_noproc, reports_later, adds_calls, reports_exceptions, step_differs, step_differences}
-use Rattle.tn_explain.specs.LineParts.{step_where}
+use Rattle.def_explain.specs.Accounts.{differs_uncounted, difference_lines}
+use Rattle.def_explain.specs.Differences.{catches_error, reports_attempt, raises_noproc, reports_later, adds_calls, reports_exceptions, step_differs, step_differences, event_difference}
+use Rattle.tn_explain.specs.LineParts.{step_where, both_of}
 use Rattle.tn_explain.specs.Lines.{lines_text}
 use Rattle.tn_explain.specs.StepDifferences.{one_before, step_differences_seen, is_reported_later, AreBefore, AreAfterEvent}
 use Rattle.tn_explain.specs.declared.step_differences.StepDifferences.{StepDifferences}
@@ -141,3 +142,22 @@ all_known s l e reported d f phase is before after =
 pub some-mapped : {X Y : Type 0} (f : X → Y) (o : Option X) → is_some (option_map f o) ≡ is_some o
 some-mapped f None = refl
 some-mapped f (Some x) = refl
+
+-- nothing is otherwise at the end of an event by which no process inherits flags
+no-difference : (s : Session) (e : Event) → both_of e ≡ None → event_difference s e ≡ None
+no-difference s (spawned child parent f args) h = absurd (cc h)
+no-difference s (sent p t to alive) h = refl
+no-difference s (received p sender t) h = refl
+no-difference s (called p c) h = refl
+no-difference s (returned p f t depth) h = refl
+no-difference s (raised p f c t depth) h = refl
+no-difference s (spawning p child f args) h = refl
+no-difference s (exited p r) h = refl
+no-difference s (linked p q) h = refl
+no-difference s (unlinked p q) h = refl
+no-difference s (getting_linked p q) h = refl
+no-difference s (getting_unlinked p q) h = refl
+
+pub no_difference_at_end : (n : Name) (s : Session) (e : Event) (text : List ℕ) → both_of e ≡ None → text ≡ text ++ lines_text n (difference_lines s e)
+unfolding lines_text
+no_difference_at_end n s e text h = sym (ap (λ x. text ++ lines_text n (map differs (option_to_list x))) (no-difference s e h) ∙ append-nil text)

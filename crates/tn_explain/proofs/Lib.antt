@@ -12,12 +12,10 @@ pub mod Picks
 pub mod ItemTexts
 pub mod BeforePicks
 pub mod DifferenceLines
-pub mod Comparisons
-pub mod EvaluationDifferences
-pub mod SessionDifferences
 pub mod NoteCounts
 pub mod NodeFlags
 pub mod NodeNotes
+pub mod NodeMoveTexts
 pub mod CommandReasons
 mod CommandDifferences
 pub mod CommandStarts

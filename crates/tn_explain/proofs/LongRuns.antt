@@ -2,7 +2,7 @@
 use Rattle.std.proofs.Common.{◌≡◌, ℕ, List, Option, Some, None, refl}
 use Rattle.std.specs.Option.{option_map}
 use Rattle.def_script.specs.Program.{Program}
-use Rattle.def_explain.specs.NodeMoves as definition
+use Rattle.def_running_node.specs.NodeNotes as definition
 use Rattle.def_explain.specs.Remarks as remarks
 use Rattle.tn_run.specs.Answers.{schedule_seen, IsLongerRun}
 use Rattle.tn_run.specs.Jobs.{GivesMore}

@@ -1,10 +1,10 @@
 -- That no function matches, and which was probably meant.
-use Rattle.std.proofs.Common.{◌≡◌, ◌∙◌, ℕ, ◌==◌, Bool, true, if◌then◌else◌, List, Option, Some, None, sym, ap}
+use Rattle.std.proofs.Common.{◌≡◌, ◌∙◌, ◌==◌, Bool, true, if◌then◌else◌, List, Option, Some, None, sym, ap}
 use Rattle.def_term.specs.Names.{Mfa}
 use Rattle.def_script.specs.Exports.{Exports}
 use Rattle.def_session.specs.Settings.{FunctionPattern}
 use Rattle.def_session.specs.Commands.{matching_count}
-use Rattle.def_explain.specs.CommandReasons.{CommandReason, no_match, no_exported_match, any_setting, no_match_reason, match_reason}
+use Rattle.def_explain.specs.CommandReasons.{no_match, no_exported_match, any_setting, no_match_reason, match_reason}
 use Rattle.def_explain.specs.NearestFunctions.{nearest_function}
 
 -- the reason of a command about these functions, of which none is there

@@ -10,14 +10,15 @@ use Rattle.def_run.proofs.Replay.{pick_kept, moves_bounded}
 use Rattle.def_run.specs.History.{NamedSession, all_after, all_after_items, named_sessions}
 use Rattle.def_explain.specs.Runs.{session_lines, shows, makes, made_by_all, entries_of_move}
 use Rattle.def_explain.proofs.AccountPicks.{entries_from, entries_by_picks}
-use Rattle.def_explain.specs.RunTexts.{Selection, selected_text}
+use Rattle.def_explain.specs.RunTexts.{Filter, account_text}
 use Rattle.tn_trace.specs.Observers.{IsNextMove, SeesMove}
 use Rattle.tn_trace.specs.Follows.{AddsEach, AddsFrom}
 use Rattle.tn_trace.specs.declared.journal.JournalEntry.{JournalEntry}
 use Rattle.tn_trace.proofs.Moves.{place_more, events_more, moves_more}
+use Rattle.tn_running_node.specs.NodeMoves.{outlook_after}
 use Rattle.tn_explain.specs.Filters.{selection_seen, filtered_text}
 use Rattle.tn_explain.specs.NamedSessions.{AreNamedSessions}
-use Rattle.tn_explain.specs.Explainers.{sessions_after, outlook_after, HasExplained, entries_of_turn, text_of_pick, AddsExplanation}
+use Rattle.tn_explain.specs.Explainers.{sessions_after, HasExplained, entries_of_turn, text_of_pick, AddsExplanation}
 use Rattle.tn_explain.specs.declared.explainer.Explainer.{Explainer}
 use Rattle.tn_explain.proofs.MoveTexts.{text_of_next}
 
@@ -48,7 +49,7 @@ pub move_explained : {A : Type 0} (p : Program) (picks : List ℕ) (entry : Jour
 move_explained p picks entry shown l old new text text' next same sessions filter written =
     let o : Exports = exports_of p in
     let ss : List NamedSession = sessions_after p picks in
-    let a : Selection = selection_seen old.selection in
+    let a : Filter = selection_seen old.selection in
     let k : ℕ = length (moves p picks) in
     let m : Outlook = outlook_after p picks entry.pick in
     let number : entry.number ≡ suc k = next.numbered ∙ sym (ap (λ js. suc (length js)) next.all) in
@@ -66,7 +67,7 @@ move_explained p picks entry shown l old new text text' next same sessions filte
 -- ---- all picks
 
 -- what is written of a turn, and then of the picks after it
-turn_text : (p : Program) (a : Selection) (l : Outlook) (k j pick : ℕ) (ss : List NamedSession) (t : PickStep) (rest : List ℕ) (b : Bool) → t.moved ≡ b → (t.moved ≡ false → t.shown ≡ []) → j ≡ (if b then suc k else k)
+turn_text : (p : Program) (a : Filter) (l : Outlook) (k j pick : ℕ) (ss : List NamedSession) (t : PickStep) (rest : List ℕ) (b : Bool) → t.moved ≡ b → (t.moved ≡ false → t.shown ≡ []) → j ≡ (if b then suc k else k)
     → filtered_text a k (if b then entries_of_move (exports_of p) l (suc k) pick ss t.shown ++ entries_from (exports_of p) p.functions t.after (suc k) (all_after_items (exports_of p) ss t.shown) rest else entries_from (exports_of p) p.functions t.after k ss rest)
     ≡ filtered_text a (suc k) (if b then entries_of_move (exports_of p) l (suc k) pick ss t.shown else []) ++ filtered_text a j (entries_from (exports_of p) p.functions t.after j (all_after_items (exports_of p) ss t.shown) rest)
 turn_text p a l k j pick ss t rest true e none count =
@@ -77,7 +78,7 @@ turn_text p a l k j pick ss t rest false e none count =
     ∙ ap (λ n. filtered_text a n (entries_from (exports_of p) p.functions t.after n (all_after_items (exports_of p) ss t.shown) rest)) (sym count)
 
 -- what is written after these picks
-abbrev pub later_text : Program → Selection → List ℕ → List NamedSession → List ℕ → List ℕ
+abbrev pub later_text : Program → Filter → List ℕ → List NamedSession → List ℕ → List ℕ
 later_text p a picks ss rest = let k : ℕ = length (moves p picks) in filtered_text a k (entries_from (exports_of p) p.functions (run_state_of p picks) k ss rest)
 
 counted_more : (p : Program) (picks : List ℕ) (pick : ℕ) (b : Bool) → (pick_step_after p picks pick).moved ≡ b → length (moves p (picks ++ pick ∷ [])) ≡ (if b then suc (length (moves p picks)) else length (moves p picks))
@@ -85,7 +86,7 @@ counted_more p picks pick true e =
     ap length (moves_more p picks pick ∙ ap (λ b. moves p picks ++ (if b then pick ∷ [] else [])) e) ∙ length-append (moves p picks) (pick ∷ []) ∙ add-one (length (moves p picks))
 counted_more p picks pick false e = ap length (moves_more p picks pick ∙ ap (λ b. moves p picks ++ (if b then pick ∷ [] else [])) e ∙ append-nil (moves p picks))
 
-later_more : (p : Program) (a : Selection) (picks : List ℕ) (ss : List NamedSession) (pick : ℕ) (rest : List ℕ)
+later_more : (p : Program) (a : Filter) (picks : List ℕ) (ss : List NamedSession) (pick : ℕ) (rest : List ℕ)
     → later_text p a picks ss (pick ∷ rest)
     ≡ filtered_text a (suc (length (moves p picks))) (entries_of_turn p (outlook_after p picks pick) (length (moves p picks)) pick ss (pick_step_after p picks pick)) ++ later_text p a (picks ++ pick ∷ []) (all_after_items (exports_of p) ss (pick_step_after p picks pick).shown) rest
 later_more p a picks ss pick rest =
@@ -100,7 +101,7 @@ explained : {A : Type 0} (p : Program) (more picks : List ℕ) (old new : Explai
     → text'.items ≡ text.items ++ later_text p (selection_seen old.selection) picks (sessions_after p picks) more
 explained p [] picks old new text text' h = ap (λ (v : Vec _ _). v.items) h.1 ∙ sym (append-nil text.items)
 explained p (pick ∷ more) picks old new text text' h =
-    let a : Selection = selection_seen old.selection in
+    let a : Filter = selection_seen old.selection in
     let later : List ℕ = picks ++ pick ∷ [] in
     let here : List ℕ = text_of_pick a p picks pick in
     explained p more later h.0 new h.1 text' h.3
@@ -129,19 +130,19 @@ entries_again o fs q k ss (pick ∷ picks) =
     turn_again o fs q k ss pick (moves_from fs t.after picks) picks t.moved refl (entries_again o fs t.after (suc k) (all_after_items o ss t.shown) picks) (entries_again o fs t.after k ss picks)
 
 -- the picks that moved give the account
-account_again : (a : Selection) (p : Program) (picks : List ℕ) → selected_text a p (moves p picks) ≡ selected_text a p picks
+account_again : (a : Filter) (p : Program) (picks : List ℕ) → account_text a p (moves p picks) ≡ account_text a p picks
 account_again a p picks =
     ap (filtered_text a 0) (entries_by_picks p (moves p picks) ∙ entries_again (exports_of p) p.functions (start p) 0 (named_sessions p) picks ∙ sym (entries_by_picks p picks))
 
 -- what the explainer added of a whole run is its account
 pub run_explained : {A : Type 0} (p : Program) (picks : List ℕ) (old new : Explainer A) (text text' : Vec ℕ A) → AddsFrom AddsExplanation p (take 65536 []) (take 65536 (moves p picks)) old new text text'
-    → text'.items ≡ text.items ++ selected_text (selection_seen old.selection) p picks
+    → text'.items ≡ text.items ++ account_text (selection_seen old.selection) p picks
 run_explained p picks old new text text' h =
     let none : take 65536 [] ≡ [] = take_all 65536 [] (nothing_below 65536) in
     let all : moves p picks ≡ h.more = sym (take_all 65536 (moves p picks) (moves_bounded p picks)) ∙ h.longer ∙ ap (λ js. js ++ h.more) none in
     explained p h.more [] old new text text' (subst (λ js. AddsEach AddsExplanation p js h.more old new text text') none h.added)
     ∙ ap (λ es. text.items ++ filtered_text (selection_seen old.selection) 0 es) (sym (entries_by_picks p h.more))
-    ∙ ap (λ js. text.items ++ selected_text (selection_seen old.selection) p js) (sym all) ∙ ap (λ l. text.items ++ l) (account_again (selection_seen old.selection) p picks)
+    ∙ ap (λ js. text.items ++ account_text (selection_seen old.selection) p js) (sym all) ∙ ap (λ l. text.items ++ l) (account_again (selection_seen old.selection) p picks)
   where
     nothing_below : (n : ℕ) → 0 ≤ n
     nothing_below n = omega arith

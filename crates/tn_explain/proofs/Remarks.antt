@@ -1,8 +1,7 @@
 -- What is remarked of a run, session by session, move by move, and its lines.
-use Rattle.std.proofs.Common.{◌≡◌, ◌∙◌, ℕ, zero, suc, ◌+◌, ◌-◌, ◌<◌, ◌≤◌, Bool, true, false, ◌||◌, if◌then◌else◌, List, [], ◌∷◌, ◌++◌, map, take, drop, length, get_or, flat_map, slice_get, Option, Some, None, refl, sym, ap, ap₂, subst, append-nil, append_assoc, add-one, arith}
+use Rattle.std.proofs.Common.{◌≡◌, ◌∙◌, ℕ, zero, suc, ◌+◌, ◌-◌, ◌<◌, ◌≤◌, Bool, true, false, if◌then◌else◌, List, [], ◌∷◌, ◌++◌, map, take, drop, length, get_or, flat_map, slice_get, Option, Some, None, refl, sym, ap, ap₂, subst, append-nil, append_assoc, add-one, arith}
 use Rattle.std.proofs.lemmas.List.{take_all, map-append}
-use Rattle.std.specs.List.{list_any}
-use Rattle.std.specs.Option.{option_map, is_some}
+use Rattle.std.specs.Option.{option_map}
 use Rattle.std.specs.declared.vec.Vec.{Vec}
 use Rattle.std.specs.Str.{bytes_eq}
 use Rattle.def_term.specs.Alive.{Alive}
@@ -10,9 +9,9 @@ use Rattle.def_term.specs.Names.{Name}
 use Rattle.def_script.specs.Program.{Program, Command, session_of}
 use Rattle.def_script.specs.Exports.{Exports, exports_of}
 use Rattle.def_node.specs.Event.{Event}
-use Rattle.def_session.specs.State.{Session, absent_session}
-use Rattle.def_run.specs.Run.{HistoryItem, event_item, command_item, PickStep, moves, run_state_of, pick_step_after, start}
-use Rattle.def_run.specs.History.{NamedSession, session_in, all_after_items, named_sessions, moments_from}
+use Rattle.def_session.specs.State.{absent_session}
+use Rattle.def_run.specs.Run.{HistoryItem, event_item, command_item, PickStep, moves, run_state_of, pick_step_after}
+use Rattle.def_run.specs.History.{NamedSession, session_in, all_after_items, moments_from}
 use Rattle.def_run.proofs.Replay.{moves_bounded}
 use Rattle.def_explain.specs.CommandReasons.{CommandReason, command_reason}
 use Rattle.def_explain.specs.Remarks.{reasons_in, run_reasons, remarks_after, remarks, is_some_remark, has_remarks, has_reason_line, reply_and_reason}

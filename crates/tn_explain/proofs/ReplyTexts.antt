@@ -1,5 +1,5 @@
 -- The texts of the replies of commands that are refused or match no function.
-use Rattle.std.proofs.Common.{◌≡◌, ℕ, List, ◌++◌, codes, refl, ap, append-nil}
+use Rattle.std.proofs.Common.{◌≡◌, ◌++◌, codes, refl, ap, append-nil}
 use Rattle.std.specs.Fmt.{digits}
 use Rattle.def_term.specs.Names.{Name}
 use Rattle.def_term.specs.Text.{w, atom_text, is_written_bare}

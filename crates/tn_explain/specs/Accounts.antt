@@ -6,12 +6,12 @@ use Rattle.def_script.specs.Program.{Program}
 use Rattle.def_script.specs.Rules.{is_created}
 use Rattle.def_script.specs.Script.{Refusal}
 use Rattle.def_run.specs.Picks.{SpellsPicks}
-use Rattle.def_explain.specs.RunTexts.{Filter, account_text}
+use Rattle.def_running_node.specs.NodeNotes.{Question, question_text}
 use Rattle.tn_refusal.specs.Refusals.{refusal_of}
 use Rattle.tn_run.specs.Answers.{by_picks, HasPicks}
 use Rattle.tn_run.specs.Jobs.{JobView, failed_end}
 use Rattle.tn_run.specs.declared.fault.RunFault.{RunFault}
-use Rattle.tn_explain.specs.Filters.{filter_seen}
+use Rattle.tn_explain.specs.Filters.{question_seen}
 use Rattle.tn_explain.specs.declared.request.ExplainRequest.{ExplainRequest}
 use Rattle.tn_explain.specs.declared.request.ExplainOutcome.{ExplainOutcome}
 use Rattle.tn_explain.specs.declared.request.ExplainOutcome.TheVariants.{Account, Refused, NoSession, NoMove, NoDifference}
@@ -27,22 +27,22 @@ LacksAskedSession None p = ⊥
 LacksAskedSession (Some n) p = is_created p.commands n ≡ false
 
 -- an account has a line at least where a move's number is given, or only moves are asked for that a node does otherwise
-abbrev pub asks_for_moves : Filter → Bool
-asks_for_moves a = a.node || is_some a.move
+abbrev pub asks_for_moves : Question → Bool
+asks_for_moves q = q.node || is_some q.filter.move
 
 -- what is reported of a program's run by these picks, and what is written
-abbrev pub IsAnswer : Program → List ℕ → Filter → ExplainOutcome → List ℕ → Type 0
-IsAnswer p picks a Account text = HasAskedSession a.session p × (asks_for_moves a ≡ true → text ≢ []) × (text ≡ account_text a p picks)
-IsAnswer p picks a NoSession text = LacksAskedSession a.session p × (text ≡ [])
-IsAnswer p picks a NoMove text = HasAskedSession a.session p × (a.node ≡ false) × (is_some a.move ≡ true) × (account_text a p picks ≡ []) × (text ≡ [])
-IsAnswer p picks a NoDifference text = HasAskedSession a.session p × (a.node ≡ true) × (account_text a p picks ≡ []) × (text ≡ [])
-IsAnswer p picks a (Refused r) text = ⊥
+abbrev pub IsAnswer : Program → List ℕ → Question → ExplainOutcome → List ℕ → Type 0
+IsAnswer p picks q Account text = HasAskedSession q.filter.session p × (asks_for_moves q ≡ true → text ≢ []) × (text ≡ question_text q p picks)
+IsAnswer p picks q NoSession text = LacksAskedSession q.filter.session p × (text ≡ [])
+IsAnswer p picks q NoMove text = HasAskedSession q.filter.session p × (q.node ≡ false) × (is_some q.filter.move ≡ true) × (question_text q p picks ≡ []) × (text ≡ [])
+IsAnswer p picks q NoDifference text = HasAskedSession q.filter.session p × (q.node ≡ true) × (question_text q p picks ≡ []) × (text ≡ [])
+IsAnswer p picks q (Refused r) text = ⊥
 
 -- the answer for the picks that a text spells
-pub record IsSpelledAnswer (spelled : List ℕ) (a : Filter) (p : Program) (reported : ExplainOutcome) (text : List ℕ) : Type 0 where
+pub record IsSpelledAnswer (spelled : List ℕ) (q : Question) (p : Program) (reported : ExplainOutcome) (text : List ℕ) : Type 0 where
   pub picks : List ℕ
   pub given : SpellsPicks spelled picks
-  pub answer : IsAnswer p picks a reported text
+  pub answer : IsAnswer p picks q reported text
 
 -- the refusal that an outcome is
 abbrev pub explain_refusal : ExplainOutcome → Option Refusal
@@ -63,7 +63,7 @@ is_account NoDifference = true
 -- the explanation that is asked for
 abbrev pub explain_by : ExplainRequest → JobView ExplainOutcome RunFault
 explain_by q = record {
-  of_program = IsSpelledAnswer q.picks.now (filter_seen q.filter);
+  of_program = IsSpelledAnswer q.picks.now (question_seen q.filter);
   refusal_in = explain_refusal;
   succeeds = is_account;
   has = λ outcome. Unit {0};

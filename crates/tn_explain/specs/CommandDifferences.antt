@@ -1,22 +1,19 @@
 -- What a node does otherwise by a command, of the code's functions and sessions.
-use Rattle.std.specs.Prelude.{◌≡◌, ℕ, Bool, true, false, not, ◌&&◌, if◌then◌else◌, List, drop, Option, Some, None, Ok, Err}
+use Rattle.std.specs.Prelude.{◌≡◌, ℕ, Bool, true, false, List, drop, Option}
 use Rattle.std.specs.List.{list_any}
 use Rattle.std.specs.Option.{option_map}
 use Rattle.def_term.specs.Alive.{Alive}
-use Rattle.def_term.specs.Names.{Mfa}
 use Rattle.def_term.specs.Tree.{Tree}
-use Rattle.def_script.specs.Program.{Command, mfa_of}
+use Rattle.def_script.specs.Program.{Command}
 use Rattle.def_spec.specs.Expressions.{for_calls}
-use Rattle.def_spec.specs.Reading.{Reads}
 use Rattle.def_session.specs.Settings.{Setting, has_among, setting_of, trace_pattern_of, options_of}
 use Rattle.def_session.specs.Settings as settings
 use Rattle.def_script.specs.Exports.{Exports}
-use Rattle.def_explain.specs.CommandReasons.{any_setting}
 use Rattle.def_session.specs.State as definition
 use Rattle.def_explain.specs.Differences.{Difference, leaves_other_setting, difference_where}
-use Rattle.def_explain.specs.CommandDifferences.{is_on, is_set_by_kind, is_set_otherwise, is_internal_and_set, taken_difference, read_difference, live_difference, command_difference}
+use Rattle.def_explain.specs.CommandDifferences.{is_set_otherwise, is_internal_and_set, taken_difference, read_difference, live_difference, command_difference}
 use Rattle.def_script.specs.Exports.{visible}
-use Rattle.tn_script.specs.Views.{function_of, functions_of}
+use Rattle.tn_script.specs.Views.{functions_of}
 use Rattle.tn_script.specs.declared.form.Function.{Function}
 use Rattle.tn_index.specs.Views.{function_pattern_seen}
 use Rattle.tn_index.specs.declared.function_setting.FunctionPattern.{FunctionPattern}
@@ -32,23 +29,6 @@ use Rattle.tn_explain.specs.CommandReasons.{OfFunctions}
 abbrev pub differences_seen : Option code.Difference → Option Difference
 differences_seen r = option_map difference_seen r
 
--- a function with its visibility
-abbrev pub visible_of : {A : Type 0} → Function A → Mfa × Bool
-visible_of f = (mfa_of (function_of f), (function_of f).exported)
-
--- of a setting and whether it is local: it is on, and of this kind
-abbrev pub is_on_by_parts : Bool → Option (Setting × Bool) → Bool
-is_on_by_parts local None = false
-is_on_by_parts local (Some k) = is_on k.0 && (if local then k.1 else not k.1)
-
--- the newest command about the function is of this kind, and doesn't disable it
-abbrev pub is_set_seen : {A : Type 0} → Look A → Function A → Bool → Bool
-is_set_seen l f local = is_set_by_kind (look_seen l).functions local (visible_of f)
-
--- the function is among those that a command about these matches
-abbrev pub is_among_seen : {A : Type 0} → FunctionPattern A → Function A → Bool → Bool
-is_among_seen covered f local = has_among (any_setting (function_pattern_seen covered) local) (mfa_of (function_of f)) (function_of f).exported
-
 -- a matching function has a setting of the other kind
 abbrev pub OneIsSetOtherwise : {A : Type 0} → Look A → List (Function A) → FunctionPattern A → Bool → Bool → Type 0
 OneIsSetOtherwise l functions covered local r = OfFunctions functions (λ o. r ≡ list_any (is_set_otherwise (look_seen l) (function_pattern_seen covered) local) o.functions)
@@ -63,11 +43,6 @@ set_otherwise_from l covered local functions i = list_any (is_set_otherwise (loo
 
 abbrev pub internal_and_set_from : {A : Type 0} → Look A → FunctionPattern A → List (Function A) → ℕ → Bool
 internal_and_set_from l covered functions i = list_any (is_internal_and_set (look_seen l) (function_pattern_seen covered)) (visible (functions_of (drop i functions)))
-
--- whether what is read doesn't disable functions; a fault is none
-abbrev pub on_where_read : Reads Setting → Option Bool
-on_where_read (Ok setting) = Some (is_on setting)
-on_where_read (Err e) = None
 
 -- by a command about these that is local or global, and disables them or doesn't
 abbrev pub difference_by : Exports → definition.Session → settings.FunctionPattern → (local on : Bool) → Option Difference

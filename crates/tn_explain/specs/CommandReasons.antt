@@ -1,5 +1,5 @@
 -- What the code's reasons why a command is refused stand for, and those of the code's sessions and functions.
-use Rattle.std.specs.Prelude.{◌≡◌, ℕ, ◌==◌, Bool, List, length, drop, filter, Option, Some, None}
+use Rattle.std.specs.Prelude.{◌≡◌, ℕ, ◌==◌, Bool, List, Option, Some, None}
 use Rattle.std.specs.Option.{option_map}
 use Rattle.std.specs.Borrow.{Bor}
 use Rattle.def_term.specs.Alive.{Alive}
@@ -8,7 +8,6 @@ use Rattle.def_term.specs.Tree.{Tree}
 use Rattle.def_script.specs.Program.{Command}
 use Rattle.def_script.specs.Exports.{Exports, visible}
 use Rattle.def_spec.specs.Reading.{SpecFault, badarg, unsupported}
-use Rattle.def_session.specs.Settings.{FunctionSetting, has_among}
 use Rattle.def_session.specs.State as definition
 use Rattle.def_session.specs.Commands.{matching_count}
 use Rattle.def_explain.specs.CommandReasons as reasons
@@ -75,10 +74,6 @@ fault_of_name (Some s) = unsupported s.now
 -- what holds of what sessions know of a program with these functions
 abbrev pub OfFunctions : {A : Type 0} → List (Function A) → (Exports → Type 0) → Type 0
 OfFunctions functions P = (o : Exports) → o.functions ≡ visible (functions_of functions) → P o
-
--- how many of the functions from that place on a command matches
-abbrev pub matches_from : {A : Type 0} → FunctionSetting → List (Function A) → ℕ → ℕ
-matches_from k functions i = length (filter (λ f. has_among k f.0 f.1) (visible (functions_of (drop i functions))))
 
 -- whether a command about these functions matches none
 abbrev pub MatchesNone : {A : Type 0} → List (Function A) → FunctionPattern A → Bool → Bool → Type 0

@@ -1,5 +1,5 @@
 -- What the code's evaluations stand for.
-use Rattle.std.specs.Prelude.{◌≡◌, ℕ, Bool, true, false, if◌then◌else◌, List, [], ◌∷◌, ◌++◌, map, Option, Some, None}
+use Rattle.std.specs.Prelude.{◌≡◌, ℕ, Bool, true, false, if◌then◌else◌, List, [], ◌∷◌, ◌++◌, Option, Some, None}
 use Rattle.std.specs.Option.{option_map}
 use Rattle.std.specs.declared.vec.Vec.{Vec}
 use Rattle.def_term.specs.Names.{Name}
@@ -9,18 +9,17 @@ use Rattle.def_session.specs.Settings.{Setting}
 use Rattle.def_session.specs.State.{MarkKind, Session}
 use Rattle.def_session.specs.Session.{context, mark_asked, effects_of, evaluated_by}
 use Rattle.def_explain.specs.Accounts.{Line, said, setting_lines}
-use Rattle.tn_term.specs.Views.{mfa_seen}
 use Rattle.tn_flags.specs.Views.{call_seen, event_of}
 use Rattle.tn_flags.specs.declared.event.Event as flags
 use Rattle.tn_flags.specs.declared.event.Call.{Call}
-use Rattle.tn_guard.specs.Views.{value_seen}
 use Rattle.tn_guard.specs.declared.value.Value.{Value}
 use Rattle.tn_action.specs.Views.{context_seen}
 use Rattle.tn_action.specs.declared.context.Context as action
 use Rattle.tn_session.specs.Looks.{look_seen}
 use Rattle.tn_session.specs.Views.{mark_kind_seen}
 use Rattle.tn_session.specs.declared.look.Look.{Look}
-use Rattle.tn_explain.specs.declared.actor.Actor.{Actor}
+use Rattle.tn_running_node.specs.declared.actor.Actor.{Actor}
+use Rattle.tn_running_node.specs.Evaluations.{context_on_values}
 use Rattle.tn_explain.specs.LineParts.{lines_before, lines_after}
 use Rattle.tn_explain.specs.Lines.{lines_text}
 use Rattle.tn_explain.specs.declared.clauses.Evaluation.{Evaluation}
@@ -65,10 +64,6 @@ lines_where effects_of why = if effects_of then [] else said why ∷ []
 
 abbrev pub GivesWhere : Name → Bool → List ℕ → List ℕ → List ℕ → Evaluation → Type 0
 GivesWhere n effects_of why old new r = GivesLines n (lines_where effects_of why) (effects_where effects_of) old new r
-
--- what a specification is evaluated in, for this process and on these values
-abbrev pub context_on_values : {A : Type 0} → Session → Actor A → List (Value A) → Context
-context_on_values s actor vs = context s actor.pid (map value_seen vs) (option_map (λ m. mfa_seen m.now) actor.caller)
 
 -- of this event
 abbrev pub IsEvaluationOf : Session → Event → Evaluation → Type 0

@@ -4,24 +4,25 @@ use Rattle.std.specs.Option.{option_map}
 use Rattle.def_run.specs.Run.{event_item, command_item}
 use Rattle.def_explain.specs.Runs.{AccountEntry, shows, shows_nothing}
 use Rattle.def_explain.specs.RunTexts as definition
-use Rattle.def_explain.specs.RunTexts.{Selection, selects, is_session, entry_text, filter_entries, selected_text, selection, account_text}
+use Rattle.def_explain.specs.RunTexts.{is_session, is_move, entry_text, filter_entries, account_text}
+use Rattle.def_running_node.specs.NodeNotes.{Question, question_text, node_account_text}
 use Rattle.tn_flags.specs.Views.{event_of, command_of}
 use Rattle.tn_flags.specs.declared.event.Event.{Event}
 use Rattle.tn_flags.specs.declared.command.Command.{Command}
 use Rattle.tn_program.specs.Views.{program_of}
 use Rattle.tn_program.specs.declared.parts.Program.{Program}
 use Rattle.tn_explain.specs.declared.filter.Filter.{Filter}
-use Rattle.tn_explain.specs.declared.selection.Selection as code
+use Rattle.tn_explain.specs.declared.selection.Selection.{Selection}
 use Rattle.tn_explain.specs.declared.step.Step.{Step}
 
-abbrev pub filter_seen : Filter → definition.Filter
-filter_seen a = record { session = option_map (λ s. s.now) a.session; move = a.move_number; node = a.node }
+abbrev pub selection_seen : Selection → definition.Filter
+selection_seen a = record { session = option_map (λ s. s.now) a.session; move = a.move_number }
 
-abbrev pub selection_seen : code.Selection → Selection
-selection_seen a = record { session = option_map (λ s. s.now) a.session; move = a.move_number; among = option_map (λ bs. bs.now) a.among }
+abbrev pub question_seen : Filter → Question
+question_seen a = record { filter = record { session = option_map (λ s. s.now) a.session; move = a.move_number }; node = a.node }
 
 -- the text of those of the entries that are selected, after the move of this number
-abbrev pub filtered_text : Selection → ℕ → List AccountEntry → List ℕ
+abbrev pub filtered_text : definition.Filter → ℕ → List AccountEntry → List ℕ
 filtered_text a k es = flat_map entry_text (filter_entries a k es)
 
 -- the same, after the move that is written of
@@ -42,12 +43,16 @@ text_of_nothing step = text_by step (shows_nothing step.number step.pick ∷ [])
 
 -- it is asked for what the session of this name makes of the move
 abbrev pub is_asked : Step → List ℕ → Bool
-is_asked step name = selects (selection_seen step.selection.now) step.number && is_session (selection_seen step.selection.now).session name
+is_asked step name = is_move (selection_seen step.selection.now).move step.number && is_session (selection_seen step.selection.now).session name
 
 -- what is selected of the program's run by these picks
-abbrev pub selected_of : {A : Type 0} → code.Selection → Program A → List ℕ → List ℕ
-selected_of a program picks = selected_text (selection_seen a) (program_of program) picks
+abbrev pub selected_of : {A : Type 0} → Selection → Program A → List ℕ → List ℕ
+selected_of a program picks = account_text (selection_seen a) (program_of program) picks
+
+-- the same of the moves alone that a running node does otherwise
+abbrev pub node_moves_of : {A : Type 0} → Selection → Program A → List ℕ → List ℕ
+node_moves_of a program picks = node_account_text (selection_seen a) (program_of program) picks
 
 -- the account of the program's run by these picks, as far as it is asked for
 abbrev pub account_of : {A : Type 0} → Filter → Program A → List ℕ → List ℕ
-account_of filter program picks = account_text (filter_seen filter) (program_of program) picks
+account_of filter program picks = question_text (question_seen filter) (program_of program) picks

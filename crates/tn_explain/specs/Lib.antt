@@ -9,7 +9,6 @@ pub mod Filters
 pub mod NamedSessions
 pub mod Explainers
 pub mod Accounts
-pub mod Comparisons
 pub mod Notes
 pub mod CommandReasons
 pub mod ClauseDifferences

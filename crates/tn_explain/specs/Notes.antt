@@ -3,8 +3,8 @@ use Rattle.std.specs.Prelude.{◌≡◌, ℕ, Bool, true, false, List, Option, S
 use Rattle.std.specs.Option.{option_map}
 use Rattle.def_script.specs.Program.{Program}
 use Rattle.def_script.specs.Script.{Refusal}
-use Rattle.def_explain.specs.NodeMoves as definition
-use Rattle.def_explain.specs.NodeMoves.{node_note}
+use Rattle.def_running_node.specs.NodeNotes as definition
+use Rattle.def_running_node.specs.NodeNotes.{node_note}
 use Rattle.def_explain.specs.Remarks.{has_remarks}
 use Rattle.tn_trace.specs.Transcripts.{TranscriptValue, transcript_of}
 use Rattle.tn_refusal.specs.Refusals.{refusal_of}

@@ -1,14 +1,15 @@
 // The account of a run.
 ghost use Rattle.std.specs.Prelude.{◌≡◌, ◌++◌, OnOk, OnErr};
 ghost use Rattle.tn_text.specs.Writes.{Grows};
-ghost use Rattle.tn_explain.specs.Filters.{account_of, selected_of};
+ghost use Rattle.tn_explain.specs.Filters.{account_of, selected_of, node_moves_of};
 
 use crate::explainer::Explainer;
 use crate::filter::Filter;
-use crate::node_moves::differing_moves;
+use crate::node_explainer::NodeExplainer;
 use crate::selection::Selection;
 use std::alloc::{AllocError, Allocator};
 use tn_program::Program;
+use tn_running_node::Comparison;
 use tn_trace::{JOURNAL, Run};
 
 /// Appends the text of what is selected; after an `Err` a part of it may stand there.
@@ -28,6 +29,29 @@ fn put_moves<A: Allocator + Copy>(
     Ok(())
 }
 
+/// Appends the text of what is selected of the moves that a running node does otherwise; after an `Err` a part of it
+/// may stand there.
+fn put_node_moves<A: Allocator + Copy>(
+    alloc: A,
+    program: &Program<A>,
+    picks: &[u32],
+    selection: &Selection<'_>,
+    out: &mut Vec<u8, A>,
+) -> Result<(), AllocError>
+    ensures ok { OnOk result (out.new.items ≡ out.old.items ++ node_moves_of selection.now program.now picks.now) }
+    ensures grows { Grows out.old.items out.new.items }
+{
+    let explainer = Explainer::new(alloc, program, selection)?;
+    let comparison = Comparison::new(alloc, program, selection.session)?;
+    let observer = NodeExplainer {
+        explainer,
+        comparison,
+    };
+    let mut run = Run::new(alloc, program, observer, JOURNAL)?;
+    run.take_all(program, picks, out)?;
+    Ok(())
+}
+
 /// Appends the account, where the filter may ask only for the moves that a running node does otherwise; after an
 /// `Err` a part of it may stand there.
 fn put_filtered<A: Allocator + Copy>(
@@ -40,28 +64,15 @@ fn put_filtered<A: Allocator + Copy>(
     ensures ok { OnOk result (out.new.items ≡ out.old.items ++ account_of filter.now program.now picks.now) }
     ensures grows { Grows out.old.items out.new.items }
 {
-    let Filter {
-        session,
-        move_number,
-        node,
-    } = *filter;
-    if !node {
-        let among = None;
-        let selection = Selection {
-            session,
-            move_number,
-            among,
-        };
-        return put_moves(alloc, program, picks, &selection, out);
-    }
-    let differs = differing_moves(alloc, program, picks)?;
-    let among = Some(differs.as_slice());
     let selection = Selection {
-        session,
-        move_number,
-        among,
+        session: filter.session,
+        move_number: filter.move_number,
     };
-    put_moves(alloc, program, picks, &selection, out)
+    if filter.node {
+        put_node_moves(alloc, program, picks, &selection, out)
+    } else {
+        put_moves(alloc, program, picks, &selection, out)
+    }
 }
 
 /// Appends the account of the program's run by these picks. After an `Err`, which is refused memory, the vector is

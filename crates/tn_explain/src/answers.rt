@@ -1,7 +1,7 @@
 // What is written of a run, where the session and the move that are asked for are there.
 ghost use Rattle.std.specs.Prelude.{IfOk};
 ghost use Rattle.tn_program.specs.Views.{program_of};
-ghost use Rattle.tn_explain.specs.Filters.{filter_seen};
+ghost use Rattle.tn_explain.specs.Filters.{question_seen};
 ghost use Rattle.tn_explain.specs.Accounts.{IsAnswer};
 
 use crate::account::put_account;
@@ -23,7 +23,7 @@ pub fn account_of<A: Allocator + Copy>(
     picks: &[u32],
     filter: &Filter<'_>,
 ) -> Result<(ExplainOutcome, Vec<u8, A>), AllocError>
-    ensures { IfOk result (λ r. IsAnswer (program_of program.now) picks.now (filter_seen filter.now) r.0 r.1.items) }
+    ensures { IfOk result (λ r. IsAnswer (program_of program.now) picks.now (question_seen filter.now) r.0 r.1.items) }
 {
     let mut out = Vec::new(alloc);
     if let Some(name) = filter.session {

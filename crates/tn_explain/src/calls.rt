@@ -1,5 +1,5 @@
 // What is known of a call before the session sees it.
-ghost use Rattle.std.specs.Prelude.{◌≡◌, ◌||◌, ◌++◌, IfOk, OnOk};
+ghost use Rattle.std.specs.Prelude.{◌≡◌, ◌++◌, IfOk, OnOk};
 ghost use Rattle.def_node.specs.Event.{called};
 ghost use Rattle.def_explain.specs.ReasonTexts.{mfa_text};
 ghost use Rattle.tn_term.specs.Views.{mfa_seen};
@@ -9,24 +9,17 @@ ghost use Rattle.tn_session.specs.Looks.{look_setting};
 ghost use Rattle.tn_explain.specs.Evaluations.{Evaluates, AnswersCall, Refuses};
 ghost use Rattle.tn_explain.specs.LineParts.{uncovered_lines};
 
-use crate::actor::Actor;
 use crate::clauses::Evaluation;
 use crate::line::{Lines, begin};
 use std::alloc::{AllocError, Allocator};
 use tn_flags::Call;
 use tn_guard::lent_values;
 use tn_index::Setting;
-use tn_session::{Look, NewestSetting};
+use tn_running_node::{Actor, concerns};
+use tn_session::Look;
 use tn_spec::Spec;
 use tn_term::{Mfa, Term};
 use tn_text::{write_atom, write_term};
-
-/// Whether a command is about a call: every call, or those that name the module.
-pub(crate) fn concerns<A: Allocator + Copy>(newest: &NewestSetting<'_, A>, call: &Call<A>) -> bool
-    ensures { result ≡ (newest.now.local || call.now.named) }
-{
-    newest.local || call.named
-}
 
 /// Appends `M:F/A`.
 fn put_function<A: Allocator>(mfa: &Mfa<A>, out: &mut Vec<u8, A>) -> Result<(), AllocError>

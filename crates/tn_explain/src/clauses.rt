@@ -10,12 +10,12 @@ ghost use Rattle.tn_explain.specs.Evaluations.{EvaluatesBy};
 ghost use Rattle.tn_explain.specs.LineParts.{failing_lines, firing_lines};
 ghost use Rattle.tn_explain.specs.Lines.{Adds};
 
-use crate::clause_differences::clause_differences;
 use crate::line::{Lines, begin};
 use bumpalo::Bump;
 use std::alloc::{AllocError, Allocator};
 use tn_action::{Context, Effect};
 use tn_index::Setting;
+use tn_running_node::clause_differences;
 use tn_session::{Kind, mark_for};
 use tn_spec::Spec;
 use tn_verdict::{Reason, Verdict, put_clause, put_effects, put_reason, verdict};

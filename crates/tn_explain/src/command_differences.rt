@@ -1,64 +1,21 @@
 // What a running node does otherwise by a function command.
-ghost use Rattle.std.specs.Prelude.{◌≡◌, IfOk};
-ghost use Rattle.def_spec.specs.Expressions.{for_calls};
-ghost use Rattle.def_session.specs.Settings.{setting_of};
+ghost use Rattle.std.specs.Prelude.{IfOk};
 ghost use Rattle.tn_term.specs.Views.{tree_of};
 ghost use Rattle.tn_flags.specs.Views.{command_of};
-ghost use Rattle.tn_session.specs.Looks.{newest_seen};
-ghost use Rattle.tn_explain.specs.CommandDifferences.{differences_seen, is_on_by_parts, is_set_seen};
-ghost use Rattle.tn_explain.specs.CommandDifferences.{OneIsSetOtherwise, OneIsInternalAndSet, on_where_read};
-ghost use Rattle.tn_explain.specs.CommandDifferences.{is_among_seen, HasPatternDifference};
+ghost use Rattle.tn_explain.specs.CommandDifferences.{differences_seen, HasPatternDifference};
+ghost use Rattle.tn_explain.specs.CommandDifferences.{OneIsSetOtherwise, OneIsInternalAndSet};
 ghost use Rattle.tn_explain.specs.CommandDifferences.{HasFunctionDifference, HasLiveDifference};
 ghost use Rattle.tn_explain.specs.CommandDifferences.{HasCommandDifference};
-ghost use Rattle.std.specs.Option.{option_map};
 
-use crate::command_reasons::{is_covered, is_empty_list};
 use crate::differences::difference_where;
 use std::alloc::{AllocError, Allocator};
 use tn_difference::Difference;
 use tn_flags::Command;
-use tn_index::{FunctionPattern, Setting};
-use tn_process::function_mfa;
+use tn_index::FunctionPattern;
+use tn_running_node::{is_among, is_covered, is_on_where_read, is_set};
 use tn_script::Function;
-use tn_session::{Look, NewestSetting, Session, options_of, pattern_of};
-use tn_spec::{Dialect, SpecFault, spec_of};
+use tn_session::{Look, Session, options_of, pattern_of};
 use tn_term::Term;
-
-/// Whether there is a setting, local or global, that doesn't disable its function.
-fn is_on<A: Allocator>(newest: &Option<NewestSetting<'_, A>>, local: bool) -> bool
-    ensures { result ≡ is_on_by_parts local (option_map newest_seen newest.now) }
-{
-    let Some(newest) = newest else {
-        return false;
-    };
-    match newest.setting {
-        Setting::Disabled => false,
-        Setting::Always | Setting::Specification(_) => {
-            if local { newest.local } else { !newest.local }
-        }
-    }
-}
-
-/// Whether the newest command about a function is of this kind, and doesn't disable it. An error is refused memory.
-fn is_set<A: Allocator + Copy>(
-    alloc: A,
-    look: &Look<'_, A>,
-    function: &Function<A>,
-    local: bool,
-) -> Result<bool, AllocError>
-    ensures { IfOk result (λ r. r ≡ is_set_seen look.now function.now local) }
-{
-    let mfa = function_mfa(alloc, function)?;
-    let newest = look.newest_among(&mfa, function.exported);
-    Ok(is_on(&newest, local))
-}
-
-/// Whether a function is among those that a command about these matches: exported ones alone, if it is global.
-fn is_among<A: Allocator>(covered: &FunctionPattern<A>, function: &Function<A>, local: bool) -> bool
-    ensures { result ≡ is_among_seen covered.now function.now local }
-{
-    is_covered(covered, function) && (local || function.exported)
-}
 
 /// Whether a function that a command about these matches has a setting of the other kind.
 fn is_set_otherwise<A: Allocator + Copy>(
@@ -95,26 +52,6 @@ fn is_internal_and_set<A: Allocator + Copy>(
         }
     }
     Ok(false)
-}
-
-/// Whether a Spec doesn't disable functions; None where it can't be read.
-fn is_on_where_read<A: Allocator + Copy>(
-    alloc: A,
-    term: &Term<A>,
-) -> Result<Option<bool>, AllocError>
-    ensures { IfOk result (λ r. r ≡ on_where_read (setting_of for_calls (tree_of term.now))) }
-{
-    if term.is_word("true") || is_empty_list(term) {
-        return Ok(Some(true));
-    }
-    if term.is_word("false") {
-        return Ok(Some(false));
-    }
-    match spec_of(alloc, term, Dialect::Call) {
-        Ok(_) => Ok(Some(true)),
-        Err(SpecFault::Badarg) | Err(SpecFault::Unsupported(_)) => Ok(None),
-        Err(SpecFault::TooLarge) | Err(SpecFault::OutOfMemory) => Err(AllocError),
-    }
 }
 
 /// What a node does otherwise by a function command about these, which disables them or doesn't.

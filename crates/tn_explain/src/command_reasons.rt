@@ -1,18 +1,12 @@
 // Why a command is refused, or matches no function.
-ghost use Rattle.std.specs.Prelude.{◌≡◌, ◌&&◌, IfOk};
-ghost use Rattle.std.specs.Str.{bytes_eq};
-ghost use Rattle.def_term.specs.Order.{same};
-ghost use Rattle.def_term.specs.Tree.{list, none, elements};
-ghost use Rattle.def_script.specs.Program.{mfa_of};
-ghost use Rattle.def_session.specs.Settings.{is_covered};
+ghost use Rattle.std.specs.Prelude.{◌≡◌, IfOk};
+ghost use Rattle.def_term.specs.Tree.{elements};
 ghost use Rattle.def_explain.specs.SpecReasons.{first_reason};
 ghost use Rattle.def_explain.specs.CommandReasons.{other_than_flag, flags_reason, life_reason, processes_reason};
 ghost use Rattle.def_explain.specs.CommandReasons.{setting_reason, absent_reason, destroyed_reason};
 ghost use Rattle.tn_term.specs.Views.{tree_of, trees_of};
 ghost use Rattle.tn_flags.specs.Views.{command_of};
 ghost use Rattle.tn_spec.specs.Views.{dialect_of};
-ghost use Rattle.tn_script.specs.Views.{function_of};
-ghost use Rattle.tn_index.specs.Views.{function_pattern_seen};
 ghost use Rattle.tn_session.specs.Looks.{look_seen};
 ghost use Rattle.tn_explain.specs.CommandReasons.{lent_terms, command_reasons_seen, MatchesNone, HasMatchReason};
 ghost use Rattle.tn_explain.specs.CommandReasons.{HasFunctionReason, HasLiveReason, HasCommandReason};
@@ -22,10 +16,11 @@ use std::alloc::{AllocError, Allocator};
 use tn_flags::{Command, flag_of};
 use tn_index::FunctionPattern;
 use tn_reason::{SpecReason, spec_reason};
+use tn_running_node::{is_among, is_empty_list};
 use tn_script::Function;
 use tn_session::{Look, Session, how_of, options_of, pattern_of, procs_of};
 use tn_spec::Dialect;
-use tn_term::{Atom, Term};
+use tn_term::Term;
 
 /// Why a command is refused, or matches no function.
 #[derive_where(Clone, Copy)]
@@ -118,23 +113,6 @@ fn processes_reason<'a, A: Allocator + Copy>(
     life_reason(look, procs)
 }
 
-/// Whether the list has no element.
-fn has_no_element<A: Allocator>(items: &Vec<Term<A>, A>) -> bool
-    ensures { result ≡ same (list (trees_of items.now.items)) (list none) }
-{
-    items.is_empty()
-}
-
-/// Whether the term is `[]`.
-pub(crate) fn is_empty_list<A: Allocator>(term: &Term<A>) -> bool
-    ensures { result ≡ same (tree_of term.now) (list none) }
-{
-    match term {
-        Term::List(items) => has_no_element(items),
-        _ => false,
-    }
-}
-
 /// Why a Spec can't be set; `true`, `[]` and `false` are no match specifications.
 fn setting_reason<'a, A: Allocator + Copy>(
     alloc: A,
@@ -155,28 +133,6 @@ fn setting_reason<'a, A: Allocator + Copy>(
     }
 }
 
-/// Whether the function is of this module and name.
-fn is_named<A: Allocator>(function: &Function<A>, module: &Atom<A>, name: &Atom<A>) -> bool
-    ensures { result ≡ (bytes_eq module.now function.now.module && bytes_eq name.now function.now.name) }
-{
-    module.text() == function.module.text() && name.text() == function.name.text()
-}
-
-/// Whether the function is one of these. Nothing is copied for it.
-pub(crate) fn is_covered<A: Allocator>(covered: &FunctionPattern<A>, function: &Function<A>) -> bool
-    ensures { result ≡ is_covered (function_pattern_seen covered.now) (mfa_of (function_of function.now)) }
-{
-    match covered {
-        FunctionPattern::One(one) => {
-            is_named(function, &one.module, &one.name)
-                && usize::from(one.arity) == function.params.len()
-        }
-        FunctionPattern::AnyArity { module, name } => is_named(function, module, name),
-        FunctionPattern::WholeModule(module) => module.text() == function.module.text(),
-        FunctionPattern::Every => true,
-    }
-}
-
 /// Whether a command about these functions, all of them or the exported ones alone, matches none.
 fn matches_none<A: Allocator>(
     functions: &[Function<A>],
@@ -186,7 +142,7 @@ fn matches_none<A: Allocator>(
     ensures { MatchesNone functions.now covered.now local result }
 {
     for function in functions {
-        if is_covered(covered, function) && (local || function.exported) {
+        if is_among(covered, function, local) {
             return false;
         }
     }

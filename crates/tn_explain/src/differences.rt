@@ -3,22 +3,22 @@ ghost use Rattle.std.specs.Prelude.{◌≡◌, ◌++◌, ◌∷◌, [], OnOk, No
 ghost use Rattle.std.specs.Option.{option_map};
 ghost use Rattle.def_session.specs.Session.{is_marked_for_exceptions};
 ghost use Rattle.def_explain.specs.Accounts.{differs};
-ghost use Rattle.def_explain.specs.Differences.{event_difference, difference_where};
+ghost use Rattle.def_explain.specs.Differences.{difference_where};
 ghost use Rattle.tn_flags.specs.Views.{event_of};
 ghost use Rattle.tn_session.specs.Looks.{look_seen};
 ghost use Rattle.tn_text.specs.Writes.{Grows};
 ghost use Rattle.tn_difference.specs.Differences.{difference_seen};
-ghost use Rattle.tn_explain.specs.LineParts.{both_of, differs_where, body_difference_line};
+ghost use Rattle.tn_explain.specs.LineParts.{differs_where, body_difference_line};
 ghost use Rattle.tn_explain.specs.ClauseDifferences.{lines_with};
 ghost use Rattle.tn_explain.specs.LineParts.{inherited_difference};
 ghost use Rattle.tn_explain.specs.Lines.{Adds};
 
-use crate::clause_differences::ClauseDifferences;
 use crate::line::{Lines, begin};
 use std::alloc::{AllocError, Allocator};
 use tn_action::{Context, Effect};
 use tn_difference::{Difference, body_differs, inherits_more, put_difference};
 use tn_flags::{Event, Flags};
+use tn_running_node::ClauseDifferences;
 use tn_session::{Kind, Look};
 use tn_spec::Dialect;
 
@@ -47,29 +47,6 @@ pub(crate) fn is_for_exceptions<A: Allocator + Copy>(
     match look.mark_of(pid, depth) {
         Some(Kind::Exceptions) => true,
         Some(Kind::Returns) | None => false,
-    }
-}
-
-/// What a node does otherwise at an event by which no process inherits flags.
-pub(crate) fn end_difference<A: Allocator + Copy>(
-    look: &Look<'_, A>,
-    event: &Event<A>,
-) -> Option<Difference>
-    ensures { both_of (event_of event.now) ≡ None →
-        option_map difference_seen result ≡ event_difference (look_seen look.now) (event_of event.now) }
-{
-    match event {
-        Event::Returned { pid, depth, .. } => {
-            let flags = look.flags_at(*pid);
-            let holds = look.is_marked(*pid, *depth) && flags.call && flags.silent;
-            difference_where(holds, Difference::ReportsEnd)
-        }
-        Event::Raised { pid, depth, .. } => {
-            let flags = look.flags_at(*pid);
-            let holds = is_for_exceptions(look, *pid, *depth) && flags.call && flags.silent;
-            difference_where(holds, Difference::ReportsEnd)
-        }
-        _ => None,
     }
 }
 

@@ -10,7 +10,6 @@ ghost use Rattle.tn_text.specs.Writes.{Grows};
 ghost use Rattle.tn_explain.specs.SessionLines.{Makes, MakesLive, ReportsLines};
 
 use crate::clauses::Evaluation;
-use crate::differences::end_difference;
 use crate::inheritance::both_of;
 use crate::limits::limit_at;
 use crate::line::{Lines, put_text};
@@ -79,7 +78,6 @@ impl<A: Allocator + Copy> Lines<'_, A> {
         let Some(look) = session.look() else {
             return Err(AllocError);
         };
-        let at_end = end_difference(&look, event);
         let before = StepDifferences::of(&look, outlook, event);
         let limit = limit_at(&look, outlook, event);
         let evaluation = self.put_before(&look, event, out)?;
@@ -91,8 +89,7 @@ impl<A: Allocator + Copy> Lines<'_, A> {
         self.put_reported(session, evaluation, event, &message, out)?;
         put_text(&behind, out)?;
         self.put_limit(limit, out)?;
-        self.put_step_differences(steps, out)?;
-        self.put_event_difference(at_end, out)
+        self.put_step_differences(steps, out)
     }
 
     /// Appends the message of an event that was evaluated, or why there is none: `silent` silences it, or else

@@ -39,7 +39,8 @@ impl<'a, A: Allocator + Copy> Explainer<'a, A> {
 impl<'a, A: Allocator + Copy> Observer<A> for Explainer<'a, A> {
     ghost use Rattle.tn_text.specs.Writes.{Grows};
     ghost use Rattle.tn_text.proofs.Growth.{grows_none, grows_on};
-    ghost use Rattle.tn_explain.specs.Explainers.{SeesAhead, HasExplained, AddsExplanation};
+    ghost use Rattle.tn_running_node.specs.NodeMoves.{SeesAhead};
+    ghost use Rattle.tn_explain.specs.Explainers.{HasExplained, AddsExplanation};
 
     type Output = Vec<u8, A>;
 

@@ -5,13 +5,13 @@ ghost use Rattle.tn_text.specs.Writes.{Grows};
 ghost use Rattle.tn_explain.specs.Evaluations.{Evaluates, AnswersOn};
 ghost use Rattle.tn_explain.specs.Events.{EachSend, receive_of};
 
-use crate::actor::Actor;
 use crate::clauses::Evaluation;
 use crate::line::Lines;
 use std::alloc::{AllocError, Allocator};
 use tn_action::Context;
 use tn_guard::{AtomConst, ListView, Value};
 use tn_index::Setting;
+use tn_running_node::Actor;
 use tn_session::Look;
 use tn_spec::Spec;
 use tn_term::Term;

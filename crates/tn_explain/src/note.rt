@@ -1,16 +1,16 @@
 // How many moves of a run a running node does otherwise.
 ghost use Rattle.std.specs.Prelude.{◌≡◌, IfOk};
 ghost use Rattle.std.specs.Option.{option_map};
-ghost use Rattle.def_explain.specs.NodeMoves.{note_of, node_note};
+ghost use Rattle.def_running_node.specs.NodeNotes.{note_of, node_note};
 ghost use Rattle.tn_program.specs.Views.{program_of};
 ghost use Rattle.tn_run.specs.Jobs.{OfScript};
 ghost use Rattle.tn_explain.specs.Notes.{note_seen};
 
 use crate::node_commands::can_differ;
-use crate::node_moves::differing_moves;
 use std::alloc::{AllocError, Allocator};
 use tn_program::Program;
 use tn_run::{Denial, accept};
+use tn_running_node::moves_that_differ;
 
 /// That a running node does some moves of a run otherwise.
 #[derive(Clone, Copy, Debug, PartialEq, Eq, Drop)]
@@ -64,7 +64,7 @@ pub fn node_note<A: Allocator + Copy>(
     if !can_differ(alloc, program)? {
         return Ok(None);
     }
-    let differs = differing_moves(alloc, program, picks)?;
+    let differs = moves_that_differ(alloc, program, picks)?;
     Ok(note_of(&differs))
 }
 

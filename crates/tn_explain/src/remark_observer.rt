@@ -9,7 +9,7 @@ ghost use Rattle.tn_explain.specs.RemarkedSessions.{SlotsHaveReason, has_some};
 
 use crate::command_reason_texts::reason_text;
 use crate::command_reasons::{CommandReason, absent_reason, command_reason};
-use crate::node_moves::NOTHING;
+use crate::selection::NOTHING;
 use crate::sessions::Sessions;
 use crate::slots::Order;
 use crate::step::Step;

@@ -1,5 +1,4 @@
 // The sessions of a run, and what they make of a move.
-use crate::session_differences::compare_each;
 use crate::slots::{Order, obey_each, tell_each};
 use crate::step::Step;
 use std::alloc::{AllocError, Allocator};
@@ -20,7 +19,6 @@ pub(crate) struct Sessions<A: Allocator> {
 impl<A: Allocator + Copy> Sessions<A> {
     ghost use Rattle.std.specs.Prelude.{IfOk};
     ghost use Rattle.tn_text.specs.Writes.{Grows};
-    ghost use Rattle.tn_explain.specs.Comparisons.{ComparesEvent, ComparesMove};
     ghost use Rattle.tn_explain.specs.NamedSessions.{AreUncreatedSessions, ExplainsEvent, ExplainsEvents};
     ghost use Rattle.tn_explain.specs.NamedSessions.{ExplainsMove, ExplainsCommand};
 
@@ -82,26 +80,6 @@ impl<A: Allocator + Copy> Sessions<A> {
         } else {
             self.tell_all(step, events, out)
         }
-    }
-
-    /// The sessions see an event: whether a node does otherwise in what one of them makes of it.
-    fn compare_event(&mut self, event: &Event<A>) -> Result<bool, AllocError>
-        ensures { IfOk result (ComparesEvent event.now self.old self.new) }
-    {
-        let differs = compare_each(self.alloc, &mut self.slots, event)?;
-        self.living = living_after(self.living, event);
-        Ok(differs)
-    }
-
-    /// The sessions see the events of a move, in order: whether a node does it otherwise.
-    pub fn compare(&mut self, events: &Vec<Event<A>, A>) -> Result<bool, AllocError>
-        ensures { IfOk result (ComparesMove events.now.items self.old self.new) }
-    {
-        let mut differs = false;
-        for event in events {
-            differs |= self.compare_event(event)?;
-        }
-        Ok(differs)
     }
 
     /// The session that a command names does it. After an `Err` a part of it may be appended.

@@ -1,13 +1,12 @@
 // What a running node does otherwise by the step at an event.
 ghost use Rattle.std.specs.Prelude.{◌≡◌, ◌∷◌, [], ◌&&◌, not, OnOk, None, map};
-ghost use Rattle.std.specs.Option.{is_some, option_map};
+ghost use Rattle.std.specs.Option.{is_some};
 ghost use Rattle.def_explain.specs.Accounts.{differs_uncounted};
-ghost use Rattle.def_explain.specs.Differences.{is_traced, is_attempt_by, step_differs};
+ghost use Rattle.def_explain.specs.Differences.{is_traced, step_differs};
 ghost use Rattle.def_explain.specs.Differences.{reports_attempt, catches_error, raises_noproc, adds_calls};
 ghost use Rattle.def_explain.specs.Differences.{reports_exceptions, has_marked_frame, has_mark_below};
 ghost use Rattle.def_term.specs.Alive.{is_alive};
 ghost use Rattle.tn_flags.specs.Views.{event_of};
-ghost use Rattle.tn_process.specs.Outlooks.{error_seen};
 ghost use Rattle.tn_node.specs.Outlooks.{outlook_seen};
 ghost use Rattle.tn_session.specs.Looks.{look_seen};
 ghost use Rattle.tn_text.specs.Writes.{Grows};
@@ -22,7 +21,7 @@ use std::alloc::{AllocError, Allocator};
 use tn_difference::Difference;
 use tn_flags::{Event, Flags};
 use tn_node::Outlook;
-use tn_process::RuntimeError;
+use tn_running_node::is_attempt_by;
 use tn_session::Look;
 
 /// The greatest depth of a frame.
@@ -56,26 +55,6 @@ fn raises_noproc<A: Allocator + Copy>(
     match event {
         Event::Linked { pid, other } => is_link_to_none(look, *pid, *other),
         _ => false,
-    }
-}
-
-/// Whether a process has the flag by which a node reports a step with this error.
-fn is_attempt_by<A: Allocator + Copy>(
-    look: &Look<'_, A>,
-    pid: u32,
-    error: Option<RuntimeError>,
-) -> bool
-    ensures { result ≡ is_attempt_by (look_seen look.now) pid (option_map error_seen error) }
-{
-    match error {
-        Some(RuntimeError::SendsToNoPid) => look.flags_at(pid).send,
-        Some(RuntimeError::LinksToNoPid) => look.flags_at(pid).procs,
-        Some(RuntimeError::UnlinksFromNoPid) => look.flags_at(pid).procs,
-        Some(RuntimeError::CallsNothing) => false,
-        Some(RuntimeError::BuildsPastLimit) => false,
-        Some(RuntimeError::CallsPastLimit) => false,
-        Some(RuntimeError::SpawnsPastLimit) => false,
-        None => false,
     }
 }
 

@@ -3,7 +3,7 @@ use Rattle.std.proofs.Common.{ℕ, ◌<◌, List, Option, None, if◌then◌else
 use Rattle.std.specs.Option.{option_map}
 use Rattle.def_script.specs.Program.{Program}
 use Rattle.def_run.specs.Listing.{program_output}
-use Rattle.def_explain.specs.NodeMoves as definition
+use Rattle.def_running_node.specs.NodeNotes as definition
 use Rattle.tn_trace.specs.Transcripts.{listing_bytes}
 use Rattle.tn_listing.proofs.OutputLengths.{output_has_the_listings}
 use Rattle.tn_run.specs.Jobs.{GivesMore}

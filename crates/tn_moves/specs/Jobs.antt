@@ -5,13 +5,12 @@ use Rattle.std.specs.Option.{option_map}
 use Rattle.def_script.specs.Program.{Program}
 use Rattle.def_script.specs.Script as script
 use Rattle.def_run.specs.Listing.{program_output}
-use Rattle.def_explain.specs.NodeMoves.{node_note}
-use Rattle.def_explain.specs.RunTexts.{Filter}
+use Rattle.def_running_node.specs.NodeNotes.{node_note, Question}
 use Rattle.tn_refusal.specs.Refusals.{refusal_of}
 use Rattle.tn_run.specs.Jobs.{JobView, failed_end}
 use Rattle.tn_run.specs.declared.fault.RunFault.{RunFault}
 use Rattle.tn_explain.specs.Accounts.{IsAnswer, explain_refusal, is_account}
-use Rattle.tn_explain.specs.Filters.{filter_seen}
+use Rattle.tn_explain.specs.Filters.{question_seen}
 use Rattle.tn_explain.specs.Notes.{note_seen}
 use Rattle.tn_explain.specs.declared.note.NodeNote.{NodeNote}
 use Rattle.tn_explain.specs.declared.request.ExplainOutcome.{ExplainOutcome}
@@ -69,15 +68,15 @@ run_by_moves job = record {
 }
 
 -- the answer for these picks
-abbrev pub IsExplainedBy : Program → List ℕ → Filter → MovesAccount → List ℕ → Type 0
-IsExplainedBy p picks filter (account.Explained outcome) text = IsAnswer p picks filter outcome text
-IsExplainedBy p picks filter (account.BadMoves r) text = ⊥
+abbrev pub IsExplainedBy : Program → List ℕ → Question → MovesAccount → List ℕ → Type 0
+IsExplainedBy p picks q (account.Explained outcome) text = IsAnswer p picks q outcome text
+IsExplainedBy p picks q (account.BadMoves r) text = ⊥
 
 -- the answer for the picks of the moves
 pub record IsAnswerByMoves (job : ExplainByMoves) (p : Program) (outcome : ExplainOutcome) (text : List ℕ) : Type 0 where
   pub picks : List ℕ
   pub given : AreMoves job.moves p picks
-  pub answer : IsAnswer p picks (filter_seen job.filter) outcome text
+  pub answer : IsAnswer p picks (question_seen job.filter) outcome text
 
 -- what is written by each outcome: nothing where the moves are refused
 abbrev pub IsAccountByMoves : ExplainByMoves → Program → MovesAccount → List ℕ → Type 0

@@ -2,7 +2,7 @@
 ghost use Rattle.std.specs.Prelude.{◌≡◌, IfOk};
 ghost use Rattle.tn_program.specs.Views.{program_of};
 ghost use Rattle.tn_explain.specs.Accounts.{is_account};
-ghost use Rattle.tn_explain.specs.Filters.{filter_seen};
+ghost use Rattle.tn_explain.specs.Filters.{question_seen};
 ghost use Rattle.tn_moves.specs.Jobs.{IsAccountByMoves, IsExplainedBy};
 
 use crate::moves::{Moves, picks_of_moves};
@@ -52,7 +52,7 @@ fn account_by<A: Allocator + Copy>(
     filter: &Filter<'_>,
 ) -> Result<(MovesAccount, Vec<u8, A>), AllocError>
     ensures { IfOk result (λ r.
-        IsExplainedBy (program_of program.now) picks.now (filter_seen filter.now) r.0 r.1.items) }
+        IsExplainedBy (program_of program.now) picks.now (question_seen filter.now) r.0 r.1.items) }
 {
     let (outcome, text) = account_of(alloc, program, picks, filter)?;
     Ok((MovesAccount::Explained(outcome), text))

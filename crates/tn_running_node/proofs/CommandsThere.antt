@@ -26,7 +26,7 @@ use Rattle.tn_index.specs.Views.{function_pattern_seen}
 use Rattle.tn_session.specs.Looks.{is_live}
 use Rattle.tn_session.specs.Sessions.{SessionValue, value_in, next_session, exports_in, with_new_process_flags}
 use Rattle.tn_session.specs.declared.session.Session as sessions
-use Rattle.tn_running_node.specs.Replies.{ChangeView, change_of_parts, is_on_where_read, function_change_seen, Changes, IsModelDone, IsDoneLive, IsProcessDoneThere, IsFunctionDoneThere}
+use Rattle.tn_running_node.specs.Replies.{ChangeView, change_of_parts, on_where_read, function_change_seen, Changes, IsModelDone, IsDoneLive, IsProcessDoneThere, IsFunctionDoneThere}
 use Rattle.tn_running_node.specs.Replies.{with_state, LiveBecomes, own_kind_from, internal_from, match_count_seen}
 use Rattle.tn_running_node.specs.declared.function_settings.FunctionChange.{FunctionChange}
 
@@ -117,14 +117,14 @@ node_read : (o : Exports) (s : Session) (name : Name) (mfa spec options : Tree) 
 node_read o s name mfa spec options alive =
     ap (λ k. function_by o s (trace_pattern_of mfa) (options_of options) (setting_of for_calls spec) k) (model_read o s name mfa spec options alive)
 
-unread : (o : Exports) (s : Session) (p : Option FunctionPattern) (q : Option Bool) (r : Reads Setting) → change_of_parts p q (is_on_where_read r) ≡ None
+unread : (o : Exports) (s : Session) (p : Option FunctionPattern) (q : Option Bool) (r : Reads Setting) → change_of_parts p q (on_where_read r) ≡ None
     → function_by o s p q r (read_done o s p q r) ≡ read_done o s p q r
 unread o s None q r e = refl
 unread o s (Some covered) None r e = refl
 unread o s (Some covered) (Some local) (Ok setting) e = absurd (cc)
 unread o s (Some covered) (Some local) (Err f) e = refl
 
-disables : (o : Exports) (s : Session) (p : Option FunctionPattern) (q : Option Bool) (r : Reads Setting) (x : ChangeView) → change_of_parts p q (is_on_where_read r) ≡ Some x → x.on ≡ false
+disables : (o : Exports) (s : Session) (p : Option FunctionPattern) (q : Option Bool) (r : Reads Setting) (x : ChangeView) → change_of_parts p q (on_where_read r) ≡ Some x → x.on ≡ false
     → function_by o s p q r (read_done o s p q r) ≡ (own_kind_disabled x.covered x.local o.functions s, number_term (matching_count o (any_setting x.covered x.local)))
 disables o s None q r x e b = absurd (cc)
 disables o s (Some covered) None r x e b = absurd (cc)
@@ -144,7 +144,7 @@ disables o s (Some covered) (Some local) (Ok (by k)) x e b =
     let no : true ≡ false = ap (λ (z : ChangeView). z.on) is ∙ b in
     absurd (cc)
 
-sets : (o : Exports) (s : Session) (p : Option FunctionPattern) (q : Option Bool) (r : Reads Setting) (x : ChangeView) → change_of_parts p q (is_on_where_read r) ≡ Some x → x.on ≡ true
+sets : (o : Exports) (s : Session) (p : Option FunctionPattern) (q : Option Bool) (r : Reads Setting) (x : ChangeView) → change_of_parts p q (on_where_read r) ≡ Some x → x.on ≡ true
     → function_by o s p q r (read_done o s p q r) ≡ read_done o (before_setting o s x.covered x.local) p q r
 sets o s None q r x e b = absurd (cc)
 sets o s (Some covered) None r x e b = absurd (cc)

@@ -20,7 +20,7 @@ use Rattle.tn_index.specs.Views.{function_pattern_seen}
 use Rattle.tn_index.specs.declared.function_setting.FunctionPattern.{FunctionPattern}
 use Rattle.tn_session.specs.Sessions.{SessionValue, value_in, exports_in}
 use Rattle.tn_session.specs.declared.session.Session as code
-use Rattle.tn_running_node.specs.Replies.{with_state, visible_there, LiveBecomes, IsAcceptedThere, DisablesOne, is_integer, own_kind_from, internal_from, match_count_from}
+use Rattle.tn_running_node.specs.Replies.{with_state, visible_of, LiveBecomes, RepliesNumber, DisablesOne, is_integer, own_kind_from, internal_from, matches_from}
 
 -- ---- one function
 
@@ -54,7 +54,7 @@ disabled_by o s c local f d fits alive counts = absurd d
 small_arity : (n : ℕ) → n ≤ 255 → nat_le n 255 ≡ true
 small_arity n h = grind (arith, nat_tests)
 
-pub one_disabled : {A : Type 0} (old new : code.Session A) (c : Command) (local : Bool) (f : Mfa × Bool) → DisablesOne local f.0 c → f.0.arity ≤ 255 → IsAcceptedThere c old new → LiveBecomes (with_disabled local f) old new
+pub one_disabled : {A : Type 0} (old new : code.Session A) (c : Command) (local : Bool) (f : Mfa × Bool) → DisablesOne local f.0 c → f.0.arity ≤ 255 → RepliesNumber c old new → LiveBecomes (with_disabled local f) old new
 one_disabled old new c local f d fits counted = λ v at alive.
     let r = counted (exports_in v 0) v at refl in
     r.0 ∙ ap (λ s. Some (with_state v s)) (disabled_by (exports_in v 0) v.state c local f d (small_arity f.0.arity fits) alive r.1)
@@ -66,14 +66,14 @@ at_place xs i x below is = drop-cons xs i x below ∙ ap (λ y. y ∷ drop (suc 
 
 pub own_kind_step : {A : Type 0} (covered : FunctionPattern A) (local : Bool) (fs : List (Function A)) (i : ℕ) (x : Function A) → i < length fs → x ≡ get_or fs i x → (s : Session)
     → own_kind_from covered local fs i s
-    ≡ own_kind_from covered local fs (i + 1) (if is_of_own_kind s (function_pattern_seen covered) local (visible_there x) then with_disabled local (visible_there x) s else s)
+    ≡ own_kind_from covered local fs (i + 1) (if is_of_own_kind s (function_pattern_seen covered) local (visible_of x) then with_disabled local (visible_of x) s else s)
 own_kind_step covered local fs i x below is s = ap (λ ys. own_kind_disabled (function_pattern_seen covered) local (visible (functions_of ys)) s) (at_place fs i x below is)
 
 pub own_kind_end : {A : Type 0} (covered : FunctionPattern A) (local : Bool) (fs : List (Function A)) (i : ℕ) → length fs ≤ i → (s : Session) → own_kind_from covered local fs i s ≡ s
 own_kind_end covered local fs i past s = ap (λ ys. own_kind_disabled (function_pattern_seen covered) local (visible (functions_of ys)) s) (drop_all i fs past)
 
 pub internal_step : {A : Type 0} (covered : FunctionPattern A) (fs : List (Function A)) (i : ℕ) (x : Function A) → i < length fs → x ≡ get_or fs i x → (s : Session)
-    → internal_from covered fs i s ≡ internal_from covered fs (i + 1) (if is_internal_and_set s (function_pattern_seen covered) (visible_there x) then with_disabled true (visible_there x) s else s)
+    → internal_from covered fs i s ≡ internal_from covered fs (i + 1) (if is_internal_and_set s (function_pattern_seen covered) (visible_of x) then with_disabled true (visible_of x) s else s)
 internal_step covered fs i x below is s = ap (λ ys. internal_disabled (function_pattern_seen covered) (visible (functions_of ys)) s) (at_place fs i x below is)
 
 pub internal_end : {A : Type 0} (covered : FunctionPattern A) (fs : List (Function A)) (i : ℕ) → length fs ≤ i → (s : Session) → internal_from covered fs i s ≡ s
@@ -126,20 +126,20 @@ and_left start now next whole rest after test local f step asks same so_far = λ
 one_kept : {Y : Type 0} (p : Y → Bool) (y : Y) (ys : List Y) (b : Bool) → b ≡ p y → length (filter p (y ∷ ys)) ≡ length (if b then y ∷ filter p ys else filter p ys)
 one_kept p y ys b e = ap (λ c. length (if c then y ∷ filter p ys else filter p ys)) (sym e)
 
-from_place : {A : Type 0} (k : FunctionSetting) (fs : List (Function A)) (i : ℕ) (x : Function A) (b : Bool) → i < length fs → x ≡ get_or fs i x → b ≡ has_among k (visible_there x).0 (visible_there x).1
-    → match_count_from k fs i
-    ≡ length (if b then visible_there x ∷ filter (λ f. has_among k f.0 f.1) (visible (functions_of (drop (i + 1) fs))) else filter (λ f. has_among k f.0 f.1) (visible (functions_of (drop (i + 1) fs))))
+from_place : {A : Type 0} (k : FunctionSetting) (fs : List (Function A)) (i : ℕ) (x : Function A) (b : Bool) → i < length fs → x ≡ get_or fs i x → b ≡ has_among k (visible_of x).0 (visible_of x).1
+    → matches_from k fs i
+    ≡ length (if b then visible_of x ∷ filter (λ f. has_among k f.0 f.1) (visible (functions_of (drop (i + 1) fs))) else filter (λ f. has_among k f.0 f.1) (visible (functions_of (drop (i + 1) fs))))
 from_place k fs i x b below is e =
     ap (λ ys. length (filter (λ f. has_among k f.0 f.1) (visible (functions_of ys)))) (at_place fs i x below is)
-    ∙ one_kept (λ f. has_among k f.0 f.1) (visible_there x) (visible (functions_of (drop (i + 1) fs))) b e
+    ∙ one_kept (λ f. has_among k f.0 f.1) (visible_of x) (visible (functions_of (drop (i + 1) fs))) b e
 
-pub one_matches : {A : Type 0} (k : FunctionSetting) (fs : List (Function A)) (i : ℕ) (x : Function A) → i < length fs → x ≡ get_or fs i x → true ≡ has_among k (visible_there x).0 (visible_there x).1
-    → match_count_from k fs i ≡ match_count_from k fs (i + 1) + 1
-one_matches k fs i x below is e = from_place k fs i x true below is e ∙ sym (add-one (match_count_from k fs (i + 1)))
+pub one_matches : {A : Type 0} (k : FunctionSetting) (fs : List (Function A)) (i : ℕ) (x : Function A) → i < length fs → x ≡ get_or fs i x → true ≡ has_among k (visible_of x).0 (visible_of x).1
+    → matches_from k fs i ≡ matches_from k fs (i + 1) + 1
+one_matches k fs i x below is e = from_place k fs i x true below is e ∙ sym (add-one (matches_from k fs (i + 1)))
 
-pub one_differs : {A : Type 0} (k : FunctionSetting) (fs : List (Function A)) (i : ℕ) (x : Function A) → i < length fs → x ≡ get_or fs i x → false ≡ has_among k (visible_there x).0 (visible_there x).1
-    → match_count_from k fs i ≡ match_count_from k fs (i + 1)
+pub one_differs : {A : Type 0} (k : FunctionSetting) (fs : List (Function A)) (i : ℕ) (x : Function A) → i < length fs → x ≡ get_or fs i x → false ≡ has_among k (visible_of x).0 (visible_of x).1
+    → matches_from k fs i ≡ matches_from k fs (i + 1)
 one_differs k fs i x below is e = from_place k fs i x false below is e
 
-pub none_left : {A : Type 0} (k : FunctionSetting) (fs : List (Function A)) (i : ℕ) → length fs ≤ i → match_count_from k fs i ≡ 0
+pub none_left : {A : Type 0} (k : FunctionSetting) (fs : List (Function A)) (i : ℕ) → length fs ≤ i → matches_from k fs i ≡ 0
 none_left k fs i past = ap (λ ys. length (filter (λ f. has_among k f.0 f.1) (visible (functions_of ys)))) (drop_all i fs past)

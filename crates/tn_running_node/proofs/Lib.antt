@@ -18,3 +18,8 @@ mod OwnLinkLines
 mod Moves
 mod FunctionDisables
 mod CommandsThere
+pub mod NodePicks
+mod MovesThatDiffer
+mod AbsentPairs
+mod CommandPairs
+mod CommandMoves

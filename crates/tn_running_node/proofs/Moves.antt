@@ -9,7 +9,7 @@ use Rattle.def_running_node.specs.NodeComparisons as definition
 use Rattle.def_running_node.specs.NodeComparisons.{at_pick, after_items, lines_of_items, after_pick, lines_of_move}
 use Rattle.tn_node.specs.Outlooks.{outlook_seen}
 use Rattle.tn_node.specs.declared.outlook.Outlook.{Outlook}
-use Rattle.tn_running_node.specs.Comparisons.{PutsNamed, IsComparison, BecomesComparison, own_link_lines}
+use Rattle.tn_running_node.specs.Comparisons.{IsComparison, BecomesComparison, own_link_lines}
 use Rattle.tn_running_node.specs.Views.{node_run_seen}
 use Rattle.tn_running_node.specs.declared.comparison.Comparison.{Comparison}
 use Rattle.tn_running_node.specs.declared.lines.LineKinds.{LineKinds}

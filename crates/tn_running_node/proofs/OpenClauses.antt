@@ -17,8 +17,8 @@ use Rattle.tn_spec.specs.declared.spec.Clause.{Clause}
 use Rattle.tn_action.specs.Views.{context_seen, effect_seen}
 use Rattle.tn_action.specs.declared.context.Context as action
 use Rattle.tn_action.specs.declared.effect.Effect as action_effect
-use Rattle.tn_running_node.specs.ClauseDifferences.{AreOfClauseThere, opens_with}
-use Rattle.tn_running_node.specs.declared.clause_differences.ClauseDifferences.{ClauseDifferences}
+use Rattle.tn_running_node.specs.ClauseDifferences.{AreOfClause, opens_with}
+use Rattle.tn_running_node.specs.declared.clause.ClauseDifferences.{ClauseDifferences}
 
 abbrev open-among : List Difference → Bool
 open-among xs = list_any is_open_difference xs
@@ -49,7 +49,7 @@ one_of_three d c es =
     ∙ open-where (f ignores_silent) ignores_silent [] refl))
 
 -- that of the order, of logic or of the list of no elements, or one of these
-pub one_of_clause : {A B : Type 0} (d : func.Dialect) (k : Clause A) (b : code.Bindings A B) (c : action.Context A) (es : List (action_effect.Effect A)) (these : ClauseDifferences) → AreOfClauseThere d k b c these
+pub one_of_clause : {A B : Type 0} (d : func.Dialect) (k : Clause A) (b : code.Bindings A B) (c : action.Context A) (es : List (action_effect.Effect A)) (these : ClauseDifferences) → AreOfClause d k b c these
     → opens_with these d c es ≡ list_any is_open_difference (clause_differences (dialect_of d) (clause_seen k) (bindings_seen b) (context_seen c) (map effect_seen es))
 one_of_clause d k b c es these h =
     let by_effects : List Difference = body_differences (dialect_of d) (context_seen c) (map effect_seen es) in

@@ -1,5 +1,5 @@
 -- The lines of a step that links a process with itself.
-use Rattle.std.proofs.Common.{◌≡◌, ◌∙◌, ℕ, false, List, [], ◌∷◌, ◌++◌, refl, sym, ap, subst, Option, Some, None}
+use Rattle.std.proofs.Common.{◌≡◌, ◌∙◌, ℕ, false, List, [], ◌∷◌, refl, sym, ap, subst, Some, None}
 use Rattle.std.specs.Prelude.{flat_map}
 use Rattle.std.specs.declared.vec.Vec.{Vec}
 use Rattle.def_node.specs.Event.{Event}
@@ -10,7 +10,7 @@ use Rattle.def_running_node.specs.NodeComparisons as definition
 use Rattle.def_running_node.specs.NodeComparisons.{NamedLine, lines_with_name, own_link_event, lines_of_own_link_in, lines_of_own_link}
 use Rattle.tn_node.specs.Outlooks.{outlook_seen}
 use Rattle.tn_node.specs.declared.outlook.Outlook.{Outlook}
-use Rattle.tn_running_node.specs.Comparisons.{PutsNamed, IsComparison, BecomesComparison, SawOwnLinkEach, own_lines_at, own_link_lines}
+use Rattle.tn_running_node.specs.Comparisons.{PutsNamed, IsComparison, BecomesComparison, SawOwnLinkEach, own_link_lines}
 use Rattle.tn_running_node.specs.Views.{node_run_seen}
 use Rattle.tn_running_node.specs.declared.comparison.Comparison.{Comparison}
 use Rattle.tn_running_node.specs.declared.lines.LineKinds.{LineKinds}

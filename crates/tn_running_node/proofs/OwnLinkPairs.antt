@@ -1,5 +1,5 @@
 -- A pair of sessions where a process links itself to itself.
-use Rattle.std.proofs.Common.{◌≡◌, ◌∙◌, ℕ, true, List, [], ◌&&◌, refl, sym, ap, subst, Option, Some, option_to_list}
+use Rattle.std.proofs.Common.{◌≡◌, ◌∙◌, ℕ, true, [], ◌&&◌, ap, subst, Some, option_to_list}
 use Rattle.std.specs.Option.{IsSomeAnd}
 use Rattle.std.specs.declared.vec.Vec.{Vec}
 use Rattle.def_term.specs.Alive.{Alive}
@@ -11,7 +11,6 @@ use Rattle.def_running_node.specs.NodeRuns.{lines_by_openness}
 use Rattle.def_running_node.specs.NodeComparisons as comparison
 use Rattle.def_running_node.specs.NodeComparisons.{texts, own_link_event}
 use Rattle.tn_session.specs.Looks.{is_live}
-use Rattle.tn_session.specs.Sessions.{value_in}
 use Rattle.tn_running_node.specs.Lines.{PutsBothLines}
 use Rattle.tn_running_node.specs.NodeSessions.{SeesHereFrom, SeesAsHere}
 use Rattle.tn_running_node.specs.Pairs.{IsThere, IsPair, SawOwnLink}

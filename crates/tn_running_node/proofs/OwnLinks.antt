@@ -1,5 +1,5 @@
 -- A link of a process with itself changes no session.
-use Rattle.std.proofs.Common.{◌≡◌, ◌∙◌, ℕ, Bool, true, false, if◌then◌else◌, Option, Some, None, [], refl, sym, ap}
+use Rattle.std.proofs.Common.{◌≡◌, ℕ, Bool, true, false, if◌then◌else◌, Some, None, [], refl}
 use Rattle.def_spec.specs.Flags.{procs_flag}
 use Rattle.def_node.specs.Event.{linked, unlinked}
 use Rattle.def_outlook.specs.Outlook.{OwnLink, links_itself, unlinks_itself}

@@ -1,5 +1,5 @@
 -- A session here and on a node, after an event.
-use Rattle.std.proofs.Common.{◌≡◌, ◌∙◌, ℕ, Bool, not, ◌&&◌, List, refl, sym, ap, subst, Option, Some, option_to_list}
+use Rattle.std.proofs.Common.{◌≡◌, ◌∙◌, ℕ, Bool, not, ◌&&◌, ap, subst, Option, Some, option_to_list}
 use Rattle.std.specs.Option.{IsSomeAnd}
 use Rattle.std.specs.declared.vec.Vec.{Vec}
 use Rattle.def_term.specs.Alive.{Alive}
@@ -9,7 +9,6 @@ use Rattle.def_outlook.specs.Outlook as outlook
 use Rattle.def_script.specs.Exports.{Exports}
 use Rattle.def_session.specs.State as definition
 use Rattle.def_session.specs.Session.{event_reported}
-use Rattle.def_running_node.specs.NodeSessions as node
 use Rattle.def_running_node.specs.NodeSessions.{marks_after, reported_there}
 use Rattle.def_running_node.specs.NodeRuns as runs
 use Rattle.def_running_node.specs.NodeRuns.{run_after, run_messages, lines_by_openness}
@@ -18,7 +17,7 @@ use Rattle.def_running_node.specs.NodeComparisons.{texts}
 use Rattle.tn_flags.specs.Views.{event_of}
 use Rattle.tn_flags.specs.declared.event.Event as flags
 use Rattle.tn_node.specs.Outlooks.{outlook_seen}
-use Rattle.tn_session.specs.Sessions.{SessionValue, value_in}
+use Rattle.tn_session.specs.Sessions.{value_in}
 use Rattle.tn_session.specs.declared.session.Session.{Session}
 use Rattle.tn_trace.specs.Slots.{IsSession}
 use Rattle.tn_running_node.specs.Lines.{PutsBothLines}

@@ -1,5 +1,5 @@
 -- A pair of sessions by its phase.
-use Rattle.std.proofs.Common.{◌≡◌, ◌∙◌, Bool, true, false, not, ◌&&◌, List, [], ◌++◌, refl, sym, ap, subst, append-nil, option_to_list, ℕ}
+use Rattle.std.proofs.Common.{◌≡◌, true, false, not, ◌&&◌, List, [], refl, sym, subst, append-nil, option_to_list, ℕ}
 use Rattle.std.specs.declared.vec.Vec.{Vec}
 use Rattle.def_term.specs.Alive.{Alive}
 use Rattle.def_node.specs.Event.{Event}

@@ -5,7 +5,7 @@ use Rattle.def_term.specs.Alive.{is_alive}
 use Rattle.def_node.specs.Event.{Event, sent, received, called, returned, raised, spawning, spawned, exited, linked, unlinked, getting_linked, getting_unlinked}
 use Rattle.def_outlook.specs.Outlook.{Outlook}
 use Rattle.def_running_node.specs.NodeRuns.{NodeRun, run_with, run_after, signals_with}
-use Rattle.tn_running_node.specs.RunChanges.{after_change, goes_on_at, determined_after}
+use Rattle.tn_running_node.specs.RunChanges.{after_change, determined_after}
 
 -- where it is determined as this says
 abbrev pub and_determined : NodeRun → Bool → NodeRun

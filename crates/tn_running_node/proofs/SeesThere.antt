@@ -1,11 +1,11 @@
 -- A session of a running node sees an event.
-use Rattle.std.proofs.Common.{◌≡◌, ◌∙◌, List, [], ◌++◌, map, refl, sym, ap, Option, Some, None, ℕ}
+use Rattle.std.proofs.Common.{◌≡◌, ◌∙◌, map, sym, ap, Option, Some, None, ℕ}
 use Rattle.std.specs.Option.{IsSomeAnd}
 use Rattle.std.specs.declared.vec.Vec.{Vec}
 use Rattle.def_term.specs.Text.{w}
 use Rattle.def_term.specs.Tree.{Tree}
 use Rattle.def_session.specs.State as definition
-use Rattle.def_running_node.specs.NodeSessions.{NodeMark, marks_after, reported_there}
+use Rattle.def_running_node.specs.NodeSessions.{marks_after, reported_there}
 use Rattle.tn_flags.specs.Views.{event_of}
 use Rattle.tn_flags.specs.declared.event.Event.{Event}
 use Rattle.tn_node.specs.Outlooks.{outlook_seen}

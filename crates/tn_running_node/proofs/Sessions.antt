@@ -1,5 +1,5 @@
 -- A session sees an event with other flags for new processes.
-use Rattle.std.proofs.Common.{◌≡◌, ◌∙◌, refl, sym, ap, subst, Option, Some, None}
+use Rattle.std.proofs.Common.{◌≡◌, ◌∙◌, sym, ap, subst, Option, Some, None}
 use Rattle.std.specs.Option.{option_map, IsSomeAnd}
 use Rattle.def_term.specs.Tree.{Tree}
 use Rattle.def_spec.specs.Flags.{Flags}

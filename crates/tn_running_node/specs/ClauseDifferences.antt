@@ -11,10 +11,10 @@ use Rattle.tn_action.specs.Views.{context_seen, effect_seen}
 use Rattle.tn_action.specs.declared.context.Context.{Context}
 use Rattle.tn_action.specs.declared.effect.Effect.{Effect}
 use Rattle.tn_difference.specs.Logic.{logic_of_clause}
-use Rattle.tn_running_node.specs.declared.clause_differences.ClauseDifferences.{ClauseDifferences}
+use Rattle.tn_running_node.specs.declared.clause.ClauseDifferences.{ClauseDifferences}
 
 -- they are those of the clause
-pub record AreOfClauseThere {A B : Type 0} (d : Dialect) (k : Clause A) (b : Bindings A B) (c : Context A) (these : ClauseDifferences) : Type 0 where
+pub record AreOfClause {A B : Type 0} (d : Dialect) (k : Clause A) (b : Bindings A B) (c : Context A) (these : ClauseDifferences) : Type 0 where
   pub order : these.order ≡ one_shows_order (clause_seen k).body
   pub logic : these.logic ≡ logic_of_clause d k b c
   pub list : these.list ≡ list_differs (dialect_of d) (clause_seen k)

@@ -4,14 +4,20 @@ use Rattle.std.specs.declared.vec.Vec.{Vec}
 use Rattle.def_term.specs.Alive.{Alive}
 use Rattle.def_node.specs.Event.{Event}
 use Rattle.def_outlook.specs.Outlook.{OwnLink}
-use Rattle.def_script.specs.Exports.{Exports}
+use Rattle.def_script.specs.Exports.{Exports, visible}
+use Rattle.def_script.specs.Program.{Command}
+use Rattle.def_outlook.specs.Outlook as outlook
 use Rattle.def_session.specs.State.{alive_after}
-use Rattle.def_run.specs.Run.{HistoryItem, event_item}
+use Rattle.def_run.specs.Run.{HistoryItem, event_item, command_item}
 use Rattle.def_running_node.specs.NodeRuns.{run_after}
 use Rattle.def_running_node.specs.NodeComparisons as definition
-use Rattle.def_running_node.specs.NodeComparisons.{NamedLine, lines_with_name, named_line_text, lines_differ, lines_are_open, pair_after_in, lines_of_event_in, own_link_event, lines_of_own_link_in, lines_of_own_link, after_item, lines_of_item, after_items, lines_of_items, after_pick, lines_of_move}
-use Rattle.tn_flags.specs.Views.{event_of}
+use Rattle.def_running_node.specs.NodeComparisons.{NamedLine, lines_with_name, named_line_text, lines_differ, lines_are_open, pair_after_in, lines_of_event_in, own_link_event, lines_of_own_link_in, lines_of_own_link, pair_after_command, lines_of_command, after_item, lines_of_item, after_items, lines_of_items, after_pick, lines_of_move}
+use Rattle.tn_term.specs.Views.{alive_of}
+use Rattle.tn_flags.specs.Views.{event_of, command_of}
 use Rattle.tn_flags.specs.declared.event.Event as flags
+use Rattle.tn_flags.specs.declared.command.Command as commands
+use Rattle.tn_script.specs.Views.{functions_of}
+use Rattle.tn_script.specs.declared.form.Function.{Function}
 use Rattle.tn_node.specs.Outlooks.{outlook_seen}
 use Rattle.tn_node.specs.declared.outlook.Outlook.{Outlook}
 use Rattle.tn_trace.specs.Slots.{EachPair}
@@ -93,3 +99,23 @@ abbrev pub ComparesOneMove : {A : Type 0} → ℕ → Outlook → List (flags.Ev
 ComparesOneMove pick outlook events old new out out' kinds =
     (o : Exports) (c : definition.Comparison) → IsComparison o c old →
     let xs : List HistoryItem = map event_item (map event_of events) in let l = outlook_seen outlook in BecomesComparison o (after_pick o l pick c xs) (lines_of_move o l pick c xs) new out out' kinds
+
+-- ---- a command
+
+abbrev pub command_lines_at : {A : Type 0} → Exports → NodeRun A → Command → definition.SessionPair → List NamedLine
+command_lines_at o r k c = lines_with_name c.name (lines_of_command o (node_run_seen r) c k)
+
+-- the session that it names did it
+pub record DidCommandEach {A : Type 0} (o : Exports) (r : NodeRun A) (k : Command) (cs : List definition.SessionPair) (new : List (SessionPair A)) (out out' : Vec ℕ A) (kinds : LineKinds) : Type 0 where
+  pub pairs : EachPair (IsPair o (alive_of r.alive)) (map (λ c. pair_after_command o c k) cs) new
+  pub lines : PutsNamed (flat_map (command_lines_at o r k) cs) out out' kinds
+
+abbrev pub PairsObey : {A : Type 0} → NodeRun A → List (Function A) → commands.Command A → Vec (SessionPair A) A → Vec (SessionPair A) A → Vec ℕ A → Vec ℕ A → LineKinds → Type 0
+PairsObey r functions command old new out out' kinds =
+    (o : Exports) (cs : List definition.SessionPair) → o.functions ≡ visible (functions_of functions) → EachPair (IsPair o (alive_of r.alive)) cs old.items → DidCommandEach o r (command_of command) cs new.items out out' kinds
+
+-- a move that takes a command, whatever is known of it before; these are the functions of the program
+abbrev pub ComparesCommand : {A : Type 0} → ℕ → List (Function A) → commands.Command A → Comparison A → Comparison A → Vec ℕ A → Vec ℕ A → LineKinds → Type 0
+ComparesCommand pick functions command old new out out' kinds =
+    (o : Exports) (l : outlook.Outlook) (c : definition.Comparison) → o.functions ≡ visible (functions_of functions) → IsComparison o c old →
+    let xs : List HistoryItem = command_item (command_of command) ∷ [] in BecomesComparison o (after_pick o l pick c xs) (lines_of_move o l pick c xs) new out out' kinds

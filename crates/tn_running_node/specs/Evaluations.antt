@@ -1,17 +1,14 @@
 -- Whether the evaluation of an event leaves open what a session reports, by the parts of the event that the code has.
-use Rattle.std.specs.Prelude.{◌≡◌, ℕ, Bool, List, map}
+use Rattle.std.specs.Prelude.{◌≡◌, Bool, List, map}
 use Rattle.std.specs.List.{list_any}
 use Rattle.std.specs.Option.{option_map}
-use Rattle.def_term.specs.Tree.{Tree}
 use Rattle.def_spec.specs.Expressions.{Context}
-use Rattle.def_node.specs.Event.{Event, sent, received}
 use Rattle.def_session.specs.Settings.{Setting}
 use Rattle.def_session.specs.State.{Session}
 use Rattle.def_session.specs.Session.{context}
 use Rattle.def_explain.specs.Differences.{setting_differences}
-use Rattle.def_running_node.specs.NodeRuns.{is_open_difference, opens}
-use Rattle.tn_term.specs.Views.{tree_of, mfa_seen}
-use Rattle.tn_term.specs.declared.term.Term.{Term}
+use Rattle.def_running_node.specs.NodeRuns.{is_open_difference}
+use Rattle.tn_term.specs.Views.{mfa_seen}
 use Rattle.tn_guard.specs.Views.{value_seen}
 use Rattle.tn_guard.specs.declared.value.Value.{Value}
 use Rattle.tn_action.specs.Views.{context_seen}
@@ -20,17 +17,9 @@ use Rattle.tn_session.specs.Looks.{look_seen}
 use Rattle.tn_session.specs.declared.look.Look.{Look}
 use Rattle.tn_running_node.specs.declared.actor.Actor.{Actor}
 
--- this holds of the send of a message, whether the process that it is sent to is alive or not
-abbrev pub EachSendThere : {A : Type 0} → (p : ℕ) → Term A → (to : ℕ) → (Event → Type 0) → Type 0
-EachSendThere p message to Holds = (alive : Bool) → Holds (sent p (tree_of message) to alive)
-
--- the receive of a message
-abbrev pub receive_seen : {A : Type 0} → (p sender : ℕ) → Term A → Event
-receive_seen p sender message = received p sender (tree_of message)
-
 -- what a specification is evaluated in, for this process and on these values
-abbrev pub context_with_values : {A : Type 0} → Session → Actor A → List (Value A) → Context
-context_with_values s actor vs = context s actor.pid (map value_seen vs) (option_map (λ m. mfa_seen m.now) actor.caller)
+abbrev pub context_on_values : {A : Type 0} → Session → Actor A → List (Value A) → Context
+context_on_values s actor vs = context s actor.pid (map value_seen vs) (option_map (λ m. mfa_seen m.now) actor.caller)
 
 -- as this setting is evaluated
 abbrev pub OpensBy : {A : Type 0} → Setting → action.Context A → Bool → Type 0
@@ -38,8 +27,4 @@ OpensBy g c b = b ≡ list_any is_open_difference (setting_differences g (contex
 
 -- as it is evaluated on these values of a process
 abbrev pub OpensOn : {A : Type 0} → Setting → Look A → Actor A → List (Value A) → Bool → Type 0
-OpensOn g look actor vs b = b ≡ list_any is_open_difference (setting_differences g (context_with_values (look_seen look) actor vs))
-
--- as an event is evaluated, by a look at the session
-abbrev pub OpensAt : {A : Type 0} → Look A → Event → Bool → Type 0
-OpensAt look e b = b ≡ opens (look_seen look) e
+OpensOn g look actor vs b = b ≡ list_any is_open_difference (setting_differences g (context_on_values (look_seen look) actor vs))

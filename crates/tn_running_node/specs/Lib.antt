@@ -8,4 +8,5 @@ pub mod ClauseDifferences
 pub mod Evaluations
 pub mod Pairs
 pub mod Comparisons
+pub mod NodeMoves
 pub mod Replies

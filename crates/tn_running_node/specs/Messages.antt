@@ -1,16 +1,16 @@
 -- What a node reports of an event, by what it looks at.
-use Rattle.std.specs.Prelude.{ℕ, Bool, true, false, ◌&&◌, if◌then◌else◌, List, [], ◌++◌, Option, Some, None, option_to_list}
+use Rattle.std.specs.Prelude.{ℕ, Bool, false, ◌&&◌, if◌then◌else◌, List, [], ◌++◌, Option, option_to_list}
 use Rattle.std.specs.Option.{is_some}
 use Rattle.def_term.specs.Alive.{is_alive}
 use Rattle.def_term.specs.Tree.{Tree}
 use Rattle.def_term.specs.Names.{word}
 use Rattle.def_spec.specs.Flags.{call_flag, procs_flag, silent_flag}
-use Rattle.def_node.specs.Event.{Event, sent, received, called, returned, raised, exited, linked, getting_unlinked}
+use Rattle.def_node.specs.Event.{Event, sent, received, returned, raised, exited, linked, getting_unlinked}
 use Rattle.def_outlook.specs.Outlook.{Outlook}
 use Rattle.def_session.specs.Messages.{process_of}
 use Rattle.def_session.specs.Session.{is_for_exceptions}
 use Rattle.def_session.specs.State.{Session, flags_at}
-use Rattle.def_running_node.specs.NodeSessions.{NodeMark, NodeSession, kind_at, is_decided, message_where, message_unless}
+use Rattle.def_running_node.specs.NodeSessions.{NodeMark, kind_at, is_decided, message_where, message_unless}
 use Rattle.def_running_node.specs.NodeRuns.{NodeRun, signal_of, is_reported_exit, has_ended, ends_by_error, exceptions_of, exit_messages, with_calls}
 use Rattle.tn_running_node.specs.declared.sight.Sight.{Sight}
 

@@ -1,30 +1,40 @@
 -- What the code's sessions here and on a node stand for, and what becomes of them.
-use Rattle.std.specs.Prelude.{◌≡◌, ℕ, Bool, not, ◌&&◌, List, [], Option, Some, None, option_to_list}
+use Rattle.std.specs.Prelude.{◌≡◌, ℕ, Bool, true, not, ◌&&◌, List, [], map, filter, Option, Some, None, option_to_list}
 use Rattle.std.specs.Option.{IsSomeAnd}
+use Rattle.std.specs.Str.{bytes_eq}
 use Rattle.std.specs.declared.vec.Vec.{Vec}
 use Rattle.def_term.specs.Alive.{Alive}
-use Rattle.def_term.specs.Names.{Mfa}
+use Rattle.def_term.specs.Names.{Mfa, Name}
 use Rattle.def_term.specs.Tree.{Tree}
 use Rattle.def_node.specs.Event.{Event}
 use Rattle.def_outlook.specs.Outlook.{OwnLink}
-use Rattle.def_script.specs.Exports.{Exports}
+use Rattle.def_script.specs.Exports.{Exports, visible}
+use Rattle.def_script.specs.Program.{Command, session_of}
 use Rattle.def_session.specs.State as definition
 use Rattle.def_session.specs.State.{absent, live, new_session, alive_after}
 use Rattle.def_session.specs.Session.{event_reported}
+use Rattle.def_explain.specs.RunTexts.{is_session}
+use Rattle.def_running_node.specs.NodeReplies.{node_command}
 use Rattle.def_running_node.specs.NodeSessions as node
 use Rattle.def_running_node.specs.NodeSessions.{marks_after, reported_there}
 use Rattle.def_running_node.specs.NodeRuns.{run_after, run_messages, opens, hides, lines_by_openness}
 use Rattle.def_running_node.specs.NodeComparisons as comparison
-use Rattle.def_running_node.specs.NodeComparisons.{texts, pair_elsewhere, pair_after_in, lines_of_event_in, own_link_event, lines_of_own_link_in}
-use Rattle.tn_flags.specs.Views.{event_of}
+use Rattle.def_running_node.specs.NodeComparisons.{texts, pair_elsewhere, pair_after_in, lines_of_event_in, own_link_event, lines_of_own_link_in, pair_after_command, lines_of_command}
+use Rattle.tn_term.specs.Views.{alive_of}
+use Rattle.tn_flags.specs.Views.{event_of, command_of}
 use Rattle.tn_flags.specs.declared.event.Event as flags
+use Rattle.tn_flags.specs.declared.command.Command as commands
+use Rattle.tn_script.specs.Views.{functions_of}
+use Rattle.tn_script.specs.declared.form.Function.{Function}
 use Rattle.tn_node.specs.Outlooks.{outlook_seen}
 use Rattle.tn_node.specs.declared.outlook.Outlook.{Outlook}
 use Rattle.tn_session.specs.Sessions.{value_in}
 use Rattle.tn_session.specs.declared.session.Session.{Session}
 use Rattle.tn_trace.specs.Slots.{IsSession}
+use Rattle.tn_trace.specs.declared.discard.Discard.{Discard}
+use Rattle.tn_trace.specs.declared.slot.Slot.{Slot}
 use Rattle.tn_running_node.specs.Lines.{PutsBothLines}
-use Rattle.tn_running_node.specs.Views.{node_marks_seen, node_run_seen, lines_seen}
+use Rattle.tn_running_node.specs.Views.{node_marks_seen, node_run_seen}
 use Rattle.tn_running_node.specs.declared.lines.LineKinds.{LineKinds}
 use Rattle.tn_running_node.specs.declared.node_run.NodeRun.{NodeRun}
 use Rattle.tn_running_node.specs.declared.node_session.NodeSession.{NodeSession}
@@ -99,3 +109,35 @@ pub record SawOwnLink {A : Type 0} (o : Exports) (living : Alive) (r : NodeRun A
 abbrev pub PairSeesOwnLink : {A : Type 0} → NodeRun A → flags.Event A → SessionPair A → SessionPair A → Vec ℕ A → Vec ℕ A → LineKinds → Type 0
 PairSeesOwnLink r event old new out out' kinds =
     (o : Exports) (living : Alive) (c : comparison.SessionPair) (p : ℕ) (x : OwnLink) → event_of event ≡ own_link_event p x → IsPair o living c old → SawOwnLink o living r (event_of event) c new out out' kinds
+
+-- ---- before any move
+
+-- the pair of a session that isn't created yet
+abbrev pub absent_pair : {A : Type 0} → Slot A Discard → SessionPair A
+absent_pair slot = record { here = slot; there = None; is_determined = true }
+
+-- those of the sessions that are selected
+abbrev pub absent_pairs : {A : Type 0} → Option Name → List (Slot A Discard) → List (SessionPair A)
+absent_pairs n slots = map absent_pair (filter (λ s. is_session n s.name) slots)
+
+-- ---- a command
+
+-- the session there did the command, with this reply
+pub record DidThere {A : Type 0} (o : Exports) (living : Alive) (k : Command) (c : comparison.SessionPair) (new : SessionPair A) (reply : Tree) : Type 0 where
+  pub pair : IsPair o living (record c { there = record c.there { session = (node_command o c.there.session k).0 } }) new
+  pub replied : reply ≡ (node_command o c.there.session k).1
+
+-- where the command is to this session, and these are the functions of the program
+abbrev pub PairObeysThere : {A : Type 0} → NodeRun A → List (Function A) → commands.Command A → SessionPair A → SessionPair A → Tree → Type 0
+PairObeysThere r functions command old new reply =
+    (o : Exports) (c : comparison.SessionPair) → o.functions ≡ visible (functions_of functions) → IsPair o (alive_of r.alive) c old
+    → bytes_eq c.name (session_of (command_of command)) ≡ true → DidThere o (alive_of r.alive) (command_of command) c new reply
+
+-- the pair did the command where it is to this session, and the lines between both replies were appended
+pub record DidCommand {A : Type 0} (o : Exports) (r : NodeRun A) (k : Command) (c : comparison.SessionPair) (new : SessionPair A) (out out' : Vec ℕ A) (kinds : LineKinds) : Type 0 where
+  pub pair : IsPair o (alive_of r.alive) (pair_after_command o c k) new
+  pub lines : PutsBothLines c.name (lines_of_command o (node_run_seen r) c k) out out' kinds
+
+abbrev pub PairObeys : {A : Type 0} → NodeRun A → List (Function A) → commands.Command A → SessionPair A → SessionPair A → Vec ℕ A → Vec ℕ A → LineKinds → Type 0
+PairObeys r functions command old new out out' kinds =
+    (o : Exports) (c : comparison.SessionPair) → o.functions ≡ visible (functions_of functions) → IsPair o (alive_of r.alive) c old → DidCommand o r (command_of command) c new out out' kinds

@@ -2,7 +2,7 @@
 use Rattle.std.specs.Prelude.{◌≡◌, ℕ, Bool, true, false, not, ◌&&◌, if◌then◌else◌, List, length, filter, drop, Option, Some, None, Ok, Err}
 use Rattle.std.specs.Option.{option_map}
 use Rattle.def_term.specs.Names.{Mfa, word, mfa_term}
-use Rattle.def_term.specs.Tree.{Tree, int, tuple, none, more}
+use Rattle.def_term.specs.Tree.{Tree, int}
 use Rattle.def_script.specs.Program.{Command, set_function, mfa_of}
 use Rattle.def_script.specs.Exports.{Exports, visible}
 use Rattle.def_spec.specs.Expressions.{for_calls}
@@ -64,8 +64,8 @@ none_listed t = option_map has_none (flags_listed t)
 -- ---- settings of functions
 
 -- a function with its visibility
-abbrev pub visible_there : {A : Type 0} → Function A → Mfa × Bool
-visible_there f = (mfa_of (function_of f), (function_of f).exported)
+abbrev pub visible_of : {A : Type 0} → Function A → Mfa × Bool
+visible_of f = (mfa_of (function_of f), (function_of f).exported)
 
 -- the session in this state
 abbrev pub with_state : SessionValue → definition.Session → SessionValue
@@ -76,26 +76,26 @@ abbrev pub LiveBecomes : {A : Type 0} → (definition.Session → definition.Ses
 LiveBecomes f old new = (v : SessionValue) → value_in old ≡ Some v → v.state.phase ≡ live → value_in new ≡ Some (with_state v (f v.state))
 
 -- of a setting and whether it is local: it is on, and of this kind
-abbrev pub is_on_by_parts_there : Bool → Option (settings.Setting × Bool) → Bool
-is_on_by_parts_there local None = false
-is_on_by_parts_there local (Some k) = is_on k.0 && (if local then k.1 else not k.1)
+abbrev pub is_on_by_parts : Bool → Option (settings.Setting × Bool) → Bool
+is_on_by_parts local None = false
+is_on_by_parts local (Some k) = is_on k.0 && (if local then k.1 else not k.1)
 
 -- the newest command about the function is of this kind, and doesn't disable it
-abbrev pub is_set_there : {A : Type 0} → Look A → Function A → Bool → Bool
-is_set_there l f local = is_set_by_kind (look_seen l).functions local (visible_there f)
+abbrev pub is_set_seen : {A : Type 0} → Look A → Function A → Bool → Bool
+is_set_seen l f local = is_set_by_kind (look_seen l).functions local (visible_of f)
 
 -- the function is among those that a command about these matches
-abbrev pub is_among_there : {A : Type 0} → FunctionPattern A → Function A → Bool → Bool
-is_among_there covered f local = has_among (any_setting (function_pattern_seen covered) local) (mfa_of (function_of f)) (function_of f).exported
+abbrev pub is_among_seen : {A : Type 0} → FunctionPattern A → Function A → Bool → Bool
+is_among_seen covered f local = has_among (any_setting (function_pattern_seen covered) local) (mfa_of (function_of f)) (function_of f).exported
 
 -- whether the session has a setting of the function of this kind, which a command about these functions disables
 abbrev pub IsOfOwnKind : {A : Type 0} → Session A → FunctionPattern A → Function A → Bool → Bool → Type 0
 IsOfOwnKind session covered f local r =
-    (v : SessionValue) → value_in session ≡ Some v → r ≡ is_of_own_kind v.state (function_pattern_seen covered) local (visible_there f)
+    (v : SessionValue) → value_in session ≡ Some v → r ≡ is_of_own_kind v.state (function_pattern_seen covered) local (visible_of f)
 
 -- whether it has a local setting of the function, which isn't exported, and which these cover
-abbrev pub IsInternalAndSetThere : {A : Type 0} → Session A → FunctionPattern A → Function A → Bool → Type 0
-IsInternalAndSetThere session covered f r = (v : SessionValue) → value_in session ≡ Some v → r ≡ is_internal_and_set v.state (function_pattern_seen covered) (visible_there f)
+abbrev pub HasInternalSetting : {A : Type 0} → Session A → FunctionPattern A → Function A → Bool → Type 0
+HasInternalSetting session covered f r = (v : SessionValue) → value_in session ≡ Some v → r ≡ is_internal_and_set v.state (function_pattern_seen covered) (visible_of f)
 
 -- those of the functions from a place on are disabled in turn
 abbrev pub own_kind_from : {A : Type 0} → FunctionPattern A → Bool → List (Function A) → ℕ → definition.Session → definition.Session
@@ -105,15 +105,11 @@ abbrev pub internal_from : {A : Type 0} → FunctionPattern A → List (Function
 internal_from covered functions i s = internal_disabled (function_pattern_seen covered) (visible (functions_of (drop i functions))) s
 
 -- how many functions a command about these matches, of all of them and of those from a place on
-abbrev pub match_count_from : {A : Type 0} → FunctionSetting → List (Function A) → ℕ → ℕ
-match_count_from k functions i = length (filter (λ f. has_among k f.0 f.1) (visible (functions_of (drop i functions))))
+abbrev pub matches_from : {A : Type 0} → FunctionSetting → List (Function A) → ℕ → ℕ
+matches_from k functions i = length (filter (λ f. has_among k f.0 f.1) (visible (functions_of (drop i functions))))
 
 abbrev pub match_count_seen : {A : Type 0} → FunctionPattern A → Bool → List (Function A) → ℕ
-match_count_seen covered local functions = match_count_from (any_setting (function_pattern_seen covered) local) functions 0
-
--- a tuple of three terms
-abbrev pub three : Tree → Tree → Tree → Tree
-three t u x = tuple (more t (more u (more x none)))
+match_count_seen covered local functions = matches_from (any_setting (function_pattern_seen covered) local) functions 0
 
 -- the command disables one function, locally or not
 abbrev pub DisablesOne : Bool → Mfa → Command → Type 0
@@ -126,15 +122,15 @@ is_integer (int n) = true
 is_integer t = false
 
 -- what a command does in the model that is accepted: its reply is an integer
-abbrev pub IsAcceptedThere : {A : Type 0} → Command → (old new : Session A) → Type 0
-IsAcceptedThere c old new =
+abbrev pub RepliesNumber : {A : Type 0} → Command → (old new : Session A) → Type 0
+RepliesNumber c old new =
     (o : Exports) (v : SessionValue) → value_in old ≡ Some v → v.functions ≡ o.functions
     → (value_in new ≡ Some (with_state v (command_done o v.state c).0)) × (is_integer (command_done o v.state c).1 ≡ true)
 
 -- whether what is read doesn't disable functions; a fault is none
-abbrev pub is_on_where_read : Reads settings.Setting → Option Bool
-is_on_where_read (Ok setting) = Some (is_on setting)
-is_on_where_read (Err e) = None
+abbrev pub on_where_read : Reads settings.Setting → Option Bool
+on_where_read (Ok setting) = Some (is_on setting)
+on_where_read (Err e) = None
 
 -- the functions that a command is about, whether it is local, and whether it doesn't disable them
 pub record ChangeView : Type 0 where
@@ -152,7 +148,7 @@ change_of_parts _ _ _ = None
 
 -- of one with these arguments
 abbrev pub change_read : (mfa spec options : Tree) → Option ChangeView
-change_read mfa spec options = change_of_parts (trace_pattern_of mfa) (options_of options) (is_on_where_read (setting_of for_calls spec))
+change_read mfa spec options = change_of_parts (trace_pattern_of mfa) (options_of options) (on_where_read (setting_of for_calls spec))
 
 -- the command is a function command, whose arguments are read so
 abbrev pub Changes : Command → Option ChangeView → Type 0

@@ -5,7 +5,7 @@ use tn_term::Mfa;
 /// The process of an event, and the function that called there, where it is a call ("Match Specifications in Erlang":
 /// `self`, `caller`).
 #[derive_where(Clone, Copy)]
-pub(crate) struct Actor<'a, A: Allocator> {
+pub struct Actor<'a, A: Allocator> {
     pub pid: u32,
     pub caller: Option<&'a Mfa<A>>,
 }

@@ -4,7 +4,7 @@ ghost use Rattle.std.specs.Option.{option_map};
 ghost use Rattle.std.specs.Str.{bytes_eq};
 ghost use Rattle.def_term.specs.Names.{mfa_term};
 ghost use Rattle.def_term.specs.Order.{same};
-ghost use Rattle.def_term.specs.Tree.{list, none};
+ghost use Rattle.def_term.specs.Tree.{list, none, triple};
 ghost use Rattle.def_script.specs.Program.{mfa_of};
 ghost use Rattle.def_spec.specs.Expressions.{for_calls};
 ghost use Rattle.def_session.specs.Commands.{number_term};
@@ -15,11 +15,11 @@ ghost use Rattle.tn_flags.specs.Views.{command_of};
 ghost use Rattle.tn_script.specs.Views.{function_of};
 ghost use Rattle.tn_index.specs.Views.{function_pattern_seen};
 ghost use Rattle.tn_session.specs.Looks.{newest_seen};
-ghost use Rattle.tn_running_node.specs.Replies.{change_read, function_change_seen, internal_from, is_among_there};
-ghost use Rattle.tn_running_node.specs.Replies.{is_integer, is_on_by_parts_there, is_set_there};
-ghost use Rattle.tn_running_node.specs.Replies.{is_on_where_read, match_count_seen};
-ghost use Rattle.tn_running_node.specs.Replies.{own_kind_from, three, visible_there, DisablesOne};
-ghost use Rattle.tn_running_node.specs.Replies.{IsAcceptedThere, IsInternalAndSetThere, IsModelDone};
+ghost use Rattle.tn_running_node.specs.Replies.{change_read, function_change_seen, internal_from, is_among_seen};
+ghost use Rattle.tn_running_node.specs.Replies.{is_integer, is_on_by_parts, is_set_seen};
+ghost use Rattle.tn_running_node.specs.Replies.{on_where_read, match_count_seen};
+ghost use Rattle.tn_running_node.specs.Replies.{own_kind_from, visible_of, DisablesOne};
+ghost use Rattle.tn_running_node.specs.Replies.{RepliesNumber, HasInternalSetting, IsModelDone};
 ghost use Rattle.tn_running_node.specs.Replies.{IsOfOwnKind, LiveBecomes};
 
 use std::alloc::{AllocError, Allocator};
@@ -57,7 +57,7 @@ fn has_no_element<A: Allocator>(items: &Vec<Term<A>, A>) -> bool
 }
 
 /// Whether the term is `[]`.
-fn is_empty_list<A: Allocator>(term: &Term<A>) -> bool
+pub fn is_empty_list<A: Allocator>(term: &Term<A>) -> bool
     ensures { result ≡ same (tree_of term.now) (list none) }
 {
     match term {
@@ -66,12 +66,12 @@ fn is_empty_list<A: Allocator>(term: &Term<A>) -> bool
     }
 }
 
-/// Whether a Spec doesn't disable functions; None where it can't be read.
-fn is_on_where_read<A: Allocator + Copy>(
+/// Whether a Spec doesn't disable functions; None where it can't be read. An error is refused memory.
+pub fn is_on_where_read<A: Allocator + Copy>(
     alloc: A,
     term: &Term<A>,
 ) -> Result<Option<bool>, AllocError>
-    ensures { IfOk result (λ r. r ≡ is_on_where_read (setting_of for_calls (tree_of term.now))) }
+    ensures { IfOk result (λ r. r ≡ on_where_read (setting_of for_calls (tree_of term.now))) }
 {
     if term.is_word("true") || is_empty_list(term) {
         return Ok(Some(true));
@@ -117,7 +117,7 @@ fn is_named<A: Allocator>(function: &Function<A>, module: &Atom<A>, name: &Atom<
 }
 
 /// Whether the function is one of these. Nothing is copied for it.
-fn is_covered<A: Allocator>(covered: &FunctionPattern<A>, function: &Function<A>) -> bool
+pub fn is_covered<A: Allocator>(covered: &FunctionPattern<A>, function: &Function<A>) -> bool
     ensures { result ≡ is_covered (function_pattern_seen covered.now) (mfa_of (function_of function.now)) }
 {
     match covered {
@@ -132,15 +132,19 @@ fn is_covered<A: Allocator>(covered: &FunctionPattern<A>, function: &Function<A>
 }
 
 /// Whether a function is among those that a command about these matches: exported ones alone, if it is global.
-fn is_among<A: Allocator>(covered: &FunctionPattern<A>, function: &Function<A>, local: bool) -> bool
-    ensures { result ≡ is_among_there covered.now function.now local }
+pub fn is_among<A: Allocator>(
+    covered: &FunctionPattern<A>,
+    function: &Function<A>,
+    local: bool,
+) -> bool
+    ensures { result ≡ is_among_seen covered.now function.now local }
 {
     is_covered(covered, function) && (local || function.exported)
 }
 
 /// Whether there is a setting, local or global, that doesn't disable its function.
 fn is_on<A: Allocator>(newest: &Option<NewestSetting<'_, A>>, local: bool) -> bool
-    ensures { result ≡ is_on_by_parts_there local (option_map newest_seen newest.now) }
+    ensures { result ≡ is_on_by_parts local (option_map newest_seen newest.now) }
 {
     let Some(newest) = newest else {
         return false;
@@ -154,13 +158,13 @@ fn is_on<A: Allocator>(newest: &Option<NewestSetting<'_, A>>, local: bool) -> bo
 }
 
 /// Whether the newest command about a function is of this kind, and doesn't disable it. An error is refused memory.
-fn is_set<A: Allocator + Copy>(
+pub fn is_set<A: Allocator + Copy>(
     alloc: A,
     look: &Look<'_, A>,
     function: &Function<A>,
     local: bool,
 ) -> Result<bool, AllocError>
-    ensures { IfOk result (λ r. r ≡ is_set_there look.now function.now local) }
+    ensures { IfOk result (λ r. r ≡ is_set_seen look.now function.now local) }
 {
     let mfa = function_mfa(alloc, function)?;
     let newest = look.newest_among(&mfa, function.exported);
@@ -193,7 +197,7 @@ fn is_internal_and_set<A: Allocator + Copy>(
     function: &Function<A>,
     covered: &FunctionPattern<A>,
 ) -> Result<bool, AllocError>
-    ensures { IfOk result (IsInternalAndSetThere session.now covered.now function.now) }
+    ensures { IfOk result (HasInternalSetting session.now covered.now function.now) }
 {
     let Some(look) = session.look() else {
         return Err(AllocError);
@@ -211,7 +215,7 @@ fn tuple_of_three<A: Allocator + Copy>(
     second: Term<A>,
     third: Term<A>,
 ) -> Result<Term<A>, AllocError>
-    ensures { IfOk result (λ t. tree_of t ≡ three (tree_of first) (tree_of second) (tree_of third)) }
+    ensures { IfOk result (λ t. tree_of t ≡ triple (tree_of first) (tree_of second) (tree_of third)) }
 {
     let mut items = Vec::with_capacity(alloc, 3)?;
     items.push(first)?;
@@ -275,7 +279,7 @@ fn accept_command<A: Allocator + Copy>(
     session: &mut Session<A>,
     command: &Command<A>,
 ) -> Result<(), AllocError>
-    ensures { OnOk result (IsAcceptedThere (command_of command.now) session.old session.new) }
+    ensures { OnOk result (RepliesNumber (command_of command.now) session.old session.new) }
 {
     let reply = model_command(session, command)?;
     if is_integer(&reply) {
@@ -294,7 +298,7 @@ fn disable<A: Allocator + Copy>(
     function: &Function<A>,
     local: bool,
 ) -> Result<(), AllocError>
-    ensures { OnOk result (LiveBecomes (with_disabled local (visible_there function.now)) session.old session.new) }
+    ensures { OnOk result (LiveBecomes (with_disabled local (visible_of function.now)) session.old session.new) }
 {
     let command = disable_command(alloc, name, function, local)?;
     Ok(accept_command(session, &command)?)

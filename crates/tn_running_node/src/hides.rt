@@ -15,7 +15,7 @@ use tn_process::RuntimeError;
 use tn_session::Look;
 
 /// Whether a process has the flag by which a node reports a step with this error.
-fn is_attempt_by<A: Allocator + Copy>(
+pub fn is_attempt_by<A: Allocator + Copy>(
     look: &Look<'_, A>,
     pid: u32,
     error: Option<RuntimeError>,

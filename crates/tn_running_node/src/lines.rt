@@ -3,6 +3,8 @@ ghost use Rattle.std.specs.Prelude.{◌≡◌, ◌||◌, false, ◌++◌, ◌∷
 ghost use Rattle.std.specs.Option.{is_some};
 ghost use Rattle.def_term.specs.Text.{w};
 ghost use Rattle.def_running_node.specs.NodeRuns.{lines_by_openness};
+ghost use Rattle.def_running_node.specs.NodeComparisons.{reply_texts};
+ghost use Rattle.tn_term.specs.Views.{tree_of};
 ghost use Rattle.tn_session.specs.Messages.{message_seen};
 ghost use Rattle.tn_text.specs.Writes.{Grows};
 ghost use Rattle.tn_running_node.specs.Views.{lines_seen};
@@ -10,8 +12,8 @@ ghost use Rattle.tn_running_node.specs.Lines.{is_line, common_from, named_text, 
 
 use std::alloc::{AllocError, Allocator};
 use tn_session::Message;
-use tn_term::Atom;
-use tn_text::write_atom;
+use tn_term::{Atom, Term};
+use tn_text::{write_atom, write_term};
 
 /// The lines of some messages, or of a reply.
 pub type TextLines<A> = Vec<Vec<u8, A>, A>;
@@ -62,6 +64,21 @@ pub fn push_message<A: Allocator + Copy>(
     message.append_text(&mut line)?;
     lines.push(line)?;
     Ok(())
+}
+
+/// The lines of a reply: one. An error is refused memory.
+pub fn lines_of_reply<A: Allocator + Copy>(
+    alloc: A,
+    reply: &Term<A>,
+) -> Result<TextLines<A>, AllocError>
+    ensures { IfOk result (λ v. lines_seen v ≡ reply_texts (tree_of reply.now)) }
+{
+    let mut line = Vec::new(alloc);
+    line.extend_from_slice(b"replies ")?;
+    write_term(reply, &mut line)?;
+    let mut lines = Vec::new(alloc);
+    lines.push(line)?;
+    Ok(lines)
 }
 
 /// Whether the line is the one at a place.

@@ -1,16 +1,17 @@
 // Whether the evaluation of an event leaves open what a session of a running node reports.
-ghost use Rattle.std.specs.Prelude.{◌≡◌, ◌||◌, IfOk};
-ghost use Rattle.def_node.specs.Event.{called};
+ghost use Rattle.std.specs.Prelude.{◌≡◌, Bool, ◌||◌, IfOk};
+ghost use Rattle.def_node.specs.Event.{called, received, sent};
 ghost use Rattle.def_session.specs.Settings.{by};
 ghost use Rattle.def_running_node.specs.NodeRuns.{opens};
 ghost use Rattle.tn_flags.specs.Views.{call_seen, event_of};
 ghost use Rattle.tn_spec.specs.Wholes.{spec_seen};
 ghost use Rattle.tn_session.specs.Looks.{look_seen, look_setting};
 ghost use Rattle.tn_running_node.specs.ClauseDifferences.{opens_with};
-ghost use Rattle.tn_running_node.specs.Evaluations.{EachSendThere, receive_seen, OpensBy, OpensOn, OpensAt};
+ghost use Rattle.tn_term.specs.Views.{tree_of};
+ghost use Rattle.tn_running_node.specs.Evaluations.{OpensBy, OpensOn};
 
 use crate::actor::Actor;
-use crate::clause_differences::{ClauseDifferences, clause_differences};
+use crate::clause::{ClauseDifferences, clause_differences};
 use bumpalo::Bump;
 use std::alloc::{AllocError, Allocator};
 use tn_action::{Context, Effect};
@@ -24,7 +25,7 @@ use tn_term::Term;
 use tn_verdict::{Verdict, verdict};
 
 /// Whether a command is about a call: every call, or those that name the module.
-fn concerns<A: Allocator + Copy>(newest: &NewestSetting<'_, A>, call: &Call<A>) -> bool
+pub fn concerns<A: Allocator + Copy>(newest: &NewestSetting<'_, A>, call: &Call<A>) -> bool
     ensures { result ≡ (newest.now.local || call.now.named) }
 {
     newest.local || call.named
@@ -126,7 +127,7 @@ fn send_opens<'a, A: Allocator + Copy>(
     message: &'a Term<A>,
     to: u32,
 ) -> Result<bool, AllocError>
-    ensures { EachSendThere pid message.now to (λ e. IfOk result (OpensAt look.now e)) }
+    ensures { (a : Bool) → IfOk result (λ b. b ≡ opens (look_seen look.now) (sent pid (tree_of message.now) to a)) }
 {
     if !look.flags_at(pid).send {
         return Ok(false);
@@ -144,7 +145,7 @@ fn receive_opens<'a, A: Allocator + Copy>(
     sender: u32,
     message: &'a Term<A>,
 ) -> Result<bool, AllocError>
-    ensures { IfOk result (OpensAt look.now (receive_seen pid sender message.now)) }
+    ensures { IfOk result (λ b. b ≡ opens (look_seen look.now) (received pid sender (tree_of message.now))) }
 {
     if !look.flags_at(pid).receive {
         return Ok(false);
@@ -165,7 +166,7 @@ fn call_opens<'a, A: Allocator + Copy>(
     pid: u32,
     call: &'a Call<A>,
 ) -> Result<bool, AllocError>
-    ensures { IfOk result (OpensAt look.now (called pid (call_seen call.now))) }
+    ensures { IfOk result (λ b. b ≡ opens (look_seen look.now) (called pid (call_seen call.now))) }
 {
     if !look.flags_at(pid).call {
         return Ok(false);

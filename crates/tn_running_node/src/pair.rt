@@ -2,22 +2,29 @@
 ghost use Rattle.std.specs.Prelude.{◌≡◌, IfOk};
 ghost use Rattle.tn_flags.specs.Views.{event_of};
 ghost use Rattle.tn_text.specs.Writes.{Grows};
+ghost use Rattle.std.specs.Option.{option_map};
+ghost use Rattle.tn_term.specs.Views.{tree_of};
 ghost use Rattle.def_term.specs.Alive.{Alive};
 ghost use Rattle.def_script.specs.Exports.{Exports};
 ghost use Rattle.def_running_node.specs.NodeComparisons as comparison;
 ghost use Rattle.tn_session.specs.Looks.{is_live};
 ghost use Rattle.tn_running_node.specs.Pairs.{SeesSilently, PairSeesBoth, PairSeesElsewhere};
 ghost use Rattle.tn_running_node.specs.Pairs.{IsPair, HasOpenness, PairSees, PairSeesOwnLink};
+ghost use Rattle.tn_running_node.specs.Pairs.{absent_pairs, PairObeysThere, PairObeys};
 
 use crate::hides::hides;
-use crate::lines::{LineKinds, put_lines};
+use crate::lines::{LineKinds, lines_of_reply, put_lines};
 use crate::node_run::NodeRun;
 use crate::node_session::{NodeSession, see_here};
 use crate::opens::opens;
+use crate::replies::command_there;
+use crate::session_name::is_session;
 use std::alloc::{AllocError, Allocator};
-use tn_flags::Event;
+use tn_flags::{Command, Event};
 use tn_node::Outlook;
+use tn_script::Function;
 use tn_session::{Room, Session};
+use tn_term::Term;
 use tn_trace::{Discard, Slot};
 
 /// A session of the control list here, the same on a running node once it is created, and whether what it reports
@@ -41,6 +48,27 @@ pub struct Openness {
 pub struct NodeStep<'a, A: Allocator> {
     pub run: &'a NodeRun<A>,
     pub outlook: Outlook,
+}
+
+/// The pairs of the sessions that are selected, which aren't created yet: of that of a name alone, where one is given.
+pub fn absent_pairs<A: Allocator + Copy>(
+    alloc: A,
+    slots: Vec<Slot<A, Discard>, A>,
+    session: Option<&str>,
+) -> Result<Vec<SessionPair<A>, A>, AllocError>
+    ensures { IfOk result (λ v. v.items ≡ absent_pairs (option_map (λ s. s.now) session.entry) slots.items) }
+{
+    let mut pairs = Vec::new(alloc);
+    for slot in slots {
+        if is_session(session, &slot.name) {
+            pairs.push(SessionPair {
+                here: slot,
+                there: None,
+                is_determined: true,
+            })?;
+        }
+    }
+    Ok(pairs)
 }
 
 /// The session sees an event of which it reports nothing. An error is refused memory.
@@ -168,6 +196,63 @@ impl<A: Allocator + Copy> SessionPair<A> {
         };
         let lines_there = there.see_as_here(alloc, event)?;
         let lines_here = Vec::new(alloc);
+        let was = run.was_determined & self.is_determined;
+        let is = run.is_determined & self.is_determined;
+        let kinds = put_lines(&self.here.name, was, is, &lines_here, &lines_there, out)?;
+        Ok(kinds)
+    }
+
+    /// What a command of the session does to it on a node, whose processes are these, and its reply there.
+    fn obey_there(
+        &mut self,
+        alloc: A,
+        run: &NodeRun<A>,
+        functions: &[Function<A>],
+        command: &Command<A>,
+    ) -> Result<Term<A>, AllocError>
+        ensures { IfOk result (λ t. PairObeysThere run.now functions.now command.now self.old self.new (tree_of t)) }
+    {
+        if let Some(there) = &mut self.there {
+            return Ok(command_there(alloc, functions, &mut there.session, command)?);
+        }
+        let mut slot = Slot {
+            number: self.here.number,
+            name: self.here.name.copy_into(alloc)?,
+            session: None,
+            kept: Discard,
+        };
+        let Some(reply) = slot.obey(alloc, functions, run.alive, command)? else {
+            return Err(AllocError);
+        };
+        let Slot { session, .. } = slot;
+        let Some(session) = session else {
+            return Ok(reply);
+        };
+        let marks = Vec::new(alloc);
+        self.there = Some(NodeSession { session, marks });
+        Ok(reply)
+    }
+
+    /// Where a command is to this session, it does it here and on a node, whose processes are these, and the lines
+    /// between both replies are appended. After an `Err`, which is refused memory, a part of them may stand there, and
+    /// the sessions may be spent.
+    pub fn obey(
+        &mut self,
+        alloc: A,
+        run: &NodeRun<A>,
+        functions: &[Function<A>],
+        command: &Command<A>,
+        out: &mut Vec<u8, A>,
+    ) -> Result<LineKinds, AllocError>
+        ensures ok { IfOk result (PairObeys run.now functions.now command.now self.old self.new out.old out.new) }
+        ensures grows { Grows out.old.items out.new.items }
+    {
+        let Some(here) = self.here.obey(alloc, functions, run.alive, command)? else {
+            return Ok(LineKinds::none());
+        };
+        let there = self.obey_there(alloc, run, functions, command)?;
+        let lines_here = lines_of_reply(alloc, &here)?;
+        let lines_there = lines_of_reply(alloc, &there)?;
         let was = run.was_determined & self.is_determined;
         let is = run.is_determined & self.is_determined;
         let kinds = put_lines(&self.here.name, was, is, &lines_here, &lines_there, out)?;

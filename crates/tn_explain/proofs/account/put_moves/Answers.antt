@@ -1,5 +1,5 @@
 use Rattle.std.proofs.Common.{◌∙◌, [], ◌++◌, ap}
-use Rattle.def_explain.specs.RunTexts.{selected_text}
+use Rattle.def_explain.specs.RunTexts.{account_text}
 use Rattle.tn_program.specs.Views.{program_of}
 use Rattle.tn_trace.proofs.Passes.{first_followed}
 use Rattle.tn_explain.specs.Filters.{selection_seen}
@@ -17,4 +17,4 @@ returns-clause-ok g c =
     let asked = ap (λ (e : Explainer _). e.selection) c.in_ok-run.ensures.observer ∙ c.in_ok-explainer.ensures.selection in
     run_explained p picks r.observer c.take_all.new.self.observer before c.take_all.new.out
     (c.in_ok-take_all.ensures.adds 65536 [] (first_followed HasExplained p 65536 r (c.in_ok-run.ensures.start c.in_ok-explainer.ensures.explained)))
-    ∙ ap (λ f. before.items ++ selected_text (selection_seen f) p picks) asked
+    ∙ ap (λ f. before.items ++ account_text (selection_seen f) p picks) asked

@@ -6,7 +6,7 @@ use Rattle.def_explain.specs.CommandDifferences.{read_difference}
 use Rattle.tn_term.specs.Views.{tree_of}
 use Rattle.tn_index.specs.Views.{function_pattern_seen}
 use Rattle.tn_session.specs.Looks.{look_seen}
-use Rattle.tn_explain.specs.CommandDifferences.{on_where_read}
+use Rattle.tn_running_node.specs.Replies.{on_where_read}
 use Rattle.tn_explain.proofs.CommandDifferences.{by_reading}
 use Rattle.tn_explain.proofs.command_differences.function_difference.Goals as goal
 

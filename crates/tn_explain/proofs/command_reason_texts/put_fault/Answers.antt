@@ -1,4 +1,4 @@
-use Rattle.std.proofs.Common.{◌≡◌, ◌∙◌, ◌++◌, codes, sym, ap}
+use Rattle.std.proofs.Common.{◌∙◌, ◌++◌, codes, sym, ap}
 use Rattle.def_term.specs.Text.{w, atom_text}
 use Rattle.def_session.specs.Commands.{fault_term}
 use Rattle.def_explain.specs.SpecReasons.{reason_fault}

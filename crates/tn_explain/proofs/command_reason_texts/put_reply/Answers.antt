@@ -1,4 +1,4 @@
-use Rattle.std.proofs.Common.{◌≡◌, ◌∙◌, ◌++◌, codes, sym, ap}
+use Rattle.std.proofs.Common.{◌∙◌, codes, sym, ap}
 use Rattle.def_term.specs.Text.{w}
 use Rattle.def_explain.specs.CommandReasons.{reply_of}
 use Rattle.tn_explain.specs.CommandReasons.{command_reason_seen}

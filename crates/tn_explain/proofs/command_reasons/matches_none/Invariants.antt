@@ -1,7 +1,7 @@
 use Rattle.std.proofs.Common.{◌≡◌}
 use Rattle.def_explain.specs.CommandReasons.{any_setting}
 use Rattle.tn_index.specs.Views.{function_pattern_seen}
-use Rattle.tn_explain.specs.CommandReasons.{matches_from}
+use Rattle.tn_running_node.specs.Replies.{matches_from}
 use Rattle.tn_explain.proofs.command_reasons.matches_none.Given as goal
 
 abbrev pub invariant-loop-function : goal.invariant-loop-function

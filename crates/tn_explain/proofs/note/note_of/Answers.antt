@@ -1,7 +1,7 @@
 use Rattle.std.proofs.Common.{◌≡◌, ◌∙◌, Some, None, if◌then◌else◌, length, drop, sym, ap, arith}
 use Rattle.std.proofs.lemmas.List.{drop_all}
 use Rattle.std.specs.List.{count_by}
-use Rattle.def_explain.specs.NodeMoves.{NodeNote}
+use Rattle.def_running_node.specs.NodeNotes.{NodeNote}
 use Rattle.tn_explain.proofs.NoteCounts.{counted, count_is, none_counted, some_counted}
 use Rattle.tn_explain.proofs.note.note_of.Goals as goal
 

@@ -1,5 +1,5 @@
 use Rattle.std.proofs.Common.{◌∙◌, ap}
-use Rattle.def_explain.specs.NodeMoves.{node_note}
+use Rattle.def_running_node.specs.NodeNotes.{node_note}
 use Rattle.tn_program.specs.Views.{program_of}
 use Rattle.tn_trace.specs.Transcripts.{TranscriptValue}
 use Rattle.tn_explain.proofs.NodeNotes.{note_again}

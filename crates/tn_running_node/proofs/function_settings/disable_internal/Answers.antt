@@ -4,7 +4,7 @@ use Rattle.def_explain.specs.CommandDifferences.{is_internal_and_set}
 use Rattle.def_running_node.specs.NodeReplies.{with_disabled}
 use Rattle.tn_index.specs.Views.{function_pattern_seen}
 use Rattle.tn_session.specs.declared.session.Session as code
-use Rattle.tn_running_node.specs.Replies.{LiveBecomes, internal_from, visible_there}
+use Rattle.tn_running_node.specs.Replies.{LiveBecomes, internal_from, visible_of}
 use Rattle.tn_running_node.proofs.FunctionDisables.{internal_step, internal_end, at_start, at_end, and_disabled, and_left}
 use Rattle.tn_running_node.proofs.function_settings.disable_internal.Goals as goal
 use Rattle.tn_running_node.proofs.function_settings.disable_internal.Goals.{then-branch+in_ok-disable, else-branch}
@@ -22,16 +22,16 @@ loop-function-preserved g c =
     let i = c.loop-function.function-index in
     let x = c.function-item.result in
     let step = internal_step covered fs i x c.loop-function-test.true c.function-item.is in
-    let test : Session → Bool = λ s. is_internal_and_set s (function_pattern_seen covered) (visible_there x) in
+    let test : Session → Bool = λ s. is_internal_and_set s (function_pattern_seen covered) (visible_of x) in
     let whole = internal_from covered fs 0 in
     let rest = internal_from covered fs i in
     let after = internal_from covered fs (i + 1) in
     elim c.if-branch.branch [
       | then-branch+in_ok-disable w ↦
-          let P : code.Session g.row.A.Denot → Type 0 = λ k. LiveBecomes (with_disabled true (visible_there x)) now k in
-          and_disabled start now next whole rest after test true (visible_there x) step (λ v at. sym w.if-branch.true ∙ c.in_ok-is_internal_and_set.ensures v at) (subst P (sym w.session-is) w.in_ok-disable.ensures) c.loop-function.invariant
+          let P : code.Session g.row.A.Denot → Type 0 = λ k. LiveBecomes (with_disabled true (visible_of x)) now k in
+          and_disabled start now next whole rest after test true (visible_of x) step (λ v at. sym w.if-branch.true ∙ c.in_ok-is_internal_and_set.ensures v at) (subst P (sym w.session-is) w.in_ok-disable.ensures) c.loop-function.invariant
       | else-branch w ↦
-          and_left start now next whole rest after test true (visible_there x) step (λ v at. sym w.if-branch.false ∙ c.in_ok-is_internal_and_set.ensures v at) w.session-is c.loop-function.invariant
+          and_left start now next whole rest after test true (visible_of x) step (λ v at. sym w.if-branch.false ∙ c.in_ok-is_internal_and_set.ensures v at) w.session-is c.loop-function.invariant
     ]
 
 pub returns : goal.returns

@@ -4,13 +4,12 @@ use Rattle.std.specs.List.{list_any}
 use Rattle.std.specs.Option.{option_map}
 use Rattle.def_spec.specs.Flags.{call_flag}
 use Rattle.def_explain.specs.Differences.{setting_differences}
-use Rattle.def_running_node.specs.NodeRuns.{is_open_difference}
+use Rattle.def_running_node.specs.NodeRuns.{is_open_difference, opens}
 use Rattle.def_node.specs.Event.{called}
 use Rattle.tn_term.specs.Views.{mfa_seen}
 use Rattle.tn_flags.specs.Views.{call_seen}
 use Rattle.tn_guard.specs.Views.{value_seen}
 use Rattle.tn_session.specs.Looks.{look_seen, look_setting, newest_seen}
-use Rattle.tn_running_node.specs.Evaluations.{OpensAt}
 use Rattle.tn_running_node.proofs.CallSettings.{same_context, context_of, is_true, caller_lent, call_uncovered, call_unnamed, call_covered}
 use Rattle.tn_running_node.proofs.opens.call_opens.Goals as goal
 
@@ -27,7 +26,7 @@ returns g c =
     let k = call_seen c.args.call.now in
     let its = look_setting c.in-Some.newest.setting in
     let here = context_of c.args.pid (map value_seen c.as_slice.result.now) (option_map (λ f. mfa_seen f.now) c.as_ref-caller.result) s.alive s.flags in
-    IfOk-weaker c.values_open.result (λ b. b ≡ list_any is_open_difference (setting_differences its here)) (OpensAt c.args.look.now (called c.args.pid k))
+    IfOk-weaker c.values_open.result (λ b. b ≡ list_any is_open_difference (setting_differences its here)) (λ b. b ≡ opens s (called c.args.pid k))
     (λ b h. call_covered s c.args.pid k its c.in-Some.newest.local b here (sym (ap (option_map newest_seen) c.in-Some.is) ∙ c.newest.ensures) (sym c.concerns.ensures ∙ c.if-not-concerns.false)
     (ap (λ f. f call_flag) (sym c.flags_at.ensures) ∙ is_true c.flags_at.result.call c.if-not-flags_at.false)
     (same_context c.args.pid _ k.args _ k.caller _ s.alive _ s.flags (ap (map value_seen) c.as_slice.ensures.value ∙ c.in_ok-args.ensures) (caller_lent c.as_ref-caller.result c.args.call.now.caller c.as_ref-caller.ensures.value) refl refl) h)

@@ -1,7 +1,7 @@
-use Rattle.std.proofs.Common.{◌∙◌, ◌++◌, [], map, Option, option_to_list, is_some, ap, sym, subst}
+use Rattle.std.proofs.Common.{◌∙◌, ◌++◌, [], map, Option, is_some, ap, sym, subst}
 use Rattle.std.specs.Option.{option_map}
-use Rattle.def_explain.specs.Accounts.{said, differs, differs_uncounted, step_lines, difference_lines}
-use Rattle.def_explain.specs.Differences.{event_difference, step_differences}
+use Rattle.def_explain.specs.Accounts.{said, differs_uncounted, step_lines, difference_lines}
+use Rattle.def_explain.specs.Differences.{step_differences}
 use Rattle.def_explain.specs.Limits.{limit_said}
 use Rattle.def_term.specs.Tree.{Tree}
 use Rattle.tn_flags.specs.Views.{event_of}
@@ -13,7 +13,7 @@ use Rattle.tn_explain.specs.StepDifferences.{AreBefore}
 use Rattle.tn_explain.specs.Evaluations.{GivesOf}
 use Rattle.tn_explain.specs.Lines.{PutsLines}
 use Rattle.tn_explain.specs.LineParts.{lines_after}
-use Rattle.tn_explain.proofs.DifferenceLines.{all_known, some-mapped}
+use Rattle.tn_explain.proofs.DifferenceLines.{all_known, some-mapped, no_difference_at_end}
 use Rattle.tn_explain.proofs.SessionLines.{if_seen, there, and_there, after, state, evaluated_made}
 use Rattle.tn_explain.proofs.LineTexts.{on_ok, more, other}
 use Rattle.tn_explain.proofs.line.Lines.put_evaluated.Goals as goal
@@ -26,7 +26,7 @@ returns-clause-ok g c =
     let o = c.args.out.now.items in
     let r = c.in_ok-evaluation.evaluation in
     let end = c.put_after.new.out.items in
-    on_ok c.put_event_difference.result _ _
+    on_ok c.put_step_differences.result _ _
     (λ made. if_seen look_seen _ c.in-Some.look _ c.in-Some.ensures (λ (s : SessionValue) is seen phase none.
     let m = option_map message_seen c.in_ok-message.message in
     let gives = and_there _ s _ is c.in_ok-message.ensures.reported in
@@ -43,9 +43,9 @@ returns-clause-ok g c =
     (more n (step_lines s.state l e) (difference_lines s.state e) _ c.put_step_differences.new.out.items _
     (more n (map said (limit_said s.state l e)) (map differs_uncounted (step_differences s.state l e)) _ c.put_limit.new.out.items _
     (other n _ (map said (limit_said s.state l e)) _ _ (ap (map said) (c.limit_at-limit.ensures ∙ ap (λ x. limit_said x l e) same)) c.in_ok-put_limit.ensures.ok)
-    (other n _ (map differs_uncounted (step_differences s.state l e)) _ _ (ap (map differs_uncounted) (all_known s.state l e c.is_some.result c.of-before.result c.after-steps.result phase counted before c.after-steps.ensures)) c.in_ok-put_step_differences.ensures.ok))
-    (other n _ (difference_lines s.state e) _ _ (ap (λ x. map differs (option_to_list x)) (c.end_difference-at_end.ensures none ∙ ap (λ x. event_difference x e) same)) made))))
-    c.put_event_difference.ensures.ok
+    (other n _ (map differs_uncounted (step_differences s.state l e)) _ _ (ap (map differs_uncounted) (all_known s.state l e c.is_some.result c.of-before.result c.after-steps.result phase counted before c.after-steps.ensures)) made))
+    (no_difference_at_end n s.state e c.put_step_differences.new.out.items none))))
+    c.put_step_differences.ensures.ok
 
 pub returns-clause-grows : goal.returns-clause-grows
-returns-clause-grows g c = grows_on (grows_on (grows_on (grows_on (grows_on c.put_before.ensures.grows c.put_reported.ensures.grows) c.put_text.ensures.grows) c.put_limit.ensures.grows) c.put_step_differences.ensures.grows) c.put_event_difference.ensures.grows
+returns-clause-grows g c = grows_on (grows_on (grows_on (grows_on c.put_before.ensures.grows c.put_reported.ensures.grows) c.put_text.ensures.grows) c.put_limit.ensures.grows) c.put_step_differences.ensures.grows

@@ -1,4 +1,3 @@
-use Rattle.std.proofs.Common.{◌≡◌, ◌∙◌, map, sym, ap, subst}
 use Rattle.def_run.specs.Run.{event_item}
 use Rattle.tn_flags.specs.Views.{event_of}
 use Rattle.tn_node.specs.Outlooks.{outlook_seen}

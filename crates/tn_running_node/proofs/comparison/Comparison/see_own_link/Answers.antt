@@ -1,4 +1,4 @@
-use Rattle.std.proofs.Common.{◌∙◌, ap, Some}
+use Rattle.std.proofs.Common.{ap}
 use Rattle.std.specs.Option.{option_map}
 use Rattle.tn_flags.specs.Views.{event_of}
 use Rattle.tn_process.specs.Outlooks.{own_link_seen}
