@@ -1,0 +1,74 @@
+# Completion of tracenode's command line for bash: source this file, as ~/.bashrc may do.
+
+# Files and folders that begin so, which may begin with a quote. A folder is followed by a slash, and a name with blanks
+# is quoted.
+_tracenode_files() {
+    local names begun=${1//\\/}
+    mapfile -t names < <(compgen -f -- "${begun#[\"\']}")
+    COMPREPLY+=("${names[@]}")
+    compopt -o filenames 2>/dev/null
+}
+
+_tracenode() {
+    local word=${COMP_WORDS[COMP_CWORD]} before=${COMP_WORDS[COMP_CWORD - 1]} command=${COMP_WORDS[1]} words=
+    COMPREPLY=()
+    # --expect=FILE is three words here
+    case $before,$word in
+        =,*) before=${COMP_WORDS[COMP_CWORD - 2]} ;;
+        *,=) before=${COMP_WORDS[COMP_CWORD - 1]} word= ;;
+    esac
+    if [ "$COMP_CWORD" -eq 1 ]; then
+        words='replay round workers explain draw spec help -h --help -V --version'
+        case ${COMP_WORDS[0]} in
+            */*) words+=' --prove --install' ;;
+        esac
+    else
+        case $before in
+            --picks | --moves | --limit | --n | --turns | --spread | --session | --move | --list | --me | --caller) return ;;
+            --expect-line | --reject-line | --max-output) return ;;
+            --for)
+                COMPREPLY=($(compgen -W 'call send receive' -- "$word"))
+                return
+                ;;
+            --control)
+                COMPREPLY=($(compgen -W 'first' -- "$word"))
+                return
+                ;;
+            --picks-file | --moves-file | --expect | --install)
+                _tracenode_files "$word"
+                return
+                ;;
+        esac
+        case $command in
+            replay)
+                words='--picks --picks-file --moves --moves-file --quiet --summary --json'
+                words+=' --expect --expect-line --reject-line --strict --max-output -h --help'
+                ;;
+            round)
+                words='--limit --control --quiet --summary --json'
+                words+=' --expect --expect-line --reject-line --strict --max-output -h --help'
+                ;;
+            workers)
+                words='--n --turns --spread --quiet --summary --json'
+                words+=' --expect --expect-line --reject-line --strict --max-output -h --help'
+                ;;
+            explain)
+                words='--picks --picks-file --moves --moves-file --round --limit --control --session --move --node'
+                words+=' --json --expect --expect-line --reject-line --strict --max-output -h --help'
+                ;;
+            draw)
+                words='--picks --picks-file --moves --moves-file --text'
+                words+=' --expect --expect-line --reject-line --strict --max-output -h --help'
+                ;;
+            spec) words='--list --for --me --caller --json -h --help' ;;
+            help) words='replay round workers explain draw spec' ;;
+        esac
+    fi
+    COMPREPLY=($(compgen -W "$words" -- "$word"))
+    [ "$COMP_CWORD" -gt 1 ] || return
+    case $command in
+        replay | round | workers | explain | draw) _tracenode_files "$word" ;;
+    esac
+}
+
+complete -F _tracenode tracenode ./tracenode
