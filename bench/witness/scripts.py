@@ -190,8 +190,13 @@ class ScriptChooser:
     def first_command(self):
         """Sets most of the flags that tell something."""
         telling = [Atom("send"), Atom("receive"), Atom("call"), Atom("call"), Atom("procs")]
-        flags = sorted(set(self.chance.sample(telling, 4)))
-        return (Atom("process"), self.session, self.one([Atom("all"), Atom("existing"), Pid(100)]), TRUE, flags)
+        flags = set(self.chance.sample(telling, 4))
+        if self.often(0.2):
+            # Others have flags by a link alone.
+            flags |= {Atom("procs"), self.one([Atom("set_on_link"), Atom("set_on_first_link")])}
+            return (Atom("process"), self.session, Pid(100), TRUE, sorted(flags))
+        whom = self.one([Atom("all"), Atom("existing"), Pid(100)])
+        return (Atom("process"), self.session, whom, TRUE, sorted(flags))
 
     def process_command(self):
         """Sets flags, or sometimes clears some, or none."""
