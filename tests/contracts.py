@@ -1,71 +1,15 @@
-"""Holds docs/PROMISES.md against the crates: which public functions have a complete contract, and by which proof.
+"""Compares docs/PROMISES.md with the crates: which public functions have a complete contract, and by which proof.
 
-Each public function of a crate that "Complete contracts" has a table of has one row there. A row that says
-"determined" names a function of a complete_* crate, whose doc line names the public function.
+Each crate tn_* has a table in "Complete contracts", with one row for each of its public functions. A row that says
+"determined" names a function of a complete_* crate, whose comment names the public function and which calls it twice.
 """
-import pathlib
 import re
 
-TOP = pathlib.Path(__file__).resolve().parent.parent
-CRATES = TOP / "crates"
-PROMISES = TOP / "docs" / "PROMISES.md"
+from completeness import completeness_functions, public_function, shows_one_answer
+from sources import CRATES, chapter, crates, functions, public_functions, root, trait_methods
+
 CONTRACTS = "## Complete contracts"
 BODIES = "## Wrong bodies that must be refused"
-
-
-def chapter(title):
-    """The text of a chapter of docs/PROMISES.md."""
-    return PROMISES.read_text().partition(title)[2].partition("\n## ")[0]
-
-
-def sources(crate):
-    """Each source file of a crate, by its module's name."""
-    return {path.stem: path.read_text() for path in sorted((CRATES / crate / "src").rglob("*.rt"))}
-
-
-def exports(crate):
-    """The names that the crate's root hands on."""
-    root = (CRATES / crate / "src" / "lib.rt").read_text()
-    uses = re.findall(r"^pub use [\w:]+::(\{[^}]*\}|\w+);", root, re.M)
-    return {name for words in uses for name in re.findall(r"\w+", words)}
-
-
-def public_functions(crate):
-    """The public functions of a crate: those that its root hands on, and the methods of such types."""
-    handed = exports(crate)
-    found = set()
-    for text in sources(crate).values():
-        found |= {name for name in re.findall(r"^pub fn (\w+)", text, re.M) if name in handed}
-        for header, body in re.findall(r"^impl\b([^{]*?)\{\n(.*?)^\}", text, re.M | re.S):
-            kind = re.search(r"(\w+)(?:<[^{]*)?\s*$", re.sub(r"^<[^{]*?>\s(?=\w)", "", header.strip()))
-            if " for " in header or not kind or kind[1] not in handed:
-                continue
-            found |= {f"{kind[1]}::{name}" for name in re.findall(r"^    pub fn (\w+)", body, re.M)}
-    return found
-
-
-def trait_methods(crate):
-    """The methods of traits that a crate declares, and those that its types have."""
-    found = set()
-    for text in sources(crate).values():
-        for kind, body in re.findall(r"^pub trait (\w+)[^{]*\{\n(.*?)^\}", text, re.M | re.S):
-            found |= {f"{kind}::{name}" for name in re.findall(r"^    fn (\w+)", body, re.M)}
-        for header, body in re.findall(r"^impl\b([^{]*?)\{\n(.*?)^\}", text, re.M | re.S):
-            kind = re.search(r" for (\w+)", header)
-            if kind:
-                found |= {f"{kind[1]}::{name}" for name in re.findall(r"^    fn (\w+)", body, re.M)}
-    return found
-
-
-def proofs():
-    """Each function of the complete_* crates, by its path, with the public function that its doc line names."""
-    found = {}
-    for folder in sorted(CRATES.glob("complete_*")):
-        for module, text in sources(folder.name).items():
-            for doc, name in re.findall(r"((?:^///[^\n]*\n)+)(?:^#\[[^\n]*\n)*^pub fn (\w+)", text, re.M):
-                named = re.match(r"/// `(\w+)::([\w:]+)` ", doc)
-                found[f"{folder.name}::{module}::{name}"] = named.groups() if named else None
-    return found
 
 
 def tables():
@@ -75,6 +19,13 @@ def tables():
         crate = part.partition("\n")[0].strip(" `")
         found[crate] = re.findall(r"^\| `([^`]+)` \| ([^|]+) \| (?:`([^`]+)`)? *\|$", part, re.M)
     return found
+
+
+def functions_to_list(crate):
+    """The functions that a table has a row of: of a program, which hands on no names, those that its modules share."""
+    if root(crate).name == "main.rt":
+        return {each.title for each in functions(crate) if each.is_public}
+    return public_functions(crate)
 
 
 def edits():
@@ -90,16 +41,20 @@ def findings():
     for crate in {path.partition("/")[0] for path in there}:
         count = sum(path.startswith(f"{crate}/") for path in there)
         yield f"the must-fail edits of {crate}", 2 <= count <= 5, count
-    known, listed_ones = proofs(), set()
+    coded = {crate for crate in crates() if crate.startswith("tn_")}
+    yield "each crate tn_* has a table of contracts", set(tables()) == coded, set(tables()) ^ coded
+    known, listed_ones = dict(completeness_functions()), set()
     for crate, rows in tables().items():
         listed = [function for function, _, _ in rows]
-        public, inherited = public_functions(crate), trait_methods(crate)
+        public, inherited = functions_to_list(crate), trait_methods(crate)
         good = len(set(listed)) == len(listed) and public <= set(listed) <= public | inherited
         yield f"the contracts of {crate} are listed", good, set(listed) ^ public
         for function, says, proof in rows:
             listed_ones.add((crate, function))
-            good = says.startswith("determined") and known.get(proof) == (crate, function)
+            each = known.get(proof)
+            good = says.startswith("determined") and each and public_function(each) == (crate, function)
+            good = good and shows_one_answer(each)
             free = says.startswith("free: ") and not proof
-            yield f"the contract of {crate}::{function}", good or free, (says, proof, known.get(proof))
-    for path, function in known.items():
-        yield f"{path} is listed", function in listed_ones, function
+            yield f"the contract of {crate}::{function}", good or free, (says, proof)
+    for path, each in known.items():
+        yield f"{path} is listed", public_function(each) in listed_ones, each.comment

@@ -10,10 +10,13 @@ import subprocess
 import tempfile
 import time
 
+import claims as promised_claims
+import completeness
 import contracts
 import inventories
 import names as source_names
 import promises as promise_tables
+import weakenings
 from harness import SECONDS, TOP, check, run
 
 # The options of ./tracenode, which are not the program's.
@@ -180,8 +183,14 @@ def completions():
 
 
 def promises():
-    """The contracts and the wrong bodies that docs/PROMISES.md lists, held against the crates."""
+    """The contracts and the wrong bodies that docs/PROMISES.md lists, compared with the crates."""
     for name, holds, seen in (*contracts.findings(), *promise_tables.findings()):
+        check(name, holds, seen)
+
+
+def claims():
+    """What the completeness functions ensure, and the text of each contract that is claimed; that weaker ones are found."""
+    for name, holds, seen in (*completeness.findings(), *promised_claims.findings(), *weakenings.findings()):
         check(name, holds, seen)
 
 

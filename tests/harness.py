@@ -1,10 +1,10 @@
 """What the cases share: the programs that are tested, how one is run, and how cases are counted."""
 import os
-import pathlib
 import signal
 import subprocess
 
-TOP = pathlib.Path(__file__).resolve().parent.parent
+from sources import TOP
+
 PROGRAM = TOP / "crates" / "tn_cli" / "out" / "tn_cli"
 PLAIN = TOP / "crates" / "tn_plain" / "out" / "tn_plain"
 PROBE = TOP / "crates" / "probe_memory" / "out" / "probe_memory"

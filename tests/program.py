@@ -78,6 +78,7 @@ SUBJECTS = {
         document_cases.documents,
         document_cases.completions,
         document_cases.promises,
+        document_cases.claims,
         document_cases.lists,
         document_cases.names,
     ),
@@ -92,7 +93,13 @@ SUBJECTS = {
 }
 
 # What reads documents and sources alone.
-WITHOUT_PROGRAM = {document_cases.promises, document_cases.lists, document_cases.names, document_cases.completions}
+WITHOUT_PROGRAM = {
+    document_cases.promises,
+    document_cases.claims,
+    document_cases.lists,
+    document_cases.names,
+    document_cases.completions,
+}
 
 
 def main():
@@ -115,4 +122,5 @@ def main():
     sys.exit(harness.failed > 0)
 
 
-main()
+if __name__ == "__main__":
+    main()

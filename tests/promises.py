@@ -1,17 +1,16 @@
 #!/usr/bin/env python3
-"""Makes the tables of crates in docs/PROMISES.md from the head comments of the crates.
+"""Makes the tables of crates in docs/PROMISES.md from the comments that the crates open with.
 
     tests/promises.py           says whether the tables are those of the crates
     tests/promises.py --write   writes them
 
 A crate opens with a comment: a paragraph on what it is for, and one on what it depends on and promises. Each is a cell.
 """
-import pathlib
 import re
 import sys
 
-TOP = pathlib.Path(__file__).resolve().parent.parent
-PROMISES = TOP / "docs" / "PROMISES.md"
+from sources import PROMISES, comment_of, listed_crates, read
+
 CHAPTERS = {
     "## Definitions: what is proved of them": ("def_",),
     "## Code: what the contracts say": ("tn_", "complete_"),
@@ -19,33 +18,18 @@ CHAPTERS = {
 HEADER = ("| Crate | What it is for | What it depends on and promises |", "|---|---|---|")
 
 
-def listed():
-    """The crates in the order of crates.txt."""
-    for line in (TOP / "crates.txt").read_text().splitlines():
-        if line and not line.startswith("#"):
-            yield line.partition(":")[0].split()[0]
-
-
-def head(crate):
-    """The paragraphs of a crate's head comment."""
-    folder = TOP / "crates" / crate / "src"
-    root = folder / "lib.rt" if (folder / "lib.rt").exists() else folder / "main.rt"
-    text = "\n".join(re.findall(r"^//! ?(.*)$", root.read_text(), re.M))
-    return [" ".join(part.split()) for part in text.split("\n\n")]
-
-
 def table(prefixes):
     """The lines of the table of the crates whose names begin so."""
     yield from HEADER
-    for crate in listed():
+    for crate, _ in listed_crates():
         if crate.startswith(prefixes):
-            first, *rest = head(crate)
+            first, *rest = comment_of(crate)
             yield f"| `{crate}` | {first} | {' '.join(rest)} |".replace("  ", " ")
 
 
 def written():
     """The page with its tables made anew: the first table of each chapter is replaced."""
-    page = PROMISES.read_text()
+    page = read(PROMISES)
     for title, prefixes in CHAPTERS.items():
         before, found, after = page.partition(title + "\n")
         chapter = re.sub(r"(?:^\|.*\n)+", lambda _: "\n".join(table(prefixes)) + "\n", after, count=1, flags=re.M)
@@ -55,10 +39,10 @@ def written():
 
 def findings():
     """Whether the tables are those of the crates, and each crate has both paragraphs."""
-    for crate in listed():
-        parts = head(crate)
-        yield f"the head of {crate}", bool(parts[0]) and "Depends on" in " ".join(parts), parts
-    yield "the tables of crates of PROMISES", PROMISES.read_text() == written(), "tests/promises.py --write makes them"
+    for crate, _ in listed_crates():
+        parts = comment_of(crate)
+        yield f"the comment of {crate}", bool(parts[0]) and "Depends on" in " ".join(parts), parts
+    yield "the tables of crates of PROMISES", read(PROMISES) == written(), "tests/promises.py --write makes them"
 
 
 if __name__ == "__main__":
