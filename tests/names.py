@@ -1,16 +1,14 @@
 """Names and shapes of the sources, compared with the rules for them.
 
 A word of the specifications is defined in one file. No function, type, file or word has a bare participle for a name.
-A clause of a contract is a line of at most 120 columns. What is said once is in one file.
+A clause of a contract is a line of at most 120 columns. What is said once is in one file. Comments and documents are in
+the words of the glossary, but for the files that tests/old_words.txt lists with how many other words each has: when one of
+these words goes, its number must go down, and no number may go up.
 """
 import collections
 import re
 
-from contracts import CRATES
-
-# What a line of a specification defines: a word at the margin, or one in a mutual block or a module.
-WORD = re.compile(r"(?:pub )?(?:abbrev|record|data|class)\s+(?:pub )?(?:record |data )?(?!mutual\b)([A-Za-z_][\w'-]*)")
-INNER = re.compile(r"  (?:abbrev )?pub (?:record |data )?([A-Za-z_][\w'-]*)\b(?: [:({])")
+from sources import CRATES, DOCS, TOP, crates, files, functions, read, words_of
 
 # Participles that don't end in -ed or -ing.
 IRREGULAR = set(
@@ -26,6 +24,19 @@ NOUNS = {
 }
 SURFACE = {"closed", "created", "failed", "made", "moved", "seen", "split", "spread", "watched"}
 
+# The forms in which a comment may have the words that the glossary has others for.
+FORMS = {
+    "tells": r"tell|tells|told|telling",
+    "behind": r"behind",
+    "beneath": r"beneath",
+    "stands on": r"(?:stand|stands|stood|standing) on",
+    "dear": r"dear|dearer|dearest",
+    "want of memory": r"want of memory",
+    "mend": r"mend|mends|mended|mending",
+    "held against": r"(?:hold|holds|held|holding)(?: \w+){0,3} against",
+}
+OLD_WORDS = TOP / "tests" / "old_words.txt"
+
 
 def is_participle(name):
     """Whether a name is one participle alone."""
@@ -35,79 +46,99 @@ def is_participle(name):
     return word not in NOUNS | SURFACE and (word in IRREGULAR or re.search(r"(?:ed|ing)$", word) is not None)
 
 
-def words_of(path):
-    """The words that a specification defines."""
-    block = ""
-    for line in path.read_text().splitlines():
-        if line.startswith("--") or not line.strip():
-            continue
-        if not line[0].isspace():
-            block = line
-            found = WORD.match(line)
-        else:
-            found = INNER.match(line) if re.match(r"(?:abbrev )?mutual|module", block) else None
-        if found:
-            yield found[1]
+def title(path):
+    """A file as it is named here."""
+    return str(path.relative_to(CRATES if path.is_relative_to(CRATES) else TOP))
 
 
 def specifications():
-    """Each word of the specifications is defined in one file."""
+    """Each word of the specifications is defined in one file, and each crate of definitions defines some."""
     homes = collections.defaultdict(set)
-    for path in CRATES.glob("*/specs/*.antt"):
-        for word in words_of(path):
-            homes[word].add(f"{path.parts[-3]}/specs/{path.name}")
-    yield "the words of the specifications", len(homes) > 2000, len(homes)
-    for word, files in sorted(homes.items()):
-        if len(files) > 1 or is_participle(word):
-            yield f"the word {word} has one home and is no participle", False, files
-    twice = [word for word, files in homes.items() if len(files) > 1]
+    for crate in crates():
+        for path in files(crate, "specs"):
+            words = list(words_of(path))
+            for word in words:
+                homes[word].add(title(path))
+    crates_with_words = {place.partition("/")[0] for places in homes.values() for place in places}
+    blind = [crate for crate in sorted(crates()) if crate.startswith("def_") and crate not in crates_with_words]
+    yield "each crate of definitions defines words", not blind, blind
+    twice = {word: places for word, places in homes.items() if len(places) > 1}
     yield "no word is defined in two files", not twice, twice
+    participles = [word for word in homes if is_participle(word)]
+    yield "no word is a bare participle", not participles, participles
 
 
 def names():
-    """No function, type or file is named by a bare participle."""
+    """No function, type or file is named by a bare participle, and each name that is excepted is there."""
     found = collections.defaultdict(set)
-    for path in CRATES.glob("*/src/*.rt"):
-        found[path.stem].add(f"{path.parts[-3]}/src/{path.name}")
-        for name in re.findall(r"\b(?:fn|struct|enum|trait|type) (\w+)", path.read_text()):
-            found[name].add(f"{path.parts[-3]}/src/{path.name}")
-    for folder in ("specs", "proofs"):
-        for path in CRATES.glob(f"*/{folder}/*.antt"):
-            found[path.stem].add(f"{path.parts[-3]}/{folder}/{path.name}")
-    bad = {name: files for name, files in found.items() if is_participle(name)}
+    for crate in crates():
+        for path in files(crate, "src"):
+            found[path.stem].add(title(path))
+            for name in re.findall(r"\b(?:fn|struct|enum|trait|type) (\w+)", read(path)):
+                found[name].add(title(path))
+        for path in (*files(crate, "specs"), *files(crate, "proofs")):
+            found[path.stem].add(title(path))
+    bad = {name: places for name, places in found.items() if is_participle(name)}
     yield "no name is a bare participle", not bad, bad
+    text = "\n".join(read(path) for crate in crates() for part in ("src", "specs") for path in files(crate, part))
+    there = {word.lower() for word in re.findall(r"\w+", text)} | {name.lower() for name in found}
+    yield "each name that is excepted is there", SURFACE <= there, SURFACE - there
 
 
 def clauses():
     """Each line of the layers' sources but a long text is at most 120 columns."""
-    for path in [path for path in CRATES.glob("*/src/*.rt") if not path.parts[-3].startswith("test_")]:
-        lines = [line for line in path.read_text().splitlines() if len(line) > 120 and '"' not in line]
-        if lines:
-            yield f"the columns of {path.parts[-3]}/src/{path.name}", False, lines
+    for crate in sorted(name for name in crates() if not name.startswith("test_")):
+        for path in files(crate, "src"):
+            lines = [line for line in read(path).splitlines() if len(line) > 120 and '"' not in line]
+            if lines:
+                yield f"the columns of {title(path)}", False, lines
     yield "the columns of the sources", True, None
 
 
-def files_with(pattern):
-    """The files of the code of the layers that have a pattern."""
-    return sorted(str(path) for path in CRATES.glob("tn_*/src/*.rt") if re.search(pattern, path.read_text()))
-
-
 def once():
-    """What a pick does in a run is matched on in one file; few functions perform a command."""
-    files = files_with(r"\bMoved::Moved\(\w+\) =>")
-    yield "one file matches on what a pick does in a run", len(files) == 1, files
-    performs = [name for path in CRATES.glob("tn_command/src/*.rt") for name in re.findall(r"\bfn (perform\w*)", path.read_text())]
-    yield "at most two functions perform commands", len(performs) <= 2, performs
-    layers = [path.name for path in CRATES.iterdir() if path.name.startswith(("def_", "tn_"))]
-    # The 38 layers; def_moves and tn_moves, which say what should run; def_picture and tn_picture, which draw it;
-    # def_formats and tn_formats, which print what comes of it; tn_difference, what a node does otherwise;
-    # def_refusal, which step or command a script is refused for; tn_reason, why a term is no match specification;
-    # tn_mismatch, where a head that doesn't match first differs; tn_remark, the lines of what is remarked of commands;
-    # and def_running_node and tn_running_node, what the sessions of a running node report beside those of the model.
-    yield "at most 51 crates beside those of completeness and callers", len(layers) <= 51, len(layers)
+    """What a pick does in a run is matched on in one file; one function performs commands, and one does over any ends."""
+    coded = [path for crate in sorted(crates()) if crate.startswith("tn_") for path in files(crate, "src")]
+    places = [title(path) for path in coded if re.search(r"\bMoved::Moved\(\w+\) =>", read(path))]
+    yield "one file matches on what a pick does in a run", len(places) == 1, places
+    performs = sorted(each.name for each in functions("tn_command") if each.name.startswith("perform"))
+    yield "one function performs commands, and one over any ends", performs == ["perform", "perform_over"], performs
+
+
+def prose(path):
+    """The comments of a source, or the prose of a document without what is in backquotes, in one line."""
+    if path.suffix == ".md":
+        return " ".join(re.sub(r"^    .*$|`[^`\n]*`", "", read(path), flags=re.M).split())
+    lines = re.findall(r"^ *//[/!]*(.*)$" if path.suffix == ".rt" else r"^ *--+(.*)$", read(path), re.M)
+    return " ".join(" ".join(lines).split())
+
+
+def forbidden_words():
+    """The words that the glossary has others for, as its last line says."""
+    last = read(DOCS / "GLOSSARY.md").rstrip().rpartition("\n")[2]
+    return [word for group in re.findall(r'for ("[^"]+"(?: and "[^"]+")*)', last) for word in re.findall(r'"([^"]+)"', group)]
+
+
+def old_words():
+    """How many of those words each source and each document but the glossary has, of those that have any."""
+    pattern = re.compile(rf"\b(?:{'|'.join(FORMS[word] for word in forbidden_words())})\b", re.I)
+    sources = [path for crate in sorted(crates()) for part in ("src", "specs", "proofs") for path in files(crate, part)]
+    documents = [TOP / "README.md", TOP / "CHANGELOG.md", *sorted(DOCS.glob("*.md"))]
+    for path in (*sources, *(path for path in documents if path.name != "GLOSSARY.md")):
+        count = len(pattern.findall(prose(path)))
+        if count:
+            yield f"{title(path)} {count}"
+
+
+def glossary():
+    """Each word that the glossary has another for is known here; there are as many as are stored, and no more."""
+    unknown = [word for word in forbidden_words() if word not in FORMS]
+    yield "the words that the glossary has others for", not unknown and len(forbidden_words()) == len(FORMS), unknown
+    stored, there = set(read(OLD_WORDS).splitlines()), set(old_words())
+    yield "the words of comments and documents are the glossary's", not there - stored, sorted(there - stored)
+    yield "tests/old_words.txt counts no words that are gone", not stored - there, sorted(stored - there)
 
 
 def findings():
     """Each thing to hold: its name, whether it holds, and what was seen."""
-    for part in (specifications, names, clauses, once):
+    for part in (specifications, names, clauses, once, glossary):
         yield from part()
