@@ -1,7 +1,7 @@
 """Cases of the built program: summaries and JSON, worked out by hand and read by Python's json."""
 import json
 
-from harness import EXAMPLES, NO_FORMS, SEND_HI, SEND_HI_PICKS, check, run, wants
+from harness import EXAMPLES, NO_FORMS, SEND_HI, SEND_HI_PICKS, check, parsed, run, wants
 
 KINDS = """send send_to_non_existing_process 'receive' call return_from exception_from spawn spawned exit link unlink
     getting_linked getting_unlinked""".split()
@@ -120,7 +120,7 @@ def account(text):
 
 def holds(name, ran, wanted):
     """Each line of a run is one JSON value, these in order, with their keys in order."""
-    pairs = [json.loads(line, object_pairs_hook=list) for line in ran.stdout.splitlines()]
+    pairs = parsed(name, lambda text: [json.loads(line, object_pairs_hook=list) for line in text.splitlines()], ran.stdout)
     check(name, ran.returncode == 0 and pairs == [list(value.items()) for value in wanted], ran)
 
 
@@ -168,9 +168,10 @@ def of_examples():
 def of_workers():
     """A run by workers in a format is that of the replay of its journal."""
     ran = run(["workers", "--n", "2", "--quiet", "--json"], SEND_HI)
-    journal = json.loads(ran.stdout.splitlines()[-1])["journal"]
-    picks = " ".join(str(pick) for pick in journal)
+    name = "the JSON of a run by workers"
+    journal = parsed(name, lambda text: json.loads(text.splitlines()[-1])["journal"], ran.stdout)
+    picks = " ".join(str(pick) for pick in journal or ())
     again = run(["replay", "--picks", picks, "--json"], SEND_HI)
-    check("the JSON of a run by workers", ran.returncode == 0 and ran.stdout == again.stdout, (ran, again))
+    check(name, ran.returncode == 0 and ran.stdout == again.stdout, (ran, again))
     ran = run(["workers", "--n", "1", "--quiet", "--summary"], SEND_HI)
     check("the summary of a run by workers", ran.returncode == 0 and b"send: messages 1, bytes 39\n" in ran.stdout, ran)

@@ -49,6 +49,15 @@ def run(args, script=b"", command=(str(PROGRAM),), **how):
     return subprocess.CompletedProcess(process.args, process.returncode, output, errors)
 
 
+def parsed(name, parse, text):
+    """What a text is parsed as; None, and a case that fails, where it can't be parsed."""
+    try:
+        return parse(text)
+    except (ValueError, SyntaxError, LookupError, TypeError) as error:
+        check(f"{name} can be parsed", False, f"{type(error).__name__}: {error}: {text[:300]}")
+        return None
+
+
 def note_of_nobody(place, pick):
     """The line of a pick that no process can have."""
     told = f"note: pick {place} is {pick}, and no process has that pid: pids are 100 to 163, and 0 takes the next command\n"
@@ -56,7 +65,7 @@ def note_of_nobody(place, pick):
 
 
 def wants(name, ran, status, output, errors=None):
-    """Holds a run against its status, its output and its whole standard error.
+    """Compares a run with its status, its output and its whole standard error.
 
     Where that isn't given it is one line for a refusal, and else nothing.
     """

@@ -5,7 +5,7 @@ import tempfile
 import xml.etree.ElementTree as ElementTree
 
 from explanation_cases import blocks, chapter
-from harness import EXAMPLES, SEND_HI, TOP, check, run, wants
+from harness import EXAMPLES, SEND_HI, TOP, check, parsed, run, wants
 from run_cases import notes_of
 
 SVG = "{http://www.w3.org/2000/svg}"
@@ -52,7 +52,9 @@ def pictures():
         text, picks = script.read_bytes(), picks_of(script)
         ran = run(["draw", "--picks", picks], text)
         check(f"the picture of example {script.stem}", ran.returncode == 0 and not ran.stderr, ran)
-        picture = ElementTree.fromstring(ran.stdout)
+        picture = parsed(f"the picture of example {script.stem}", ElementTree.fromstring, ran.stdout)
+        if picture is None:
+            continue
         marks = list(tooltips(picture))
         wanted = listings(text, picks)
         numbers = range(1, len(wanted) + 1)
@@ -80,7 +82,8 @@ def drawings():
     wants("an empty picture", run(["draw", "--picks", "", "--text"]), 0, b"        \n")
     marked = SEND_HI.replace(b"hi,", b"'<&\">',")
     ran = run(["draw", "--picks", "0 0 100 100"], marked)
-    titles = [title for _, titles in tooltips(ElementTree.fromstring(ran.stdout)) for title in titles]
+    picture = parsed("a picture with markup", ElementTree.fromstring, ran.stdout)
+    titles = [title for _, titles in tooltips(picture) for title in titles] if picture is not None else []
     check("a tooltip with markup", titles == ["{trace,<0.100.0>,send,{'<&\">',1},<0.101.0>}"], ran)
     with tempfile.NamedTemporaryFile(suffix=".term") as script:
         script.write(SEND_HI)

@@ -10,7 +10,6 @@ exit status, where it isn't 0 (status). The modules NAME_cases.py have the cases
 subject or the name of one function of cases. The last line is 'N passed, M failed'.
 """
 import argparse
-import subprocess
 import sys
 
 # The modules beside this program leave no compiled files in the checkout.
@@ -36,6 +35,7 @@ SUBJECTS = {
         run_cases.plain,
         run_cases.examples,
         run_cases.workers,
+        run_cases.last_moves,
         run_cases.full_journals,
         run_cases.many_lines,
         run_cases.passes,
@@ -116,8 +116,8 @@ def main():
     for part in chosen:
         try:
             part()
-        except (OSError, subprocess.SubprocessError) as error:
-            harness.check(part.__name__, False, error)
+        except Exception as error:  # A part that can't go on is a case that fails, and the others are run.
+            harness.check(part.__name__, False, f"{type(error).__name__}: {error}")
     print(f"{harness.passed} passed, {harness.failed} failed")
     sys.exit(harness.failed > 0)
 

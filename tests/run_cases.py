@@ -74,13 +74,33 @@ def called(name):
     yield None
 
 
+# How many picks of a run may move.
+MOST_MOVES = 65536
+
+
+def last_moves():
+    """The last picks that move: one fewer than may, as many, and one more, which is passed over; so it is of moves."""
+    script = CALLS.encode()
+    outputs = [b"== replies\n== journal\n" + b" ".join([b"100"] * count) + b"\n" for count in (MOST_MOVES - 1, MOST_MOVES)]
+    with tempfile.NamedTemporaryFile() as file:
+        for count, output in zip((MOST_MOVES - 1, MOST_MOVES, MOST_MOVES + 1), (*outputs, outputs[1])):
+            file.seek(0)
+            file.write(b" ".join([b"100"] * count))
+            file.flush()
+            wants(f"{count:,} picks that could move", run(["replay", "--picks-file", file.name], script), 0, output)
+    one_fewer = str(MOST_MOVES - 1)
+    wants("a round of one fewer than may move", run(["round", "--limit", one_fewer], script), 0, outputs[0])
+    for times, output in ((f"100*{one_fewer}", outputs[0]), (f"100*{one_fewer} 100*2", outputs[1])):
+        wants(f"the moves {times}", run(["replay", "--moves", times], script), 0, output)
+
+
 def full_journals():
     """A full journal: by a round, by picks and more picks, and by passes after a worker's one turn; and with a message at each call."""
-    journal = b" ".join([b"100"] * 65536)
+    journal = b" ".join([b"100"] * MOST_MOVES)
     output = b"== replies\n== journal\n" + journal + b"\n"
-    wants("a full journal", run(["round", "--limit", "65536"], CALLS.encode()), 0, output)
+    wants("a full journal", run(["round", "--limit", str(MOST_MOVES)], CALLS.encode()), 0, output)
     wants("passes until the journal is full", run(["workers", "--n", "1", "--turns", "1"], CALLS.encode()), 0, output)
-    picks = [*["0"] * 3, *["100"] * 65533]
+    picks = [*["0"] * 3, *["100"] * (MOST_MOVES - 3)]
     script = CALLS + "{control,[{session_create,s1,t1,[]},{process,s1,all,true,[call]},{function,s1,{m,'_','_'},true,[local]}]}.\n"
     lines = ["{trace,<0.100.0>,call,{m,%s,[]}}\n" % name for _, name in zip(picks[3:], called("a")) if name]
     told = "== session s1 tracer t1\n%s== replies\n{session,s1}\n1\n4\n== journal\n%s\n" % ("".join(lines), " ".join(picks))
@@ -88,7 +108,7 @@ def full_journals():
         file.write(journal + b" 100 999 0")
         file.flush()
         ran = run(["replay", "--picks-file", file.name], CALLS.encode())
-        wants("picks after a full journal", ran, 0, output, note_of_nobody(65538, 999))
+        wants("picks after a full journal", ran, 0, output, note_of_nobody(MOST_MOVES + 2, 999))
         file.seek(0)
         file.truncate()
         file.write(" ".join(picks).encode())
