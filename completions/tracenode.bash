@@ -20,7 +20,7 @@ _tracenode() {
     if [ "$COMP_CWORD" -eq 1 ]; then
         words='replay round workers explain draw spec help -h --help -V --version'
         case ${COMP_WORDS[0]} in
-            */*) words+=' --prove --install' ;;
+            */*) words+=' --prove --install --release' ;;
         esac
     else
         case $before in
@@ -34,7 +34,7 @@ _tracenode() {
                 COMPREPLY=($(compgen -W 'first' -- "$word"))
                 return
                 ;;
-            --picks-file | --moves-file | --expect | --install)
+            --picks-file | --moves-file | --expect | --install | --release)
                 _tracenode_files "$word"
                 return
                 ;;

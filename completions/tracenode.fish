@@ -10,6 +10,7 @@ complete -c tracenode -n __fish_use_subcommand -f -a help -d 'Print the help of 
 complete -c tracenode -n __fish_use_subcommand -s V -l version -d 'Print version'
 complete -c tracenode -n __fish_use_subcommand -l prove -d 'Prove and build the program, in its checkout'
 complete -c tracenode -n __fish_use_subcommand -l install -r -d 'Copy the program to a folder, from its checkout'
+complete -c tracenode -n __fish_use_subcommand -l release -r -d 'Put the program into an archive in a folder, from its checkout'
 complete -c tracenode -s h -l help -d 'Print help'
 complete -c tracenode -n '__fish_seen_subcommand_from replay' -l picks -x -d 'The picks'
 complete -c tracenode -n '__fish_seen_subcommand_from replay' -l picks-file -r -d 'The file of the picks'

@@ -1,7 +1,11 @@
 """Cases of the command line and of the start script: files, wrong words, help, builds, links and installations."""
+import datetime
+import hashlib
 import os
 import pathlib
+import re
 import subprocess
+import tarfile
 import tempfile
 
 from harness import EMPTY, EXAMPLES, NO_FORMS, PROGRAM, SEND_HI, SEND_HI_OUTPUT, SEND_HI_PICKS, START, TEXT_BYTES, TOP
@@ -508,15 +512,84 @@ def installs():
             check(f"the installed {path}", good)
         ran = run(SEND_HI_PICKS, SEND_HI, command=(str(root / "bin" / "tracenode"),), cwd="/")
         wants("the installed program", ran, 0, SEND_HI_OUTPUT)
-        for words in (["--install"], ["--install", ""], ["--install", "a", "b"]):
-            ran = run(words, command=(str(START),), cwd=folder)
-            check(f"the words {words}", ran.returncode == 2 and not ran.stdout and ran.stderr.count(b"\n") == 1, ran)
-        bare = pathlib.Path(folder) / "bare"
-        (bare / "crates" / "tn_cli" / "src").mkdir(parents=True)
-        (bare / "crates" / "tn_cli" / "src" / "main.rt").touch()
-        (bare / "crates.txt").touch()
-        (bare / "tracenode").write_bytes(START.read_bytes())
-        (bare / "tracenode").chmod(0o755)
-        ran = run(["--install", "c"], command=(str(bare / "tracenode"),), cwd=folder)
-        is_refused = ran.returncode == 3 and not ran.stdout and b"--prove" in ran.stderr
-        check("an installation where nothing is built", is_refused and not (pathlib.Path(folder) / "c").exists(), ran)
+        without_program("--install", pathlib.Path(folder))
+
+
+def without_program(option, folder):
+    """What the start script says of this option's words, and where nothing is built: it makes nothing then."""
+    for words in ([option], [option, ""], [option, "a", "b"]):
+        ran = run(words, command=(str(START),), cwd=folder)
+        check(f"the words {words}", ran.returncode == 2 and not ran.stdout and ran.stderr.count(b"\n") == 1, ran)
+    bare = folder / "bare"
+    (bare / "crates" / "tn_cli" / "src").mkdir(parents=True)
+    (bare / "crates" / "tn_cli" / "src" / "main.rt").touch()
+    (bare / "crates.txt").touch()
+    (bare / "tracenode").write_bytes(START.read_bytes())
+    (bare / "tracenode").chmod(0o755)
+    ran = run([option, "nowhere"], command=(str(bare / "tracenode"),), cwd=folder)
+    is_refused = ran.returncode == 3 and not ran.stdout and b"--prove" in ran.stderr and ran.stderr.count(b"\n") == 1
+    check(f"{option} where nothing is built", is_refused and not (folder / "nowhere").exists(), ran)
+
+
+# The documents of an archive, beside the pictures and the examples.
+DOCUMENTS = ("README.md", "CHANGELOG.md", "LICENSE", "docs/MANUAL.md", "docs/GLOSSARY.md", "docs/DIFFERENCES.md")
+
+
+def archive_files():
+    """The files of an archive, each with the one that it is a copy of."""
+    paths = [*(TOP / name for name in DOCUMENTS), *(TOP / "docs").glob("*.svg"), *EXAMPLES.glob("*.term")]
+    return {**INSTALLED, **{f"share/doc/tracenode/{path.relative_to(TOP)}": path for path in paths}}
+
+
+def releases():
+    """The start script's `--release`: what is in the archive, that it is the same each time, and the README's example."""
+    version, system = said_version(), os.uname()
+    name = f"tracenode-{version}-{system.sysname.lower()}-{system.machine}.tar.gz"
+    with tempfile.TemporaryDirectory() as place:
+        folder, found = pathlib.Path(os.path.realpath(place)), []
+        for mask, zone, inner in (("022", "UTC", "a b"), ("077", "Asia/Tokyo", "c/d")):
+            command = ("sh", "-c", f'umask {mask}; exec "$0" "$@"', str(START))
+            ran = run(["--release", inner], command=command, cwd=folder, env=dict(os.environ, TZ=zone))
+            written = f"{folder}/{inner}/{name}\n{folder}/{inner}/{name}.sha256\n"
+            wants(f"a release in {inner}", ran, 0, written.encode())
+            there = sorted(path.name for path in (folder / inner).iterdir())
+            check(f"the files of a release in {inner}", there == [name, f"{name}.sha256"], there)
+            found.append((folder / inner / name).read_bytes())
+        check("two releases are the same", found[0] == found[1], [len(text) for text in found])
+        said = (folder / "a b" / f"{name}.sha256").read_text()
+        check("the checksum of a release", said == f"{hashlib.sha256(found[0]).hexdigest()}  {name}\n", said)
+        archive_members(folder / "a b" / name, version)
+        with tarfile.open(folder / "a b" / name) as archive:
+            archive.extractall(folder)
+        example_of_readme(folder / f"tracenode-{version}")
+        without_program("--release", folder)
+
+
+def archive_members(path, version):
+    """The members of an archive: their order, owners, times, modes and bytes."""
+    date = re.search(rf"^## {re.escape(version)}, ([\d-]+)$", (TOP / "CHANGELOG.md").read_text(), re.M)[1]
+    time = datetime.datetime.fromisoformat(f"{date}T00:00:00+00:00").timestamp()
+    with tarfile.open(path) as archive:
+        members = archive.getmembers()
+        names = [member.name for member in members]
+        check("the names of an archive are in order", names == sorted(names, key=lambda name: name.split("/")), names)
+        for member in members:
+            owner = (member.uid, member.gid, member.uname, member.gname, member.mtime)
+            mode = 0o755 if member.isdir() or "/bin/" in member.name else 0o644
+            check(f"the owner of {member.name}", owner == (0, 0, "", "", time) and member.mode == mode, (owner, member.mode))
+        there = {name.partition("/")[2]: archive.extractfile(name).read() for name in names if archive.getmember(name).isfile()}
+    wanted = {name: source.read_bytes() for name, source in archive_files().items()}
+    check("the files of an archive", set(there) == set(wanted), set(there) ^ set(wanted))
+    for name, text in wanted.items():
+        check(f"{name} of an archive", there.get(name) == text)
+
+
+def example_of_readme(root):
+    """The README's first example, as it stands in an archive that was unpacked; there is no kit on the path."""
+    lines = (root / "share" / "doc" / "tracenode" / "README.md").read_text().splitlines()
+    at = next(place for place, line in enumerate(lines) if line.startswith("    $ ./tracenode replay "))
+    shown = lines[at + 1 : lines.index("", at)]
+    words = lines[at].strip().removeprefix("$ ./")
+    env = {"PATH": f"{root}/bin:/usr/bin:/bin"}
+    ran = run([words], command=("sh", "-c"), cwd=root / "share" / "doc" / "tracenode", env=env)
+    wants("the example of the README in an archive", ran, 0, "".join(f"{line[4:]}\n" for line in shown).encode(), ran.stderr)

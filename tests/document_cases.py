@@ -17,10 +17,10 @@ import inventories
 import names as source_names
 import promises as promise_tables
 import weakenings
-from harness import SECONDS, TOP, check, run
+from harness import SECONDS, START, TOP, check, run
 
 # The options of ./tracenode, which are not the program's.
-STARTS = {"--prove", "--install"}
+STARTS = {"--prove", "--install", "--release"}
 
 COMMANDS = (("replay",), ("round",), ("workers",), ("explain",), ("draw",), ("spec",))
 
@@ -39,6 +39,10 @@ def documents():
         check(f"the options of {file.name}", named == options, (named, options))
         missing = [word for word in commands if not re.search(rf"\b{word}\b", text)]
         check(f"the commands of {file.name}", not missing, missing)
+    for file in (*files, TOP / "docs" / "MANUAL.md", TOP / "README.md", START):
+        text = re.sub(r" -l ([a-z-]+)", r" --\1", file.read_text().replace("\\-", "-"))
+        missing = [option for option in sorted(STARTS) if not re.search(rf"{option}(?![a-z-])", text)]
+        check(f"the options of the start script in {file.name}", not missing, missing)
     for (command,) in COMMANDS:
         wanted = set(re.findall(r"--[a-z-]+", helps[(command,)]))
         for shell, named in completed_options(command).items():
@@ -149,7 +153,9 @@ def completions():
             (("tracenode", "-"), ["--help", "--version", "-V", "-h"]),
             (("./tracenode", "--p"), ["--prove"]),
             (("tracenode", "--p"), [""]),
+            (("./tracenode", "--r"), ["--release"]),
             (("./tracenode", "--install", "scr"), ["scripts"]),
+            (("./tracenode", "--release", "scr"), ["scripts"]),
             (("tracenode", "explain", "--m"), ["--max-output", "--move", "--moves", "--moves-file"]),
             (("tracenode", "draw", "--m"), ["--max-output", "--moves", "--moves-file"]),
             (("tracenode", "round", "--m"), ["--max-output"]),

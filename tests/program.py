@@ -73,6 +73,7 @@ SUBJECTS = {
         command_line_cases.command_lines,
         command_line_cases.starts,
         command_line_cases.installs,
+        command_line_cases.releases,
     ),
     "document": (
         document_cases.documents,
