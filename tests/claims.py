@@ -1,13 +1,14 @@
 #!/usr/bin/env python3
 """Compares what is claimed with the text of the contracts: tests/claims.txt has a line for each function that the README
-or docs/PROMISES.md claims something of, for each completeness function, and for each word that their clauses name.
+or docs/PROMISES.md claims something of, for each completeness function, and for each word that their clauses name; and
+one for each claim and each formula of the README.
 
     tests/claims.py           says which lines changed
     tests/claims.py --write   writes the lines, and prints those that changed
 
-A line has the function, a digest of its declaration, and the names of its clauses; `_` stands for a clause without a
-name. So a claim that says less than before, or something else, is seen: whoever changes a contract writes the lines
-anew, and a reader of the change sees which claims it is about.
+A line has the function, a digest of its declaration, and the names of its clauses; `_` stands for a clause without a name.
+So a claim that says less than before, or something else, is seen: whoever changes a contract writes the lines anew, and a
+reader of the change sees which claims it is about.
 """
 import hashlib
 import re
@@ -28,6 +29,12 @@ def digest(text):
 def readme_rows():
     """Each claim of the README: the function and the file that it names."""
     return re.findall(r"^\| [^|]+ \| `(\w+)` \| `([\w/.]+)` \|$", read(README), re.M)
+
+
+def readme_formulas():
+    """The formulas of the README's theorem."""
+    theorem = read(README).partition("\n## The theorem\n")[2].partition("\n## ")[0]
+    return [" ".join(block.split()) for block in re.findall(r"(?:^    .+\n)+", theorem, re.M)]
 
 
 def of_readme():
@@ -103,7 +110,9 @@ def stored_lines():
 def lines():
     """The lines of the table."""
     found, types = subjects()
-    made = {f"type {name} {digest(text)}" for name, text in types.items()}
+    made = {f"readme {name} {path}" for name, path in readme_rows()}
+    made |= {f"readme formula {digest(formula)}" for formula in readme_formulas()}
+    made |= {f"type {name} {digest(text)}" for name, text in types.items()}
     for name, each in found.items():
         made |= lines_of(name, each)
     return sorted(made)

@@ -5,6 +5,7 @@ lists must be all that there is.
 """
 import re
 
+from claims import readme_formulas
 from contracts import tables
 from node_differences import DIFFERENCES, OF_TESTS
 from sources import CRATES, DOCS, README, TOP, chapter, crates, files, functions, listed_crates, read
@@ -75,10 +76,8 @@ def formulas():
         " ".join(read(CRATES / path).split())
         for path in ("tn_run/src/runs.rt", "tn_run/specs/Laws.antt", "def_run/specs/Listing.antt")
     )
-    theorem = text.partition("\n## The theorem\n")[2].partition("\n## ")[0]
-    found = [" ".join(block.split()) for block in re.findall(r"(?:^    .+\n)+", theorem, re.M)]
-    yield "the theorem has formulas", bool(found), theorem
-    for formula in found:
+    yield "the theorem has formulas", bool(readme_formulas()), text
+    for formula in readme_formulas():
         yield f"the formula {formula[:60]}", formula in sources, formula
 
 
