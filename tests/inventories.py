@@ -8,12 +8,9 @@ import re
 from claims import readme_formulas
 from contracts import tables
 from node_differences import DIFFERENCES, OF_TESTS
-from sources import CRATES, DOCS, README, TOP, chapter, crates, files, functions, listed_crates, read
+from sources import CRATES, DOCS, README, TOP, chapter, crates, files, functions, listed_crates, read, root
 
 DOCUMENTS = (README, TOP / "CHANGELOG.md", *sorted(DOCS.glob("*.md")))
-
-# The crates that nothing depends on, since they are programs.
-PROGRAMS = {"tn_cli", "tn_plain"}
 
 # What a path of a document begins with.
 FOLDERS = "bench|completions|crates|docs|examples|tests"
@@ -43,8 +40,9 @@ def lists_of_crates():
     yield "the crates of ARCHITECTURE, in order", mapped == listed, [pair for pair in places if pair[0] != pair[1]][:3]
     users = [libraries for crate, libraries in listed_crates() if not crate.startswith(("complete_", "test_"))]
     used = {library for libraries in users for library in libraries}
-    unused = [crate for crate in listed if crate.startswith(("def_", "tn_")) and crate not in used | PROGRAMS]
-    yield "each crate of definitions and of code but the programs is used", not unused, unused
+    libraries = [crate for crate in listed if crate.startswith(("def_", "tn_")) and root(crate).name == "lib.rt"]
+    unused = [crate for crate in libraries if crate not in used]
+    yield "each library of definitions and of code is used", not unused, unused
     defined = {name for name in crates() if name.startswith("def_")}
     found = set(first_cells(chapter("## Definitions: what is proved of them")))
     yield "the definitions of PROMISES", found == defined, found ^ defined

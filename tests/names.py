@@ -96,12 +96,13 @@ def clauses():
 
 
 def once():
-    """What a pick does in a run is matched on in one file; one function performs commands, and one does over any ends."""
+    """What a pick does in a run is matched on in one file; one function performs commands with the runtime, one without."""
     coded = [path for crate in sorted(crates()) if crate.startswith("tn_") for path in files(crate, "src")]
     places = [title(path) for path in coded if re.search(r"\bMoved::Moved\(\w+\) =>", read(path))]
     yield "one file matches on what a pick does in a run", len(places) == 1, places
-    performs = sorted(each.name for each in functions("tn_command") if each.name.startswith("perform"))
-    yield "one function performs commands, and one over any ends", performs == ["perform", "perform_over"], performs
+    performs = [each for each in functions("tn_command") if each.name.startswith("perform")]
+    ways = ["rt" in dict(each.parameters) for each in performs]
+    yield "one function performs commands with the runtime, and one without", sorted(ways) == [False, True], performs
 
 
 def prose(path):
