@@ -69,16 +69,21 @@ def promised(crate, name, kind):
     )
 
 
+def name_of(each):
+    """The name of a function in the table: with its module, where another function of its crate has the same one."""
+    same = [other for other in functions(each.crate) if other.title == each.title and other.clauses]
+    return "::".join((each.crate, each.title) if len(same) == 1 else (each.crate, each.module, each.title))
+
+
 def subjects():
     """What has a line: the functions by their names, and the types, with their text."""
     found, types = {}, {}
     for _, each in of_readme():
         if each:
-            found[f"{each.crate}::{each.title}"] = each
+            found[name_of(each)] = each
     for crate, name, kind, _ in promised_names():
         some = [each for each in promised(crate, name, kind) if each.clauses]
-        for each in some:
-            found[f"{crate}::{each.title}"] = each
+        found |= {name_of(each): each for each in some}
         if not some and item_of(crate, name):
             types[f"{crate}::{name}"] = item_of(crate, name)
     for path, each in completeness_functions():

@@ -64,7 +64,7 @@ def weaker_copies():
             yield path, each, what, span, text, by_form
     for _, each in claims.of_readme():
         for what, span, text, by_form in of_clauses(each):
-            yield f"{each.crate}::{each.title}", each, what, span, text, by_form
+            yield claims.name_of(each), each, what, span, text, by_form
 
 
 def findings():
