@@ -191,7 +191,8 @@ def version():
     changes = re.search(r"^## ([\d.]+), (\d{4}-\d\d-\d\d)$", read(TOP / "CHANGELOG.md"), re.M)
     yield "the version of the changes", changes and changes[1] == said, (said, changes)
     title = read(DOCS / "tracenode.1").partition("\n")[0]
-    yield "the version of the man page", f'"tracenode {said}"' in title, title
+    good = changes and f'1 {changes[2]} "tracenode {said}"' in title
+    yield "the version and the date of the man page", good, (title, changes)
 
 
 # The list that says what each command of the program takes, and the words that are no options.
