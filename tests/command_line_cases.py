@@ -592,4 +592,4 @@ def example_of_readme(root):
     words = lines[at].strip().removeprefix("$ ./")
     env = {"PATH": f"{root}/bin:/usr/bin:/bin"}
     ran = run([words], command=("sh", "-c"), cwd=root / "share" / "doc" / "tracenode", env=env)
-    wants("the example of the README in an archive", ran, 0, "".join(f"{line[4:]}\n" for line in shown).encode(), ran.stderr)
+    wants("the example of the README in an archive", ran, 0, "".join(f"{line[4:]}\n" for line in shown).encode())
