@@ -1,7 +1,7 @@
 #!/usr/bin/env python3
 """Compares what is claimed with the text of the contracts: tests/claims.txt has a line for each function that the README
-or docs/PROMISES.md claims something of, for each completeness function, and for each word that their clauses name; and
-one for each claim and each formula of the README.
+or docs/PROMISES.md claims something of, for each completeness function, for each word that their clauses name and for each
+other word of the crates complete_*; and one for each claim and each formula of the README.
 
     tests/claims.py           says which lines changed
     tests/claims.py --write   writes the lines, and prints those that changed
@@ -99,6 +99,14 @@ def words_in(each):
             yield f"{crate}.{module}.{word}", word_text(crate, module, word)
 
 
+def words_of_completeness():
+    """The words of the crates complete_*, which say what is seen alike, with their text."""
+    for crate in sorted(name for name in crates() if name.startswith("complete_")):
+        for path in files(crate, "specs"):
+            for word in words_of(path):
+                yield f"{crate}.{path.stem}.{word}", word_text(crate, path.stem, word)
+
+
 def lines_of(name, each):
     """The lines of a function, by this name: its own, and those of the words that it names."""
     body = " ".join(each.body.split()) if each.crate.startswith("complete_") else ""
@@ -118,6 +126,7 @@ def lines():
     made = {f"readme {name} {path}" for name, path in readme_rows()}
     made |= {f"readme formula {digest(formula)}" for formula in readme_formulas()}
     made |= {f"type {name} {digest(text)}" for name, text in types.items()}
+    made |= {f"word {word} {digest(text)}" for word, text in words_of_completeness()}
     for name, each in found.items():
         made |= lines_of(name, each)
     return sorted(made)
