@@ -97,6 +97,16 @@ pub badarg_is_caught : lines_of_run None (sends_nowhere (catch None (codes "m") 
 unfolding is_written_bare digits
 badarg_is_caught = refl
 
+-- a session that is created after that says so once, at its creation
+abbrev creates_later : Program
+creates_later = let p : Program = sends_nowhere (catch None (codes "m") (codes "f") []) ("call" ∷ "procs" ∷ []) in
+    record p { commands = p.commands ++ creates "s2" "t2" ∷ sets "s2" (pid 100) ("call" ∷ "procs" ∷ []) ∷ [] }
+
+pub a_later_session_is_not_determined : lines_of_run None creates_later (replicate 3 0 ++ replicate 3 100 ++ 0 ∷ 0 ∷ [])
+    ≡ after 5 (((codes "s1", is_open) ∷ []) ∷ ((codes "s2", is_open) ∷ []) ∷ [] ∷ [])
+unfolding is_written_bare digits
+a_later_session_is_not_determined = refl
+
 -- ---- links
 
 abbrev links : List Step → Program
@@ -113,6 +123,17 @@ pub a_link_with_itself_is_reported : lines_of_run None (links (link (word "Self"
     ≡ after 3 ((a_line "{trace,<0.100.0>,link,<0.100.0>}" ∷ []) ∷ (a_line "{trace,<0.100.0>,unlink,<0.100.0>}" ∷ []) ∷ [])
 unfolding is_written_bare digits
 a_link_with_itself_is_reported = refl
+
+-- a link of a process with itself, while another has a signal: that it isn't determined is said once
+abbrev links_while_another_ends : Program
+links_while_another_ends = program
+    (function "go" [] (link (pid 101) ∷ raise exit (word "boom") ∷ []) ∷ function "peer" [] (receive None ∷ []) ∷ function "alone" [] (link (word "Self") ∷ unlink (word "Self") ∷ []) ∷ [])
+    (entry "go" [] ∷ entry "peer" [] ∷ entry "alone" [] ∷ []) (creates "s1" "t1" ∷ sets "s1" (word "all") ("procs" ∷ []) ∷ [])
+
+pub it_is_said_once : lines_of_run None links_while_another_ends (0 ∷ 0 ∷ 100 ∷ 101 ∷ 102 ∷ 100 ∷ 100 ∷ 102 ∷ 102 ∷ 101 ∷ [])
+    ≡ after 6 ((no_line "{trace,<0.101.0>,getting_unlinked,<0.100.0>}" ∷ []) ∷ ((codes "s1", is_open) ∷ []) ∷ [] ∷ [] ∷ [])
+unfolding is_written_bare digits
+it_is_said_once = refl
 
 -- a link to a process that isn't alive ends the process in this step; a process that is linked to it gets the error's reason
 pub noproc_is_raised_at_the_link : lines_of_run None (links (link (pid 101) ∷ link (pid 163) ∷ [])) (0 ∷ 0 ∷ 100 ∷ 101 ∷ 100 ∷ 100 ∷ 100 ∷ 101 ∷ [])
@@ -164,6 +185,27 @@ global_takes_the_local_setting = refl
 pub without_flags_nobody_is_counted : lines_of_run None (calls_both (sets "s1" (word "all") [] ∷ [])) (replicate 3 0) ≡ after 2 ((no_line "replies 1" ∷ a_line "replies 0" ∷ []) ∷ [])
 unfolding is_written_bare digits
 without_flags_nobody_is_counted = refl
+
+-- an option twice, which is refused here
+pub an_option_may_stand_twice : lines_of_run None (calls_both (sets_function "s1" (mfa_of "g" 0) (word "true") ("local" ∷ "local" ∷ []) ∷ [])) (replicate 3 0 ++ replicate 4 100)
+    ≡ after 2 ((no_line "replies badarg" ∷ a_line "replies 1" ∷ []) ∷ [] ∷ [] ∷ [] ∷ (a_line "{trace,<0.100.0>,call,{m,g,[]}}" ∷ []) ∷ [])
+unfolding is_written_bare digits
+an_option_may_stand_twice = refl
+
+-- two options that aren't the same are refused there too
+pub two_options_are_refused : lines_of_run None (calls_both (sets_function "s1" (mfa_of "g" 0) (word "true") ("local" ∷ "global" ∷ []) ∷ [])) (replicate 3 0 ++ replicate 4 100) ≡ replicate 7 []
+unfolding is_written_bare digits
+two_options_are_refused = refl
+
+-- an arity that no function has
+pub an_arity_past_255_matches_none : lines_of_run None (calls_both (sets_function "s1" (mfa_of "g" 256) (word "true") [] ∷ [])) (replicate 3 0) ≡ after 2 ((no_line "replies badarg" ∷ a_line "replies 0" ∷ []) ∷ [])
+unfolding is_written_bare digits
+an_arity_past_255_matches_none = refl
+
+-- the last that is an arity is taken here too
+pub the_arity_255_matches_none_here : lines_of_run None (calls_both (sets_function "s1" (mfa_of "g" 255) (word "true") [] ∷ [])) (replicate 3 0) ≡ replicate 3 []
+unfolding is_written_bare digits
+the_arity_255_matches_none_here = refl
 
 -- ---- what is said of a run
 

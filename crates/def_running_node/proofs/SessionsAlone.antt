@@ -1,20 +1,20 @@
 -- The lines of one session alone are its lines among those of all sessions.
-use Rattle.std.proofs.Common.{◌≡◌, ℕ, Bool, true, false, cond, List, [], ◌∷◌, ◌++◌, map, flat_map, filter, Some, None, bytes_eq, refl, ap, ap₂, sym, ◌∙◌, if◌then◌else◌}
+use Rattle.std.proofs.Common.{◌≡◌, ℕ, Bool, true, false, cond, List, [], ◌∷◌, ◌++◌, map, flat_map, filter, Option, Some, None, bytes_eq, refl, ap, ap₂, sym, ◌∙◌, if◌then◌else◌}
 use Rattle.std.proofs.lemmas.List.Elements.{filter-append}
 use Rattle.def_term.specs.Names.{Name}
 use Rattle.def_script.specs.Program.{session_of}
 use Rattle.def_script.specs.Exports.{Exports, exports_of}
 use Rattle.def_script.specs.Script.{creations}
 use Rattle.def_node.specs.Event.{Event}
-use Rattle.def_outlook.specs.Outlook.{Outlook}
+use Rattle.def_outlook.specs.Outlook.{Outlook, OwnLink}
 use Rattle.def_session.specs.State.{Phase, absent, live, destroyed}
 use Rattle.def_session.specs.Commands.{command_done}
 use Rattle.def_run.specs.Run.{HistoryItem, event_item, command_item}
 use Rattle.def_run.specs.History.{MoveHistory, move_histories}
 use Rattle.def_explain.specs.RunTexts.{is_session}
 use Rattle.def_running_node.specs.NodeReplies.{node_command}
-use Rattle.def_running_node.specs.NodeRuns.{at_move, run_after, NodeLine}
-use Rattle.def_running_node.specs.NodeComparisons.{SessionPair, Comparison, pair_after_in, lines_of_event_in, pair_after_command, lines_of_command, lines_of_own_link, NamedLine, lines_with_name, after_item, lines_of_item, after_items, lines_of_items, at_pick, after_pick, lines_of_move, items_of, lines_of_moves, pair_at_start, comparison_at_start}
+use Rattle.def_running_node.specs.NodeRuns.{NodeRun, at_move, run_after, NodeLine}
+use Rattle.def_running_node.specs.NodeComparisons.{SessionPair, Comparison, determined_in, pair_after_in, lines_of_event_in, pair_after_command, lines_of_command, pair_after_own_link_in, pair_after_own_link, lines_of_own_link, NamedLine, lines_with_name, after_item, lines_of_item, after_items, lines_of_items, at_pick, after_pick, lines_of_move, items_of, lines_of_moves, pair_at_start, comparison_at_start}
 use Rattle.def_running_node.specs.Laws.{SessionAloneHasItsLines}
 
 -- of this name
@@ -41,27 +41,43 @@ map-of-some n f g (s ∷ ss) =
     go true h = ap (λ ts. f s ∷ ts) h
     go false h = h
 
-name-after-event : (x : Phase) (s : SessionPair) (e : Event) → (pair_after_in x s e).name ≡ s.name
-name-after-event absent s e = refl
-name-after-event destroyed s e = refl
-name-after-event live s e = refl
+name-after-event : (x : Phase) (q : NodeRun) (l : Outlook) (s : SessionPair) (e : Event) → (pair_after_in x q l s e).name ≡ s.name
+name-after-event absent q l s e = refl
+name-after-event destroyed q l s e = refl
+name-after-event live q l s e = refl
 
 one-after : (o : Exports) (l : Outlook) (n : Name) (c : Comparison) (x : HistoryItem) → after_item o l (alone n c) x ≡ alone n (after_item o l c x)
 one-after o l n c (event_item e) =
-    ap (λ ss. record { run = run_after c.run l e; sessions = ss }) (map-of-some n (λ s. pair_after_in s.here.phase s e) (λ s. name-after-event s.here.phase s e) c.sessions)
+    let q : NodeRun = run_after c.run l e in
+    ap (λ ss. record { run = q; sessions = ss }) (map-of-some n (λ s. pair_after_in s.here.phase q l s e) (λ s. name-after-event s.here.phase q l s e) c.sessions)
 one-after o l n c (command_item k) =
-    ap (λ ss. record { run = record c.run { was_determined = c.run.is_determined }; sessions = ss }) (map-of-some n (λ s. pair_after_command o s k) same-name c.sessions)
+    ap (λ ss. record c { sessions = ss }) (map-of-some n (λ s. pair_after_command o c.run s k) same-name c.sessions)
   where
-    same-name : (s : SessionPair) → (pair_after_command o s k).name ≡ s.name
+    same-name : (s : SessionPair) → (pair_after_command o c.run s k).name ≡ s.name
     same-name s = go (bytes_eq s.name (session_of k))
       where
-        go : (b : Bool) → (if b then record s { here = (command_done o s.here k).0; there = record s.there { session = (node_command o s.there.session k).0 } } else s).name ≡ s.name
+        go : (b : Bool) → (if b then record s { here = (command_done o s.here k).0; there = record s.there { session = (node_command o s.there.session k).0 }; is_determined = determined_in c.run s } else s).name ≡ s.name
         go true = refl
         go false = refl
 
 items-after : (o : Exports) (l : Outlook) (n : Name) (c : Comparison) (xs : List HistoryItem) → after_items o l (alone n c) xs ≡ alone n (after_items o l c xs)
 items-after o l n c [] = refl
 items-after o l n c (x ∷ xs) = ap (λ d. after_items o l d xs) (one-after o l n c x) ∙ items-after o l n (after_item o l c x) xs
+
+name-after-own-link : (r : NodeRun) (s : SessionPair) (x : Option OwnLink) → (pair_after_own_link r s x).name ≡ s.name
+name-after-own-link r s None = refl
+name-after-own-link r s (Some x) = go s.here.phase
+  where
+    go : (y : Phase) → (pair_after_own_link_in y r s).name ≡ s.name
+    go absent = refl
+    go destroyed = refl
+    go live = refl
+
+pick-after : (o : Exports) (l : Outlook) (n : Name) (pick : ℕ) (c : Comparison) (xs : List HistoryItem) → after_pick o l pick (alone n c) xs ≡ alone n (after_pick o l pick c xs)
+pick-after o l n pick c [] =
+    let r : NodeRun = at_move c.run pick in
+    ap (λ ss. record { run = r; sessions = ss }) (map-of-some n (λ s. pair_after_own_link r s l.own_link) (λ s. name-after-own-link r s l.own_link) c.sessions)
+pick-after o l n pick c (x ∷ xs) = items-after o l n (at_pick pick c) (x ∷ xs)
 
 -- ---- lines
 
@@ -111,7 +127,7 @@ lines-of-all-moves : (o : Exports) (n : Name) (c : Comparison) (hs : List MoveHi
 lines-of-all-moves o n c [] = refl
 lines-of-all-moves o n c (h ∷ hs) =
     ap₂ (λ a b. a ∷ b) (lines-of-a-move o h.outlook n h.pick c (items_of h))
-    (ap (λ d. lines_of_moves o d hs) (items-after o h.outlook n (at_pick h.pick c) (items_of h)) ∙ lines-of-all-moves o n (after_pick o h.outlook h.pick c (items_of h)) hs)
+    (ap (λ d. lines_of_moves o d hs) (pick-after o h.outlook n h.pick c (items_of h)) ∙ lines-of-all-moves o n (after_pick o h.outlook h.pick c (items_of h)) hs)
 
 -- before any move
 alone-at-start : (n : Name) (o : Exports) (ss : List (Name × Name))

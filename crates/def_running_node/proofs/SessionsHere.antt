@@ -14,7 +14,8 @@ use Rattle.def_run.specs.Run.{HistoryItem, event_item, command_item}
 use Rattle.def_run.specs.History.{NamedSession, after, all_after, all_after_items}
 use Rattle.def_explain.specs.RunTexts.{is_session}
 use Rattle.def_running_node.specs.NodeReplies.{node_command}
-use Rattle.def_running_node.specs.NodeComparisons.{SessionPair, Comparison, pair_after_in, pair_after_command, after_item, pair_at_start}
+use Rattle.def_running_node.specs.NodeRuns.{NodeRun, run_after}
+use Rattle.def_running_node.specs.NodeComparisons.{SessionPair, Comparison, determined_in, pair_after_in, pair_after_command, after_item, pair_at_start}
 use Rattle.def_running_node.specs.Laws.{sessions_here, SessionsHereAtStart, SessionsHereGoByHistory, SessionThereGoesByEvents, SessionThereGoesByCommands}
 
 -- one session here
@@ -36,22 +37,23 @@ each : (f : SessionPair → SessionPair) (g : NamedSession → NamedSession) →
 each f g h [] = refl
 each f g h (s ∷ ss) = ap₂ (λ t ts. t ∷ ts) (h s) (each f g h ss)
 
-after-event : (x : Phase) (s : SessionPair) (e : Event) → here_of (pair_after_in x s e) ≡ (s.name, (event_reported s.here e).0)
-after-event absent s e = refl
-after-event destroyed s e = refl
-after-event live s e = refl
+after-event : (x : Phase) (q : NodeRun) (l : Outlook) (s : SessionPair) (e : Event) → here_of (pair_after_in x q l s e) ≡ (s.name, (event_reported s.here e).0)
+after-event absent q l s e = refl
+after-event destroyed q l s e = refl
+after-event live q l s e = refl
 
-after-command : (o : Exports) (s : SessionPair) (k : Command) → here_of (pair_after_command o s k) ≡ after o (here_of s) (command_item k)
-after-command o s k = go (bytes_eq s.name (session_of k))
+after-command : (o : Exports) (r : NodeRun) (s : SessionPair) (k : Command) → here_of (pair_after_command o r s k) ≡ after o (here_of s) (command_item k)
+after-command o r s k = go (bytes_eq s.name (session_of k))
   where
-    go : (b : Bool) → here_of (if b then record s { here = (command_done o s.here k).0; there = record s.there { session = (node_command o s.there.session k).0 } } else s)
+    go : (b : Bool) → here_of (if b then record s { here = (command_done o s.here k).0; there = record s.there { session = (node_command o s.there.session k).0 }; is_determined = determined_in r s } else s)
         ≡ (s.name, if b then (command_done o s.here k).0 else s.here)
     go true = refl
     go false = refl
 
 one-after : (o : Exports) (l : Outlook) (c : Comparison) (x : HistoryItem) → sessions_here (after_item o l c x) ≡ all_after o (sessions_here c) x
-one-after o l c (event_item e) = each (λ s. pair_after_in s.here.phase s e) (λ s. after o s (event_item e)) (λ s. after-event s.here.phase s e) c.sessions
-one-after o l c (command_item k) = each (λ s. pair_after_command o s k) (λ s. after o s (command_item k)) (λ s. after-command o s k) c.sessions
+one-after o l c (event_item e) =
+    let q : NodeRun = run_after c.run l e in each (λ s. pair_after_in s.here.phase q l s e) (λ s. after o s (event_item e)) (λ s. after-event s.here.phase q l s e) c.sessions
+one-after o l c (command_item k) = each (λ s. pair_after_command o c.run s k) (λ s. after o s (command_item k)) (λ s. after-command o c.run s k) c.sessions
 
 pub sessions_here_go_by_history : SessionsHereGoByHistory
 sessions_here_go_by_history o l c [] = refl
@@ -60,9 +62,9 @@ sessions_here_go_by_history o l c (x ∷ xs) = sessions_here_go_by_history o l (
 -- ---- there
 
 pub session_there_goes_by_events : SessionThereGoesByEvents
-session_there_goes_by_events s e h = ap (λ x. (pair_after_in x s e).there) h
+session_there_goes_by_events q l s e h = ap (λ x. (pair_after_in x q l s e).there) h
 
 pub session_there_goes_by_commands : SessionThereGoesByCommands
-session_there_goes_by_commands o s k h =
-    ap (λ b. (if b then record s { here = (command_done o s.here k).0; there = record s.there { session = (node_command o s.there.session k).0 } } else s).there.session)
+session_there_goes_by_commands o r s k h =
+    ap (λ b. (if b then record s { here = (command_done o s.here k).0; there = record s.there { session = (node_command o s.there.session k).0 }; is_determined = determined_in r s } else s).there.session)
     ((bytes_eq-Decides s.name (session_of k)).1 h)

@@ -1,32 +1,35 @@
 -- What is promised of what the sessions of a running node report, beside those here (own).
 -- Depends on the lines between both, on the marks and messages of a session of a node, and on the note and the account of a run.
 use Rattle.std.specs.Bool.{⊤}
-use Rattle.std.specs.Prelude.{◌≡◌, ◌≢◌, ◌≤◌, ◌↔◌, ◌⊎◌, ℕ, true, false, List, [], ◌∷◌, ◌++◌, map, filter, length, count_by, Option, Some, None, option_to_list, Bool, ◌||◌, if◌then◌else◌}
+use Rattle.std.specs.Prelude.{◌≡◌, ◌≢◌, ◌≤◌, ◌↔◌, ◌⊎◌, ℕ, true, false, List, [], ◌∷◌, ◌++◌, map, filter, length, count_by, Option, Some, None, option_to_list, Ok, pos, Bool, ◌||◌, if◌then◌else◌}
 use Rattle.std.specs.List.{list_any, AllByRecursion}
 use Rattle.std.specs.Str.{bytes_eq}
 use Rattle.std.specs.Option.{is_some}
-use Rattle.def_term.specs.Tree.{Tree, pid, tuple, list, none, of_elements}
+use Rattle.def_term.specs.Tree.{Tree, Trees, int, atom, pid, tuple, list, none, more, triple, of_elements}
 use Rattle.def_term.specs.Names.{Name, Mfa, word}
 use Rattle.def_term.specs.Alive.{FIRST_PID, is_alive}
 use Rattle.def_term.specs.Order.{same}
-use Rattle.def_script.specs.Program.{Program, error, Command, session_of}
+use Rattle.def_script.specs.Program.{Program, error, Command, set_function, session_of}
 use Rattle.def_script.specs.Exports.{Exports}
 use Rattle.def_spec.specs.Flags.{Flag, silent_flag, procs_flag, call_flag}
+use Rattle.def_spec.specs.Expressions.{for_calls}
+use Rattle.def_spec.specs.Reading.{is_wildcard}
 use Rattle.def_node.specs.Event.{Event, Call, sent, received, called, returned, raised, spawned, exited, linked, getting_unlinked, unlinked}
-use Rattle.def_outlook.specs.Outlook.{Outlook, RuntimeError, links_itself, unlinks_itself}
+use Rattle.def_outlook.specs.Outlook.{Outlook, OwnLink, RuntimeError, links_itself, unlinks_itself}
 use Rattle.def_session.specs.State.{MarkKind, for_exceptions, live, Session, flags_at, mark_of, for_returns, alive_after}
 use Rattle.def_session.specs.Messages.{process_of}
 use Rattle.def_session.specs.Session.{event_reported}
-use Rattle.def_session.specs.Commands.{command_done}
+use Rattle.def_session.specs.Settings.{Setting, setting_of}
+use Rattle.def_session.specs.Commands.{command_done, number_term}
 use Rattle.def_run.specs.Run.{HistoryItem}
 use Rattle.def_run.specs.History.{NamedSession, all_after_items, named_sessions, MoveHistory, move_histories}
 use Rattle.def_explain.specs.Differences.{hands_on}
 use Rattle.def_explain.specs.NodeCommands.{can_differ}
 use Rattle.def_running_node.specs.NodeSessions.{NodeMark, NodeSession, is_mark_at, kind_at, marks_after, message_where, reported_there, node_reported}
 use Rattle.def_running_node.specs.NodeRuns.{NodeRun, signal_of, has_ended, exceptions_of, run_messages, opens, hides, NodeLine, lacks, adds, is_open, lines_between, Signal, at_move, run_after, is_of_error, is_limit}
-use Rattle.def_running_node.specs.NodeComparisons.{SessionPair, Comparison, comparison_at_start, texts, pair_after_in, lines_of_event_in, NamedLine, after_items, lines_of_items, after_moves, lines_of_moves, lines_of_run, reply_texts, pair_after_command, lines_of_command, lines_of_own_link, after_item}
+use Rattle.def_running_node.specs.NodeComparisons.{SessionPair, Comparison, comparison_at_start, texts, pair_after_in, lines_of_event_in, NamedLine, after_items, lines_of_items, after_moves, lines_of_moves, lines_of_run, reply_texts, pair_after_command, lines_of_command, lines_of_own_link, pair_after_own_link}
 use Rattle.def_running_node.specs.NodeNotes.{has_node_line, moves_that_differ, NodeNote, node_note, node_account_text}
-use Rattle.def_running_node.specs.NodeReplies.{node_command}
+use Rattle.def_running_node.specs.NodeReplies.{all_are_this, option_term, node_command}
 
 -- ---- the lines between
 
@@ -69,9 +72,8 @@ abbrev pub messages_there : NodeRun → Outlook → SessionPair → Event → Li
 messages_there r l s e = run_messages r l s.there (reported_there s.there.session e).0 e (reported_there s.there.session e).1
 
 -- the session is live, and what it has on a node was determined before the event
-pub record WasDetermined (r : NodeRun) (s : SessionPair) : Type 0 where
+pub record WasDetermined (s : SessionPair) : Type 0 where
   pub lives : s.here.phase ≡ live
-  pub of_run : r.was_determined ≡ true
   pub of_session : s.is_determined ≡ true
 
 -- what it has of the event isn't: the run isn't determined after it, or the session, or the exit has a message before it that isn't known
@@ -81,18 +83,31 @@ IsOpening q l s e = (q.is_determined ≡ false) ⊎ ((opens s.there.session e �
 -- the session then has one line of the event
 abbrev pub OpeningHasOneLine : Type 0
 OpeningHasOneLine =
-    (r q : NodeRun) (l : Outlook) (s : SessionPair) (e : Event) → WasDetermined r s → IsOpening q l s e →
+    (r q : NodeRun) (l : Outlook) (s : SessionPair) (e : Event) → WasDetermined s → IsOpening q l s e →
     lines_of_event_in s.here.phase r q l s e ≡ is_open ∷ []
 
 -- and else the lines between the messages here and those of the node
 abbrev pub EventHasLinesBetween : Type 0
 EventHasLinesBetween =
-    (r q : NodeRun) (l : Outlook) (s : SessionPair) (e : Event) → WasDetermined r s → (IsOpening q l s e → ⊥) →
+    (r q : NodeRun) (l : Outlook) (s : SessionPair) (e : Event) → WasDetermined s → (IsOpening q l s e → ⊥) →
     AreBetween (texts (messages_here s e)) (texts (messages_there r l s e)) (lines_of_event_in s.here.phase r q l s e)
 
--- after an event of which the effects aren't determined, the session isn't
+-- after such an event the session isn't determined
 abbrev pub OpeningIsNotDetermined : Type 0
-OpeningIsNotDetermined = (s : SessionPair) (e : Event) → s.here.phase ≡ live → opens s.there.session e ≡ true → (pair_after_in s.here.phase s e).is_determined ≡ false
+OpeningIsNotDetermined =
+    (q : NodeRun) (l : Outlook) (s : SessionPair) (e : Event) → s.here.phase ≡ live → IsOpening q l s e → (pair_after_in s.here.phase q l s e).is_determined ≡ false
+
+-- nor is it after a command of its own, such as the one that creates it, in a run that isn't; it then has one line of the command that says so
+abbrev pub CommandInOpenRun : Type 0
+CommandInOpenRun =
+    (o : Exports) (r : NodeRun) (s : SessionPair) (k : Command) → s.name ≡ session_of k → r.is_determined ≡ false → s.is_determined ≡ true →
+    ((pair_after_command o r s k).is_determined ≡ false) × (lines_of_command o r s k ≡ is_open ∷ [])
+
+-- and so it is at a link of a process with itself, or an unlink
+abbrev pub OwnLinkInOpenRun : Type 0
+OwnLinkInOpenRun =
+    (r : NodeRun) (s : SessionPair) (p : ℕ) (x : OwnLink) → WasDetermined s → r.is_determined ≡ false →
+    ((pair_after_own_link r s (Some x)).is_determined ≡ false) × (lines_of_own_link r s p (Some x) ≡ is_open ∷ [])
 
 -- the session of this name isn't determined
 abbrev pub IsNotDetermined : Name → Comparison → Type 0
@@ -118,16 +133,7 @@ NoLaterLineInMove = (o : Exports) (l : Outlook) (n : Name) (c : Comparison) (xs 
 abbrev pub NoLaterLineInMoves : Type 0
 NoLaterLineInMoves = (o : Exports) (n : Name) (c : Comparison) (hs : List MoveHistory) → IsNotDetermined n c → AllByRecursion (HasNoLineOf n) (lines_of_moves o c hs)
 
--- the run isn't determined, and wasn't before the last event
-abbrev pub IsRunNotDetermined : NodeRun → Type 0
-IsRunNotDetermined r = (r.is_determined ≡ false) × (r.was_determined ≡ false)
-
--- so it is after an event or a command after which it isn't determined
-abbrev pub NotDeterminedAfterItem : Type 0
-NotDeterminedAfterItem =
-    (o : Exports) (l : Outlook) (c : Comparison) (x : HistoryItem) → (after_item o l c x).run.is_determined ≡ false → IsRunNotDetermined (after_item o l c x).run
-
--- it isn't after an error at which the process goes on there: one of a limit, which a node doesn't have, or one that a catch catches
+-- the run isn't determined after an error at which the process goes on there: one of a limit, which a node doesn't have, or one that a catch catches
 abbrev pub ErrorThatGoesOn : Type 0
 ErrorThatGoesOn =
     (r : NodeRun) (l : Outlook) (p : ℕ) (x : Tree) (y : RuntimeError) → l.error ≡ Some y → (is_limit y ≡ true) ⊎ (is_some l.caught_at ≡ true) →
@@ -135,34 +141,49 @@ ErrorThatGoesOn =
 
 -- then it isn't after later moves
 abbrev pub RunIsNotDeterminedAgain : Type 0
-RunIsNotDeterminedAgain = (o : Exports) (c : Comparison) (hs : List MoveHistory) → IsRunNotDetermined c.run → IsRunNotDetermined (after_moves o c hs).run
+RunIsNotDeterminedAgain = (o : Exports) (c : Comparison) (hs : List MoveHistory) → c.run.is_determined ≡ false → (after_moves o c hs).run.is_determined ≡ false
 
--- and no session has a line of them
-abbrev pub NoLineInLaterMoves : Type 0
-NoLineInLaterMoves = (o : Exports) (c : Comparison) (hs : List MoveHistory) → IsRunNotDetermined c.run → AllByRecursion (λ ls. ls ≡ []) (lines_of_moves o c hs)
+-- and of them a session has at most the line that says so
+abbrev pub NoDifferenceInLaterMoves : Type 0
+NoDifferenceInLaterMoves =
+    (o : Exports) (c : Comparison) (hs : List MoveHistory) → c.run.is_determined ≡ false → AllByRecursion (AllByRecursion (λ l. l.1 ≡ is_open)) (lines_of_moves o c hs)
 
--- of a command of its own, where the run and the session are and were determined, a session has the lines between its replies here and there
+-- of a command of its own, where the run and the session are determined, a session has the lines between its replies here and there
 abbrev pub CommandHasLinesBetween : Type 0
 CommandHasLinesBetween =
-    (o : Exports) (r : NodeRun) (s : SessionPair) (k : Command) → s.name ≡ session_of k → r.was_determined ≡ true → r.is_determined ≡ true → s.is_determined ≡ true →
+    (o : Exports) (r : NodeRun) (s : SessionPair) (k : Command) → s.name ≡ session_of k → r.is_determined ≡ true → s.is_determined ≡ true →
     AreBetween (reply_texts (command_done o s.here k).1) (reply_texts (node_command o s.there.session k).1) (lines_of_command o r s k)
+
+-- a function command with an option several times does what it does with the option once, and has the same reply
+abbrev pub OptionsCountOnce : Type 0
+OptionsCountOnce =
+    (o : Exports) (s : Session) (name : Name) (mfa spec : Tree) (local : Bool) (ts : Trees) →
+    let t : Tree = word (if local then "local" else "global") in
+    all_are_this t ts ≡ true → node_command o s (set_function name mfa spec (list (more t ts))) ≡ node_command o s (set_function name mfa spec (option_term local))
+
+-- one for the arity 256, which no function has, changes nothing in a live session, and replies 0 where its options and its specification are read
+abbrev pub NoArityMatchesNone : Type 0
+NoArityMatchesNone =
+    (o : Exports) (s : Session) (name m f : Name) (spec : Tree) (local : Bool) (setting : Setting) →
+    s.phase ≡ live → is_wildcard m ≡ false → is_wildcard f ≡ false → setting_of for_calls spec ≡ Ok setting →
+    node_command o s (set_function name (triple (atom m) (atom f) (int (pos 256))) spec (option_term local)) ≡ (s, number_term 0)
 
 -- a command of another session has no line of it, and changes nothing
 abbrev pub OtherCommandHasNoLine : Type 0
 OtherCommandHasNoLine =
     (o : Exports) (r : NodeRun) (s : SessionPair) (k : Command) → s.name ≢ session_of k →
-    (lines_of_command o r s k ≡ []) × (pair_after_command o s k ≡ s)
+    (lines_of_command o r s k ≡ []) × (pair_after_command o r s k ≡ s)
 
 -- of a link of a process with itself a node has the message that a session has of such an event, and nothing is here
 abbrev pub OwnLinkHasItsLine : Type 0
 OwnLinkHasItsLine =
-    (r : NodeRun) (s : SessionPair) (p : ℕ) → WasDetermined r s → r.is_determined ≡ true →
+    (r : NodeRun) (s : SessionPair) (p : ℕ) → WasDetermined s → r.is_determined ≡ true →
     lines_of_own_link r s p (Some links_itself) ≡ map adds (texts (option_to_list (event_reported s.there.session (linked p p)).1))
 
 -- and of an unlink from itself
 abbrev pub OwnUnlinkHasItsLine : Type 0
 OwnUnlinkHasItsLine =
-    (r : NodeRun) (s : SessionPair) (p : ℕ) → WasDetermined r s → r.is_determined ≡ true →
+    (r : NodeRun) (s : SessionPair) (p : ℕ) → WasDetermined s → r.is_determined ≡ true →
     lines_of_own_link r s p (Some unlinks_itself) ≡ map adds (texts (option_to_list (event_reported s.there.session (unlinked p p)).1))
 
 -- ---- exit signals
@@ -398,12 +419,13 @@ SessionsHereGoByHistory =
 
 -- a live session is there, after an event, what a session of a node makes of it
 abbrev pub SessionThereGoesByEvents : Type 0
-SessionThereGoesByEvents = (s : SessionPair) (e : Event) → s.here.phase ≡ live → (pair_after_in s.here.phase s e).there ≡ (node_reported s.there e).0
+SessionThereGoesByEvents =
+    (q : NodeRun) (l : Outlook) (s : SessionPair) (e : Event) → s.here.phase ≡ live → (pair_after_in s.here.phase q l s e).there ≡ (node_reported s.there e).0
 
 -- and after a command of its own
 abbrev pub SessionThereGoesByCommands : Type 0
 SessionThereGoesByCommands =
-    (o : Exports) (s : SessionPair) (k : Command) → s.name ≡ session_of k → (pair_after_command o s k).there.session ≡ (node_command o s.there.session k).0
+    (o : Exports) (r : NodeRun) (s : SessionPair) (k : Command) → s.name ≡ session_of k → (pair_after_command o r s k).there.session ≡ (node_command o s.there.session k).0
 
 -- of each move there are lines, or none
 abbrev pub EachMoveHasLines : Type 0

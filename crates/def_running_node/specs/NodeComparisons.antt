@@ -21,7 +21,7 @@ use Rattle.def_running_node.specs.NodeSessions.{NodeSession, marks_after, report
 use Rattle.def_running_node.specs.NodeRuns.{NodeRun, at_move, run_after, run_messages, opens, hides, NodeLine, lacks, adds, is_open, lines_by_openness}
 use Rattle.def_running_node.specs.NodeReplies.{node_command}
 
--- a session here and on a node, and whether what it reports on a node is determined
+-- a session here and on a node, and whether what it reports on a node is determined so far
 pub record SessionPair : Type 0 where
   pub name : Name
   pub here : Session
@@ -43,30 +43,38 @@ reply_texts t = (codes "replies " ++ w t) ∷ []
 
 -- ---- one session
 
--- what it makes of an event, after which the processes are these, and the lines between both
-abbrev pub pair_after : SessionPair → Event → SessionPair
-pair_after c e =
+-- whether what it reports is determined after an event, after which the processes are these: as long as the run is, and what a node makes of each event
+abbrev pub pair_determined_after : NodeRun → Outlook → SessionPair → Event → Bool
+pair_determined_after q l c e = c.is_determined && (q.is_determined && (not (opens c.there.session e) && not (hides c.there.session l e)))
+
+-- and after a command of its own, or a link of a process with itself
+abbrev pub determined_in : NodeRun → SessionPair → Bool
+determined_in r c = c.is_determined && r.is_determined
+
+-- what it makes of the event, and the lines between both
+abbrev pub pair_after : (after : NodeRun) → Outlook → SessionPair → Event → SessionPair
+pair_after q l c e =
     let there : Session × Option Tree = reported_there c.there.session e in
     record c {
       here = (event_reported c.here e).0;
       there = record { session = there.0; marks = marks_after there.0 c.there.marks e };
-      is_determined = c.is_determined && not (opens c.there.session e);
+      is_determined = pair_determined_after q l c e;
     }
 
 abbrev pub lines_of_event : (before after : NodeRun) → Outlook → SessionPair → Event → List NodeLine
 lines_of_event r q l c e =
     let there : Session × Option Tree = reported_there c.there.session e in
-    lines_by_openness (r.was_determined && c.is_determined) (q.is_determined && ((c.is_determined && not (opens c.there.session e)) && not (hides c.there.session l e)))
+    lines_by_openness c.is_determined (pair_determined_after q l c e)
     (texts (option_to_list (event_reported c.here e).1)) (texts (run_messages r l c.there there.0 e there.1))
 
 -- one that isn't there knows who is alive, and has no lines
 abbrev pub pair_elsewhere : SessionPair → Event → SessionPair
 pair_elsewhere c e = record c { here = (event_reported c.here e).0; there = record c.there { session = (event_reported c.there.session e).0 } }
 
-abbrev pub pair_after_in : Phase → SessionPair → Event → SessionPair
-pair_after_in absent c e = pair_elsewhere c e
-pair_after_in destroyed c e = pair_elsewhere c e
-pair_after_in live c e = pair_after c e
+abbrev pub pair_after_in : Phase → (after : NodeRun) → Outlook → SessionPair → Event → SessionPair
+pair_after_in absent q l c e = pair_elsewhere c e
+pair_after_in destroyed q l c e = pair_elsewhere c e
+pair_after_in live q l c e = pair_after q l c e
 
 abbrev pub lines_of_event_in : Phase → (before after : NodeRun) → Outlook → SessionPair → Event → List NodeLine
 lines_of_event_in absent r q l c e = []
@@ -74,16 +82,16 @@ lines_of_event_in destroyed r q l c e = []
 lines_of_event_in live r q l c e = lines_of_event r q l c e
 
 -- a command of its own
-abbrev pub pair_after_command : Exports → SessionPair → Command → SessionPair
-pair_after_command o c k =
+abbrev pub pair_after_command : Exports → NodeRun → SessionPair → Command → SessionPair
+pair_after_command o r c k =
     if bytes_eq c.name (session_of k)
-    then record c { here = (command_done o c.here k).0; there = record c.there { session = (node_command o c.there.session k).0 } }
+    then record c { here = (command_done o c.here k).0; there = record c.there { session = (node_command o c.there.session k).0 }; is_determined = determined_in r c }
     else c
 
 abbrev pub lines_of_command : Exports → NodeRun → SessionPair → Command → List NodeLine
 lines_of_command o r c k =
     if bytes_eq c.name (session_of k)
-    then lines_by_openness (r.was_determined && c.is_determined) (r.is_determined && c.is_determined) (reply_texts (command_done o c.here k).1) (reply_texts (node_command o c.there.session k).1)
+    then lines_by_openness c.is_determined (determined_in r c) (reply_texts (command_done o c.here k).1) (reply_texts (node_command o c.there.session k).1)
     else []
 
 -- a link with itself, or an unlink, of the process that moves: the message that a session has on a node
@@ -91,10 +99,19 @@ abbrev pub own_link_event : ℕ → OwnLink → Event
 own_link_event p links_itself = linked p p
 own_link_event p unlinks_itself = unlinked p p
 
+abbrev pub pair_after_own_link_in : Phase → NodeRun → SessionPair → SessionPair
+pair_after_own_link_in absent r c = c
+pair_after_own_link_in destroyed r c = c
+pair_after_own_link_in live r c = record c { is_determined = determined_in r c }
+
+abbrev pub pair_after_own_link : NodeRun → SessionPair → Option OwnLink → SessionPair
+pair_after_own_link r c None = c
+pair_after_own_link r c (Some x) = pair_after_own_link_in c.here.phase r c
+
 abbrev pub lines_of_own_link_in : Phase → NodeRun → SessionPair → Event → List NodeLine
 lines_of_own_link_in absent r c e = []
 lines_of_own_link_in destroyed r c e = []
-lines_of_own_link_in live r c e = lines_by_openness (r.was_determined && c.is_determined) (r.is_determined && c.is_determined) [] (texts (option_to_list (event_reported c.there.session e).1))
+lines_of_own_link_in live r c e = lines_by_openness c.is_determined (determined_in r c) [] (texts (option_to_list (event_reported c.there.session e).1))
 
 abbrev pub lines_of_own_link : NodeRun → SessionPair → ℕ → Option OwnLink → List NodeLine
 lines_of_own_link r c p None = []
@@ -111,8 +128,8 @@ lines_with_name n ls = map (λ l. (n, l)) ls
 
 -- after an event or a command
 abbrev pub after_item : Exports → Outlook → Comparison → HistoryItem → Comparison
-after_item o l c (event_item e) = record { run = run_after c.run l e; sessions = map (λ s. pair_after_in s.here.phase s e) c.sessions }
-after_item o l c (command_item k) = record { run = record c.run { was_determined = c.run.is_determined }; sessions = map (λ s. pair_after_command o s k) c.sessions }
+after_item o l c (event_item e) = record { run = run_after c.run l e; sessions = map (λ s. pair_after_in s.here.phase (run_after c.run l e) l s e) c.sessions }
+after_item o l c (command_item k) = record c { sessions = map (λ s. pair_after_command o c.run s k) c.sessions }
 
 -- and its lines
 abbrev pub lines_of_item : Exports → Outlook → Comparison → HistoryItem → List NamedLine
@@ -134,10 +151,14 @@ lines_of_items o l c (x ∷ xs) = lines_of_item o l c x ++ lines_of_items o l (a
 abbrev pub at_pick : ℕ → Comparison → Comparison
 at_pick pick c = record c { run = at_move c.run pick }
 
-abbrev pub after_pick : Exports → Outlook → ℕ → Comparison → List HistoryItem → Comparison
-after_pick o l pick c xs = after_items o l (at_pick pick c) xs
-
 -- a move that shows nothing can be a link of the process with itself
+abbrev pub after_own_link : Outlook → Comparison → Comparison
+after_own_link l c = record c { sessions = map (λ s. pair_after_own_link c.run s l.own_link) c.sessions }
+
+abbrev pub after_pick : Exports → Outlook → ℕ → Comparison → List HistoryItem → Comparison
+after_pick o l pick c [] = after_own_link l (at_pick pick c)
+after_pick o l pick c (x ∷ xs) = after_items o l (at_pick pick c) (x ∷ xs)
+
 abbrev pub lines_of_move : Exports → Outlook → ℕ → Comparison → List HistoryItem → List NamedLine
 lines_of_move o l pick c [] = flat_map (λ s. lines_with_name s.name (lines_of_own_link (at_move c.run pick) s pick l.own_link)) c.sessions
 lines_of_move o l pick c (x ∷ xs) = lines_of_items o l (at_pick pick c) (x ∷ xs)
@@ -164,7 +185,7 @@ pair_at_start o n = record { name = n; here = absent_session o; there = record {
 -- of all sessions, or of that of a name alone, where one is given
 abbrev pub comparison_at_start : Option Name → Program → Comparison
 comparison_at_start n p = record {
-  run = record { alive = alive_at_start (exports_of p).processes; signals = []; ended = None; is_determined = true; was_determined = true };
+  run = record { alive = alive_at_start (exports_of p).processes; signals = []; ended = None; is_determined = true };
   sessions = map (λ s. pair_at_start (exports_of p) s.0) (filter (λ s. is_session n s.0) (creations p.commands));
 }
 

@@ -28,13 +28,12 @@ pub record Signal : Type 0 where
   pub is_reported : Bool
 
 -- the processes that are alive, those that have a signal, the process that ended last, unless with the reason `normal`, and whether by an error;
--- whether the run on a node is determined, and whether it was before the last event that was reported
+-- and whether the run on a node is determined
 pub record NodeRun : Type 0 where
   pub alive : Alive
   pub signals : List Signal
   pub ended : Option (ℕ × Bool)
   pub is_determined : Bool
-  pub was_determined : Bool
 
 -- the signal of a process
 abbrev pub signal_of : List Signal → ℕ → Option Signal
@@ -110,7 +109,7 @@ signals_after_end (Some e) p q xs = if e.0 == q then signals_with (record { proc
 
 -- with these, and determined as far as it was and this says
 abbrev pub run_with : NodeRun → List Signal → (is_determined : Bool) → NodeRun
-run_with r xs b = record r { signals = xs; is_determined = r.is_determined && b; was_determined = r.is_determined && b }
+run_with r xs b = record r { signals = xs; is_determined = r.is_determined && b }
 
 abbrev pub run_after : NodeRun → Outlook → Event → NodeRun
 run_after r l (exited p reason) =

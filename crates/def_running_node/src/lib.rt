@@ -14,10 +14,10 @@ ghost use Rattle.def_running_node.specs.Laws.{LinesAreBetween, NoLineWhereSame, 
 ghost use Rattle.def_running_node.specs.Laws.{OpeningHasOneLine, EventHasLinesBetween, OpeningIsNotDetermined};
 ghost use Rattle.def_running_node.specs.Laws.{NotDeterminedInMove, NotDeterminedInMoves};
 ghost use Rattle.def_running_node.specs.Laws.{NoLaterLineInMove, NoLaterLineInMoves};
-ghost use Rattle.def_running_node.specs.Laws.{NotDeterminedAfterItem, ErrorThatGoesOn};
-ghost use Rattle.def_running_node.specs.Laws.{RunIsNotDeterminedAgain, NoLineInLaterMoves};
+ghost use Rattle.def_running_node.specs.Laws.{CommandInOpenRun, OwnLinkInOpenRun, ErrorThatGoesOn};
+ghost use Rattle.def_running_node.specs.Laws.{RunIsNotDeterminedAgain, NoDifferenceInLaterMoves};
 ghost use Rattle.def_running_node.specs.Laws.{CommandHasLinesBetween, OtherCommandHasNoLine, OwnLinkHasItsLine};
-ghost use Rattle.def_running_node.specs.Laws.{OwnUnlinkHasItsLine};
+ghost use Rattle.def_running_node.specs.Laws.{OwnUnlinkHasItsLine, OptionsCountOnce, NoArityMatchesNone};
 ghost use Rattle.def_running_node.specs.Laws.{AliveGoesByEvents, AbnormalExitGivesSignal, NormalExitGivesNone};
 ghost use Rattle.def_running_node.specs.Laws.{NoprocGivesSignal, FirstSignalCounts, NoSignalAfterExit};
 ghost use Rattle.def_running_node.specs.Laws.{OtherMoveIsNotDetermined, MoveWithSignalChangesNothing};
@@ -45,8 +45,8 @@ pub fn lines_are_between_both()
 
 /// Of an event after which what a session has on a node isn't determined, it has one line that says so, and of any
 /// other the lines between its messages here and there. A session that isn't determined stays so, and has no line of
-/// any later event, command or move; and no session has a line where the run isn't determined, as after an error at
-/// which the process goes on there.
+/// any later event, command or move. Where the run isn't determined, as after an error at which the process goes on
+/// there, a session has that one line, of the first event, command or own link that it has from then on, and no other.
 pub fn nothing_follows_what_is_not_determined()
     ensures one { OpeningHasOneLine }
     ensures between { EventHasLinesBetween }
@@ -55,19 +55,23 @@ pub fn nothing_follows_what_is_not_determined()
     ensures in_moves { NotDeterminedInMoves }
     ensures no_line { NoLaterLineInMove }
     ensures no_line_of_moves { NoLaterLineInMoves }
-    ensures run_after { NotDeterminedAfterItem }
+    ensures after_command { CommandInOpenRun }
+    ensures after_own_link { OwnLinkInOpenRun }
     ensures error { ErrorThatGoesOn }
     ensures run { RunIsNotDeterminedAgain }
-    ensures no_line_of_run { NoLineInLaterMoves }
+    ensures one_of_run { NoDifferenceInLaterMoves }
 {}
 
 /// A session has of a command of its own the lines between its replies here and there, and of another's none; of a
-/// link of a process with itself, or an unlink, which has no event here, it has the message of such an event there.
+/// link of a process with itself, or an unlink, which has no event here, it has the message of such an event there. A
+/// function command may have an option several times there, and one for an arity past 255 sets nothing and replies 0.
 pub fn a_command_has_the_lines_of_its_reply()
     ensures own { CommandHasLinesBetween }
     ensures other { OtherCommandHasNoLine }
     ensures own_link { OwnLinkHasItsLine }
     ensures own_unlink { OwnUnlinkHasItsLine }
+    ensures options { OptionsCountOnce }
+    ensures no_arity { NoArityMatchesNone }
 {}
 
 /// A process gets an exit signal where it loses its link by an exit whose reason isn't `normal`, or where it links to

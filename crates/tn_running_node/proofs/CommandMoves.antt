@@ -31,13 +31,14 @@ module _ {A : Type 0} (o : Exports) (c : definition.Comparison) (pick : ℕ) (ol
   pub pairs_at_move : EachPair (IsPair o (alive_of begun.alive)) c.sessions old.pairs.items
   pairs_at_move = subst (λ living. EachPair (IsPair o living) c.sessions old.pairs.items) (sym same-alive) h.pairs
 
-  pub command_seen_each : (l : outlook.Outlook) (k : Command) (pairs : Vec (SessionPair A) A) (after : NodeRun A) (out out' : Vec ℕ A) (kinds : LineKinds) → DidCommandEach o begun k c.sessions pairs.items out out' kinds
-      → node_run_seen after ≡ record (node_run_seen begun) { was_determined = begun.is_determined }
-      → BecomesComparison o (after_pick o l pick c (command_item k ∷ [])) (lines_of_move o l pick c (command_item k ∷ [])) (record old { run = after; pairs = pairs }) out out' kinds
-  command_seen_each l k pairs after out out' kinds did ends = record {
+  pub command_seen_each : (l : outlook.Outlook) (k : Command) (pairs : Vec (SessionPair A) A) (out out' : Vec ℕ A) (kinds : LineKinds) → DidCommandEach o begun k c.sessions pairs.items out out' kinds
+      → BecomesComparison o (after_pick o l pick c (command_item k ∷ [])) (lines_of_move o l pick c (command_item k ∷ [])) (record old { run = begun; pairs = pairs }) out out' kinds
+  command_seen_each l k pairs out out' kinds did = record {
     comparison = record {
-      run = ends ∙ ap (λ (r : runs.NodeRun). record r { was_determined = r.is_determined }) at-move;
-      pairs = subst (λ living. EachPair (IsPair o living) (map (λ s. pair_after_command o s k) c.sessions) pairs.items) same-alive did.pairs;
+      run = at-move;
+      pairs =
+          subst (λ (r : runs.NodeRun). EachPair (IsPair o c.run.alive) (map (λ s. pair_after_command o r s k) c.sessions) pairs.items) at-move
+          (subst (λ living. EachPair (IsPair o living) (map (λ s. pair_after_command o (node_run_seen begun) s k) c.sessions) pairs.items) same-alive did.pairs);
     };
     lines =
         subst (λ ls. PutsNamed ls out out' kinds) (sym (append-nil (flat_map (λ s. lines_with_name s.name (lines_of_command o (at_move c.run pick) s k)) c.sessions)))

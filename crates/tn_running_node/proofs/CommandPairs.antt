@@ -12,7 +12,7 @@ use Rattle.def_session.specs.Commands.{CommandResult, command_done}
 use Rattle.def_running_node.specs.NodeReplies.{node_command}
 use Rattle.def_running_node.specs.NodeRuns.{NodeLine, lines_by_openness}
 use Rattle.def_running_node.specs.NodeComparisons as comparison
-use Rattle.def_running_node.specs.NodeComparisons.{reply_texts, pair_after_command, lines_of_command}
+use Rattle.def_running_node.specs.NodeComparisons.{determined_in, reply_texts, pair_after_command, lines_of_command}
 use Rattle.tn_term.specs.Views.{alive_of}
 use Rattle.tn_script.specs.Views.{functions_of}
 use Rattle.tn_script.specs.declared.form.Function.{Function}
@@ -25,7 +25,7 @@ use Rattle.tn_trace.specs.declared.slot.Slot.{Slot}
 use Rattle.tn_running_node.specs.Lines.{PutsBothLines}
 use Rattle.tn_running_node.specs.Pairs.{IsThere, IsPair, DidThere, DidCommand}
 use Rattle.tn_running_node.specs.Replies.{IsDoneThere}
-use Rattle.tn_running_node.specs.Views.{node_mark_seen, lines_seen}
+use Rattle.tn_running_node.specs.Views.{node_mark_seen, lines_seen, node_run_seen}
 use Rattle.tn_running_node.specs.declared.lines.LineKinds.{LineKinds}
 use Rattle.tn_running_node.specs.declared.node_mark.NodeMark.{NodeMark}
 use Rattle.tn_running_node.specs.declared.node_run.NodeRun.{NodeRun}
@@ -140,11 +140,11 @@ module _ {A : Type 0} (o : Exports) (r : NodeRun A) (k : Command) (old : Session
 
   -- what becomes of the pair, and its lines, where the command is its own and where not
   abbrev after : Bool → comparison.SessionPair
-  after b = if b then record c { here = (command_done o c.here k).0; there = record c.there { session = (node_command o c.there.session k).0 } } else c
+  after b = if b then record c { here = (command_done o c.here k).0; there = record c.there { session = (node_command o c.there.session k).0 }; is_determined = determined_in (node_run_seen r) c } else c
 
   abbrev lines : Bool → List NodeLine
   lines b =
-      if b then lines_by_openness (r.was_determined && c.is_determined) (r.is_determined && c.is_determined) (reply_texts (command_done o c.here k).1) (reply_texts (node_command o c.there.session k).1) else []
+      if b then lines_by_openness c.is_determined (determined_in (node_run_seen r) c) (reply_texts (command_done o c.here k).1) (reply_texts (node_command o c.there.session k).1) else []
 
   pub did_no_command : (out : Vec ℕ A) (kinds : LineKinds) → Replies None → kinds.differs ≡ false → kinds.is_open ≡ false → DidCommand o r k c (record old { here = slot }) out out kinds
   did_no_command out kinds d differs closed = record {
@@ -154,18 +154,21 @@ module _ {A : Type 0} (o : Exports) (r : NodeRun A) (k : Command) (old : Session
 
   pub did_command : (new : SessionPair A) (here there : Tree) (lh lt : Vec (Vec ℕ A) A) (out out' : Vec ℕ A) (kinds : LineKinds) → Replies (Some here) → DidThere o (alive_of r.alive) k (record c { here = (command_done o c.here k).0 }) new there
       → lines_seen lh ≡ reply_texts here → lines_seen lt ≡ reply_texts there
-      → PutsBothLines new.here.name (lines_by_openness (r.was_determined && new.is_determined) (r.is_determined && new.is_determined) (lines_seen lh) (lines_seen lt)) out out' kinds
-      → DidCommand o r k c new out out' kinds
+      → PutsBothLines new.here.name (lines_by_openness new.is_determined (new.is_determined && r.is_determined) (lines_seen lh) (lines_seen lt)) out out' kinds
+      → DidCommand o r k c (record new { is_determined = new.is_determined && r.is_determined }) out out' kinds
   did_command new here there lh lt out out' kinds d after_there of_here of_there puts =
       let at = after_there.pair in
       let lines_here : lines_seen lh ≡ reply_texts (command_done o c.here k).1 = of_here ∙ ap reply_texts d.1.1 in
       let lines_there : lines_seen lt ≡ reply_texts (node_command o c.there.session k).1 = of_there ∙ ap reply_texts after_there.replied in
       record {
-        pair = subst (λ b. IsPair o (alive_of r.alive) (after b) new) (sym d.1.0) at;
+        pair =
+            let done : IsPair o (alive_of r.alive) (after true) (record new { is_determined = new.is_determined && r.is_determined }) =
+            record { name = at.name; here = at.here; there = at.there; determined = ap (λ b. b && r.is_determined) at.determined } in
+            subst (λ b. IsPair o (alive_of r.alive) (after b) (record new { is_determined = new.is_determined && r.is_determined })) (sym d.1.0) done;
         lines =
             subst (λ b. PutsBothLines c.name (lines b) out out' kinds) (sym d.1.0)
             (subst (λ n. PutsBothLines n (lines true) out out' kinds) at.name
-            (subst (λ b. PutsBothLines new.here.name (lines_by_openness (r.was_determined && b) (r.is_determined && b) (reply_texts (command_done o c.here k).1) (reply_texts (node_command o c.there.session k).1)) out out' kinds) at.determined
-            (subst (λ ls. PutsBothLines new.here.name (lines_by_openness (r.was_determined && new.is_determined) (r.is_determined && new.is_determined) (reply_texts (command_done o c.here k).1) ls) out out' kinds) lines_there
-            (subst (λ ls. PutsBothLines new.here.name (lines_by_openness (r.was_determined && new.is_determined) (r.is_determined && new.is_determined) ls (lines_seen lt)) out out' kinds) lines_here puts))));
+            (subst (λ b. PutsBothLines new.here.name (lines_by_openness b (b && r.is_determined) (reply_texts (command_done o c.here k).1) (reply_texts (node_command o c.there.session k).1)) out out' kinds) at.determined
+            (subst (λ ls. PutsBothLines new.here.name (lines_by_openness new.is_determined (new.is_determined && r.is_determined) (reply_texts (command_done o c.here k).1) ls) out out' kinds) lines_there
+            (subst (λ ls. PutsBothLines new.here.name (lines_by_openness new.is_determined (new.is_determined && r.is_determined) ls (lines_seen lt)) out out' kinds) lines_here puts))));
       }

@@ -16,7 +16,7 @@ use Rattle.def_explain.specs.CommandReasons.{any_setting}
 use Rattle.def_explain.specs.CommandDifferences.{is_internal_and_set}
 use Rattle.def_explain.specs.Differences.{has_none}
 use Rattle.def_running_node.specs.NodeSessions.{with_new_flags}
-use Rattle.def_running_node.specs.NodeReplies.{has_new_processes, has_existing, process_reply, processes_by, with_disabled, own_kind_disabled, internal_disabled, before_setting, function_by, node_command_live, node_command_in, node_command}
+use Rattle.def_running_node.specs.NodeReplies.{has_new_processes, has_existing, process_reply, processes_by, with_disabled, own_kind_disabled, internal_disabled, before_setting, function_by, function_reply, command_once, node_command_live, node_command_in, node_command}
 use Rattle.tn_flags.specs.Views.{command_of}
 use Rattle.tn_flags.specs.declared.command.Command as commands
 use Rattle.tn_flags.specs.declared.command.Command.TheVariants as code
@@ -26,7 +26,7 @@ use Rattle.tn_index.specs.Views.{function_pattern_seen}
 use Rattle.tn_session.specs.Looks.{is_live}
 use Rattle.tn_session.specs.Sessions.{SessionValue, value_in, next_session, exports_in, with_new_process_flags}
 use Rattle.tn_session.specs.declared.session.Session as sessions
-use Rattle.tn_running_node.specs.Replies.{ChangeView, change_of_parts, on_where_read, function_change_seen, Changes, IsModelDone, IsDoneLive, IsProcessDoneThere, IsFunctionDoneThere}
+use Rattle.tn_running_node.specs.Replies.{ChangeView, change_of_parts, on_where_read, function_change_seen, Changes, IsModelDone, IsDoneLive, IsProcessDoneThere, function_set_by, IsFunctionSet, IsFunctionDoneThere}
 use Rattle.tn_running_node.specs.Replies.{with_state, LiveBecomes, own_kind_from, internal_from, match_count_seen}
 use Rattle.tn_running_node.specs.declared.function_settings.FunctionChange.{FunctionChange}
 
@@ -60,7 +60,7 @@ pub is_live_then : (s : Session) → true ≡ is_live s.phase → s.phase ≡ li
 is_live_then s e = live_phase s.phase e
 
 -- of a live one
-pub of_live : (o : Exports) (s : Session) (c : Command) → s.phase ≡ live → node_command o s c ≡ node_command_live o s c
+pub of_live : (o : Exports) (s : Session) (c : Command) → s.phase ≡ live → node_command o s c ≡ node_command_live o s (command_once c)
 of_live o s c e = ap (λ p. node_command_in p o s c) e
 
 -- ---- flags
@@ -112,7 +112,7 @@ model_read o s name mfa spec options alive =
     ap (λ p. done_in p o s (set_function name mfa spec options)) alive ∙ as_read o s (trace_pattern_of mfa) (options_of options) spec
 
 node_read : (o : Exports) (s : Session) (name : Name) (mfa spec options : Tree) → s.phase ≡ live
-    → node_command_live o s (set_function name mfa spec options)
+    → function_set_by o s (set_function name mfa spec options)
     ≡ function_by o s (trace_pattern_of mfa) (options_of options) (setting_of for_calls spec) (read_done o s (trace_pattern_of mfa) (options_of options) (setting_of for_calls spec))
 node_read o s name mfa spec options alive =
     ap (λ k. function_by o s (trace_pattern_of mfa) (options_of options) (setting_of for_calls spec) k) (model_read o s name mfa spec options alive)
@@ -164,14 +164,14 @@ sets o s (Some covered) (Some local) (Ok (by k)) x e b =
     ap (λ (z : ChangeView). read_done o (before_setting o s z.covered z.local) (Some covered) (Some local) (Ok (by k))) is
 
 -- a function command that isn't read
-pub of_unread : (o : Exports) (s : Session) (c : Command) → Changes c None → s.phase ≡ live → node_command_live o s c ≡ command_done o s c
+pub of_unread : (o : Exports) (s : Session) (c : Command) → Changes c None → s.phase ≡ live → function_set_by o s c ≡ command_done o s c
 of_unread o s (set_function name mfa spec options) e alive =
     node_read o s name mfa spec options alive ∙ unread o s (trace_pattern_of mfa) (options_of options) (setting_of for_calls spec) e ∙ sym (model_read o s name mfa spec options alive)
 of_unread o s c e alive = absurd e
 
 -- one that disables
 pub of_false : (o : Exports) (s : Session) (c : Command) (x : ChangeView) → Changes c (Some x) → x.on ≡ false → s.phase ≡ live
-    → node_command_live o s c ≡ (own_kind_disabled x.covered x.local o.functions s, number_term (matching_count o (any_setting x.covered x.local)))
+    → function_set_by o s c ≡ (own_kind_disabled x.covered x.local o.functions s, number_term (matching_count o (any_setting x.covered x.local)))
 of_false o s (set_function name mfa spec options) x e b alive =
     node_read o s name mfa spec options alive ∙ disables o s (trace_pattern_of mfa) (options_of options) (setting_of for_calls spec) x e b
 of_false o s c x e b alive = absurd e
@@ -190,7 +190,7 @@ phase_before o s covered false = phase_left covered o.functions s
 
 -- one that doesn't
 pub of_true : (o : Exports) (s : Session) (c : Command) (x : ChangeView) → Changes c (Some x) → x.on ≡ true → s.phase ≡ live
-    → node_command_live o s c ≡ command_done o (before_setting o s x.covered x.local) c
+    → function_set_by o s c ≡ command_done o (before_setting o s x.covered x.local) c
 of_true o s (set_function name mfa spec options) x e b alive =
     node_read o s name mfa spec options alive
     ∙ sets o s (trace_pattern_of mfa) (options_of options) (setting_of for_calls spec) x e b
@@ -212,7 +212,7 @@ done_false functions c old new t x is_off becomes counted = λ changes o v is al
     let covered = function_pattern_seen x.covered in
     let F : List (Mfa × Bool) → Option SessionValue × Tree =
     λ fs. (Some (with_state v (own_kind_disabled covered x.local fs v.state)), number_term (length (filter (λ f. has_among (any_setting covered x.local) f.0 f.1) fs))) in
-    let read : next_session v (node_command_live o v.state c) ≡ F o.functions = ap (next_session v) (of_false o v.state c (function_change_seen x) changes is_off alive) in
+    let read : next_session v (function_set_by o v.state c) ≡ F o.functions = ap (next_session v) (of_false o v.state c (function_change_seen x) changes is_off alive) in
     read ∙ ap F is.program ∙ ap₂ (λ w u. (w, u)) (sym (becomes v is.value alive)) (sym counted)
 
 pub done_local : {A : Type 0} (functions : List (Function A)) (c : Command) (old new : sessions.Session A) (t : Tree) (x : FunctionChange A) → x.on ≡ true → x.local ≡ true
@@ -229,6 +229,15 @@ done_global functions c old mid new t x on global becomes model = λ changes o v
     let with_functions = λ (fs : List (Mfa × Bool)). command_done o (internal_disabled covered fs v.state) c in
     ap (next_session v) (of_true o v.state c (function_change_seen x) changes on alive ∙ ap before global ∙ ap with_functions is.program)
     ∙ model o (with_state v (internal_disabled covered (visible (functions_of functions)) v.state)) (becomes v is.value alive) is.same
+
+-- with the reply, where the arity is none
+pub done_function : {A : Type 0} (functions : List (Function A)) (c : Command) (old new : sessions.Session A) (r t : Tree) (name : Name) (mfa spec options : Tree) → c ≡ set_function name mfa spec options
+    → IsFunctionSet functions c old new r → t ≡ function_reply mfa (options_of options) (setting_of for_calls spec) r → IsDoneLive functions c old new t
+done_function functions c old new r t name mfa spec options e set replied = λ o v is alive.
+    let F : Tree → Tree = function_reply mfa (options_of options) (setting_of for_calls spec) in
+    let set_there : next_session v (function_set_by o v.state (set_function name mfa spec options)) ≡ (value_in new, r) =
+    ap (λ k. next_session v (function_set_by o v.state k)) (sym e) ∙ set o v is alive in
+    ap (λ k. next_session v (node_command_live o v.state k)) e ∙ ap (λ q. (q.0, F q.1)) set_there ∙ ap (λ u. (value_in new, u)) (sym replied)
 
 pub done_processes : {A : Type 0} (functions : List (Function A)) (c : Command) (old mid new : sessions.Session A) (r t : Tree) (name : Name) (p h f : Tree) → c ≡ set_processes name p h f
     → IsModelDone c old mid r → IsProcessDoneThere p h f mid new r t → IsDoneLive functions c old new t

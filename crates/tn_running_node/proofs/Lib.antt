@@ -23,3 +23,4 @@ mod MovesThatDiffer
 mod AbsentPairs
 mod CommandPairs
 mod CommandMoves
+mod FunctionArguments

@@ -20,7 +20,7 @@ use Rattle.tn_running_node.specs.declared.node_run.NodeRun.{NodeRun}
 use Rattle.tn_running_node.specs.declared.node_session.NodeSession.{NodeSession}
 use Rattle.tn_running_node.specs.declared.pair.SessionPair.{SessionPair}
 use Rattle.tn_running_node.proofs.OwnLinks.{own_link_keeps}
-use Rattle.tn_running_node.proofs.Phases.{own_link_live}
+use Rattle.tn_running_node.proofs.Phases.{own_link_live, own_pair_live}
 
 module _ {A : Type 0} (r : NodeRun A) (e : Event) (old : SessionPair A) (o : Exports) (living : Alive) (c : comparison.SessionPair) (p : ℕ) (x : OwnLink) (is-own : e ≡ own_link_event p x) (h : IsPair o living c old) (there after : NodeSession A) (lh lt : Vec (Vec ℕ A) A) (is-there : old.there ≡ Some there) (seen : SeesAsHere e there after lt) where
   of-there : SeesHereFrom after.session lt o.functions (event_reported c.there.session e)
@@ -32,21 +32,21 @@ module _ {A : Type 0} (r : NodeRun A) (e : Event) (old : SessionPair A) (o : Exp
   same-state = ap (λ f. (event_reported c.there.session f).0) is-own ∙ own_link_keeps c.there.session p x
 
   pub saw_own_link : (kinds : LineKinds) (out out' : Vec ℕ A) → true ≡ is_live c.here.phase → lines_seen lh ≡ []
-      → PutsBothLines old.here.name (lines_by_openness (r.was_determined && old.is_determined) (r.is_determined && old.is_determined) (lines_seen lh) (lines_seen lt)) out out' kinds
-      → SawOwnLink o living r e c (record old { there = Some after }) out out' kinds
+      → PutsBothLines old.here.name (lines_by_openness old.is_determined (old.is_determined && r.is_determined) (lines_seen lh) (lines_seen lt)) out out' kinds
+      → SawOwnLink o living r e c (record old { there = Some after; is_determined = old.is_determined && r.is_determined }) out out' kinds
   saw_own_link kinds out out' alive none puts =
       let at : IsThere o.functions living c.there (Some there) = subst (IsThere o.functions living c.there) is-there h.there in
       let messages = texts (option_to_list (event_reported c.there.session e).1) in
       record {
-        pair = record {
+        pair = own_pair_live o living (node_run_seen r) c (record old { there = Some after; is_determined = old.is_determined && r.is_determined }) alive (record {
           name = h.name;
           here = h.here;
           there = (of-there.session ∙ ap (λ s. Some (record { functions = o.functions; state = s })) same-state, ap node_marks_seen seen.1 ∙ at.1);
-          determined = h.determined;
-        };
+          determined = ap (λ b. b && r.is_determined) h.determined;
+        });
         lines = own_link_live (node_run_seen r) c e out out' kinds alive
-            (subst (λ n. PutsBothLines n (lines_by_openness (r.was_determined && c.is_determined) (r.is_determined && c.is_determined) [] messages) out out' kinds) h.name
-            (subst (λ d. PutsBothLines old.here.name (lines_by_openness (r.was_determined && d) (r.is_determined && d) [] messages) out out' kinds) h.determined
-            (subst (λ ls. PutsBothLines old.here.name (lines_by_openness (r.was_determined && old.is_determined) (r.is_determined && old.is_determined) [] ls) out out' kinds) of-there.messages
-            (subst (λ ls. PutsBothLines old.here.name (lines_by_openness (r.was_determined && old.is_determined) (r.is_determined && old.is_determined) ls (lines_seen lt)) out out' kinds) none puts))));
+            (subst (λ n. PutsBothLines n (lines_by_openness c.is_determined (c.is_determined && r.is_determined) [] messages) out out' kinds) h.name
+            (subst (λ d. PutsBothLines old.here.name (lines_by_openness d (d && r.is_determined) [] messages) out out' kinds) h.determined
+            (subst (λ ls. PutsBothLines old.here.name (lines_by_openness old.is_determined (old.is_determined && r.is_determined) [] ls) out out' kinds) of-there.messages
+            (subst (λ ls. PutsBothLines old.here.name (lines_by_openness old.is_determined (old.is_determined && r.is_determined) ls (lines_seen lt)) out out' kinds) none puts))));
       }

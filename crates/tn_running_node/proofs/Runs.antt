@@ -9,7 +9,7 @@ use Rattle.tn_running_node.specs.RunChanges.{after_change, determined_after}
 
 -- where it is determined as this says
 abbrev pub and_determined : NodeRun → Bool → NodeRun
-and_determined r b = record r { is_determined = b; was_determined = b }
+and_determined r b = record r { is_determined = b }
 
 by-link : (r : NodeRun) (l : Outlook) (p q : ℕ) (b : Bool) → is_alive r.alive q ≡ b → run_after r l (linked p q) ≡ and_determined (after_change r l (linked p q)) (determined_after r l (linked p q))
 by-link r l p q true e =

@@ -11,7 +11,7 @@ use Rattle.def_session.specs.State.{alive_after}
 use Rattle.def_run.specs.Run.{HistoryItem, event_item, command_item}
 use Rattle.def_running_node.specs.NodeRuns.{run_after}
 use Rattle.def_running_node.specs.NodeComparisons as definition
-use Rattle.def_running_node.specs.NodeComparisons.{NamedLine, lines_with_name, named_line_text, lines_differ, lines_are_open, pair_after_in, lines_of_event_in, own_link_event, lines_of_own_link_in, lines_of_own_link, pair_after_command, lines_of_command, after_item, lines_of_item, after_items, lines_of_items, after_pick, lines_of_move}
+use Rattle.def_running_node.specs.NodeComparisons.{NamedLine, lines_with_name, named_line_text, lines_differ, lines_are_open, pair_after_in, lines_of_event_in, own_link_event, pair_after_own_link_in, lines_of_own_link_in, lines_of_own_link, pair_after_command, lines_of_command, after_item, lines_of_item, after_items, lines_of_items, after_own_link, after_pick, lines_of_move}
 use Rattle.tn_term.specs.Views.{alive_of}
 use Rattle.tn_flags.specs.Views.{event_of, command_of}
 use Rattle.tn_flags.specs.declared.event.Event as flags
@@ -36,15 +36,15 @@ pub record PutsNamed {A : Type 0} (ls : List NamedLine) (out out' : Vec ℕ A) (
   pub open_lines : kinds.is_open ≡ lines_are_open ls
 
 -- a pair after an event, and its lines
-abbrev pub after_event : Event → definition.SessionPair → definition.SessionPair
-after_event e c = pair_after_in c.here.phase c e
+abbrev pub after_event : {A : Type 0} → NodeStep A → Event → definition.SessionPair → definition.SessionPair
+after_event step e c = let l = outlook_seen step.outlook in pair_after_in c.here.phase (run_after (node_run_seen step.run.now) l e) l c e
 
 abbrev pub lines_at : {A : Type 0} → NodeStep A → Event → definition.SessionPair → List NamedLine
 lines_at step e c = let r = node_run_seen step.run.now in let l = outlook_seen step.outlook in lines_with_name c.name (lines_of_event_in c.here.phase r (run_after r l e) l c e)
 
 -- the pairs saw the event
 pub record SawEach {A : Type 0} (o : Exports) (living : Alive) (step : NodeStep A) (e : Event) (cs : List definition.SessionPair) (new : List (SessionPair A)) (out out' : Vec ℕ A) (kinds : LineKinds) : Type 0 where
-  pub pairs : EachPair (IsPair o (alive_after living e)) (map (after_event e) cs) new
+  pub pairs : EachPair (IsPair o (alive_after living e)) (map (after_event step e) cs) new
   pub lines : PutsNamed (flat_map (lines_at step e) cs) out out' kinds
 
 abbrev pub PairsSee : {A : Type 0} → NodeStep A → flags.Event A → List (SessionPair A) → List (SessionPair A) → Vec ℕ A → Vec ℕ A → LineKinds → Type 0
@@ -77,9 +77,12 @@ ComparesEvents outlook events old new out out' kinds =
 abbrev pub own_lines_at : {A : Type 0} → NodeRun A → Event → definition.SessionPair → List NamedLine
 own_lines_at r e c = lines_with_name c.name (lines_of_own_link_in c.here.phase (node_run_seen r) c e)
 
--- the pairs are as they were
+abbrev pub after_own_link_at : {A : Type 0} → NodeRun A → definition.SessionPair → definition.SessionPair
+after_own_link_at r c = pair_after_own_link_in c.here.phase (node_run_seen r) c
+
+-- the pairs are as they were, but for what is determined
 pub record SawOwnLinkEach {A : Type 0} (o : Exports) (living : Alive) (r : NodeRun A) (e : Event) (cs : List definition.SessionPair) (new : List (SessionPair A)) (out out' : Vec ℕ A) (kinds : LineKinds) : Type 0 where
-  pub pairs : EachPair (IsPair o living) cs new
+  pub pairs : EachPair (IsPair o living) (map (after_own_link_at r) cs) new
   pub lines : PutsNamed (flat_map (own_lines_at r e) cs) out out' kinds
 
 abbrev pub PairsSeeOwnLink : {A : Type 0} → NodeRun A → flags.Event A → List (SessionPair A) → List (SessionPair A) → Vec ℕ A → Vec ℕ A → LineKinds → Type 0
@@ -92,7 +95,7 @@ abbrev pub own_link_lines : ℕ → definition.Comparison → Outlook → List N
 own_link_lines pick c l = flat_map (λ s. lines_with_name s.name (lines_of_own_link c.run s pick (outlook_seen l).own_link)) c.sessions
 
 abbrev pub ComparesOwnLink : {A : Type 0} → ℕ → Outlook → Comparison A → Comparison A → Vec ℕ A → Vec ℕ A → LineKinds → Type 0
-ComparesOwnLink pick outlook old new out out' kinds = (o : Exports) (c : definition.Comparison) → IsComparison o c old → BecomesComparison o c (own_link_lines pick c outlook) new out out' kinds
+ComparesOwnLink pick outlook old new out out' kinds = (o : Exports) (c : definition.Comparison) → IsComparison o c old → BecomesComparison o (after_own_link (outlook_seen outlook) c) (own_link_lines pick c outlook) new out out' kinds
 
 -- a move
 abbrev pub ComparesOneMove : {A : Type 0} → ℕ → Outlook → List (flags.Event A) → Comparison A → Comparison A → Vec ℕ A → Vec ℕ A → LineKinds → Type 0
@@ -107,7 +110,7 @@ command_lines_at o r k c = lines_with_name c.name (lines_of_command o (node_run_
 
 -- the session that it names did it
 pub record DidCommandEach {A : Type 0} (o : Exports) (r : NodeRun A) (k : Command) (cs : List definition.SessionPair) (new : List (SessionPair A)) (out out' : Vec ℕ A) (kinds : LineKinds) : Type 0 where
-  pub pairs : EachPair (IsPair o (alive_of r.alive)) (map (λ c. pair_after_command o c k) cs) new
+  pub pairs : EachPair (IsPair o (alive_of r.alive)) (map (λ c. pair_after_command o (node_run_seen r) c k) cs) new
   pub lines : PutsNamed (flat_map (command_lines_at o r k) cs) out out' kinds
 
 abbrev pub PairsObey : {A : Type 0} → NodeRun A → List (Function A) → commands.Command A → Vec (SessionPair A) A → Vec (SessionPair A) A → Vec ℕ A → Vec ℕ A → LineKinds → Type 0

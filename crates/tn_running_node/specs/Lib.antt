@@ -10,3 +10,4 @@ pub mod Pairs
 pub mod Comparisons
 pub mod NodeMoves
 pub mod Replies
+pub mod FunctionArguments

@@ -17,9 +17,10 @@ use Rattle.def_explain.specs.RunTexts.{is_session}
 use Rattle.def_running_node.specs.NodeReplies.{node_command}
 use Rattle.def_running_node.specs.NodeSessions as node
 use Rattle.def_running_node.specs.NodeSessions.{marks_after, reported_there}
+use Rattle.def_running_node.specs.NodeRuns as runs
 use Rattle.def_running_node.specs.NodeRuns.{run_after, run_messages, opens, hides, lines_by_openness}
 use Rattle.def_running_node.specs.NodeComparisons as comparison
-use Rattle.def_running_node.specs.NodeComparisons.{texts, pair_elsewhere, pair_after_in, lines_of_event_in, own_link_event, lines_of_own_link_in, pair_after_command, lines_of_command}
+use Rattle.def_running_node.specs.NodeComparisons.{texts, pair_elsewhere, pair_after_in, lines_of_event_in, own_link_event, pair_after_own_link_in, lines_of_own_link_in, pair_after_command, lines_of_command}
 use Rattle.tn_term.specs.Views.{alive_of}
 use Rattle.tn_flags.specs.Views.{event_of, command_of}
 use Rattle.tn_flags.specs.declared.event.Event as flags
@@ -60,18 +61,23 @@ pub record IsPair {A : Type 0} (o : Exports) (living : Alive) (c : comparison.Se
   pub there : IsThere o.functions living c.there pair.there
   pub determined : pair.is_determined ≡ c.is_determined
 
--- a live pair after an event of which this isn't determined
-abbrev pub live_pair_after : comparison.SessionPair → Event → (opens : Bool) → comparison.SessionPair
+-- a live pair after an event, where what it reports is determined then as this says
+abbrev pub live_pair_after : comparison.SessionPair → Event → (is_determined : Bool) → comparison.SessionPair
 live_pair_after c e b =
     let there : definition.Session × Option Tree = reported_there c.there.session e in
-    record c { here = (event_reported c.here e).0; there = record { session = there.0; marks = marks_after there.0 c.there.marks e }; is_determined = c.is_determined && not b }
+    record c { here = (event_reported c.here e).0; there = record { session = there.0; marks = marks_after there.0 c.there.marks e }; is_determined = b }
+
+-- whether it is, where the processes are these then
+abbrev pub determined_by : (after : runs.NodeRun) → comparison.SessionPair → Openness → Bool
+determined_by q c openness = c.is_determined && (q.is_determined && (not openness.opens && not openness.hides))
 
 -- where both saw the event, the lines between them were appended
 pub record SawBoth {A : Type 0} (o : Exports) (step : NodeStep A) (event : flags.Event A) (openness : Openness) (c : comparison.SessionPair) (new : SessionPair A) (out out' : Vec ℕ A) (kinds : LineKinds) : Type 0 where
-  pub pair : (living : Alive) → IsPair o living (live_pair_after c (event_of event) openness.opens) new
+  pub pair : let e : Event = event_of event in let q : runs.NodeRun = run_after (node_run_seen step.run.now) (outlook_seen step.outlook) e in
+      (living : Alive) → IsPair o living (live_pair_after c e (determined_by q c openness)) new
   pub lines : let e : Event = event_of event in let r = node_run_seen step.run.now in let l = outlook_seen step.outlook in
       let there : definition.Session × Option Tree = reported_there c.there.session e in
-      PutsBothLines c.name (lines_by_openness (r.was_determined && c.is_determined) ((run_after r l e).is_determined && ((c.is_determined && not openness.opens) && not openness.hides))
+      PutsBothLines c.name (lines_by_openness c.is_determined (determined_by (run_after r l e) c openness)
       (texts (option_to_list (event_reported c.here e).1)) (texts (run_messages r l c.there there.0 e there.1))) out out' kinds
 
 abbrev pub PairSeesBoth : {A : Type 0} → NodeStep A → flags.Event A → Openness → SessionPair A → SessionPair A → Vec ℕ A → Vec ℕ A → LineKinds → Type 0
@@ -93,7 +99,7 @@ HasOpenness l event pair openness =
 
 -- the pair saw the event, and the lines between both were appended
 pub record Saw {A : Type 0} (o : Exports) (living : Alive) (step : NodeStep A) (e : Event) (c : comparison.SessionPair) (new : SessionPair A) (out out' : Vec ℕ A) (kinds : LineKinds) : Type 0 where
-  pub pair : IsPair o (alive_after living e) (pair_after_in c.here.phase c e) new
+  pub pair : let q : runs.NodeRun = run_after (node_run_seen step.run.now) (outlook_seen step.outlook) e in IsPair o (alive_after living e) (pair_after_in c.here.phase q (outlook_seen step.outlook) c e) new
   pub lines : let r = node_run_seen step.run.now in let l = outlook_seen step.outlook in PutsBothLines c.name (lines_of_event_in c.here.phase r (run_after r l e) l c e) out out' kinds
 
 abbrev pub PairSees : {A : Type 0} → NodeStep A → flags.Event A → SessionPair A → SessionPair A → Vec ℕ A → Vec ℕ A → LineKinds → Type 0
@@ -101,9 +107,9 @@ PairSees step event old new out out' kinds = (o : Exports) (living : Alive) (c :
 
 -- ---- a link of a process with itself
 
--- the pair is as it was, and the line that the session has there was appended
+-- the pair is as it was, but for what is determined, and the line that the session has there was appended
 pub record SawOwnLink {A : Type 0} (o : Exports) (living : Alive) (r : NodeRun A) (e : Event) (c : comparison.SessionPair) (new : SessionPair A) (out out' : Vec ℕ A) (kinds : LineKinds) : Type 0 where
-  pub pair : IsPair o living c new
+  pub pair : IsPair o living (pair_after_own_link_in c.here.phase (node_run_seen r) c) new
   pub lines : PutsBothLines c.name (lines_of_own_link_in c.here.phase (node_run_seen r) c e) out out' kinds
 
 abbrev pub PairSeesOwnLink : {A : Type 0} → NodeRun A → flags.Event A → SessionPair A → SessionPair A → Vec ℕ A → Vec ℕ A → LineKinds → Type 0
@@ -135,7 +141,7 @@ PairObeysThere r functions command old new reply =
 
 -- the pair did the command where it is to this session, and the lines between both replies were appended
 pub record DidCommand {A : Type 0} (o : Exports) (r : NodeRun A) (k : Command) (c : comparison.SessionPair) (new : SessionPair A) (out out' : Vec ℕ A) (kinds : LineKinds) : Type 0 where
-  pub pair : IsPair o (alive_of r.alive) (pair_after_command o c k) new
+  pub pair : IsPair o (alive_of r.alive) (pair_after_command o (node_run_seen r) c k) new
   pub lines : PutsBothLines c.name (lines_of_command o (node_run_seen r) c k) out out' kinds
 
 abbrev pub PairObeys : {A : Type 0} → NodeRun A → List (Function A) → commands.Command A → SessionPair A → SessionPair A → Vec ℕ A → Vec ℕ A → LineKinds → Type 0

@@ -16,7 +16,7 @@ use Rattle.def_session.specs.Commands.{procs_of, how_of, command_done}
 use Rattle.def_explain.specs.CommandReasons.{any_setting}
 use Rattle.def_explain.specs.CommandDifferences.{is_on, is_set_by_kind, is_internal_and_set}
 use Rattle.def_explain.specs.Differences.{has_none}
-use Rattle.def_running_node.specs.NodeReplies.{processes_by, is_of_own_kind, own_kind_disabled, internal_disabled, node_command_live, node_command}
+use Rattle.def_running_node.specs.NodeReplies.{processes_by, is_of_own_kind, own_kind_disabled, internal_disabled, function_by, node_command_live, node_command}
 use Rattle.tn_script.specs.Views.{function_of, functions_of}
 use Rattle.tn_script.specs.declared.form.Function.{Function}
 use Rattle.tn_index.specs.Views.{function_pattern_seen}
@@ -155,6 +155,16 @@ abbrev pub Changes : Command → Option ChangeView → Type 0
 Changes (set_function name mfa spec options) x = change_read mfa spec options ≡ x
 Changes c x = ⊥
 
--- what a function command does whose arguments are read so
+-- what a function command sets, and its reply as far as the arity is one
+abbrev pub function_set_by : Exports → definition.Session → Command → definition.Session × Tree
+function_set_by o s (set_function name mfa spec options) =
+    function_by o s (trace_pattern_of mfa) (options_of options) (setting_of for_calls spec) (command_done o s (set_function name mfa spec options))
+function_set_by o s c = command_done o s c
+
+abbrev pub IsFunctionSet : {A : Type 0} → List (Function A) → Command → (old new : Session A) → Tree → Type 0
+IsFunctionSet functions c old new t =
+    (o : Exports) (v : SessionValue) → IsOfProgram functions old o v → v.state.phase ≡ live → next_session v (function_set_by o v.state c) ≡ (value_in new, t)
+
+-- where its arguments are read so
 abbrev pub IsFunctionDoneThere : {A : Type 0} → List (Function A) → Command → Option ChangeView → (old new : Session A) → Tree → Type 0
-IsFunctionDoneThere functions c x old new t = Changes c x → IsDoneLive functions c old new t
+IsFunctionDoneThere functions c x old new t = Changes c x → IsFunctionSet functions c old new t

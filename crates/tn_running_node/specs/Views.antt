@@ -27,7 +27,7 @@ abbrev pub ended_seen : ProcessEnd → ℕ × Bool
 ended_seen e = (e.process, e.of_error)
 
 abbrev pub node_run_seen : {A : Type 0} → NodeRun A → runs.NodeRun
-node_run_seen r = record { alive = alive_of r.alive; signals = signals_seen r.signals; ended = option_map ended_seen r.ended; is_determined = r.is_determined; was_determined = r.was_determined }
+node_run_seen r = record { alive = alive_of r.alive; signals = signals_seen r.signals; ended = option_map ended_seen r.ended; is_determined = r.is_determined }
 
 -- the lines of several messages
 abbrev pub lines_seen : {A : Type 0} → Vec (Vec ℕ A) A → List (List ℕ)

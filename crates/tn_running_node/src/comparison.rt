@@ -121,7 +121,6 @@ impl<A: Allocator + Copy> Comparison<A> {
             signals: Vec::new(alloc),
             ended: None,
             is_determined: true,
-            was_determined: true,
         };
         Ok(Comparison { alloc, run, pairs })
     }
@@ -147,7 +146,6 @@ impl<A: Allocator + Copy> Comparison<A> {
             command,
             out,
         )?;
-        self.run.see_command();
         Ok(kinds)
     }
 

@@ -6,6 +6,7 @@
 #![tactic(auto)]
 
 mod actor;
+mod arguments;
 mod clause;
 mod comparison;
 mod function_settings;

@@ -25,15 +25,14 @@ pub struct ProcessEnd {
     pub of_error: bool,
 }
 
-/// The processes that are alive, those that have a signal, and the one that ended last; whether the run on a node is
-/// determined, and whether it was before the last event that was reported.
+/// The processes that are alive, those that have a signal, and the one that ended last; and whether the run on a node
+/// is determined.
 #[derive(Drop)]
 pub struct NodeRun<A: Allocator> {
     pub alive: Alive,
     pub signals: Vec<Signal, A>,
     pub ended: Option<ProcessEnd>,
     pub is_determined: bool,
-    pub was_determined: bool,
 }
 
 /// Whether the error is of a limit of the model, which a node doesn't have.
@@ -199,15 +198,6 @@ impl<A: Allocator> NodeRun<A> {
         let is_determined = self.is_determined_after(outlook, event);
         self.change(outlook, event)?;
         self.is_determined = is_determined;
-        self.was_determined = is_determined;
         Ok(())
-    }
-
-    /// After a command.
-    pub fn see_command(&mut self)
-        ensures { let r = node_run_seen self.old in
-            node_run_seen self.new ≡ record r { was_determined = r.is_determined } }
-    {
-        self.was_determined = self.is_determined;
     }
 }

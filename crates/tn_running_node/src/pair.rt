@@ -28,7 +28,7 @@ use tn_term::Term;
 use tn_trace::{Discard, Slot};
 
 /// A session of the control list here, the same on a running node once it is created, and whether what it reports
-/// there is determined.
+/// there is determined so far.
 #[derive(Drop)]
 pub struct SessionPair<A: Allocator> {
     pub here: Slot<A, Discard>,
@@ -36,7 +36,7 @@ pub struct SessionPair<A: Allocator> {
     pub is_determined: bool,
 }
 
-/// What isn't determined of an event: what a session reports from it on, or the message of this event alone.
+/// Why what a session reports isn't determined from an event on: its evaluation, or a message of it that isn't known.
 #[derive(Clone, Copy, Debug, PartialEq, Eq, Drop)]
 pub struct Openness {
     pub opens: bool,
@@ -105,10 +105,10 @@ impl<A: Allocator + Copy> SessionPair<A> {
         };
         let lines_here = see_here(alloc, here, event)?;
         let lines_there = there.see(alloc, step.run, step.outlook, event)?;
-        let was = step.run.was_determined & self.is_determined;
-        self.is_determined = self.is_determined & !openness.opens;
-        let is_determined = step.run.is_determined_after(step.outlook, event);
-        let is = is_determined & (self.is_determined & !openness.hides);
+        let was = self.is_determined;
+        let run_is_determined = step.run.is_determined_after(step.outlook, event);
+        let is = was & (run_is_determined & (!openness.opens & !openness.hides));
+        self.is_determined = is;
         let kinds = put_lines(&self.here.name, was, is, &lines_here, &lines_there, out)?;
         Ok(kinds)
     }
@@ -177,7 +177,7 @@ impl<A: Allocator + Copy> SessionPair<A> {
     }
 
     /// A process links itself to itself, or unlinks itself from itself: the line that the session has of this event on
-    /// the node is appended. It changes neither of the two sessions.
+    /// the node is appended. It changes neither of the two sessions, but for whether what they report is determined.
     pub fn see_own_link(
         &mut self,
         alloc: A,
@@ -196,8 +196,9 @@ impl<A: Allocator + Copy> SessionPair<A> {
         };
         let lines_there = there.see_as_here(alloc, event)?;
         let lines_here = Vec::new(alloc);
-        let was = run.was_determined & self.is_determined;
-        let is = run.is_determined & self.is_determined;
+        let was = self.is_determined;
+        let is = was & run.is_determined;
+        self.is_determined = is;
         let kinds = put_lines(&self.here.name, was, is, &lines_here, &lines_there, out)?;
         Ok(kinds)
     }
@@ -253,8 +254,9 @@ impl<A: Allocator + Copy> SessionPair<A> {
         let there = self.obey_there(alloc, run, functions, command)?;
         let lines_here = lines_of_reply(alloc, &here)?;
         let lines_there = lines_of_reply(alloc, &there)?;
-        let was = run.was_determined & self.is_determined;
-        let is = run.is_determined & self.is_determined;
+        let was = self.is_determined;
+        let is = was & run.is_determined;
+        self.is_determined = is;
         let kinds = put_lines(&self.here.name, was, is, &lines_here, &lines_there, out)?;
         Ok(kinds)
     }

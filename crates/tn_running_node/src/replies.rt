@@ -2,20 +2,24 @@
 ghost use Rattle.std.specs.Prelude.{◌≡◌, ◌&&◌, not, IfOk};
 ghost use Rattle.std.specs.Option.{option_map};
 ghost use Rattle.def_spec.specs.Flags.{flags_named, flags_listed};
-ghost use Rattle.def_running_node.specs.NodeReplies.{has_existing, has_new_processes};
+ghost use Rattle.def_spec.specs.Expressions.{for_calls};
+ghost use Rattle.def_session.specs.Settings.{options_of, setting_of};
+ghost use Rattle.def_running_node.specs.NodeReplies.{function_reply, has_existing, has_new_processes};
 ghost use Rattle.tn_term.specs.Views.{tree_of, trees_of};
 ghost use Rattle.tn_flags.specs.Views.{command_of, flags_of as flags_seen};
 ghost use Rattle.tn_session.specs.Procs.{procs_seen};
 ghost use Rattle.tn_running_node.specs.Replies.{function_change_seen, none_listed, IsDoneLive, IsDoneThere};
 ghost use Rattle.tn_running_node.specs.Replies.{IsFunctionDoneThere, IsLive, IsProcessDoneThere};
 
+use crate::arguments::{command_once, matches_none};
 use crate::function_settings::{
-    FunctionChange, change_of, count_reply, disable_internal, disable_own_kind, model_command,
+    FunctionChange, change_of, count_reply, disable_internal, disable_own_kind, is_on_where_read,
+    model_command,
 };
 use std::alloc::{AllocError, Allocator};
 use tn_flags::{Command, Flags, flag_of};
 use tn_script::Function;
-use tn_session::{Procs, Session, how_of, procs_of};
+use tn_session::{Procs, Session, how_of, options_of, procs_of};
 use tn_term::Term;
 
 /// The flags that the terms name, from the last on; None where one is no flag.
@@ -148,6 +152,27 @@ fn function_there<A: Allocator + Copy>(
     Ok(model_command(session, command)?)
 }
 
+/// The reply to a function command with these arguments, which is this one in the model: 0, where they are read, but
+/// the arity is none that a function has.
+fn function_reply<A: Allocator + Copy>(
+    alloc: A,
+    mfa: &Term<A>,
+    specification: &Term<A>,
+    options: &Term<A>,
+    reply: Term<A>,
+) -> Result<Term<A>, AllocError>
+    ensures { IfOk result (λ t. tree_of t ≡ function_reply (tree_of mfa.now) (options_of (tree_of options.now))
+        (setting_of for_calls (tree_of specification.now)) (tree_of reply)) }
+{
+    if !matches_none(mfa) || options_of(options).is_none() {
+        return Ok(reply);
+    }
+    match is_on_where_read(alloc, specification)? {
+        Some(_) => Ok(Term::Int(0)),
+        None => Ok(reply),
+    }
+}
+
 /// What a command does to a live session, and its reply.
 fn live_command_there<A: Allocator + Copy>(
     alloc: A,
@@ -175,7 +200,8 @@ fn live_command_there<A: Allocator + Copy>(
             ..
         } => {
             let change = change_of(alloc, mfa, specification, options)?;
-            Ok(function_there(alloc, functions, session, command, &change)?)
+            let reply = function_there(alloc, functions, session, command, &change)?;
+            Ok(function_reply(alloc, mfa, specification, options, reply)?)
         }
         _ => Ok(model_command(session, command)?),
     }
@@ -206,9 +232,11 @@ pub fn command_there<A: Allocator + Copy>(
     ensures { IfOk result (λ t. IsDoneThere functions.now (command_of command.now)
         session.old session.new (tree_of t)) }
 {
-    if is_live(session)? {
-        Ok(live_command_there(alloc, functions, session, command)?)
-    } else {
-        Ok(model_command(session, command)?)
+    if !is_live(session)? {
+        return Ok(model_command(session, command)?);
+    }
+    match command_once(alloc, command)? {
+        Some(once) => Ok(live_command_there(alloc, functions, session, &once)?),
+        None => Ok(live_command_there(alloc, functions, session, command)?),
     }
 }

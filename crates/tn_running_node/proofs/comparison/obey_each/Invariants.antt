@@ -9,6 +9,7 @@ use Rattle.tn_text.specs.Writes.{Grows}
 use Rattle.tn_trace.specs.Slots.{EachPair}
 use Rattle.tn_running_node.specs.Comparisons.{command_lines_at}
 use Rattle.tn_running_node.specs.Pairs.{IsPair}
+use Rattle.tn_running_node.specs.Views.{node_run_seen}
 use Rattle.tn_running_node.proofs.PairLoops.{IsHalfway}
 use Rattle.tn_running_node.proofs.comparison.obey_each.Given as goal
 
@@ -17,5 +18,5 @@ invariant-loop-place g l = record {
   size : length l.pairs.items ≡ length l.fn.pairs.items;
   grows : Grows l.fn.out.items l.out.items;
   made : (o : Exports) (cs : List definition.SessionPair) → o.functions ≡ visible (functions_of l.functions) → EachPair (IsPair o (alive_of l.run.alive)) cs l.fn.pairs.items
-      → IsHalfway (λ c t. IsPair o (alive_of l.run.alive) (pair_after_command o c (command_of l.command)) t) (IsPair o (alive_of l.run.alive)) (command_lines_at o l.run (command_of l.command)) cs l.place l.pairs.items l.fn.out l.out l.kinds;
+      → IsHalfway (λ c t. IsPair o (alive_of l.run.alive) (pair_after_command o (node_run_seen l.run) c (command_of l.command)) t) (IsPair o (alive_of l.run.alive)) (command_lines_at o l.run (command_of l.command)) cs l.place l.pairs.items l.fn.out l.out l.kinds;
 }

@@ -15,7 +15,7 @@ loop-place-init g c = record {
   grows = grows_none c.args.out.now.items;
   made = λ o living cs h.
       let e = event_of c.args.event.now in
-      none_yet (λ d t. IsPair o (alive_after living e) (after_event e d) t) (IsPair o living) (lines_at c.args.step e) cs c.args.pairs.now.items c.args.out.now c.none-kinds.result h c.none-kinds.ensures.differs c.none-kinds.ensures.open_lines;
+      none_yet (λ d t. IsPair o (alive_after living e) (after_event c.args.step e d) t) (IsPair o living) (lines_at c.args.step e) cs c.args.pairs.now.items c.args.out.now c.none-kinds.result h c.none-kinds.ensures.differs c.none-kinds.ensures.open_lines;
 }
 
 pub loop-place-preserved : goal.loop-place-preserved
@@ -29,7 +29,7 @@ loop-place-preserved g c =
       size = length-set l.pairs.items l.place c.see.new.self ∙ l.invariant.size;
       grows = grows_on l.invariant.grows c.see.ensures.grows;
       made = λ o living cs h.
-          one_more (λ d t. IsPair o (alive_after living e) (after_event e d) t) (IsPair o living) (lines_at c.args.step e) cs l.place l.pairs.items c.index_mut.result.now c.see.new.self c.args.out.now l.out c.see.new.out l.kinds c.in_ok-one.one c.join-kinds.result below c.index_mut.ensures.value
+          one_more (λ d t. IsPair o (alive_after living e) (after_event c.args.step e d) t) (IsPair o living) (lines_at c.args.step e) cs l.place l.pairs.items c.index_mut.result.now c.see.new.self c.args.out.now l.out c.see.new.out l.kinds c.in_ok-one.one c.join-kinds.result below c.index_mut.ensures.value
           (λ d at. let saw = c.in_ok-one.ensures.ok o living d at in (saw.pair, record { written = saw.lines.written; differs = saw.lines.differs; open_lines = saw.lines.open_lines })) c.join-kinds.ensures.differs c.join-kinds.ensures.open_lines (l.invariant.made o living cs h);
     }
 
@@ -44,5 +44,5 @@ returns-clause-ok g c = λ o living cs h.
     let last = c.len-place-end.ensures in
     let past = c.loop-place-test.false in
     let all : length l.pairs.items ≤ l.place = omega (arith, v_len, last, l.invariant.size) in
-    let made = all_of_them (λ d t. IsPair o (alive_after living e) (after_event e d) t) (IsPair o living) (lines_at c.args.step e) cs l.place l.pairs.items c.args.out.now l.out l.kinds all (l.invariant.made o living cs h) in
-    record { pairs = each_mapped (IsPair o (alive_after living e)) (after_event e) cs l.pairs.items made.0; lines = made.1 }
+    let made = all_of_them (λ d t. IsPair o (alive_after living e) (after_event c.args.step e d) t) (IsPair o living) (lines_at c.args.step e) cs l.place l.pairs.items c.args.out.now l.out l.kinds all (l.invariant.made o living cs h) in
+    record { pairs = each_mapped (IsPair o (alive_after living e)) (after_event c.args.step e) cs l.pairs.items made.0; lines = made.1 }

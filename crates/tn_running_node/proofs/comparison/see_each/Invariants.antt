@@ -16,5 +16,5 @@ invariant-loop-place g l = record {
   size : length l.pairs.items ≡ length l.fn.pairs.items;
   grows : Grows l.fn.out.items l.out.items;
   made : (o : Exports) (living : Alive) (cs : List definition.SessionPair) → EachPair (IsPair o living) cs l.fn.pairs.items
-      → IsHalfway (λ c t. IsPair o (alive_after living (event_of l.event)) (after_event (event_of l.event) c) t) (IsPair o living) (lines_at l.step (event_of l.event)) cs l.place l.pairs.items l.fn.out l.out l.kinds;
+      → IsHalfway (λ c t. IsPair o (alive_after living (event_of l.event)) (after_event l.step (event_of l.event) c) t) (IsPair o living) (lines_at l.step (event_of l.event)) cs l.place l.pairs.items l.fn.out l.out l.kinds;
 }

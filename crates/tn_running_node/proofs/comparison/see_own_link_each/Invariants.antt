@@ -7,7 +7,7 @@ use Rattle.def_running_node.specs.NodeComparisons.{own_link_event}
 use Rattle.tn_flags.specs.Views.{event_of}
 use Rattle.tn_text.specs.Writes.{Grows}
 use Rattle.tn_trace.specs.Slots.{EachPair}
-use Rattle.tn_running_node.specs.Comparisons.{own_lines_at}
+use Rattle.tn_running_node.specs.Comparisons.{after_own_link_at, own_lines_at}
 use Rattle.tn_running_node.specs.Pairs.{IsPair}
 use Rattle.tn_running_node.proofs.PairLoops.{IsHalfway}
 use Rattle.tn_running_node.proofs.comparison.see_own_link_each.Given as goal
@@ -17,5 +17,5 @@ invariant-loop-place g l = record {
   size : length l.pairs.items ≡ length l.fn.pairs.items;
   grows : Grows l.fn.out.items l.out.items;
   made : (o : Exports) (living : Alive) (cs : List definition.SessionPair) (p : ℕ) (x : OwnLink) → event_of l.event ≡ own_link_event p x → EachPair (IsPair o living) cs l.fn.pairs.items
-      → IsHalfway (IsPair o living) (IsPair o living) (own_lines_at l.run (event_of l.event)) cs l.place l.pairs.items l.fn.out l.out l.kinds;
+      → IsHalfway (λ c t. IsPair o living (after_own_link_at l.run c) t) (IsPair o living) (own_lines_at l.run (event_of l.event)) cs l.place l.pairs.items l.fn.out l.out l.kinds;
 }

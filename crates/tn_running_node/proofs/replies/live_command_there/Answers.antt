@@ -4,7 +4,7 @@ use Rattle.tn_term.specs.Views.{tree_of}
 use Rattle.tn_flags.specs.Views.{command_of}
 use Rattle.tn_flags.specs.declared.command.Command.{Command}
 use Rattle.tn_running_node.specs.Replies.{function_change_seen, Changes}
-use Rattle.tn_running_node.proofs.CommandsThere.{done_processes, done_others}
+use Rattle.tn_running_node.proofs.CommandsThere.{done_processes, done_function, done_others}
 use Rattle.tn_running_node.proofs.replies.live_command_there.Goals as goal
 
 pub returns-in_ok-reply-in-Process : goal.returns-in_ok-reply-in-Process
@@ -14,10 +14,13 @@ returns-in_ok-reply-in-Process g c =
     (tree_of c.in_ok-reply-in-Process.reply) (tree_of c.process_there.result) m.session (tree_of m.procs) (tree_of m.how) (tree_of m.flags)
     (ap command_of m.is) c.in_ok-reply-in-Process.ensures c.process_there.ensures
 
-pub returns-in_ok-function_there-in-Function : goal.returns-in_ok-function_there-in-Function
-returns-in_ok-function_there-in-Function g c =
+pub returns-in_ok-function_reply-in-Function : goal.returns-in_ok-function_reply-in-Function
+returns-in_ok-function_reply-in-Function g c =
     let P : Command g.row.A.Denot → Type 0 = λ k. Changes (command_of k) (option_map function_change_seen c.in_ok-change-in-Function.change) in
-    c.in_ok-function_there-in-Function.ensures (subst P (sym c.in-Function.is) (sym c.in_ok-change-in-Function.ensures))
+    let m = c.in-Function in
+    done_function c.args.functions.now (command_of c.args.command.now) c.args.session.now c.function_there.new.session
+    (tree_of c.in_ok-reply-in-Function.reply) (tree_of c.in_ok-function_reply-in-Function.field-0) m.session (tree_of m.mfa) (tree_of m.specification) (tree_of m.options)
+    (ap command_of m.is) (c.in_ok-reply-in-Function.ensures (subst P (sym c.in-Function.is) (sym c.in_ok-change-in-Function.ensures))) c.in_ok-function_reply-in-Function.ensures
 
 pub returns-in_ok-model_command-in_default : goal.returns-in_ok-model_command-in_default
 returns-in_ok-model_command-in_default g c =

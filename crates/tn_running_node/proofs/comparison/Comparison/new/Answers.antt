@@ -18,7 +18,7 @@ use Rattle.tn_running_node.proofs.comparison.Comparison.new.Goals as goal
 
 -- a run where these processes live, and that nobody has left
 abbrev run-with : Alive → List runs.Signal → runs.NodeRun
-run-with living xs = record { alive = living; signals = xs; ended = None; is_determined = true; was_determined = true }
+run-with living xs = record { alive = living; signals = xs; ended = None; is_determined = true }
 
 pub returns : goal.returns
 returns g c =

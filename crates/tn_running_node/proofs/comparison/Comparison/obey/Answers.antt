@@ -7,4 +7,4 @@ returns-clause-ok g c = λ o l d fs h.
     let old = c.args.self.now in
     let begun = c.begin_move.new.self in
     let did = c.in_ok-kinds.ensures.ok o d.sessions fs (pairs_at_move o d c.args.pick old begun h c.begin_move.ensures) in
-    command_seen_each o d c.args.pick old begun h c.begin_move.ensures l (command_of c.args.command.now) c.obey_each.new.pairs c.see_command.new.self c.args.out.now c.obey_each.new.out c.in_ok-kinds.kinds did c.see_command.ensures
+    command_seen_each o d c.args.pick old begun h c.begin_move.ensures l (command_of c.args.command.now) c.obey_each.new.pairs c.args.out.now c.obey_each.new.out c.in_ok-kinds.kinds did
