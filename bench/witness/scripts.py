@@ -1,5 +1,6 @@
 """Random scripts with one to four sessions, as questions to both sides."""
 import collections
+import re
 
 from witness.chooser import Chooser
 from witness.differences import commands_of
@@ -18,6 +19,8 @@ from witness.functions import Function, LAST, module_text
 from witness.terms import ANYTHING, Atom, FALSE, Pid, Reader, TRUE, line_is, pid_of, quoted, text, to_node
 
 HAS_NAME = {"m": ["go", "f", "g"], "n": ["h", "k"]}
+
+PID = re.compile(r"<0\.[0-9]+\.0>")
 
 
 class ScriptChooser:
@@ -454,10 +457,18 @@ class ScriptCase:
         """The replies, and the lines of each process in each session."""
         told = collections.defaultdict(list)
         told["replies"] = ["badarg" if reply.startswith("{unsupported") else reply for reply in replies]
+        living = self.living(run)
         for session, lines in listings.items():
             for line in lines:
+                line = PID.sub(lambda found: found[0] if found[0] in living else "<0.163.0>", line)
                 told[f"{session} {pid_of(line)}"].append(line)
         return told
+
+    def living(self, run):
+        """The pids of the run's processes. The node tells each other one as that of the ended process, <0.163.0>."""
+        started = {f"<0.{100 + place}.0>" for place in range(len(self.processes))}
+        shown = [event for move in run.account.moves for event, _ in move.shown]
+        return started | {event.partition(" ")[0] for event in shown if event.partition(" ")[2].startswith("spawned ")}
 
     def picks(self):
         """The picks that moved."""
