@@ -189,5 +189,5 @@ def failing_ends():
             check("an empty script's output after 5 bytes", good, ran)
     for count in range(len(EMPTY) + 2):
         written = min(count, len(EMPTY))
-        told = b"write failed after %d\n" % written + EMPTY[:written]
+        told = b"run Write { written: %d }\n" % written + EMPTY[:written]
         wants(f"a writer that takes {count} bytes, and a flush that fails", run(["full", "", str(count)], command=(str(PROBE),)), 0, told)

@@ -32,6 +32,9 @@ NOBODY = 999
 # The whole text, where no answer is refused.
 WHOLE = "whole"
 
+# The names of the faults by which a growth that is refused is answered.
+NO_ROOM, NO_MEMORY = "AllocError", "OutOfMemory"
+
 
 def of_lines(*lines):
     """The text of these lines."""
@@ -55,14 +58,14 @@ def sessions_of(output):
 
 def no_core():
     """What is printed where there is no core of the script."""
-    for name in ("forms", "program", "core"):
-        yield of_lines(f"{name} out of memory"), name
+    for name, fault in (("forms", NO_MEMORY), ("program", NO_MEMORY), ("core", NO_ROOM)):
+        yield of_lines(f"{name} {fault}"), name
 
 
 def of_run(output):
     """A run: its output, or nothing."""
     yield of_lines("listed") + output, WHOLE
-    yield of_lines("out of memory"), "run"
+    yield of_lines(f"run {NO_MEMORY}"), "run"
 
 
 def of_core(output):
@@ -72,11 +75,11 @@ def of_core(output):
     moved = [f"step {pick} moved" for pick in picks]
     yield of_lines(*moved, f"step {NOBODY} idle") + output, WHOLE
     steps = [*picks, NOBODY]
-    listings = [f"listing {number + 1} spent" for number in range(sessions_of(output))]
+    listings = ["listing Spent"] * sessions_of(output)
     for at, pick in enumerate(steps):
-        spent = [f"step {later} spent" for later in steps[at + 1 :]]
-        lines = (*moved[:at], f"step {pick} out of memory", *spent, *listings)
-        yield of_lines(*lines, "replies spent", "journal spent"), "step"
+        spent = [f"step {later} Spent" for later in steps[at + 1 :]]
+        lines = (*moved[:at], f"step {pick} {NO_MEMORY}", *spent, *listings)
+        yield of_lines(*lines, "replies Spent", "journal Spent"), "step"
 
 
 def seats_of(count):
@@ -97,17 +100,17 @@ def of_live_refusals(picks):
     moved.append(f"step {NOBODY} idle {seats[-2][1]} of {len(picks)}")
     for at, pick in enumerate(steps):
         made = [sum(seat == own for seat, _ in seats[: min(at, len(picks))]) for own in (0, 1)]
-        refused = f"step {pick} out of memory {made[seats[at][0]]}"
+        refused = f"step {pick} {NO_MEMORY} {made[seats[at][0]]}"
         behind = zip(steps[at + 1 :], seats[at + 1 :])
-        spent = [f"step {later} spent {made[seat]}" for later, (seat, _) in behind]
-        yield of_lines(*moved[:at], refused, *spent, "close 16"), "step"
+        spent = [f"step {later} Spent {made[seat]}" for later, (seat, _) in behind]
+        yield of_lines(*moved[:at], refused, *spent, "close Spent"), "step"
 
 
 def of_live(output):
     """Steps under a lock by two seats in turn, its close and its output, with the board's lines or all but one."""
     yield from no_core()
     for name in ("board", "lock"):
-        yield of_lines(f"{name} out of memory"), name
+        yield of_lines(f"{name} {NO_ROOM}"), name
     picks = picks_of(output)
     yield from of_live_refusals(picks)
     seats = list(seats_of(len(picks)))
@@ -118,21 +121,21 @@ def of_live(output):
     yield closed + of_lines(f"assembled {taken}") + output, WHOLE
     if taken:
         yield closed + of_lines(f"assembled {taken - 1}") + output, "line"
-    yield closed + of_lines("assemble out of memory", f"assembled {taken}") + output, "assemble"
+    yield closed + of_lines(f"assemble {NO_ROOM}", f"assembled {taken}") + output, "assemble"
 
 
-def of_code(lines):
+def of_code(line):
     """An outcome, or a refusal and then the outcome."""
-    for name in ("term", "specification", "code"):
-        yield of_lines(f"{name} out of memory"), name
-    yield of_lines(*lines), WHOLE
-    yield of_lines("execute out of memory", *lines), "execute"
+    for name, fault in (("term", NO_MEMORY), ("specification", NO_MEMORY), ("code", NO_ROOM)):
+        yield of_lines(f"{name} {fault}"), name
+    yield of_lines(line), WHOLE
+    yield of_lines(f"execute {NO_ROOM}", line), "execute"
 
 
 def of_turns():
     """Turns of one end: the queue's order again and again; a token that comes back is given again."""
     for name in ("queue", "ends"):
-        yield of_lines(f"{name} out of memory"), name
+        yield of_lines(f"{name} {NO_ROOM}"), name
     turns = [(f"taken {SLOTS[turn % len(SLOTS)]}", "given") for turn in range(TURNS)]
     yield of_lines(*(line for lines in turns for line in lines)), WHOLE
     for at in range(TURNS):
@@ -144,9 +147,8 @@ def of_turns():
 def of_run_live(output):
     """A run by one worker: its output, or a fault and nothing."""
     yield of_lines("listed") + output, WHOLE
-    yield of_lines("out of memory"), "run"
-    yield of_lines("pool memory"), "worker"
-    yield of_lines("pool step out of memory"), "step"
+    for fault, name in ((f"Run({NO_MEMORY})", "run"), ("Pool(Memory)", "worker"), (f"Pool(Step({NO_MEMORY}))", "step")):
+        yield of_lines(f"run_live {fault}"), name
 
 
 def turns_of(picks):
@@ -163,48 +165,35 @@ def of_run_workers(output):
     """One worker's report and the close of its lock: where its receipt, its step or its token is refused it ends."""
     yield from no_core()
     for name in ("board", "lock"):
-        yield of_lines(f"{name} out of memory"), name
+        yield of_lines(f"{name} {NO_ROOM}"), name
     picks = picks_of(output)
     receipts = [f"receipt {number} {pick}" for number, pick in enumerate(picks)]
     entries = [f"entry 0 {pick}" for pick in picks]
     turns = [-1, *turns_of(picks), TURNS * 5]
-    yield of_lines(*receipts, "fault none", *entries), WHOLE
+    yield of_lines(*receipts, "fault None", *entries), WHOLE
     for count in range(len(picks) + 1):
         made, closed = receipts[:count], entries[:count]
-        yield of_lines(*made, "fault memory", *closed), "receipt" if count else "report"
-        yield of_lines(*made, "fault step out of memory", "close 16"), "step"
+        yield of_lines(*made, "fault Some(Memory)", *closed), "receipt" if count else "report"
+        yield of_lines(*made, f"fault Some(Step({NO_MEMORY}))", "close Spent"), "step"
         for turn in range(max(turns[count], 0), turns[count + 1]):
             kept = f"token {SLOTS[turn % len(SLOTS)]}"
-            yield of_lines(*made, kept, "fault memory", *closed), "token"
+            yield of_lines(*made, kept, "fault Some(Memory)", *closed), "token"
 
 
-# Specifications of the rows, each with a dialect, a list and what its code comes to.
+# Specifications of the rows, each with a dialect, and lists with how many effects the body has that code comes to.
 CODES = (
     (
         "[{['$1'],[{'>',{hd,'$1'},3}],[]},{['_'],[],[{message,second}]}]",
         "call",
-        (("[[]]", ("match", "message", "second")), ("[[4]]", ("match",)), ("[1,2]", ("no match",))),
+        (("[[]]", "match 1"), ("[[4]]", "match 0"), ("[1,2]", "no match")),
     ),
-    ("[{'_',[],[{message,{caller}}]}]", "call", (("[1]", ("match", "message", "undefined")),)),
-    ("[{'_',[],[{return_trace}]}]", "call", (("[1]", ("match", "return_trace")),)),
-    ("[{'_',[],[{exception_trace}]}]", "call", (("[1]", ("match", "exception_trace")),)),
-    ("[{['$3','$1'],[],[{message,'$$'}]}]", "call", (("[a,b]", ("match", "message", "[b,a]")),)),
-    (
-        "[{'_',[],[{enable_trace,<0.101.0>,'receive'}]}]",
-        "send",
-        (("[<0.101.0>,{hi,1}]", ("match", "change 101 off", "on", "  receive")),),
-    ),
+    ("[{'_',[],[{message,{caller}},{return_trace},{exception_trace}]}]", "call", (("[1]", "match 3"),)),
+    ("[{['$3','$1'],[],[{message,'$$'}]}]", "call", (("[a,b]", "match 1"),)),
+    ("[{'_',[],[{enable_trace,<0.101.0>,'receive'}]}]", "send", (("[<0.101.0>,{hi,1}]", "match 1"),)),
     (
         "[{['$1'],[],[{message,[{trace,'$1',[],[send,arity]},{trace,'$1',[call],[send]},{trace,[call],[]}]}]}]",
         "call",
-        (
-            (
-                "[<0.101.0>]",
-                ("match", "change 101 off", "on", "  send", "  arity", "change 101 off", "  call", "on", "  send")
-                + ("change 100 off", "  call", "on", "message", "[true,false,false]"),
-            ),
-            ("[<0.102.0>]", ("match", "change 100 off", "  call", "on", "message", "['EXIT','EXIT',false]")),
-        ),
+        (("[<0.101.0>]", "match 4"), ("[<0.102.0>]", "match 2")),
     ),
 )
 
@@ -236,25 +225,6 @@ def cases():
         ):
             yield [call, picks], script, dict(allowed(output))
     for spec, dialect, lists in CODES:
-        for terms, lines in lists:
-            yield ["execute", "", terms, dialect], spec.encode(), dict(of_code(lines))
+        for terms, line in lists:
+            yield ["execute", "", terms, dialect], spec.encode(), dict(of_code(line))
     yield ["give_turn"], b"", dict(of_turns())
-
-
-def full_journal():
-    """The words, the script and the lines of a core that is stepped until its journal is full, and further.
-
-    The entry call comes with the fourth pick. A call of m:d and its return are 2 moves, of m:c 130 with those
-    that it makes, of m:b 8,322; so in 65,532 moves m:b is called eight times.
-    """
-    below = zip("abc", "bcd")
-    calls = [(here, ",".join(["{call,'_',%s,[]}" % next_one] * 64)) for here, next_one in below]
-    functions = "".join("{function,m,%s,exported,[],[%s]}.\n" % call for call in (*calls, ("d", "")))
-    commands = "{session_create,s1,t1,[]},{process,s1,all,true,[call]},{function,s1,{m,b,0},true,[local]}"
-    script = f"{functions}{{process,m,a,[]}}.\n{{control,[{commands}]}}."
-    listing = ["== session s1 tracer t1", *["{trace,<0.100.0>,call,{m,b,[]}}"] * 8]
-    journal = " ".join(["0"] * 3 + ["100"] * (65_536 - 3))
-    lent = of_lines(*listing, "== replies", "{session,s1}", "1", "1", "== journal", journal)
-    moved = of_lines(*[f"step {pick} moved" for pick in (0, 0, 0, 100)])
-    behind = of_lines(*[f"step {pick} limit reached" for pick in (100, 0, NOBODY)])
-    return ["limit", "0 0 0 100"], script.encode(), (moved + lent + behind + lent).encode()

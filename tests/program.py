@@ -36,6 +36,7 @@ SUBJECTS = {
         run_cases.examples,
         run_cases.workers,
         run_cases.last_moves,
+        run_cases.schedules,
         run_cases.full_journals,
         run_cases.many_lines,
         run_cases.passes,
@@ -45,6 +46,7 @@ SUBJECTS = {
     "text": (
         text_cases.refusals,
         text_cases.long_texts,
+        text_cases.terms,
         text_cases.fronts,
         text_cases.readings_of_scripts,
         text_cases.numbers,
@@ -55,6 +57,7 @@ SUBJECTS = {
     "mistake": (mistake_cases.mistakes,),
     "specification": (
         specification_cases.trials,
+        specification_cases.clauses,
         specification_cases.notes,
         specification_cases.functions,
         specification_cases.specifications,

@@ -166,8 +166,35 @@ def workers():
     wants("workers on no script", run(["workers", "--n", "2"]), 0, EMPTY, NO_FORMS)
 
 
+# Processes that start, link and leave others, under three sessions that follow them in three ways.
+FAMILY = b"""{function,m,go,exported,['N'],[{spawn,'A',{m,kid},['N']},{link,'A'},{spawn,'B',{m,kid},[{b,'N'}]},
+  {send,'A',{hi,'Self'}},{send,'B',bye},{'receive','X'},{exit,{done,'X'}}]}.
+{function,m,kid,exported,['N'],[{'receive','Y'},{call,'Z',same,['Y']},{send,<0.100.0>,'Z'}]}.
+{function,m,same,internal,['V'],[{return,['V','V']}]}.
+{process,m,go,[1]}.
+{process,m,go,[2]}.
+{control,[{session_create,s1,t1,[]},{process,s1,all,true,[send,'receive',procs]},
+  {session_create,s2,t2,[]},{process,s2,<0.100.0>,true,[call,procs,set_on_spawn]},
+  {function,s2,{m,'_','_'},[{'_',[],[{return_trace}]}],[local]},
+  {session_create,s3,t3,[]},{process,s3,<0.101.0>,true,[send,procs,set_on_first_link]},{session_destroy,s1}]}.
+"""
+
+
+def schedules():
+    """200 runs by four workers whose turns give way as the seed says: their journals differ, and each is replayed to the same bytes."""
+    journals = set()
+    for seed in range(200):
+        ran = run(["workers", "--n", "4", "--turns", "40", "--spread", str(seed)], FAMILY)
+        picks = ran.stdout.decode().removesuffix("\n").rpartition("\n")[2]
+        again = run(["replay", "--picks", picks], FAMILY)
+        good = ran.returncode == 0 and picks.count(" ") >= 20 and ran.stdout == again.stdout
+        check(f"a run by workers with the seed {seed}", good, (ran, again))
+        journals.add(picks)
+    check("the journals of 200 seeds", len(journals) > 20, len(journals))
+
+
 def limits():
-    """Limits that differ by one: of a round, of workers and of their turns; and a core whose journal is full."""
+    """Limits that differ by one: of a round, of workers and of their turns."""
     listing, replies = "== session s1 tracer t1\n", "== replies\n{session,s1}\n"
     for limit, journal in (("3", "== journal\n0 100 101\n"), ("4", "2\n== journal\n0 100 101 0\n")):
         ran = run(["round", "--limit", limit], SEND_HI)
@@ -186,5 +213,3 @@ def limits():
         behind = [0, *pids, 0, *pids[count - 1 :], 0, 0, 0, 0]
         good = sorted(journal[:count]) == [0, *pids][:count] and journal[count:] == behind
         check(f"{count} workers of one turn, and passes behind them", ran.returncode == 0 and good, ran)
-    words, script, lines = layers.full_journal()
-    wants("a core whose journal is full", run(words, script, command=(str(PROBE),)), 0, lines)

@@ -36,6 +36,36 @@ def long_texts():
     wants("1,048,577 blanks", run(replay, b" " * (TEXT_BYTES + 1)), 2, b"refused 1 too long\n")
 
 
+# One term with a full stop, and why it is refused; a term that is read is no form.
+NO_FORM = "refused 5 form 1"
+TERMS = (
+    ("[" + "0," * 4095 + "0]", NO_FORM),
+    ("[" + "0," * 4096 + "0]", "refused 4 too large at 8192"),
+    ("{" + "0," * 254 + "0}", NO_FORM),
+    ("{" + "0," * 255 + "0}", "refused 4 too large at 510"),
+    ('"' + "a" * 4096 + '"', NO_FORM),
+    ('"' + "a" * 4097 + '"', "refused 4 too large at 0"),
+    ("a" * 255, NO_FORM),
+    ("a" * 256, "refused 4 too large at 0"),
+    ("[" * 32 + "]" * 32, NO_FORM),
+    ("[" * 33 + "]" * 32, "refused 3 too deep at 32"),
+    ("[" * 33 + "]" * 33, "refused 3 too deep at 32"),
+    ("-9223372036854775808", NO_FORM),
+    ("-9223372036854775809", "refused 4 too large at 0"),
+    ("<0.4294967295.0>", NO_FORM),
+    ("<0.4294967296.0>", "refused 4 too large at 0"),
+    ("<0.007.0>", "refused 2 token at 0"),
+)
+
+
+def terms():
+    """Terms at each limit and past it; the independent reading of scripts answers the same."""
+    for text, line in TERMS:
+        script = f"{text}.".encode()
+        wants(f"the term {text[:40]}", run(["replay", "--picks", ""], script), 2, f"{line}\n".encode())
+        check(f"the reading of the term {text[:40]}", scripts.output_of(script) == f"{line}\n", scripts.output_of(script))
+
+
 def fronts():
     """Each front of three scripts: the line of its refusal, or its output where it is whole forms."""
     for text in (SEND_HI, *scripts.TEXTS):

@@ -79,14 +79,34 @@ TRIALS = (
             "=> no message: no clause fires",
         ),
     ),
-    # A head that is a variable is bound to the whole list.
+    # A head that is a variable is bound to the whole list, which is its one binding.
     (
         "[a,b]",
-        "[{'$3',[],[]}]",
+        "[{'$3',[{'==','$3','$_'}],[{message,'$$'}]}]",
+        (
+            "clause 1 fires: message [[a,b]]",
+            "  '$3' is [a,b]",
+            "=> a message that ends in [[a,b]]",
+        ),
+    ),
+    # A term is written as it is read, an atom between quotes where it has to be.
+    (
+        "[\"hi\",'receive','a b',\t'it\\'s',maybe, -9223372036854775808,<0.104.0>,[],{}] % a comment",
+        "[{'$1',[],[]}]",
         (
             "clause 1 fires",
-            "  '$3' is [a,b]",
+            "  '$1' is [[104,105],'receive','a b','it\\'s','maybe',-9223372036854775808,<0.104.0>,[],{}]",
             "=> a message",
+        ),
+    ),
+    # The first clause whose conditions are true fires.
+    (
+        "[]",
+        "[{'_',[false],[{message,a}]},{'_',[],[{message,b}]},{'_',[],[{message,c}]}]",
+        (
+            "clause 1: condition 1 is false",
+            "clause 2 fires: message b",
+            "=> a message that ends in b",
         ),
     ),
     # Variables come by rising number.
@@ -319,6 +339,102 @@ TRIALS = (
     ),
 )
 
+# Conditions on the list [a,[1]] under the head ['$1','$0'], and whether the clause fires.
+CONDITIONS = (
+    ("", True),
+    ("true", True),
+    ("true,true", True),
+    ("false", False),
+    ("7", False),
+    ("{{}}", False),
+    ("true,false", False),
+    ("true,{hd,a}", False),
+    ("{'==',{self},<0.100.0>}", True),
+    ("{'==',{node},nonode@nohost}", True),
+    ("{'==','$_',[a,[1]]}", True),
+    ("{'==','$$',[[1],a]}", True),
+    ("{'==',{{'$1',['$0']}},{const,{a,[[1]]}}}", True),
+    ("{'==',{element,2,{{x,{tl,'$0'}}}},[]}", True),
+    ("{'andalso',{is_atom,'$1'},{is_list,'$0'}}", True),
+    ("{'andalso',{is_pid,'$1'},{hd,'$1'}}", False),
+    ("{'andalso',{is_atom,'$1'},{hd,'$1'}}", False),
+    ("{'orelse',{hd,'$1'},true}", False),
+    ("{'orelse',7,{hd,'$0'},true}", True),
+    ("{'orelse',7,{hd,'$0'}}", False),
+    ("{'and',false,{hd,'$1'}}", False),
+    ("{'and',true,7}", False),
+    ("{'not',{'and',true,7}}", True),
+    ("{'not',{'andalso',7,{hd,a}}}", True),
+    ("{is_list,[{hd,a}]}", False),
+    ("{is_tuple,{{{hd,a}}}}", False),
+)
+
+# Events of which a body is tried, the body, and what it asks for. The processes 100 to 163 are alive.
+CALLS, SENDS, RECEIVES, CHANGES = ("call",), ("send",), ("receive",), ("call", "send")
+FLAGS = "send 'receive' call procs silent arity set_on_spawn set_on_first_spawn set_on_link set_on_first_link".split()
+BODIES = (
+    # A call that faults has the value 'EXIT', and evaluation goes on.
+    (CALLS, "true,7,{hd,[]}", ()),
+    (CALLS, "{message,[{hd,[]},{tl,[]},7]}", ("message ['EXIT','EXIT',7]",)),
+    (CALLS, "{message,{{{abs,a}}}}", ("message {'EXIT'}",)),
+    (CALLS, "{message,{is_atom,{hd,[]}}}", ("message true",)),
+    (CALLS, "{message,{'not',{hd,[]}}}", ("message false",)),
+    (CALLS, "{message,{'+',{hd,[]},1}}", ("message 'EXIT'",)),
+    (CALLS, "{message,{'orelse',{hd,[]},true}}", ("message true",)),
+    (CALLS, "{message,{'andalso',{hd,[]},true}}", ("message false",)),
+    (CALLS, "{message,{self}}", ("message <0.100.0>",)),
+    (CALLS, "{message,{node,{self}}}", ("message nonode@nohost",)),
+    (CALLS, "{message,{const,{hd,[]}}}", ("message {hd,[]}",)),
+    (CALLS, "{message,{{}}}", ("message {}",)),
+    (CALLS, "{message,'$$'}", ("message []",)),
+    # An argument's effects come before its call's, from left to right.
+    (CALLS, "{message,1},{message,2}", ("message 1", "message 2")),
+    (CALLS, "{message,{message,1}}", ("message 1", "message true")),
+    (CALLS, "[{message,1},{{{message,2}}},{message,3}]", ("message 1", "message 2", "message 3")),
+    (CALLS, "{'or',{message,1},{message,2}}", ("message 1", "message 2")),
+    (CALLS, "{'andalso',{message,1},false,{message,2}}", ("message 1",)),
+    (CALLS, "{'orelse',{message,1},{message,2}}", ("message 1",)),
+    (CALLS, "{'orelse',{hd,[]},{message,2}}", ("message 2",)),
+    (CALLS, "{'andalso',{hd,[]},{message,2}}", ()),
+    (CALLS, "{'+',{message,1},{message,2}}", ("message 1", "message 2")),
+    (CALLS, "{enable_trace,{message,nope}}", ("message nope",)),
+    (CALLS, "{silent,{message,1}}", ("message 1", "silent true")),
+    (CALLS, "{return_trace},{message,1},{return_trace}", ("return_trace", "message 1", "return_trace")),
+    # What the actions of calls answer.
+    (CALLS, "{message,{return_trace}}", ("return_trace", "message true")),
+    (CALLS, "{message,{exception_trace}}", ("exception_trace", "message true")),
+    (CHANGES, "{message,{silent,true}}", ("silent true", "message true")),
+    (CHANGES, "{message,{silent,false}}", ("silent false", "message true")),
+    (CHANGES, "{message,{silent,7}}", ("message true",)),
+    (CALLS, "{message,{silent,{hd,[]}}}", ("message true",)),
+    # Changes of one flag; with no flag, or of no living process, there is none.
+    (CHANGES, "{message,{enable_trace,arity}}", ("<0.100.0> gets arity", "message true")),
+    (CHANGES, "{message,{disable_trace,{self},call}}", ("<0.100.0> loses call", "message true")),
+    *(
+        (CHANGES, "{enable_trace,%s},{disable_trace,<0.101.0>,%s}" % (flag, flag), (f"<0.100.0> gets {flag}", f"<0.101.0> loses {flag}"))
+        for flag in FLAGS
+    ),
+    *(
+        (CHANGES, "{message,%s}" % change, ("message 'EXIT'",))
+        for change in (
+            "{enable_trace,nope}",
+            "{disable_trace,[call]}",
+            "{enable_trace,<0.164.0>,call}",
+            "{disable_trace,<0.99.0>,call}",
+            "{enable_trace,<0.4294967295.0>,call}",
+            "{disable_trace,100,call}",
+            "{enable_trace,<0.101.0>,nope}",
+            "{disable_trace,call,<0.101.0>}",
+        )
+    ),
+    (CALLS, "{message,{trace,[],[{message,1}]}}", ("message 1", "message 'EXIT'")),
+    # What sends and receives take for the actions of calls.
+    (SENDS + RECEIVES, "{message,{message,a}}", ("message a", "message true")),
+    (SENDS + RECEIVES, "{message,{return_trace}}", ("message true",)),
+    (SENDS + RECEIVES, "{message,{exception_trace}}", ("message true",)),
+    (RECEIVES, "{message,{hd,[]}}", ("message 'EXIT'",)),
+)
+
 # What is told of a head with another number of elements than the list has.
 OTHER = "the head has another number of elements"
 
@@ -428,6 +544,19 @@ def of_heads():
 def nested(before, inner, behind, levels):
     """The inner text between so many openings and as many ends."""
     return before * levels + inner + behind * levels
+
+
+def of_conditions():
+    """Each list of conditions: a specification on [a,[1]], and whether its clause fires."""
+    for conditions, holds in CONDITIONS:
+        yield f"[{{['$1','$0'],[{conditions}],[]}}]", holds
+
+
+def of_bodies():
+    """Each body: the event, a specification, and the line of its clause."""
+    for events, body, asks in BODIES:
+        for event in events:
+            yield event, f"[{{'_',[],[{body}]}}]", next(fires({}, asks))
 
 
 def many(item, count=ELEMENTS):

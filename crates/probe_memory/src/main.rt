@@ -4,8 +4,7 @@
 //! specification, the third word a list and the fourth a dialect. The test runs this program with each growth
 //! of memory refused in turn, and holds the lines against the answers that are allowed. Where a growth of the
 //! program's own is refused, which is before the first call, it writes nothing and ends with the status of a
-//! fault. Depends on the layers from tn_text to tn_run, and on tn_command for the words. It promises nothing
-//! but safety.
+//! fault. Depends on the layers from tn_text to tn_run. It promises nothing but safety.
 #![tactic(auto)]
 
 mod codes;
@@ -18,20 +17,21 @@ mod turns;
 mod workers;
 
 use crate::codes::execute_twice;
-use crate::cores::{step_to_the_limit, steps_of_a_core};
+use crate::cores::steps_of_a_core;
 use crate::locks::steps_by_two_seats;
 use crate::runs::{run_by_picks, run_by_workers, run_to_a_full_end};
 use crate::says::Buffer;
 use crate::scripts::Inputs;
 use crate::turns::give_turns;
-use crate::workers::{lines_of_one_worker, run_one_worker};
+use crate::workers::run_one_worker;
+use std::env::args;
+use std::io;
 use std::process::ExitCode;
 use std::rt::Env;
 use std::sync::Wait;
 use std::thread::Threads;
-use tn_command::{REFUSED, arguments, report};
-use tn_listing::{PicksFault, read_picks};
-use tn_run::{RunFault, read_text};
+use tn_listing::read_picks;
+use tn_run::read_text;
 use tn_text::Watched;
 
 /// The word at a place; the empty one past the last.
@@ -49,40 +49,51 @@ fn call<R: Print + Threads + Wait + Sync + AllocGlobal>(
     inputs: &Inputs<'_>,
     buffer: &mut Buffer,
 ) -> bool {
-    match name {
-        "run" => run_by_picks(rt, inputs, buffer),
-        "full" => run_to_a_full_end(rt, inputs, buffer),
+    let _ = match name {
+        "run" => Some(run_by_picks(rt, inputs, buffer)),
+        "full" => Some(run_to_a_full_end(rt, inputs, buffer)),
         "core" => steps_of_a_core(rt, inputs, buffer),
-        "limit" => step_to_the_limit(rt, inputs, buffer),
         "live" => steps_by_two_seats(rt, inputs),
-        "execute" => execute_twice(rt, inputs, buffer),
+        "execute" => execute_twice(rt, inputs),
         "give_turn" => give_turns(rt, inputs),
-        "run_live" => run_by_workers(rt, inputs, buffer),
-        "run_workers" => run_one_worker(rt, inputs),
-        "lines" => lines_of_one_worker(rt, inputs),
+        "run_live" => Some(run_by_workers(rt, inputs, buffer)),
+        "run_workers" => run_one_worker(rt, inputs, false),
+        "lines" => run_one_worker(rt, inputs, true),
         _ => return false,
-    }
+    };
     true
+}
+
+/// The words of the command line, the program's own name first.
+fn words<R: Env + AllocGlobal>(rt: &R) -> io::Result<Vec<String>> {
+    let mut words = Vec::new(rt.alloc());
+    for word in args(rt)? {
+        words.push(word)?;
+    }
+    Ok(words)
+}
+
+/// Says that a growth of the program's own was refused: the exit status.
+fn end_with_fault<R: Eprint>(rt: &R) -> ExitCode {
+    let _ = rt.eprintln("fault memory");
+    ExitCode::from(3)
 }
 
 /// Reads what the layers are inputs, and calls the one that the words name: the exit status.
 fn start<R: Env + Input + Print + Eprint + Threads + Wait + Sync + AllocGlobal>(
     rt: &R,
 ) -> ExitCode {
-    let words = match arguments(rt) {
-        Ok(words) => words,
-        Err(status) => return status,
+    let Ok(words) = words(rt) else {
+        return end_with_fault(rt);
     };
     let Ok(text) = read_text(rt.alloc(), &mut Watched::of(rt.reader())) else {
-        return report(rt, RunFault::OutOfMemory);
+        return end_with_fault(rt);
     };
-    let picks = match read_picks(rt.alloc(), word(&words, 2).as_bytes()) {
-        Ok(picks) => picks,
-        Err(PicksFault::BadPicks) => return ExitCode::from(REFUSED),
-        Err(PicksFault::OutOfMemory) => return report(rt, RunFault::OutOfMemory),
+    let Ok(picks) = read_picks(rt.alloc(), word(&words, 2).as_bytes()) else {
+        return end_with_fault(rt);
     };
     let Ok(mut buffer) = Buffer::with_room(rt.alloc()) else {
-        return report(rt, RunFault::OutOfMemory);
+        return end_with_fault(rt);
     };
     let inputs = Inputs {
         alloc: rt.alloc(),
@@ -95,7 +106,7 @@ fn start<R: Env + Input + Print + Eprint + Threads + Wait + Sync + AllocGlobal>(
     if call(rt, word(&words, 1), &inputs, &mut buffer) {
         ExitCode::SUCCESS
     } else {
-        ExitCode::from(REFUSED)
+        ExitCode::from(2)
     }
 }
 

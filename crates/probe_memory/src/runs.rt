@@ -1,62 +1,47 @@
 // Runs of a script, by picks and by one worker.
-use crate::says::{Buffer, fault_name, print_bytes, say};
+use crate::says::{Buffer, or_say, print_bytes, say};
 use crate::scripts::Inputs;
 use std::io;
 use std::io::{ErrorKind, Write};
 use std::sync::Wait;
 use std::thread::Threads;
-use tn_pool::{Open, PoolFault};
-use tn_run::{LiveFault, Outcome, RunFault, Schedule, Workers, run, run_live};
+use tn_pool::Open;
+use tn_run::{Outcome, Schedule, Workers, run, run_live};
 use tn_text::Watched;
 
 /// How many turns one worker takes: some passes more than the test's scripts need.
 pub const TURNS: u32 = 1300;
 
-/// Says what a run came to where it is one line.
-fn say_outcome<R: Print>(rt: &R, outcome: Outcome) {
+/// Says what a run came to where it is one line, and prints what it wrote.
+fn say_outcome<R: Print>(rt: &R, outcome: Option<Outcome>, written: &[u8]) {
     match outcome {
-        Outcome::Listed => say(rt, "listed"),
-        Outcome::Refused(_) => say(rt, "refused"),
+        Some(Outcome::Listed) => say(rt, "listed"),
+        Some(Outcome::Refused(_)) => say(rt, "refused"),
+        None => {}
     }
+    print_bytes(rt, written);
 }
 
-/// Says why a run failed.
-fn say_fault<R: Print>(rt: &R, fault: RunFault) {
-    match fault {
-        RunFault::Read => say(rt, "read failed"),
-        RunFault::Write { written } => {
-            let _ = println!(rt; "write failed after {written}");
-        }
-        RunFault::OutOfMemory => say(rt, "out of memory"),
-    }
-}
-
-/// Says why workers failed.
-fn say_pool_fault<R: Print>(rt: &R, fault: PoolFault) {
-    match fault {
-        PoolFault::Memory => say(rt, "pool memory"),
-        PoolFault::Step(fault) => {
-            let name = fault_name(fault);
-            let _ = println!(rt; "pool step {name}");
-        }
-    }
-}
-
-/// Says what `run` answers over a writer.
-fn say_run<R: Print, W: Write>(rt: &R, inputs: &Inputs<'_>, writer: &mut Watched<W>) {
+/// What `run` answers over a writer; a fault is said.
+fn outcome_by_picks<R: Print, W: Write + Drop>(
+    rt: &R,
+    inputs: &Inputs<'_>,
+    writer: W,
+) -> Option<Outcome> {
     let mut reader = Watched::of(inputs.text);
+    let mut writer = Watched::of(writer);
     let picks = Schedule::Picks(inputs.picks_text.as_bytes());
-    match run(inputs.alloc, &mut reader, writer, picks) {
-        Ok(outcome) => say_outcome(rt, outcome),
-        Err(fault) => say_fault(rt, fault),
-    }
+    or_say(
+        rt,
+        "run",
+        run(inputs.alloc, &mut reader, &mut writer, picks),
+    )
 }
 
 /// What `run` answers, and then what it wrote.
 pub fn run_by_picks<R: Print>(rt: &R, inputs: &Inputs<'_>, buffer: &mut Buffer) {
-    let mut writer = Watched::of(&mut buffer.text);
-    say_run(rt, inputs, &mut writer);
-    print_bytes(rt, &buffer.text);
+    let outcome = outcome_by_picks(rt, inputs, &mut buffer.text);
+    say_outcome(rt, outcome, &buffer.text);
 }
 
 /// A writer that takes so many bytes and then fails, and whose flush fails.
@@ -85,31 +70,26 @@ impl<'a> Write for Full<'a> {
 /// What `run` answers where the writer takes as many bytes as the third word says, and then what it took.
 pub fn run_to_a_full_end<R: Print>(rt: &R, inputs: &Inputs<'_>, buffer: &mut Buffer) {
     let left = inputs.list.parse::<usize>().unwrap_or(0);
-    let mut writer = Watched::of(Full {
-        text: &mut buffer.text,
-        left,
-    });
-    say_run(rt, inputs, &mut writer);
-    print_bytes(rt, &buffer.text);
+    let text = &mut buffer.text;
+    let outcome = outcome_by_picks(rt, inputs, Full { text, left });
+    say_outcome(rt, outcome, &buffer.text);
 }
 
-/// Says what `run_live` answers of one worker over a writer.
-fn say_run_live<R: Print + Threads + Wait + Sync, W: Write>(
+/// What `run_live` answers of one worker over a writer; a fault is said.
+fn outcome_by_workers<R: Print + Threads + Wait + Sync, W: Write + Drop>(
     rt: &R,
     inputs: &Inputs<'_>,
-    writer: &mut Watched<W>,
-) {
+    writer: W,
+) -> Option<Outcome> {
     let mut reader = Watched::of(inputs.text);
+    let mut writer = Watched::of(writer);
     let workers = Workers {
         count: 1,
         turns: TURNS,
         gate: &Open,
     };
-    match run_live(rt, inputs.alloc, &mut reader, writer, &workers) {
-        Ok(ran) => say_outcome(rt, ran.outcome),
-        Err(LiveFault::Run(fault)) => say_fault(rt, fault),
-        Err(LiveFault::Pool(fault)) => say_pool_fault(rt, fault),
-    }
+    let ran = run_live(rt, inputs.alloc, &mut reader, &mut writer, &workers);
+    or_say(rt, "run_live", ran).map(|ran| ran.outcome)
 }
 
 /// What `run_live` answers of one worker, and then what it wrote.
@@ -118,7 +98,6 @@ pub fn run_by_workers<R: Print + Threads + Wait + Sync>(
     inputs: &Inputs<'_>,
     buffer: &mut Buffer,
 ) {
-    let mut writer = Watched::of(&mut buffer.text);
-    say_run_live(rt, inputs, &mut writer);
-    print_bytes(rt, &buffer.text);
+    let outcome = outcome_by_workers(rt, inputs, &mut buffer.text);
+    say_outcome(rt, outcome, &buffer.text);
 }

@@ -1,9 +1,12 @@
 // What is printed: the lines of answers, and texts of the layers.
+ghost use Rattle.std.specs.Prelude.{◌≡◌};
+ghost use Rattle.std.specs.Result.{result_ok};
+
 use std::alloc::{AllocError, Global};
+use std::fmt::Debug;
 use std::io;
 use tn_run::write_output;
 use tn_text::Watched;
-use tn_trace::StepFault;
 
 /// How many bytes a text has room for before a layer is called, so that no growth is needed later.
 const ROOM: usize = 1 << 20;
@@ -22,11 +25,10 @@ impl Buffer {
         })
     }
 
-    /// Prints the text where it was appended whole, and says so where it wasn't; then it is empty.
+    /// Prints the text where it was appended whole, and else why it wasn't; then it is empty.
     pub fn print<R: Print>(&mut self, rt: &R, done: Result<(), AllocError>) {
-        match done {
-            Ok(()) => print_bytes(rt, &self.text),
-            Err(_) => say(rt, "text out of memory"),
+        if or_say(rt, "text", done).is_some() {
+            print_bytes(rt, &self.text);
         }
         self.text.clear();
     }
@@ -42,11 +44,15 @@ pub fn say<R: Print>(rt: &R, line: &str) {
     let _ = rt.println(line);
 }
 
-/// How a step's fault is called.
-pub fn fault_name(fault: StepFault) -> &'static str {
-    match fault {
-        StepFault::LimitReached => "limit reached",
-        StepFault::Spent => "spent",
-        StepFault::OutOfMemory => "out of memory",
+/// What a call answers. A fault is printed by its name, after that of the call.
+pub fn or_say<R: Print, T, E: Debug + Drop>(rt: &R, name: &str, answer: Result<T, E>) -> Option<T>
+    ensures { result ≡ result_ok answer }
+{
+    match answer {
+        Ok(value) => Some(value),
+        Err(fault) => {
+            let _ = println!(rt; "{name} {fault:?}");
+            None
+        }
     }
 }

@@ -1,8 +1,12 @@
-// What the layers are inputs, and the program of a script.
-use crate::says::say;
+// What the layers are inputs, and the program and the core of a script.
+ghost use Rattle.std.specs.Prelude.{◌≡◌, [], IfSome};
+ghost use Rattle.tn_trace.specs.Cores.{core_of};
+
+use crate::says::or_say;
 use std::alloc::Global;
-use tn_program::{Program, RuleFault, program};
-use tn_script::{Form, ScriptFault, forms};
+use tn_program::program;
+use tn_script::forms;
+use tn_trace::Core;
 
 /// What the layers are inputs.
 #[derive(Drop)]
@@ -19,33 +23,11 @@ pub struct Inputs<'a> {
     pub dialect: &'a str,
 }
 
-/// The forms of the script; the answer is said where there are none.
-fn forms_or_say<R: Print>(rt: &R, inputs: &Inputs<'_>) -> Option<Vec<Form<Global>>> {
-    match forms(inputs.alloc, inputs.text) {
-        Ok(forms) => Some(forms),
-        Err(ScriptFault::OutOfMemory) => {
-            say(rt, "forms out of memory");
-            None
-        }
-        Err(_) => {
-            say(rt, "forms refused");
-            None
-        }
-    }
-}
-
-/// The program of the script; the answer is said where there is none.
-pub fn program_or_say<R: Print>(rt: &R, inputs: &Inputs<'_>) -> Option<Program<Global>> {
-    let forms = forms_or_say(rt, inputs)?;
-    match program(inputs.alloc, forms) {
-        Ok(program) => Some(program),
-        Err(RuleFault::OutOfMemory) => {
-            say(rt, "program out of memory");
-            None
-        }
-        Err(_) => {
-            say(rt, "program refused");
-            None
-        }
-    }
+/// The core of the script before any pick; why there is none is said.
+pub fn core_or_say<R: Print>(rt: &R, inputs: &Inputs<'_>) -> Option<Core<Global>>
+    ensures { IfSome result (λ core. core ≡ core_of core.program []) }
+{
+    let forms = or_say(rt, "forms", forms(inputs.alloc, inputs.text))?;
+    let program = or_say(rt, "program", program(inputs.alloc, forms))?;
+    or_say(rt, "core", Core::new(inputs.alloc, program))
 }

@@ -1,5 +1,5 @@
 // Turns of one end of the run queue.
-use crate::says::say;
+use crate::says::{or_say, say};
 use crate::scripts::Inputs;
 use std::alloc::Global;
 use std::sync::Wait;
@@ -33,17 +33,13 @@ fn turn<R: Print + Wait>(rt: &R, end: &mut TurnEnd<'_, Global>) {
     }
 }
 
-/// One end takes and gives tokens of a full queue.
-pub fn give_turns<R: Print + Wait>(rt: &R, inputs: &Inputs<'_>) {
-    let Ok(mut queue) = RunQueue::full(rt, inputs.alloc) else {
-        return say(rt, "queue out of memory");
-    };
-    let Ok(mut ends) = queue.ends(inputs.alloc, 1) else {
-        return say(rt, "ends out of memory");
-    };
+/// One end takes and gives tokens of a full queue. None where a growth was refused before.
+pub fn give_turns<R: Print + Wait>(rt: &R, inputs: &Inputs<'_>) -> Option<()> {
+    let mut queue = or_say(rt, "queue", RunQueue::full(rt, inputs.alloc))?;
+    let mut ends = or_say(rt, "ends", queue.ends(inputs.alloc, 1))?;
+    let end = ends.first_mut()?;
     for _ in 0..TURNS {
-        if let Some(end) = ends.first_mut() {
-            turn(rt, end);
-        }
+        turn(rt, end);
     }
+    Some(())
 }

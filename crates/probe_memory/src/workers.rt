@@ -1,17 +1,17 @@
-// One worker over a script: its report, and the close of its lock.
+// One worker over a script: its report and the close of its lock, or its lines on the board.
 ghost use Rattle.std.specs.Prelude.{◌≡◌, []};
 ghost use Rattle.tn_trace.specs.Cores.{core_of};
 
-use crate::locks::{LINES, say_close};
+use crate::locks::{LINES, closed_or_say};
 use crate::runs::TURNS;
-use crate::says::{fault_name, say};
-use crate::scripts::{Inputs, program_or_say};
+use crate::says::or_say;
+use crate::scripts::{Inputs, core_or_say};
 use std::alloc::Global;
 use std::marker::{Brand, Send, Sync};
 use std::sync::Wait;
 use std::thread::Threads;
 use tn_live::{JournalName, Live, NewLog};
-use tn_pool::{Board, Open, PoolFault, Report, run_workers};
+use tn_pool::{Board, Open, Report, run_workers};
 use tn_trace::Core;
 
 /// The most sessions of a script.
@@ -19,18 +19,6 @@ const SESSIONS: u32 = 128;
 
 /// How many turns are enough for forty of each slot.
 const MANY_TURNS: u32 = 65 * 40;
-
-/// Says the fault of a report.
-fn say_fault<R: Print>(rt: &R, fault: Option<PoolFault>) {
-    match fault {
-        None => say(rt, "fault none"),
-        Some(PoolFault::Memory) => say(rt, "fault memory"),
-        Some(PoolFault::Step(fault)) => {
-            let name = fault_name(fault);
-            let _ = println!(rt; "fault step {name}");
-        }
-    }
-}
 
 /// Says what a report has beside its seats: the receipts, the tokens and the fault.
 fn say_report<J: JournalName, R: Print>(rt: &R, report: &Report<Global, J>) {
@@ -43,33 +31,12 @@ fn say_report<J: JournalName, R: Print>(rt: &R, report: &Report<Global, J>) {
         let pick = token.pick();
         let _ = println!(rt; "token {pick}");
     }
-    say_fault(rt, report.fault);
+    let fault = report.fault;
+    let _ = println!(rt; "fault {fault:?}");
 }
 
-/// One worker over a core: what it reports, and the close of the lock.
-fn report_of_one<J: JournalName + Send + Sync, R: Print + Threads + Wait + Sync>(
-    rt: &R,
-    alloc: Global,
-    core: Core<Global>,
-    new_log: NewLog,
-)
-    requires core { core ≡ core_of J.program [] }
-    requires named { new_log ≡ J.log }
-{
-    let sessions = core.program().session_count();
-    let Ok(board) = Board::new(alloc, alloc, sessions, LINES) else {
-        return say(rt, "board out of memory");
-    };
-    let Ok((live, seats)) = Live::<Global, J>::begin(alloc, core, new_log, 1) else {
-        return say(rt, "lock out of memory");
-    };
-    let report = run_workers(rt, &live, &board, seats, &Open, TURNS);
-    say_report(rt, &report);
-    say_close(rt, &live.close(rt, report.seats));
-}
-
-/// How many lines a board has, of whatever sessions.
-fn lines_on(board: &Board<Global>) -> u64 {
+/// Says how many lines a board has, of whatever sessions.
+fn say_lines<R: Print>(rt: &R, board: &Board<Global>) {
     let mut lines: u64 = 0;
     for session in 1..=SESSIONS {
         for index in 0..LINES as u64 {
@@ -78,49 +45,45 @@ fn lines_on(board: &Board<Global>) -> u64 {
             }
         }
     }
-    lines
+    let _ = println!(rt; "lines {lines}");
 }
 
-/// One worker over a core: how many lines it has put on the board.
-fn lines_of_one<J: JournalName + Send + Sync, R: Print + Threads + Wait + Sync>(
+/// One worker over a core: what it reports and the close of the lock, or how many lines it has put on the board.
+/// None where a growth was refused before, or the lock doesn't close.
+fn work_of_one<J: JournalName + Send + Sync, R: Print + Threads + Wait + Sync>(
     rt: &R,
     alloc: Global,
     core: Core<Global>,
     new_log: NewLog,
-)
+    says_lines: bool,
+) -> Option<()>
     requires core { core ≡ core_of J.program [] }
     requires named { new_log ≡ J.log }
 {
     let sessions = core.program().session_count();
-    let Ok(board) = Board::new(alloc, alloc, sessions, LINES) else {
-        return say(rt, "board out of memory");
-    };
-    let Ok((live, seats)) = Live::<Global, J>::begin(alloc, core, new_log, 1) else {
-        return say(rt, "lock out of memory");
-    };
-    let _ = run_workers(rt, &live, &board, seats, &Open, MANY_TURNS);
-    let lines = lines_on(&board);
-    let _ = println!(rt; "lines {lines}");
+    let board = or_say(rt, "board", Board::new(alloc, alloc, sessions, LINES))?;
+    let (live, seats) = or_say(
+        rt,
+        "lock",
+        Live::<Global, J>::begin(alloc, core, new_log, 1),
+    )?;
+    let turns = if says_lines { MANY_TURNS } else { TURNS };
+    let report = run_workers(rt, &live, &board, seats, &Open, turns);
+    if says_lines {
+        say_lines(rt, &board);
+        return Some(());
+    }
+    say_report(rt, &report);
+    closed_or_say(rt, live.close(rt, report.seats))?;
+    Some(())
 }
 
 /// The same over the script.
-pub fn lines_of_one_worker<R: Print + Threads + Wait + Sync>(rt: &R, inputs: &Inputs<'_>) {
-    let Some(program) = program_or_say(rt, inputs) else {
-        return;
-    };
-    match Core::new(inputs.alloc, program) {
-        Ok(core) => lines_of_one::<Brand, R>(rt, inputs.alloc, core, NewLog::new()),
-        Err(_) => say(rt, "core out of memory"),
-    }
-}
-
-/// The report of one worker over the script.
-pub fn run_one_worker<R: Print + Threads + Wait + Sync>(rt: &R, inputs: &Inputs<'_>) {
-    let Some(program) = program_or_say(rt, inputs) else {
-        return;
-    };
-    match Core::new(inputs.alloc, program) {
-        Ok(core) => report_of_one::<Brand, R>(rt, inputs.alloc, core, NewLog::new()),
-        Err(_) => say(rt, "core out of memory"),
-    }
+pub fn run_one_worker<R: Print + Threads + Wait + Sync>(
+    rt: &R,
+    inputs: &Inputs<'_>,
+    says_lines: bool,
+) -> Option<()> {
+    let core = core_or_say(rt, inputs)?;
+    work_of_one::<Brand, R>(rt, inputs.alloc, core, NewLog::new(), says_lines)
 }

@@ -1,5 +1,7 @@
-// The texts of faults, which are read where a fault is told.
-use crate::checks::check;
+// The texts of faults, for a library's user: no command prints them.
+use std::alloc::Global;
+use std::fmt::Display;
+use std::process::Abort;
 use std::test::Fail;
 use tn_program::RuleFault;
 use tn_script::ScriptFault;
@@ -34,19 +36,18 @@ const OF_RULES: [(RuleFault, &str); 8] = [
     (RuleFault::OutOfMemory, "out of memory"),
 ];
 
-#[test]
-fn texts_of_faults(rt: HostRuntime) -> Result<(), Fail> {
-    for (fault, text) in &OF_TEXTS {
-        let reported = format!(in rt.alloc(); "{fault}")?;
-        check(&rt, reported.as_str() == *text, text);
-    }
-    for (fault, text) in &OF_SCRIPTS {
-        let reported = format!(in rt.alloc(); "{fault}")?;
-        check(&rt, reported.as_str() == *text, text);
-    }
-    for (fault, text) in &OF_RULES {
-        let reported = format!(in rt.alloc(); "{fault}")?;
-        check(&rt, reported.as_str() == *text, text);
+/// Each fault has its text.
+fn check_texts<F: Display>(rt: &impl Abort, alloc: Global, rows: &[(F, &str)]) -> Result<(), Fail> {
+    for (fault, text) in rows {
+        let reported = format!(in alloc; "{fault}")?;
+        assert!(rt; reported.as_str() == *text, "not so: {text}");
     }
     Ok(())
+}
+
+#[test]
+fn texts_of_faults(rt: HostRuntime) -> Result<(), Fail> {
+    check_texts(&rt, rt.alloc(), &OF_TEXTS)?;
+    check_texts(&rt, rt.alloc(), &OF_SCRIPTS)?;
+    check_texts(&rt, rt.alloc(), &OF_RULES)
 }

@@ -1,33 +1,12 @@
-//! Tests of the layers' public functions, each once as it is meant to be used, with ample memory.
+//! Tests of the layers that no contract and no run of the program shows: calls that no command makes, the texts
+//! of faults, and an end that fails once and then works.
 //!
-//! Depends on the crates from tn_term to tn_trace. It promises nothing of its own.
+//! Depends on tn_text, tn_flags, tn_script, tn_program and tn_session. It promises nothing of its own.
 #![tactic(auto)]
 
 #[cfg(test)]
-mod checks;
+mod calls;
 #[cfg(test)]
 mod faults;
-#[cfg(test)]
-mod flags;
-#[cfg(test)]
-mod long;
-#[cfg(test)]
-mod node;
-#[cfg(test)]
-mod node_event;
-#[cfg(test)]
-mod process;
-#[cfg(test)]
-mod program;
-#[cfg(test)]
-mod script;
-#[cfg(test)]
-mod session;
-#[cfg(test)]
-mod term;
-#[cfg(test)]
-mod text;
-#[cfg(test)]
-mod trace;
 #[cfg(test)]
 mod watched;

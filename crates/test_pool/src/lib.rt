@@ -1,22 +1,14 @@
-//! Tests of the lock and of workers: a core stepped by two seats in turn, its close and its receipts, with each
-//! growth of memory refused too; tokens taken and given by one end and by three, lines on a board and the
-//! output with and without them, one worker's receipts, what a gate is told and when, and runs by workers,
-//! replayed.
+//! Tests of the lock and of workers that no contract and no run of the program shows: a close without a seat, a board
+//! with a line of another message, the order of tokens with three ends, and what a gate is told and when.
 //!
-//! Depends on tn_live, tn_pool and tn_run, and on test_allocator.
+//! Depends on tn_live and tn_pool. It promises nothing of its own.
 #![tactic(auto)]
 
 #[cfg(test)]
-mod gates;
+mod board;
 #[cfg(test)]
-mod lines;
+mod gates;
 #[cfg(test)]
 mod lock;
 #[cfg(test)]
-mod memory;
-#[cfg(test)]
-mod runs;
-#[cfg(test)]
 mod turns;
-#[cfg(test)]
-mod workers;
