@@ -1,0 +1,16 @@
+pub mod Symbols
+pub mod Characters
+pub mod TokenSeen
+pub mod TokenSound
+pub mod TokenLists
+pub mod TokenRows
+pub mod ReadingRows
+pub mod AnswerRows
+pub mod PrintingRows
+pub mod OpenParts
+pub mod ExprSteps
+pub mod Heads
+pub mod FunSteps
+pub mod FunRuns
+pub mod ComputedConstants
+pub mod Spans

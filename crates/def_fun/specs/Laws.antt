@@ -1,0 +1,52 @@
+-- What is promised of funs (own).
+-- Depends on tokens, the grammar, reading and constants, and on def_spec's functions.
+use Rattle.std.specs.Prelude.{◌≡◌, ℕ, Bool, List, [], ◌∷◌, Some, None, Ok, take, drop}
+use Rattle.def_term.specs.Tree.{Tree}
+use Rattle.def_spec.specs.Functions.{Func, apply}
+use Rattle.def_spec.specs.Expressions.{Dialect, Position}
+use Rattle.def_spec.specs.Reading.{a_function, named_call}
+use Rattle.def_fun.specs.Operators.{FunOperator, operator_name}
+use Rattle.def_fun.specs.Constants.{gives, computed_between, computed_before}
+use Rattle.def_fun.specs.Tokens.{FunToken, FunSpan, FunTokens, IsFunToken, HasNoFunToken}
+use Rattle.def_fun.specs.Scan.{fun_token_at, fun_spans}
+use Rattle.def_fun.specs.Trees.{FunClause}
+use Rattle.def_fun.specs.Grammar.{DerivesFun}
+use Rattle.def_fun.specs.Reading.{read_fun}
+
+-- ---- tokens
+
+-- a text has one list of tokens at most
+abbrev pub FunTokensAreOne : Type 0
+FunTokensAreOne = (bytes : List ℕ) (xs ys : List FunSpan) → FunTokens bytes xs → FunTokens bytes ys → xs ≡ ys
+
+-- and each text has one
+abbrev pub FunTokensAreThere : Type 0
+FunTokensAreThere = (bytes : List ℕ) → (xs : List FunSpan) × FunTokens bytes xs
+
+-- the token that is found is there
+abbrev pub FoundTokenIsThere : Type 0
+FoundTokenIsThere = (bytes : List ℕ) (t : FunToken) (n : ℕ) → fun_token_at bytes ≡ Some (t, n) → IsFunToken (take n bytes) (drop n bytes) t
+
+-- and where none is found, none is there
+abbrev pub NoTokenIsThere : Type 0
+NoTokenIsThere = (bytes : List ℕ) → fun_token_at bytes ≡ None → HasNoFunToken bytes
+
+-- the tokens that are listed are those of the text
+abbrev pub ListedTokensAre : Type 0
+ListedTokensAre = (bytes : List ℕ) → FunTokens bytes (fun_spans bytes)
+
+-- ---- reading
+
+-- the clauses that are read are spelled by the tokens
+abbrev pub ReadFunIsDerived : Type 0
+ReadFunIsDerived = (limit : ℕ) (sized : Bool) (ts : List FunSpan) (ks : List FunClause) → read_fun limit sized ts ≡ Ok ks → DerivesFun ts ks
+
+-- ---- constants
+
+-- what an operator of two constants gives is what the function gives that a specification calls by its name
+abbrev pub ComputedOfTwoIsApplied : Type 0
+ComputedOfTwoIsApplied = (d : Dialect) (part : Position) (o : FunOperator) (f : Func) (t u v : Tree) (n : ℕ) → named_call d part (operator_name o) 2 ≡ Ok (a_function f) → computed_between o t u ≡ gives v → apply f (t ∷ u ∷ []) n ≡ Some v
+
+-- and so of one
+abbrev pub ComputedOfOneIsApplied : Type 0
+ComputedOfOneIsApplied = (d : Dialect) (part : Position) (o : FunOperator) (f : Func) (t v : Tree) (n : ℕ) → named_call d part (operator_name o) 1 ≡ Ok (a_function f) → computed_before o t ≡ gives v → apply f (t ∷ []) n ≡ Some v

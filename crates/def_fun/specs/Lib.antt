@@ -1,0 +1,16 @@
+pub mod Operators
+pub mod Tokens
+pub mod Scan
+pub mod Trees
+pub mod Grammar
+pub mod Limits
+pub mod Reading
+pub mod Refusals
+pub mod Variables
+pub mod Constants
+pub mod Calls
+pub mod Translation
+pub mod Answers
+pub mod FunTexts
+pub mod Laws
+pub mod Spans

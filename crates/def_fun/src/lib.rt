@@ -1,0 +1,14 @@
+//! Funs as `dbg:fun2ms/1` takes them: tokens, grammar, limits, translation, refusals, and the way back.
+//!
+//! Depends on `def_term`, `def_text` and `def_spec`. Promises, as laws over the definitions: a text has
+//! exactly one list of tokens, and the token that is found in front is the one that is there; the clauses
+//! that are read are spelled by the tokens; and computing an operator of constants changes no value.
+//! There is no code, and no command uses it yet.
+#![tactic(auto)]
+
+mod laws;
+
+pub use laws::{
+    a_fun_that_is_read_is_spelled, computed_constants_change_no_value, fun_tokens_are_determined,
+    the_token_in_front_is_found,
+};
