@@ -1,5 +1,5 @@
 // A run, with what looks on.
-ghost use Rattle.std.specs.Prelude.{ℕ, List, [], ◌++◌, min, IfOk, OnOk};
+ghost use Rattle.std.specs.Prelude.{◌≡◌, ℕ, List, [], ◌++◌, min, IfOk, OnOk};
 ghost use Rattle.def_run.specs.Run.{JOURNAL};
 ghost use Rattle.tn_program.specs.Views.{program_of};
 ghost use Rattle.tn_trace.specs.Runs.{IsRun};
@@ -69,4 +69,36 @@ pub fn take_all<A: Allocator + Copy, O: Observer<A> + Drop>(
     let done = one.take_all(program, picks, first);
     let done_again = other.take_all(program, picks, second);
     (done, done_again)
+}
+
+/// `tn_trace::Run::into_journal` has one answer for one journal.
+pub fn into_journal<A: Allocator + Copy, O: Observer<A> + Drop>(
+    one: Run<A, O>,
+    other: Run<A, O>,
+) -> (Vec<u32, A>, Vec<u32, A>)
+    requires { one.journal.items ≡ other.journal.items }
+    ensures { result.0.items ≡ result.1.items }
+{
+    let first = one.into_journal();
+    let second = other.into_journal();
+    (first, second)
+}
+
+/// `tn_trace::most_moves` has one answer.
+pub fn most_moves(limit: usize) -> (usize, usize)
+    ensures { result.0 ≡ result.1 }
+{
+    (tn_trace::most_moves(limit), tn_trace::most_moves(limit))
+}
+
+/// `tn_trace::pass_picks` has one answer.
+pub fn pass_picks<A: Allocator + Copy>(
+    alloc: A,
+) -> (
+    Result<Vec<u32, A>, AllocError>,
+    Result<Vec<u32, A>, AllocError>,
+)
+    ensures { IfOk result.0 (λ v. IfOk result.1 (λ w. v.items ≡ w.items)) }
+{
+    (tn_trace::pass_picks(alloc), tn_trace::pass_picks(alloc))
 }

@@ -1,13 +1,17 @@
 // The transcript of a run.
-ghost use Rattle.std.specs.Prelude.{◌≡◌};
+ghost use Rattle.std.specs.Prelude.{◌≡◌, ℕ, List};
 ghost use Rattle.std.specs.Option.{option_map};
+ghost use Rattle.def_script.specs.Program as definition;
 ghost use Rattle.tn_program.specs.Views.{program_of};
+ghost use Rattle.tn_trace.specs.Items.{AreTexts};
+ghost use Rattle.tn_trace.specs.Recorders.{HasRecorded};
+ghost use Rattle.tn_trace.specs.Runs.{IsRun};
 ghost use Rattle.complete_scripts.specs.Agreement.{Agree, answer_of};
 ghost use Rattle.complete_runs.specs.Alike.{transcript_fault_seen};
 
 use std::alloc::Allocator;
 use tn_program::Program;
-use tn_trace::{Transcript, TranscriptFault};
+use tn_trace::{Lines, Recorder, Run, Transcript, TranscriptFault};
 
 /// `tn_trace::Transcript::of_picks` has one answer.
 pub fn of_picks<A: Allocator + Copy>(
@@ -46,6 +50,21 @@ pub fn of_round<A: Allocator + Copy>(
 {
     let first = Transcript::of_round(alloc, one, limit, most);
     let second = Transcript::of_round(alloc, other, limit, most);
+    (first, second)
+}
+
+/// `tn_trace::Transcript::of_run` has one answer for two runs by the same picks.
+pub fn of_run<A: Allocator + Copy>(
+    one: Run<A, Recorder<A, Lines<A>>>,
+    other: Run<A, Recorder<A, Lines<A>>>,
+) -> (Transcript<A>, Transcript<A>)
+    ghost at: { definition.Program × ℕ × List ℕ }
+    requires one { IsRun (HasRecorded AreTexts) at.0 at.1 at.2 one }
+    requires other { IsRun (HasRecorded AreTexts) at.0 at.1 at.2 other }
+    ensures { result.0 ≡ result.1 }
+{
+    let first = Transcript::of_run(one);
+    let second = Transcript::of_run(other);
     (first, second)
 }
 

@@ -12,3 +12,4 @@ pub mod TranscriptLemmas
 pub mod ListingBytes
 pub mod Bounds
 pub mod Passes
+pub mod Within

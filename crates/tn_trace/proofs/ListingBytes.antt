@@ -43,7 +43,7 @@ module _ (o : Exports) (items more : List HistoryItem) where
       omega (arith, one, others, bytes_first items s ss, bytes_first (items ++ more) s ss)
 
 -- more picks
-bytes_grow : (p : Program) (picks more : List ℕ) → listing_bytes p picks ≤ listing_bytes p (picks ++ more)
+pub bytes_grow : (p : Program) (picks more : List ℕ) → listing_bytes p picks ≤ listing_bytes p (picks ++ more)
 bytes_grow p picks more =
     subst (λ items. listing_bytes p picks ≤ bytes_in_all (map (lines_over (exports_of p) items) (creations p.commands))) (sym (shown-append p.functions (start p) picks more))
     (all_grow (exports_of p) (events p picks) (history_from p.functions (run_state_of p picks) more) (creations p.commands))
@@ -66,11 +66,15 @@ first_on (suc n) [] ys = (take (suc n) ys, refl)
 first_on (suc n) (x ∷ xs) ys = let r = first_on n xs ys in (r.0, ap (λ l. x ∷ l) r.1)
 
 -- the first that moved of more picks
+pub first_moves_on : (p : Program) (limit : ℕ) (before more : List ℕ) → (zs : List ℕ) × (take limit (moves p (before ++ more)) ≡ take limit (moves p before) ++ zs)
+first_moves_on p limit before more =
+    let longer = first_on limit (moves p before) (moves_from p.functions (run_state_of p before) more) in
+    (longer.0, ap (take limit) (moves-append p.functions (start p) before more) ∙ longer.1)
+
 pub limited_grow : (p : Program) (limit : ℕ) (before more : List ℕ) → listing_bytes p (take limit (moves p before)) ≤ listing_bytes p (take limit (moves p (before ++ more)))
 limited_grow p limit before more =
-    let longer = first_on limit (moves p before) (moves_from p.functions (run_state_of p before) more) in
-    subst (λ js. listing_bytes p (take limit (moves p before)) ≤ listing_bytes p js) (sym (ap (take limit) (moves-append p.functions (start p) before more) ∙ longer.1))
-    (bytes_grow p (take limit (moves p before)) longer.0)
+    let longer = first_moves_on p limit before more in
+    subst (λ js. listing_bytes p (take limit (moves p before)) ≤ listing_bytes p js) (sym longer.1) (bytes_grow p (take limit (moves p before)) longer.0)
 
 -- once they have too many bytes
 pub longer_on : (p : Program) (limit most : ℕ) (before more : List ℕ) → most < listing_bytes p (take limit (moves p before)) → most < listing_bytes p (take limit (moves p (before ++ more)))

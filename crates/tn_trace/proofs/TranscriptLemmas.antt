@@ -8,9 +8,9 @@ use Rattle.def_term.specs.Names.{Name}
 use Rattle.def_script.specs.Program.{Program}
 use Rattle.def_script.specs.Exports.{Exports, exports_of}
 use Rattle.def_script.specs.Script.{creations}
-use Rattle.def_run.specs.Run.{HistoryItem, moves, events}
+use Rattle.def_run.specs.Run.{HistoryItem, start, moves, events}
 use Rattle.def_run.specs.Listing.{replies_from, lines_of}
-use Rattle.def_run.proofs.Replay.{events_again}
+use Rattle.def_run.proofs.Replay.{events_again, moves_again}
 use Rattle.tn_term.specs.Views.{alive_of}
 use Rattle.tn_trace.specs.Items.{AreTexts}
 use Rattle.tn_trace.specs.Tracks.{tracks_from}
@@ -54,3 +54,12 @@ lines_past xs i v seen past =
 -- a run of picks that all move is that of the picks that moved
 pub moved_run : {A O : Type 0} (Seen : O → Program → List ℕ → Type 0) (p : Program) (limit : ℕ) (picks : List ℕ) (r : Run A O) → IsRun Seen p limit picks r → IsRun Seen p limit (moves p picks) r
 moved_run Seen p limit picks r run = subst (λ xs. IsRun Seen p limit xs r) (sym run.moved) run
+
+-- the picks that moved have the transcript of all picks
+pub transcript_again : (p : Program) (picks : List ℕ) → transcript_of p (moves p picks) ≡ transcript_of p picks
+transcript_again p picks =
+    let o : Exports = exports_of p in
+    let listed = ap (λ items. map (lines_over o items) (creations p.commands)) (events_again p picks) in
+    let replied = ap (λ items. lines_of (replies_from o [] items)) (events_again p picks) in
+    let journaled = moves_again p.functions (start p) picks in
+    λ i. record { listings = listed i; replied = replied i; journal = journaled i }

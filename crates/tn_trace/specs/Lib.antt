@@ -12,4 +12,5 @@ pub mod Codes
 pub mod Cores
 pub mod Transcripts
 pub mod Follows
+pub mod Within
 pub mod Bounds

@@ -14,13 +14,13 @@ use tn_term::Alive;
 
 /// The sessions of a run with what is kept of their messages, who lives, and what is kept of the replies.
 #[derive(Drop)]
-pub(crate) struct Recorder<A: Allocator, K> {
-    pub alloc: A,
-    pub living: Alive,
-    pub slots: Vec<Slot<A, K>, A>,
-    pub replies: K,
+pub struct Recorder<A: Allocator, K> {
+    pub(crate) alloc: A,
+    pub(crate) living: Alive,
+    pub(crate) slots: Vec<Slot<A, K>, A>,
+    pub(crate) replies: K,
     /// Room for the text of an event.
-    pub room: Vec<u8, A>,
+    pub(crate) room: Vec<u8, A>,
 }
 
 impl<A: Allocator + Copy, K: MessageSink<A> + Drop> Recorder<A, K> {

@@ -1,6 +1,7 @@
 // A run, and what looks on.
 ghost use Rattle.std.specs.Prelude.{◌≡◌, min};
 
+use crate::bound::{Bound, NoBound};
 use crate::functions::command_at;
 use crate::journal::{JOURNAL, JournalEntry};
 use crate::observer::Observer;
@@ -19,6 +20,15 @@ pub enum PickOutcome {
     Full,
 }
 
+/// How many of some picks were taken.
+#[derive(Clone, Copy, Debug, PartialEq, Eq)]
+pub enum Extent {
+    /// All of them.
+    All,
+    /// Those up to the first after which the observer has more than it may have.
+    TooMuch,
+}
+
 /// The node of a program, what looks on, the picks that moved, and how many may move.
 #[derive(Drop)]
 pub struct Run<A: Allocator, O> {
@@ -29,16 +39,18 @@ pub struct Run<A: Allocator, O> {
 }
 
 /// How many picks may move: at most the limit's number of them, and no more than a journal has entries.
-pub(crate) fn most_moves(limit: usize) -> usize
+pub fn most_moves(limit: usize) -> usize
     ensures { result ≡ min limit 65536 }
 {
     if limit < JOURNAL { limit } else { JOURNAL }
 }
 
 impl<A: Allocator + Copy, O: Observer<A> + Drop> Run<A, O> {
-    ghost use Rattle.std.specs.Prelude.{◌≡◌, IfOk};
+    ghost use Rattle.std.specs.Prelude.{◌≡◌, ◌∷◌, [], IfOk};
+    ghost use Rattle.def_run.specs.Laws.{repeat_picks};
     ghost use Rattle.tn_trace.specs.Runs.{StartsRun, TakesPick};
     ghost use Rattle.tn_trace.specs.Follows.{FollowsMore, AddsMore};
+    ghost use Rattle.tn_trace.specs.Within.{TakesWithin};
 
     /// The run of a program before any pick, with what looks on. At most the limit's number of picks move.
     pub fn new(
@@ -95,7 +107,95 @@ impl<A: Allocator + Copy, O: Observer<A> + Drop> Run<A, O> {
         }
     }
 
+    /// One more pick, and whether the observer has more than it may have where it moved. After an `Err` a part of what
+    /// the observer makes of it may be added.
+    fn step_within<B: Bound<O>>(
+        &mut self,
+        program: &Program<A>,
+        pick: u32,
+        bound: &B,
+        out: &mut O::Output,
+    ) -> Result<Extent, AllocError>
+        ensures taken { TakesWithin O.sees O.adds (B.exceeds bound.now) program.now (pick ∷ [])
+            self.old self.new out.old out.new result }
+        ensures reaches { O.reaches out.old out.new }
+    {
+        match self.step(program, pick, out)? {
+            PickOutcome::Moved => {
+                if bound.is_exceeded(&self.observer) {
+                    Ok(Extent::TooMuch)
+                } else {
+                    Ok(Extent::All)
+                }
+            }
+            PickOutcome::Idle => Ok(Extent::All),
+            PickOutcome::Full => Ok(Extent::All),
+        }
+    }
+
+    /// The picks in order, until the observer has more than it may have. After an `Err` a part of what it makes of them
+    /// may be added.
+    ///
+    /// # Errors
+    ///
+    /// AllocError where memory was refused.
+    pub fn take_within<B: Bound<O>>(
+        &mut self,
+        program: &Program<A>,
+        picks: &[u32],
+        bound: &B,
+        out: &mut O::Output,
+    ) -> Result<Extent, AllocError>
+        ensures taken { TakesWithin O.sees O.adds (B.exceeds bound.now) program.now picks.now
+            self.old self.new out.old out.new result }
+        ensures reaches { O.reaches out.old out.new }
+    {
+        for pick in picks {
+            match self.step_within(program, *pick, bound, out)? {
+                Extent::All => {}
+                Extent::TooMuch => return Ok(Extent::TooMuch),
+            }
+        }
+        Ok(Extent::All)
+    }
+
+    /// The picks so many times, as `take_within` takes them. After a time when none of them moved no other would move
+    /// one, so that the times after it aren't taken.
+    ///
+    /// # Errors
+    ///
+    /// AllocError where memory was refused.
+    pub fn take_times<B: Bound<O>>(
+        &mut self,
+        program: &Program<A>,
+        once: &[u32],
+        count: usize,
+        bound: &B,
+        out: &mut O::Output,
+    ) -> Result<Extent, AllocError>
+        ensures taken { TakesWithin O.sees O.adds (B.exceeds bound.now) program.now (repeat_picks once.now count)
+            self.old self.new out.old out.new result }
+        ensures reaches { O.reaches out.old out.new }
+    {
+        for turn in 0..count {
+            let before = self.journal.len();
+            match self.take_within(program, once, bound, out)? {
+                Extent::All => {}
+                Extent::TooMuch => return Ok(Extent::TooMuch),
+            }
+            let after = self.journal.len();
+            if after == before {
+                return Ok(Extent::All);
+            }
+        }
+        Ok(Extent::All)
+    }
+
     /// The picks in order. After an `Err` a part of what the observer makes of them may be added.
+    ///
+    /// # Errors
+    ///
+    /// AllocError where memory was refused.
     pub fn take_all(
         &mut self,
         program: &Program<A>,
@@ -106,9 +206,14 @@ impl<A: Allocator + Copy, O: Observer<A> + Drop> Run<A, O> {
         ensures adds { AddsMore O.sees O.adds program.now picks.now self.old self.new out.old out.new result }
         ensures reaches { O.reaches out.old out.new }
     {
-        for pick in picks {
-            self.step(program, *pick, out)?;
-        }
+        self.take_within(program, picks, &NoBound, out)?;
         Ok(())
+    }
+
+    /// The picks that moved, in order.
+    pub fn into_journal(self) -> Vec<u32, A>
+        ensures { result ≡ self.journal }
+    {
+        self.journal
     }
 }

@@ -14,8 +14,8 @@ pub(crate) struct Terms<A: Allocator> {
 
 /// Messages kept as text, each with a line feed.
 #[derive(Drop)]
-pub(crate) struct Lines<A: Allocator> {
-    pub text: Vec<u8, A>,
+pub struct Lines<A: Allocator> {
+    pub(crate) text: Vec<u8, A>,
 }
 
 impl<A: Allocator + Copy> MessageSink<A> for Terms<A> {

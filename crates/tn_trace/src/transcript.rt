@@ -1,5 +1,6 @@
 // A run that kept text alone.
 use crate::recorder::Recorder;
+use crate::run::Run;
 use crate::sinks::Lines;
 use crate::texts::{run_of_picks, run_of_round};
 use crate::transcript_fault::TranscriptFault;
@@ -34,6 +35,17 @@ impl<A: Allocator + Copy> Transcript<A> {
     ghost use Rattle.def_run.specs.Round.{round};
     ghost use Rattle.tn_program.specs.Views.{program_of};
     ghost use Rattle.tn_trace.specs.Transcripts.{listing_bytes, transcript_of, without_lines};
+    ghost use Rattle.tn_trace.specs.Bounds.{IsOfItsRun};
+
+    /// The transcript of a run that kept text.
+    pub fn of_run(run: Run<A, Recorder<A, Lines<A>>>) -> Transcript<A>
+        ensures { IsOfItsRun run result }
+    {
+        Transcript {
+            recorder: run.observer,
+            journal: run.journal,
+        }
+    }
 
     /// The transcript of the run by these picks, where its listings together have at most so many bytes.
     ///
@@ -51,11 +63,7 @@ impl<A: Allocator + Copy> Transcript<A> {
         ensures long { IsErrOf result TranscriptFault.TooLong →
             most < listing_bytes (program_of program.now) picks.now }
     {
-        let run = run_of_picks(alloc, program, picks, most)?;
-        Ok(Transcript {
-            recorder: run.observer,
-            journal: run.journal,
-        })
+        Ok(Transcript::of_run(run_of_picks(alloc, program, picks, most)?))
     }
 
     /// The transcript of the round with this limit on the number of moves, where its listings together have at most so
@@ -76,11 +84,7 @@ impl<A: Allocator + Copy> Transcript<A> {
         ensures long { IsErrOf result TranscriptFault.TooLong →
             most < listing_bytes (program_of program.now) (round (program_of program.now) limit) }
     {
-        let run = run_of_round(alloc, program, limit, most)?;
-        Ok(Transcript {
-            recorder: run.observer,
-            journal: run.journal,
-        })
+        Ok(Transcript::of_run(run_of_round(alloc, program, limit, most)?))
     }
 
     /// The lines of the session at this place among the creations of the control list, from 0, in order;

@@ -2,7 +2,7 @@ use Rattle.std.proofs.Common.{◌≡◌, ◌∙◌, length, ap, arith}
 use Rattle.std.specs.Prelude.{sum_by}
 use Rattle.std.proofs.lemmas.List.{take_all}
 use Rattle.tn_trace.proofs.Bounds.{slot_bytes, slots_counted, counted_more, too_many}
-use Rattle.tn_trace.proofs.texts.is_longer.Goals as goal
+use Rattle.tn_trace.proofs.bound.is_longer.Goals as goal
 
 pub loop-slot-preserved : goal.loop-slot-preserved
 loop-slot-preserved g c =

@@ -1,7 +1,7 @@
 use Rattle.std.proofs.Common.{◌≡◌, ◌∙◌, ◌++◌, ◌∷◌, [], ◌-◌, ap, arith}
 use Rattle.def_run.specs.Round.{pass_from}
 use Rattle.tn_trace.proofs.Passes.{pid_more}
-use Rattle.tn_trace.proofs.texts.pass_picks.Goals as goal
+use Rattle.tn_trace.proofs.pass.pass_picks.Goals as goal
 
 pub loop-pid-preserved : goal.loop-pid-preserved
 loop-pid-preserved g c =
