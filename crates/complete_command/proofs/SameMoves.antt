@@ -1,12 +1,11 @@
 -- Moves have one list of picks or one refusal, and a run by moves one outcome and one output.
-use Rattle.std.proofs.Common.{◌≡◌, ◌∙◌, ◌⊎◌, inl, inr, MatchOption, ◌≤◌, ℕ, if◌then◌else◌, List, [], ◌∷◌, map, length, None, Result, Ok, Err, refl, sym, ap, ap₂, subst, arith}
+use Rattle.std.proofs.Common.{◌≡◌, ◌∙◌, ◌⊎◌, inl, inr, MatchOption, ◌≤◌, ℕ, Bool, true, false, List, [], ◌∷◌, map, length, Option, Some, None, Result, Ok, Err, refl, sym, ap, ap₂, subst, arith}
 use Rattle.std.specs.declared.vec.Vec.{Vec}
 use Rattle.def_script.specs.Program.{Program}
 use Rattle.def_script.specs.Script.{IsScript}
 use Rattle.def_script.proofs.OneScript.{one_program}
 use Rattle.def_run.specs.Listing.{program_output}
 use Rattle.def_run.specs.Round.{round}
-use Rattle.def_running_node.specs.NodeNotes.{node_note}
 use Rattle.def_moves.specs.Directives as definition
 use Rattle.def_moves.specs.Directives.{times, until_idle, everybody}
 use Rattle.def_moves.specs.Texts.{StandsFor}
@@ -18,11 +17,12 @@ use Rattle.tn_run.specs.declared.outcome.Outcome.TheVariants as run
 use Rattle.tn_refusal.specs.declared.refusal.Refusal.{Refusal}
 use Rattle.tn_explain.specs.Accounts.{IsAnswer}
 use Rattle.tn_explain.specs.Filters.{question_seen}
+use Rattle.tn_explain.specs.declared.note.RunNotes.{RunNotes}
 use Rattle.tn_explain.specs.declared.request.ExplainOutcome.TheVariants as explained
 use Rattle.tn_moves.specs.Directives.{directive_seen}
 use Rattle.tn_moves.specs.Readings.{IsMovesRefusal, AreDirectives}
 use Rattle.tn_moves.specs.Moves.{AreMoves, AreBadMoves, ArePicksMade}
-use Rattle.tn_moves.specs.Jobs.{IsRunByMoves, IsAccountByMoves, account_refusal, run_by_moves, explain_by_moves}
+use Rattle.tn_moves.specs.Jobs.{AreNotesWanted, IsRunByMoves, IsAccountByMoves, account_refusal, run_by_moves, explain_by_moves}
 use Rattle.tn_moves.specs.declared.directive.Directive.{Directive}
 use Rattle.tn_moves.specs.declared.directive.Directive.TheVariants.{Times, UntilIdle, Everybody}
 use Rattle.tn_moves.specs.declared.text.MovesRefusal.{MovesRefusal}
@@ -39,7 +39,7 @@ use Rattle.tn_moves.specs.declared.explanation.MovesAccount.{MovesAccount}
 use Rattle.tn_moves.specs.declared.explanation.MovesAccount.TheVariants as account
 use Rattle.complete_workers.proofs.OneRun.{one_run}
 use Rattle.complete_explain.proofs.OneExplanation.{one_answer}
-use Rattle.complete_explain.proofs.OneNote.{same_note}
+use Rattle.complete_explain.proofs.OneNote.{same_notes}
 use Rattle.complete_command.specs.Jobs.{HasOneAnswer}
 use Rattle.complete_command.specs.Moves.{MovesAlike}
 
@@ -115,10 +115,17 @@ refused_or_script bytes r x y h i =
     let e : run.Listed ≡ run.Refused r = (one_run bytes (by_round 0) run.Listed (run.Refused r) (program_output h.0 (round h.0 0)) y (record { program = h.0; accepted = h.1; output = record { picks = round h.0 0; given = refl; listing = refl } }) i).0 in
     cc
 
+-- the notes that are wanted
+notes_wanted : (has_notes : Bool) (p : Program) (picks : List ℕ) (n m : Option RunNotes) → AreNotesWanted has_notes p picks n → AreNotesWanted has_notes p picks m → n ≡ m
+notes_wanted false p picks n m h i = h ∙ sym i
+notes_wanted true p picks None m h i = absurd h
+notes_wanted true p picks (Some n) None h i = absurd i
+notes_wanted true p picks (Some n) (Some m) h i = ap Some (same_notes p picks n m h i)
+
 same_end : (job : RunByMoves) (p : Program) (o u : MovesEnd) (x y : List ℕ) → IsRunByMoves job p o x → IsRunByMoves job p u y → (o ≡ u) × (x ≡ y)
 same_end job p (Listed n) (Listed m) x y h i =
     let picks : i.picks ≡ h.picks = one_picks job.moves p i.picks h.picks i.given h.given in
-    (ap Listed (same_note n m _ h.wanted (i.wanted ∙ ap (λ xs. if job.has_note then node_note p xs else None) picks)), h.listing ∙ ap (program_output p) (sym picks) ∙ sym i.listing)
+    (ap Listed (notes_wanted job.has_notes p h.picks n m h.wanted (subst (λ xs. AreNotesWanted job.has_notes p xs m) picks i.wanted)), h.listing ∙ ap (program_output p) (sym picks) ∙ sym i.listing)
 same_end job p (Listed n) (Refused s) x y h i = absurd i
 same_end job p (Listed n) (BadMoves s) x y h i = absurd (not_bad job.moves p h.picks s h.given i.0)
 same_end job p (Refused r) u x y h i = absurd h

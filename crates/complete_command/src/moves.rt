@@ -1,11 +1,14 @@
 // Texts of moves, their directives and their picks.
 ghost use Rattle.std.specs.Prelude.{◌≡◌, IfOk};
 ghost use Rattle.tn_program.specs.Views.{program_of};
+ghost use Rattle.complete_scripts.specs.Agreement.{Agree, answer_of};
+ghost use Rattle.complete_runs.specs.Alike.{transcript_fault_seen};
 ghost use Rattle.complete_command.specs.Moves.{MovesAlike};
 
 use std::alloc::{AllocError, Allocator};
-use tn_moves::{Directive, Moves, MovesFault};
+use tn_moves::{Course, Directive, Moves, MovesFault};
 use tn_program::Program;
+use tn_trace::{Transcript, TranscriptFault};
 
 /// `tn_moves::mover_len` has one answer.
 pub fn mover_len(bytes: &[u8]) -> (usize, usize)
@@ -88,5 +91,25 @@ pub fn picks_of_moves<A: Allocator + Copy>(
     (
         tn_moves::picks_of_moves(alloc, first, moves),
         tn_moves::picks_of_moves(alloc, second, moves),
+    )
+}
+
+/// `tn_moves::transcript_of_course` has one answer for one program.
+pub fn transcript_of_course<A: Allocator + Copy>(
+    alloc: A,
+    first: &Program<A>,
+    second: &Program<A>,
+    course: Course<'_>,
+    most: usize,
+) -> (
+    Result<Transcript<A>, TranscriptFault>,
+    Result<Transcript<A>, TranscriptFault>,
+)
+    requires { program_of first.now ≡ program_of second.now }
+    ensures { let told = answer_of (λ t. t) transcript_fault_seen in Agree (told result.0) (told result.1) }
+{
+    (
+        tn_moves::transcript_of_course(alloc, first, course, most),
+        tn_moves::transcript_of_course(alloc, second, course, most),
     )
 }

@@ -9,7 +9,7 @@ use Rattle.def_running_node.specs.NodeNotes.{node_note}
 use Rattle.def_explain.specs.Remarks.{Remark, has_remarks}
 use Rattle.tn_run.specs.Answers.{ScheduleView, by_picks, by_round, by_workers, schedule_seen, ArePicks, HasPicks, run_for}
 use Rattle.tn_run.specs.Jobs.{Gives, OfScript}
-use Rattle.tn_explain.specs.Notes.{note_seen, HasNotes, run_and_note, run_outcome}
+use Rattle.tn_explain.specs.Notes.{note_seen, AreNotes, HasNotes, run_and_note, run_outcome}
 use Rattle.tn_explain.proofs.NodeNotes.{run_with_note_is_run}
 use Rattle.tn_explain.specs.declared.note.NodeNote.{NodeNote}
 use Rattle.tn_explain.specs.declared.note.RunNotes.{RunNotes}
@@ -39,12 +39,13 @@ same_picks (by_picks text) p xs ys h i = picks_are_one text xs ys h i
 same_picks (by_round limit) p xs ys h i = h ∙ sym i
 same_picks (by_workers made) p xs ys h i = h.0 ∙ sym i.0
 
+-- and so are the notes of a run by these picks
+pub same_notes : (p : Program) (picks : List ℕ) (n m : RunNotes) → AreNotes p picks n → AreNotes p picks m → n ≡ m
+same_notes p picks n m h i = ap₂ (λ b c. record { node = b; has_remarks = c }) (same_note n.node m.node (node_note p picks) h.node i.node) (h.remarks ∙ sym i.remarks)
+
 notes_are_one : (a : ScheduleView) (p : Program) (n m : RunNotes) → HasNotes a p n → HasNotes a p m → n ≡ m
 notes_are_one a p n m h i =
-    let picks = same_picks a p i.picks h.picks i.given h.given in
-    ap₂ (λ b c. record { node = b; has_remarks = c })
-    (same_note n.node m.node (node_note p h.picks) h.are.node (i.are.node ∙ ap (node_note p) picks))
-    (h.are.remarks ∙ sym (i.are.remarks ∙ ap (has_remarks p) picks))
+    same_notes p h.picks n m h.are (subst (λ xs. AreNotes p xs m) (same_picks a p i.picks h.picks i.given h.given) i.are)
 
 -- of the same text
 pub of_one_text : (bytes picks : List ℕ) (n m : Option NodeNote) → OfScript bytes (λ p. option_map note_seen n ≡ node_note p picks) → OfScript bytes (λ p. option_map note_seen m ≡ node_note p picks) → n ≡ m

@@ -2,11 +2,13 @@
 ghost use Rattle.std.specs.Prelude.{◌≡◌, IfOk};
 ghost use Rattle.tn_program.specs.Views.{program_of};
 ghost use Rattle.tn_refusal.specs.Starts.{IsListable};
+ghost use Rattle.tn_trace.specs.Transcripts.{transcript_of};
 
 use std::alloc::{AllocError, Allocator};
-use tn_explain::NodeNote;
+use tn_explain::{NodeNote, RunNotes};
 use tn_program::Program;
 use tn_run::Denial;
+use tn_trace::Transcript;
 
 /// `tn_explain::can_differ` has one answer for one program.
 pub fn can_differ<A: Allocator + Copy>(
@@ -110,5 +112,23 @@ pub fn has_no_forms(text: &[u8]) -> (bool, bool)
     (
         tn_explain::has_no_forms(text),
         tn_explain::has_no_forms(text),
+    )
+}
+
+/// `tn_explain::notes_of` has one answer, of transcripts of the program's run by some picks.
+pub fn notes_of<A: Allocator + Copy>(
+    alloc: A,
+    program: &Program<A>,
+    one: &Transcript<A>,
+    other: &Transcript<A>,
+    picks: &[u32],
+) -> (Result<RunNotes, AllocError>, Result<RunNotes, AllocError>)
+    requires one { one.now ≡ transcript_of (program_of program.now) picks.now }
+    requires other { other.now ≡ transcript_of (program_of program.now) picks.now }
+    ensures { IfOk result.0 (λ n. IfOk result.1 (λ m. n ≡ m)) }
+{
+    (
+        tn_explain::notes_of(alloc, program, one),
+        tn_explain::notes_of(alloc, program, other),
     )
 }

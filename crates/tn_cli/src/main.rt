@@ -146,8 +146,8 @@ fn run_moves<R: Input + Files + Print + Eprint + AllocGlobal>(
 {
     match task {
         Task::Replay(PrintArgs { form, quiet }) => {
-            let has_note = !quiet;
-            let job = &RunByMoves { moves, has_note };
+            let has_notes = !quiet;
+            let job = &RunByMoves { moves, has_notes };
             perform_in(rt, script, job, form, expectation)
         }
         Task::Explain { filter, form } => {

@@ -195,6 +195,13 @@ pub(crate) fn has_flaw_by_moves(
     has_flaw(alloc, script, &picks)
 }
 
+/// Says what is remarked of the run of a script by these moves.
+fn tell_moves_remarks<R: Eprint + AllocGlobal>(rt: &R, script: NamedText<'_>, moves: &Moves<'_>) {
+    if let Ok(picks) = moves_picks(rt.alloc(), script, moves) {
+        tell_remarks(rt, script, &picks);
+    }
+}
+
 impl Command for RunByMoves<'_> {
     ghost use Rattle.tn_command.specs.Flaws.{IsMovesFlaw};
 
@@ -202,13 +209,13 @@ impl Command for RunByMoves<'_> {
 
     fn tell_outcome<R: Eprint + AllocGlobal>(&self, rt: &R, end: MovesEnd, script: NamedText<'_>) {
         match end {
-            MovesEnd::Listed(_) if !self.has_note => {}
-            MovesEnd::Listed(note) => {
+            MovesEnd::Listed(None) => {}
+            MovesEnd::Listed(Some(notes)) => {
                 tell_empty_script(rt, script);
-                if let Ok(picks) = moves_picks(rt.alloc(), script, &self.moves) {
-                    tell_remarks(rt, script, &picks);
+                if notes.has_remarks {
+                    tell_moves_remarks(rt, script, &self.moves);
                 }
-                if let Some(note) = note {
+                if let Some(note) = notes.node {
                     tell_note(rt, note, BY_JOURNAL);
                 }
             }

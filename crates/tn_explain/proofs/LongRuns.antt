@@ -20,10 +20,10 @@ note_is None = refl
 note_is (Some n) = refl
 
 -- the notes of the program's run by these picks
-abbrev notes_by : Program → List ℕ → RunNotes
+abbrev pub notes_by : Program → List ℕ → RunNotes
 notes_by p picks = record { node = option_map code_note (definition.node_note p picks); has_remarks = remarks.has_remarks p picks }
 
-notes_are : (p : Program) (picks : List ℕ) → AreNotes p picks (notes_by p picks)
+pub notes_are : (p : Program) (picks : List ℕ) → AreNotes p picks (notes_by p picks)
 notes_are p picks = record { node = note_is (definition.node_note p picks); remarks = refl }
 
 -- such a run has notes

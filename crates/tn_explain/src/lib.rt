@@ -64,5 +64,5 @@ pub use line::{put_command_difference, put_command_line};
 pub use node_commands::can_differ;
 pub use note::{NodeNote, RunNotes, node_note, text_note};
 pub use request::{ExplainOutcome, ExplainRequest};
-pub use run_and_note::{RunAndNote, RunEnd};
+pub use run_and_note::{RunAndNote, RunEnd, notes_of};
 pub use run_remarks::{remark_lines, round_remark_lines, text_has_remarks};

@@ -69,7 +69,11 @@ fn has_remarks<A: Allocator + Copy>(
 }
 
 /// The notes of the run of this transcript.
-fn notes_of<A: Allocator + Copy>(
+///
+/// # Errors
+///
+/// AllocError where memory was refused.
+pub fn notes_of<A: Allocator + Copy>(
     alloc: A,
     program: &Program<A>,
     transcript: &Transcript<A>,

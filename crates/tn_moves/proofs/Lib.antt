@@ -1,4 +1,5 @@
 mod Numbers
-pub mod PickLogs
+pub mod Drives
 pub mod Readings
 mod LongRuns
+mod MadePicks

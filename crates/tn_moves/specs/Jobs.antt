@@ -1,18 +1,17 @@
 -- Runs by moves, and what they give (own).
 -- Depends on what a job is, and on the outcomes of a run with its note and of an explanation.
-use Rattle.std.specs.Prelude.{◌≡◌, ℕ, Bool, true, false, if◌then◌else◌, List, [], Option, Some, None}
-use Rattle.std.specs.Option.{option_map}
+use Rattle.std.specs.Prelude.{◌≡◌, ℕ, Bool, true, false, List, [], Option, Some, None}
 use Rattle.def_script.specs.Program.{Program}
 use Rattle.def_script.specs.Script as script
 use Rattle.def_run.specs.Listing.{program_output}
-use Rattle.def_running_node.specs.NodeNotes.{node_note, Question}
+use Rattle.def_running_node.specs.NodeNotes.{Question}
 use Rattle.tn_refusal.specs.Refusals.{refusal_of}
 use Rattle.tn_run.specs.Jobs.{JobView, failed_end}
 use Rattle.tn_run.specs.declared.fault.RunFault.{RunFault}
 use Rattle.tn_explain.specs.Accounts.{IsAnswer, explain_refusal, is_account}
 use Rattle.tn_explain.specs.Filters.{question_seen}
-use Rattle.tn_explain.specs.Notes.{note_seen}
-use Rattle.tn_explain.specs.declared.note.NodeNote.{NodeNote}
+use Rattle.tn_explain.specs.Notes.{AreNotes}
+use Rattle.tn_explain.specs.declared.note.RunNotes.{RunNotes}
 use Rattle.tn_explain.specs.declared.request.ExplainOutcome.{ExplainOutcome}
 use Rattle.tn_moves.specs.Moves.{AreMoves, AreBadMoves}
 use Rattle.tn_moves.specs.declared.run.RunByMoves.{RunByMoves}
@@ -22,25 +21,27 @@ use Rattle.tn_moves.specs.declared.explanation.ExplainByMoves.{ExplainByMoves}
 use Rattle.tn_moves.specs.declared.explanation.MovesAccount.{MovesAccount}
 use Rattle.tn_moves.specs.declared.explanation.MovesAccount.TheVariants as account
 
--- the note of the program's run by these picks, where it is wanted, else none
-abbrev pub IsNoteWanted : Bool → Program → List ℕ → Option NodeNote → Type 0
-IsNoteWanted has_note p picks note = option_map note_seen note ≡ (if has_note then node_note p picks else None)
+-- the notes of the program's run by these picks, where they are wanted, else none
+abbrev pub AreNotesWanted : Bool → Program → List ℕ → Option RunNotes → Type 0
+AreNotesWanted true p picks None = ⊥
+AreNotesWanted true p picks (Some notes) = AreNotes p picks notes
+AreNotesWanted false p picks notes = notes ≡ None
 
--- the output and the note are those of the program's run by these picks
+-- the output and the notes are those of the program's run by these picks
 abbrev pub IsListedBy : Bool → Program → List ℕ → MovesEnd → List ℕ → Type 0
-IsListedBy has_note p picks (Listed note) output = (output ≡ program_output p picks) × IsNoteWanted has_note p picks note
-IsListedBy has_note p picks end output = ⊥
+IsListedBy has_notes p picks (Listed notes) output = (output ≡ program_output p picks) × AreNotesWanted has_notes p picks notes
+IsListedBy has_notes p picks end output = ⊥
 
--- the output and the note are those of the program's run by its moves
-pub record IsListedByMoves (job : RunByMoves) (p : Program) (note : Option NodeNote) (output : List ℕ) : Type 0 where
+-- the output and the notes are those of the program's run by its moves
+pub record IsListedByMoves (job : RunByMoves) (p : Program) (notes : Option RunNotes) (output : List ℕ) : Type 0 where
   pub picks : List ℕ
   pub given : AreMoves job.moves p picks
   pub listing : output ≡ program_output p picks
-  pub wanted : IsNoteWanted job.has_note p picks note
+  pub wanted : AreNotesWanted job.has_notes p picks notes
 
 -- what is written by each outcome: nothing where the moves are refused
 abbrev pub IsRunByMoves : RunByMoves → Program → MovesEnd → List ℕ → Type 0
-IsRunByMoves job p (Listed note) output = IsListedByMoves job p note output
+IsRunByMoves job p (Listed notes) output = IsListedByMoves job p notes output
 IsRunByMoves job p (Refused r) output = ⊥
 IsRunByMoves job p (BadMoves r) output = AreBadMoves job.moves p r × (output ≡ [])
 

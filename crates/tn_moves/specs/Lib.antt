@@ -1,5 +1,5 @@
 pub mod Directives
-pub mod PickLogs
+pub mod Drives
 pub mod Pieces
 pub mod Readings
 pub mod Moves

@@ -1,11 +1,9 @@
 // Which moves a run makes.
-ghost use Rattle.std.specs.Prelude.{map};
 ghost use Rattle.tn_program.specs.Views.{program_of};
-ghost use Rattle.tn_moves.specs.Directives.{directive_seen};
-ghost use Rattle.tn_moves.specs.Moves.{AreDirected, ArePicksMade};
+ghost use Rattle.tn_moves.specs.Moves.{ArePicksMade, IsCopyOf};
 
+use crate::course::picks_of_directives;
 use crate::directive::Directive;
-use crate::picks::picks_of_directives;
 use crate::text::{MovesFault, directives_of_text};
 use std::alloc::Allocator;
 use tn_program::Program;
@@ -22,17 +20,51 @@ pub enum Moves<'a> {
     Text(&'a [u8]),
 }
 
-/// The picks of these directives.
-fn directed_picks<A: Allocator + Copy>(
+impl Moves<'_> {
+    ghost use Rattle.std.specs.Prelude.{◌≡◌};
+    ghost use Rattle.tn_program.specs.Views.{program_of};
+    ghost use Rattle.tn_moves.specs.Moves.{AreItsDirectives, moves_limit};
+
+    /// How many picks may move.
+    pub(crate) fn limit(&self) -> u32
+        ensures { result ≡ moves_limit self.now }
+    {
+        match self {
+            Moves::Round(limit) => *limit,
+            Moves::ControlFirst(limit) => *limit,
+            Moves::Text(_) => JOURNAL as u32,
+        }
+    }
+
+    /// The directives whose picks they are, in a run of the program.
+    pub(crate) fn directives<A: Allocator + Copy>(
+        &self,
+        alloc: A,
+        program: &Program<A>,
+    ) -> Result<Vec<Directive, A>, MovesFault>
+        ensures { AreItsDirectives self.now (program_of program.now) result }
+    {
+        match self {
+            Moves::Round(_) => copy_of(alloc, &[Directive::Everybody]),
+            Moves::ControlFirst(_) => copy_of(
+                alloc,
+                &[Directive::UntilIdle(0), Directive::Everybody],
+            ),
+            Moves::Text(text) => directives_of_text(alloc, program, text),
+        }
+    }
+}
+
+/// A copy of directives.
+fn copy_of<A: Allocator>(
     alloc: A,
-    program: &Program<A>,
-    limit: u32,
     directives: &[Directive],
-) -> Result<Vec<u32, A>, MovesFault>
-    ensures { AreDirected (program_of program.now) limit (map directive_seen directives.now) result }
+) -> Result<Vec<Directive, A>, MovesFault>
+    ensures { IsCopyOf directives.now result }
 {
-    match picks_of_directives(alloc, program, limit, directives) {
-        Ok(picks) => Ok(picks),
+    let mut copy = Vec::new(alloc);
+    match copy.extend_from_slice(directives) {
+        Ok(()) => Ok(copy),
         Err(_) => Err(MovesFault::OutOfMemory),
     }
 }
@@ -49,15 +81,9 @@ pub fn picks_of_moves<A: Allocator + Copy>(
 ) -> Result<Vec<u32, A>, MovesFault>
     ensures { ArePicksMade moves.now (program_of program.now) result }
 {
-    match moves {
-        Moves::Round(limit) => directed_picks(alloc, program, *limit, &[Directive::Everybody]),
-        Moves::ControlFirst(limit) => {
-            let directives = [Directive::UntilIdle(0), Directive::Everybody];
-            directed_picks(alloc, program, *limit, &directives)
-        }
-        Moves::Text(text) => {
-            let directives = directives_of_text(alloc, program, text)?;
-            directed_picks(alloc, program, JOURNAL as u32, &directives)
-        }
+    let directives = moves.directives(alloc, program)?;
+    match picks_of_directives(alloc, program, moves.limit(), &directives) {
+        Ok(picks) => Ok(picks),
+        Err(_) => Err(MovesFault::OutOfMemory),
     }
 }

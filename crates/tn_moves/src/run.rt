@@ -1,72 +1,80 @@
-// A run by moves, with the note of what a running node does otherwise where it is wanted.
+// A run by moves, with the notes of it where they are wanted.
 ghost use Rattle.std.specs.Prelude.{◌<◌, IfOk, IsErrOf};
 ghost use Rattle.tn_program.specs.Views.{program_of};
 ghost use Rattle.tn_trace.specs.Transcripts.{listing_bytes};
+ghost use Rattle.tn_listing.specs.Outputs.{OnItsPicks};
 ghost use Rattle.tn_run.specs.Jobs.{GivesMore};
-ghost use Rattle.tn_moves.specs.Jobs.{IsListedBy, IsNoteWanted, IsRunByMoves, run_by_moves};
+ghost use Rattle.tn_moves.specs.Directives.{course_picks};
+ghost use Rattle.tn_moves.specs.Jobs.{AreNotesWanted, IsListedBy, IsRunByMoves, run_by_moves};
 
-use crate::moves::{Moves, picks_of_moves};
+use crate::course::Course;
+use crate::moves::Moves;
 use crate::text::{MovesFault, MovesRefusal};
+use crate::transcript::transcript_of_course;
 use std::alloc::{AllocError, Allocator};
-use tn_explain::{NodeNote, node_note};
-use tn_listing::{PicksFault, replay};
+use tn_explain::{RunNotes, notes_of};
+use tn_listing::{PicksFault, transcript_output};
 use tn_program::Program;
 use tn_run::{DirectJob, Job, Refusal, RunFault};
-use tn_trace::TranscriptFault;
+use tn_trace::{Transcript, TranscriptFault};
 
 /// A run by moves.
 #[derive(Clone, Copy)]
 pub struct RunByMoves<'a> {
     /// Which moves it makes.
     pub moves: Moves<'a>,
-    /// Whether its outcome has the note of what a running node does otherwise.
-    pub has_note: bool,
+    /// Whether its outcome has the notes of the run.
+    pub has_notes: bool,
 }
 
 /// What was written of a run by moves.
 #[derive(Clone, Copy, Debug, PartialEq, Eq, Drop)]
 pub enum MovesEnd {
-    /// The output of an accepted script, whose run has this note where one is wanted.
-    Listed(Option<NodeNote>),
+    /// The output of an accepted script, whose run has these notes where they are wanted.
+    Listed(Option<RunNotes>),
     /// The refusal's line.
     Refused(Refusal),
     /// Nothing: the text says no moves of the script.
     BadMoves(MovesRefusal),
 }
 
-/// The note of the program's run by these picks, where it is wanted.
-fn note_of<A: Allocator + Copy>(
+/// The notes of the run of this transcript, where they are wanted.
+fn notes_wanted<A: Allocator + Copy>(
     alloc: A,
     program: &Program<A>,
-    picks: &[u32],
-    has_note: bool,
-) -> Result<Option<NodeNote>, AllocError>
-    ensures { IfOk result (IsNoteWanted has_note (program_of program.now) picks.now) }
+    transcript: &Transcript<A>,
+    has_notes: bool,
+) -> Result<Option<RunNotes>, AllocError>
+    ensures { OnItsPicks program.now transcript.now (λ p picks. IfOk result (AreNotesWanted has_notes p picks)) }
 {
-    if !has_note {
+    if !has_notes {
         return Ok(None);
     }
-    node_note(alloc, program, picks)
+    Ok(Some(notes_of(alloc, program, transcript)?))
 }
 
-/// The output of the program's run by these picks, with the note where it is wanted, where its listings have at most so
-/// many bytes.
+/// The output of the program's run by directives, with the notes where they are wanted, where its listings have at most
+/// so many bytes.
 fn listing<A: Allocator + Copy>(
     alloc: A,
     program: &Program<A>,
-    picks: &[u32],
-    has_note: bool,
+    course: Course<'_>,
+    has_notes: bool,
     most: usize,
 ) -> Result<(MovesEnd, Vec<u8, A>), TranscriptFault>
-    ensures listed { IfOk result (λ r. IsListedBy has_note (program_of program.now) picks.now r.0 r.1.items) }
-    ensures long { IsErrOf result TranscriptFault.TooLong →
-        most < listing_bytes (program_of program.now) picks.now }
+    ensures listed { let p = program_of program.now in
+        IfOk result (λ r. IsListedBy has_notes p (course_picks p course.entry) r.0 r.1.items) }
+    ensures long { let p = program_of program.now in
+        IsErrOf result TranscriptFault.TooLong → most < listing_bytes p (course_picks p course.entry) }
 {
-    let output = replay(alloc, program, picks, most)?;
-    let Ok(note) = note_of(alloc, program, picks, has_note) else {
+    let transcript = transcript_of_course(alloc, program, course, most)?;
+    let Ok(notes) = notes_wanted(alloc, program, &transcript, has_notes) else {
         return Err(TranscriptFault::OutOfMemory);
     };
-    Ok((MovesEnd::Listed(note), output))
+    let Ok(output) = transcript_output(alloc, transcript, program) else {
+        return Err(TranscriptFault::OutOfMemory);
+    };
+    Ok((MovesEnd::Listed(notes), output))
 }
 
 /// What is written of the program's run by its moves, where its listings have at most so many bytes.
@@ -80,8 +88,14 @@ fn end_of<A: Allocator + Copy>(
     ensures long { IsErrOf result TranscriptFault.TooLong →
         GivesMore most (run_by_moves job.now) (program_of program.now) }
 {
-    match picks_of_moves(alloc, program, &job.moves) {
-        Ok(picks) => listing(alloc, program, &picks, job.has_note, most),
+    match job.moves.directives(alloc, program) {
+        Ok(directives) => {
+            let course = Course {
+                limit: job.moves.limit(),
+                directives: &directives,
+            };
+            listing(alloc, program, course, job.has_notes, most)
+        }
         Err(MovesFault::Refused(refusal)) => Ok((MovesEnd::BadMoves(refusal), Vec::new(alloc))),
         Err(MovesFault::OutOfMemory) => Err(TranscriptFault::OutOfMemory),
     }

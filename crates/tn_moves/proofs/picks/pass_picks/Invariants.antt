@@ -1,6 +1,0 @@
-use Rattle.std.proofs.Common.{◌≡◌, ◌-◌, ◌++◌, ◌∷◌, []}
-use Rattle.def_run.specs.Round.{pass_from}
-use Rattle.tn_moves.proofs.picks.pass_picks.Given as goal
-
-abbrev pub invariant-loop-pid : goal.invariant-loop-pid
-invariant-loop-pid g l = l.picks.items ≡ (0 ∷ []) ++ pass_from (l.pid - 100) 100
