@@ -12,5 +12,6 @@ pub mod ExprSteps
 pub mod Heads
 pub mod FunSteps
 pub mod FunRuns
-pub mod ComputedConstants
+pub mod ComputedValues
+pub mod Translations
 pub mod Spans

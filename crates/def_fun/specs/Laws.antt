@@ -1,15 +1,17 @@
 -- What is promised of funs (own).
 -- Depends on tokens, the grammar, reading and constants, and on def_spec's functions.
 use Rattle.std.specs.Prelude.{◌≡◌, ℕ, Bool, List, [], ◌∷◌, Some, None, Ok, take, drop}
-use Rattle.def_term.specs.Tree.{Tree}
+use Rattle.def_term.specs.Tree.{Tree, list, Trees, count, triple}
 use Rattle.def_spec.specs.Functions.{Func, apply}
-use Rattle.def_spec.specs.Expressions.{Dialect, Position}
+use Rattle.def_spec.specs.Expressions.{Dialect, for_calls, for_sends, for_receives, Position}
 use Rattle.def_spec.specs.Reading.{a_function, named_call}
 use Rattle.def_fun.specs.Operators.{FunOperator, operator_name}
 use Rattle.def_fun.specs.Constants.{gives, computed_between, computed_before}
 use Rattle.def_fun.specs.Tokens.{FunToken, FunSpan, FunTokens, IsFunToken, HasNoFunToken}
 use Rattle.def_fun.specs.Scan.{fun_token_at, fun_spans}
-use Rattle.def_fun.specs.Trees.{FunClause}
+use Rattle.def_fun.specs.Trees.{FunExpr, FunClause}
+use Rattle.def_fun.specs.Limits.{spec_clauses}
+use Rattle.def_fun.specs.Translation.{alternative_term, tree_of_fun}
 use Rattle.def_fun.specs.Grammar.{DerivesFun}
 use Rattle.def_fun.specs.Reading.{read_fun}
 
@@ -50,3 +52,21 @@ ComputedOfTwoIsApplied = (d : Dialect) (part : Position) (o : FunOperator) (f : 
 -- and so of one
 abbrev pub ComputedOfOneIsApplied : Type 0
 ComputedOfOneIsApplied = (d : Dialect) (part : Position) (o : FunOperator) (f : Func) (t v : Tree) (n : ℕ) → named_call d part (operator_name o) 1 ≡ Ok (a_function f) → computed_before o t ≡ gives v → apply f (t ∷ []) n ≡ Some v
+
+-- ---- translation
+
+-- the specification has a clause for each guard of a fun's clause, and one for a clause without guards
+abbrev pub ClausesAreCounted : Type 0
+ClausesAreCounted = (d : Dialect) (ks : List FunClause) (t : Tree) → tree_of_fun d ks ≡ Ok t → (ts : Trees) × (t ≡ list ts) × (count ts ≡ spec_clauses ks)
+
+-- the clauses of one of the fun's clauses have the same head and the same body
+abbrev pub HeadAndBodyAreShared : Type 0
+HeadAndBodyAreShared = (d : Dialect) (k : FunClause) (g f : List FunExpr) (t u : Tree) → alternative_term d k g ≡ Ok t → alternative_term d k f ≡ Ok u → (h : Tree) × (cs : Tree) × (ds : Tree) × (b : Tree) × (t ≡ triple h cs b) × (u ≡ triple h ds b)
+
+-- a fun that is translated for receives is so for sends, to the same term
+abbrev pub ReceivesAsSends : Type 0
+ReceivesAsSends = (ks : List FunClause) (t : Tree) → tree_of_fun for_receives ks ≡ Ok t → tree_of_fun for_sends ks ≡ Ok t
+
+-- and one that is translated for sends is so for calls
+abbrev pub SendsAsCalls : Type 0
+SendsAsCalls = (ks : List FunClause) (t : Tree) → tree_of_fun for_sends ks ≡ Ok t → tree_of_fun for_calls ks ≡ Ok t

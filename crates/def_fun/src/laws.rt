@@ -1,7 +1,8 @@
 // The laws of the definitions.
 ghost use Rattle.def_fun.specs.Laws.{FunTokensAreOne, FunTokensAreThere, FoundTokenIsThere, NoTokenIsThere};
 ghost use Rattle.def_fun.specs.Laws.{ListedTokensAre, ReadFunIsDerived};
-ghost use Rattle.def_fun.specs.Laws.{ComputedOfTwoIsApplied, ComputedOfOneIsApplied};
+ghost use Rattle.def_fun.specs.Laws.{ComputedOfTwoIsApplied, ComputedOfOneIsApplied, ClausesAreCounted};
+ghost use Rattle.def_fun.specs.Laws.{HeadAndBodyAreShared, ReceivesAsSends, SendsAsCalls};
 
 /// A text has one list of tokens.
 pub fn fun_tokens_are_determined()
@@ -26,4 +27,18 @@ pub fn a_fun_that_is_read_is_spelled()
 pub fn computed_constants_change_no_value()
     ensures two { ComputedOfTwoIsApplied }
     ensures one { ComputedOfOneIsApplied }
+{}
+
+/// The specification of a fun has a clause for each guard of each of its clauses, and one for a clause without
+/// guards; the clauses of one clause of the fun have the same head and the same body.
+pub fn each_guard_is_a_clause()
+    ensures counted { ClausesAreCounted }
+    ensures shared { HeadAndBodyAreShared }
+{}
+
+/// A fun that is translated for receives is translated to the same term for sends, and one for sends to the same
+/// term for calls.
+pub fn a_dialect_with_more_actions_changes_nothing()
+    ensures receives { ReceivesAsSends }
+    ensures sends { SendsAsCalls }
 {}

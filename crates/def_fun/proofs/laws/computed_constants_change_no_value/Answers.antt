@@ -1,4 +1,4 @@
-use Rattle.def_fun.proofs.ComputedConstants.{between_is_applied, before_is_applied}
+use Rattle.def_fun.proofs.ComputedValues.{between_is_applied, before_is_applied}
 use Rattle.def_fun.proofs.laws.computed_constants_change_no_value.Goals as goal
 
 pub returns : goal.returns
