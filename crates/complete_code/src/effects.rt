@@ -7,20 +7,6 @@ use std::alloc::{AllocError, Allocator};
 use tn_action::Effect;
 use tn_flags::Flags;
 
-/// `tn_verdict::put_pid` has one answer but for what stands there after refused memory: that is a part of it.
-pub fn put_pid<B: Allocator>(
-    pid: u32,
-    one: &mut Vec<u8, B>,
-    other: &mut Vec<u8, B>,
-) -> (Result<(), AllocError>, Result<(), AllocError>)
-    requires { one.old.items ≡ other.old.items }
-    ensures { OnOk result.0 (OnOk result.1 (one.new.items ≡ other.new.items)) }
-{
-    let first = tn_verdict::put_pid(pid, one);
-    let second = tn_verdict::put_pid(pid, other);
-    (first, second)
-}
-
 /// `tn_verdict::put_flags` has one answer but for what stands there after refused memory: that is a part of it.
 pub fn put_flags<B: Allocator>(
     verb: &'static [u8],

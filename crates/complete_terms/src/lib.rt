@@ -13,6 +13,7 @@ mod command;
 mod flags;
 mod mfa;
 mod reader;
+mod scan;
 mod shared_term;
 mod table;
 mod term;

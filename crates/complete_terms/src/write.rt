@@ -7,6 +7,7 @@ ghost use Rattle.def_text.specs.Writable.{is_writable};
 ghost use Rattle.tn_term.specs.Views.{tree_of};
 ghost use Rattle.complete_terms.specs.Answers.{ReadsAs};
 
+use itoa::Integer;
 use std::alloc::{AllocError, Allocator};
 use tn_term::{Atom, Term};
 use tn_text::{TextFault, read_term, write_atom, write_term};
@@ -56,4 +57,49 @@ pub fn atom<A: Allocator, B: Allocator>(
     ensures err { OnErr result.0 (OnErr result.1 (first.new.items ≡ second.new.items)) }
 {
     (write_atom(atom, first), write_atom(atom, second))
+}
+
+/// `tn_text::write_decimal` has one answer but for what is left after refused memory: that is a part of it.
+pub fn write_decimal<N: Integer, B: Allocator>(
+    number: N,
+    first: &mut Vec<u8, B>,
+    second: &mut Vec<u8, B>,
+) -> (Result<(), AllocError>, Result<(), AllocError>)
+    requires { first.old.items ≡ second.old.items }
+    ensures { OnOk result.0 (OnOk result.1 (first.new.items ≡ second.new.items)) }
+{
+    (
+        tn_text::write_decimal(number, first),
+        tn_text::write_decimal(number, second),
+    )
+}
+
+/// `tn_text::write_next` has one answer but for what is left after refused memory: that is a part of it.
+pub fn write_next<B: Allocator>(
+    number: usize,
+    first: &mut Vec<u8, B>,
+    second: &mut Vec<u8, B>,
+) -> (Result<(), AllocError>, Result<(), AllocError>)
+    requires { first.old.items ≡ second.old.items }
+    ensures { OnOk result.0 (OnOk result.1 (first.new.items ≡ second.new.items)) }
+{
+    (
+        tn_text::write_next(number, first),
+        tn_text::write_next(number, second),
+    )
+}
+
+/// `tn_text::write_pid` has one answer but for what is left after refused memory: that is a part of it.
+pub fn write_pid<B: Allocator>(
+    pid: u32,
+    first: &mut Vec<u8, B>,
+    second: &mut Vec<u8, B>,
+) -> (Result<(), AllocError>, Result<(), AllocError>)
+    requires { first.old.items ≡ second.old.items }
+    ensures { OnOk result.0 (OnOk result.1 (first.new.items ≡ second.new.items)) }
+{
+    (
+        tn_text::write_pid(pid, first),
+        tn_text::write_pid(pid, second),
+    )
 }

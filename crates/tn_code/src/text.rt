@@ -5,11 +5,10 @@ ghost use Rattle.tn_text.specs.Writes.{Grows};
 use crate::code::Code;
 use crate::instr::{Instr, Kind, OnFault};
 use crate::names::{action_name, dialect_name, func_name, instr_name};
-use itoa::Buffer;
 use std::alloc::{AllocError, Allocator};
 use tn_spec::{Action, Dialect, Func};
 use tn_term::Term;
-use tn_text::write_term;
+use tn_text::{write_decimal, write_term};
 
 /// Appends a line for each instruction: its place from 0, what it does, and its operands. `r4` is register
 /// 4, and after `else` stands the place where it goes on. After an `Err` the vector is as it was.
@@ -36,7 +35,7 @@ fn put_code<A: Allocator, B: Allocator>(
     ensures { Grows out.old.items out.new.items }
 {
     for place in 0..items.len() {
-        put_number(place, out)?;
+        write_decimal(place, out)?;
         put_instr(&items[place], out)?;
         put_text("\n", out)?;
     }
@@ -50,20 +49,12 @@ fn put_text<B: Allocator>(text: &str, out: &mut Vec<u8, B>) -> Result<(), AllocE
     out.extend_from_slice(text.as_bytes())
 }
 
-/// Appends the digits of a number.
-fn put_number<B: Allocator>(number: usize, out: &mut Vec<u8, B>) -> Result<(), AllocError>
-    ensures { Grows out.old.items out.new.items }
-{
-    let mut buffer = Buffer::new();
-    out.extend_from_slice(buffer.format(number).as_bytes())
-}
-
 /// Appends a blank and a number.
 fn put_operand<B: Allocator>(number: usize, out: &mut Vec<u8, B>) -> Result<(), AllocError>
     ensures { Grows out.old.items out.new.items }
 {
     put_text(" ", out)?;
-    put_number(number, out)
+    write_decimal(number, out)
 }
 
 /// Appends a register.
@@ -71,7 +62,7 @@ fn put_register<B: Allocator>(register: usize, out: &mut Vec<u8, B>) -> Result<(
     ensures { Grows out.old.items out.new.items }
 {
     put_text(" r", out)?;
-    put_number(register, out)
+    write_decimal(register, out)
 }
 
 /// Appends some registers.
@@ -89,7 +80,7 @@ fn put_place<B: Allocator>(place: usize, out: &mut Vec<u8, B>) -> Result<(), All
     ensures { Grows out.old.items out.new.items }
 {
     put_text(" else ", out)?;
-    put_number(place, out)
+    write_decimal(place, out)
 }
 
 /// Appends where a fault goes on.

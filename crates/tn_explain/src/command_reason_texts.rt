@@ -20,13 +20,12 @@ ghost use Rattle.tn_explain.specs.NearestFunctions.{lent_function};
 ghost use Rattle.tn_reason.specs.SpecReasons.{spec_reason_seen};
 
 use crate::command_reasons::CommandReason;
-use itoa::Buffer;
 use std::alloc::{AllocError, Allocator};
 use tn_reason::{ClauseReason, ExpressionReason, SpecReason};
 use tn_script::Function;
 use tn_term::{Atom, Term};
-use tn_text::{write_atom, write_term};
-use tn_verdict::{put_pid, put_setting_reason};
+use tn_text::{write_atom, write_decimal, write_pid, write_term};
+use tn_verdict::put_setting_reason;
 
 /// Appends what should stand there, and what there is in its place.
 fn put_found<A: Allocator, B: Allocator>(
@@ -70,7 +69,7 @@ fn put_not_alive<B: Allocator>(pid: u32, out: &mut Vec<u8, B>) -> Result<(), All
     ensures ok { OnOk result (out.new.items ≡ out.old.items ++ not_alive_text pid) }
     ensures grows { Grows out.old.items out.new.items }
 {
-    put_pid(pid, out)?;
+    write_pid(pid, out)?;
     out.extend_from_slice(b" isn't alive")?;
     Ok(())
 }
@@ -87,7 +86,7 @@ fn put_function<A: Allocator, B: Allocator>(
     out.push(b':')?;
     write_atom(&function.name, out)?;
     out.push(b'/')?;
-    out.extend_from_slice(Buffer::new().format(function.params.len()).as_bytes())
+    write_decimal(function.params.len(), out)
 }
 
 /// Appends that a function was probably meant.

@@ -14,7 +14,8 @@ use crate::line::{Lines, begin};
 use std::alloc::{AllocError, Allocator};
 use tn_flags::{Event, Flags};
 use tn_session::{Kind, Look};
-use tn_verdict::{put_flags, put_pid};
+use tn_text::write_pid;
+use tn_verdict::put_flags;
 
 /// The mark that the frame of a call gets, if it gets one.
 fn mark_by(evaluation: Evaluation) -> Option<Kind>
@@ -61,7 +62,7 @@ impl<A: Allocator + Copy> Lines<'_, A> {
             return Ok(());
         }
         begin(self.name, out)?;
-        put_pid(pid, out)?;
+        write_pid(pid, out)?;
         out.extend_from_slice(text)?;
         out.push(b'\n')?;
         Ok(())

@@ -4,11 +4,11 @@ ghost use Rattle.tn_text.specs.Writes.{Grows};
 
 use crate::item_text::{put_command, put_event};
 use crate::selection::Selection;
-use itoa::Buffer;
 use std::alloc::{AllocError, Allocator};
 use tn_flags::{Command, Event};
 use tn_node::Outlook;
 use tn_term::Atom;
+use tn_text::write_decimal;
 
 /// A move that is written of: its number from 1, its pick, what is known of its step before it, and what is selected of
 /// the run.
@@ -25,10 +25,9 @@ fn put_numbers<B: Allocator>(number: u64, pick: u32, out: &mut Vec<u8, B>) -> Re
     ensures ok { OnOk result (out.new.items ≡ out.old.items ++ (decimal number ++ 32 ∷ decimal pick)) }
     ensures grows { Grows out.old.items out.new.items }
 {
-    let mut buffer = Buffer::new();
-    out.extend_from_slice(buffer.format(number).as_bytes())?;
+    write_decimal(number, out)?;
     out.push(b' ')?;
-    out.extend_from_slice(buffer.format(pick).as_bytes())
+    write_decimal(pick, out)
 }
 
 impl Step<'_> {

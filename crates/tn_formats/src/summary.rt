@@ -13,17 +13,8 @@ use crate::load::{Load, load_of};
 use crate::longest::{NumberedLine, longest};
 use crate::picks::journal_length;
 use crate::section::{is_section_head, line_count};
-use itoa::Buffer;
 use std::alloc::{AllocError, Allocator};
-
-/// Appends a number.
-fn put_number<A: Allocator>(number: usize, out: &mut Vec<u8, A>) -> Result<(), AllocError>
-    ensures { OnOk result (out.new.items ≡ out.old.items ++ decimal number) }
-{
-    let mut buffer = Buffer::new();
-    out.extend_from_slice(buffer.format(number).as_bytes())?;
-    Ok(())
-}
+use tn_text::write_decimal;
 
 /// Appends the line of a load.
 fn put_load<A: Allocator>(label: &[u8], load: Load, out: &mut Vec<u8, A>) -> Result<(), AllocError>
@@ -31,9 +22,9 @@ fn put_load<A: Allocator>(label: &[u8], load: Load, out: &mut Vec<u8, A>) -> Res
 {
     out.extend_from_slice(label)?;
     out.extend_from_slice(b": messages ")?;
-    put_number(load.messages, out)?;
+    write_decimal(load.messages, out)?;
     out.extend_from_slice(b", bytes ")?;
-    put_number(load.bytes, out)?;
+    write_decimal(load.bytes, out)?;
     out.push(b'\n')?;
     Ok(())
 }
@@ -99,9 +90,9 @@ fn put_longest<A: Allocator>(
         return Ok(());
     }
     out.extend_from_slice(b"greatest: bytes ")?;
-    put_number(line.len(), out)?;
+    write_decimal(line.len(), out)?;
     out.extend_from_slice(b", line ")?;
-    put_number(number, out)?;
+    write_decimal(number, out)?;
     out.extend_from_slice(b", ")?;
     out.extend_from_slice(line)?;
     out.push(b'\n')?;
@@ -127,7 +118,7 @@ fn put_replies<A: Allocator>(text: &[u8], out: &mut Vec<u8, A>) -> Result<(), Al
         ++ codes "== run\ncommands: " ++ decimal (length (section_lines text.now)) ++ 10 ∷ []) }
 {
     out.extend_from_slice(b"== run\ncommands: ")?;
-    put_number(line_count(text), out)?;
+    write_decimal(line_count(text), out)?;
     out.push(b'\n')?;
     Ok(())
 }
@@ -149,7 +140,7 @@ fn put_section<A: Allocator>(
         Section::Replies => put_replies(text, out),
         Section::Journal => {
             out.extend_from_slice(b"moves: ")?;
-            put_number(journal_length(text), out)?;
+            write_decimal(journal_length(text), out)?;
             out.push(b'\n')?;
             Ok(())
         }

@@ -1,23 +1,15 @@
 // Texts with numbers in them, and texts inside an element of XML.
-ghost use Rattle.std.specs.Prelude.{◌≡◌, ◌++◌, OnOk, decimal};
+ghost use Rattle.std.specs.Prelude.{◌≡◌, ◌++◌, OnOk};
 ghost use Rattle.def_picture.specs.Templates.{fill, xml_byte, xml_text};
 
-use itoa::Buffer;
 use std::alloc::{AllocError, Allocator};
+use tn_text::write_decimal;
 
 /// Appends a text.
 pub(crate) fn put_text<A: Allocator>(text: &[u8], out: &mut Vec<u8, A>) -> Result<(), AllocError>
     ensures { OnOk result (out.new.items ≡ out.old.items ++ text.now) }
 {
     out.extend_from_slice(text)
-}
-
-/// Appends a number.
-pub(crate) fn put_number<A: Allocator>(number: u128, out: &mut Vec<u8, A>) -> Result<(), AllocError>
-    ensures { OnOk result (out.new.items ≡ out.old.items ++ decimal number) }
-{
-    let mut buffer = Buffer::new();
-    out.extend_from_slice(buffer.format(number).as_bytes())
 }
 
 /// Appends a template with each `@` replaced by the next number. The numbers are of 128 bits, so that no place in a
@@ -33,7 +25,7 @@ pub(crate) fn put_filled<A: Allocator>(
     let mut next = 0;
     for byte in template {
         if *byte == b'@' && next < numbers.len() {
-            put_number(numbers[next], out)?;
+            write_decimal(numbers[next], out)?;
             next += 1;
         } else {
             out.push(*byte)?;

@@ -35,31 +35,6 @@ pub fn begins_with_digit(bytes: &[u8]) -> bool {
     }
 }
 
-/// Whether the byte may stand in a name.
-fn is_name_byte(b: u8) -> bool {
-    b.is_ascii_alphanumeric() || b == b'_' || b == b'@'
-}
-
-/// How many bytes at the front may stand in a name.
-pub fn name_len(bytes: &[u8]) -> usize {
-    for (i, b) in bytes.iter().enumerate() {
-        if !is_name_byte(*b) {
-            return i;
-        }
-    }
-    bytes.len()
-}
-
-/// How many digits stand at the front.
-pub fn digits_len(bytes: &[u8]) -> usize {
-    for (i, b) in bytes.iter().enumerate() {
-        if !b.is_ascii_digit() {
-            return i;
-        }
-    }
-    bytes.len()
-}
-
 /// How many digits stand at the end.
 pub fn last_digits_len(bytes: &[u8]) -> usize {
     let mut len = 0usize;
@@ -71,27 +46,6 @@ pub fn last_digits_len(bytes: &[u8]) -> usize {
         };
     }
     len
-}
-
-/// How many bytes there are up to the quote that closes, and with it; none where a byte or an escape before
-/// it isn't allowed, or none closes. The opening quote stands before these bytes.
-pub fn quoted_len(bytes: &[u8], quote: u8) -> Option<usize> {
-    let mut escaped = false;
-    for (i, b) in bytes.iter().enumerate() {
-        if escaped {
-            if *b != quote && *b != b'\\' {
-                return None;
-            }
-            escaped = false;
-        } else if *b == quote {
-            return Some(i + 1);
-        } else if *b == b'\\' {
-            escaped = true;
-        } else if *b < 32 || 126 < *b {
-            return None;
-        }
-    }
-    None
 }
 
 /// How many characters stand between two quotes, of the bytes with both.

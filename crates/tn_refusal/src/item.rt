@@ -1,11 +1,8 @@
 // What stands at a place of a text.
-use crate::bytes::{
-    begins_with_digit, byte_at, digits_len, first_bytes, last_digits_len, name_len, quoted_len,
-    rest_at,
-};
+use crate::bytes::{begins_with_digit, byte_at, first_bytes, last_digits_len, rest_at};
 use crate::put::Detail;
 use std::alloc::{AllocError, Allocator};
-use tn_text::{TextFault, tokens};
+use tn_text::{TextFault, digits_len, name_len, quoted_len, tokens};
 
 /// What it is.
 #[derive(Clone, Copy, PartialEq, Eq)]

@@ -1,9 +1,9 @@
 // What breaks the rule on a text of picks: refusal 20.
-use crate::bytes::{digits_len, first_bytes, rest_at};
+use crate::bytes::{first_bytes, rest_at};
 use crate::put::Detail;
 use std::alloc::Allocator;
 use std::str::from_utf8;
-use tn_text::MAX_TEXT;
+use tn_text::{MAX_TEXT, digits_len};
 
 /// The bytes between two offsets.
 fn between(text: &[u8], from: usize, to: usize) -> &[u8] {

@@ -1,6 +1,6 @@
 // Going through the bytes of a text, past full stops or past commas.
 ghost use Rattle.std.specs.Prelude.{◌≡◌, ◌≤◌, ◌<◌, ◌+◌, List, length, drop, true, false};
-ghost use Rattle.def_text.specs.Tokens.{is_blank, ends_form, gap_len as gap_len_of, TokenSpan};
+ghost use Rattle.def_text.specs.Tokens.{gap_len as gap_len_of, TokenSpan};
 ghost use Rattle.def_text.specs.Spelling.{offset_of};
 ghost use Rattle.def_text.specs.Forms.{after_stops};
 ghost use Rattle.def_refusal.specs.ItemStarts.{depth_after, is_opener, in_bracket, tokens_past_commas};
@@ -8,6 +8,8 @@ ghost use Rattle.tn_refusal.specs.declared.skim.Zone.TheVariants.{Code};
 ghost use Rattle.tn_refusal.specs.declared.skim.Aim.TheVariants.{Stops};
 ghost use Rattle.tn_refusal.specs.Skims.{zone_after, sign_of_byte, sign_in, role_of_sign, left_after, offset_past};
 ghost use Rattle.tn_refusal.specs.Skims.{IsIdle, AreAhead};
+
+use tn_text::{ends_form, gap_len};
 
 /// Where a byte of a text stands: in a token without quotes or between tokens, in a comment, or between quotes, there
 /// after a backslash or not.
@@ -66,23 +68,6 @@ fn zone_after(zone: Zone, b: u8) -> Zone
         }
         Zone::Escaped { quote } => Zone::Quoted { quote },
     }
-}
-
-/// Whether the byte is a blank.
-fn is_blank_byte(b: u8) -> bool
-    ensures { result ≡ is_blank b }
-{
-    b == b' ' || b == b'\t' || b == b'\n' || b == b'\r'
-}
-
-/// Whether a dot before these bytes is a full stop.
-fn ends_form(rest: &[u8]) -> bool
-    ensures { result ≡ ends_form rest.now }
-{
-    if rest.is_empty() {
-        return true;
-    }
-    is_blank_byte(rest[0]) || rest[0] == b'%'
 }
 
 /// What a byte outside of quotes and comments does, before these.
@@ -181,24 +166,6 @@ fn offset_past(text: &[u8], from: usize, aim: Aim, count: usize) -> usize
         }
     }
     text.len()
-}
-
-/// How many bytes of blanks and comments stand at the front.
-fn gap_len(bytes: &[u8]) -> usize
-    ensures value { result ≡ gap_len_of false bytes.now }
-    ensures fits { result ≤ length bytes.now }
-{
-    let mut inside = false;
-    for (i, b) in bytes.iter().enumerate() {
-        if inside {
-            inside = *b != b'\n';
-        } else if *b == b'%' {
-            inside = true;
-        } else if !is_blank_byte(*b) {
-            return i;
-        }
-    }
-    bytes.len()
 }
 
 /// The full stops of a text of tokens: how many there are, and the offset after the last of them, which is 0 where

@@ -4,16 +4,16 @@ ghost use Rattle.tn_refusal.specs.Locations.{mark_text};
 ghost use Rattle.tn_remark.specs.TextLines.{command_mark, text_line, line_of_text, lines_of_texts};
 ghost use Rattle.tn_remark.specs.TextLines.{text_seen, texts_seen};
 
-use itoa::Buffer;
 use std::alloc::{AllocError, Allocator};
 use tn_refusal::line_column_of;
+use tn_text::write_decimal;
 
 /// Appends a colon and a number.
-fn put_number<A: Allocator>(number: usize, out: &mut Vec<u8, A>) -> Result<(), AllocError>
+fn put_after_colon<A: Allocator>(number: usize, out: &mut Vec<u8, A>) -> Result<(), AllocError>
     ensures { OnOk result (out.new.items ≡ out.old.items ++ codes ":" ++ decimal number) }
 {
     out.extend_from_slice(b":")?;
-    out.extend_from_slice(Buffer::new().format(number).as_bytes())
+    write_decimal(number, out)
 }
 
 /// Appends the name of a script and the place of an offset of its text.
@@ -29,8 +29,8 @@ fn put_place<A: Allocator>(
 {
     let place = line_column_of(text, start);
     out.extend_from_slice(name.as_bytes())?;
-    put_number(place.line, out)?;
-    put_number(place.column, out)
+    put_after_colon(place.line, out)?;
+    put_after_colon(place.column, out)
 }
 
 /// Appends the name of a script and where a command begins in its text; the name alone where that isn't known.
@@ -64,7 +64,7 @@ fn put_line<A: Allocator>(
 {
     put_mark(name, text, start, out)?;
     out.extend_from_slice(b"command ")?;
-    out.extend_from_slice(Buffer::new().format(number).as_bytes())?;
+    write_decimal(number, out)?;
     out.extend_from_slice(b" ")?;
     out.extend_from_slice(said)?;
     out.extend_from_slice(b"\n")

@@ -15,7 +15,7 @@ use std::alloc::{AllocError, Allocator};
 use tn_flags::{Class, Event};
 use tn_guard::{Value, write_value};
 use tn_term::{Mfa, SharedTerm, Term};
-use tn_text::{write_atom, write_term};
+use tn_text::{write_atom, write_pid, write_term};
 
 /// Appends the text of an event's elements, after a brace and with a comma between any two; a call's
 /// names the arity alone where `short`.
@@ -171,15 +171,6 @@ fn put_pid<B: Allocator>(pid: u32, out: &mut Vec<u8, B>) -> Result<(), AllocErro
 {
     out.push(b',')?;
     write_pid(pid, out)?;
-    Ok(())
-}
-
-/// Appends the pid.
-fn write_pid<B: Allocator>(pid: u32, out: &mut Vec<u8, B>) -> Result<(), AllocError>
-    ensures ok { OnOk result (out.new.items ≡ out.old.items ++ w (pid_tree pid)) }
-    ensures grows { Grows out.old.items out.new.items }
-{
-    write_term(&Term::<B>::Pid(pid), out)?;
     Ok(())
 }
 

@@ -1,10 +1,9 @@
 //! The text of terms, read and written.
 //!
-//! Depends on `def_text` (tokens, grammar, limits, refusals) and `tn_term`. Promises: `tokens` gives
-//! exactly the tokens of a text; `read_term` and `read_terms` answer what the text spells, or its
-//! refusal with its place; `write_term` and `write_atom` append the one written text of a term and of an
-//! atom; a `WrittenTerm` is a term beside that text, with several owners; a `Watched` reader or writer
-//! remembers whether a call of it failed.
+//! Depends on `def_text` and `tn_term`. Promises: `tokens` gives exactly the tokens of a text, and `gap_len` and the
+//! like give lengths of its parts; `read_term` and `read_terms` answer what the text spells, or its refusal with its
+//! place; `write_term` and the like append one text; a `WrittenTerm` is a term beside its text, with several owners; a
+//! `Watched` reader or writer remembers whether a call failed.
 #![tactic(auto)]
 
 mod fault;
@@ -23,7 +22,7 @@ mod written_term;
 pub use fault::TextFault;
 pub use lexer::{MAX_TEXT, Token, tokens};
 pub use reader::{read_term, read_terms};
-pub use scan::Kind;
+pub use scan::{Kind, digits_len, ends_form, gap_len, is_blank, name_len, quoted_len};
 pub use watched::Watched;
-pub use write::{write_atom, write_term};
+pub use write::{write_atom, write_decimal, write_next, write_pid, write_term};
 pub use written_term::WrittenTerm;

@@ -24,14 +24,15 @@ pub enum Kind {
     Pid,
 }
 
-/// Whether the byte is a blank.
-fn is_blank_byte(b: u8) -> bool
+/// Whether the byte is a blank: a space, a tab, a line feed or a carriage return.
+pub fn is_blank(b: u8) -> bool
     ensures { result ≡ is_blank b }
 {
     b == b' ' || b == b'\t' || b == b'\n' || b == b'\r'
 }
 
-/// How many bytes of blanks and comments stand at the front.
+/// How many bytes of blanks and comments there are before the first token. A comment is `%` and all bytes up to a line
+/// feed or the end.
 pub fn gap_len(bytes: &[u8]) -> usize
     ensures value { result ≡ gap_len_of false bytes.now }
     ensures fits { result ≤ length bytes.now }
@@ -42,15 +43,15 @@ pub fn gap_len(bytes: &[u8]) -> usize
             inside = *b != b'\n';
         } else if *b == b'%' {
             inside = true;
-        } else if !is_blank_byte(*b) {
+        } else if !is_blank(*b) {
             return i;
         }
     }
     bytes.len()
 }
 
-/// How many digits stand at the front.
-fn digits_len(bytes: &[u8]) -> usize
+/// How many digits the bytes begin with.
+pub fn digits_len(bytes: &[u8]) -> usize
     ensures value { result ≡ run_len is_digit bytes.now }
     ensures fits { result ≤ length bytes.now }
 {
@@ -62,8 +63,8 @@ fn digits_len(bytes: &[u8]) -> usize
     bytes.len()
 }
 
-/// How many bytes at the front may go on a bare atom.
-fn name_len(bytes: &[u8]) -> usize
+/// How many bytes of a name the bytes begin with: letters, digits, `_` and `@`.
+pub fn name_len(bytes: &[u8]) -> usize
     ensures value { result ≡ run_len is_name_byte bytes.now }
     ensures fits { result ≤ length bytes.now }
 {
@@ -85,8 +86,9 @@ fn is_reserved_word(bytes: &[u8]) -> bool
     }
 }
 
-// The length up to the closing quote and with it. The opening quote stands before these bytes.
-fn quoted_len(bytes: &[u8], quote: u8) -> Option<usize>
+/// How many bytes there are up to the quote that closes, and with it; the opening quote is before these bytes. None
+/// where no quote closes, or a byte before it isn't printable or is escaped without need.
+pub fn quoted_len(bytes: &[u8], quote: u8) -> Option<usize>
     ensures value { result ≡ quoted_end quote false 0 bytes.now }
     ensures fits { IfSome result (λ n. n ≤ length bytes.now) }
 {
@@ -128,13 +130,13 @@ fn pid_len(bytes: &[u8]) -> Option<usize>
     Some(n + 5)
 }
 
-/// Whether a form may end before these bytes.
-fn ends(bytes: &[u8]) -> bool
+/// Whether a dot before these bytes is a full stop: a blank, a comment or nothing comes after it.
+pub fn ends_form(bytes: &[u8]) -> bool
     ensures { result ≡ ends_form bytes.now }
 {
     match bytes {
         [] => true,
-        [b, ..] => is_blank_byte(*b) || *b == b'%',
+        [b, ..] => is_blank(*b) || *b == b'%',
     }
 }
 
@@ -178,7 +180,7 @@ fn longer(bytes: &[u8]) -> Option<(Kind, usize)>
     };
     let b = *first;
     if b == b'.' {
-        return if ends(rest) {
+        return if ends_form(rest) {
             Some((Kind::Stop, 1))
         } else {
             None

@@ -1,12 +1,11 @@
 // Writing terms.
-ghost use Rattle.std.specs.Prelude.{◌≡◌, ◌++◌, ◌∷◌, [], OnOk, OnErr, flat_map, codes, decimal};
-ghost use Rattle.std.specs.Fmt.{signed_decimal};
+ghost use Rattle.std.specs.Prelude.{◌≡◌, ◌++◌, ◌∷◌, [], OnOk, OnErr, flat_map, codes, suc, decimal};
 ghost use Rattle.def_term.specs.Text.{w, comma_list, atom_text, pid_text, escape};
 ghost use Rattle.tn_term.specs.Views.{tree_of, trees_of};
 ghost use Rattle.tn_text.specs.Writes.{Grows, enclose};
 
 use crate::name::is_bare;
-use itoa::Buffer;
+use itoa::{Buffer, Integer};
 use std::alloc::{AllocError, Allocator};
 use tn_term::{Atom, Term};
 
@@ -52,9 +51,9 @@ fn put<A: Allocator, B: Allocator>(term: &Term<A>, out: &mut Vec<u8, B>) -> Resu
     ensures grows { Grows out.old.items out.new.items }
 {
     match term {
-        Term::Int(n) => put_integer(*n, out),
+        Term::Int(n) => write_decimal(*n, out),
         Term::Atom(a) => put_atom(a.text(), out),
-        Term::Pid(n) => put_pid(*n, out),
+        Term::Pid(pid) => write_pid(*pid, out),
         Term::Tuple(v) => put_enclosed(b'{', v, b'}', out),
         Term::List(v) => put_enclosed(b'[', v, b']', out),
     }
@@ -96,23 +95,33 @@ fn put_all<A: Allocator, B: Allocator>(
     Ok(())
 }
 
-/// Appends the digits of an integer.
-fn put_integer<B: Allocator>(n: i64, out: &mut Vec<u8, B>) -> Result<(), AllocError>
-    ensures ok { OnOk result (out.new.items ≡ out.old.items ++ signed_decimal n) }
+/// Appends the digits of a number, after a minus where it is negative; after an `Err` a part of them may be there.
+pub fn write_decimal<N: Integer, B: Allocator>(
+    number: N,
+    out: &mut Vec<u8, B>,
+) -> Result<(), AllocError>
+    ensures ok { OnOk result (out.new.items ≡ out.old.items ++ N.text number) }
     ensures grows { Grows out.old.items out.new.items }
 {
     let mut buffer = Buffer::new();
-    out.extend_from_slice(buffer.format(n).as_bytes())
+    out.extend_from_slice(buffer.format(number).as_bytes())
 }
 
-/// Appends the text of a pid.
-fn put_pid<B: Allocator>(n: u32, out: &mut Vec<u8, B>) -> Result<(), AllocError>
-    ensures ok { OnOk result (out.new.items ≡ out.old.items ++ pid_text n) }
+/// Appends the number after this one; after an `Err` a part of its digits may be there.
+pub fn write_next<B: Allocator>(number: usize, out: &mut Vec<u8, B>) -> Result<(), AllocError>
+    ensures ok { OnOk result (out.new.items ≡ out.old.items ++ decimal (suc number)) }
     ensures grows { Grows out.old.items out.new.items }
 {
-    let mut buffer = Buffer::new();
+    write_decimal(number as u128 + 1, out)
+}
+
+/// Appends the text of a pid, `<0.N.0>`; after an `Err` a part of it may be there.
+pub fn write_pid<B: Allocator>(pid: u32, out: &mut Vec<u8, B>) -> Result<(), AllocError>
+    ensures ok { OnOk result (out.new.items ≡ out.old.items ++ pid_text pid) }
+    ensures grows { Grows out.old.items out.new.items }
+{
     out.extend_from_slice(b"<0.")?;
-    out.extend_from_slice(buffer.format(n).as_bytes())?;
+    write_decimal(pid, out)?;
     out.extend_from_slice(b".0>")
 }
 

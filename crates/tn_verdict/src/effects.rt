@@ -1,6 +1,5 @@
 // The texts of effects.
 ghost use Rattle.std.specs.Prelude.{◌≡◌, ◌++◌, ℕ, List, OnOk, map};
-ghost use Rattle.def_term.specs.Text.{pid_text};
 ghost use Rattle.def_spec.specs.Expressions.{changes};
 ghost use Rattle.def_spec.specs.Flags.{flags_by_name};
 ghost use Rattle.def_explain.specs.Texts.{silent_text, effect_text, effects_text, said_of_each};
@@ -13,16 +12,7 @@ use std::alloc::{AllocError, Allocator};
 use tn_action::Effect;
 use tn_flags::Flags;
 use tn_guard::write_value;
-use tn_term::Term;
-use tn_text::write_term;
-
-/// Appends the text of a pid. After an `Err` a part of it may stand there.
-pub fn put_pid<B: Allocator>(pid: u32, out: &mut Vec<u8, B>) -> Result<(), AllocError>
-    ensures ok { OnOk result (out.new.items ≡ out.old.items ++ pid_text pid) }
-    ensures grows { Grows out.old.items out.new.items }
-{
-    write_term(&Term::<B>::Pid(pid), out)
-}
+use tn_text::write_pid;
 
 /// The written names of the flags, and whether each is in the set.
 #[tactic(auto, unfolding(def_term::specs::Text::is_written_bare))]
@@ -93,7 +83,7 @@ fn put_change<B: Allocator>(
     ensures ok { OnOk result (out.new.items ≡ out.old.items ++ effect_text (changes pid (flags_of off) (flags_of on))) }
     ensures grows { Grows out.old.items out.new.items }
 {
-    put_pid(pid, out)?;
+    write_pid(pid, out)?;
     let len = out.len();
     put_flags(b" loses ", off, out)?;
     put_flags(b" gets ", on, out)?;

@@ -8,11 +8,10 @@ ghost use Rattle.tn_text.specs.Writes.{Grows};
 ghost use Rattle.tn_verdict.specs.ExpressionTexts.{joined_texts, after_commas, spelled_after, variable_name};
 
 use crate::names::{action_text, function_text};
-use itoa::Buffer;
 use std::alloc::{AllocError, Allocator};
 use tn_spec::{AtomKind, Expr, kind_of};
 use tn_term::Term;
-use tn_text::write_term;
+use tn_text::{write_decimal, write_term};
 
 /// Appends the text of the term that spells an expression. After an `Err` a part of it may stand there.
 #[cycle(put)]
@@ -121,9 +120,8 @@ pub fn put_variable<B: Allocator>(number: u16, out: &mut Vec<u8, B>) -> Result<(
     ensures ok { OnOk result (out.new.items ≡ out.old.items ++ atom_text (variable_name number)) }
     ensures grows { Grows out.old.items out.new.items }
 {
-    let mut buffer = Buffer::new();
     out.extend_from_slice(b"'$")?;
-    out.extend_from_slice(buffer.format(number).as_bytes())?;
+    write_decimal(number, out)?;
     out.push(b'\'')?;
     Ok(())
 }

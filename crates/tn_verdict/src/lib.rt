@@ -22,7 +22,7 @@ mod spec_test;
 mod spec_test_input;
 
 pub use clauses::verdict;
-pub use effects::{put_effects, put_flags, put_pid};
+pub use effects::{put_effects, put_flags};
 pub use no_specification::no_specification_text;
 pub use reason::{ConditionReason, HeadReason, Reason, Verdict};
 pub use reason_text::put_reason;

@@ -6,12 +6,10 @@ ghost use Rattle.tn_text.specs.Writes.{Grows};
 ghost use Rattle.tn_verdict.specs.MismatchTexts.{level_text};
 
 use crate::expression_text::put_variable;
-use crate::reason_text::put_number;
-use itoa::Buffer;
 use std::alloc::{AllocError, Allocator};
 use tn_guard::write_value;
 use tn_mismatch::{HeadPart, Mismatch};
-use tn_text::write_term;
+use tn_text::{write_decimal, write_next, write_term};
 
 /// Appends the place, what the head has there, and the term.
 pub fn put_mismatch<A: Allocator, B: Allocator>(
@@ -45,7 +43,7 @@ fn put_element<B: Allocator>(before: usize, out: &mut Vec<u8, B>) -> Result<(), 
     ensures grows { Grows out.old.items out.new.items }
 {
     out.extend_from_slice(b", element ")?;
-    put_number(before, out)
+    write_next(before, out)
 }
 
 /// Appends what a head has at a place.
@@ -76,8 +74,7 @@ fn put_size<B: Allocator>(thing: &[u8], size: usize, out: &mut Vec<u8, B>) -> Re
     ensures ok { OnOk result (out.new.items ≡ out.old.items ++ (thing.now ++ (decimal size ++ codes " expected"))) }
     ensures grows { Grows out.old.items out.new.items }
 {
-    let mut buffer = Buffer::new();
     out.extend_from_slice(thing)?;
-    out.extend_from_slice(buffer.format(size).as_bytes())?;
+    write_decimal(size, out)?;
     out.extend_from_slice(b" expected")
 }

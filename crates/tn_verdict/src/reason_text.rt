@@ -1,5 +1,5 @@
 // The texts of reasons.
-ghost use Rattle.std.specs.Prelude.{◌≡◌, ◌++◌, OnOk, suc, decimal};
+ghost use Rattle.std.specs.Prelude.{◌≡◌, ◌++◌, OnOk};
 ghost use Rattle.def_explain.specs.Texts.{head_reason_text, condition_reason_text, reason_text};
 ghost use Rattle.tn_verdict.specs.Views.{head_reason_seen, condition_seen, reason_seen};
 ghost use Rattle.tn_text.specs.Writes.{Grows};
@@ -7,18 +7,9 @@ ghost use Rattle.tn_text.specs.Writes.{Grows};
 use crate::expression_text::put_expr;
 use crate::mismatch_text::put_mismatch;
 use crate::reason::{ConditionReason, HeadReason, Reason};
-use itoa::Buffer;
 use std::alloc::{AllocError, Allocator};
 use tn_guard::write_value;
-
-/// Appends the number of what stands after so many.
-pub fn put_number<B: Allocator>(before: usize, out: &mut Vec<u8, B>) -> Result<(), AllocError>
-    ensures ok { OnOk result (out.new.items ≡ out.old.items ++ decimal (suc before)) }
-    ensures grows { Grows out.old.items out.new.items }
-{
-    let mut buffer = Buffer::new();
-    out.extend_from_slice(buffer.format(before as u128 + 1).as_bytes())
-}
+use tn_text::write_next;
 
 /// Appends why a head doesn't match.
 fn put_head_reason<A: Allocator, B: Allocator>(
@@ -35,7 +26,7 @@ fn put_head_reason<A: Allocator, B: Allocator>(
         }
         HeadReason::AfterMatching { count, mismatch } => {
             out.extend_from_slice(b"the head doesn't match at element ")?;
-            put_number(count, out)?;
+            write_next(count, out)?;
             put_mismatch(mismatch, out)
         }
     }
@@ -73,7 +64,7 @@ pub fn put_reason<A: Allocator, B: Allocator>(
         Reason::ByHead(why) => put_head_reason(why, out),
         Reason::ByCondition { index, why } => {
             out.extend_from_slice(b"condition ")?;
-            put_number(index, out)?;
+            write_next(index, out)?;
             put_condition_reason(why, out)
         }
     }

@@ -17,22 +17,11 @@ ghost use Rattle.tn_verdict.specs.SpecReasonTexts.{call_tuple_text, with_count_o
 ghost use Rattle.tn_verdict.specs.SpecReasonTexts.{no_function_text_of, other_name_text_of, wrong_count_text};
 
 use crate::names::action_text;
-use crate::reason_text::put_number;
-use itoa::Buffer;
 use std::alloc::{AllocError, Allocator};
 use tn_reason::{ClauseReason, ExpressionReason, HeadTermReason, ShapeReason, SpecReason};
 use tn_spec::{Action, Dialect, Row, is_in_bodies, row_named};
 use tn_term::{Atom, Term};
-use tn_text::{write_atom, write_term};
-
-/// Appends a number.
-fn put_decimal<B: Allocator>(number: usize, out: &mut Vec<u8, B>) -> Result<(), AllocError>
-    ensures ok { OnOk result (out.new.items ≡ out.old.items ++ decimal number) }
-    ensures grows { Grows out.old.items out.new.items }
-{
-    let mut buffer = Buffer::new();
-    out.extend_from_slice(buffer.format(number).as_bytes())
-}
+use tn_text::{write_atom, write_decimal, write_next, write_term};
 
 /// Appends what there is in its place.
 fn put_found<A: Allocator, B: Allocator>(
@@ -55,7 +44,7 @@ fn put_count<B: Allocator>(
     ensures ok { OnOk result (out.new.items ≡ out.old.items ++ count_text count thing.now) }
     ensures grows { Grows out.old.items out.new.items }
 {
-    put_decimal(count, out)?;
+    write_decimal(count, out)?;
     out.push(b' ')?;
     out.extend_from_slice(thing)?;
     if count != 1 {
@@ -169,7 +158,7 @@ fn put_name_count<A: Allocator, B: Allocator>(
 {
     write_atom(name, out)?;
     out.push(b'/')?;
-    put_decimal(further_count(terms), out)
+    write_decimal(further_count(terms), out)
 }
 
 /// The written name that is meant by a name of other languages.
@@ -231,7 +220,7 @@ fn put_other_name<A: Allocator, B: Allocator>(
 {
     if name.text() == "const" {
         out.extend_from_slice(b"const takes 1 argument, found ")?;
-        return put_decimal(further_count(terms), out);
+        return write_decimal(further_count(terms), out);
     }
     put_no_function(name, terms, out)
 }
@@ -249,7 +238,7 @@ fn put_allowed<B: Allocator>(row: Option<Row>, out: &mut Vec<u8, B>) -> Result<(
         return out.extend_from_slice(b" or more");
     };
     if row.least != most {
-        put_decimal(row.least, out)?;
+        write_decimal(row.least, out)?;
         out.extend_from_slice(b" or ")?;
     }
     put_count(most, b"argument", out)
@@ -304,7 +293,7 @@ fn put_wrong_count<A: Allocator, B: Allocator>(
     out.extend_from_slice(b" takes ")?;
     put_allowed(row_named(name.text()), out)?;
     out.extend_from_slice(b", found ")?;
-    put_decimal(count, out)
+    write_decimal(count, out)
 }
 
 /// Appends why a term is no expression.
@@ -395,13 +384,13 @@ fn put_clause_reason<A: Allocator, B: Allocator>(
         ClauseReason::OfHead(why) => put_head_term_reason(why, out),
         ClauseReason::OfCondition(before, why) => {
             out.extend_from_slice(b"condition ")?;
-            put_number(before, out)?;
+            write_next(before, out)?;
             out.extend_from_slice(b": ")?;
             put_expression_reason(why, out)
         }
         ClauseReason::OfBody(before, why) => {
             out.extend_from_slice(b"body ")?;
-            put_number(before, out)?;
+            write_next(before, out)?;
             out.extend_from_slice(b": ")?;
             put_expression_reason(why, out)
         }
@@ -418,7 +407,7 @@ fn put_at_clause<A: Allocator, B: Allocator>(
     ensures grows { Grows out.old.items out.new.items }
 {
     out.extend_from_slice(b"clause ")?;
-    put_number(before, out)?;
+    write_next(before, out)?;
     out.extend_from_slice(b": ")?;
     put_clause_reason(why, out)
 }

@@ -19,7 +19,7 @@ use crate::clauses::verdict;
 use crate::effects::put_effects;
 use crate::expression_text::put_variable;
 use crate::reason::{Reason, Verdict};
-use crate::reason_text::{put_number, put_reason};
+use crate::reason_text::put_reason;
 use bumpalo::Bump;
 use std::alloc::{AllocError, Allocator};
 use tn_action::{Context, Effect};
@@ -30,6 +30,7 @@ use tn_difference::{
 use tn_guard::{Value, write_value};
 use tn_head::{Binding, Bindings};
 use tn_spec::{Clause, Dialect, Spec};
+use tn_text::write_next;
 
 /// Appends the line of a binding.
 fn put_binding<A: Allocator, B: Allocator>(
@@ -121,7 +122,7 @@ pub fn put_clause<B: Allocator>(before: usize, out: &mut Vec<u8, B>) -> Result<(
     ensures grows { Grows out.old.items out.new.items }
 {
     out.extend_from_slice(b"clause ")?;
-    put_number(before, out)
+    write_next(before, out)
 }
 
 /// Appends that the clause fires, and what its body asks for.

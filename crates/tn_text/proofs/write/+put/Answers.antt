@@ -14,13 +14,13 @@ put-returns-in-List-clause-ok g t c =
     written_as c.put_enclosed-in-List.result c.args.out.now.items c.put_enclosed-in-List.new.out.items (ap (λ x. w (tree_of x)) c.in-List.is ∙ ap w (tree_of_list c.in-List.v)) c.put_enclosed-in-List.ensures.ok
 
 pub put-returns-in-Int-clause-grows : goal.put-returns-in-Int-clause-grows
-put-returns-in-Int-clause-grows g t c = c.put_integer.ensures.grows
+put-returns-in-Int-clause-grows g t c = c.write_decimal.ensures.grows
 
 pub put-returns-in-Atom-clause-grows : goal.put-returns-in-Atom-clause-grows
 put-returns-in-Atom-clause-grows g t c = c.put_atom.ensures.grows
 
 pub put-returns-in-Pid-clause-grows : goal.put-returns-in-Pid-clause-grows
-put-returns-in-Pid-clause-grows g t c = c.put_pid.ensures.grows
+put-returns-in-Pid-clause-grows g t c = c.write_pid.ensures.grows
 
 pub put-returns-in-Tuple-clause-grows : goal.put-returns-in-Tuple-clause-grows
 put-returns-in-Tuple-clause-grows g t c = c.put_enclosed.ensures.grows

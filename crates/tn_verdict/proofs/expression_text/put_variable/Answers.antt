@@ -8,10 +8,9 @@ returns-clause-ok g c =
     let n = c.args.number in
     let o = c.args.out.now.items in
     let first = c.extend_from_slice.new.self.items in
-    let next = c.extend_from_slice-2.new.self.items in
+    let next = c.write_decimal.new.out.items in
     let last = c.push.new.self.items in
-    let digits : c.as_bytes.result.now ≡ decimal n = c.as_bytes.ensures.value ∙ c.format.ensures.text in
-    let made : next ≡ first ++ decimal n = c.in_ok-extend_from_slice-2.ensures.items ∙ ap (λ l. first ++ l) digits in
+    let made : next ≡ first ++ decimal n = c.in_ok-write_decimal.ensures.ok in
     behind o (codes "'$") (decimal n ++ 39 ∷ []) first last c.in_ok-extend_from_slice.ensures.items
     (behind first (decimal n) (39 ∷ []) next last made c.in_ok-push.ensures.items)
     ∙ ap (λ l. o ++ l) (sym (variable_text n (omega (arith, c.ranges.number.fits))))

@@ -11,9 +11,9 @@ returns-then-eq-clause-ok g c =
     let o = c.args.out.now.items in
     let ts = trees_of (drop 1 c.args.terms.now.items) in
     let first = c.extend_from_slice.new.self.items in
-    let last = c.put_decimal.new.out.items in
-    let done = c.put_decimal.result in
+    let last = c.write_decimal.new.out.items in
+    let done = c.write_decimal.result in
     read_as done o (codes "const takes 1 argument, found " ++ decimal (count ts)) _ last
     (const_text c.args.name.now ts c.eq.result (c.eq.ensures ∙ ap (λ u. bytes_eq u (codes "const")) c.text.ensures.text) c.if-eq.true)
     (after_ok done o (codes "const takes 1 argument, found ") (decimal (count ts)) first last c.in_ok-extend_from_slice.ensures.items
-    (read_as done first (decimal c.further_count.result) (decimal (count ts)) last (ap decimal c.further_count.ensures) c.put_decimal.ensures.ok))
+    (read_as done first (decimal c.further_count.result) (decimal (count ts)) last (ap decimal c.further_count.ensures) c.write_decimal.ensures.ok))

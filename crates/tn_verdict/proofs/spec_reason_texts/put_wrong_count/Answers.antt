@@ -20,8 +20,8 @@ returns-clause-ok g c =
     let fourth = c.extend_from_slice-2.new.self.items in
     let rows = c.row_named.ensures ∙ ap (λ u. option_map row_of (found_in table u)) c.text.ensures.text in
     let allowed : third ≡ next ++ counts = c.in_ok-put_allowed.ensures.ok ∙ ap (λ l. next ++ l) (same_counts c.row_named.result (found_in table s) rows) in
-    after_ok c.put_decimal.result o (named ++ codes " takes " ++ counts ++ codes ", found ") (decimal c.args.count) fourth c.put_decimal.new.out.items
+    after_ok c.write_decimal.result o (named ++ codes " takes " ++ counts ++ codes ", found ") (decimal c.args.count) fourth c.write_decimal.new.out.items
     (behind o (named ++ codes " takes " ++ counts) (codes ", found ") third fourth
     (behind o (named ++ codes " takes ") counts next third (behind o named (codes " takes ") first next c.in_ok-write_atom.ensures.ok c.in_ok-extend_from_slice.ensures.items) allowed)
     c.in_ok-extend_from_slice-2.ensures.items)
-    c.put_decimal.ensures.ok
+    c.write_decimal.ensures.ok

@@ -17,5 +17,5 @@ returns-clause-ok g c =
     let n = c.args.self.now.name.now in
     let o = c.args.out.now.items in
     line n (said (pid_text c.args.pid ++ c.args.text.now)) _ _ _ _ c.in_ok-begin.ensures.ok
-    (both _ _ _ _ _ c.in_ok-put_pid.ensures.ok c.in_ok-extend_from_slice.ensures.items) c.in_ok-push.ensures.items
+    (both _ _ _ _ _ c.in_ok-write_pid.ensures.ok c.in_ok-extend_from_slice.ensures.items) c.in_ok-push.ensures.items
     ∙ ap (λ ls. o ++ lines_text n ls) (sym (where_more c.args.pid c.args.text.now (sym c.is_empty.ensures ∙ c.if-is_empty.false)))
