@@ -127,20 +127,3 @@ pub fn same<A: Allocator>(
 {
     (one.same(other), one_again.same(other_again))
 }
-
-/// `tn_program::Program::copy` has one answer.
-pub fn copy<A: Allocator + Copy>(
-    alloc: A,
-    one: &Program<A>,
-    other: &Program<A>,
-) -> (
-    Result<Program<A>, AllocError>,
-    Result<Program<A>, AllocError>,
-)
-    requires { program_of one.now ≡ program_of other.now }
-    ensures { IfOk result.0 (λ x. IfOk result.1 (λ y. program_of x ≡ program_of y)) }
-{
-    let first = one.copy(alloc);
-    let second = other.copy(alloc);
-    (first, second)
-}

@@ -2,10 +2,12 @@
 ghost use Rattle.std.specs.Prelude.{◌≡◌, IfOk};
 ghost use Rattle.std.specs.Option.{option_map};
 ghost use Rattle.tn_term.specs.Views.{tree_of};
+ghost use Rattle.tn_flags.specs.Views.{flags_of as flags_seen};
 ghost use Rattle.tn_index.specs.Views.{function_pattern_seen};
 ghost use Rattle.tn_session.specs.Procs.{procs_seen};
 
 use std::alloc::{AllocError, Allocator};
+use tn_flags::Flags;
 use tn_index::FunctionPattern;
 use tn_session::Procs;
 use tn_term::Term;
@@ -24,6 +26,14 @@ pub fn how_of<A: Allocator>(one: &Term<A>, other: &Term<A>) -> (Option<bool>, Op
     ensures { result.0 ≡ result.1 }
 {
     (tn_session::how_of(one), tn_session::how_of(other))
+}
+
+/// `tn_session::flags_of` has one answer.
+pub fn flags_of<A: Allocator>(one: &Term<A>, other: &Term<A>) -> (Option<Flags>, Option<Flags>)
+    requires { tree_of one.now ≡ tree_of other.now }
+    ensures { option_map flags_seen result.0 ≡ option_map flags_seen result.1 }
+{
+    (tn_session::flags_of(one), tn_session::flags_of(other))
 }
 
 /// `tn_session::options_of` has one answer.

@@ -6,10 +6,7 @@ use crate::creations::{Sessions, count_sessions, find_session, sessions_of};
 use std::alloc::{AllocError, Allocator};
 use std::sync::Arc;
 use tn_flags::Command;
-use tn_script::{
-    Entry, Function, copy_commands, copy_entries, copy_functions, same_commands, same_entries,
-    same_functions,
-};
+use tn_script::{Entry, Function, same_commands, same_entries, same_functions};
 use tn_term::Atom;
 
 /// The functions of a script, with several owners: its program and each node that runs it.
@@ -93,21 +90,5 @@ impl<A: Allocator> Program<A> {
             return false;
         }
         same_commands(&self.commands, &other.commands)
-    }
-
-    /// The same program again.
-    pub fn copy(&self, alloc: A) -> Result<Program<A>, AllocError>
-    where
-        A: Copy,
-        ensures { IfOk result (λ p. program_of p ≡ program_of self.now) }
-    {
-        let functions = copy_functions(alloc, self.functions())?;
-        let entries = copy_entries(alloc, &self.entries)?;
-        let commands = copy_commands(alloc, &self.commands)?;
-        Ok(Program {
-            functions: Arc::new(alloc, functions)?,
-            entries,
-            commands,
-        })
     }
 }

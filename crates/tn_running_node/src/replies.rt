@@ -1,12 +1,11 @@
 // What a command does to a session of a running node, and its reply.
 ghost use Rattle.std.specs.Prelude.{◌≡◌, ◌&&◌, not, IfOk};
 ghost use Rattle.std.specs.Option.{option_map};
-ghost use Rattle.def_spec.specs.Flags.{flags_named, flags_listed};
 ghost use Rattle.def_spec.specs.Expressions.{for_calls};
 ghost use Rattle.def_session.specs.Settings.{options_of, setting_of};
 ghost use Rattle.def_running_node.specs.NodeReplies.{function_reply, has_existing, has_new_processes};
-ghost use Rattle.tn_term.specs.Views.{tree_of, trees_of};
-ghost use Rattle.tn_flags.specs.Views.{command_of, flags_of as flags_seen};
+ghost use Rattle.tn_term.specs.Views.{tree_of};
+ghost use Rattle.tn_flags.specs.Views.{command_of};
 ghost use Rattle.tn_session.specs.Procs.{procs_seen};
 ghost use Rattle.tn_running_node.specs.Replies.{function_change_seen, none_listed, IsDoneLive, IsDoneThere};
 ghost use Rattle.tn_running_node.specs.Replies.{IsFunctionDoneThere, IsLive, IsProcessDoneThere};
@@ -17,36 +16,10 @@ use crate::function_settings::{
     model_command,
 };
 use std::alloc::{AllocError, Allocator};
-use tn_flags::{Command, Flags, flag_of};
+use tn_flags::{Command, Flags};
 use tn_script::Function;
-use tn_session::{Procs, Session, how_of, options_of, procs_of};
+use tn_session::{Procs, Session, flags_of, how_of, options_of, procs_of};
 use tn_term::Term;
-
-/// The flags that the terms name, from the last on; None where one is no flag.
-fn flags_in<A: Allocator>(items: &Vec<Term<A>, A>) -> Option<Flags>
-    ensures { option_map flags_seen result ≡ flags_named (trees_of items.now.items) }
-{
-    let mut flags = Flags::none();
-    let mut left = items.len();
-    while left > 0 {
-        left -= 1;
-        match flag_of(&items[left]) {
-            Some(flag) => flags = flag.join(flags),
-            None => return None,
-        }
-    }
-    Some(flags)
-}
-
-/// The flags of a list of them; None of any other term.
-fn flags_of<A: Allocator>(term: &Term<A>) -> Option<Flags>
-    ensures { option_map flags_seen result ≡ flags_listed (tree_of term.now) }
-{
-    match term {
-        Term::List(items) => flags_in(items),
-        _ => None,
-    }
-}
 
 /// Whether Flags are none, where they are a list of flags.
 fn none_listed<A: Allocator>(term: &Term<A>) -> Option<bool>

@@ -21,7 +21,7 @@ mod script;
 mod shapes;
 mod steps;
 
-pub use copies::{copy_commands, copy_entries, copy_entry, copy_functions, copy_target};
+pub use copies::{copy_entry, copy_target};
 pub use fault::ScriptFault;
 pub use form::{Arguments, Entry, Form, Function, Step};
 pub use items::{FormItem, shapeless_item};

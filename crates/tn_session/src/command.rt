@@ -92,7 +92,7 @@ fn flags_in<A: Allocator>(items: &Vec<Term<A>, A>) -> Option<Flags>
 }
 
 /// The flags of a list of them; None of any other term.
-fn flags_of<A: Allocator>(term: &Term<A>) -> Option<Flags>
+pub fn flags_of<A: Allocator>(term: &Term<A>) -> Option<Flags>
     ensures { option_map flags_view result ≡ flags_listed (tree_of term.now) }
 {
     match term {

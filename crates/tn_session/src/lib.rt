@@ -28,7 +28,7 @@ mod state;
 mod text;
 
 pub use arguments::{options_of, pattern_of};
-pub use command::{Procs, how_of, procs_of};
+pub use command::{Procs, flags_of, how_of, procs_of};
 pub use event_text::EventText;
 pub use look::{Look, NewestSetting};
 pub use marks::mark_for;
