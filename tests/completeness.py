@@ -32,7 +32,7 @@ def completeness_functions():
 
 
 def path_of(each):
-    """The path by which docs/PROMISES.md names a completeness function."""
+    """The path by which docs/CONTRACTS.md names a completeness function."""
     return f"{each.crate}::{each.module}::{each.name}"
 
 

@@ -1,4 +1,4 @@
-"""Compares docs/PROMISES.md with the crates: which public functions have a complete contract, and by which proof.
+"""Compares docs/CONTRACTS.md with the crates: which public functions have a complete contract, and by which proof.
 
 Each crate tn_* has a table in "Complete contracts", with one row for each of its public functions. A row that says
 "determined" names a function of a complete_* crate, whose comment names the public function and which calls it twice.

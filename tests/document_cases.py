@@ -189,7 +189,7 @@ def completions():
 
 
 def promises():
-    """The contracts and the wrong bodies that docs/PROMISES.md lists, compared with the crates."""
+    """The contracts and the wrong bodies that docs/CONTRACTS.md lists, compared with the crates."""
     for name, holds, seen in (*contracts.findings(), *promise_tables.findings()):
         check(name, holds, seen)
 

@@ -13,6 +13,7 @@ TOP = pathlib.Path(__file__).resolve().parent.parent
 CRATES = TOP / "crates"
 DOCS = TOP / "docs"
 PROMISES = DOCS / "PROMISES.md"
+CONTRACTS = DOCS / "CONTRACTS.md"
 README = TOP / "README.md"
 
 # The text that is looked at in place of a file's own.
@@ -31,8 +32,8 @@ def read(path):
 
 
 def chapter(title):
-    """The text of a chapter of docs/PROMISES.md."""
-    return read(PROMISES).partition(title)[2].partition("\n## ")[0]
+    """The text of a chapter of docs/PROMISES.md or docs/CONTRACTS.md."""
+    return "".join(read(page).partition(title)[2].partition("\n## ")[0] for page in (PROMISES, CONTRACTS))
 
 
 def listed_crates():
