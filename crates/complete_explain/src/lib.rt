@@ -7,6 +7,7 @@
 #![tactic(auto)]
 
 mod account;
+mod command_reasons;
 mod job;
 mod lines;
 mod notes;

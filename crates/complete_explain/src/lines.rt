@@ -2,11 +2,12 @@
 ghost use Rattle.std.specs.Prelude.{◌≡◌, OnOk};
 ghost use Rattle.tn_term.specs.Views.{tree_of};
 ghost use Rattle.tn_session.specs.Sessions.{value_in};
-ghost use Rattle.tn_explain.specs.CommandReasons.{command_reasons_seen};
+ghost use Rattle.tn_command_reason.specs.CommandReasons.{command_reasons_seen};
 
 use std::alloc::{AllocError, Allocator};
+use tn_command_reason::CommandReason;
 use tn_difference::Difference;
-use tn_explain::{CommandReason, put_command_difference, put_command_line, put_event_lines};
+use tn_explain::{put_command_difference, put_command_line, put_event_lines};
 use tn_flags::Event;
 use tn_node::Outlook;
 use tn_session::Session;

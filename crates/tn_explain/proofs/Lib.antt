@@ -1,4 +1,3 @@
-mod NearestFunctions
 pub mod EarlierLines
 pub mod ClauseLines
 pub mod LaterLines
@@ -16,9 +15,7 @@ pub mod NoteCounts
 pub mod NodeFlags
 pub mod NodeNotes
 pub mod NodeMoveTexts
-pub mod CommandReasons
 mod CommandDifferences
 pub mod CommandStarts
 pub mod Remarks
-pub mod ReplyTexts
 pub mod LongRuns

@@ -23,7 +23,7 @@ use Rattle.tn_session.specs.declared.session.Session.{Session}
 use Rattle.tn_difference.specs.Differences.{difference_seen}
 use Rattle.tn_difference.specs.declared.differences.Difference as code
 use Rattle.tn_trace.specs.Slots.{IsSession}
-use Rattle.tn_explain.specs.CommandReasons.{OfFunctions}
+use Rattle.tn_command_reason.specs.CommandReasons.{OfFunctions}
 
 -- a difference, where there is one
 abbrev pub differences_seen : Option code.Difference → Option Difference

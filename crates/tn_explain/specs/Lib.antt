@@ -10,10 +10,8 @@ pub mod NamedSessions
 pub mod Explainers
 pub mod Accounts
 pub mod Notes
-pub mod CommandReasons
 pub mod ClauseDifferences
 pub mod CommandDifferences
 pub mod CommandStarts
 pub mod RemarkedSessions
 pub mod RemarkLines
-pub mod NearestFunctions

@@ -5,14 +5,13 @@ ghost use Rattle.tn_difference.specs.Differences.{difference_seen};
 ghost use Rattle.tn_term.specs.Views.{tree_of};
 ghost use Rattle.tn_session.specs.Messages.{message_seen};
 ghost use Rattle.tn_text.specs.Writes.{Grows};
-ghost use Rattle.tn_explain.specs.CommandReasons.{command_reasons_seen};
+ghost use Rattle.tn_command_reason.specs.CommandReasons.{command_reasons_seen};
 ghost use Rattle.tn_explain.specs.CommandDifferences.{differences_seen};
 ghost use Rattle.tn_explain.specs.LineParts.{reply_lines, uncounted_lines};
 ghost use Rattle.tn_explain.specs.Lines.{PutsLines, Adds, line_start};
 
-use crate::command_reason_texts::put_reason_after_reply;
-use crate::command_reasons::CommandReason;
 use std::alloc::{AllocError, Allocator};
+use tn_command_reason::{CommandReason, put_reason_after_reply};
 use tn_difference::{Difference, put_difference};
 use tn_session::Message;
 use tn_term::{Atom, Term};

@@ -4,16 +4,15 @@ ghost use Rattle.std.specs.Option.{option_map};
 ghost use Rattle.def_explain.specs.Remarks.{run_reasons, reply_and_reason, has_remarks};
 ghost use Rattle.tn_program.specs.Views.{program_of};
 ghost use Rattle.tn_remark.specs.TextLines.{texts_seen};
-ghost use Rattle.tn_explain.specs.CommandReasons.{command_reasons_seen};
+ghost use Rattle.tn_command_reason.specs.CommandReasons.{command_reasons_seen};
 ghost use Rattle.tn_explain.specs.RemarkedSessions.{SlotsHaveReason, has_some};
 
-use crate::command_reason_texts::reason_text;
-use crate::command_reasons::{CommandReason, absent_reason, command_reason};
 use crate::selection::NOTHING;
 use crate::sessions::Sessions;
 use crate::slots::Order;
 use crate::step::Step;
 use std::alloc::{AllocError, Allocator};
+use tn_command_reason::{CommandReason, absent_reason, command_reason, reason_text};
 use tn_flags::{Command, Event};
 use tn_node::{Node, Outlook};
 use tn_program::Program;

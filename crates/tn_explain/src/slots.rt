@@ -1,17 +1,17 @@
 // The sessions of the control list side by side, each seeing what a move shows.
 ghost use Rattle.std.specs.Prelude.{IfOk};
 ghost use Rattle.tn_text.specs.Writes.{Grows};
-ghost use Rattle.tn_explain.specs.CommandReasons.{command_reasons_seen};
+ghost use Rattle.tn_command_reason.specs.CommandReasons.{command_reasons_seen};
 ghost use Rattle.tn_explain.specs.CommandDifferences.{differences_seen};
 ghost use Rattle.tn_explain.specs.NamedSessions.{SlotSeesEvent, SlotsSeeEvent, SlotHasReason, SlotSeesCommand};
 ghost use Rattle.tn_explain.specs.NamedSessions.{SlotsSeeCommand, SlotHasDifference};
 
 use crate::command_differences::command_difference;
-use crate::command_reasons::{CommandReason, command_reason};
 use crate::event::put_event_lines;
 use crate::line::{put_command_difference, put_command_line};
 use crate::step::Step;
 use std::alloc::{AllocError, Allocator};
+use tn_command_reason::{CommandReason, command_reason};
 use tn_difference::Difference;
 use tn_flags::{Command, Event};
 use tn_script::Function;

@@ -2,7 +2,7 @@ use Rattle.std.proofs.Common.{◌∙◌, sym, ap}
 use Rattle.std.specs.Option.{option_map}
 use Rattle.tn_flags.specs.Views.{command_of}
 use Rattle.tn_session.specs.Looks.{look_seen}
-use Rattle.tn_explain.proofs.CommandReasons.{look_is}
+use Rattle.tn_command_reason.proofs.CommandReasons.{look_is}
 use Rattle.tn_explain.proofs.CommandDifferences.{of_live_session}
 use Rattle.tn_explain.proofs.command_differences.command_difference.Goals as goal
 

@@ -3,7 +3,7 @@ use Rattle.def_term.specs.Text.{w}
 use Rattle.def_explain.specs.Accounts.{said}
 use Rattle.def_explain.specs.ReasonTexts.{reason_after_reply}
 use Rattle.tn_term.specs.Views.{tree_of}
-use Rattle.tn_explain.specs.CommandReasons.{command_reasons_seen}
+use Rattle.tn_command_reason.specs.CommandReasons.{command_reasons_seen}
 use Rattle.tn_explain.proofs.LineTexts.{line, both}
 use Rattle.tn_explain.proofs.line.put_command_line.Goals as goal
 

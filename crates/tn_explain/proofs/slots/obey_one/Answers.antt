@@ -3,7 +3,7 @@ use Rattle.std.specs.Option.{option_map}
 use Rattle.std.proofs.lemmas.Result.{on_ok_weaker}
 use Rattle.tn_term.specs.Views.{tree_of, alive_of}
 use Rattle.tn_flags.specs.Views.{command_of}
-use Rattle.tn_explain.specs.CommandReasons.{command_reasons_seen}
+use Rattle.tn_command_reason.specs.CommandReasons.{command_reasons_seen}
 use Rattle.tn_explain.specs.CommandDifferences.{differences_seen}
 use Rattle.tn_explain.specs.LineParts.{reply_lines, uncounted_lines}
 use Rattle.tn_explain.proofs.LineTexts.{more}

@@ -3,7 +3,7 @@ use Rattle.def_script.specs.Exports.{exports_of, visible}
 use Rattle.def_run.specs.Run.{command_item}
 use Rattle.tn_flags.specs.Views.{command_of}
 use Rattle.tn_program.specs.Views.{program_of}
-use Rattle.tn_explain.specs.CommandReasons.{command_reasons_seen}
+use Rattle.tn_command_reason.specs.CommandReasons.{command_reasons_seen}
 use Rattle.tn_explain.specs.Explainers.{sessions_after}
 use Rattle.tn_explain.proofs.Remarks.{command_said, move_remarked}
 use Rattle.tn_explain.proofs.remark_observer.RemarkObserverObserver.obey.Goals as goal

@@ -1,0 +1,3 @@
+mod NearestFunctions
+pub mod CommandReasons
+pub mod ReplyTexts

@@ -1,0 +1,2 @@
+pub mod CommandReasons
+pub mod NearestFunctions

@@ -1,7 +1,0 @@
-use Rattle.std.proofs.Common.{◌≡◌, drop}
-use Rattle.def_explain.specs.NearestFunctions.{has_name, first_function}
-use Rattle.tn_explain.specs.NearestFunctions.{functions_seen}
-use Rattle.tn_explain.proofs.nearest_functions.first_of_name.Given as goal
-
-abbrev pub invariant-loop-i : goal.invariant-loop-i
-invariant-loop-i g l = first_function (has_name l.name) (functions_seen (drop l.i l.functions)) ≡ first_function (has_name l.name) (functions_seen l.functions)
