@@ -25,6 +25,21 @@ NOUNS = {
 }
 SURFACE = {"closed", "created", "failed", "made", "moved", "seen", "split", "spread", "watched"}
 
+# What one function does for all crates, and how what it ensures is known.
+APPENDED = r"^OnOk result \(\w+\.new\.items ≡ \w+\.old\.items \+\+ "
+HOMES = {
+    "the test for a blank": r"^result ≡ is_blank \w",
+    "the length of blanks and comments": r"^result ≡ gap_len",
+    "the length of digits": r"^result ≡ run_len is_digit",
+    "the length of a name": r"^result ≡ run_len is_name_byte",
+    "the length of what is in quotes": r"^result ≡ quoted_end",
+    "the test for the end of a form": r"^result ≡ ends_form",
+    "a number in decimal": APPENDED + r"(?:(?:signed_)?decimal [\w.]+|N\.text number)\)$",
+    "the number after a number": APPENDED + r"decimal \(suc [\w.]+\)\)$",
+    "the text of a pid": APPENDED + r"pid_text [\w.]+\)$",
+    "the flags that a term lists": r"^option_map \w+ result ≡ flags_listed \(tree_of",
+}
+
 # The forms in which a comment may have the words that the glossary has others for.
 FORMS = {
     "tells": r"tell|tells|told|telling",
@@ -106,6 +121,18 @@ def once():
     yield "one function performs commands with the runtime, and one without", sorted(ways) == [False, True], performs
 
 
+def homes():
+    """What several crates need is in one function, which is known by what it ensures."""
+    ensured = [
+        (each, " ".join(clause.text.split()))
+        for crate in sorted(crates()) if crate.startswith("tn_")
+        for each in functions(crate) for clause in each.ensured()
+    ]
+    for thing, pattern in HOMES.items():
+        found = [f"{each.crate}::{each.module}::{each.title}" for each, text in ensured if re.search(pattern, text)]
+        yield f"one function for {thing}", len(found) == 1, found
+
+
 def prose(path):
     """The comments of a source, or the prose of a document without what is in backquotes, in one line."""
     if path.suffix == ".md":
@@ -142,5 +169,5 @@ def glossary():
 
 def findings():
     """Each thing to hold: its name, whether it holds, and what was seen."""
-    for part in (specifications, names, clauses, once, glossary):
+    for part in (specifications, names, clauses, once, homes, glossary):
         yield from part()

@@ -16,6 +16,7 @@ pub mod NodeFlags
 pub mod NodeNotes
 pub mod NodeMoveTexts
 mod CommandDifferences
+pub mod EmptyScripts
 pub mod CommandStarts
 pub mod Remarks
 pub mod LongRuns

@@ -1,8 +1,9 @@
 // The pieces of a text of moves.
-ghost use Rattle.std.specs.Prelude.{◌≡◌, ◌+◌, ◌≤◌, [], drop, false, length, IfSome, IfNone};
-ghost use Rattle.def_text.specs.Tokens.{gap_len as gap_len_of};
+ghost use Rattle.std.specs.Prelude.{◌≡◌, ◌≤◌, [], drop, false, length, IfSome, IfNone};
 ghost use Rattle.def_moves.specs.Texts.{after_gap, amount_len, ends_mover, is_gap_byte, mover_len};
 ghost use Rattle.tn_moves.specs.Pieces.{IsPieceAt};
+
+use tn_text::{gap_len, is_blank};
 
 /// A piece of a text of moves.
 #[derive(Clone, Copy)]
@@ -19,7 +20,7 @@ pub(crate) struct Piece<'a> {
 fn is_gap_byte(b: u8) -> bool
     ensures { result ≡ is_gap_byte b }
 {
-    b == b' ' || b == b'\t' || b == b'\n' || b == b'\r' || b == b'%'
+    is_blank(b) || b == b'%'
 }
 
 /// Whether the byte ends what says who moves.
@@ -27,24 +28,6 @@ fn ends_mover(b: u8) -> bool
     ensures { result ≡ ends_mover b }
 {
     is_gap_byte(b) || b == b'*' || b == b'!'
-}
-
-/// How many bytes of blanks and comments are at the front.
-fn gap_len(bytes: &[u8]) -> usize
-    ensures value { result ≡ gap_len_of false bytes.now }
-    ensures fits { result ≤ length bytes.now }
-{
-    let mut inside = false;
-    for (i, b) in bytes.iter().enumerate() {
-        if inside {
-            inside = *b != b'\n';
-        } else if *b == b'%' {
-            inside = true;
-        } else if !is_gap_byte(*b) {
-            return i;
-        }
-    }
-    bytes.len()
 }
 
 /// How many bytes at the front say who moves: all before the first blank, `%`, `*` or `!` that isn't in quotes.
