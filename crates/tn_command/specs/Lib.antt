@@ -11,3 +11,4 @@ pub mod PlainTexts
 pub mod PickNotes
 pub mod SpecNotes
 pub mod SpecNoteViews
+pub mod Delays

@@ -1,4 +1,6 @@
 // When the turns of workers begin.
+ghost use Rattle.std.specs.Prelude.{◌≡◌};
+ghost use Rattle.tn_command.specs.Delays.{delay_of};
 
 use std::sync::atomic::{AtomicU64, Ordering};
 use std::thread::yield_now;
@@ -42,7 +44,9 @@ impl Start {
     }
 
     /// How often the turn of this number gives way.
-    fn delay(seed: u64, turn: u64) -> u64 {
+    fn delay(seed: u64, turn: u64) -> u64
+        ensures { result ≡ delay_of seed turn }
+    {
         let mixed = seed
             .wrapping_add(turn)
             .wrapping_mul(6_364_136_223_846_793_005)
