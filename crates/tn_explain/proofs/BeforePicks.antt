@@ -8,7 +8,7 @@ use Rattle.def_session.specs.State.{absent_session}
 use Rattle.tn_trace.specs.Slots.{IsTracked, EachPair}
 use Rattle.tn_trace.specs.Tracks.{tracks_from}
 use Rattle.tn_trace.specs.declared.slot.Slot.{Slot}
-use Rattle.tn_explain.specs.NamedSessions.{HasState}
+use Rattle.tn_trace.specs.NamedSessions.{HasState}
 use Rattle.tn_trace.specs.declared.discard.Discard.{Discard}
 
 pub stand_at_start : {A : Type 0} (Keeps : Discard → List Tree → Type 0) (o : Exports) (living : Alive) (n : ℕ) (cs : List (Name × Name)) (slots : List (Slot A Discard)) → EachPair (IsTracked Keeps o living) (tracks_from o [] n cs) slots

@@ -23,7 +23,8 @@ use Rattle.tn_running_node.specs.Comparisons.{IsComparison, BecomesComparison}
 use Rattle.tn_running_node.specs.declared.lines.LineKinds.{LineKinds}
 use Rattle.tn_running_node.proofs.NodePicks.{comparison_moved, any_line, account_more, account_again}
 use Rattle.tn_explain.specs.Filters.{selection_seen, filtered_text}
-use Rattle.tn_explain.specs.Explainers.{sessions_after, HasExplained, AddsExplanation, HasExplainedNode, text_of_pick, history_of_next, node_text_of_next, node_text_of_pick, AddsNodeExplanation}
+use Rattle.tn_trace.specs.NamedSessions.{sessions_after}
+use Rattle.tn_explain.specs.Explainers.{HasExplained, AddsExplanation, HasExplainedNode, text_of_pick, history_of_next, node_text_of_next, node_text_of_pick, AddsNodeExplanation}
 use Rattle.tn_explain.specs.declared.node_explainer.NodeExplainer.{NodeExplainer}
 
 -- ---- one pick

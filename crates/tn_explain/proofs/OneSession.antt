@@ -26,7 +26,7 @@ use Rattle.tn_explain.specs.Filters.{selection_seen, is_asked, text_by}
 use Rattle.def_explain.specs.Differences.{Difference}
 use Rattle.def_explain.specs.CommandDifferences.{command_difference}
 use Rattle.tn_explain.specs.LineParts.{reply_lines, uncounted_lines}
-use Rattle.tn_explain.specs.NamedSessions.{HasState}
+use Rattle.tn_trace.specs.NamedSessions.{HasState}
 use Rattle.tn_explain.specs.declared.step.Step.{Step}
 use Rattle.tn_trace.specs.declared.discard.Discard.{Discard}
 use Rattle.tn_explain.proofs.MoveTexts.{lines_wanted, lines_not_wanted}

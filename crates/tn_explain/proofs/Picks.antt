@@ -14,23 +14,17 @@ use Rattle.def_explain.specs.RunTexts.{Filter, account_text}
 use Rattle.tn_trace.specs.Observers.{IsNextMove, SeesMove}
 use Rattle.tn_trace.specs.Follows.{AddsEach, AddsFrom}
 use Rattle.tn_trace.specs.declared.journal.JournalEntry.{JournalEntry}
-use Rattle.tn_trace.proofs.Moves.{place_more, events_more, moves_more}
+use Rattle.tn_trace.specs.NamedSessions.{sessions_after}
+use Rattle.tn_trace.proofs.Moves.{place_more, moves_more}
+use Rattle.tn_trace.proofs.NamedSessions.{sessions_more}
 use Rattle.tn_running_node.specs.NodeMoves.{outlook_after}
 use Rattle.tn_explain.specs.Filters.{selection_seen, filtered_text}
 use Rattle.tn_explain.specs.NamedSessions.{AreNamedSessions}
-use Rattle.tn_explain.specs.Explainers.{sessions_after, HasExplained, entries_of_turn, text_of_pick, AddsExplanation}
+use Rattle.tn_explain.specs.Explainers.{HasExplained, entries_of_turn, text_of_pick, AddsExplanation}
 use Rattle.tn_explain.specs.declared.explainer.Explainer.{Explainer}
 use Rattle.tn_explain.proofs.MoveTexts.{text_of_next}
 
 -- ---- one pick
-
-after-append : (o : Exports) (ss : List NamedSession) (xs ys : List HistoryItem) → all_after_items o ss (xs ++ ys) ≡ all_after_items o (all_after_items o ss xs) ys
-after-append o ss [] ys = refl
-after-append o ss (x ∷ xs) ys = after-append o (all_after o ss x) xs ys
-
-pub sessions_more : (p : Program) (picks : List ℕ) (pick : ℕ) → sessions_after p (picks ++ pick ∷ []) ≡ all_after_items (exports_of p) (sessions_after p picks) (pick_step_after p picks pick).shown
-sessions_more p picks pick =
-    ap (all_after_items (exports_of p) (named_sessions p)) (events_more p picks pick) ∙ after-append (exports_of p) (named_sessions p) (events p picks) (pick_step_after p picks pick).shown
 
 -- of a command the same is made, whatever was known
 made_of_command : (o : Exports) (l m : Outlook) (c : Command) (ss : List NamedSession) → made_by_all o l ss (command_item c) ≡ made_by_all o m ss (command_item c)

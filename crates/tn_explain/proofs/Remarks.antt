@@ -11,7 +11,7 @@ use Rattle.def_script.specs.Exports.{Exports, exports_of}
 use Rattle.def_node.specs.Event.{Event}
 use Rattle.def_session.specs.State.{absent_session}
 use Rattle.def_run.specs.Run.{HistoryItem, event_item, command_item, PickStep, moves, run_state_of, pick_step_after}
-use Rattle.def_run.specs.History.{NamedSession, session_in, all_after_items, moments_from}
+use Rattle.def_run.specs.History.{NamedSession, session_in, moments_from}
 use Rattle.def_run.proofs.Replay.{moves_bounded}
 use Rattle.def_explain.specs.CommandReasons.{CommandReason, command_reason}
 use Rattle.def_explain.specs.Remarks.{reasons_in, run_reasons, remarks_after, remarks, is_some_remark, has_remarks, has_reason_line, reply_and_reason}
@@ -28,13 +28,13 @@ use Rattle.tn_trace.specs.Slots.{EachPair}
 use Rattle.tn_trace.specs.declared.journal.JournalEntry.{JournalEntry}
 use Rattle.tn_trace.specs.declared.slot.Slot.{Slot}
 use Rattle.tn_trace.proofs.Moves.{place_more}
-use Rattle.tn_explain.specs.Explainers.{sessions_after}
-use Rattle.tn_explain.specs.NamedSessions.{HasState, AreNamedSessions}
+use Rattle.tn_trace.specs.NamedSessions.{sessions_after}
+use Rattle.tn_trace.specs.NamedSessions.{HasState}
 use Rattle.tn_explain.specs.RemarkedSessions.{has_some, HasRemarked, AddsReasons}
 use Rattle.tn_explain.specs.RemarkLines.{remark_line, IsFrontOfPicks, AreRemarkLines}
 use Rattle.tn_trace.specs.declared.discard.Discard.{Discard}
 use Rattle.tn_explain.specs.declared.remark_observer.RemarkObserver.{RemarkObserver}
-use Rattle.tn_explain.proofs.Picks.{sessions_more}
+use Rattle.tn_trace.proofs.NamedSessions.{sessions_more}
 
 -- ---- the session of a command
 
@@ -84,14 +84,14 @@ said rs = map (option_map reply_and_reason) rs
 
 -- the observer saw a move that shows this
 pub move_remarked : {A : Type 0} (p : Program) (picks : List ℕ) (entry : JournalEntry) (shown : List HistoryItem) (old new : RemarkObserver A) (out out' : Vec (Option (Vec ℕ A)) A) → IsNextMove p picks entry shown
-    → AreNamedSessions (exports_of p) (all_after_items (exports_of p) (sessions_after p picks) shown) new.sessions
+    → HasRemarked new p (picks ++ entry.pick ∷ [])
     → texts_seen out'.items ≡ texts_seen out.items ++ said (reasons_in (exports_of p) (moments_from (exports_of p) 0 0 (sessions_after p picks) shown))
     → SeesMove HasRemarked AddsReasons p picks entry.pick old new out out'
 move_remarked p picks entry shown old new out out' next sessions written =
     let o : Exports = exports_of p in
     let ss : List NamedSession = sessions_after p picks in
     record {
-      after = subst (λ rs. AreNamedSessions o rs new.sessions) (ap (all_after_items o ss) (sym next.shows) ∙ sym (sessions_more p picks entry.pick)) sessions;
+      after = sessions;
       added = written ∙ ap (λ xs. texts_seen out.items ++ said (reasons_in o (moments_from o 0 0 ss xs))) (sym next.shows);
     }
 

@@ -11,7 +11,7 @@ use Rattle.tn_trace.specs.declared.slot.Slot.{Slot}
 use Rattle.tn_trace.proofs.Places.{up_to_none, up_to_all, all_dropped, each_mapped, place_here}
 use Rattle.tn_node.specs.Outlooks.{outlook_seen}
 use Rattle.tn_explain.specs.Filters.{selection_seen, text_by}
-use Rattle.tn_explain.specs.NamedSessions.{HasState}
+use Rattle.tn_trace.specs.NamedSessions.{HasState}
 use Rattle.tn_explain.specs.declared.step.Step.{Step}
 use Rattle.tn_trace.specs.declared.discard.Discard.{Discard}
 use Rattle.tn_explain.proofs.MoveTexts.{are_made, text-append}

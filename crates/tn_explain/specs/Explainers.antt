@@ -4,20 +4,17 @@ use Rattle.std.specs.declared.vec.Vec.{Vec}
 use Rattle.def_script.specs.Program.{Program}
 use Rattle.def_script.specs.Exports.{exports_of}
 use Rattle.def_outlook.specs.Outlook as definition
-use Rattle.def_run.specs.Run.{PickStep, events, moves, pick_step_after}
-use Rattle.def_run.specs.History.{NamedSession, all_after_items, named_sessions, MoveHistory, move_history}
+use Rattle.def_run.specs.Run.{PickStep, moves, pick_step_after}
+use Rattle.def_run.specs.History.{NamedSession, MoveHistory, move_history}
 use Rattle.def_explain.specs.Runs.{AccountEntry, entries_of_move}
 use Rattle.def_explain.specs.RunTexts.{Filter}
+use Rattle.tn_trace.specs.NamedSessions.{sessions_after}
 use Rattle.tn_running_node.specs.NodeMoves.{outlook_after, HasCompared, lines_of_next}
 use Rattle.tn_explain.specs.Filters.{selection_seen, filtered_text}
 use Rattle.tn_explain.specs.NamedSessions.{AreNamedSessions}
 use Rattle.tn_explain.specs.declared.explainer.Explainer.{Explainer}
 use Rattle.tn_explain.specs.declared.node_explainer.NodeExplainer.{NodeExplainer}
 use Rattle.def_running_node.specs.NodeNotes.{text_of_node_move}
-
--- the program's sessions after these picks
-abbrev pub sessions_after : Program → List ℕ → List NamedSession
-sessions_after p picks = all_after_items (exports_of p) (named_sessions p) (events p picks)
 
 -- the explainer's sessions are those of the program after these picks
 abbrev pub HasExplained : {A : Type 0} → Explainer A → Program → List ℕ → Type 0

@@ -22,18 +22,14 @@ use Rattle.tn_script.specs.declared.form.Function.{Function}
 use Rattle.tn_node.specs.Outlooks.{outlook_seen}
 use Rattle.tn_program.specs.Views.{program_of}
 use Rattle.tn_program.specs.declared.parts.Program.{Program}
-use Rattle.tn_trace.specs.Slots.{IsSession, EachPair}
+use Rattle.tn_trace.specs.Slots.{EachPair}
+use Rattle.tn_trace.specs.NamedSessions.{HasState}
 use Rattle.tn_trace.specs.declared.slot.Slot.{Slot}
 use Rattle.tn_explain.specs.Filters.{text_by}
 use Rattle.tn_explain.specs.declared.slots.Order.{Order}
 use Rattle.tn_explain.specs.declared.step.Step.{Step}
 use Rattle.tn_trace.specs.declared.discard.Discard.{Discard}
 use Rattle.tn_explain.specs.declared.sessions.Sessions.{Sessions}
-
--- the slot is this session's, over the functions of the program and where these processes live
-pub record HasState {A : Type 0} (o : Exports) (living : Alive) (s : NamedSession) (slot : Slot A Discard) : Type 0 where
-  pub name : slot.name ≡ s.0
-  pub session : IsSession o.functions living s.1 slot.session
 
 -- the sessions are these
 abbrev pub AreNamedSessions : {A : Type 0} → Exports → List NamedSession → Sessions A → Type 0

@@ -2,43 +2,44 @@
 ghost use Rattle.std.specs.Prelude.{◌≡◌, IfOk, map};
 ghost use Rattle.std.specs.Option.{option_map};
 ghost use Rattle.def_explain.specs.Remarks.{run_reasons, reply_and_reason, has_remarks};
+ghost use Rattle.tn_flags.specs.Views.{command_of};
 ghost use Rattle.tn_program.specs.Views.{program_of};
 ghost use Rattle.tn_remark.specs.TextLines.{texts_seen};
 ghost use Rattle.tn_command_reason.specs.CommandReasons.{command_reasons_seen};
 ghost use Rattle.tn_explain.specs.RemarkedSessions.{SlotsHaveReason, has_some};
 
-use crate::selection::NOTHING;
-use crate::sessions::Sessions;
-use crate::slots::Order;
-use crate::step::Step;
 use std::alloc::{AllocError, Allocator};
 use tn_command_reason::{CommandReason, absent_reason, command_reason, reason_text};
 use tn_flags::{Command, Event};
-use tn_node::{Node, Outlook};
+use tn_node::Node;
 use tn_program::Program;
-use tn_trace::{Discard, JOURNAL, JournalEntry, Observer, Run, Slot};
+use tn_script::Function;
+use tn_trace::{Discard, JOURNAL, JournalEntry, Observer, Recorder, Run, Slot};
 
 /// The sessions of a run whose commands are remarked of.
 #[derive(Drop)]
 pub(crate) struct RemarkObserver<A: Allocator> {
-    pub sessions: Sessions<A>,
+    pub alloc: A,
+    pub recorder: Recorder<A, Discard>,
 }
 
 /// Why the session of a command refuses it, or matches no function by it.
 fn reason_among<'a, A: Allocator + Copy>(
     alloc: A,
     slots: &Vec<Slot<A, Discard>, A>,
-    order: &Order<'a, A>,
+    functions: &'a [Function<A>],
+    command: &'a Command<A>,
 ) -> Result<Option<CommandReason<'a, A>>, AllocError>
-    ensures { IfOk result (λ r. SlotsHaveReason order.now slots.now.items (command_reasons_seen r)) }
+    ensures { IfOk result (λ r.
+        SlotsHaveReason functions.now slots.now.items (command_of command.now) (command_reasons_seen r)) }
 {
     for place in 0..slots.len() {
         let slot = &slots[place];
-        if order.command.session().text() == slot.name.text() {
-            return Ok(command_reason(alloc, &slot.session, order.functions, order.command)?);
+        if command.session().text() == slot.name.text() {
+            return Ok(command_reason(alloc, &slot.session, functions, command)?);
         }
     }
-    Ok(absent_reason(order.command))
+    Ok(absent_reason(command))
 }
 
 impl<A: Allocator + Copy> RemarkObserver<A> {
@@ -51,7 +52,8 @@ impl<A: Allocator + Copy> RemarkObserver<A> {
         ensures { IfOk result (λ c. HasRemarked c (program_of program.now) []) }
     {
         Ok(RemarkObserver {
-            sessions: Sessions::new(alloc, program)?,
+            alloc,
+            recorder: Recorder::new(alloc, program)?,
         })
     }
 }
@@ -80,42 +82,25 @@ impl<A: Allocator + Copy> Observer<A> for RemarkObserver<A> {
         command: &Command<A>,
         out: &mut Vec<Option<Vec<u8, A>>, A>,
     ) -> Result<(), AllocError> {
-        let order = Order {
-            functions: program.functions(),
-            living: self.sessions.living,
-            command,
-        };
-        let why = reason_among(self.sessions.alloc, &self.sessions.slots, &order)?;
-        let text = reason_text(self.sessions.alloc, why)?;
-        let step = Step {
-            selection: &NOTHING,
-            number: entry.number,
-            pick: entry.pick,
-            outlook: Outlook::nothing(),
-        };
-        let mut nothing = Vec::new(self.sessions.alloc);
-        self.sessions
-            .obey(&step, program.functions(), command, &mut nothing)?;
+        let functions = program.functions();
+        let why = reason_among(self.alloc, &self.recorder.slots, functions, command)?;
+        let text = reason_text(self.alloc, why)?;
+        let mut given = Vec::new(self.alloc);
+        self.recorder.obey(program, entry, command, &mut given)?;
         out.push(text)?;
         Ok(())
     }
 
     fn see(
         &mut self,
-        _program: &Program<A>,
+        program: &Program<A>,
         entry: JournalEntry,
         _sight: (),
         events: &Vec<Event<A>, A>,
         _out: &mut Vec<Option<Vec<u8, A>>, A>,
     ) -> Result<(), AllocError> {
-        let step = Step {
-            selection: &NOTHING,
-            number: entry.number,
-            pick: entry.pick,
-            outlook: Outlook::nothing(),
-        };
-        let mut nothing = Vec::new(self.sessions.alloc);
-        self.sessions.see(&step, events, &mut nothing)?;
+        let mut given = Vec::new(self.alloc);
+        self.recorder.see(program, entry, (), events, &mut given)?;
         Ok(())
     }
 

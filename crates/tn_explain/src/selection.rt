@@ -10,12 +10,6 @@ pub(crate) struct Selection<'a> {
     pub move_number: Option<u64>,
 }
 
-/// What selects no move: they are numbered from 1.
-pub(crate) const NOTHING: Selection<'static> = Selection {
-    session: None,
-    move_number: Some(0),
-};
-
 impl Selection<'_> {
     ghost use Rattle.std.specs.Prelude.{◌≡◌};
     ghost use Rattle.def_explain.specs.RunTexts.{is_session, is_move};

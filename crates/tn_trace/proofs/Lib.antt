@@ -2,6 +2,7 @@ pub mod Places
 pub mod Tracks
 pub mod Creations
 pub mod Moves
+pub mod NamedSessions
 pub mod Starts
 pub mod OneSession
 pub mod RunSteps

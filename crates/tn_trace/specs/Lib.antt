@@ -1,6 +1,7 @@
 pub mod Tracks
 pub mod Starts
 pub mod Slots
+pub mod NamedSessions
 pub mod Runs
 pub mod Observers
 pub mod Recorders

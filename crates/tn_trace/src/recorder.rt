@@ -16,8 +16,8 @@ use tn_term::Alive;
 #[derive(Drop)]
 pub struct Recorder<A: Allocator, K> {
     pub(crate) alloc: A,
-    pub(crate) living: Alive,
-    pub(crate) slots: Vec<Slot<A, K>, A>,
+    pub living: Alive,
+    pub slots: Vec<Slot<A, K>, A>,
     pub(crate) replies: K,
     /// Room for the text of an event.
     pub(crate) room: Vec<u8, A>,

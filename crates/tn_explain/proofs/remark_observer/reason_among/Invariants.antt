@@ -1,13 +1,13 @@
 use Rattle.std.proofs.Common.{◌≡◌, List, drop}
+use Rattle.def_term.specs.Alive.{Alive}
 use Rattle.def_script.specs.Exports.{Exports}
 use Rattle.def_script.specs.Program.{session_of}
 use Rattle.def_run.specs.History.{NamedSession, session_in}
-use Rattle.tn_term.specs.Views.{alive_of}
 use Rattle.tn_flags.specs.Views.{command_of}
 use Rattle.tn_trace.specs.Slots.{EachPair}
-use Rattle.tn_explain.specs.NamedSessions.{HasState}
+use Rattle.tn_trace.specs.NamedSessions.{HasState}
 use Rattle.tn_explain.proofs.remark_observer.reason_among.Given as goal
 
 abbrev pub invariant-loop-place : goal.invariant-loop-place
-invariant-loop-place g l = (o : Exports) (ss : List NamedSession) → EachPair (HasState o (alive_of l.order.living)) ss l.slots.items →
-    session_in o (session_of (command_of l.order.command.now)) (drop l.place ss) ≡ session_in o (session_of (command_of l.order.command.now)) ss
+invariant-loop-place g l = (o : Exports) (living : Alive) (ss : List NamedSession) → EachPair (HasState o living) ss l.slots.items →
+    session_in o (session_of (command_of l.command)) (drop l.place ss) ≡ session_in o (session_of (command_of l.command)) ss

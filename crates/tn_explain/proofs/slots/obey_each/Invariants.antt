@@ -8,7 +8,7 @@ use Rattle.tn_script.specs.Views.{functions_of}
 use Rattle.tn_text.specs.Writes.{Grows}
 use Rattle.tn_trace.specs.Slots.{EachPair}
 use Rattle.def_script.specs.Exports.{visible}
-use Rattle.tn_explain.specs.NamedSessions.{HasState}
+use Rattle.tn_trace.specs.NamedSessions.{HasState}
 use Rattle.tn_explain.proofs.SideBySide.{IsHalfway}
 use Rattle.tn_explain.proofs.slots.obey_each.Given as goal
 

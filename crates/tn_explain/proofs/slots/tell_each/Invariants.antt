@@ -7,7 +7,7 @@ use Rattle.def_run.specs.History.{NamedSession}
 use Rattle.tn_flags.specs.Views.{event_of}
 use Rattle.tn_text.specs.Writes.{Grows}
 use Rattle.tn_trace.specs.Slots.{EachPair}
-use Rattle.tn_explain.specs.NamedSessions.{HasState}
+use Rattle.tn_trace.specs.NamedSessions.{HasState}
 use Rattle.tn_explain.proofs.SideBySide.{IsHalfway}
 use Rattle.tn_explain.proofs.slots.tell_each.Given as goal
 

@@ -5,7 +5,7 @@ use Rattle.tn_flags.specs.Views.{command_of}
 use Rattle.tn_program.specs.Views.{program_of}
 use Rattle.tn_node.specs.Outlooks.{outlook_seen}
 use Rattle.tn_running_node.specs.NodeMoves.{outlook_after}
-use Rattle.tn_explain.specs.Explainers.{sessions_after}
+use Rattle.tn_trace.specs.NamedSessions.{sessions_after}
 use Rattle.tn_explain.proofs.Picks.{entries_of_command, move_explained}
 use Rattle.tn_explain.proofs.explainer.ExplainerObserver.obey.Goals as goal
 

@@ -5,7 +5,7 @@ use Rattle.tn_flags.specs.Views.{event_of}
 use Rattle.tn_program.specs.Views.{program_of}
 use Rattle.def_explain.specs.Runs.{entries_of_move}
 use Rattle.tn_node.specs.Outlooks.{outlook_seen}
-use Rattle.tn_explain.specs.Explainers.{sessions_after}
+use Rattle.tn_trace.specs.NamedSessions.{sessions_after}
 use Rattle.tn_explain.proofs.Picks.{move_explained}
 use Rattle.tn_explain.proofs.explainer.ExplainerObserver.see.Goals as goal
 

@@ -7,7 +7,7 @@ use Rattle.def_run.specs.History.{named_sessions}
 use Rattle.tn_program.specs.Views.{program_of}
 use Rattle.tn_script.specs.Views.{entry_of}
 use Rattle.tn_trace.specs.Slots.{EachPair}
-use Rattle.tn_explain.specs.NamedSessions.{HasState}
+use Rattle.tn_trace.specs.NamedSessions.{HasState}
 use Rattle.tn_explain.proofs.BeforePicks.{stand_at_start}
 use Rattle.tn_explain.proofs.sessions.Sessions.new.Goals as goal
 

@@ -4,7 +4,7 @@ use Rattle.def_run.specs.History.{all_after}
 use Rattle.tn_term.specs.Views.{alive_of}
 use Rattle.tn_flags.specs.Views.{event_of}
 use Rattle.tn_trace.specs.Slots.{EachPair}
-use Rattle.tn_explain.specs.NamedSessions.{HasState}
+use Rattle.tn_trace.specs.NamedSessions.{HasState}
 use Rattle.tn_explain.proofs.MoveLines.{shown_and_made}
 use Rattle.tn_explain.proofs.sessions.Sessions.tell.Goals as goal
 
