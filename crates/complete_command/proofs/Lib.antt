@@ -1,6 +1,5 @@
 mod SameJobs
 mod SameMoves
-mod SamePictures
 mod SamePicks
 mod SameSpecTests
 mod SameWords

@@ -3,21 +3,22 @@ use Rattle.std.proofs.Common.{◌≡◌, ◌∙◌, ℕ, List, Option, None, Som
 use Rattle.def_script.specs.Program.{Program}
 use Rattle.def_script.specs.Script.{Refusal}
 use Rattle.def_run.specs.Output.{refusal_text}
-use Rattle.tn_run.specs.Answers.{is_listed, run_by, schedule_seen}
+use Rattle.tn_run.specs.Answers.{is_listed}
 use Rattle.tn_run.specs.Jobs.{Gives, IsJobRefusal, JobView, OfScript}
 use Rattle.tn_run.specs.declared.live.Ran.{Ran}
 use Rattle.tn_run.specs.declared.fault.LiveFault.{LiveFault}
-use Rattle.tn_run.specs.declared.outcome.Schedule.{Schedule}
 use Rattle.tn_explain.specs.Accounts.{explain_by}
-use Rattle.tn_explain.specs.Notes.{run_and_note}
+use Rattle.tn_explain.specs.Notes.{replay_by}
 use Rattle.tn_explain.specs.declared.request.ExplainRequest.{ExplainRequest}
-use Rattle.tn_explain.specs.declared.run_and_note.RunAndNote.{RunAndNote}
+use Rattle.tn_explain.specs.declared.replay.Replay.{Replay}
+use Rattle.tn_picture.specs.Requests.{draw_by}
+use Rattle.tn_picture.specs.declared.request.DrawRequest.{DrawRequest}
 use Rattle.tn_command.specs.JobForms.{HasAtMost, job_within}
 use Rattle.tn_command.specs.Status.{LISTED_STATUS, REFUSED_STATUS, status_of}
 use Rattle.complete_workers.specs.Runs.{AreOfOneText}
-use Rattle.complete_workers.proofs.OneRun.{one_run, reads_or_not}
 use Rattle.complete_explain.proofs.OneExplanation.{explains_or_not, one_explanation}
-use Rattle.complete_explain.proofs.OneNote.{run_and_note_are_one, runs_or_not}
+use Rattle.complete_explain.proofs.OneNote.{replays_are_one, replays_or_not}
+use Rattle.complete_picture.proofs.OneDrawing.{draws_or_not, one_drawing}
 use Rattle.complete_command.specs.Jobs.{HasOneAnswer}
 
 pub same_status : {O F : Type 0} (job : JobView O F) (n m : ℕ) (r q : Result O F) → n ≡ status_of job r → m ≡ status_of job q
@@ -52,20 +53,20 @@ within_has_one most job one = record {
 
 -- ---- the jobs of the commands
 
-pub run_has_one : (schedule : Schedule) → HasOneAnswer (run_by schedule)
-run_has_one schedule = record {
-  answer = λ bytes o u x y h i. one_run bytes (schedule_seen schedule) o u x y h i;
-  reads = λ bytes o x h. reads_or_not (schedule_seen schedule) bytes o x h;
-}
-
-pub note_has_one : (job : RunAndNote) → HasOneAnswer (run_and_note job)
-note_has_one job = record {
-  answer = λ bytes o u x y h i. run_and_note_are_one bytes job o u x y h i;
-  reads = λ bytes o x h. runs_or_not bytes job o x h;
+pub replay_has_one : (job : Replay) → HasOneAnswer (replay_by job)
+replay_has_one job = record {
+  answer = λ bytes o u x y h i. replays_are_one bytes job o u x y h i;
+  reads = λ bytes o x h. replays_or_not bytes job o x h;
 }
 
 pub explanation_has_one : (request : ExplainRequest) → HasOneAnswer (explain_by request)
 explanation_has_one request = record {
   answer = λ bytes o u x y h i. one_explanation bytes request o u x y h i;
   reads = λ bytes o x h. explains_or_not bytes request o x h;
+}
+
+pub drawing_has_one : (request : DrawRequest) → HasOneAnswer (draw_by request)
+drawing_has_one request = record {
+  answer = λ bytes o u x y h i. one_drawing bytes request o u x y h i;
+  reads = λ bytes o x h. draws_or_not bytes request o x h;
 }

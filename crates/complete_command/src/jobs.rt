@@ -8,9 +8,9 @@ ghost use Rattle.complete_command.specs.Jobs.{FlushAlike, GainAlike, RemainAlike
 use std::alloc::Allocator;
 use std::io::{Read, Write};
 use tn_command::{JobEnd, OutputFault, WithinBytes};
-use tn_explain::{ExplainOutcome, ExplainRequest, RunAndNote, RunEnd};
-use tn_moves::{DrawByMoves, ExplainByMoves, MovesAccount, MovesEnd, MovesPicture, RunByMoves};
-use tn_run::{DirectJob, Outcome, RunFault, Schedule};
+use tn_explain::{ExplainOutcome, ExplainRequest, Replay, ReplayOutcome};
+use tn_picture::{DrawOutcome, DrawRequest};
+use tn_run::{DirectJob, RunFault};
 use tn_text::Watched;
 
 /// `tn_command::perform_over` has one answer where the readers tell their bytes and the job has one, but for
@@ -66,34 +66,18 @@ pub fn within<A: Allocator + Copy, J: DirectJob<A>, R: Read, W: Write>(
     perform_over(alloc, job, one, other, out, same_out)
 }
 
-/// `tn_command::perform_over` has one answer of a run by a schedule, as said of any job that has one.
-pub fn run<A: Allocator + Copy, R: Read, W: Write>(
+/// `tn_command::perform_over` has one answer of a run with its notes or without, as said of any job that has one.
+pub fn replay<A: Allocator + Copy, R: Read, W: Write>(
     alloc: A,
-    schedule: &Schedule<'_>,
+    job: &Replay<'_>,
     one: &mut Watched<R>,
     other: &mut Watched<R>,
     out: &mut Watched<W>,
     same_out: &mut Watched<W>,
-) -> (JobEnd<Outcome, RunFault>, JobEnd<Outcome, RunFault>)
-    requires reported { TellAlike R.remaining one.old other.old }
-    requires failed { has_failed one.old ≡ has_failed other.old }
-    requires outs { SeenAlike W.contents out.old same_out.old }
-    ensures outcome { Knows R.remaining one.old → AnswerAlike result.0 result.1 }
-    ensures status { Knows R.remaining one.old → HaveOneStatus result.0 result.1 }
-    ensures written { Knows R.remaining one.old → GainAlike W.contents out.old out.new same_out.new result.0 result.1 }
-{
-    perform_over(alloc, schedule, one, other, out, same_out)
-}
-
-/// `tn_command::perform_over` has one answer of a run with its note, as said of any job that has one.
-pub fn run_and_note<A: Allocator + Copy, R: Read, W: Write>(
-    alloc: A,
-    job: &RunAndNote<'_>,
-    one: &mut Watched<R>,
-    other: &mut Watched<R>,
-    out: &mut Watched<W>,
-    same_out: &mut Watched<W>,
-) -> (JobEnd<RunEnd, RunFault>, JobEnd<RunEnd, RunFault>)
+) -> (
+    JobEnd<ReplayOutcome, RunFault>,
+    JobEnd<ReplayOutcome, RunFault>,
+)
     requires reported { TellAlike R.remaining one.old other.old }
     requires failed { has_failed one.old ≡ has_failed other.old }
     requires outs { SeenAlike W.contents out.old same_out.old }
@@ -126,15 +110,15 @@ pub fn explain<A: Allocator + Copy, R: Read, W: Write>(
     perform_over(alloc, request, one, other, out, same_out)
 }
 
-/// `tn_command::perform_over` has one answer of a run by moves, as said of any job that has one.
-pub fn run_by_moves<A: Allocator + Copy, R: Read, W: Write>(
+/// `tn_command::perform_over` has one answer of a run that is drawn, as said of any job that has one.
+pub fn draw<A: Allocator + Copy, R: Read, W: Write>(
     alloc: A,
-    job: &RunByMoves<'_>,
+    request: &DrawRequest<'_>,
     one: &mut Watched<R>,
     other: &mut Watched<R>,
     out: &mut Watched<W>,
     same_out: &mut Watched<W>,
-) -> (JobEnd<MovesEnd, RunFault>, JobEnd<MovesEnd, RunFault>)
+) -> (JobEnd<DrawOutcome, RunFault>, JobEnd<DrawOutcome, RunFault>)
     requires reported { TellAlike R.remaining one.old other.old }
     requires failed { has_failed one.old ≡ has_failed other.old }
     requires outs { SeenAlike W.contents out.old same_out.old }
@@ -142,49 +126,5 @@ pub fn run_by_moves<A: Allocator + Copy, R: Read, W: Write>(
     ensures status { Knows R.remaining one.old → HaveOneStatus result.0 result.1 }
     ensures written { Knows R.remaining one.old → GainAlike W.contents out.old out.new same_out.new result.0 result.1 }
 {
-    perform_over(alloc, job, one, other, out, same_out)
-}
-
-/// `tn_command::perform_over` has one answer of a run by moves that is explained, as said of any job that has one.
-pub fn explain_by_moves<A: Allocator + Copy, R: Read, W: Write>(
-    alloc: A,
-    job: &ExplainByMoves<'_>,
-    one: &mut Watched<R>,
-    other: &mut Watched<R>,
-    out: &mut Watched<W>,
-    same_out: &mut Watched<W>,
-) -> (
-    JobEnd<MovesAccount, RunFault>,
-    JobEnd<MovesAccount, RunFault>,
-)
-    requires reported { TellAlike R.remaining one.old other.old }
-    requires failed { has_failed one.old ≡ has_failed other.old }
-    requires outs { SeenAlike W.contents out.old same_out.old }
-    ensures outcome { Knows R.remaining one.old → AnswerAlike result.0 result.1 }
-    ensures status { Knows R.remaining one.old → HaveOneStatus result.0 result.1 }
-    ensures written { Knows R.remaining one.old → GainAlike W.contents out.old out.new same_out.new result.0 result.1 }
-{
-    perform_over(alloc, job, one, other, out, same_out)
-}
-
-/// `tn_command::perform_over` has one answer of a run by moves that is drawn, as said of any job that has one.
-pub fn draw_by_moves<A: Allocator + Copy, R: Read, W: Write>(
-    alloc: A,
-    job: &DrawByMoves<'_>,
-    one: &mut Watched<R>,
-    other: &mut Watched<R>,
-    out: &mut Watched<W>,
-    same_out: &mut Watched<W>,
-) -> (
-    JobEnd<MovesPicture, RunFault>,
-    JobEnd<MovesPicture, RunFault>,
-)
-    requires reported { TellAlike R.remaining one.old other.old }
-    requires failed { has_failed one.old ≡ has_failed other.old }
-    requires outs { SeenAlike W.contents out.old same_out.old }
-    ensures outcome { Knows R.remaining one.old → AnswerAlike result.0 result.1 }
-    ensures status { Knows R.remaining one.old → HaveOneStatus result.0 result.1 }
-    ensures written { Knows R.remaining one.old → GainAlike W.contents out.old out.new same_out.new result.0 result.1 }
-{
-    perform_over(alloc, job, one, other, out, same_out)
+    perform_over(alloc, request, one, other, out, same_out)
 }

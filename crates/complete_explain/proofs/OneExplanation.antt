@@ -1,21 +1,21 @@
--- The bytes of a script, the picks and the filter have one explanation.
-use Rattle.std.proofs.Common.{◌≡◌, ◌≢◌, ◌∙◌, ◌⊎◌, ℕ, Bool, true, false, ◌||◌, List, [], Option, Some, None, is_some, refl, sym, ap, subst}
+-- The bytes of a script, the schedule and the filter have one explanation.
+use Rattle.std.proofs.Common.{◌≡◌, ◌≢◌, ◌∙◌, ◌⊎◌, inl, ℕ, Bool, true, false, ◌||◌, List, [], Option, Some, None, is_some, refl, sym, ap, subst}
 use Rattle.def_term.specs.Names.{Name}
 use Rattle.def_script.specs.Program.{Program}
 use Rattle.def_script.proofs.OneScript.{one_program}
-use Rattle.def_run.specs.Listing.{program_output}
-use Rattle.def_run.proofs.Outputs.{picks_are_one}
 use Rattle.def_running_node.specs.NodeNotes.{Question, question_text}
-use Rattle.tn_run.specs.Answers.{by_picks, HasPicks, run_for}
+use Rattle.tn_moves.specs.Schedules.{ScheduleView, schedule_seen, ArePicks, HasPicks}
+use Rattle.tn_run.specs.Answers.{run_for}
 use Rattle.tn_run.specs.Jobs.{Gives, OfScript}
 use Rattle.tn_run.specs.declared.outcome.Outcome.TheVariants as run
-use Rattle.tn_refusal.specs.declared.refusal.Refusal.{Refusal}
-use Rattle.tn_explain.specs.Accounts.{HasAskedSession, LacksAskedSession, asks_for_moves, IsAnswer, IsSpelledAnswer, explain_by}
+use Rattle.tn_run.specs.declared.outcome.RunRefusal.{RunRefusal}
+use Rattle.tn_run.specs.declared.outcome.RunRefusal.TheVariants.{Text, Moves}
+use Rattle.tn_explain.specs.Accounts.{HasAskedSession, LacksAskedSession, asks_for_moves, IsAnswer, IsAskedAnswer, explain_by}
 use Rattle.tn_explain.specs.Filters.{question_seen}
 use Rattle.tn_explain.specs.declared.request.ExplainRequest.{ExplainRequest}
 use Rattle.tn_explain.specs.declared.request.ExplainOutcome.{ExplainOutcome}
 use Rattle.tn_explain.specs.declared.request.ExplainOutcome.TheVariants.{Account, Refused, NoSession, NoMove, NoDifference}
-use Rattle.complete_workers.proofs.OneRun.{one_run, reads_or_not}
+use Rattle.complete_workers.proofs.OneRun.{given, not_refused, one_picks, one_refusal, refused_or_not}
 
 -- ---- of one program and some picks
 
@@ -67,40 +67,40 @@ one_answer p picks a (Refused r) u x y h i = absurd h
 -- ---- of a text
 
 module _ (bytes : List ℕ) (q : ExplainRequest) where
-  abbrev IsExplained : ExplainOutcome → List ℕ → Type 0
-  IsExplained o x = OfScript bytes (λ p. IsSpelledAnswer q.picks.now (question_seen q.filter) p o x)
+  abbrev view : ScheduleView
+  view = schedule_seen q.schedule
 
-  -- the run that is explained
-  listing_of : (o : ExplainOutcome) (x : List ℕ) (h : IsExplained o x) → Gives (run_for (by_picks q.picks.now)) bytes run.Listed (program_output h.program h.output.picks)
-  listing_of o x h = record { program = h.program; accepted = h.accepted; output = record { picks = h.output.picks; given = h.output.given; listing = refl } }
+  abbrev IsExplainedOf : ExplainOutcome → List ℕ → Type 0
+  IsExplainedOf o x = OfScript bytes (λ p. IsAskedAnswer q p o x)
 
-  same_answer : (o u : ExplainOutcome) (x y : List ℕ) → IsExplained o x → IsExplained u y → (o ≡ u) × (x ≡ y)
+  same_answer : (o u : ExplainOutcome) (x y : List ℕ) → IsExplainedOf o x → IsExplainedOf u y → (o ≡ u) × (x ≡ y)
   same_answer o u x y h i =
       let a : Question = question_seen q.filter in
       let program : i.program ≡ h.program = one_program bytes i.program h.program i.accepted h.accepted in
-      let picks : i.output.picks ≡ h.output.picks = picks_are_one q.picks.now i.output.picks h.output.picks i.output.given h.output.given in
+      let picks : i.output.picks ≡ h.output.picks = one_picks view h.program i.output.picks h.output.picks (subst (λ p. ArePicks view p i.output.picks) program i.output.given) h.output.given in
       one_answer h.program h.output.picks a o u x y h.output.answer
       (subst (λ p. IsAnswer p h.output.picks a u y) program (subst (λ ps. IsAnswer i.program ps a u y) picks i.output.answer))
 
-  not_refused : (o : ExplainOutcome) (r : Refusal) (x y : List ℕ) → IsExplained o x → Gives (run_for (by_picks q.picks.now)) bytes (run.Refused r) y → ⊥
-  not_refused o r x y h i =
-      let e : run.Listed ≡ run.Refused r = (one_run bytes (by_picks q.picks.now) run.Listed (run.Refused r) (program_output h.program h.output.picks) y (listing_of o x h) i).0 in
-      cc
+  -- it is refused as the run is
+  run_refused : (r : RunRefusal) (x : List ℕ) → Gives (explain_by q) bytes (Refused r) x → Gives (run_for view) bytes (run.Refused r) x
+  run_refused (Text r) x h = h
+  run_refused (Moves r) x h = h
+
+  not_explained : (o : ExplainOutcome) (r : RunRefusal) (x y : List ℕ) → IsExplainedOf o x → Gives (explain_by q) bytes (Refused r) y → ⊥
+  not_explained o r x y h i = not_refused bytes view h.program h.output.picks r y h.accepted h.output.given (run_refused r y i)
 
   pub one_explanation : (o u : ExplainOutcome) (x y : List ℕ) → Gives (explain_by q) bytes o x → Gives (explain_by q) bytes u y → (o ≡ u) × (x ≡ y)
   one_explanation (Refused r) (Refused s) x y h i =
-      let e = one_run bytes (by_picks q.picks.now) (run.Refused r) (run.Refused s) x y h i in
-      let same : run.Refused r ≡ run.Refused s = e.0 in
-      let r_is : r ≡ s = cc in
-      (ap Refused r_is, e.1)
-  one_explanation (Refused r) Account x y h i = absurd (not_refused Account r y x i h)
-  one_explanation (Refused r) NoSession x y h i = absurd (not_refused NoSession r y x i h)
-  one_explanation (Refused r) NoMove x y h i = absurd (not_refused NoMove r y x i h)
-  one_explanation (Refused r) NoDifference x y h i = absurd (not_refused NoDifference r y x i h)
-  one_explanation Account (Refused s) x y h i = absurd (not_refused Account s x y h i)
-  one_explanation NoSession (Refused s) x y h i = absurd (not_refused NoSession s x y h i)
-  one_explanation NoMove (Refused s) x y h i = absurd (not_refused NoMove s x y h i)
-  one_explanation NoDifference (Refused s) x y h i = absurd (not_refused NoDifference s x y h i)
+      let same = one_refusal bytes view r s x y (run_refused r x h) (run_refused s y i) in
+      (ap Refused same.0, same.1)
+  one_explanation (Refused r) Account x y h i = absurd (not_explained Account r y x i h)
+  one_explanation (Refused r) NoSession x y h i = absurd (not_explained NoSession r y x i h)
+  one_explanation (Refused r) NoMove x y h i = absurd (not_explained NoMove r y x i h)
+  one_explanation (Refused r) NoDifference x y h i = absurd (not_explained NoDifference r y x i h)
+  one_explanation Account (Refused s) x y h i = absurd (not_explained Account s x y h i)
+  one_explanation NoSession (Refused s) x y h i = absurd (not_explained NoSession s x y h i)
+  one_explanation NoMove (Refused s) x y h i = absurd (not_explained NoMove s x y h i)
+  one_explanation NoDifference (Refused s) x y h i = absurd (not_explained NoDifference s x y h i)
   one_explanation Account Account x y h i = same_answer Account Account x y h i
   one_explanation Account NoSession x y h i = same_answer Account NoSession x y h i
   one_explanation Account NoMove x y h i = same_answer Account NoMove x y h i
@@ -119,9 +119,9 @@ module _ (bytes : List ℕ) (q : ExplainRequest) where
   one_explanation NoDifference NoDifference x y h i = same_answer NoDifference NoDifference x y h i
 
   -- it has picks, or there are none
-  pub explains_or_not : (o : ExplainOutcome) (x : List ℕ) → Gives (explain_by q) bytes o x → HasPicks (by_picks q.picks.now) ⊎ (HasPicks (by_picks q.picks.now) → ⊥)
-  explains_or_not (Refused r) x h = reads_or_not (by_picks q.picks.now) bytes (run.Refused r) x h
-  explains_or_not Account x h = reads_or_not (by_picks q.picks.now) bytes run.Listed (program_output h.program h.output.picks) (listing_of Account x h)
-  explains_or_not NoSession x h = reads_or_not (by_picks q.picks.now) bytes run.Listed (program_output h.program h.output.picks) (listing_of NoSession x h)
-  explains_or_not NoMove x h = reads_or_not (by_picks q.picks.now) bytes run.Listed (program_output h.program h.output.picks) (listing_of NoMove x h)
-  explains_or_not NoDifference x h = reads_or_not (by_picks q.picks.now) bytes run.Listed (program_output h.program h.output.picks) (listing_of NoDifference x h)
+  pub explains_or_not : (o : ExplainOutcome) (x : List ℕ) → Gives (explain_by q) bytes o x → HasPicks view ⊎ (HasPicks view → ⊥)
+  explains_or_not (Refused r) x h = refused_or_not view bytes r x (run_refused r x h)
+  explains_or_not Account x h = inl (given view h.program h.output.picks h.output.given)
+  explains_or_not NoSession x h = inl (given view h.program h.output.picks h.output.given)
+  explains_or_not NoMove x h = inl (given view h.program h.output.picks h.output.given)
+  explains_or_not NoDifference x h = inl (given view h.program h.output.picks h.output.given)

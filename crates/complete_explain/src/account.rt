@@ -3,13 +3,14 @@ ghost use Rattle.std.specs.Prelude.{◌≡◌, IfOk, OnOk, OnErr};
 
 use std::alloc::{AllocError, Allocator};
 use tn_explain::{ExplainOutcome, Filter, account_of, put_account};
+use tn_moves::Plan;
 use tn_program::Program;
 
-/// What is explained: a program's run by these picks, and what is asked of it.
+/// What is explained: a program's run by a plan, and what is asked of it.
 #[derive(Clone, Copy)]
 pub struct ExplainedProgram<'a, A: Allocator> {
     pub program: &'a Program<A>,
-    pub picks: &'a [u32],
+    pub plan: &'a Plan<'a, A>,
     pub filter: Filter<'a>,
 }
 
@@ -24,8 +25,8 @@ pub fn outcome<A: Allocator + Copy>(
     ensures { IfOk result.0 (λ x. IfOk result.1 (λ y. (x.0 ≡ y.0) × (x.1.items ≡ y.1.items))) }
 {
     (
-        account_of(alloc, of.program, of.picks, &of.filter),
-        account_of(alloc, of.program, of.picks, &of.filter),
+        account_of(alloc, of.program, of.plan, &of.filter),
+        account_of(alloc, of.program, of.plan, &of.filter),
     )
 }
 
@@ -41,7 +42,7 @@ pub fn text<A: Allocator + Copy>(
     ensures err { OnErr result.0 (OnErr result.1 (first.new.items ≡ second.new.items)) }
 {
     (
-        put_account(alloc, of.program, of.picks, &of.filter, first),
-        put_account(alloc, of.program, of.picks, &of.filter, second),
+        put_account(alloc, of.program, of.plan, &of.filter, first),
+        put_account(alloc, of.program, of.plan, &of.filter, second),
     )
 }

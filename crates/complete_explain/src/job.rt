@@ -1,7 +1,7 @@
 // An explanation of a script's run.
 ghost use Rattle.std.specs.Prelude.{◌≡◌, IfOk};
 ghost use Rattle.tn_text.specs.Watch.{has_failed, is_flushed};
-ghost use Rattle.tn_run.specs.Answers.{HasPicks, by_picks};
+ghost use Rattle.tn_moves.specs.Schedules.{HasPicks, schedule_seen};
 ghost use Rattle.tn_run.specs.Jobs.{failed_end};
 ghost use Rattle.complete_workers.specs.Ends.{EndAlike, SeenAlike, TellAlike, Knows, WriteAlike};
 ghost use Rattle.complete_workers.specs.Runs.{LeaveAlike, MeetNoWriteFault};
@@ -30,7 +30,7 @@ pub fn explain<A: Allocator + Copy, R: Read, W: Write>(
     requires outs { SeenAlike W.contents out.old same_out.old }
     ensures outcome { Knows R.remaining one.old → IfOk result.0 (λ o. IfOk result.1 (λ p. o ≡ p)) }
     ensures written { Knows R.remaining one.old → WriteAlike W.contents out.old out.new same_out.new result.0 result.1 }
-    ensures unread { (HasPicks (by_picks request.now.picks.now) → ⊥) → TellAlike R.remaining one.new other.new }
+    ensures unread { (HasPicks (schedule_seen request.now.schedule) → ⊥) → TellAlike R.remaining one.new other.new }
     ensures left { LeaveAlike failed_end R.remaining one.old one.new other.new result.0 result.1 }
     ensures reader { EndAlike result.0 result.1 → has_failed one.new ≡ has_failed other.new }
     ensures writer { EndAlike result.0 result.1 → has_failed out.new ≡ has_failed same_out.new }

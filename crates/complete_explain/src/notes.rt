@@ -6,6 +6,7 @@ ghost use Rattle.tn_trace.specs.Transcripts.{transcript_of};
 
 use std::alloc::{AllocError, Allocator};
 use tn_explain::{NodeNote, RunNotes};
+use tn_moves::Schedule;
 use tn_program::Program;
 use tn_run::Denial;
 use tn_trace::Transcript;
@@ -90,18 +91,32 @@ pub fn remark_lines<A: Allocator + Copy>(
     )
 }
 
-/// `tn_explain::round_remark_lines` has one answer for one text of tokens, its name and the same limit.
-pub fn round_remark_lines<A: Allocator + Copy>(
+/// `tn_explain::schedule_remark_lines` has one answer for one text of tokens, its name and the same schedule.
+pub fn schedule_remark_lines<A: Allocator + Copy>(
     alloc: A,
     name: &str,
     text: &[u8],
-    limit: u32,
+    schedule: &Schedule<'_>,
 ) -> (Result<Vec<u8, A>, Denial>, Result<Vec<u8, A>, Denial>)
     ensures { IsListable text.now → IfOk result.0 (λ v. IfOk result.1 (λ w. v.items ≡ w.items)) }
 {
     (
-        tn_explain::round_remark_lines(alloc, name, text, limit),
-        tn_explain::round_remark_lines(alloc, name, text, limit),
+        tn_explain::schedule_remark_lines(alloc, name, text, schedule),
+        tn_explain::schedule_remark_lines(alloc, name, text, schedule),
+    )
+}
+
+/// `tn_explain::schedule_has_remarks` has one answer for one text and the same schedule.
+pub fn schedule_has_remarks<A: Allocator + Copy>(
+    alloc: A,
+    text: &[u8],
+    schedule: &Schedule<'_>,
+) -> (Result<bool, Denial>, Result<bool, Denial>)
+    ensures { IfOk result.0 (λ b. IfOk result.1 (λ c. b ≡ c)) }
+{
+    (
+        tn_explain::schedule_has_remarks(alloc, text, schedule),
+        tn_explain::schedule_has_remarks(alloc, text, schedule),
     )
 }
 

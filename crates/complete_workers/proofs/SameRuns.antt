@@ -2,7 +2,8 @@
 use Rattle.std.proofs.Common.{◌≡◌, ◌∙◌, ◌⊎◌, inl, inr, ℕ, Bool, true, List, [], ◌++◌, take, Option, Some, None, IsSome, Result, Ok, Err, IfOk, IfErr, refl, sym, ap, ap₂, subst}
 use Rattle.tn_text.specs.Watch.{watched_inner, has_failed, is_flushed}
 use Rattle.tn_text.specs.declared.watched.Watched.{Watched}
-use Rattle.tn_run.specs.Answers.{by_workers, HasPicksWhereListed, live_end_of, live_run, run_for}
+use Rattle.tn_moves.specs.Schedules.{by_workers}
+use Rattle.tn_run.specs.Answers.{HasPicksWhereListed, live_end_of, live_run, run_for}
 use Rattle.tn_run.specs.Ends.{TakesText}
 use Rattle.tn_run.specs.Jobs.{Meets, FailedEnd, Gives, JobView, Writes, WritesSome, no_end_failed, reader_failed, writer_failed}
 use Rattle.tn_run.specs.declared.outcome.Outcome.{Outcome}

@@ -1,14 +1,15 @@
 // A run of a script.
 ghost use Rattle.std.specs.Prelude.{◌≡◌, IfOk};
 ghost use Rattle.tn_text.specs.Watch.{has_failed, is_flushed};
-ghost use Rattle.tn_run.specs.Answers.{HasPicks, schedule_seen};
+ghost use Rattle.tn_moves.specs.Schedules.{HasPicks, schedule_seen};
 ghost use Rattle.tn_run.specs.Jobs.{failed_end};
 ghost use Rattle.complete_workers.specs.Ends.{EndAlike, SeenAlike, TellAlike, Knows, WriteAlike};
 ghost use Rattle.complete_workers.specs.Runs.{LeaveAlike, MeetNoWriteFault};
 
 use std::alloc::Allocator;
 use std::io::{Read, Write};
-use tn_run::{Outcome, RunFault, Schedule};
+use tn_moves::Schedule;
+use tn_run::{Outcome, RunFault};
 use tn_text::Watched;
 
 /// `tn_run::run` has one answer where the readers tell their bytes, but for which end fails, and when: there

@@ -2,3 +2,4 @@ pub mod Directives
 pub mod Laws
 pub mod Texts
 pub mod TextLaws
+pub mod Outputs

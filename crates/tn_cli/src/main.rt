@@ -33,15 +33,15 @@ use tn_command::{
     WithinBytes, WorkersRun, arguments, escape_controls, output_of, perform, picks_of, report,
     tell_fault, test_spec,
 };
-use tn_explain::{ExplainRequest, Filter, RunAndNote};
+use tn_explain::{ExplainRequest, Filter, Replay};
 use tn_formats::Format;
-use tn_moves::{DrawByMoves, ExplainByMoves, Moves, RunByMoves};
+use tn_moves::Schedule;
 use tn_picture::{DrawRequest, PictureFormat};
-use tn_run::{DirectJob, RunFault, Schedule, Workers, write_output};
+use tn_run::{DirectJob, RunFault, Workers, write_output};
 use tn_text::Watched;
 use tn_verdict::SpecTestInput;
 
-/// What is done with a script and a text of picks or of moves.
+/// What is done with the run of a script.
 #[derive(Clone, Copy)]
 enum Task<'a> {
     /// The run's output is printed, and its note where there is one, unless nothing is asked for on standard error.
@@ -87,97 +87,36 @@ fn perform_in<R: Input + Files + Print + Eprint + AllocGlobal, J: Command + Dire
     perform(rt, script, &WithinBytes { job, most }, expectation)
 }
 
-/// Runs the script by a schedule, with the note of what a running node does otherwise, or without.
+/// Does the task by a schedule.
 fn run_schedule<R: Input + Files + Print + Eprint + AllocGlobal>(
     rt: &R,
+    task: Task<'_>,
     script: Source<'_>,
     schedule: Schedule<'_>,
-    print_args: PrintArgs,
-    expectation: &Expectation<'_>,
-) -> ExitCode
-    ensures { IsStatus (exit_status result) }
-{
-    let PrintArgs { form, quiet } = print_args;
-    if quiet && !expectation.strict {
-        perform_in(rt, script, &schedule, form, expectation)
-    } else {
-        let job = &RunAndNote { schedule, quiet };
-        perform_in(rt, script, job, form, expectation)
-    }
-}
-
-/// Does the task with this text of picks.
-fn run_task<R: Input + Files + Print + Eprint + AllocGlobal>(
-    rt: &R,
-    task: Task<'_>,
-    script: Source<'_>,
-    picks: &[u8],
-    expectation: &Expectation<'_>,
-) -> ExitCode
-    ensures { IsStatus (exit_status result) }
-{
-    match task {
-        Task::Replay(print_args) => {
-            run_schedule(rt, script, Schedule::Picks(picks), print_args, expectation)
-        }
-        Task::Explain { filter, form } => {
-            let job = &ExplainRequest { picks, filter };
-            perform_in(rt, script, job, form, expectation)
-        }
-        Task::Draw { picture, most } => {
-            let job = &DrawRequest {
-                picks,
-                format: picture,
-            };
-            perform(rt, script, &WithinBytes { job, most }, expectation)
-        }
-    }
-}
-
-/// Does the task by these moves.
-fn run_moves<R: Input + Files + Print + Eprint + AllocGlobal>(
-    rt: &R,
-    task: Task<'_>,
-    script: Source<'_>,
-    moves: Moves<'_>,
     expectation: &Expectation<'_>,
 ) -> ExitCode
     ensures { IsStatus (exit_status result) }
 {
     match task {
         Task::Replay(PrintArgs { form, quiet }) => {
-            let has_notes = !quiet;
-            let job = &RunByMoves { moves, has_notes };
+            let job = &Replay {
+                schedule,
+                has_notes: !quiet || expectation.strict,
+                quiet,
+            };
             perform_in(rt, script, job, form, expectation)
         }
         Task::Explain { filter, form } => {
-            let job = &ExplainByMoves { moves, filter };
+            let job = &ExplainRequest { schedule, filter };
             perform_in(rt, script, job, form, expectation)
         }
         Task::Draw { picture, most } => {
-            let job = &DrawByMoves {
-                moves,
+            let job = &DrawRequest {
+                schedule,
                 format: picture,
             };
             perform(rt, script, &WithinBytes { job, most }, expectation)
         }
-    }
-}
-
-/// Does the task with a text of picks or of moves.
-fn run_text<R: Input + Files + Print + Eprint + AllocGlobal>(
-    rt: &R,
-    task: Task<'_>,
-    script: Source<'_>,
-    kind: TextKind,
-    text: &[u8],
-    expectation: &Expectation<'_>,
-) -> ExitCode
-    ensures { IsStatus (exit_status result) }
-{
-    match kind {
-        TextKind::Picks => run_task(rt, task, script, text, expectation),
-        TextKind::Moves => run_moves(rt, task, script, Moves::Text(text), expectation),
     }
 }
 
@@ -215,7 +154,13 @@ fn run_from<R: Input + Files + Print + Eprint + AllocGlobal>(
     ensures { IsStatus (exit_status result) }
 {
     match text_in(rt, script, kind, source) {
-        Ok(text) => run_text(rt, task, script, kind, &text, expectation),
+        Ok(text) => {
+            let schedule = match kind {
+                TextKind::Picks => Schedule::Picks(&text),
+                TextKind::Moves => Schedule::Moves(&text),
+            };
+            run_schedule(rt, task, script, schedule, expectation)
+        }
         Err(status) => status,
     }
 }
@@ -234,23 +179,26 @@ fn run_by_picks<R: Input + Files + Print + Eprint + AllocGlobal>(
         PicksSource::In(source) => {
             run_from(rt, task, script, TextKind::Picks, source, expectation)
         }
-        PicksSource::Text(text) => run_task(rt, task, script, text.as_bytes(), expectation),
+        PicksSource::Text(text) => {
+            let schedule = Schedule::Picks(text.as_bytes());
+            run_schedule(rt, task, script, schedule, expectation)
+        }
         PicksSource::MovesIn(source) => {
             run_from(rt, task, script, TextKind::Moves, source, expectation)
         }
         PicksSource::Moves(text) => {
-            let moves = Moves::Text(text.as_bytes());
-            run_moves(rt, task, script, moves, expectation)
+            let schedule = Schedule::Moves(text.as_bytes());
+            run_schedule(rt, task, script, schedule, expectation)
         }
     }
 }
 
-/// The moves of a round, in which so many picks may move.
-fn round_moves(limit: u32, control_first: bool) -> Moves<'static> {
+/// A round, in which so many picks may move.
+fn round_schedule(limit: u32, control_first: bool) -> Schedule<'static> {
     if control_first {
-        Moves::ControlFirst(limit)
+        Schedule::ControlFirst(limit)
     } else {
-        Moves::Round(limit)
+        Schedule::Round(limit)
     }
 }
 
@@ -270,8 +218,8 @@ fn run_explain<R: Input + Files + Print + Eprint + AllocGlobal>(
             limit,
             control_first,
         } => {
-            let moves = round_moves(limit, control_first);
-            run_moves(rt, task, script, moves, expectation)
+            let schedule = round_schedule(limit, control_first);
+            run_schedule(rt, task, script, schedule, expectation)
         }
     }
 }
@@ -373,12 +321,9 @@ fn run_so<R: Input + Files + Print + Eprint + AllocGlobal + Threads + Wait + Syn
             quiet,
             ..
         } => {
-            let print_args = PrintArgs { form, quiet };
-            if control_first {
-                let moves = Moves::ControlFirst(limit);
-                return run_moves(rt, Task::Replay(print_args), script, moves, expectation);
-            }
-            run_schedule(rt, script, Schedule::Round(limit), print_args, expectation)
+            let task = Task::Replay(PrintArgs { form, quiet });
+            let schedule = round_schedule(limit, control_first);
+            run_schedule(rt, task, script, schedule, expectation)
         }
         Request::Workers {
             script,

@@ -1,16 +1,15 @@
-// The jobs of `draw`, and what is said of their outcomes.
-use crate::command::{Command, has_flaw_as_spelled, has_flaw_by_moves, moves_text};
-use crate::moves_line::tell_moves;
-use crate::stderr::{NamedText, tell_refusal};
+// The job of `draw`, and what is said of its outcome.
+use crate::command::{Command, has_schedule_flaw, schedule_text};
+use crate::moves_line::tell_run_refusal;
+use crate::stderr::NamedText;
 use std::alloc::Global;
-use tn_moves::{DrawByMoves, MovesPicture};
 use tn_picture::{DrawOutcome, DrawRequest};
 use tn_run::Denial;
 
 impl Command for DrawRequest<'_> {
     ghost use Rattle.tn_command.specs.Flaws.{IsDrawnFlaw};
 
-    ghost flaw = { λ job outcome bytes flawed. IsDrawnFlaw job.picks.now outcome bytes flawed };
+    ghost flaw = { IsDrawnFlaw };
 
     fn tell_outcome<R: Eprint + AllocGlobal>(
         &self,
@@ -20,7 +19,9 @@ impl Command for DrawRequest<'_> {
     ) {
         match outcome {
             DrawOutcome::Drawn => {}
-            DrawOutcome::Refused(refusal) => tell_refusal(rt, refusal, script, self.picks),
+            DrawOutcome::Refused(refusal) => {
+                tell_run_refusal(rt, refusal, script, schedule_text(&self.schedule));
+            }
         }
     }
 
@@ -31,42 +32,8 @@ impl Command for DrawRequest<'_> {
         script: NamedText<'_>,
     ) -> Result<bool, Denial> {
         match outcome {
-            DrawOutcome::Drawn => has_flaw_as_spelled(alloc, script, self.picks),
+            DrawOutcome::Drawn => has_schedule_flaw(alloc, script, &self.schedule),
             DrawOutcome::Refused(_) => Ok(false),
-        }
-    }
-}
-
-impl Command for DrawByMoves<'_> {
-    ghost use Rattle.tn_command.specs.Flaws.{IsPictureFlaw};
-
-    ghost flaw = { λ job outcome bytes flawed. IsPictureFlaw job.moves outcome bytes flawed };
-
-    fn tell_outcome<R: Eprint + AllocGlobal>(
-        &self,
-        rt: &R,
-        outcome: MovesPicture,
-        script: NamedText<'_>,
-    ) {
-        match outcome {
-            MovesPicture::Drawn => {}
-            MovesPicture::Refused(refusal) => tell_refusal(rt, refusal, script, b""),
-            MovesPicture::BadMoves(refusal) => {
-                tell_moves(rt, refusal, script, moves_text(&self.moves));
-            }
-        }
-    }
-
-    fn is_flawed(
-        &self,
-        alloc: Global,
-        outcome: &MovesPicture,
-        script: NamedText<'_>,
-    ) -> Result<bool, Denial> {
-        match outcome {
-            MovesPicture::Drawn => has_flaw_by_moves(alloc, script, &self.moves),
-            MovesPicture::Refused(_) => Ok(false),
-            MovesPicture::BadMoves(_) => Ok(false),
         }
     }
 }

@@ -1,10 +1,10 @@
-// What is said on standard error of a text of moves that is refused.
-use crate::stderr::NamedText;
+// What is said on standard error of a run that is refused, for its text of moves or another.
+use crate::stderr::{NamedText, tell_refusal};
 use std::alloc::{AllocError, Global};
 use tn_moves::{MovesRefusal, mover_len, pids_named};
 use tn_program::Program;
 use tn_refusal::line_column_of;
-use tn_run::accept;
+use tn_run::{RunRefusal, accept};
 use tn_text::write_atom;
 
 /// Appends bytes, with `?` in place of each that isn't printable.
@@ -123,7 +123,7 @@ fn moves_line(
 }
 
 /// Says in one line where a text of moves is refused, and why.
-pub(crate) fn tell_moves<R: Eprint + AllocGlobal>(
+fn tell_moves<R: Eprint + AllocGlobal>(
     rt: &R,
     refusal: MovesRefusal,
     script: NamedText<'_>,
@@ -134,5 +134,18 @@ pub(crate) fn tell_moves<R: Eprint + AllocGlobal>(
     };
     if let Ok(line) = str::from_utf8(&line) {
         let _ = rt.eprintln(line);
+    }
+}
+
+/// Says in one line why a script is not run, where this is the text of its picks or moves.
+pub(crate) fn tell_run_refusal<R: Eprint + AllocGlobal>(
+    rt: &R,
+    refusal: RunRefusal,
+    script: NamedText<'_>,
+    text: &[u8],
+) {
+    match refusal {
+        RunRefusal::Text(refusal) => tell_refusal(rt, refusal, script, text),
+        RunRefusal::Moves(refusal) => tell_moves(rt, refusal, script, text),
     }
 }

@@ -3,9 +3,9 @@ use crate::pick_notes::tell_pick_of_nobody;
 use crate::spec_notes::spec_note_lines;
 use crate::stderr::NamedText;
 use std::alloc::Global;
-use tn_explain::{has_no_forms, remark_lines, round_remark_lines};
+use tn_explain::{has_no_forms, remark_lines, schedule_remark_lines};
 use tn_listing::read_picks;
-use tn_run::Schedule;
+use tn_moves::Schedule;
 use tn_verdict::SpecTestInput;
 
 /// Prints lines, where there was memory for them.
@@ -39,19 +39,15 @@ pub(crate) fn tell_remarks<R: Eprint + AllocGlobal>(rt: &R, script: NamedText<'_
 pub(crate) fn tell_schedule_remarks<R: Eprint + AllocGlobal>(
     rt: &R,
     script: NamedText<'_>,
-    schedule: Schedule<'_>,
+    schedule: &Schedule<'_>,
 ) {
-    match schedule {
-        Schedule::Picks(text) => {
-            if let Ok(picks) = read_picks::<Global>(rt.alloc(), text) {
-                tell_remarks(rt, script, &picks);
-            }
-        }
-        Schedule::Round(limit) => print_lines(
-            rt,
-            round_remark_lines::<Global>(rt.alloc(), script.name, script.bytes, limit).ok(),
-        ),
-    }
+    let lines = schedule_remark_lines::<Global>(
+        rt.alloc(),
+        script.name,
+        script.bytes,
+        schedule,
+    ).ok();
+    print_lines(rt, lines);
 }
 
 /// Says of the first pick of a schedule that names nobody that it does, where there is one.

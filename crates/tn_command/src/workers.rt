@@ -10,12 +10,13 @@ use crate::command::{Command, has_flaw};
 use crate::expectation::Expectation;
 use crate::jobs::{INPUT, print_end, print_judgement, script_of, write_error};
 use crate::last_error::LastError;
+use crate::moves_line::tell_run_refusal;
 use crate::output_fault::OutputFault;
 use crate::output_form::OutputForm;
 use crate::remarks::{tell_empty_script, tell_remarks};
 use crate::source::{Source, open};
 use crate::status::{JobEnd, job_status};
-use crate::stderr::{NamedText, tell_note, tell_refusal};
+use crate::stderr::{NamedText, tell_note};
 use crate::tee::Tee;
 use crate::workers_form::run_workers_in_form_over;
 use std::alloc::Global;
@@ -97,7 +98,7 @@ impl Command for WorkersRun<'_> {
 
     fn tell_outcome<R: Eprint + AllocGlobal>(&self, rt: &R, ran: Ran, script: NamedText<'_>) {
         match ran.outcome {
-            Outcome::Refused(refusal) => tell_refusal(rt, refusal, script, b""),
+            Outcome::Refused(refusal) => tell_run_refusal(rt, refusal, script, b""),
             Outcome::Listed if !self.has_note => {}
             Outcome::Listed => {
                 tell_empty_script(rt, script);

@@ -20,3 +20,4 @@ pub mod EmptyScripts
 pub mod CommandStarts
 pub mod Remarks
 pub mod LongRuns
+mod Explanations

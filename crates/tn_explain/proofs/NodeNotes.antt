@@ -5,8 +5,9 @@ use Rattle.def_run.specs.Run.{moves}
 use Rattle.def_running_node.specs.NodeNotes.{moves_that_differ, note_of, node_note}
 use Rattle.def_explain.specs.NodeCommands.{can_differ}
 use Rattle.tn_running_node.proofs.NodePicks.{moves_that_differ_again}
-use Rattle.tn_explain.specs.Notes.{RunWithNoteIsRun}
-use Rattle.tn_explain.specs.declared.run_and_note.RunEnd.TheVariants.{Listed, Refused}
+use Rattle.tn_run.specs.declared.outcome.RunRefusal.TheVariants.{Text, Moves}
+use Rattle.tn_explain.specs.Notes.{ReplayIsRun}
+use Rattle.tn_explain.specs.declared.replay.ReplayOutcome.TheVariants.{Listed, Refused}
 
 pub no_note : (p : Program) (picks : List ℕ) → can_differ p ≡ false → None ≡ node_note p picks
 no_note p picks h = sym (ap (λ b. if b then note_of (moves_that_differ p picks) else None) h)
@@ -17,6 +18,7 @@ some_note p picks h = sym (ap (λ b. if b then note_of (moves_that_differ p pick
 pub note_again : (p : Program) (picks : List ℕ) → node_note p (moves p picks) ≡ node_note p picks
 note_again p picks = ap (λ bs. if can_differ p then note_of bs else None) (moves_that_differ_again p picks)
 
-pub run_with_note_is_run : RunWithNoteIsRun
-run_with_note_is_run q bytes (Listed n) output h = record { program = h.program; accepted = h.accepted; output = h.output.0 }
-run_with_note_is_run q bytes (Refused r) output h = h
+pub replay_is_run : ReplayIsRun
+replay_is_run q bytes (Listed n) output h = record { program = h.program; accepted = h.accepted; output = record { picks = h.output.picks; given = h.output.given; listing = h.output.listing } }
+replay_is_run q bytes (Refused (Text r)) output h = h
+replay_is_run q bytes (Refused (Moves r)) output h = h

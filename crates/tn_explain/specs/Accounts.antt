@@ -5,10 +5,9 @@ use Rattle.def_term.specs.Names.{Name}
 use Rattle.def_script.specs.Program.{Program}
 use Rattle.def_script.specs.Rules.{is_created}
 use Rattle.def_script.specs.Script.{Refusal}
-use Rattle.def_run.specs.Picks.{SpellsPicks}
 use Rattle.def_running_node.specs.NodeNotes.{Question, question_text}
-use Rattle.tn_refusal.specs.Refusals.{refusal_of}
-use Rattle.tn_run.specs.Answers.{by_picks, HasPicks}
+use Rattle.tn_moves.specs.Schedules.{schedule_seen, ArePicks, HasPicks}
+use Rattle.tn_run.specs.Answers.{IsRefusedRun, text_refusal}
 use Rattle.tn_run.specs.Jobs.{JobView, failed_end}
 use Rattle.tn_run.specs.declared.fault.RunFault.{RunFault}
 use Rattle.tn_explain.specs.Filters.{question_seen}
@@ -38,16 +37,24 @@ IsAnswer p picks q NoMove text = HasAskedSession q.filter.session p × (q.node �
 IsAnswer p picks q NoDifference text = HasAskedSession q.filter.session p × (q.node ≡ true) × (question_text q p picks ≡ []) × (text ≡ [])
 IsAnswer p picks q (Refused r) text = ⊥
 
--- the answer for the picks that a text spells
-pub record IsSpelledAnswer (spelled : List ℕ) (q : Question) (p : Program) (reported : ExplainOutcome) (text : List ℕ) : Type 0 where
+-- the answer for the picks that are asked
+pub record IsAskedAnswer (q : ExplainRequest) (p : Program) (reported : ExplainOutcome) (text : List ℕ) : Type 0 where
   pub picks : List ℕ
-  pub given : SpellsPicks spelled picks
-  pub answer : IsAnswer p picks q reported text
+  pub given : ArePicks (schedule_seen q.schedule) p picks
+  pub answer : IsAnswer p picks (question_seen q.filter) reported text
 
--- the refusal that an outcome is
+-- what is written by each outcome: nothing where the moves are refused
+abbrev pub IsExplanation : ExplainRequest → Program → ExplainOutcome → List ℕ → Type 0
+IsExplanation q p Account text = IsAskedAnswer q p Account text
+IsExplanation q p (Refused r) text = IsRefusedRun (schedule_seen q.schedule) p r text
+IsExplanation q p NoSession text = IsAskedAnswer q p NoSession text
+IsExplanation q p NoMove text = IsAskedAnswer q p NoMove text
+IsExplanation q p NoDifference text = IsAskedAnswer q p NoDifference text
+
+-- the refusal of a text that an outcome is
 abbrev pub explain_refusal : ExplainOutcome → Option Refusal
 explain_refusal Account = None
-explain_refusal (Refused r) = Some (refusal_of r)
+explain_refusal (Refused r) = text_refusal r
 explain_refusal NoSession = None
 explain_refusal NoMove = None
 explain_refusal NoDifference = None
@@ -63,10 +70,10 @@ is_account NoDifference = true
 -- the explanation that is asked for
 abbrev pub explain_by : ExplainRequest → JobView ExplainOutcome RunFault
 explain_by q = record {
-  of_program = IsSpelledAnswer q.picks.now (question_seen q.filter);
+  of_program = IsExplanation q;
   refusal_in = explain_refusal;
   succeeds = is_account;
   has = λ outcome. Unit {0};
-  reads = HasPicks (by_picks q.picks.now);
+  reads = HasPicks (schedule_seen q.schedule);
   end_of = failed_end;
 }

@@ -1,6 +1,8 @@
 // The account of a run.
 ghost use Rattle.std.specs.Prelude.{◌≡◌, ◌++◌, OnOk, OnErr};
+ghost use Rattle.tn_program.specs.Views.{program_of};
 ghost use Rattle.tn_text.specs.Writes.{Grows};
+ghost use Rattle.tn_moves.specs.Plans.{plan_picks};
 ghost use Rattle.tn_explain.specs.Filters.{account_of, selected_of, node_moves_of};
 
 use crate::explainer::Explainer;
@@ -8,24 +10,24 @@ use crate::filter::Filter;
 use crate::node_explainer::NodeExplainer;
 use crate::selection::Selection;
 use std::alloc::{AllocError, Allocator};
+use tn_moves::{Plan, drive};
 use tn_program::Program;
 use tn_running_node::Comparison;
-use tn_trace::{JOURNAL, Run};
 
 /// Appends the text of what is selected; after an `Err` a part of it may stand there.
 fn put_moves<A: Allocator + Copy>(
     alloc: A,
     program: &Program<A>,
-    picks: &[u32],
+    plan: &Plan<'_, A>,
     selection: &Selection<'_>,
     out: &mut Vec<u8, A>,
 ) -> Result<(), AllocError>
-    ensures ok { OnOk result (out.new.items ≡ out.old.items ++ selected_of selection.now program.now picks.now) }
+    ensures ok { let picks = plan_picks (program_of program.now) plan.now in
+        OnOk result (out.new.items ≡ out.old.items ++ selected_of selection.now program.now picks) }
     ensures grows { Grows out.old.items out.new.items }
 {
     let explainer = Explainer::new(alloc, program, selection)?;
-    let mut run = Run::new(alloc, program, explainer, JOURNAL)?;
-    run.take_all(program, picks, out)?;
+    drive(alloc, program, plan, explainer, out)?;
     Ok(())
 }
 
@@ -34,11 +36,12 @@ fn put_moves<A: Allocator + Copy>(
 fn put_node_moves<A: Allocator + Copy>(
     alloc: A,
     program: &Program<A>,
-    picks: &[u32],
+    plan: &Plan<'_, A>,
     selection: &Selection<'_>,
     out: &mut Vec<u8, A>,
 ) -> Result<(), AllocError>
-    ensures ok { OnOk result (out.new.items ≡ out.old.items ++ node_moves_of selection.now program.now picks.now) }
+    ensures ok { let picks = plan_picks (program_of program.now) plan.now in
+        OnOk result (out.new.items ≡ out.old.items ++ node_moves_of selection.now program.now picks) }
     ensures grows { Grows out.old.items out.new.items }
 {
     let explainer = Explainer::new(alloc, program, selection)?;
@@ -47,8 +50,7 @@ fn put_node_moves<A: Allocator + Copy>(
         explainer,
         comparison,
     };
-    let mut run = Run::new(alloc, program, observer, JOURNAL)?;
-    run.take_all(program, picks, out)?;
+    drive(alloc, program, plan, observer, out)?;
     Ok(())
 }
 
@@ -57,11 +59,12 @@ fn put_node_moves<A: Allocator + Copy>(
 fn put_filtered<A: Allocator + Copy>(
     alloc: A,
     program: &Program<A>,
-    picks: &[u32],
+    plan: &Plan<'_, A>,
     filter: &Filter<'_>,
     out: &mut Vec<u8, A>,
 ) -> Result<(), AllocError>
-    ensures ok { OnOk result (out.new.items ≡ out.old.items ++ account_of filter.now program.now picks.now) }
+    ensures ok { let picks = plan_picks (program_of program.now) plan.now in
+        OnOk result (out.new.items ≡ out.old.items ++ account_of filter.now program.now picks) }
     ensures grows { Grows out.old.items out.new.items }
 {
     let selection = Selection {
@@ -69,13 +72,13 @@ fn put_filtered<A: Allocator + Copy>(
         move_number: filter.move_number,
     };
     if filter.node {
-        put_node_moves(alloc, program, picks, &selection, out)
+        put_node_moves(alloc, program, plan, &selection, out)
     } else {
-        put_moves(alloc, program, picks, &selection, out)
+        put_moves(alloc, program, plan, &selection, out)
     }
 }
 
-/// Appends the account of the program's run by these picks. After an `Err`, which is refused memory, the vector is
+/// Appends the account of the program's run by a plan. After an `Err`, which is refused memory, the vector is
 /// as it was.
 ///
 /// # Errors
@@ -84,15 +87,16 @@ fn put_filtered<A: Allocator + Copy>(
 pub fn put_account<A: Allocator + Copy>(
     alloc: A,
     program: &Program<A>,
-    picks: &[u32],
+    plan: &Plan<'_, A>,
     filter: &Filter<'_>,
     out: &mut Vec<u8, A>,
 ) -> Result<(), AllocError>
-    ensures ok { OnOk result (out.new.items ≡ out.old.items ++ account_of filter.now program.now picks.now) }
+    ensures ok { let picks = plan_picks (program_of program.now) plan.now in
+        OnOk result (out.new.items ≡ out.old.items ++ account_of filter.now program.now picks) }
     ensures err { OnErr result (out.new.items ≡ out.old.items) }
 {
     let len = out.len();
-    let done = put_filtered(alloc, program, picks, filter, out);
+    let done = put_filtered(alloc, program, plan, filter, out);
     if done.is_err() {
         out.truncate(len);
     }

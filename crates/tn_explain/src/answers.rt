@@ -1,6 +1,7 @@
 // What is written of a run, where the session and the move that are asked for are there.
 ghost use Rattle.std.specs.Prelude.{IfOk};
 ghost use Rattle.tn_program.specs.Views.{program_of};
+ghost use Rattle.tn_moves.specs.Plans.{plan_picks};
 ghost use Rattle.tn_explain.specs.Filters.{question_seen};
 ghost use Rattle.tn_explain.specs.Accounts.{IsAnswer};
 
@@ -9,9 +10,10 @@ use crate::creations::has_session;
 use crate::filter::Filter;
 use crate::request::ExplainOutcome;
 use std::alloc::{AllocError, Allocator};
+use tn_moves::Plan;
 use tn_program::Program;
 
-/// The account of the program's run by these picks, where the session and the move that are asked for are there; else
+/// The account of the program's run by a plan, where the session and the move that are asked for are there; else
 /// no text, and which of them isn't there.
 ///
 /// # Errors
@@ -20,10 +22,11 @@ use tn_program::Program;
 pub fn account_of<A: Allocator + Copy>(
     alloc: A,
     program: &Program<A>,
-    picks: &[u32],
+    plan: &Plan<'_, A>,
     filter: &Filter<'_>,
 ) -> Result<(ExplainOutcome, Vec<u8, A>), AllocError>
-    ensures { IfOk result (λ r. IsAnswer (program_of program.now) picks.now (question_seen filter.now) r.0 r.1.items) }
+    ensures { let p = program_of program.now in
+        IfOk result (λ r. IsAnswer p (plan_picks p plan.now) (question_seen filter.now) r.0 r.1.items) }
 {
     let mut out = Vec::new(alloc);
     if let Some(name) = filter.session {
@@ -31,7 +34,7 @@ pub fn account_of<A: Allocator + Copy>(
             return Ok((ExplainOutcome::NoSession, out));
         }
     }
-    put_account(alloc, program, picks, filter, &mut out)?;
+    put_account(alloc, program, plan, filter, &mut out)?;
     if filter.node && out.is_empty() {
         return Ok((ExplainOutcome::NoDifference, out));
     }

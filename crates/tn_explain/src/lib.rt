@@ -1,12 +1,12 @@
 //! A run that is explained: what each move shows and what each session makes of it, line by line; and the bytes of
-//! a script, a text of picks and a filter in, the bytes of an account out.
+//! a script, a schedule and a filter in, the bytes of an account out.
 //!
 //! Depends on tn_session and tn_trace (a run, which takes the picks, and its sessions, which are looked at before and
 //! after each step), tn_reason (why a term is no match specification), tn_verdict (what becomes of a clause, and the
 //! texts of reasons and effects), tn_remark (the lines of remarks), tn_run (which reads, accepts and refuses scripts)
 //! and on the definitions of def_explain. Promises that `put_event_lines` appends the lines of the definition, each
 //! after the name of the session, and takes the session through the event; that `put_command_line` appends the line of
-//! a reply, and why it is this one; that `put_account` appends the account of the program's run by some picks, as far
+//! a reply, and why it is this one; that `put_account` appends the account of the program's run by a plan, as far
 //! as the filter asks for it, and nothing where memory is refused; and that `explain` writes exactly that account, or
 //! the line of the one refusal, or nothing where the session or the move that the filter names isn't there, and says
 //! which; and that a fault says which end failed, and how many bytes of it were taken; that the note of a run is the
@@ -39,9 +39,9 @@ mod node_commands;
 mod node_explainer;
 mod note;
 mod remark_observer;
+mod replay;
 mod reply_lines;
 mod request;
-mod run_and_note;
 mod run_remarks;
 mod selection;
 mod sessions;
@@ -59,6 +59,8 @@ pub use laws::a_run_with_a_note_is_a_run;
 pub use line::{put_command_difference, put_command_line};
 pub use node_commands::can_differ;
 pub use note::{NodeNote, RunNotes, node_note, text_note};
+pub use replay::{Replay, ReplayOutcome, notes_of};
 pub use request::{ExplainOutcome, ExplainRequest};
-pub use run_and_note::{RunAndNote, RunEnd, notes_of};
-pub use run_remarks::{remark_lines, round_remark_lines, text_has_remarks};
+pub use run_remarks::{
+    remark_lines, schedule_has_remarks, schedule_remark_lines, text_has_remarks,
+};

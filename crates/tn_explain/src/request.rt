@@ -1,12 +1,13 @@
 // What is asked of a run, and what is written of it.
 use crate::filter::Filter;
-use tn_run::Refusal;
+use tn_moves::Schedule;
+use tn_run::RunRefusal;
 
 /// What is asked of a run.
 #[derive(Clone, Copy)]
 pub struct ExplainRequest<'a> {
-    /// The text of its picks.
-    pub picks: &'a [u8],
+    /// Which picks it takes.
+    pub schedule: Schedule<'a>,
     /// The session and the move that are asked for.
     pub filter: Filter<'a>,
 }
@@ -16,8 +17,8 @@ pub struct ExplainRequest<'a> {
 pub enum ExplainOutcome {
     /// The account of an accepted script.
     Account,
-    /// The refusal's line.
-    Refused(Refusal),
+    /// What the refusal says.
+    Refused(RunRefusal),
     /// Nothing: the control list creates no session of the name that is asked for.
     NoSession,
     /// Nothing: the run has no move of the number that is asked for.

@@ -1,19 +1,20 @@
 // The lines of what is remarked of a run.
 ghost use Rattle.std.specs.Prelude.{◌≡◌, IfOk};
 ghost use Rattle.def_explain.specs.Remarks.{remarks, has_remarks};
-ghost use Rattle.def_run.specs.Round.{round};
 ghost use Rattle.tn_program.specs.Views.{program_of};
+ghost use Rattle.tn_moves.specs.Schedules.{AreMovesOf, OfPicks, schedule_seen};
 ghost use Rattle.tn_run.specs.Jobs.{OfScript};
 ghost use Rattle.tn_explain.specs.RemarkLines.{IsFrontOfPicks, AreRemarkLines};
 
 use crate::command_starts::command_starts;
 use crate::remark_observer::{command_texts, program_has_remarks};
 use std::alloc::{AllocError, Allocator};
+use tn_listing::PicksFault;
+use tn_moves::{MovesFault, Schedule, moves_of_plan};
 use tn_program::Program;
 use tn_remark::put_lines;
-use tn_run::{Denial, accept};
+use tn_run::{Denial, Refusal, accept};
 use tn_text::MAX_TEXT;
-use tn_trace::Transcript;
 
 /// The picks up to the last that is a command.
 pub(crate) fn front_of_picks(picks: &[u32]) -> &[u32]
@@ -73,39 +74,47 @@ pub fn remark_lines<A: Allocator + Copy>(
     }
 }
 
-/// The lines of a program's round with this limit on the number of moves, where this is its text.
-fn round_lines<A: Allocator + Copy>(
+/// The picks of the program's run by a schedule that move.
+fn schedule_moves<A: Allocator + Copy>(
     alloc: A,
-    name: &str,
-    text: &[u8],
     program: &Program<A>,
-    limit: u32,
-) -> Result<Vec<u8, A>, AllocError>
-    ensures { IfOk result (λ v. AreRemarkLines name.now text.now
-        (remarks (program_of program.now) (round (program_of program.now) limit)) v.items) }
+    schedule: &Schedule<'_>,
+) -> Result<Vec<u32, A>, Denial>
+    ensures { IfOk result (λ v. AreMovesOf (schedule_seen schedule.now) (program_of program.now) v.items) }
 {
-    let Ok(transcript) = Transcript::of_round(alloc, program, limit, usize::MAX) else {
-        return Err(AllocError);
+    let picks = match schedule.picks_of_text(alloc) {
+        Ok(picks) => picks,
+        Err(PicksFault::BadPicks) => return Err(Denial::Refused(Refusal::BadPicks)),
+        Err(PicksFault::OutOfMemory) => return Err(Denial::OutOfMemory),
     };
-    program_lines(alloc, name, text, program, transcript.journal())
+    let plan = match schedule.plan(alloc, program, &picks) {
+        Ok(plan) => plan,
+        Err(MovesFault::Refused(_)) => return Err(Denial::Refused(Refusal::BadPicks)),
+        Err(MovesFault::OutOfMemory) => return Err(Denial::OutOfMemory),
+    };
+    match moves_of_plan(alloc, program, &plan) {
+        Ok(moves) => Ok(moves),
+        Err(_) => Err(Denial::OutOfMemory),
+    }
 }
 
-/// The same of a round, in which so many picks may move.
+/// The same as `remark_lines` of the run by a schedule.
 ///
 /// # Errors
 ///
-/// The denial of the text, which is no script; or refused memory.
-pub fn round_remark_lines<A: Allocator + Copy>(
+/// The denial of the text, which is no script, or refusal 20 where the schedule's text is refused; or refused memory.
+pub fn schedule_remark_lines<A: Allocator + Copy>(
     alloc: A,
     name: &str,
     text: &[u8],
-    limit: u32,
+    schedule: &Schedule<'_>,
 ) -> Result<Vec<u8, A>, Denial>
-    ensures { IfOk result (λ v.
-        OfScript text.now (λ p. AreRemarkLines name.now text.now (remarks p (round p limit)) v.items)) }
+    ensures { IfOk result (λ v. OfScript text.now (λ p. OfPicks (schedule_seen schedule.now) p
+        (λ picks. AreRemarkLines name.now text.now (remarks p picks) v.items))) }
 {
     let program = accept(alloc, text)?;
-    match round_lines(alloc, name, text, &program, limit) {
+    let picks = schedule_moves(alloc, &program, schedule)?;
+    match program_lines(alloc, name, text, &program, &picks) {
         Ok(lines) => Ok(lines),
         Err(_) => Err(Denial::OutOfMemory),
     }
@@ -125,6 +134,27 @@ pub fn text_has_remarks<A: Allocator + Copy>(
 {
     let program = accept(alloc, text)?;
     match program_has_remarks(alloc, &program, front_of_picks(picks)) {
+        Ok(has_remarks) => Ok(has_remarks),
+        Err(_) => Err(Denial::OutOfMemory),
+    }
+}
+
+/// The same of the run by a schedule.
+///
+/// # Errors
+///
+/// The denial of the text, which is no script, or refusal 20 where the schedule's text is refused; or refused memory.
+pub fn schedule_has_remarks<A: Allocator + Copy>(
+    alloc: A,
+    text: &[u8],
+    schedule: &Schedule<'_>,
+) -> Result<bool, Denial>
+    ensures { IfOk result (λ b. OfScript text.now (λ p. OfPicks (schedule_seen schedule.now) p
+        (λ picks. b ≡ has_remarks p picks))) }
+{
+    let program = accept(alloc, text)?;
+    let picks = schedule_moves(alloc, &program, schedule)?;
+    match program_has_remarks(alloc, &program, front_of_picks(&picks)) {
         Ok(has_remarks) => Ok(has_remarks),
         Err(_) => Err(Denial::OutOfMemory),
     }

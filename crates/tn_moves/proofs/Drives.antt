@@ -1,12 +1,14 @@
--- Runs by directives are runs by the picks that they make.
+-- Runs by plans are runs by their picks.
 use Rattle.std.proofs.Common.{◌≡◌, ◌∙◌, ◌+◌, ◌<◌, ◌≤◌, ℕ, zero, suc, min, List, [], ◌∷◌, ◌++◌, length, map, take, drop, get_or, refl, sym, ap, ap₂, subst, append-nil, append_assoc, arith}
-use Rattle.std.proofs.lemmas.List.{take_more, take-append-drop}
+use Rattle.std.proofs.lemmas.List.{take_all, take_more, take-append-drop}
 use Rattle.def_script.specs.Program.{Program}
 use Rattle.def_run.specs.Run.{moves}
 use Rattle.def_run.specs.Round.{pass}
 use Rattle.def_run.specs.Laws.{repeat_picks}
 use Rattle.def_moves.specs.Directives.{picks_of_directives}
-use Rattle.def_moves.proofs.Picks.{tries, tries_of_directive, in_order}
+use Rattle.def_run.proofs.Replay.{moves_bounded}
+use Rattle.def_moves.proofs.Picks.{directives_move, tries, tries_of_directive, in_order}
+use Rattle.tn_trace.specs.Runs.{IsRun}
 use Rattle.tn_trace.specs.Follows.{Follows, AddsFrom}
 use Rattle.tn_trace.specs.Within.{AreTaken, EndsWithin}
 use Rattle.tn_trace.specs.declared.run.Extent.{Extent}
@@ -23,10 +25,13 @@ use Rattle.tn_trace.proofs.Bounds.{at_most, longer_all, recorded_bytes}
 use Rattle.tn_trace.proofs.ListingBytes.{first_moves_on}
 use Rattle.tn_trace.proofs.Within.{ends_of, ends_then, ends_short}
 use Rattle.tn_moves.specs.Directives.{directive_seen}
-use Rattle.tn_moves.specs.Drives.{tries_for, tries_of, IsDriven}
+use Rattle.tn_moves.specs.Drives.{tries_for, tries_of, tries_of_plan, IsDriven, IsDrivenThrough}
+use Rattle.tn_moves.specs.Plans.{plan_limit, plan_picks}
 use Rattle.tn_moves.specs.declared.directive.Directive.{Directive}
 use Rattle.tn_moves.specs.declared.directive.Directive.TheVariants.{Times, UntilIdle, Everybody}
 use Rattle.tn_moves.specs.declared.course.Tries.{Tries}
+use Rattle.tn_moves.specs.declared.plan.Plan.{Plan}
+use Rattle.tn_moves.specs.declared.plan.Plan.TheVariants.{Picks, Directives}
 
 -- ---- what is tried
 
@@ -96,12 +101,33 @@ pub directives_make : (p : Program) (limit most : ℕ) (t : Tries) (ds : List Di
 directives_make p limit most t ds is m q =
     ap (λ xs. take (min limit 65536) (moves p xs)) (all_tries_are (min limit 65536) t (m ∙ ap (λ n. n + 1) is) q ds) ∙ sym (in_order p limit (map directive_seen ds))
 
+-- ---- all of a plan
+
+pub plan_makes : {A : Type 0} (p : Program) (limit most : ℕ) (t : Tries) (plan : Plan A) → limit ≡ plan_limit plan → most ≡ min limit 65536 → t.most ≡ most + 1 → t.pass.now ≡ pass → take (min limit 65536) (moves p (tries_of_plan t plan)) ≡ moves p (plan_picks p plan)
+plan_makes p limit most t (Picks picks) l is m q = ap (λ n. take (min n 65536) (moves p picks.now)) l ∙ take_all 65536 (moves p picks.now) (moves_bounded p picks.now)
+plan_makes p limit most t (Directives n ds) l is m q =
+    directives_make p limit most t ds.items is m q ∙ ap (λ k. picks_of_directives p k (map directive_seen ds.items)) l ∙ sym (directives_move p n (map directive_seen ds.items))
+
 -- ---- a run without a bound, and one that keeps text
 
-pub unbounded_journal : {A O G : Type 0} (Seen : O → Program → List ℕ → Type 0) (Adds : Program → List ℕ → ℕ → O → O → G → G → Type 0) (p : Program) (picks : List ℕ) (observer : O) (r : Run A O) (out out' : G) (extent : Extent)
-    → IsDriven Seen Adds (λ o. ⊥) p picks observer r out out' extent → r.journal.items ≡ picks
-unbounded_journal Seen Adds p picks observer r out out' All d = d.run.journaled ∙ d.taken
-unbounded_journal Seen Adds p picks observer r out out' TooMuch d = absurd d.bounded
+pub unbounded : {A O G : Type 0} (Seen : O → Program → List ℕ → Type 0) (Adds : Program → List ℕ → ℕ → O → O → G → G → Type 0) (p : Program) (picks : List ℕ) (observer : O) (r : Run A O) (out out' : G) (extent : Extent)
+    → IsDriven Seen Adds (λ o. ⊥) p (moves p picks) observer r out out' extent → IsDrivenThrough Seen Adds p picks observer r out out'
+unbounded Seen Adds p picks observer r out out' All d = record {
+  limit = d.limit;
+  run = subst (λ js. IsRun Seen p d.limit js r) d.taken d.run;
+  added = subst (λ js. AddsFrom Adds p [] js observer r.observer out out') d.taken d.added;
+}
+unbounded Seen Adds p picks observer r out out' TooMuch d = absurd d.bounded
+
+nothing_below : (n : ℕ) → 0 ≤ n
+nothing_below n = omega arith
+
+-- what was added is of the picks that moved, which are no more than may move
+pub all_added : {O G : Type 0} (Adds : Program → List ℕ → ℕ → O → O → G → G → Type 0) (p : Program) (picks : List ℕ) (old new : O) (out out' : G) → AddsFrom Adds p [] (moves p picks) old new out out'
+    → AddsFrom Adds p (take 65536 []) (take 65536 (moves p picks)) old new out out'
+all_added Adds p picks old new out out' h =
+    subst (λ js. AddsFrom Adds p js (take 65536 (moves p picks)) old new out out') (sym (take_all 65536 [] (nothing_below 65536)))
+    (subst (λ js. AddsFrom Adds p [] js old new out out') (sym (take_all 65536 (moves p picks) (moves_bounded p picks))) h)
 
 module _ {A G : Type 0} (Adds : Program → List ℕ → ℕ → Recorder A (Lines A) → Recorder A (Lines A) → G → G → Type 0) (p : Program) (picks : List ℕ) (bound : MostBytes) (observer : Recorder A (Lines A)) (r : Run A (Recorder A (Lines A))) (out out' : G) where
   pub lines_fit : IsDriven (HasRecorded AreTexts) Adds (HasMoreBytes bound) p picks observer r out out' All → listing_bytes p picks ≤ bound.bytes

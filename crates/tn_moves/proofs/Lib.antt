@@ -1,5 +1,4 @@
 mod Numbers
 pub mod Drives
 pub mod Readings
-mod LongRuns
-mod MadePicks
+pub mod Plans

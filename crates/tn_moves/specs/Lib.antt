@@ -2,6 +2,5 @@ pub mod Directives
 pub mod Drives
 pub mod Pieces
 pub mod Readings
-pub mod Moves
-pub mod Jobs
-pub mod Pictures
+pub mod Schedules
+pub mod Plans

@@ -2,12 +2,11 @@
 use Rattle.std.specs.Prelude.{◌≡◌, ℕ, Bool, true, false, List, Option, Some, None}
 use Rattle.def_script.specs.Program.{Program}
 use Rattle.def_script.specs.Script.{Refusal}
-use Rattle.def_run.specs.Picks.{SpellsPicks}
 use Rattle.def_picture.specs.Picture.{Picture, picture_of}
 use Rattle.def_picture.specs.Plain.{plain_text}
 use Rattle.def_picture.specs.Svg.{svg_text}
-use Rattle.tn_refusal.specs.Refusals.{refusal_of}
-use Rattle.tn_run.specs.Answers.{by_picks, HasPicks}
+use Rattle.tn_moves.specs.Schedules.{schedule_seen, ArePicks, HasPicks}
+use Rattle.tn_run.specs.Answers.{IsRefusedRun, text_refusal}
 use Rattle.tn_run.specs.Jobs.{JobView, failed_end}
 use Rattle.tn_run.specs.declared.fault.RunFault.{RunFault}
 use Rattle.tn_picture.specs.declared.request.PictureFormat.{PictureFormat}
@@ -25,21 +24,21 @@ format_text Plain picture = plain_text picture
 abbrev pub picture_text : PictureFormat → Program → List ℕ → List ℕ
 picture_text format p picks = format_text format (picture_of p picks)
 
--- what is reported of a program's run by these picks, and what is written
-abbrev pub IsDrawing : PictureFormat → Program → List ℕ → DrawOutcome → List ℕ → Type 0
-IsDrawing format p picks Drawn text = text ≡ picture_text format p picks
-IsDrawing format p picks (Refused r) text = ⊥
-
--- the same for the picks that a text spells
-pub record IsSpelledDrawing (spelled : List ℕ) (format : PictureFormat) (p : Program) (outcome : DrawOutcome) (text : List ℕ) : Type 0 where
+-- the text is that of the picture of the program's run by the picks that are asked
+pub record IsAskedDrawing (q : DrawRequest) (p : Program) (text : List ℕ) : Type 0 where
   pub picks : List ℕ
-  pub given : SpellsPicks spelled picks
-  pub drawing : IsDrawing format p picks outcome text
+  pub given : ArePicks (schedule_seen q.schedule) p picks
+  pub drawing : text ≡ picture_text q.format p picks
 
--- the refusal that an outcome is
+-- what is written by each outcome: nothing where the moves are refused
+abbrev pub IsDrawn : DrawRequest → Program → DrawOutcome → List ℕ → Type 0
+IsDrawn q p Drawn text = IsAskedDrawing q p text
+IsDrawn q p (Refused r) text = IsRefusedRun (schedule_seen q.schedule) p r text
+
+-- the refusal of a text that an outcome is
 abbrev pub draw_refusal : DrawOutcome → Option Refusal
 draw_refusal Drawn = None
-draw_refusal (Refused r) = Some (refusal_of r)
+draw_refusal (Refused r) = text_refusal r
 
 -- the outcome is the picture that is asked for
 abbrev pub is_drawing : DrawOutcome → Bool
@@ -49,10 +48,10 @@ is_drawing (Refused r) = false
 -- the picture that is asked for
 abbrev pub draw_by : DrawRequest → JobView DrawOutcome RunFault
 draw_by q = record {
-  of_program = IsSpelledDrawing q.picks.now q.format;
+  of_program = IsDrawn q;
   refusal_in = draw_refusal;
   succeeds = is_drawing;
   has = λ outcome. Unit {0};
-  reads = HasPicks (by_picks q.picks.now);
+  reads = HasPicks (schedule_seen q.schedule);
   end_of = failed_end;
 }

@@ -2,6 +2,7 @@
 ghost use Rattle.std.specs.Prelude.{◌≡◌, IfOk, map};
 ghost use Rattle.def_picture.specs.Picture.{rows_of};
 ghost use Rattle.tn_program.specs.Views.{program_of};
+ghost use Rattle.tn_moves.specs.Plans.{plan_picks};
 ghost use Rattle.tn_picture.specs.Views.{picture_row_seen};
 
 use crate::label::{command_label, event_label};
@@ -10,12 +11,11 @@ use crate::shape::{Shape, shape_of_event};
 use crate::slots::{obey_each, report_each};
 use std::alloc::{AllocError, Allocator};
 use tn_flags::{Command, Event};
+use tn_moves::{Plan, drive};
 use tn_node::Node;
 use tn_program::Program;
 use tn_term::Alive;
-use tn_trace::{
-    Discard, JOURNAL, JournalEntry, Observer, Run, Slot, absent_sessions, living_after,
-};
+use tn_trace::{Discard, JournalEntry, Observer, Slot, absent_sessions, living_after};
 
 /// The sessions of the control list, and who lives.
 #[derive(Drop)]
@@ -144,17 +144,17 @@ impl<A: Allocator + Copy> Observer<A> for Painter<A> {
     ghost reaches_on = { λ first now next a b. tt };
 }
 
-/// The rows of the program's run by these picks.
+/// The rows of the program's run by a plan.
 pub(crate) fn rows_of<A: Allocator + Copy>(
     alloc: A,
     program: &Program<A>,
-    picks: &[u32],
+    plan: &Plan<'_, A>,
 ) -> Result<Vec<Row<A>, A>, AllocError>
-    ensures { IfOk result (λ v. map picture_row_seen v.items ≡ rows_of (program_of program.now) picks.now) }
+    ensures { let p = program_of program.now in
+        IfOk result (λ v. map picture_row_seen v.items ≡ rows_of p (plan_picks p plan.now)) }
 {
     let painter = Painter::new(alloc, program)?;
-    let mut run = Run::new(alloc, program, painter, JOURNAL)?;
     let mut rows = Vec::new(alloc);
-    run.take_all(program, picks, &mut rows)?;
+    drive(alloc, program, plan, painter, &mut rows)?;
     Ok(rows)
 }

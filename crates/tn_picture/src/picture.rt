@@ -3,12 +3,14 @@ ghost use Rattle.std.specs.Prelude.{◌≡◌, IfOk, map};
 ghost use Rattle.def_script.specs.Script.{creations};
 ghost use Rattle.def_picture.specs.Picture.{picture_of};
 ghost use Rattle.tn_program.specs.Views.{program_of};
+ghost use Rattle.tn_moves.specs.Plans.{plan_picks};
 ghost use Rattle.tn_picture.specs.Views.{picture_seen};
 
 use crate::life::{Life, lives_of};
 use crate::painter::rows_of;
 use crate::row::Row;
 use std::alloc::{AllocError, Allocator};
+use tn_moves::Plan;
 use tn_program::Program;
 use tn_term::Atom;
 
@@ -37,7 +39,7 @@ fn names_of<A: Allocator + Copy>(
     Ok(names)
 }
 
-/// The picture of the program's run by these picks.
+/// The picture of the program's run by a plan.
 ///
 /// # Errors
 ///
@@ -45,12 +47,13 @@ fn names_of<A: Allocator + Copy>(
 pub fn picture_of<A: Allocator + Copy>(
     alloc: A,
     program: &Program<A>,
-    picks: &[u32],
+    plan: &Plan<'_, A>,
 ) -> Result<Picture<A>, AllocError>
-    ensures { IfOk result (λ v. picture_seen v ≡ picture_of (program_of program.now) picks.now) }
+    ensures { let p = program_of program.now in
+        IfOk result (λ v. picture_seen v ≡ picture_of p (plan_picks p plan.now)) }
 {
     let sessions = names_of(alloc, program)?;
-    let rows = rows_of(alloc, program, picks)?;
+    let rows = rows_of(alloc, program, plan)?;
     let lives = lives_of(alloc, program.entries().len(), &rows)?;
     Ok(Picture {
         sessions,

@@ -7,7 +7,8 @@ use crate::picture::Picture;
 use crate::plain::plain_text;
 use crate::svg::svg_text;
 use std::alloc::{AllocError, Allocator};
-use tn_run::Refusal;
+use tn_moves::Schedule;
+use tn_run::RunRefusal;
 
 /// What a picture is written as.
 #[derive(Clone, Copy, Debug, PartialEq, Eq)]
@@ -18,11 +19,11 @@ pub enum PictureFormat {
     Plain,
 }
 
-/// What is drawn: a run by the picks of a text.
+/// What is drawn: a run by a schedule.
 #[derive(Clone, Copy)]
 pub struct DrawRequest<'a> {
-    /// The text of its picks.
-    pub picks: &'a [u8],
+    /// Which picks it takes.
+    pub schedule: Schedule<'a>,
     /// What the picture is written as.
     pub format: PictureFormat,
 }
@@ -32,8 +33,8 @@ pub struct DrawRequest<'a> {
 pub enum DrawOutcome {
     /// The picture of an accepted script's run.
     Drawn,
-    /// The refusal's line.
-    Refused(Refusal),
+    /// What the refusal says.
+    Refused(RunRefusal),
 }
 
 impl PictureFormat {

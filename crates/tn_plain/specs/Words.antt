@@ -1,7 +1,7 @@
 -- What the words of the command line ask for (own).
 use Rattle.std.specs.Prelude.{◌≡◌, ◌≤◌, ℕ, ◌⊎◌, List, [], ◌∷◌, codes}
 use Rattle.std.specs.Str.Parse.{IsNumeral, digits_value}
-use Rattle.tn_run.specs.Answers.{ScheduleView, by_picks, by_round}
+use Rattle.tn_moves.specs.Schedules.{ScheduleView, by_picks, by_round}
 
 -- the number that a word's decimal digits write
 abbrev pub spelled_number : List ℕ → ℕ

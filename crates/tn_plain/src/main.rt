@@ -9,7 +9,7 @@
 ghost use Rattle.std.specs.Prelude.{SomeIff, IfSome, IfNone, drop, map, string_bytes};
 ghost use Rattle.std.specs.Process.{exit_status};
 ghost use Rattle.tn_command.specs.Status.{IsStatus};
-ghost use Rattle.tn_run.specs.Answers.{schedule_seen};
+ghost use Rattle.tn_moves.specs.Schedules.{schedule_seen};
 ghost use Rattle.tn_plain.specs.Words.{IsLimit, spelled_number, AsksFor, AsksNothing};
 
 use std::process::ExitCode;
@@ -17,8 +17,8 @@ use std::rt::{Env, Files};
 use tn_command::{
     Expectation, MAX_OUTPUT, REFUSED, Source, WithinBytes, arguments, perform, plain_number,
 };
-use tn_explain::RunAndNote;
-use tn_run::Schedule;
+use tn_explain::Replay;
+use tn_moves::Schedule;
 use tn_trace::JOURNAL;
 
 /// How many picks of a round may move where no limit is given.
@@ -66,8 +66,9 @@ fn start<R: Env + Input + Files + Print + Eprint + AllocGlobal>(rt: &R) -> ExitC
     };
     match schedule(&words) {
         Some(schedule) => {
-            let job = &RunAndNote {
+            let job = &Replay {
                 schedule,
+                has_notes: true,
                 quiet: false,
             };
             let most = MAX_OUTPUT;

@@ -13,7 +13,8 @@ use Rattle.tn_live.specs.declared.entry.Entry.{Entry}
 use Rattle.tn_live.specs.Journal.{picks_of}
 use Rattle.tn_live.specs.States.{SeatState, HasPrefix, seat_of, IsJournal}
 use Rattle.tn_live.specs.ClosedJournals.{EndsJournal, made_in_all}
-use Rattle.tn_run.specs.RestingSeats.{IdlesAt, SeatIsStill, HasSettled, IsSettled, IsAtRest, IsClosedOutput, RunsToRest}
+use Rattle.tn_moves.specs.Schedules.{IsAtRest}
+use Rattle.tn_run.specs.RestingSeats.{IdlesAt, SeatIsStill, HasSettled, IsSettled, IsClosedOutput, RunsToRest}
 
 pub if_ok_of : {T E : Type 0} (P Q : T → Type 0) (r : Result T E) → ((x : T) → P x → Q x) → IfOk r P → IfOk r Q
 if_ok_of P Q (Ok x) f h = f x h

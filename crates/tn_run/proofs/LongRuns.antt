@@ -8,7 +8,11 @@ use Rattle.tn_trace.specs.Transcripts.{listing_bytes}
 use Rattle.tn_trace.specs.declared.transcript_fault.TranscriptFault.{TranscriptFault}
 use Rattle.tn_trace.specs.declared.transcript_fault.TranscriptFault.TheVariants.{TooLong}
 use Rattle.tn_listing.proofs.OutputLengths.{output_has_the_listings}
-use Rattle.tn_run.specs.Answers.{ScheduleView, ArePicks, IsLongerRun}
+use Rattle.tn_moves.specs.Schedules.{ArePicks, schedule_seen}
+use Rattle.tn_moves.specs.declared.schedule.Schedule.{Schedule}
+use Rattle.tn_run.specs.Answers.{run_by}
+use Rattle.tn_run.specs.Jobs.{GivesMore}
+use Rattle.tn_run.specs.declared.outcome.Outcome.TheVariants.{Listed}
 
 -- a fault that is handed on says so only where it did
 pub long_before : {X Y : Type 0} (fault : TranscriptFault) (result : Result X TranscriptFault) → IsErrAnd result (λ e. e ≡ fault) → IsErrOf result TooLong → IsErrOf {T = Y} (Err fault) TooLong
@@ -18,9 +22,10 @@ long_before fault result on is =
     ap Err named
 
 -- of the picks that are asked
-pub longer_run : (most : ℕ) (a : ScheduleView) (p : Program) (picks : List ℕ) → ArePicks a p picks → most < listing_bytes p picks → IsLongerRun most a p
-longer_run most a p picks given long = record {
+pub longer_run : (most : ℕ) (schedule : Schedule) (p : Program) (picks : List ℕ) → ArePicks (schedule_seen schedule) p picks → most < listing_bytes p picks → GivesMore most (run_by schedule) p
+longer_run most schedule p picks given long = record {
+  outcome = Listed;
   output = program_output p picks;
-  listed = record { picks = picks; given = given; listing = refl };
+  given = record { picks = picks; given = given; listing = refl };
   exceeds = omega (arith, long, output_has_the_listings p picks);
 }

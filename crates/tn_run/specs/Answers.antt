@@ -1,51 +1,31 @@
--- What a run is asked, and what it gives (own).
--- Depends on what a job is.
-use Rattle.std.specs.Prelude.{◌≡◌, ◌<◌, ◌≤◌, ℕ, Bool, true, false, List, [], length, Option, Some, None}
+-- What a run gives (own).
+-- Depends on what a run is asked for, and on what a job is.
+use Rattle.std.specs.Prelude.{◌≡◌, ℕ, Bool, true, false, List, [], Option, Some, None}
 use Rattle.def_script.specs.Program.{Program}
 use Rattle.def_script.specs.Script.{Refusal}
 use Rattle.def_run.specs.Listing.{program_output}
-use Rattle.def_run.specs.Picks.{SpellsPicks}
-use Rattle.def_run.specs.Round.{round}
 use Rattle.tn_refusal.specs.Refusals.{refusal_of}
-use Rattle.tn_trace.specs.Transcripts.{listing_bytes}
+use Rattle.tn_moves.specs.Schedules.{ScheduleView, by_workers, schedule_seen, ArePicks, AreBadMoves, HasPicks}
+use Rattle.tn_moves.specs.declared.schedule.Schedule.{Schedule}
 use Rattle.tn_run.specs.Jobs.{JobView, FailedEnd, failed_end, no_end_failed}
-use Rattle.tn_run.specs.RestingSeats.{IsAtRest}
 use Rattle.tn_run.specs.declared.outcome.Outcome.{Outcome}
 use Rattle.tn_run.specs.declared.outcome.Outcome.TheVariants.{Listed, Refused}
-use Rattle.tn_run.specs.declared.outcome.Schedule.{Schedule}
-use Rattle.tn_run.specs.declared.outcome.Schedule.TheVariants.{Picks, Round}
+use Rattle.tn_run.specs.declared.outcome.RunRefusal.{RunRefusal}
+use Rattle.tn_run.specs.declared.outcome.RunRefusal.TheVariants.{Text, Moves}
 use Rattle.tn_run.specs.declared.fault.RunFault.{RunFault}
 use Rattle.tn_run.specs.declared.fault.LiveFault.{LiveFault}
 use Rattle.tn_run.specs.declared.fault.LiveFault.TheVariants.{Run, Pool}
 use Rattle.tn_run.specs.declared.live.Ran.{Ran}
 
--- what a run is asked: the picks of a text, those of a round with a limit, or those that workers made
-pub data ScheduleView : Type 0 where
-  by_picks : List ℕ → ScheduleView
-  by_round : ℕ → ScheduleView
-  by_workers : List ℕ → ScheduleView
+-- the refusal of a text that is reported
+abbrev pub text_refusal : RunRefusal → Option Refusal
+text_refusal (Text r) = Some (refusal_of r)
+text_refusal (Moves r) = None
 
-abbrev pub schedule_seen : Schedule → ScheduleView
-schedule_seen (Picks text) = by_picks text.now
-schedule_seen (Round limit) = by_round limit
-
--- the picks that are asked of a program
-abbrev pub ArePicks : ScheduleView → Program → List ℕ → Type 0
-ArePicks (by_picks text) p picks = SpellsPicks text picks
-ArePicks (by_round limit) p picks = picks ≡ round p limit
-ArePicks (by_workers made) p picks = (picks ≡ made) × IsAtRest p made
-
--- the text of picks spells some; a round always has picks, and so have workers
-abbrev pub HasPicks : ScheduleView → Type 0
-HasPicks (by_picks text) = (picks : List ℕ) × SpellsPicks text picks
-HasPicks (by_round limit) = Unit {0}
-HasPicks (by_workers made) = Unit {0}
-
--- the picks are those that the text spells, where a text is asked for
-abbrev pub IsSpelledBy : ScheduleView → List ℕ → Type 0
-IsSpelledBy (by_picks text) picks = SpellsPicks text picks
-IsSpelledBy (by_round limit) picks = Unit {0}
-IsSpelledBy (by_workers made) picks = Unit {0}
+-- the text of moves is refused so for the program, and nothing is written
+abbrev pub IsRefusedRun : ScheduleView → Program → RunRefusal → List ℕ → Type 0
+IsRefusedRun a p (Text r) output = ⊥
+IsRefusedRun a p (Moves r) output = AreBadMoves a p r × (output ≡ [])
 
 -- the output of an accepted script, for the picks that are asked
 pub record IsRunListing (a : ScheduleView) (p : Program) (output : List ℕ) : Type 0 where
@@ -53,27 +33,15 @@ pub record IsRunListing (a : ScheduleView) (p : Program) (output : List ℕ) : T
   pub given : ArePicks a p picks
   pub listing : output ≡ program_output p picks
 
--- such an output has more bytes
-pub record IsLongerRun (most : ℕ) (a : ScheduleView) (p : Program) : Type 0 where
-  pub output : List ℕ
-  pub listed : IsRunListing a p output
-  pub exceeds : most < length output
-
--- the picks that are asked have listings of at most so many bytes
-pub record ListsWithin (most : ℕ) (a : ScheduleView) (p : Program) : Type 0 where
-  pub picks : List ℕ
-  pub given : ArePicks a p picks
-  pub within : listing_bytes p picks ≤ most
-
--- the output is that of the program, where the outcome is its listing
+-- the output is that of the program, where the outcome is its listing; nothing where its moves are refused
 abbrev pub IsListedOutput : ScheduleView → Program → Outcome → List ℕ → Type 0
 IsListedOutput a p Listed output = IsRunListing a p output
-IsListedOutput a p (Refused r) output = ⊥
+IsListedOutput a p (Refused r) output = IsRefusedRun a p r output
 
--- the refusal that an outcome is
+-- the refusal of a text that an outcome is
 abbrev pub outcome_refusal : Outcome → Option Refusal
 outcome_refusal Listed = None
-outcome_refusal (Refused r) = Some (refusal_of r)
+outcome_refusal (Refused r) = text_refusal r
 
 -- the outcome is the listing of an accepted script
 abbrev pub is_listed : Outcome → Bool

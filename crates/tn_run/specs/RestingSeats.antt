@@ -6,6 +6,7 @@ use Rattle.def_run.specs.Run.{JOURNAL, moves}
 use Rattle.def_run.specs.Round.{pass}
 use Rattle.def_run.specs.Laws.{IsIdleAfter}
 use Rattle.def_run.specs.Listing.{program_output}
+use Rattle.tn_moves.specs.Schedules.{IsAtRest}
 use Rattle.tn_live.specs.declared.entry.Entry.{Entry}
 use Rattle.tn_live.specs.Journal.{picks_of}
 use Rattle.tn_live.specs.States.{SeatState}
@@ -36,12 +37,7 @@ pub record IsSettled (p : Program) (seats : List SeatState) : Type 0 where
   pub some : 0 < length seats
   pub first : (d : SeatState) → HasSettled p seats (slice_index_or seats 0 d)
 
--- the picks of a journal after which none of a pass moves
-pub record IsAtRest (p : Program) (picks : List ℕ) : Type 0 where
-  pub moved : moves p picks ≡ picks
-  pub rests : All (IsIdleAfter p picks) pass
-
--- such picks, with their output
+-- the picks of a journal after which none of a pass moves, with their output
 pub record RunsToRest (p : Program) (picks output : List ℕ) : Type 0 where
   pub at_rest : IsAtRest p picks
   pub written : output ≡ program_output p picks

@@ -12,7 +12,7 @@ use crate::ends::write_output;
 use crate::fault::{LiveFault, RunFault};
 use crate::job::{Job, Reading, read_script};
 use crate::last_passes::settle;
-use crate::outcome::{Outcome, is_listed};
+use crate::outcome::{Outcome, RunRefusal, is_listed};
 use std::alloc::Global;
 use std::io::{Read, Write};
 use std::marker::{Brand, Send, Sync};
@@ -148,7 +148,7 @@ impl Job<Global> for LiveRun {
 
     fn refusal_outcome(&self, alloc: Global, refusal: Refusal) -> Ran {
         Ran {
-            outcome: Outcome::Refused(refusal),
+            outcome: Outcome::Refused(RunRefusal::Text(refusal)),
             picks: Vec::new(alloc),
         }
     }

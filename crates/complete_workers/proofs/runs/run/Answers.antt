@@ -1,5 +1,6 @@
 use Rattle.std.proofs.Common.{◌∙◌, sym}
-use Rattle.tn_run.specs.Answers.{run_by, schedule_seen}
+use Rattle.tn_moves.specs.Schedules.{schedule_seen}
+use Rattle.tn_run.specs.Answers.{run_by}
 use Rattle.complete_workers.proofs.OneRun.{one_run, reads_or_not}
 use Rattle.complete_workers.proofs.SameRuns.{same_flushed, same_outcome, same_read_failed_by, same_run_left, same_run_written, same_write_failed_by, says_written, seen_as}
 use Rattle.complete_workers.proofs.runs.run.Goals as goal

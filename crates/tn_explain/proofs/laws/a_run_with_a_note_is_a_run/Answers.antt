@@ -1,5 +1,5 @@
-use Rattle.tn_explain.proofs.NodeNotes.{run_with_note_is_run}
+use Rattle.tn_explain.proofs.NodeNotes.{replay_is_run}
 use Rattle.tn_explain.proofs.laws.a_run_with_a_note_is_a_run.Goals as goal
 
 pub returns : goal.returns
-returns c = run_with_note_is_run
+returns c = replay_is_run
