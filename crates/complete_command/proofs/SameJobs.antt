@@ -8,9 +8,9 @@ use Rattle.tn_run.specs.Jobs.{Gives, IsJobRefusal, JobView, OfScript}
 use Rattle.tn_run.specs.declared.live.Ran.{Ran}
 use Rattle.tn_run.specs.declared.fault.LiveFault.{LiveFault}
 use Rattle.tn_explain.specs.Accounts.{explain_by}
-use Rattle.tn_explain.specs.Notes.{replay_by}
+use Rattle.tn_replay.specs.Notes.{replay_by}
 use Rattle.tn_explain.specs.declared.request.ExplainRequest.{ExplainRequest}
-use Rattle.tn_explain.specs.declared.replay.Replay.{Replay}
+use Rattle.tn_replay.specs.declared.replay.Replay.{Replay}
 use Rattle.tn_picture.specs.Requests.{draw_by}
 use Rattle.tn_picture.specs.declared.request.DrawRequest.{DrawRequest}
 use Rattle.tn_command.specs.JobForms.{HasAtMost, job_within}

@@ -8,8 +8,9 @@ ghost use Rattle.complete_command.specs.Jobs.{FlushAlike, GainAlike, RemainAlike
 use std::alloc::Allocator;
 use std::io::{Read, Write};
 use tn_command::{JobEnd, OutputFault, WithinBytes};
-use tn_explain::{ExplainOutcome, ExplainRequest, Replay, ReplayOutcome};
+use tn_explain::{ExplainOutcome, ExplainRequest};
 use tn_picture::{DrawOutcome, DrawRequest};
+use tn_replay::{Replay, ReplayOutcome};
 use tn_run::{DirectJob, RunFault};
 use tn_text::Watched;
 

@@ -9,16 +9,16 @@ use Rattle.def_explain.specs.Remarks.{Remark, remarks, has_remarks}
 use Rattle.tn_moves.specs.Schedules.{ScheduleView, schedule_seen, ArePicks, HasPicks, OfPicks}
 use Rattle.tn_run.specs.Answers.{run_for}
 use Rattle.tn_run.specs.Jobs.{Gives, OfScript}
-use Rattle.tn_explain.specs.Notes.{note_seen, AreNotes, AreNotesWanted, replay_by, run_outcome}
-use Rattle.tn_explain.proofs.NodeNotes.{replay_is_run}
-use Rattle.tn_explain.specs.declared.note.NodeNote.{NodeNote}
-use Rattle.tn_explain.specs.declared.note.RunNotes.{RunNotes}
-use Rattle.tn_explain.specs.declared.replay.Replay.{Replay}
-use Rattle.tn_explain.specs.declared.replay.ReplayOutcome.{ReplayOutcome}
-use Rattle.tn_explain.specs.declared.replay.ReplayOutcome.TheVariants.{Listed, Refused}
+use Rattle.tn_replay.specs.Notes.{note_seen, AreNotes, AreNotesWanted, replay_by, run_outcome}
+use Rattle.tn_replay.proofs.NodeNotes.{replay_is_run}
+use Rattle.tn_replay.specs.declared.note.NodeNote.{NodeNote}
+use Rattle.tn_replay.specs.declared.note.RunNotes.{RunNotes}
+use Rattle.tn_replay.specs.declared.replay.Replay.{Replay}
+use Rattle.tn_replay.specs.declared.replay.ReplayOutcome.{ReplayOutcome}
+use Rattle.tn_replay.specs.declared.replay.ReplayOutcome.TheVariants.{Listed, Refused}
 use Rattle.def_explain.specs.CommandPlaces.{before_form, command_starts}
 use Rattle.tn_refusal.specs.Starts.{IsListable}
-use Rattle.tn_explain.specs.RemarkLines.{remark_line, AreRemarkLines}
+use Rattle.tn_replay.specs.RemarkLines.{remark_line, AreRemarkLines}
 use Rattle.complete_workers.proofs.OneRun.{one_picks, one_run, reads_or_not}
 
 -- the code's note that stands for a note

@@ -1,9 +1,8 @@
-//! The contracts of tn_explain and tn_remark, and those of tn_refusal on places and refusals, are complete. Each
-//! function calls one of theirs twice on equal values. It knows no more than the contract, so its proof shows that
-//! the contract leaves one answer.
+//! The contracts of tn_explain, tn_replay, tn_command_reason, tn_remark and tn_refusal are complete.
 //!
-//! Depends on these crates, and on complete_workers for when two runs of one text agree. Promises nothing to
-//! other crates.
+//! Each function calls one of theirs twice on equal values. It knows no more than the contract, so its proof shows that
+//! the contract leaves one answer. Depends on these crates, and on complete_workers for when two runs of one text
+//! agree.
 #![tactic(auto)]
 
 mod account;

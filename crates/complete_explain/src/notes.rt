@@ -5,13 +5,13 @@ ghost use Rattle.tn_refusal.specs.Starts.{IsListable};
 ghost use Rattle.tn_trace.specs.Transcripts.{transcript_of};
 
 use std::alloc::{AllocError, Allocator};
-use tn_explain::{NodeNote, RunNotes};
 use tn_moves::Schedule;
 use tn_program::Program;
+use tn_replay::{NodeNote, RunNotes};
 use tn_run::Denial;
 use tn_trace::Transcript;
 
-/// `tn_explain::can_differ` has one answer for one program.
+/// `tn_replay::can_differ` has one answer for one program.
 pub fn can_differ<A: Allocator + Copy>(
     alloc: A,
     first: &Program<A>,
@@ -21,12 +21,12 @@ pub fn can_differ<A: Allocator + Copy>(
     ensures { IfOk result.0 (λ b. IfOk result.1 (λ c. b ≡ c)) }
 {
     (
-        tn_explain::can_differ(alloc, first),
-        tn_explain::can_differ(alloc, second),
+        tn_replay::can_differ(alloc, first),
+        tn_replay::can_differ(alloc, second),
     )
 }
 
-/// `tn_explain::node_note` has one answer for one program and the same picks.
+/// `tn_replay::node_note` has one answer for one program and the same picks.
 pub fn node_note<A: Allocator + Copy>(
     alloc: A,
     first: &Program<A>,
@@ -40,12 +40,12 @@ pub fn node_note<A: Allocator + Copy>(
     ensures { IfOk result.0 (λ n. IfOk result.1 (λ m. n ≡ m)) }
 {
     (
-        tn_explain::node_note(alloc, first, picks),
-        tn_explain::node_note(alloc, second, picks),
+        tn_replay::node_note(alloc, first, picks),
+        tn_replay::node_note(alloc, second, picks),
     )
 }
 
-/// `tn_explain::text_note` has one answer for one text and the same picks.
+/// `tn_replay::text_note` has one answer for one text and the same picks.
 pub fn text_note<A: Allocator + Copy>(
     alloc: A,
     text: &[u8],
@@ -57,12 +57,12 @@ pub fn text_note<A: Allocator + Copy>(
     ensures { IfOk result.0 (λ n. IfOk result.1 (λ m. n ≡ m)) }
 {
     (
-        tn_explain::text_note(alloc, text, picks),
-        tn_explain::text_note(alloc, text, picks),
+        tn_replay::text_note(alloc, text, picks),
+        tn_replay::text_note(alloc, text, picks),
     )
 }
 
-/// `tn_explain::text_has_remarks` has one answer for one text and the same picks.
+/// `tn_replay::text_has_remarks` has one answer for one text and the same picks.
 pub fn text_has_remarks<A: Allocator + Copy>(
     alloc: A,
     text: &[u8],
@@ -71,12 +71,12 @@ pub fn text_has_remarks<A: Allocator + Copy>(
     ensures { IfOk result.0 (λ b. IfOk result.1 (λ c. b ≡ c)) }
 {
     (
-        tn_explain::text_has_remarks(alloc, text, picks),
-        tn_explain::text_has_remarks(alloc, text, picks),
+        tn_replay::text_has_remarks(alloc, text, picks),
+        tn_replay::text_has_remarks(alloc, text, picks),
     )
 }
 
-/// `tn_explain::remark_lines` has one answer for one text of tokens, its name and the same picks.
+/// `tn_replay::remark_lines` has one answer for one text of tokens, its name and the same picks.
 pub fn remark_lines<A: Allocator + Copy>(
     alloc: A,
     name: &str,
@@ -86,12 +86,12 @@ pub fn remark_lines<A: Allocator + Copy>(
     ensures { IsListable text.now → IfOk result.0 (λ v. IfOk result.1 (λ w. v.items ≡ w.items)) }
 {
     (
-        tn_explain::remark_lines(alloc, name, text, picks),
-        tn_explain::remark_lines(alloc, name, text, picks),
+        tn_replay::remark_lines(alloc, name, text, picks),
+        tn_replay::remark_lines(alloc, name, text, picks),
     )
 }
 
-/// `tn_explain::schedule_remark_lines` has one answer for one text of tokens, its name and the same schedule.
+/// `tn_replay::schedule_remark_lines` has one answer for one text of tokens, its name and the same schedule.
 pub fn schedule_remark_lines<A: Allocator + Copy>(
     alloc: A,
     name: &str,
@@ -101,12 +101,12 @@ pub fn schedule_remark_lines<A: Allocator + Copy>(
     ensures { IsListable text.now → IfOk result.0 (λ v. IfOk result.1 (λ w. v.items ≡ w.items)) }
 {
     (
-        tn_explain::schedule_remark_lines(alloc, name, text, schedule),
-        tn_explain::schedule_remark_lines(alloc, name, text, schedule),
+        tn_replay::schedule_remark_lines(alloc, name, text, schedule),
+        tn_replay::schedule_remark_lines(alloc, name, text, schedule),
     )
 }
 
-/// `tn_explain::schedule_has_remarks` has one answer for one text and the same schedule.
+/// `tn_replay::schedule_has_remarks` has one answer for one text and the same schedule.
 pub fn schedule_has_remarks<A: Allocator + Copy>(
     alloc: A,
     text: &[u8],
@@ -115,22 +115,19 @@ pub fn schedule_has_remarks<A: Allocator + Copy>(
     ensures { IfOk result.0 (λ b. IfOk result.1 (λ c. b ≡ c)) }
 {
     (
-        tn_explain::schedule_has_remarks(alloc, text, schedule),
-        tn_explain::schedule_has_remarks(alloc, text, schedule),
+        tn_replay::schedule_has_remarks(alloc, text, schedule),
+        tn_replay::schedule_has_remarks(alloc, text, schedule),
     )
 }
 
-/// `tn_explain::has_no_forms` has one answer for one text.
+/// `tn_replay::has_no_forms` has one answer for one text.
 pub fn has_no_forms(text: &[u8]) -> (bool, bool)
     ensures { result.0 ≡ result.1 }
 {
-    (
-        tn_explain::has_no_forms(text),
-        tn_explain::has_no_forms(text),
-    )
+    (tn_replay::has_no_forms(text), tn_replay::has_no_forms(text))
 }
 
-/// `tn_explain::notes_of` has one answer, of transcripts of the program's run by some picks.
+/// `tn_replay::notes_of` has one answer, of transcripts of the program's run by some picks.
 pub fn notes_of<A: Allocator + Copy>(
     alloc: A,
     program: &Program<A>,
@@ -143,7 +140,7 @@ pub fn notes_of<A: Allocator + Copy>(
     ensures { IfOk result.0 (λ n. IfOk result.1 (λ m. n ≡ m)) }
 {
     (
-        tn_explain::notes_of(alloc, program, one),
-        tn_explain::notes_of(alloc, program, other),
+        tn_replay::notes_of(alloc, program, one),
+        tn_replay::notes_of(alloc, program, other),
     )
 }

@@ -1,8 +1,7 @@
 //! The program `tracenode`: a script from a file or standard input, the output on standard output.
 //!
-//! Depends on tn_command, which promises what is written, and on `clap`, which reads the command line. The
-//! status is 0 for a listing or help, 1 for an output that isn't what the command line says it must be, 2 for
-//! a refused script, text of picks or command line, and 3 for a fault, with one line on standard error.
+//! Depends on tn_command, which promises what is written, and on `clap`, which reads the command line. The status is 0
+//! for a listing or help, 1 for an unmet expectation, 2 for a refusal and 3 for a fault, with a line of text.
 #![tactic(auto)]
 
 ghost use Rattle.std.specs.Prelude.{IfErr};
@@ -33,10 +32,11 @@ use tn_command::{
     WithinBytes, WorkersRun, arguments, escape_controls, output_of, perform, picks_of, report,
     tell_fault, test_spec,
 };
-use tn_explain::{ExplainRequest, Filter, Replay};
+use tn_explain::{ExplainRequest, Filter};
 use tn_formats::Format;
 use tn_moves::Schedule;
 use tn_picture::{DrawRequest, PictureFormat};
+use tn_replay::Replay;
 use tn_run::{DirectJob, RunFault, Workers, write_output};
 use tn_text::Watched;
 use tn_verdict::SpecTestInput;

@@ -13,9 +13,9 @@ use Rattle.tn_run.specs.declared.outcome.Outcome.TheVariants as listing
 use Rattle.tn_run.specs.declared.live.Ran.{Ran}
 use Rattle.tn_moves.specs.Schedules.{OfPicks, schedule_seen}
 use Rattle.tn_moves.specs.declared.schedule.Schedule.{Schedule}
-use Rattle.tn_explain.specs.declared.replay.Replay.{Replay}
-use Rattle.tn_explain.specs.declared.replay.ReplayOutcome.{ReplayOutcome}
-use Rattle.tn_explain.specs.declared.replay.ReplayOutcome.TheVariants as replayed
+use Rattle.tn_replay.specs.declared.replay.Replay.{Replay}
+use Rattle.tn_replay.specs.declared.replay.ReplayOutcome.{ReplayOutcome}
+use Rattle.tn_replay.specs.declared.replay.ReplayOutcome.TheVariants as replayed
 use Rattle.tn_explain.specs.declared.request.ExplainRequest.{ExplainRequest}
 use Rattle.tn_explain.specs.declared.request.ExplainOutcome.{ExplainOutcome}
 use Rattle.tn_explain.specs.declared.request.ExplainOutcome.TheVariants as explained

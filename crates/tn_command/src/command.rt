@@ -7,11 +7,9 @@ use crate::plain_text::{escape_controls, plain_name};
 use crate::remarks::{tell_empty_script, tell_schedule_picks, tell_schedule_remarks};
 use crate::stderr::{NamedText, tell_note};
 use std::alloc::Global;
-use tn_explain::{
-    ExplainOutcome, ExplainRequest, Replay, ReplayOutcome, has_no_forms, schedule_has_remarks,
-    text_has_remarks,
-};
+use tn_explain::{ExplainOutcome, ExplainRequest};
 use tn_moves::Schedule;
+use tn_replay::{Replay, ReplayOutcome, has_no_forms, schedule_has_remarks, text_has_remarks};
 use tn_run::{Denial, Job};
 
 /// A job that a command does.

@@ -1,20 +1,8 @@
-//! What a command of the command line does once its words are read: the run over a script from standard input or a
-//! file, to standard output, and its exit status.
+//! What a command of the command line does once its words are read, and its exit status.
 //!
-//! Depends on tn_run, which promises what is written, and on tn_refusal, which promises the line of a refusal.
-//! Promises of each job that it is done as tn_run says, that the status is that of its answer, 0 for what was asked
-//! for, 2 for a refusal and 3 for a fault, and that what was written is what the status says; so it is with an
-//! explained run, a run that is drawn and the trial of one specification. Promises of an output that is held
-//! against an expectation that the status is 1 where it would be 0 and the output doesn't meet it, and else what it
-//! would be. Promises of a job in a format that it writes the text in that format of what the job writes, and of a job
-//! within a bound that it writes an output of at most so many bytes, and else nothing. Promises
-//! of a text of picks that it is what the reader holds, without a line feed at its end. A refusal or a fault has one
-//! line on standard error: how the text can be fixed, or what failed. A pipe that was closed has none. So has a run
-//! that a running node is known to do otherwise: at how many of its moves; and each of its commands that is refused
-//! or matches no function. Names are printed without control characters, which `escape_controls` replaces. Promises of
-//! a strict command line that the status is 1 where it would be 0 and a command is refused or matches no function, or
-//! the script has no forms; and 3 where there was no memory to say so. Promises of the notes on the trial of a
-//! specification that they are the defined lines.
+//! Depends on tn_run, tn_replay, tn_explain, tn_picture and tn_formats. Promises that each job is done as its crate
+//! says, in its format and within its bound, and that the status is its answer's, or 1 for an unmet expectation or a
+//! flaw under `--strict`.
 #![tactic(auto)]
 
 mod command;

@@ -3,9 +3,9 @@ use crate::pick_notes::tell_pick_of_nobody;
 use crate::spec_notes::spec_note_lines;
 use crate::stderr::NamedText;
 use std::alloc::Global;
-use tn_explain::{has_no_forms, remark_lines, schedule_remark_lines};
 use tn_listing::read_picks;
 use tn_moves::Schedule;
+use tn_replay::{has_no_forms, remark_lines, schedule_remark_lines};
 use tn_verdict::SpecTestInput;
 
 /// Prints lines, where there was memory for them.

@@ -1,8 +1,8 @@
 // What is said on standard error of a refusal or a fault, and of what a running node does otherwise.
 use std::fmt::Display;
 use std::io::{Error, ErrorKind};
-use tn_explain::NodeNote;
 use tn_refusal::explain;
+use tn_replay::NodeNote;
 use tn_run::{Refusal, RunFault};
 
 /// A text, and the name that it goes by.

@@ -27,9 +27,9 @@ use std::process::ExitCode;
 use std::rt::Files;
 use std::sync::Wait;
 use std::thread::Threads;
-use tn_explain::text_note;
 use tn_listing::PicksFault;
 use tn_pool::Gate;
+use tn_replay::text_note;
 use tn_run::{Denial, Job, LiveFault, LiveRun, Outcome, Ran, Refusal, RunFault, Workers, run_live};
 use tn_text::Watched;
 

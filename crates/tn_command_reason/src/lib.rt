@@ -1,8 +1,8 @@
 //! Why a session refuses a command, or matches no function by it, and the texts of these reasons.
 //!
-//! Depends on tn_session, tn_reason, tn_verdict (the texts of specifications' reasons) and def_explain. Promises that
-//! `command_reason` is the defined reason, and that `put_reason_after_reply` and `reason_text` give the defined texts.
-//! What a reason names is lent: no term is copied.
+//! Depends on tn_session, tn_reason, tn_verdict and def_explain. Promises that `command_reason` is the defined reason,
+//! and that `put_reason_after_reply` and `reason_text` give the defined texts. What a reason names is lent: no term is
+//! copied.
 #![tactic(auto)]
 
 mod command_reason_texts;

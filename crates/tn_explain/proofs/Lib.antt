@@ -11,13 +11,6 @@ pub mod Picks
 pub mod ItemTexts
 pub mod BeforePicks
 pub mod DifferenceLines
-pub mod NoteCounts
-pub mod NodeFlags
-pub mod NodeNotes
 pub mod NodeMoveTexts
 mod CommandDifferences
-pub mod EmptyScripts
-pub mod CommandStarts
-pub mod Remarks
-pub mod LongRuns
 mod Explanations

@@ -9,9 +9,5 @@ pub mod Filters
 pub mod NamedSessions
 pub mod Explainers
 pub mod Accounts
-pub mod Notes
 pub mod ClauseDifferences
 pub mod CommandDifferences
-pub mod CommandStarts
-pub mod RemarkedSessions
-pub mod RemarkLines

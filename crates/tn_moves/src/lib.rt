@@ -1,8 +1,7 @@
-//! Which picks a run takes: those of a text of picks or of moves, a round, or a round after the control list.
+//! Which picks a run takes: those of a text or of a text of moves, or a round, also after the control list.
 //!
-//! Depends on tn_text, tn_program, tn_trace (a run, which takes the picks) and tn_listing (texts of picks), and on the
-//! definitions of def_moves. Promises that the plan of a schedule has the picks that are asked, or is refused for its
-//! text of moves, and that `drive` runs a program by a plan, of which any observer sees each move once.
+//! Depends on tn_trace, tn_listing (texts of picks) and def_moves. Promises that a schedule's plan has the picks that
+//! are asked for, or is refused, and that `drive` runs a program by it for any observer.
 #![tactic(auto)]
 
 mod course;

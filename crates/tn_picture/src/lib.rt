@@ -1,11 +1,7 @@
-//! The picture of a run: each event and command is a row, each process a column, and each message that a session
-//! reports a mark with that message; as a graphic, or in lines for a terminal.
+//! The picture of a run: each event and command is a row, each process a column, each message of a session a mark.
 //!
-//! Depends on tn_trace (a run, which takes the picks, and its sessions), tn_run (which reads, accepts and refuses
-//! scripts) and on the definitions of def_picture. Promises that `picture_of` is the picture of the program's run
-//! by some picks, in which the messages of a session are the lines of its listing, and there is no other; that
-//! `svg_text` and `plain_text` are the defined texts of a picture; and that `draw` writes exactly that text, or the
-//! line of the one refusal, and that a fault says which end failed, and how many bytes of it were taken.
+//! Depends on tn_trace, tn_run and def_picture. Promises that `picture_of` is the picture of the program's run,
+//! `svg_text` and `plain_text` are its texts, and `draw` writes exactly that text, or the line of the one refusal.
 #![tactic(auto)]
 
 mod job;

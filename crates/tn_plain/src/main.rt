@@ -1,9 +1,7 @@
 //! The runs `replay --picks TEXT` and `round [--limit N]` of `tracenode`, in a program without `clap`.
 //!
-//! The start script runs it where the whole program isn't built yet: without `clap` it is compiled in little
-//! more than half the time. Depends on tn_command and tn_explain, which promise what is written, the note and
-//! the status. Of other
-//! words it says which it takes, with status 2; the start script gives it no others.
+//! The start script runs it where the whole program isn't built yet, since it takes little more than half the time to
+//! compile. Depends on tn_command and tn_explain. Other words are refused with status 2.
 #![tactic(auto)]
 
 ghost use Rattle.std.specs.Prelude.{SomeIff, IfSome, IfNone, drop, map, string_bytes};
@@ -17,8 +15,8 @@ use std::rt::{Env, Files};
 use tn_command::{
     Expectation, MAX_OUTPUT, REFUSED, Source, WithinBytes, arguments, perform, plain_number,
 };
-use tn_explain::Replay;
 use tn_moves::Schedule;
+use tn_replay::Replay;
 use tn_trace::JOURNAL;
 
 /// How many picks of a round may move where no limit is given.

@@ -1,10 +1,7 @@
-//! The lines of what is remarked of a script's commands: of each command that something is said of, where it begins,
-//! its number and what is said.
+//! The lines of what is remarked of a script's commands: where each begins, its number and what is said.
 //!
-//! Depends on tn_refusal (the line and the column of an offset, and how a line names a place), and on the definitions
-//! of def_explain (what a line says of a command). Promises that `put_lines` appends exactly these lines, in the order
-//! of the commands, each with its own command's place, number and text. Which commands are remarked of, and what is
-//! said of them, is given by the caller.
+//! Depends on tn_refusal (places) and def_explain. Promises that `put_lines` appends exactly these lines, in order,
+//! each with its own command's place, number and text. The caller gives the texts.
 #![tactic(auto)]
 
 mod remark_lines;

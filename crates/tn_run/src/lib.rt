@@ -1,8 +1,7 @@
 //! A run of the program: the bytes of a script and a schedule in, the bytes of an output out.
 //!
-//! Depends on tn_script, tn_program, tn_refusal, tn_moves, tn_live and tn_pool. Promises that `transact` does a job
-//! with all of a reader, and that a fault says which end failed; that `run` writes the output that is defined for the
-//! script and the schedule, and `run_live` that of the picks that its workers made.
+//! Depends on tn_refusal, tn_listing, tn_moves and tn_pool. Promises that `transact` does a job with all of a reader
+//! and writes its whole output, or the line of the one refusal, and that `run` and `run_live` write the defined output.
 #![tactic(auto)]
 
 mod acceptance;

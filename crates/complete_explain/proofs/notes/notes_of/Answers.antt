@@ -1,6 +1,6 @@
 use Rattle.std.proofs.Common.{◌≡◌}
 use Rattle.tn_program.specs.Views.{program_of}
-use Rattle.tn_explain.specs.Notes.{AreNotes}
+use Rattle.tn_replay.specs.Notes.{AreNotes}
 use Rattle.complete_explain.proofs.OneNote.{if_both, same_notes}
 use Rattle.complete_explain.proofs.notes.notes_of.Goals as goal
 

@@ -2,7 +2,7 @@ use Rattle.std.proofs.Common.{◌≡◌}
 use Rattle.def_explain.specs.Remarks.{remarks}
 use Rattle.tn_moves.specs.Schedules.{OfPicks, schedule_seen}
 use Rattle.tn_run.specs.Jobs.{OfScript}
-use Rattle.tn_explain.specs.RemarkLines.{AreRemarkLines}
+use Rattle.tn_replay.specs.RemarkLines.{AreRemarkLines}
 use Rattle.complete_explain.proofs.OneNote.{lines_of_one_schedule, if_both}
 use Rattle.complete_explain.proofs.notes.schedule_remark_lines.Goals as goal
 

@@ -2,7 +2,7 @@ use Rattle.std.proofs.Common.{◌≡◌}
 use Rattle.std.specs.Option.{option_map}
 use Rattle.def_running_node.specs.NodeNotes.{node_note}
 use Rattle.tn_run.specs.Jobs.{OfScript}
-use Rattle.tn_explain.specs.Notes.{note_seen}
+use Rattle.tn_replay.specs.Notes.{note_seen}
 use Rattle.complete_explain.proofs.OneNote.{of_one_text, if_both}
 use Rattle.complete_explain.proofs.notes.text_note.Goals as goal
 

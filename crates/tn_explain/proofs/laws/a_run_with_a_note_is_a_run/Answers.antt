@@ -1,5 +1,0 @@
-use Rattle.tn_explain.proofs.NodeNotes.{replay_is_run}
-use Rattle.tn_explain.proofs.laws.a_run_with_a_note_is_a_run.Goals as goal
-
-pub returns : goal.returns
-returns c = replay_is_run

@@ -1,0 +1,7 @@
+pub mod NoteCounts
+pub mod NodeFlags
+pub mod NodeNotes
+pub mod EmptyScripts
+pub mod CommandStarts
+pub mod Remarks
+pub mod LongRuns

@@ -1,0 +1,4 @@
+pub mod Notes
+pub mod CommandStarts
+pub mod RemarkedSessions
+pub mod RemarkLines
