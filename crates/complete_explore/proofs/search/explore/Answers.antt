@@ -1,0 +1,15 @@
+use Rattle.std.specs.Prelude.{IfOk}
+use Rattle.std.proofs.lemmas.Result.{IfOk-weaker}
+use Rattle.complete_explore.proofs.SameEntries.{Promises, BothAlike, both_alike}
+use Rattle.complete_explore.proofs.search.explore.Goals as goal
+
+pub returns : goal.returns
+returns g c =
+    let J = g.S.SearchState.journal in
+    let I = g.S.SearchState.is_of in
+    let K = g.S.SearchState.kept_seen in
+    let one = c.args.one in
+    let other = c.args.other in
+    IfOk-weaker c.explore-first.result (Promises J I K one) (λ e. IfOk c.explore-second.result (BothAlike J I K one other e))
+    (λ e h. IfOk-weaker c.explore-second.result (Promises J I K other) (BothAlike J I K one other e) (λ f k. both_alike J I K one other e f h k) c.explore-second.ensures)
+    c.explore-first.ensures

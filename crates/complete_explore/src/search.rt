@@ -1,0 +1,27 @@
+// The search through all states.
+ghost use Rattle.std.specs.Prelude.{◌≡◌, IfOk};
+ghost use Rattle.def_run.specs.Run.{moves};
+ghost use Rattle.tn_explore.specs.Query.{Query};
+ghost use Rattle.complete_explore.specs.Explorations.{ExploreAlike};
+
+use std::alloc::{AllocError, Allocator};
+use tn_explore::{Exploration, SearchState};
+
+/// What a search answers, or refused memory.
+type SearchResult<A, S> = Result<Exploration<A, <S as SearchState<A>>::Observation>, AllocError>;
+
+/// `tn_explore::explore` has one answer where all states are tried: the same is kept, with journals that are as long.
+pub fn explore<A: Allocator + Copy, S: SearchState<A>>(
+    alloc: A,
+    one: S,
+    other: S,
+    max_states: usize,
+) -> (SearchResult<A, S>, SearchResult<A, S>)
+    ensures { IfOk result.0 (λ e. IfOk result.1 (λ f. (a : Query) →
+        S.is_of one a → S.is_of other a → S.journal one ≡ moves a.program a.before →
+        S.journal other ≡ moves a.program a.before → ExploreAlike S.kept_seen e f)) }
+{
+    let first = tn_explore::explore(alloc, one, max_states);
+    let second = tn_explore::explore(alloc, other, max_states);
+    (first, second)
+}

@@ -1,0 +1,93 @@
+-- Worked rows, computed: the two listings of a send that races with a command, and what is kept of them for each question.
+use Rattle.std.proofs.Common.{◌≡◌, ℕ, List, [], ◌∷◌, ◌++◌, true, false, codes, refl}
+use Rattle.def_term.specs.Tree.{Tree, pid}
+use Rattle.def_term.specs.Names.{Name, word}
+use Rattle.def_spec.specs.Matching.{Pattern, anything, only_term, in_tuple, no_patterns, and_pattern}
+use Rattle.def_script.specs.Program.{Program, send}
+use Rattle.def_run.specs.Run.{moves}
+use Rattle.def_run.specs.Round.{pass}
+use Rattle.def_run.proofs.Samples.{number, braces, function, entry, program, creates, sets}
+use Rattle.def_explore.specs.Rests.{all_messages, matches, kept_messages, kept_matches, kept_in, each_process}
+use Rattle.def_explore.specs.Alike.{IsStateAlike}
+use Rattle.def_explore.specs.Answers.{RestEntry, IsJournalFrom, AreDistinct, shows}
+
+-- 100 calls go, sends 1 to 101, which isn't there, and ends; the two commands trace its sends
+abbrev race : Program
+race = program
+    (function "go" [] (send (pid 101) (number 1) ∷ []) ∷ [])
+    (entry "go" [] ∷ [])
+    (creates "s" "t" ∷ sets "s" (word "all") ("send" ∷ []) ∷ [])
+
+abbrev asked : List Name
+asked = codes "s" ∷ []
+
+-- the commands, then the process; and the other way round
+abbrev traced : List ℕ
+traced = 0 ∷ 0 ∷ 100 ∷ 100 ∷ 100 ∷ []
+
+abbrev untraced : List ℕ
+untraced = 100 ∷ 100 ∷ 100 ∷ 0 ∷ 0 ∷ []
+
+abbrev message : Tree
+message = braces (word "trace" ∷ pid 100 ∷ word "send_to_non_existing_process" ∷ number 1 ∷ pid 101 ∷ [])
+
+-- ---- the runs
+
+-- each pick moves, and after that no pick of a pass does
+traced_rests : moves race (traced ++ pass) ≡ traced
+traced_rests = refl
+
+untraced_rests : moves race (untraced ++ pass) ≡ untraced
+untraced_rests = refl
+
+-- it goes on from the first command, whichever idle picks come before
+goes_on_from : IsJournalFrom race (7 ∷ 0 ∷ []) traced
+goes_on_from = record { more = 0 ∷ 100 ∷ 100 ∷ 100 ∷ []; goes_on = refl; moved = refl }
+
+-- a command and the call of a process lead to the same state in either order
+either_order : IsStateAlike all_messages asked race (0 ∷ 100 ∷ []) (100 ∷ 0 ∷ [])
+either_order = record { place = refl; sessions = (refl, tt); kept = refl }
+
+-- ---- what is kept
+
+all_kept : kept_in all_messages asked race traced ≡ kept_messages ((message ∷ []) ∷ [])
+all_kept = refl
+
+nothing_kept : kept_in all_messages asked race untraced ≡ kept_messages ([] ∷ [])
+nothing_kept = refl
+
+-- the messages of 101, of 100 and of 102
+kept_by_pid : each_process (101 ∷ 100 ∷ 102 ∷ []) (message ∷ message ∷ []) ≡ [] ∷ (message ∷ message ∷ []) ∷ [] ∷ []
+kept_by_pid = refl
+
+-- {trace,'_',send_to_non_existing_process,1,'_'}, and the same with 2
+abbrev of_number : ℕ → Pattern
+of_number n =
+    in_tuple (and_pattern (only_term (word "trace")) (and_pattern anything (and_pattern (only_term (word "send_to_non_existing_process"))
+    (and_pattern (only_term (number n)) (and_pattern anything no_patterns)))))
+
+matches_kept : kept_in (matches (of_number 1 ∷ of_number 2 ∷ anything ∷ [])) asked race traced ≡ kept_matches (true ∷ false ∷ true ∷ [])
+matches_kept = refl
+
+no_matches_kept : kept_in (matches (of_number 1 ∷ of_number 2 ∷ anything ∷ [])) asked race untraced ≡ kept_matches (false ∷ false ∷ false ∷ [])
+no_matches_kept = refl
+
+-- ---- entries and words
+
+-- the two listings
+abbrev entries : List RestEntry
+entries = record { kept = kept_messages ((message ∷ []) ∷ []); journal = traced } ∷ record { kept = kept_messages ([] ∷ []); journal = untraced } ∷ []
+
+two_listings : AreDistinct entries
+two_listings = ((λ e. cc, tt), (tt, tt))
+
+-- a run in which the second command comes after the send has the second listing
+late_command : kept_in all_messages asked race (0 ∷ 100 ∷ 100 ∷ 0 ∷ 100 ∷ []) ≡ kept_messages ([] ∷ [])
+late_command = refl
+
+-- so a match is shown sometimes: here, and not here
+shown : shows (of_number 1) asked race traced ≡ true
+shown = refl
+
+missed : shows (of_number 1) asked race untraced ≡ false
+missed = refl

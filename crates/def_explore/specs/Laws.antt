@@ -1,0 +1,114 @@
+-- What is promised of explorations (own).
+-- Depends on all definitions of an exploration.
+use Rattle.std.specs.Prelude.{◌≡◌, ◌<◌, ◌+◌, ℕ, Bool, true, List, ◌∷◌, [], ◌++◌, length}
+use Rattle.def_term.specs.Names.{Name}
+use Rattle.def_spec.specs.Matching.{Pattern}
+use Rattle.def_script.specs.Program.{Program}
+use Rattle.def_run.specs.Run.{JOURNAL, moves}
+use Rattle.def_run.specs.Laws.{IsIdleAfter}
+use Rattle.def_explore.specs.Rests.{IsRestAfter, RunQuestion, matches, kept_matches}
+use Rattle.def_explore.specs.Alike.{IsStateAlike, HasStateOf, IsClosed, is_pick_among, AreIndependent, IsReduced}
+use Rattle.def_explore.specs.Lists.{OneOf, EachOf}
+use Rattle.def_explore.specs.Answers.{RestEntry, IsEntryFor, IsNoLonger, AreSound, AreComplete, AreCompleteBelow, AreShortest, HaveAllStates, Word, always, never, sometimes, IsTrueWord, AllShow}
+
+-- ---- alike
+
+-- what leads to the same state does so with whatever comes after it
+abbrev pub AlikeGoesOn : Type 0
+AlikeGoesOn = (q : RunQuestion) (ss : List Name) (p : Program) (a b more : List ℕ) → IsStateAlike q ss p a b → IsStateAlike q ss p (a ++ more) (b ++ more)
+
+-- picks lead to the same state as those of them that moved
+abbrev pub MovesAreAlike : Type 0
+MovesAreAlike = (q : RunQuestion) (ss : List Name) (p : Program) (a : List ℕ) → IsStateAlike q ss p a (moves p a)
+
+-- after both of two alike the same picks are idle
+abbrev pub AlikeAreIdleAlike : Type 0
+AlikeAreIdleAlike = (q : RunQuestion) (ss : List Name) (p : Program) (a b : List ℕ) (pick : ℕ) → IsStateAlike q ss p a b → IsIdleAfter p b pick → IsIdleAfter p a pick
+
+-- and as many picks moved in both
+abbrev pub AlikeHaveMovedAlike : Type 0
+AlikeHaveMovedAlike = (q : RunQuestion) (ss : List Name) (p : Program) (a b : List ℕ) → IsStateAlike q ss p a b → length (moves p a) ≡ length (moves p b)
+
+-- an idle pick leads nowhere else
+abbrev pub IdleIsAlike : Type 0
+IdleIsAlike = (q : RunQuestion) (ss : List Name) (p : Program) (a : List ℕ) (pick : ℕ) → IsIdleAfter p a pick → IsStateAlike q ss p (a ++ pick ∷ []) a
+
+-- ---- closed journals
+
+-- where the journals have the first picks and are closed, they have all states that come after those
+abbrev pub ClosedJournalsHaveAll : Type 0
+ClosedJournalsHaveAll =
+    (q : RunQuestion) (ss : List Name) (p : Program) (js : List (List ℕ)) (before : List ℕ) →
+    HasStateOf q ss p js before → IsClosed q ss p js → HaveAllStates q ss p before js
+
+-- each of the journals after which nothing moves has an entry
+abbrev pub RestsHaveEntries : RunQuestion → List Name → Program → List (List ℕ) → List RestEntry → Type 0
+RestsHaveEntries q ss p js es = EachOf (λ j. IsRestAfter p j → OneOf (IsEntryFor q ss p j) es) js
+
+-- so that the entries are complete
+abbrev pub ClosedJournalsAreComplete : Type 0
+ClosedJournalsAreComplete =
+    (q : RunQuestion) (ss : List Name) (p : Program) (js : List (List ℕ)) (before : List ℕ) (es : List RestEntry) →
+    HasStateOf q ss p js before → IsClosed q ss p js → RestsHaveEntries q ss p js es → AreComplete q ss p before es
+
+-- no entry is longer than one of the journals after which nothing moves and of which the same is kept
+abbrev pub RestsAreNoShorter : RunQuestion → List Name → Program → List (List ℕ) → List RestEntry → Type 0
+RestsAreNoShorter q ss p js es = EachOf (λ j. IsRestAfter p j → EachOf (IsNoLonger q ss p j) es) js
+
+-- so that none is longer than any run to rest of which the same is kept
+abbrev pub ClosedJournalsAreShortest : Type 0
+ClosedJournalsAreShortest =
+    (q : RunQuestion) (ss : List Name) (p : Program) (js : List (List ℕ)) (before : List ℕ) (es : List RestEntry) →
+    HasStateOf q ss p js before → IsClosed q ss p js → RestsAreNoShorter q ss p js es → AreShortest q ss p before es
+
+-- ---- one answer
+
+-- each of these entries is among those, with a journal that is as long
+abbrev pub HaveTheSame : List RestEntry → List RestEntry → Type 0
+HaveTheSame es fs = EachOf (λ e. OneOf (λ f. (f.kept ≡ e.kept) × (length f.journal ≡ length e.journal)) fs) es
+
+-- entries that are sound and shortest are among all that are so and complete
+abbrev pub EntriesAreDetermined : Type 0
+EntriesAreDetermined =
+    (q : RunQuestion) (ss : List Name) (p : Program) (before : List ℕ) (es fs : List RestEntry) →
+    AreSound q ss p before es → AreShortest q ss p before es → AreSound q ss p before fs → AreShortest q ss p before fs → AreComplete q ss p before fs →
+    HaveTheSame es fs
+
+-- ---- words
+
+-- the same word, whichever its journals are
+abbrev pub is_same_word : Word → Word → Type 0
+is_same_word (always j) (always k) = Unit {0}
+is_same_word (never j) (never k) = Unit {0}
+is_same_word (sometimes j k) (sometimes l m) = Unit {0}
+is_same_word _ _ = ⊥
+
+-- where all entries that are complete say it alike, all runs do
+abbrev pub EntriesShowAll : Type 0
+EntriesShowAll =
+    (a : Pattern) (ss : List Name) (p : Program) (before : List ℕ) (es : List RestEntry) (b : Bool) →
+    AreComplete (matches (a ∷ [])) ss p before es → EachOf (λ e. e.kept ≡ kept_matches (b ∷ [])) es → AllShow a ss p before b
+
+-- of a pattern one word is true at most
+abbrev pub WordIsOne : Type 0
+WordIsOne = (a : Pattern) (ss : List Name) (p : Program) (before : List ℕ) (v w : Word) → IsTrueWord a ss p before v → IsTrueWord a ss p before w → is_same_word v w
+
+-- ---- picks that can go first
+
+-- below the journal's limit a run to rest leads to the same state as one that begins with one of some picks which are independent of all others, and goes on with its other picks
+abbrev pub IndependentPicksGoFirst : Type 0
+IndependentPicksGoFirst =
+    (q : RunQuestion) (ss : List Name) (p : Program) (j more : List ℕ) (ts : List ℕ) (one : ℕ) → is_pick_among one ts ≡ true → AreIndependent q ss p j ts → IsRestAfter p (j ++ more) → length (moves p (j ++ more)) < JOURNAL →
+    (t : ℕ) × (rest : List ℕ) × (is_pick_among t ts ≡ true) × (length rest + 1 ≡ length more) × IsStateAlike q ss p (j ++ more) (j ++ t ∷ rest)
+
+-- where the journals have the first picks, and after each of them all picks are tried or such alone, they have each run to rest that didn't meet the journal's limit
+abbrev pub ReducedJournalsHaveRests : Type 0
+ReducedJournalsHaveRests =
+    (q : RunQuestion) (ss : List Name) (p : Program) (js : List (List ℕ)) (before more : List ℕ) →
+    HasStateOf q ss p js before → IsReduced q ss p js → IsRestAfter p (before ++ more) → length (moves p (before ++ more)) < JOURNAL → HasStateOf q ss p js (before ++ more)
+
+-- and their entries are complete
+abbrev pub ReducedJournalsAreComplete : Type 0
+ReducedJournalsAreComplete =
+    (q : RunQuestion) (ss : List Name) (p : Program) (js : List (List ℕ)) (before : List ℕ) (es : List RestEntry) →
+    HasStateOf q ss p js before → IsReduced q ss p js → RestsHaveEntries q ss p js es → AreCompleteBelow q ss p before es

@@ -1,0 +1,6 @@
+pub mod Rests
+pub mod Alike
+pub mod Lists
+pub mod Answers
+pub mod Settings
+pub mod Laws

@@ -1,0 +1,57 @@
+//! What is kept of the messages of a run, picks that lead to the same state, and what an exploration of all
+//! runs to rest answers.
+//!
+//! Depends on def_term, def_spec, def_script, def_session and def_run. Promises, as laws, that closed journals
+//! have all states, and that entries of those at rest are complete and shortest.
+#![tactic(auto)]
+
+ghost use Rattle.def_explore.specs.Laws.{AlikeGoesOn, AlikeAreIdleAlike, AlikeHaveMovedAlike};
+ghost use Rattle.def_explore.specs.Laws.{IdleIsAlike, MovesAreAlike};
+ghost use Rattle.def_explore.specs.Laws.{ClosedJournalsHaveAll, ClosedJournalsAreComplete, ClosedJournalsAreShortest};
+ghost use Rattle.def_explore.specs.Laws.{EntriesAreDetermined};
+ghost use Rattle.def_explore.specs.Laws.{WordIsOne, EntriesShowAll};
+ghost use Rattle.def_explore.specs.Laws.{IndependentPicksGoFirst, ReducedJournalsHaveRests, ReducedJournalsAreComplete};
+ghost use Rattle.def_explore.specs.Settings.{CommandsDetermineSettings};
+
+/// Picks that lead to the same state do so with whatever comes after them, after both the same picks are idle, and as
+/// many picks moved in both. An idle pick leads nowhere else.
+pub fn alike_picks_go_on_alike()
+    ensures on { AlikeGoesOn }
+    ensures idle { AlikeAreIdleAlike }
+    ensures moved { AlikeHaveMovedAlike }
+    ensures still { IdleIsAlike }
+    ensures moves { MovesAreAlike }
+{}
+
+/// Journals that are closed under each pick have the states of all picks. So entries of those of them after which
+/// nothing moves are entries of all runs to rest, and as short as any.
+pub fn closed_journals_are_complete()
+    ensures all { ClosedJournalsHaveAll }
+    ensures complete { ClosedJournalsAreComplete }
+    ensures shortest { ClosedJournalsAreShortest }
+{}
+
+/// Two lists of entries that are sound, complete and shortest have the same, with journals that are as long.
+pub fn entries_are_determined()
+    ensures { EntriesAreDetermined }
+{}
+
+/// Of a pattern one word is true at most. Where all entries say it alike, all runs do.
+pub fn a_pattern_has_one_word()
+    ensures one { WordIsOne }
+    ensures all { EntriesShowAll }
+{}
+
+/// A run to rest leads to the same state as one that begins with a pick which is independent of all others, so that it
+/// is enough to try such picks alone.
+pub fn independent_picks_go_first()
+    ensures first { IndependentPicksGoFirst }
+    ensures rests { ReducedJournalsHaveRests }
+    ensures complete { ReducedJournalsAreComplete }
+{}
+
+/// The commands that are left determine what the commands of a session set, but for flags of processes. So states with
+/// the same commands left have the same settings.
+pub fn commands_determine_settings()
+    ensures { CommandsDetermineSettings }
+{}

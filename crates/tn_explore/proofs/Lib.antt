@@ -1,0 +1,5 @@
+pub mod Lists
+pub mod Layers
+pub mod Tries
+pub mod Observations
+pub mod Searches

@@ -1,0 +1,269 @@
+-- States that are tried, and what a search has then.
+use Rattle.std.proofs.Common.{◌≡◌, ◌<◌, ◌≤◌, ◌+◌, inl, inr, ℕ, suc, List, [], ◌∷◌, ◌++◌, length, map, take, get_or, Bool, true, false, refl, sym, ap, ◌∙◌, subst, arith, append-nil, append_assoc, length-append}
+use Rattle.std.proofs.lemmas.List.{take_all, take_more}
+use Rattle.std.proofs.lemmas.List.Elements.{All-contains}
+use Rattle.def_run.specs.Run.{moves, pick_step_after}
+use Rattle.def_run.specs.Laws.{IsIdleAfter}
+use Rattle.def_explore.specs.Rests.{IsMovingAfter, IsRestAfter}
+use Rattle.def_explore.specs.Lists.{OneOf, EachOf}
+use Rattle.def_explore.specs.Answers.{RestEntry, IsRestEntry, AreDistinct}
+use Rattle.def_explore.proofs.Lists.{one_before, one_after, each_also, each_both}
+use Rattle.def_explore.proofs.Alike.{moves_alike}
+use Rattle.def_explore.proofs.Closed.{state_by, closed_have_all, closed_are_complete, closed_are_shortest}
+use Rattle.tn_explore.specs.Query.{Query, JournalFor, AlikeFor, HasStateFor, HasNextFor, EntryFor, NoLongerFor, entry_for}
+use Rattle.tn_explore.specs.SearchStates.{HasAllMoves}
+use Rattle.tn_explore.specs.Searches.{IsAt, AreAt, Tries, KeepsEntries, GainsAnswer, Answers, AnswersRest, TriesState, HaveTried, TriesLayer, Explores}
+use Rattle.tn_explore.proofs.Lists.{map_both, each_mapped, each_right, each_zip, none_is}
+use Rattle.tn_explore.proofs.Tries.{both_ways}
+
+module _ {S : Type 0} (Journal : S → List ℕ) (IsOf : S → Query → Type 0) (a : Query) (depth : ℕ) (s : S) (picks : List ℕ) (old new : List S) where
+  -- whichever pick moves was tried
+  all_there : (moved : Bool) → IsOf s a → HasAllMoves Journal IsOf s picks → Tries Journal IsOf a depth s picks old new moved → HasNextFor a (map Journal new) (Journal s)
+  all_there moved is_of all t pick h =
+      All-contains (λ k. IsMovingAfter a.program (Journal s) k → HasStateFor a (map Journal new) (Journal s ++ k ∷ [])) picks pick t.has (all a is_of pick h) h
+
+  -- where none moved nothing moves
+  none_moves : IsOf s a → HasAllMoves Journal IsOf s picks → Tries Journal IsOf a depth s picks old new false → IsRestAfter a.program (Journal s)
+  none_moves is_of all t pick = go (pick_step_after a.program (Journal s) pick).moved refl
+    where
+      go : (b : Bool) → (pick_step_after a.program (Journal s) pick).moved ≡ b → IsIdleAfter a.program (Journal s) pick
+      go true e = absurd (both_ways (pick_step_after a.program (Journal s) pick).moved e (All-contains (IsIdleAfter a.program (Journal s)) picks pick (t.idle refl) (all a is_of pick e)))
+      go false e = e
+
+  pub state_moves : (es : List RestEntry) (moved : Bool) → moved ≡ true → IsOf s a → HasAllMoves Journal IsOf s picks → Tries Journal IsOf a depth s picks old new moved → TriesState Journal IsOf a depth s old new es es
+  state_moves es moved e is_of all t =
+      let one : (pick : ℕ) × IsMovingAfter a.program (Journal s) pick = t.moves e in
+      record {
+        more = t.more;
+        longer = t.longer;
+        at = t.at;
+        next = all_there moved is_of all t;
+        answers = inl (record { same = refl; has = λ rests. absurd (both_ways (pick_step_after a.program (Journal s) one.0).moved one.1 (rests one.0)) });
+      }
+
+  pub state_rests : (es fs : List RestEntry) (moved : Bool) → moved ≡ false → IsOf s a → HasAllMoves Journal IsOf s picks → Tries Journal IsOf a depth s picks old new moved → AnswersRest Journal IsOf s es fs → TriesState Journal IsOf a depth s old new es fs
+  state_rests es fs moved e is_of all t answers = record {
+    more = t.more;
+    longer = t.longer;
+    at = t.at;
+    next = all_there moved is_of all t;
+    answers = answers a is_of (none_moves is_of all (subst (Tries Journal IsOf a depth s picks old new) e t));
+  }
+
+-- ---- one more journal was tried
+
+distinct_more : (es : List RestEntry) (x : RestEntry) → AreDistinct es → EachOf (λ e. e.kept ≡ x.kept → ⊥) es → AreDistinct (es ++ x ∷ [])
+distinct_more [] x h k = (tt, tt)
+distinct_more (e ∷ es) x h k = (each_both (λ f. e.kept ≡ f.kept → ⊥) es (x ∷ []) h.0 (k.0, tt), distinct_more es x h.1 k.1)
+
+module _ (a : Query) (depth : ℕ) (known more tried : List (List ℕ)) (j : List ℕ) (es fs : List RestEntry) (h : HaveTried a depth known tried es) (from : EachOf (JournalFor a) more) (next : HasNextFor a (known ++ more) j) (here : JournalFor a j) (long : length j ≡ depth) where
+  abbrev Rests : List RestEntry → List ℕ → Type 0
+  Rests gs k = IsRestAfter a.program k → OneOf (EntryFor a k) gs
+
+  abbrev Shorter : List RestEntry → List ℕ → Type 0
+  Shorter gs k = IsRestAfter a.program k → EachOf (NoLongerFor a k) gs
+
+  all_from : EachOf (JournalFor a) (known ++ more)
+  all_from = each_both (JournalFor a) known more h.from from
+
+  still_first : HasStateFor a (known ++ more) a.before
+  still_first = one_before (AlikeFor a a.before) known more h.first
+
+  all_next : EachOf (HasNextFor a (known ++ more)) (tried ++ j ∷ [])
+  all_next = each_both (HasNextFor a (known ++ more)) tried (j ∷ [])
+      (each_also (HasNextFor a known) (HasNextFor a (known ++ more)) tried (λ k g pick moving. one_before (AlikeFor a (k ++ pick ∷ [])) known more (g pick moving)) h.next)
+      (next, tt)
+
+  -- no entry is longer than the journal
+  none_longer : EachOf (NoLongerFor a j) es
+  none_longer =
+      let whole : length (moves a.program j) ≡ depth = ap length here.moved ∙ long in
+      each_also (λ e. length e.journal ≤ depth) (NoLongerFor a j) es (λ e k same. subst (λ n. length e.journal ≤ n) (sym whole) k) h.short
+
+  stays : KeepsEntries a j es fs → HaveTried a depth (known ++ more) (tried ++ j ∷ []) fs
+  stays s = subst (HaveTried a depth (known ++ more) (tried ++ j ∷ [])) (sym s.same) (record {
+    from = all_from;
+    first = still_first;
+    next = all_next;
+    entries = each_both (Rests es) tried (j ∷ []) h.entries (s.has, tt);
+    shortest = each_both (Shorter es) tried (j ∷ []) h.shortest (λ rests. none_longer, tt);
+    short = h.short;
+    sound = h.sound;
+    distinct = h.distinct;
+  })
+
+  gains : GainsAnswer a j es fs → HaveTried a depth (known ++ more) (tried ++ j ∷ []) fs
+  gains g = subst (HaveTried a depth (known ++ more) (tried ++ j ∷ [])) (sym g.longer) (record {
+    from = all_from;
+    first = still_first;
+    next = all_next;
+    entries = each_both (Rests gs) tried (j ∷ [])
+        (each_also (Rests es) (Rests gs) tried (λ k r rests. one_before (EntryFor a k) es (x ∷ []) (r rests)) h.entries)
+        (λ rests. one_after (EntryFor a j) es (x ∷ []) (inl refl), tt);
+    shortest = each_both (Shorter gs) tried (j ∷ [])
+        (each_zip (Rests es) (Shorter es) (Shorter gs) tried
+        (λ k r l rests. each_both (NoLongerFor a k) es (x ∷ []) (l rests) (λ same. absurd (none_is (EntryFor a j) es g.fresh (subst (λ y. OneOf (λ e. e.kept ≡ y) es) (sym same) (r rests))), tt))
+        h.entries h.shortest)
+        (λ rests. each_both (NoLongerFor a j) es (x ∷ []) none_longer (λ same. whole, tt), tt);
+    short = each_both (λ e. length e.journal ≤ depth) es (x ∷ []) h.short (omega arith, tt);
+    sound = each_both (IsRestEntry a.question a.sessions a.program a.before) es (x ∷ []) h.sound (record { from = here; rests = g.rests; keeps = refl }, tt);
+    distinct = distinct_more es x h.distinct g.fresh;
+  })
+    where
+      x : RestEntry
+      x = entry_for a j
+
+      gs : List RestEntry
+      gs = es ++ x ∷ []
+
+      whole : length j ≤ length (moves a.program j)
+      whole = let same : length (moves a.program j) ≡ length j = ap length here.moved in omega arith
+
+  pub tried_more : Answers a j es fs → HaveTried a depth (known ++ more) (tried ++ j ∷ []) fs
+  tried_more (inl s) = stays s
+  tried_more (inr g) = gains g
+
+-- one layer deeper
+pub deeper : (a : Query) (depth : ℕ) (known tried : List (List ℕ)) (es : List RestEntry) → HaveTried a depth known tried es → HaveTried a (depth + 1) known tried es
+deeper a depth known tried es h = record {
+  from = h.from;
+  first = h.first;
+  next = h.next;
+  entries = h.entries;
+  shortest = h.shortest;
+  short = each_also (λ e. length e.journal ≤ depth) (λ e. length e.journal ≤ depth + 1) es (λ e k. omega arith) h.short;
+  sound = h.sound;
+  distinct = h.distinct;
+}
+
+-- ---- layers
+
+module _ {S : Type 0} (Journal : S → List ℕ) (IsOf : S → Query → Type 0) (a : Query) where
+  -- the journals of states go on from the first picks
+  pub journals_from : (depth : ℕ) (ss : List S) → AreAt Journal IsOf a depth ss → EachOf (JournalFor a) (map Journal ss)
+  journals_from depth ss at = each_mapped (JournalFor a) Journal ss (each_also (IsAt Journal IsOf a depth) (λ s. JournalFor a (Journal s)) ss (λ s h. h.from) at)
+
+  module _ (depth : ℕ) (tried : List (List ℕ)) (ss : List S) where
+    abbrev pub known : List S → List (List ℕ)
+    known new = (tried ++ map Journal ss) ++ map Journal new
+
+    pub layer_starts : (old : List S) (es : List RestEntry) → old ≡ [] → HaveTried a depth (tried ++ map Journal ss) tried es → HaveTried a depth (known old) (tried ++ map Journal (take 0 ss)) es
+    layer_starts old es none h =
+        subst (λ xs. HaveTried a depth (known xs) (tried ++ []) es) (sym none)
+        (subst (λ js. HaveTried a depth js (tried ++ []) es) (sym (append-nil (tried ++ map Journal ss)))
+        (subst (λ js. HaveTried a depth (tried ++ map Journal ss) js es) (sym (append-nil tried)) h))
+
+    pub layer_goes_on : (i : ℕ) (s : S) (old new : List S) (es fs : List RestEntry) → i < length ss → s ≡ get_or ss i s → IsAt Journal IsOf a depth s → TriesState Journal IsOf a (depth + 1) s old new es fs
+        → HaveTried a depth (known old) (tried ++ map Journal (take i ss)) es → HaveTried a depth (known new) (tried ++ map Journal (take (i + 1) ss)) fs
+    layer_goes_on i s old new es fs below is here t h =
+        let more : List (List ℕ) = map Journal t.more in
+        let longer : map Journal new ≡ map Journal old ++ more = ap (map Journal) t.longer ∙ map_both Journal old t.more in
+        let whole : known old ++ more ≡ known new = append_assoc (tried ++ map Journal ss) (map Journal old) more ∙ ap (λ js. (tried ++ map Journal ss) ++ js) (sym longer) in
+        let taken : take (i + 1) ss ≡ take i ss ++ s ∷ [] = take_more ss i s below ∙ ap (λ x. take i ss ++ x ∷ []) (sym is) in
+        let done : tried ++ map Journal (take (i + 1) ss) ≡ (tried ++ map Journal (take i ss)) ++ Journal s ∷ [] =
+        ap (λ xs. tried ++ map Journal xs) taken ∙ ap (λ js. tried ++ js) (map_both Journal (take i ss) (s ∷ [])) ∙ sym (append_assoc tried (map Journal (take i ss)) (Journal s ∷ [])) in
+        let from : EachOf (JournalFor a) more = journals_from (depth + 1) t.more (each_right (IsAt Journal IsOf a (depth + 1)) old t.more (subst (AreAt Journal IsOf a (depth + 1)) t.longer t.at)) in
+        let next : HasNextFor a (known old ++ more) (Journal s) = λ pick moving. subst (λ js. HasStateFor a js (Journal s ++ pick ∷ [])) (sym whole) (one_after (AlikeFor a (Journal s ++ pick ∷ [])) (tried ++ map Journal ss) (map Journal new) (t.next pick moving)) in
+        subst (λ js. HaveTried a depth js (tried ++ map Journal (take (i + 1) ss)) fs) whole
+        (subst (λ js. HaveTried a depth (known old ++ more) js fs) (sym done)
+        (tried_more a depth (known old) more (tried ++ map Journal (take i ss)) (Journal s) es fs h from next here.from here.long t.answers))
+
+    pub layer_ends : (i : ℕ) (new : List S) (es : List RestEntry) → length ss ≤ i → AreAt Journal IsOf a (depth + 1) new → HaveTried a depth (known new) (tried ++ map Journal (take i ss)) es → (complete : Bool) → TriesLayer Journal IsOf a depth tried ss new es complete
+    layer_ends i new es past at h complete = record { at = at; done = tried ++ map Journal (take i ss); have = h; all = λ c. ap (λ xs. tried ++ map Journal xs) (take_all i ss past) }
+
+    pub layer_stops : (i : ℕ) (new : List S) (es : List RestEntry) → AreAt Journal IsOf a (depth + 1) new → HaveTried a depth (known new) (tried ++ map Journal (take i ss)) es → TriesLayer Journal IsOf a depth tried ss new es false
+    layer_stops i new es at h = record { at = at; done = tried ++ map Journal (take i ss); have = h; all = λ c. absurd (both_ways false c refl) }
+
+  -- ---- the whole search
+
+  -- what it has before a layer
+  pub record Before (layer : List S) (es : List RestEntry) (states : ℕ) : Type 0 where
+    pub depth : ℕ
+    pub tried : List (List ℕ)
+    pub at : AreAt Journal IsOf a depth layer
+    pub have : HaveTried a depth (tried ++ map Journal layer) tried es
+    pub count : length (tried ++ map Journal layer) ≡ states
+
+  pub first_at : (s : S) → IsOf s a → Journal s ≡ moves a.program a.before → moves a.program (moves a.program a.before) ≡ moves a.program a.before → IsAt Journal IsOf a (length (Journal s)) s
+  first_at s is_of is again = record { is_of = is_of; from = record { more = []; goes_on = is ∙ sym (append-nil (moves a.program a.before)); moved = ap (moves a.program) is ∙ again ∙ sym is }; long = refl }
+
+  length_mapped : (ss : List S) → length (map Journal ss) ≡ length ss
+  length_mapped [] = refl
+  length_mapped (s ∷ ss) = ap suc (length_mapped ss)
+
+  pub before_all : (s : S) (new : List S) (states : ℕ) → Journal s ≡ moves a.program a.before → AreAt Journal IsOf a (length (Journal s)) new → HasStateFor a (map Journal new) (Journal s) → length new ≡ states → Before new [] states
+  before_all s new states is at there count = record {
+    depth = length (Journal s);
+    tried = [];
+    at = at;
+    have = record {
+      from = journals_from (length (Journal s)) new at;
+      first = state_by a.question a.sessions a.program (map Journal new) a.before (moves a.program a.before) (moves_alike a.question a.sessions a.program a.before) (subst (HasStateFor a (map Journal new)) is there);
+      next = tt;
+      entries = tt;
+      shortest = tt;
+      short = tt;
+      sound = tt;
+      distinct = tt;
+    };
+    count = length_mapped new ∙ count;
+  }
+
+  longer_count : (tried : List (List ℕ)) (layer new : List S) (states : ℕ) → length (tried ++ map Journal layer) ≡ states → length ((tried ++ map Journal layer) ++ map Journal new) ≡ states + length new
+  longer_count tried layer new states e = length-append (tried ++ map Journal layer) (map Journal new) ∙ (λ i. e i + length_mapped new i)
+
+  -- what a layer that was lent is tried to
+  pub tried_layer : (layer lent new : List S) (es fs : List RestEntry) (states : ℕ) (complete : Bool) (b : Before layer es states) → lent ≡ layer
+      → ((depth : ℕ) (tried : List (List ℕ)) → AreAt Journal IsOf a depth lent → HaveTried a depth (tried ++ map Journal lent) tried es → TriesLayer Journal IsOf a depth tried lent new fs complete)
+      → TriesLayer Journal IsOf a b.depth b.tried layer new fs complete
+  tried_layer layer lent new es fs states complete b same t =
+      subst (λ xs. TriesLayer Journal IsOf a b.depth b.tried xs new fs complete) same
+      (t b.depth b.tried (subst (AreAt Journal IsOf a b.depth) (sym same) b.at) (subst (λ xs. HaveTried a b.depth (b.tried ++ map Journal xs) b.tried es) (sym same) b.have))
+
+  pub before_next : (layer new : List S) (old es : List RestEntry) (states more : ℕ) (complete : Bool) (b : Before layer old states) → complete ≡ true → TriesLayer Journal IsOf a b.depth b.tried layer new es complete → more ≡ states + length new → Before new es more
+  before_next layer new old es states more complete b all t sum = record {
+    depth = b.depth + 1;
+    tried = b.tried ++ map Journal layer;
+    at = t.at;
+    have = deeper a b.depth ((b.tried ++ map Journal layer) ++ map Journal new) (b.tried ++ map Journal layer) es (subst (λ js. HaveTried a b.depth ((b.tried ++ map Journal layer) ++ map Journal new) js es) (t.all all) t.have);
+    count = longer_count b.tried layer new states b.count ∙ sym sum;
+  }
+
+  pub explored : (layer : List S) (es : List RestEntry) (states : ℕ) → layer ≡ [] → Before layer es states → Explores a es states true
+  explored layer es states none b =
+      let js : List (List ℕ) = b.tried in
+      let empty : b.tried ++ map Journal layer ≡ js = ap (λ xs. b.tried ++ map Journal xs) none ∙ append-nil b.tried in
+      let h : HaveTried a b.depth js js es = subst (λ ks. HaveTried a b.depth ks js es) empty b.have in
+      record {
+        sound = h.sound;
+        distinct = h.distinct;
+        complete = λ c. closed_are_complete a.question a.sessions a.program js a.before es h.first h.next h.entries;
+        shortest = λ c. closed_are_shortest a.question a.sessions a.program js a.before es h.first h.next h.shortest;
+        count = record { journals = js; from = h.from; count = ap length (sym empty) ∙ b.count; all = λ c. closed_have_all a.question a.sessions a.program js a.before h.first h.next };
+      }
+
+  -- where the search ends before all states were tried
+  explored_some : (depth : ℕ) (known tried journals : List (List ℕ)) (es : List RestEntry) (states : ℕ) → HaveTried a depth known tried es → EachOf (JournalFor a) journals → length journals ≡ states → Explores a es states false
+  explored_some depth known tried journals es states h from count = record {
+    sound = h.sound;
+    distinct = h.distinct;
+    complete = λ c. absurd (both_ways false c refl);
+    shortest = λ c. absurd (both_ways false c refl);
+    count = record { journals = journals; from = from; count = count; all = λ c. absurd (both_ways false c refl) };
+  }
+
+  pub explored_before : (layer : List S) (es : List RestEntry) (states : ℕ) → Before layer es states → Explores a es states false
+  explored_before layer es states b = explored_some b.depth (b.tried ++ map Journal layer) b.tried (b.tried ++ map Journal layer) es states b.have b.have.from b.count
+
+  -- the count alone is that before the layer
+  pub explored_uncounted : (layer new : List S) (old es : List RestEntry) (states : ℕ) (complete : Bool) (b : Before layer old states) → TriesLayer Journal IsOf a b.depth b.tried layer new es complete → Explores a es states false
+  explored_uncounted layer new old es states complete b t = explored_some b.depth ((b.tried ++ map Journal layer) ++ map Journal new) t.done (b.tried ++ map Journal layer) es states t.have b.have.from b.count
+
+  pub explored_part : (layer new : List S) (old es : List RestEntry) (states more : ℕ) (complete : Bool) (b : Before layer old states) → complete ≡ false → TriesLayer Journal IsOf a b.depth b.tried layer new es complete → more ≡ states + length new → Explores a es more complete
+  explored_part layer new old es states more complete b some t sum =
+      let known : List (List ℕ) = (b.tried ++ map Journal layer) ++ map Journal new in
+      subst (Explores a es more) (sym some) (explored_some b.depth known t.done known es more t.have t.have.from (longer_count b.tried layer new states b.count ∙ sym sum))
+
+pub empty_is : {X : Type 0} (xs : List X) (n : ℕ) → length xs ≡ n → n ≡ 0 → xs ≡ []
+empty_is [] n e h = refl
+empty_is (x ∷ xs) n e h = absurd (omega arith)

@@ -1,0 +1,14 @@
+use Rattle.std.proofs.Common.{◌≡◌, ◌++◌, ◌+◌, ℕ, List, [], map, take}
+use Rattle.tn_explore.specs.Query.{Query}
+use Rattle.tn_explore.specs.Searches.{AreAt, HaveTried, answer_entries}
+use Rattle.tn_explore.proofs.Searches.{known}
+use Rattle.tn_explore.proofs.search.try_layer.Given as goal
+
+abbrev pub invariant-loop-state : goal.invariant-loop-state
+invariant-loop-state g l =
+    (a : Query) (depth : ℕ) (tried : List (List ℕ)) →
+    l.initial.next.states.items ≡ [] → AreAt g.S.SearchState.journal g.S.SearchState.is_of a depth l.states →
+    HaveTried a depth (tried ++ map g.S.SearchState.journal l.states) tried (answer_entries g.S.SearchState.kept_seen l.initial.answers.entries) →
+    AreAt g.S.SearchState.journal g.S.SearchState.is_of a (depth + 1) l.next.states.items
+    × HaveTried a depth (known g.S.SearchState.journal g.S.SearchState.is_of a depth tried l.states l.next.states.items)
+    (tried ++ map g.S.SearchState.journal (take l.state-index l.states)) (answer_entries g.S.SearchState.kept_seen l.answers.entries)

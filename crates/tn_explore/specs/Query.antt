@@ -1,0 +1,52 @@
+-- What is asked of a program, and what the definitions of an exploration say of it.
+-- Depends on the definitions of an exploration.
+use Rattle.std.specs.Prelude.{ℕ, List}
+use Rattle.def_term.specs.Names.{Name}
+use Rattle.def_script.specs.Program.{Program}
+use Rattle.def_explore.specs.Rests.{RunQuestion, KeptMessages, kept_in}
+use Rattle.def_explore.specs.Alike.{IsStateAlike, HasStateOf, HasNext}
+use Rattle.def_explore.specs.Answers.{RestEntry, IsJournalFrom, AreSound, AreComplete, AreShortest, IsEntryFor, IsNoLonger, HaveAllStates}
+
+-- a program, the picks that a run begins with, a question, and the sessions that it is about
+pub record Query : Type 0 where
+  pub program : Program
+  pub before : List ℕ
+  pub question : RunQuestion
+  pub sessions : List Name
+
+abbrev pub JournalFor : Query → List ℕ → Type 0
+JournalFor a = IsJournalFrom a.program a.before
+
+abbrev pub AlikeFor : Query → List ℕ → List ℕ → Type 0
+AlikeFor a = IsStateAlike a.question a.sessions a.program
+
+abbrev pub HasStateFor : Query → List (List ℕ) → List ℕ → Type 0
+HasStateFor a = HasStateOf a.question a.sessions a.program
+
+abbrev pub HasNextFor : Query → List (List ℕ) → List ℕ → Type 0
+HasNextFor a = HasNext a.question a.sessions a.program
+
+abbrev pub HaveAllFor : Query → List (List ℕ) → Type 0
+HaveAllFor a = HaveAllStates a.question a.sessions a.program a.before
+
+abbrev pub SoundFor : Query → List RestEntry → Type 0
+SoundFor a = AreSound a.question a.sessions a.program a.before
+
+abbrev pub CompleteFor : Query → List RestEntry → Type 0
+CompleteFor a = AreComplete a.question a.sessions a.program a.before
+
+abbrev pub ShortestFor : Query → List RestEntry → Type 0
+ShortestFor a = AreShortest a.question a.sessions a.program a.before
+
+abbrev pub kept_for : Query → List ℕ → KeptMessages
+kept_for a picks = kept_in a.question a.sessions a.program picks
+
+-- what is kept of the run by the journal, with it
+abbrev pub entry_for : Query → List ℕ → RestEntry
+entry_for a journal = record { kept = kept_for a journal; journal = journal }
+
+abbrev pub EntryFor : Query → List ℕ → RestEntry → Type 0
+EntryFor a = IsEntryFor a.question a.sessions a.program
+
+abbrev pub NoLongerFor : Query → List ℕ → RestEntry → Type 0
+NoLongerFor a = IsNoLonger a.question a.sessions a.program

@@ -1,0 +1,163 @@
+// The search through all states, a layer at a time.
+ghost use Rattle.std.specs.Prelude.{◌≡◌, ◌+◌, ℕ, List, [], ◌∷◌, ◌++◌, IfOk, IsTrue, map, true};
+ghost use Rattle.def_explore.specs.Answers.{RestEntry};
+ghost use Rattle.def_run.specs.Run.{moves};
+ghost use Rattle.tn_explore.specs.Query.{Query};
+ghost use Rattle.tn_explore.specs.Searches.{IsAt, AreAt, Tries, TriesState, TriesLayer, HaveTried, AnswersRest};
+ghost use Rattle.tn_explore.specs.Searches.{Explores, answer_entries};
+
+use crate::layer::Layer;
+use crate::search_state::SearchState;
+use indexmap::IndexMap;
+use std::alloc::{AllocError, Allocator};
+use std::hash::{BuildHasherDefault, FoldHasher, Hash};
+
+/// How many layers there may be: journals have up to 65,536 picks, and the layer after those is empty.
+const LAYERS: usize = 65538;
+
+/// What is kept of the states at rest, each once, with the journal that leads to the first of them.
+pub type Answers<A, M> = IndexMap<M, Vec<u32, A>, BuildHasherDefault<FoldHasher>, A>;
+
+/// Tries the picks after a state: whether one moved.
+fn try_picks<A: Allocator + Copy, S: SearchState<A>>(
+    state: &S,
+    picks: &[u32],
+    next: &mut Layer<A, S>,
+) -> Result<bool, AllocError>
+    ensures { IfOk result (λ moved. (a : Query) (depth : ℕ) →
+        AreAt S.journal S.is_of a (depth + 1) next.old.states.items → IsAt S.journal S.is_of a depth state.now →
+        Tries S.journal S.is_of a (depth + 1) state.now picks.now next.old.states.items next.new.states.items moved) }
+{
+    let mut moved = false;
+    for pick in picks {
+        match state.step(*pick)? {
+            None => {}
+            Some(after) => {
+                next.add(after)?;
+                moved = true;
+            }
+        }
+    }
+    Ok(moved)
+}
+
+/// Answers a state at rest, where the same was kept of none before.
+fn answer<A: Allocator + Copy, S: SearchState<A>>(
+    alloc: A,
+    state: &S,
+    answers: &mut Answers<A, S::Observation>,
+) -> Result<(), AllocError>
+    ensures { IfOk result (λ _. AnswersRest S.journal S.is_of state.now
+        (answer_entries S.kept_seen answers.old.entries) (answer_entries S.kept_seen answers.new.entries)) }
+{
+    let observation = state.observe(alloc)?;
+    if answers.contains_key(&observation) {
+        return Ok(());
+    }
+    let journal = state.copy_journal(alloc)?;
+    answers.insert(observation, journal)?;
+    Ok(())
+}
+
+/// Tries all picks after a state. Where none moves, it is answered.
+fn try_state<A: Allocator + Copy, S: SearchState<A>>(
+    alloc: A,
+    state: &S,
+    next: &mut Layer<A, S>,
+    answers: &mut Answers<A, S::Observation>,
+) -> Result<(), AllocError>
+    ensures { IfOk result (λ _. (a : Query) (depth : ℕ) →
+        AreAt S.journal S.is_of a (depth + 1) next.old.states.items → IsAt S.journal S.is_of a depth state.now →
+        TriesState S.journal S.is_of a (depth + 1) state.now next.old.states.items next.new.states.items
+        (answer_entries S.kept_seen answers.old.entries) (answer_entries S.kept_seen answers.new.entries)) }
+{
+    let picks = state.picks(alloc)?;
+    let moved = try_picks(state, &picks, next)?;
+    if moved {
+        return Ok(());
+    }
+    answer(alloc, state, answers)
+}
+
+/// Tries each state of a layer, while the next has fewer than so many states: whether all were tried.
+fn try_layer<A: Allocator + Copy, S: SearchState<A>>(
+    alloc: A,
+    states: &[S],
+    next: &mut Layer<A, S>,
+    answers: &mut Answers<A, S::Observation>,
+    room: usize,
+) -> Result<bool, AllocError>
+    ensures { IfOk result (λ complete. (a : Query) (depth : ℕ) (tried : List (List ℕ)) →
+        next.old.states.items ≡ [] → AreAt S.journal S.is_of a depth states.now →
+        HaveTried a depth (tried ++ map S.journal states.now) tried (answer_entries S.kept_seen answers.old.entries) →
+        TriesLayer S.journal S.is_of a depth tried states.now next.new.states.items
+        (answer_entries S.kept_seen answers.new.entries) complete) }
+{
+    for state in states {
+        if next.states.len() >= room {
+            return Ok(false);
+        }
+        try_state(alloc, state, next, answers)?;
+    }
+    Ok(true)
+}
+
+/// What a search answers.
+#[derive(Drop)]
+pub struct Exploration<A: Allocator, M: Eq + Hash> {
+    /// What is kept of the runs to rest, in the order of their journals' lengths.
+    pub answers: Answers<A, M>,
+    /// How many states were met.
+    pub states: usize,
+    /// Whether all states were tried.
+    pub is_complete: bool,
+}
+
+/// Tries all states from the first on, until so many were met. An error is refused memory.
+pub fn explore<A: Allocator + Copy, S: SearchState<A>>(
+    alloc: A,
+    first: S,
+    max_states: usize,
+) -> Result<Exploration<A, S::Observation>, AllocError>
+    ensures { IfOk result (λ e. (a : Query) →
+        S.is_of first a → S.journal first ≡ moves a.program a.before →
+        Explores a (answer_entries S.kept_seen e.answers.entries) e.states e.is_complete) }
+{
+    let mut layer = Layer::new(alloc);
+    layer.add(first)?;
+    let mut answers = IndexMap::new(alloc);
+    let mut states = layer.states.len();
+    for _ in 0..LAYERS {
+        if layer.states.is_empty() {
+            return Ok(Exploration {
+                answers,
+                states,
+                is_complete: true,
+            });
+        }
+        let mut next = Layer::new(alloc);
+        let room = max_states.saturating_sub(states);
+        let is_complete = try_layer(alloc, &layer.states, &mut next, &mut answers, room)?;
+        let Some(more) = states.checked_add(next.states.len()) else {
+            return Ok(Exploration {
+                answers,
+                states,
+                is_complete: false,
+            });
+        };
+        states = more;
+        if !is_complete {
+            return Ok(Exploration {
+                answers,
+                states,
+                is_complete,
+            });
+        }
+        layer = next;
+    }
+    Ok(Exploration {
+        answers,
+        states,
+        is_complete: false,
+    })
+}

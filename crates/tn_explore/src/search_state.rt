@@ -1,0 +1,49 @@
+// A state of a run, with the journal that led to it.
+use std::alloc::{AllocError, Allocator};
+use std::hash::Hash;
+
+/// A node with its sessions and what is kept of their messages, and the journal that led there.
+pub trait SearchState<A: Allocator>: Sized + Drop {
+    ghost use Rattle.std.specs.Prelude.{◌≡◌, ℕ, List, IfOk};
+    ghost use Rattle.def_explore.specs.Rests.{KeptMessages};
+    ghost use Rattle.tn_explore.specs.Query.{Query};
+    ghost use Rattle.tn_explore.specs.SearchStates.{StepsTo, HasAllMoves, AreSame, KeepsFor, EqualsByKept};
+
+    /// What is kept of its messages.
+    type Observation: Eq + Hash + Drop;
+
+    /// Its journal.
+    ghost journal: { Self → List ℕ };
+
+    /// It is where its journal leads in this program, with what is kept for this question.
+    ghost is_of: { Self → Query → Type 0 };
+
+    /// What the definitions keep.
+    ghost kept_seen: { Self.Observation → KeptMessages };
+
+    /// The picks that may move.
+    fn picks(&self, alloc: A) -> Result<Vec<u32, A>, AllocError>
+        ensures { IfOk result (λ v. HasAllMoves journal is_of self.now v.items) };
+
+    /// The state after one more pick; None where it is idle.
+    fn step(&self, pick: u32) -> Result<Option<Self>, AllocError>
+        ensures { StepsTo journal is_of self.now pick result };
+
+    /// Whether both are the same state. Where it is false they may be the same too.
+    fn same(&self, other: &Self) -> bool
+        ensures { AreSame journal is_of self.now other.now result };
+
+    /// A number that is the same for the same states, and mostly another for others.
+    fn fingerprint(&self) -> usize;
+
+    /// What is kept of its messages.
+    fn observe(&self, alloc: A) -> Result<Self::Observation, AllocError>
+        ensures { IfOk result (λ m. KeepsFor journal is_of kept_seen self.now m) };
+
+    /// The picks of its journal.
+    fn copy_journal(&self, alloc: A) -> Result<Vec<u32, A>, AllocError>
+        ensures { IfOk result (λ v. v.items ≡ journal self.now) };
+
+    /// Two of what is kept are equal where the same is kept, and nowhere else.
+    ghost equals_by_kept: { EqualsByKept Self.Observation.eq kept_seen };
+}
