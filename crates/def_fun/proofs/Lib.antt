@@ -15,3 +15,5 @@ pub mod FunRuns
 pub mod ComputedValues
 pub mod Translations
 pub mod Spans
+pub mod NumberedNames
+pub mod LevelRows

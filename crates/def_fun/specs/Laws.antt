@@ -1,6 +1,8 @@
 -- What is promised of funs (own).
 -- Depends on tokens, the grammar, reading and constants, and on def_spec's functions.
-use Rattle.std.specs.Prelude.{◌≡◌, ℕ, Bool, List, [], ◌∷◌, Some, None, Ok, take, drop}
+use Rattle.std.specs.Prelude.{◌≡◌, ◌≢◌, ℕ, true, Bool, List, [], ◌∷◌, Some, None, Ok, take, drop}
+use Rattle.def_term.specs.Names.{Name}
+use Rattle.def_term.specs.Text.{is_among}
 use Rattle.def_term.specs.Tree.{Tree, list, Trees, count, triple}
 use Rattle.def_spec.specs.Functions.{Func, apply}
 use Rattle.def_spec.specs.Expressions.{Dialect, for_calls, for_sends, for_receives, Position}
@@ -9,7 +11,8 @@ use Rattle.def_fun.specs.Operators.{FunOperator, operator_name}
 use Rattle.def_fun.specs.Constants.{gives, computed_between, computed_before}
 use Rattle.def_fun.specs.Tokens.{FunToken, FunSpan, FunTokens, IsFunToken, HasNoFunToken}
 use Rattle.def_fun.specs.Scan.{fun_token_at, fun_spans}
-use Rattle.def_fun.specs.Trees.{FunExpr, FunClause}
+use Rattle.def_fun.specs.Trees.{FunExpr, FunHead, FunClause}
+use Rattle.def_fun.specs.Variables.{variables_in, matched_part, names_of, number_among, IsNameOfNumber, of_no_head, variable_kind}
 use Rattle.def_fun.specs.Limits.{spec_clauses}
 use Rattle.def_fun.specs.Translation.{alternative_term, tree_of_fun}
 use Rattle.def_fun.specs.Grammar.{DerivesFun}
@@ -42,6 +45,20 @@ ListedTokensAre = (bytes : List ℕ) → FunTokens bytes (fun_spans bytes)
 -- the clauses that are read are spelled by the tokens
 abbrev pub ReadFunIsDerived : Type 0
 ReadFunIsDerived = (limit : ℕ) (sized : Bool) (ts : List FunSpan) (ks : List FunClause) → read_fun limit sized ts ≡ Ok ks → DerivesFun ts ks
+
+-- ---- variables
+
+-- the number of a head's variable is its place among the head's names, in the order of first occurrence
+abbrev pub NumbersArePlaces : Type 0
+NumbersArePlaces = (h : FunHead) (s : Name) (k : ℕ) → number_among 1 (names_of h).numbers s ≡ Some k → IsNameOfNumber (names_of h).numbers s k
+
+-- and each place is the number of the name there, so that no name has two
+abbrev pub PlacesAreNumbers : Type 0
+PlacesAreNumbers = (h : FunHead) (s : Name) (k : ℕ) → IsNameOfNumber (names_of h).numbers s k → number_among 1 (names_of h).numbers s ≡ Some k
+
+-- each variable of a head is the name of the whole, `_`, or one with a number
+abbrev pub HeadBindsItsVariables : Type 0
+HeadBindsItsVariables = (h : FunHead) (s : Name) → is_among (variables_in (matched_part h)) s ≡ true → variable_kind (names_of h) s ≢ of_no_head
 
 -- ---- constants
 

@@ -1,6 +1,6 @@
 -- The variables of a fun's clause, and the atoms that a specification has for them.
 -- Depends on trees. `ms_transform` (STDLIB), "Warnings and Restrictions": "the variables ... are replaced with match_spec variables in the order of occurrence", and the name of the whole is '$_'.
-use Rattle.std.specs.Prelude.{ℕ, ◌+◌, List, [], ◌∷◌, ◌++◌, Bool, false, ◌||◌, if◌then◌else◌, Option, Some, None, codes, decimal}
+use Rattle.std.specs.Prelude.{◌≡◌, ℕ, ◌+◌, List, [], ◌∷◌, ◌++◌, length, Bool, false, ◌||◌, if◌then◌else◌, Option, Some, None, codes, decimal}
 use Rattle.std.specs.Str.{bytes_eq}
 use Rattle.def_term.specs.Names.{Name}
 use Rattle.def_term.specs.Text.{is_among}
@@ -82,6 +82,13 @@ names_of h = record { of_whole = name_of_whole h; numbers = with_names (name_of_
 abbrev pub number_among : ℕ → List Name → Name → Option ℕ
 number_among k [] s = None
 number_among k (n ∷ ns) s = if bytes_eq n s then Some k else number_among (k + 1) ns s
+
+-- the name is the one of that number among some, which are numbered from 1 in their order
+pub record IsNameOfNumber (ns : List Name) (s : Name) (k : ℕ) : Type 0 where
+  pub earlier : List Name
+  pub later : List Name
+  pub split : ns ≡ earlier ++ s ∷ later
+  pub number : k ≡ length earlier + 1
 
 -- '$K'
 abbrev pub dollar_name : ℕ → Name

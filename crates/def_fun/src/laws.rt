@@ -1,6 +1,7 @@
 // The laws of the definitions.
 ghost use Rattle.def_fun.specs.Laws.{FunTokensAreOne, FunTokensAreThere, FoundTokenIsThere, NoTokenIsThere};
 ghost use Rattle.def_fun.specs.Laws.{ListedTokensAre, ReadFunIsDerived};
+ghost use Rattle.def_fun.specs.Laws.{NumbersArePlaces, PlacesAreNumbers, HeadBindsItsVariables};
 ghost use Rattle.def_fun.specs.Laws.{ComputedOfTwoIsApplied, ComputedOfOneIsApplied, ClausesAreCounted};
 ghost use Rattle.def_fun.specs.Laws.{HeadAndBodyAreShared, ReceivesAsSends, SendsAsCalls};
 
@@ -21,6 +22,14 @@ pub fn the_token_in_front_is_found()
 /// The clauses that are read of some tokens are spelled by them, as the grammar and the levels of operators say.
 pub fn a_fun_that_is_read_is_spelled()
     ensures { ReadFunIsDerived }
+{}
+
+/// The number of a variable of a head is its place among the names of the head, and each place is the number of
+/// the name there; each variable of a head is the name of the whole, `_`, or one with a number.
+pub fn the_names_of_a_head_are_numbered()
+    ensures places { NumbersArePlaces }
+    ensures numbers { PlacesAreNumbers }
+    ensures bound { HeadBindsItsVariables }
 {}
 
 /// The value that is computed of an operator of constants is the one that its function has in a specification.

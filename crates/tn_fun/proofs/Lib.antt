@@ -1,0 +1,2 @@
+pub mod SpanLists
+pub mod AsciiNames

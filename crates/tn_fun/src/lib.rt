@@ -1,0 +1,15 @@
+//! Funs as `dbg:fun2ms/1` takes them: their tokens.
+//!
+//! Depends on `def_fun` (tokens, grammar, limits, translation, refusals). Promises: `tokens` gives
+//! exactly the tokens of a text, with their places.
+#![tactic(auto)]
+
+mod lexer;
+mod operator;
+mod scan;
+mod token;
+mod words;
+
+pub use lexer::tokens;
+pub use operator::Operator;
+pub use token::{Kind, Token};
