@@ -9,7 +9,7 @@ use Rattle.def_moves.specs.Directives.{picks_of_directives}
 use Rattle.def_run.proofs.Replay.{moves_bounded}
 use Rattle.def_moves.proofs.Picks.{directives_move, tries, tries_of_directive, in_order}
 use Rattle.tn_trace.specs.Runs.{IsRun}
-use Rattle.tn_trace.specs.Follows.{Follows, AddsFrom}
+use Rattle.tn_trace.specs.Follows.{AddsFrom}
 use Rattle.tn_trace.specs.Within.{AreTaken, EndsWithin}
 use Rattle.tn_trace.specs.declared.run.Extent.{Extent}
 use Rattle.tn_trace.specs.declared.run.Extent.TheVariants.{All, TooMuch}

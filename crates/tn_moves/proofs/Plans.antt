@@ -1,6 +1,5 @@
 -- The plan of a schedule has the picks that are asked.
-use Rattle.std.proofs.Common.{◌≡◌, ◌∙◌, ℕ, List, [], ◌∷◌, map, Result, Ok, Err, refl, ap, append-nil}
-use Rattle.std.specs.declared.vec.Vec.{Vec}
+use Rattle.std.proofs.Common.{◌∙◌, ℕ, [], ◌∷◌, map, Result, Ok, Err, ap, append-nil}
 use Rattle.def_script.specs.Program.{Program}
 use Rattle.def_run.specs.Round.{round}
 use Rattle.def_moves.specs.Directives.{picks_of_directives}
