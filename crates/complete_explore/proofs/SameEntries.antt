@@ -8,10 +8,10 @@ use Rattle.tn_explore.specs.Query.{Query}
 use Rattle.tn_explore.specs.Searches.{Explores, answer_entries}
 use Rattle.complete_explore.specs.Explorations.{ExploreAlike}
 
-module _ {A M S : Type 0} (Journal : S → List ℕ) (IsOf : S → Query → Type 0) (Seen : M → KeptMessages) where
+module _ {A M S : Type 0} (Journal : S → List ℕ) (IsOf : S → Query → Type 0) (Seen : M → KeptMessages) (max_states : ℕ) where
   -- what the search promises
   abbrev pub Promises : S → Exploration A M → Type 0
-  Promises s e = (a : Query) → IsOf s a → Journal s ≡ moves a.program a.before → Explores a (answer_entries Seen e.answers.entries) e.states e.is_complete
+  Promises s e = (a : Query) → IsOf s a → Journal s ≡ moves a.program a.before → Explores a (answer_entries Seen e.answers.entries) max_states e.states e.is_complete
 
   -- what is said of two
   abbrev pub BothAlike : S → S → Exploration A M → Exploration A M → Type 0
@@ -19,8 +19,8 @@ module _ {A M S : Type 0} (Journal : S → List ℕ) (IsOf : S → Query → Typ
 
   pub both_alike : (one other : S) (e f : Exploration A M) → Promises one e → Promises other f → BothAlike one other e f
   both_alike one other e f h k a is_one is_other first second all whole =
-      let x : Explores a (answer_entries Seen e.answers.entries) e.states e.is_complete = h a is_one first in
-      let y : Explores a (answer_entries Seen f.answers.entries) f.states f.is_complete = k a is_other second in (
+      let x : Explores a (answer_entries Seen e.answers.entries) max_states e.states e.is_complete = h a is_one first in
+      let y : Explores a (answer_entries Seen f.answers.entries) max_states f.states f.is_complete = k a is_other second in (
         are_determined a.question a.sessions a.program a.before (answer_entries Seen e.answers.entries) (answer_entries Seen f.answers.entries) x.sound (x.shortest all) y.sound (y.shortest whole) (y.complete whole),
         are_determined a.question a.sessions a.program a.before (answer_entries Seen f.answers.entries) (answer_entries Seen e.answers.entries) y.sound (y.shortest whole) x.sound (x.shortest all) (x.complete all),
       )

@@ -1,8 +1,10 @@
 -- States that are tried, and what a search has then.
-use Rattle.std.proofs.Common.{◌≡◌, ◌<◌, ◌≤◌, ◌+◌, inl, inr, ℕ, suc, List, [], ◌∷◌, ◌++◌, length, map, take, get_or, Bool, true, false, refl, sym, ap, ◌∙◌, subst, arith, append-nil, append_assoc, length-append}
+use Rattle.std.proofs.Common.{◌≡◌, ◌<◌, ◌≤◌, ◌+◌, ◌-◌, min, inl, inr, ℕ, suc, List, [], ◌∷◌, ◌++◌, length, map, take, get_or, Bool, true, false, refl, sym, ap, ◌∙◌, subst, arith, append-nil, append_assoc, length-append}
 use Rattle.std.proofs.lemmas.List.{take_all, take_more}
 use Rattle.std.proofs.lemmas.List.Elements.{All-contains}
-use Rattle.def_run.specs.Run.{moves, pick_step_after}
+use Rattle.std.specs.Prelude.{◌==◌}
+use Rattle.def_run.specs.Run.{moves, pick_step_after, run_state_of, start}
+use Rattle.def_run.proofs.Replay.{room_spent}
 use Rattle.def_run.specs.Laws.{IsIdleAfter}
 use Rattle.def_explore.specs.Rests.{IsMovingAfter, IsRestAfter}
 use Rattle.def_explore.specs.Lists.{OneOf, EachOf}
@@ -168,21 +170,23 @@ module _ {S : Type 0} (Journal : S → List ℕ) (IsOf : S → Query → Type 0)
         (subst (λ js. HaveTried a depth (known old ++ more) js fs) (sym done)
         (tried_more a depth (known old) more (tried ++ map Journal (take i ss)) (Journal s) es fs h from next here.from here.long t.answers))
 
-    pub layer_ends : (i : ℕ) (new : List S) (es : List RestEntry) → length ss ≤ i → AreAt Journal IsOf a (depth + 1) new → HaveTried a depth (known new) (tried ++ map Journal (take i ss)) es → (complete : Bool) → TriesLayer Journal IsOf a depth tried ss new es complete
-    layer_ends i new es past at h complete = record { at = at; done = tried ++ map Journal (take i ss); have = h; all = λ c. ap (λ xs. tried ++ map Journal xs) (take_all i ss past) }
+    pub layer_ends : (i : ℕ) (new : List S) (es : List RestEntry) (room : ℕ) → length ss ≤ i → AreAt Journal IsOf a (depth + 1) new → HaveTried a depth (known new) (tried ++ map Journal (take i ss)) es → TriesLayer Journal IsOf a depth tried ss new es room true
+    layer_ends i new es room past at h = record { at = at; done = tried ++ map Journal (take i ss); have = h; all = λ c. ap (λ xs. tried ++ map Journal xs) (take_all i ss past); stops = λ c. absurd (both_ways true refl c) }
 
-    pub layer_stops : (i : ℕ) (new : List S) (es : List RestEntry) → AreAt Journal IsOf a (depth + 1) new → HaveTried a depth (known new) (tried ++ map Journal (take i ss)) es → TriesLayer Journal IsOf a depth tried ss new es false
-    layer_stops i new es at h = record { at = at; done = tried ++ map Journal (take i ss); have = h; all = λ c. absurd (both_ways false c refl) }
+    pub layer_stops : (i : ℕ) (new : List S) (es : List RestEntry) (room : ℕ) → room ≤ length new → AreAt Journal IsOf a (depth + 1) new → HaveTried a depth (known new) (tried ++ map Journal (take i ss)) es → TriesLayer Journal IsOf a depth tried ss new es room false
+    layer_stops i new es room full at h = record { at = at; done = tried ++ map Journal (take i ss); have = h; all = λ c. absurd (both_ways false c refl); stops = λ c. full }
 
   -- ---- the whole search
 
-  -- what it has before a layer
-  pub record Before (layer : List S) (es : List RestEntry) (states : ℕ) : Type 0 where
+  -- what it has before a layer, after so many
+  pub record Before (layers : ℕ) (layer : List S) (es : List RestEntry) (states : ℕ) : Type 0 where
     pub depth : ℕ
     pub tried : List (List ℕ)
     pub at : AreAt Journal IsOf a depth layer
     pub have : HaveTried a depth (tried ++ map Journal layer) tried es
-    pub count : length (tried ++ map Journal layer) ≡ states
+    pub count : states ≡ min (length (tried ++ map Journal layer)) 18446744073709551615
+    pub deep : layers ≤ depth
+    pub few : layers ≤ 65537
 
   pub first_at : (s : S) → IsOf s a → Journal s ≡ moves a.program a.before → moves a.program (moves a.program a.before) ≡ moves a.program a.before → IsAt Journal IsOf a (length (Journal s)) s
   first_at s is_of is again = record { is_of = is_of; from = record { more = []; goes_on = is ∙ sym (append-nil (moves a.program a.before)); moved = ap (moves a.program) is ∙ again ∙ sym is }; long = refl }
@@ -191,8 +195,8 @@ module _ {S : Type 0} (Journal : S → List ℕ) (IsOf : S → Query → Type 0)
   length_mapped [] = refl
   length_mapped (s ∷ ss) = ap suc (length_mapped ss)
 
-  pub before_all : (s : S) (new : List S) (states : ℕ) → Journal s ≡ moves a.program a.before → AreAt Journal IsOf a (length (Journal s)) new → HasStateFor a (map Journal new) (Journal s) → length new ≡ states → Before new [] states
-  before_all s new states is at there count = record {
+  pub before_all : (s : S) (new : List S) (states : ℕ) → Journal s ≡ moves a.program a.before → AreAt Journal IsOf a (length (Journal s)) new → HasStateFor a (map Journal new) (Journal s) → states ≡ length new → states ≤ 18446744073709551615 → Before 0 new [] states
+  before_all s new states is at there count fits = record {
     depth = length (Journal s);
     tried = [];
     at = at;
@@ -206,31 +210,50 @@ module _ {S : Type 0} (Journal : S → List ℕ) (IsOf : S → Query → Type 0)
       sound = tt;
       distinct = tt;
     };
-    count = length_mapped new ∙ count;
+    count = let whole : length (map Journal new) ≡ length new = length_mapped new in omega arith;
+    deep = omega arith;
+    few = omega arith;
   }
 
-  longer_count : (tried : List (List ℕ)) (layer new : List S) (states : ℕ) → length (tried ++ map Journal layer) ≡ states → length ((tried ++ map Journal layer) ++ map Journal new) ≡ states + length new
-  longer_count tried layer new states e = length-append (tried ++ map Journal layer) (map Journal new) ∙ (λ i. e i + length_mapped new i)
+  longer_count : (tried : List (List ℕ)) (layer new : List S) → length ((tried ++ map Journal layer) ++ map Journal new) ≡ length (tried ++ map Journal layer) + length new
+  longer_count tried layer new = length-append (tried ++ map Journal layer) (map Journal new) ∙ (λ i. length (tried ++ map Journal layer) + length_mapped new i)
+
+  -- a layer that has a state is no deeper than journals are long
+  depth_bounded : (depth : ℕ) (layer : List S) (n : ℕ) → length layer ≡ n → (n == 0) ≡ false → AreAt Journal IsOf a depth layer → depth ≤ 65536
+  depth_bounded depth [] n e some at = absurd (both_ways (n == 0) (ap (λ k. k == 0) (sym e)) some)
+  depth_bounded depth (s ∷ ss) n e some at =
+      let spent : length (moves a.program (Journal s)) + (run_state_of a.program (Journal s)).room ≡ 65536 = room_spent a.program.functions (start a.program) (Journal s) in
+      let same : length (moves a.program (Journal s)) ≡ length (Journal s) = ap length at.0.from.moved in
+      let long : length (Journal s) ≡ depth = at.0.long in
+      omega arith
 
   -- what a layer that was lent is tried to
-  pub tried_layer : (layer lent new : List S) (es fs : List RestEntry) (states : ℕ) (complete : Bool) (b : Before layer es states) → lent ≡ layer
-      → ((depth : ℕ) (tried : List (List ℕ)) → AreAt Journal IsOf a depth lent → HaveTried a depth (tried ++ map Journal lent) tried es → TriesLayer Journal IsOf a depth tried lent new fs complete)
-      → TriesLayer Journal IsOf a b.depth b.tried layer new fs complete
-  tried_layer layer lent new es fs states complete b same t =
-      subst (λ xs. TriesLayer Journal IsOf a b.depth b.tried xs new fs complete) same
+  pub tried_layer : (layers : ℕ) (layer lent new : List S) (es fs : List RestEntry) (states room : ℕ) (complete : Bool) (b : Before layers layer es states) → lent ≡ layer
+      → ((depth : ℕ) (tried : List (List ℕ)) → AreAt Journal IsOf a depth lent → HaveTried a depth (tried ++ map Journal lent) tried es → TriesLayer Journal IsOf a depth tried lent new fs room complete)
+      → TriesLayer Journal IsOf a b.depth b.tried layer new fs room complete
+  tried_layer layers layer lent new es fs states room complete b same t =
+      subst (λ xs. TriesLayer Journal IsOf a b.depth b.tried xs new fs room complete) same
       (t b.depth b.tried (subst (AreAt Journal IsOf a b.depth) (sym same) b.at) (subst (λ xs. HaveTried a b.depth (b.tried ++ map Journal xs) b.tried es) (sym same) b.have))
 
-  pub before_next : (layer new : List S) (old es : List RestEntry) (states more : ℕ) (complete : Bool) (b : Before layer old states) → complete ≡ true → TriesLayer Journal IsOf a b.depth b.tried layer new es complete → more ≡ states + length new → Before new es more
-  before_next layer new old es states more complete b all t sum = record {
-    depth = b.depth + 1;
-    tried = b.tried ++ map Journal layer;
-    at = t.at;
-    have = deeper a b.depth ((b.tried ++ map Journal layer) ++ map Journal new) (b.tried ++ map Journal layer) es (subst (λ js. HaveTried a b.depth ((b.tried ++ map Journal layer) ++ map Journal new) js es) (t.all all) t.have);
-    count = longer_count b.tried layer new states b.count ∙ sym sum;
-  }
+  pub before_next : (layers : ℕ) (layer new : List S) (old es : List RestEntry) (states room met n : ℕ) (complete : Bool) (b : Before layers layer old states) → complete ≡ true → length layer ≡ n → (n == 0) ≡ false
+      → TriesLayer Journal IsOf a b.depth b.tried layer new es room complete → met ≡ min (states + length new) 18446744073709551615 → Before (layers + 1) new es met
+  before_next layers layer new old es states room met n complete b all e some t sum =
+      let grown : length ((b.tried ++ map Journal layer) ++ map Journal new) ≡ length (b.tried ++ map Journal layer) + length new = longer_count b.tried layer new in
+      let so_far : states ≡ min (length (b.tried ++ map Journal layer)) 18446744073709551615 = b.count in
+      let bound : b.depth ≤ 65536 = depth_bounded b.depth layer n e some b.at in
+      let deep : layers ≤ b.depth = b.deep in
+      record {
+        depth = b.depth + 1;
+        tried = b.tried ++ map Journal layer;
+        at = t.at;
+        have = deeper a b.depth ((b.tried ++ map Journal layer) ++ map Journal new) (b.tried ++ map Journal layer) es (subst (λ js. HaveTried a b.depth ((b.tried ++ map Journal layer) ++ map Journal new) js es) (t.all all) t.have);
+        count = omega arith;
+        deep = omega arith;
+        few = omega arith;
+      }
 
-  pub explored : (layer : List S) (es : List RestEntry) (states : ℕ) → layer ≡ [] → Before layer es states → Explores a es states true
-  explored layer es states none b =
+  pub explored : (layers : ℕ) (layer : List S) (es : List RestEntry) (max_states states : ℕ) → layer ≡ [] → Before layers layer es states → Explores a es max_states states true
+  explored layers layer es max_states states none b =
       let js : List (List ℕ) = b.tried in
       let empty : b.tried ++ map Journal layer ≡ js = ap (λ xs. b.tried ++ map Journal xs) none ∙ append-nil b.tried in
       let h : HaveTried a b.depth js js es = subst (λ ks. HaveTried a b.depth ks js es) empty b.have in
@@ -239,30 +262,30 @@ module _ {S : Type 0} (Journal : S → List ℕ) (IsOf : S → Query → Type 0)
         distinct = h.distinct;
         complete = λ c. closed_are_complete a.question a.sessions a.program js a.before es h.first h.next h.entries;
         shortest = λ c. closed_are_shortest a.question a.sessions a.program js a.before es h.first h.next h.shortest;
-        count = record { journals = js; from = h.from; count = ap length (sym empty) ∙ b.count; all = λ c. closed_have_all a.question a.sessions a.program js a.before h.first h.next };
+        count = record { journals = js; from = h.from; count = b.count ∙ ap (λ ks. min (length ks) 18446744073709551615) empty; all = λ c. closed_have_all a.question a.sessions a.program js a.before h.first h.next };
+        stops = λ c. absurd (both_ways true refl c);
       }
 
   -- where the search ends before all states were tried
-  explored_some : (depth : ℕ) (known tried journals : List (List ℕ)) (es : List RestEntry) (states : ℕ) → HaveTried a depth known tried es → EachOf (JournalFor a) journals → length journals ≡ states → Explores a es states false
-  explored_some depth known tried journals es states h from count = record {
-    sound = h.sound;
-    distinct = h.distinct;
-    complete = λ c. absurd (both_ways false c refl);
-    shortest = λ c. absurd (both_ways false c refl);
-    count = record { journals = journals; from = from; count = count; all = λ c. absurd (both_ways false c refl) };
-  }
+  pub explored_part : (layers : ℕ) (layer new : List S) (old es : List RestEntry) (max_states states room met : ℕ) (complete : Bool) (b : Before layers layer old states) → complete ≡ false
+      → TriesLayer Journal IsOf a b.depth b.tried layer new es room complete → met ≡ min (states + length new) 18446744073709551615 → room ≡ max_states - states → max_states ≤ 18446744073709551615 → Explores a es max_states met complete
+  explored_part layers layer new old es max_states states room met complete b some t sum left fits =
+      let grown : length ((b.tried ++ map Journal layer) ++ map Journal new) ≡ length (b.tried ++ map Journal layer) + length new = longer_count b.tried layer new in
+      let so_far : states ≡ min (length (b.tried ++ map Journal layer)) 18446744073709551615 = b.count in
+      let full : room ≤ length new = t.stops some in
+      let h : HaveTried a b.depth ((b.tried ++ map Journal layer) ++ map Journal new) t.done es = t.have in
+      record {
+        sound = h.sound;
+        distinct = h.distinct;
+        complete = λ c. absurd (both_ways complete c some);
+        shortest = λ c. absurd (both_ways complete c some);
+        count = record { journals = (b.tried ++ map Journal layer) ++ map Journal new; from = h.from; count = omega arith; all = λ c. absurd (both_ways complete c some) };
+        stops = λ c. omega arith;
+      }
 
-  pub explored_before : (layer : List S) (es : List RestEntry) (states : ℕ) → Before layer es states → Explores a es states false
-  explored_before layer es states b = explored_some b.depth (b.tried ++ map Journal layer) b.tried (b.tried ++ map Journal layer) es states b.have b.have.from b.count
-
-  -- the count alone is that before the layer
-  pub explored_uncounted : (layer new : List S) (old es : List RestEntry) (states : ℕ) (complete : Bool) (b : Before layer old states) → TriesLayer Journal IsOf a b.depth b.tried layer new es complete → Explores a es states false
-  explored_uncounted layer new old es states complete b t = explored_some b.depth ((b.tried ++ map Journal layer) ++ map Journal new) t.done (b.tried ++ map Journal layer) es states t.have b.have.from b.count
-
-  pub explored_part : (layer new : List S) (old es : List RestEntry) (states more : ℕ) (complete : Bool) (b : Before layer old states) → complete ≡ false → TriesLayer Journal IsOf a b.depth b.tried layer new es complete → more ≡ states + length new → Explores a es more complete
-  explored_part layer new old es states more complete b some t sum =
-      let known : List (List ℕ) = (b.tried ++ map Journal layer) ++ map Journal new in
-      subst (Explores a es more) (sym some) (explored_some b.depth known t.done known es more t.have t.have.from (longer_count b.tried layer new states b.count ∙ sym sum))
+  -- there are no more layers than journals have lengths
+  pub no_more_layers : (layers : ℕ) (layer : List S) (es : List RestEntry) (states : ℕ) → 65538 ≤ layers → Before layers layer es states → ⊥
+  no_more_layers layers layer es states past b = let few : layers ≤ 65537 = b.few in absurd (omega arith)
 
 pub empty_is : {X : Type 0} (xs : List X) (n : ℕ) → length xs ≡ n → n ≡ 0 → xs ≡ []
 empty_is [] n e h = refl

@@ -1,7 +1,8 @@
 -- What a search has answered, and what it has tried.
 -- Depends on the states of a search.
-use Rattle.std.specs.Prelude.{◌≡◌, ◌≤◌, ◌+◌, ◌⊎◌, ℕ, Bool, false, List, [], ◌∷◌, ◌++◌, length, IsTrue, map, All}
+use Rattle.std.specs.Prelude.{◌≡◌, ◌≤◌, ◌+◌, ◌⊎◌, ℕ, Bool, false, List, [], ◌∷◌, ◌++◌, length, min, IsTrue, map, All}
 use Rattle.std.specs.declared.vec.Vec.{Vec}
+use Rattle.std.below.core.specs.declared.int.usize.TheConstants.{MAX}
 use Rattle.def_run.specs.Laws.{IsIdleAfter}
 use Rattle.def_explore.specs.Rests.{IsMovingAfter, IsRestAfter, KeptMessages}
 use Rattle.def_explore.specs.Lists.{OneOf, EachOf}
@@ -83,24 +84,26 @@ pub record HaveTried (a : Query) (depth : ℕ) (known tried : List (List ℕ)) (
   pub sound : SoundFor a es
   pub distinct : AreDistinct es
 
--- the states of a layer were tried, all of them where it is complete; `tried` are the journals before them
-pub record TriesLayer {S : Type 0} (Journal : S → List ℕ) (IsOf : S → Query → Type 0) (a : Query) (depth : ℕ) (tried : List (List ℕ)) (ss new : List S) (es : List RestEntry) (complete : Bool) : Type 0 where
+-- the states of a layer were tried, all of them where it is complete, and else until the next one has so many; `tried` are the journals before them
+pub record TriesLayer {S : Type 0} (Journal : S → List ℕ) (IsOf : S → Query → Type 0) (a : Query) (depth : ℕ) (tried : List (List ℕ)) (ss new : List S) (es : List RestEntry) (room : ℕ) (complete : Bool) : Type 0 where
   pub at : AreAt Journal IsOf a (depth + 1) new
   pub done : List (List ℕ)
   pub have : HaveTried a depth ((tried ++ map Journal ss) ++ map Journal new) done es
   pub all : IsTrue complete → done ≡ tried ++ map Journal ss
+  pub stops : complete ≡ false → room ≤ length new
 
--- so many journals go on from the first picks, and have all states where all were tried
+-- so many journals go on from the first picks, or more than are counted, and have all states where all were tried
 pub record CountsStates (a : Query) (states : ℕ) (complete : Bool) : Type 0 where
   pub journals : List (List ℕ)
   pub from : EachOf (JournalFor a) journals
-  pub count : length journals ≡ states
+  pub count : states ≡ min (length journals) MAX
   pub all : IsTrue complete → HaveAllFor a journals
 
--- the entries are sound, each keeps something else, and where all states were tried they are complete and shortest
-pub record Explores (a : Query) (es : List RestEntry) (states : ℕ) (whole : Bool) : Type 0 where
+-- the entries are sound, each keeps something else, and where all states were tried they are complete and shortest; else so many states were met
+pub record Explores (a : Query) (es : List RestEntry) (max_states states : ℕ) (whole : Bool) : Type 0 where
   pub sound : SoundFor a es
   pub distinct : AreDistinct es
   pub complete : IsTrue whole → CompleteFor a es
   pub shortest : IsTrue whole → ShortestFor a es
   pub count : CountsStates a states whole
+  pub stops : whole ≡ false → max_states ≤ states

@@ -91,7 +91,7 @@ fn try_layer<A: Allocator + Copy, S: SearchState<A>>(
         next.old.states.items ≡ [] → AreAt S.journal S.is_of a depth states.now →
         HaveTried a depth (tried ++ map S.journal states.now) tried (answer_entries S.kept_seen answers.old.entries) →
         TriesLayer S.journal S.is_of a depth tried states.now next.new.states.items
-        (answer_entries S.kept_seen answers.new.entries) complete) }
+        (answer_entries S.kept_seen answers.new.entries) room complete) }
 {
     for state in states {
         if next.states.len() >= room {
@@ -105,9 +105,9 @@ fn try_layer<A: Allocator + Copy, S: SearchState<A>>(
 /// What a search answers.
 #[derive(Drop)]
 pub struct Exploration<A: Allocator, M: Eq + Hash> {
-    /// What is kept of the runs to rest, in the order of their journals' lengths.
+    /// What is kept of the runs to rest, each with a journal that leads there.
     pub answers: Answers<A, M>,
-    /// How many states were met.
+    /// How many states were met; usize::MAX stands for any larger number.
     pub states: usize,
     /// Whether all states were tried.
     pub is_complete: bool,
@@ -121,7 +121,7 @@ pub fn explore<A: Allocator + Copy, S: SearchState<A>>(
 ) -> Result<Exploration<A, S::Observation>, AllocError>
     ensures { IfOk result (λ e. (a : Query) →
         S.is_of first a → S.journal first ≡ moves a.program a.before →
-        Explores a (answer_entries S.kept_seen e.answers.entries) e.states e.is_complete) }
+        Explores a (answer_entries S.kept_seen e.answers.entries) max_states e.states e.is_complete) }
 {
     let mut layer = Layer::new(alloc);
     layer.add(first)?;
@@ -138,22 +138,16 @@ pub fn explore<A: Allocator + Copy, S: SearchState<A>>(
         let mut next = Layer::new(alloc);
         let room = max_states.saturating_sub(states);
         let is_complete = try_layer(alloc, &layer.states, &mut next, &mut answers, room)?;
-        let Some(more) = states.checked_add(next.states.len()) else {
-            return Ok(Exploration {
-                answers,
-                states,
-                is_complete: false,
-            });
-        };
-        states = more;
+        let met = states.saturating_add(next.states.len());
         if !is_complete {
             return Ok(Exploration {
                 answers,
-                states,
+                states: met,
                 is_complete,
             });
         }
         layer = next;
+        states = met;
     }
     Ok(Exploration {
         answers,

@@ -10,6 +10,7 @@ returns g c =
     let K = g.S.SearchState.kept_seen in
     let one = c.args.one in
     let other = c.args.other in
-    IfOk-weaker c.explore-first.result (Promises J I K one) (λ e. IfOk c.explore-second.result (BothAlike J I K one other e))
-    (λ e h. IfOk-weaker c.explore-second.result (Promises J I K other) (BothAlike J I K one other e) (λ f k. both_alike J I K one other e f h k) c.explore-second.ensures)
+    let most = c.args.max_states in
+    IfOk-weaker c.explore-first.result (Promises J I K most one) (λ e. IfOk c.explore-second.result (BothAlike J I K most one other e))
+    (λ e h. IfOk-weaker c.explore-second.result (Promises J I K most other) (BothAlike J I K most one other e) (λ f k. both_alike J I K most one other e f h k) c.explore-second.ensures)
     c.explore-first.ensures

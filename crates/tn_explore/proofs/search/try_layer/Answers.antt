@@ -1,4 +1,4 @@
-use Rattle.std.proofs.Common.{◌+◌, sym, subst}
+use Rattle.std.proofs.Common.{◌+◌, ◌≤◌, length, arith, sym, subst}
 use Rattle.tn_explore.specs.Searches.{IsAt, AreAt}
 use Rattle.tn_explore.proofs.Lists.{each_at}
 use Rattle.tn_explore.proofs.Searches.{layer_starts, layer_goes_on, layer_stops, layer_ends}
@@ -21,9 +21,10 @@ loop-state-preserved g c = λ a depth tried none ats have.
 pub returns-then-len-room : goal.returns-then-len-room
 returns-then-len-room g c = λ a depth tried none ats have.
     let inv = c.loop-state.invariant a depth tried none ats have in
-    layer_stops g.S.SearchState.journal g.S.SearchState.is_of a depth tried c.args.states.now c.loop-state.state-index c.loop-state.next.states.items _ inv.0 inv.1
+    let full : c.args.room ≤ length c.loop-state.next.states.items = omega (arith, c.if-len-room.true, c.len.ensures, c.loop-state.next.states.ok.0) in
+    layer_stops g.S.SearchState.journal g.S.SearchState.is_of a depth tried c.args.states.now c.loop-state.state-index c.loop-state.next.states.items _ c.args.room full inv.0 inv.1
 
 pub returns : goal.returns
 returns g c = λ a depth tried none ats have.
     let inv = c.loop-state.invariant a depth tried none ats have in
-    layer_ends g.S.SearchState.journal g.S.SearchState.is_of a depth tried c.args.states.now c.loop-state.state-index c.loop-state.next.states.items _ c.loop-state-test.false inv.0 inv.1 _
+    layer_ends g.S.SearchState.journal g.S.SearchState.is_of a depth tried c.args.states.now c.loop-state.state-index c.loop-state.next.states.items _ c.args.room c.loop-state-test.false inv.0 inv.1
