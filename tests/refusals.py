@@ -3,7 +3,138 @@
 The lines were worked out by hand. A script goes by the name script.term.
 """
 
+# What a name must be, what a name that is none must be a tuple of, and the words of the limits on scripts and on terms.
+NAME = " must be a name, an atom that begins with no capital letter and is not '_', found "
+STEPS = "send, 'receive', call, 'catch', spawn, link, unlink, return, error, throw or exit"
+COMMANDS = "session_create, session_destroy, process, function, send or recv"
+COUNTS = "at most 64 functions, 64 steps in each, 16 processes, 256 commands, 128 sessions"
+SIZES = "integers have 64 bits, atoms 255 characters, tuples 255 elements, lists 4096"
+
+# A form without a shape, alone in its text, and which part of it has none.
+SHAPES = (
+    ("a", "it must be {function,M,F,Vis,Params,Steps}, {process,M,F,Args} or {control,Commands}, found a"),
+    ("{function,m,f,exported,[]}", "{function,M,F,Vis,Params,Steps} has 6 elements, found 5"),
+    ("{function,'M',f,exported,[],[]}", "M" + NAME + "'M'"),
+    ("{function,m,'_',exported,[],[]}", "F" + NAME + "'_'"),
+    ("{function,m,f,exported,x,[]}", "Params must be a list, found x"),
+    ("{function,m,f,exported,[" + ",".join(["'A'"] * 256) + "],[]}", "a function has at most 255 parameters, found 256"),
+    (
+        "{function,m,f,exported,['X',y],[]}",
+        "each of Params must be a variable other than 'Self', in quotes, found y",
+    ),
+    ("{function,m,f,exported,['X','Y','X'],[]}", "Params must be distinct, found 'X'"),
+    ("{function,m,f,exported,[],x}", "Steps must be a list, found x"),
+    ("{process,m,f}", "{process,M,F,Args} has 4 elements, found 3"),
+    ("{process,1,f,[]}", "M" + NAME + "1"),
+    ("{process,m,'F',[]}", "F" + NAME + "'F'"),
+    ("{process,m,f,a}", "Args must be a list, found a"),
+    ("{process,m,f,[" + ",".join("0" * 256) + "]}", "a list of arguments has at most 255 elements, found 256"),
+    ("{control}", "{control,Commands} has 2 elements, found 1"),
+    ("{control,x}", "Commands must be a list, found x"),
+)
+
+# A term that is no step, the only one of its function, and why.
+STEP_SHAPES = (
+    ("{'receive'}", "{'receive',V} has 2 elements, found 1"),
+    ("{call,'_',m}", "{call,V,{M,F},Args} or {call,V,F,Args} has 4 elements, found 3"),
+    ("{'catch','_',{m,f}}", "{'catch',V,{M,F},Args} has 4 elements, found 3"),
+    ("{spawn,'_'}", "{spawn,V,{M,F},Args} has 4 elements, found 2"),
+    ("{link}", "{link,P} has 2 elements, found 1"),
+    ("{unlink,1,2}", "{unlink,P} has 2 elements, found 3"),
+    ("{return}", "{return,T} has 2 elements, found 1"),
+    ("{error,1,2}", "{error,T} has 2 elements, found 3"),
+    ("{exit}", "{exit,T} has 2 elements, found 1"),
+    ("{'receive','Self'}", "V must be '_' or a variable other than 'Self', in quotes, found 'Self'"),
+    ("{call,v,f,[]}", "V must be '_' or a variable other than 'Self', in quotes, found v"),
+    ("{call,'_',1,[]}", "F" + NAME + "1"),
+    ("{spawn,'_',{m},[]}", "{M,F} must be two names, found {m}"),
+    ("{call,'_',f,x}", "Args must be a list, found x"),
+    ("{jump,1}", "it must be a tuple of " + STEPS + ", found {jump,1}"),
+)
+
+# A term that is no command, the only one of its control form, and why; of a term 60 bytes are shown.
+COMMAND_SHAPES = (
+    ("{session_create,a,t}", "{session_create,S,T,[]} has 4 elements, found 3"),
+    ("{session_destroy}", "{session_destroy,S} has 2 elements, found 1"),
+    ("{process,a}", "{process,S,Procs,How,Flags} has 5 elements, found 2"),
+    ("{function,a}", "{function,S,MFA,Spec,Opts} has 5 elements, found 2"),
+    ("{recv,a}", "{recv,S,Spec,[]} has 4 elements, found 2"),
+    ("{session_create,'A',t,[]}", "S" + NAME + "'A'"),
+    ("{send,a,[],[x]}", "the last element must be [], found [x]"),
+    ("{session_create,a,'T',[]}", "T" + NAME + "'T'"),
+    ("x", "it must be a tuple of " + COMMANDS + ", found x"),
+    ("\"" + "a" * 59 + "\"", "it must be a tuple of " + COMMANDS + ", found [" + "97," * 19 + "97.."),
+)
+
+# A text, the column on its first line at which a token is refused, and what is said of it.
+TOKENS = (
+    ("}.", 1, "a form expected, found '}': nothing is open"),
+    ("{a b}.", 4, "',' or '}' expected, found the atom b"),
+    ("{a 'b c'}.", 4, "',' or '}' expected, found the atom 'b c'"),
+    ("{a 7}.", 4, "',' or '}' expected, found the number 7"),
+    ("{a[b]}.", 3, "',' or '}' expected, found '['"),
+    ("{,a}.", 2, "a term or '}' expected, found ','"),
+    (
+        "{'a}.",
+        2,
+        "a term or '}' expected, found a quoted atom that is not closed: "
+        "it has characters 32 to 126, and \\' and \\\\ for ' and \\",
+    ),
+    (
+        "{\"a}.",
+        2,
+        "a term or '}' expected, found a string that is not closed: "
+        "it has characters 32 to 126, and \\\" and \\\\ for \" and \\",
+    ),
+    ("{a.", 3, "',' or '}' expected, found the full stop: '{' at 1:1 is not closed"),
+    (
+        "{a.b}.",
+        3,
+        "',' or '}' expected, found a dot: a full stop has a blank, a comment or the end of the text after it",
+    ),
+    ("{<0.007.0>}.", 2, "a term or '}' expected, found the pid <0.007.0>: a pid is <0.N.0>, N without leading zeros"),
+    ("{<a>}.", 2, "a term or '}' expected, found '<': a pid is <0.N.0>, N without leading zeros"),
+    ("{#r}.", 2, "a term or '}' expected, found '#': there are no records, and numbers are decimal"),
+    ("{$a}.", 2, "a term or '}' expected, found the character $a: a character is written as its number"),
+    ("[a|b].", 3, "',' or ']' expected, found '|': a list has no tail"),
+    ("{a,fun}.", 4, "a term expected, found the reserved word fun: there are no funs, and the atom is written 'fun'"),
+    ("{a,\1}.", 4, "a term expected, found the byte 1"),
+)
+
+# A text with a token past a limit of terms, its column, the words of the rule, and what is said of it.
+LARGE_TOKENS = (
+    ("[" * 32 + "\"a\"", 33, "terms nest at most 32 levels deep: level 33 begins with the string \"a\", which is a list"),
+    ("{" + "0," * 255 + "0}.", 511, SIZES + ": the tuple at 1:1 goes on after element 255"),
+    ("[" + "0," * 4096 + "0].", 8193, SIZES + ": the list at 1:1 goes on after element 4096"),
+    ("a" * 256 + ".", 1, SIZES + ": the atom has 256 characters"),
+    ("'" + "A" * 256 + "'.", 1, SIZES + ": the atom has 256 characters"),
+    ("\"" + "a" * 4097 + "\".", 1, SIZES + ": the string has 4097 characters"),
+    ("<0.4294967296.0>.", 1, SIZES + ": found the pid <0.4294967296.0>"),
+)
+
+# The words that introduce a form without a shape.
+NO_SHAPE = "no form has this shape: "
+
 REFUSALS = [
+    *((text + ".", "script.term:1: form 1: " + NO_SHAPE + why) for text, why in SHAPES),
+    *(
+        ("{function,m,f,exported,[],[" + text + "]}.", "script.term:1:28: form 1: " + NO_SHAPE + "step 1: " + why)
+        for text, why in STEP_SHAPES
+    ),
+    *(
+        ("{control,[" + text + "]}.", "script.term:1:11: form 1: " + NO_SHAPE + "command 1: " + why)
+        for text, why in COMMAND_SHAPES
+    ),
+    *((text, f"script.term:1:{column}: syntax error: {why}") for text, column, why in TOKENS),
+    *((text, f"script.term:1:{column}: {why}") for text, column, why in LARGE_TOKENS),
+    (
+        "{function,m,f,exported,['A'],[]}.\n{process,m,f,['X']}.",
+        "script.term:2: form 2: variable not bound: 'X' in the arguments of a process, where no variable is",
+    ),
+    (
+        "".join("{function,m,f%d,exported,[],[]}.\n" % number for number in range(65)),
+        "script.term:65: form 65: " + COUNTS + ": 65 functions up to here",
+    ),
     (
         "{function,m,go,exported,['To'],\n  [{send,To,1}]}.\n",
         "script.term:2:10: syntax error: a term expected, found the variable To: variables are written in quotes, 'To'",

@@ -8,6 +8,14 @@ from explanation_cases import EXPLAIN_ALL
 from harness import EMPTY, NO_FORMS, PLAIN, ROWS, SEND_HI, SEND_HI_PICKS, TEXT_BYTES, check, run, wants
 from refusals import REFUSALS
 
+# Refused picks, and which pick is none.
+PICKS = (
+    ("0 100 07 1", b": pick 3, '07', has a leading zero\n"),
+    ("0  1", b": pick 2, '', is empty\n"),
+    ("0 x", b": pick 2, 'x', is no decimal number\n"),
+    ("4294967296", b": pick 1, '4294967296', is greater than 4294967295\n"),
+)
+
 
 def refusals():
     """Each refused script's line, from a file and from standard input, and that of refused picks."""
@@ -25,8 +33,14 @@ def refusals():
         ran = run(["round", "gr\u00fc\u00df.term"], cwd=folder)
         check("a name that isn't ASCII", ran.stderr.decode().startswith("gr\u00fc\u00df.term:1:2: "), ran)
     rule = b"picks: picks are numbers up to 4294967295 with one space between each two"
-    ran = run(["replay", "--picks", "0 100 07 1"], SEND_HI)
-    wants("the third pick", ran, 2, b"refused 20 bad picks\n", rule + b": pick 3, '07', has a leading zero\n")
+    for picks, why in PICKS:
+        ran = run(["replay", "--picks", picks], SEND_HI)
+        wants(f"the picks {picks}", ran, 2, b"refused 20 bad picks\n", rule + why)
+    with tempfile.TemporaryDirectory() as folder:
+        (pathlib.Path(folder) / "picks").write_bytes(b"0" * (TEXT_BYTES + 1))
+        ran = run(["replay", "--picks-file", "picks"], SEND_HI, cwd=folder)
+        long = b": there are 1048577 bytes, of at most 1048576\n"
+        wants("1,048,577 bytes of picks", ran, 2, b"refused 20 bad picks\n", rule + long)
 
 
 def long_texts():

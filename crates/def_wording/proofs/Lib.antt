@@ -1,0 +1,3 @@
+pub mod WordingReasons
+pub mod WordingShapes
+mod WordingRows
