@@ -38,7 +38,12 @@ HOMES = {
     "the number after a number": APPENDED + r"decimal \(suc [\w.]+\)\)$",
     "the text of a pid": APPENDED + r"pid_text [\w.]+\)$",
     "the flags that a term lists": r"^option_map \w+ result ≡ flags_listed \(tree_of",
+    "picks that are taken again and again": r"^TakesWithin .*\(repeat_picks ",
+    "a run by a plan": r"^let p = program_of program\.now in IfOk result \(λ r\. IsDriven ",
 }
+
+# What is done with a run: each takes any schedule.
+JOBS = {"Schedule", "Replay", "ExplainRequest", "DrawRequest"}
 
 # The forms in which a comment may have the words that the glossary has others for.
 FORMS = {
@@ -131,6 +136,12 @@ def homes():
     for thing, pattern in HOMES.items():
         found = [f"{each.crate}::{each.module}::{each.title}" for each, text in ensured if re.search(pattern, text)]
         yield f"one function for {thing}", len(found) == 1, found
+    jobs = {
+        job for crate in sorted(crates()) if crate.startswith("tn_") for path in files(crate, "src")
+        for job, body in re.findall(r"^impl\b[^\n]*\bJob<\w+> for (\w+)(.*?)^}", read(path), re.M | re.S)
+        if "IsSpelledBy (schedule_seen" in body
+    }
+    yield "the jobs over a schedule", jobs == JOBS, jobs
 
 
 def prose(path):
