@@ -17,6 +17,6 @@ returns-clause-ok g c = λ picks seen next.
     let ss = sessions_after p picks in
     let made = c.in_ok-obey.ensures.ok picks seen next in
     let states = recorded_sessions (λ _ _. Unit {0}) c.args.self.now.recorder p picks seen in
-    let why = c.in_ok-why.ensures (exports_of p) (sym (ap visible c.functions.ensures)) (alive_of c.args.self.now.recorder.living) ss states in
+    let why = c.in_ok-why.ensures (exports_of p) (sym (ap visible c.functions-functions.ensures)) (alive_of c.args.self.now.recorder.living) ss states in
     move_remarked p picks c.args.entry (command_item k ∷ []) c.args.self.now (record c.args.self.now { recorder = c.obey.new.self }) c.args.out.now c.push.new.self next.move made.after
     (command_said (exports_of p) ss k c.args.out.now.items c.push.new.self.items c.in_ok-text.text (command_reasons_seen c.in_ok-why.why) c.in_ok-push.ensures.items c.in_ok-text.ensures why)

@@ -1,4 +1,4 @@
-use Rattle.std.proofs.Common.{map, tt}
+use Rattle.std.proofs.Common.{map}
 use Rattle.def_script.specs.Exports.{exports_of}
 use Rattle.def_run.specs.Run.{event_item}
 use Rattle.tn_flags.specs.Views.{event_of}
