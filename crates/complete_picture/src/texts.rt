@@ -3,6 +3,7 @@ ghost use Rattle.std.specs.Prelude.{◌≡◌, IfOk};
 ghost use Rattle.tn_picture.specs.Views.{picture_seen};
 
 use std::alloc::{AllocError, Allocator};
+use tn_moves::Plan;
 use tn_picture::{Picture, PictureFormat};
 use tn_program::Program;
 
@@ -10,7 +11,7 @@ use tn_program::Program;
 pub fn picture_of<A: Allocator + Copy>(
     alloc: A,
     program: &Program<A>,
-    picks: &[u32],
+    plan: &Plan<'_, A>,
 ) -> (
     Result<Picture<A>, AllocError>,
     Result<Picture<A>, AllocError>,
@@ -18,8 +19,8 @@ pub fn picture_of<A: Allocator + Copy>(
     ensures { IfOk result.0 (λ a. IfOk result.1 (λ b. picture_seen a ≡ picture_seen b)) }
 {
     (
-        tn_picture::picture_of(alloc, program, picks),
-        tn_picture::picture_of(alloc, program, picks),
+        tn_picture::picture_of(alloc, program, plan),
+        tn_picture::picture_of(alloc, program, plan),
     )
 }
 
@@ -79,7 +80,7 @@ pub fn text_of<A: Allocator + Copy>(
 pub fn picture_text<A: Allocator + Copy>(
     alloc: A,
     program: &Program<A>,
-    picks: &[u32],
+    plan: &Plan<'_, A>,
     format: PictureFormat,
 ) -> (
     Result<Vec<u8, A>, AllocError>,
@@ -88,7 +89,7 @@ pub fn picture_text<A: Allocator + Copy>(
     ensures { IfOk result.0 (λ a. IfOk result.1 (λ b. a.items ≡ b.items)) }
 {
     (
-        tn_picture::picture_text(alloc, program, picks, format),
-        tn_picture::picture_text(alloc, program, picks, format),
+        tn_picture::picture_text(alloc, program, plan, format),
+        tn_picture::picture_text(alloc, program, plan, format),
     )
 }
