@@ -12,12 +12,12 @@ use Rattle.tn_explain.specs.declared.node_explainer.NodeExplainer.{NodeExplainer
 use Rattle.tn_explain.proofs.NodeMoveTexts.{run_node_explained}
 use Rattle.tn_explain.proofs.account.put_node_moves.Goals as goal
 
-pub drive-requires-clause-start : goal.drive-requires-clause-start
-drive-requires-clause-start g c =
+pub drive-requires : goal.drive-requires
+drive-requires g c =
     let p = program_of c.args.program.now in
     let same = c.in_ok-explainer.ensures.selection in
     let compared = subst (λ f. IsComparison (exports_of p) (comparison_at_start (selection_seen f).session p) c.in_ok-comparison.comparison) (sym same) c.in_ok-comparison.ensures in
-    record { explained = c.in_ok-explainer.ensures.explained; compared = compared }
+    record { start = record { explained = c.in_ok-explainer.ensures.explained; compared = compared } }
 
 pub returns-clause-ok : goal.returns-clause-ok
 returns-clause-ok g c =
