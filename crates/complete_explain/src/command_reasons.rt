@@ -52,7 +52,7 @@ pub fn put_reason_after_reply<A: Allocator, B: Allocator>(
     first: &mut Vec<u8, B>,
     second: &mut Vec<u8, B>,
 ) -> (Result<(), AllocError>, Result<(), AllocError>)
-    requires reasons { command_reasons_seen one.entry ≡ command_reasons_seen other.entry }
+    requires reasons { command_reasons_seen one ≡ command_reasons_seen other }
     requires texts { first.old.items ≡ second.old.items }
     ensures { OnOk result.0 (OnOk result.1 (first.new.items ≡ second.new.items)) }
 {
@@ -71,7 +71,7 @@ pub fn reason_text<A: Allocator + Copy>(
     Result<Option<Vec<u8, A>>, AllocError>,
     Result<Option<Vec<u8, A>>, AllocError>,
 )
-    requires { command_reasons_seen one.entry ≡ command_reasons_seen other.entry }
+    requires { command_reasons_seen one ≡ command_reasons_seen other }
     ensures { IfOk result.0 (λ x. IfOk result.1 (λ y. text_seen x ≡ text_seen y)) }
 {
     (
