@@ -1,1 +1,1 @@
-mod OneDrawing
+pub mod OneDrawing
