@@ -35,7 +35,6 @@ SUBJECTS = {
         run_cases.plain,
         run_cases.examples,
         run_cases.workers,
-        run_cases.seeds,
         run_cases.last_moves,
         run_cases.schedules,
         run_cases.full_journals,
