@@ -36,7 +36,7 @@ with_step t = braces (word "function" ∷ word "m" ∷ word "f" ∷ word "export
 abbrev with_command : Tree → Tree
 with_command t = braces (word "control" ∷ brackets (t ∷ []) ∷ [])
 
--- {Tag,T1,..}
+-- a tuple of a tag and these terms
 abbrev tagged : String → List Tree → Tree
 tagged s ts = braces (word s ∷ ts)
 

@@ -5,7 +5,7 @@ use Rattle.def_term.specs.Names.{Name}
 use Rattle.def_script.specs.Program.{Program}
 use Rattle.def_explore.specs.Rests.{RunQuestion, KeptMessages, kept_in}
 use Rattle.def_explore.specs.Alike.{IsStateAlike, HasStateOf, HasNext}
-use Rattle.def_explore.specs.Answers.{RestEntry, IsJournalFrom, AreSound, AreComplete, AreShortest, IsEntryFor, IsNoLonger, HaveAllStates}
+use Rattle.def_explore.specs.Answers.{RestEntry, IsJournalFrom, IsEntryFor, IsNoLonger, HaveAllStates}
 
 -- a program, the picks that a run begins with, a question, and the sessions that it is about
 pub record Query : Type 0 where
@@ -28,15 +28,6 @@ HasNextFor a = HasNext a.question a.sessions a.program
 
 abbrev pub HaveAllFor : Query → List (List ℕ) → Type 0
 HaveAllFor a = HaveAllStates a.question a.sessions a.program a.before
-
-abbrev pub SoundFor : Query → List RestEntry → Type 0
-SoundFor a = AreSound a.question a.sessions a.program a.before
-
-abbrev pub CompleteFor : Query → List RestEntry → Type 0
-CompleteFor a = AreComplete a.question a.sessions a.program a.before
-
-abbrev pub ShortestFor : Query → List RestEntry → Type 0
-ShortestFor a = AreShortest a.question a.sessions a.program a.before
 
 abbrev pub kept_for : Query → List ℕ → KeptMessages
 kept_for a picks = kept_in a.question a.sessions a.program picks

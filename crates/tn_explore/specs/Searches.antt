@@ -6,8 +6,8 @@ use Rattle.std.below.core.specs.declared.int.usize.TheConstants.{MAX}
 use Rattle.def_run.specs.Laws.{IsIdleAfter}
 use Rattle.def_explore.specs.Rests.{IsMovingAfter, IsRestAfter, KeptMessages}
 use Rattle.def_explore.specs.Lists.{OneOf, EachOf}
-use Rattle.def_explore.specs.Answers.{RestEntry, AreDistinct}
-use Rattle.tn_explore.specs.Query.{Query, JournalFor, HasStateFor, HasNextFor, HaveAllFor, SoundFor, CompleteFor, ShortestFor, EntryFor, NoLongerFor, kept_for, entry_for}
+use Rattle.def_explore.specs.Answers.{RestEntry, AreDistinct, AreSound, AreComplete, AreShortest}
+use Rattle.tn_explore.specs.Query.{Query, JournalFor, HasStateFor, HasNextFor, HaveAllFor, EntryFor, NoLongerFor, kept_for, entry_for}
 
 -- the entry of a pair: what is kept, and the journal
 abbrev pub answer_entry : {A M : Type 0} → (M → KeptMessages) → M × Vec ℕ A → RestEntry
@@ -81,7 +81,7 @@ pub record HaveTried (a : Query) (depth : ℕ) (known tried : List (List ℕ)) (
   pub entries : EachOf (λ j. IsRestAfter a.program j → OneOf (EntryFor a j) es) tried
   pub shortest : EachOf (λ j. IsRestAfter a.program j → EachOf (NoLongerFor a j) es) tried
   pub short : EachOf (λ e. length e.journal ≤ depth) es
-  pub sound : SoundFor a es
+  pub sound : AreSound a.question a.sessions a.program a.before es
   pub distinct : AreDistinct es
 
 -- the states of a layer were tried, all of them where it is complete, and else until the next one has so many; `tried` are the journals before them
@@ -101,9 +101,9 @@ pub record CountsStates (a : Query) (states : ℕ) (complete : Bool) : Type 0 wh
 
 -- the entries are sound, each keeps something else, and where all states were tried they are complete and shortest; else so many states were met
 pub record Explores (a : Query) (es : List RestEntry) (max_states states : ℕ) (whole : Bool) : Type 0 where
-  pub sound : SoundFor a es
+  pub sound : AreSound a.question a.sessions a.program a.before es
   pub distinct : AreDistinct es
-  pub complete : IsTrue whole → CompleteFor a es
-  pub shortest : IsTrue whole → ShortestFor a es
+  pub complete : IsTrue whole → AreComplete a.question a.sessions a.program a.before es
+  pub shortest : IsTrue whole → AreShortest a.question a.sessions a.program a.before es
   pub count : CountsStates a states whole
   pub stops : whole ≡ false → max_states ≤ states
