@@ -1,3 +1,5 @@
 pub mod WordingReasons
 pub mod WordingShapes
 mod WordingRows
+pub mod TokenWalks
+pub mod CommandOffsets

@@ -6,3 +6,4 @@ pub mod SyntaxTexts
 pub mod RuleTexts
 pub mod ShapeTexts
 pub mod WordingLaws
+pub mod CommandOffsetLaws

@@ -1,10 +1,12 @@
-//! What the line that explains a refusal says: of a refused token, of a form without a shape, of a form that breaks a
-//! rule, and of a text of picks.
+//! What the line that explains a refusal says.
 //!
-//! Depends on def_text and def_script. Promises, as laws, that a broken rule, other than that on limits, and a term
-//! without the shape of a step or a command have a reason. There is no code, and no crate uses it yet.
+//! Depends on `def_text`, `def_script`, `def_refusal` and `def_explain`. Promises, as laws: a broken rule other than
+//! past limits, and a term without the shape of a step or a command, have a reason; an item of `def_refusal` that is
+//! a command begins where `def_explain` has this command begin. There is no code.
 #![tactic(auto)]
 
 mod laws;
 
-pub use laws::{a_broken_rule_has_a_reason, a_shapeless_term_has_a_reason};
+pub use laws::{
+    a_broken_rule_has_a_reason, a_command_begins_at_one_offset, a_shapeless_term_has_a_reason,
+};
