@@ -3,3 +3,4 @@ mod SameMoves
 mod SamePicks
 mod SameSpecTests
 mod SameWords
+pub mod SameForms

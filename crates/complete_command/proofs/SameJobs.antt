@@ -29,7 +29,7 @@ same_status job n m (Err d) (Ok u) e f same both = absurd (cc both)
 same_status job n m (Err d) (Err b) e f same both = e ∙ sym f
 
 -- two runs of one text by workers succeed alike
-pub succeed_alike : (r q : Result Ran LiveFault) → IfOk r (λ x. IfOk q (AreOfOneText x)) → IfOk r (λ x. IfOk q (λ y. is_listed x.outcome ≡ is_listed y.outcome))
+pub succeed_alike : {F : Type 0} (r q : Result Ran F) → IfOk r (λ x. IfOk q (AreOfOneText x)) → IfOk r (λ x. IfOk q (λ y. is_listed x.outcome ≡ is_listed y.outcome))
 succeed_alike (Ok x) (Ok y) h = ap is_listed h.outcome
 succeed_alike (Ok x) (Err d) h = tt
 succeed_alike (Err d) q h = tt

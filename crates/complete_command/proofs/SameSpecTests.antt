@@ -3,11 +3,16 @@ use Rattle.std.proofs.Common.{◌≡◌, ◌∙◌, ℕ, List, ◌++◌, take, O
 use Rattle.std.specs.Io.KnownBytes.{Appends}
 use Rattle.tn_text.specs.Watch.{watched_inner, has_failed, is_flushed}
 use Rattle.tn_text.specs.declared.watched.Watched.{Watched}
+use Rattle.tn_verdict.specs.SpecTestInputs.{IsAnswerTo, IsNoAnswer}
 use Rattle.tn_verdict.specs.declared.spec_test_input.SpecTestInput as question
+use Rattle.tn_verdict.specs.declared.spec_test_input.SpecTestFault.{SpecTestFault}
 use Rattle.tn_run.specs.declared.fault.RunFault.TheVariants.{Write}
-use Rattle.tn_command.specs.SpecTests.{MeetsSpecTest, spec_test_status_of}
+use Rattle.tn_formats.specs.declared.format.Format.{Format}
+use Rattle.tn_command.specs.JobForms.{text_in_format}
+use Rattle.tn_command.specs.SpecTests.{IsAnswerIn, MeetsSpecTestBy, spec_test_status_of}
 use Rattle.tn_command.specs.declared.spec_test.SpecTestRunFault.{SpecTestRunFault}
 use Rattle.tn_command.specs.declared.spec_test.SpecTestRunFault.TheVariants.{SpecTestInput, Run}
+use Rattle.complete_code.specs.SpecTestAnswers.{IsSpecTestRefused}
 use Rattle.complete_code.proofs.SpecTestAnswers.{answer_or_fault, one_reason, one_text}
 use Rattle.complete_workers.specs.Ends.{EndAlike, TellAlike}
 use Rattle.complete_workers.proofs.SameEnds.{appended, none_some, not_told, the_same}
@@ -30,22 +35,40 @@ same_gain None old' new new' x y e some same h i = not_told some
 same_gain (Some was) old' new new' x y e some same h i =
     appended was x new h ∙ ap (λ z. Some (was ++ z)) same ∙ sym (appended was y new' (subst (λ o. Appends o new' y) (sym e) i))
 
-module _ {A W : Type 0} (q : question.SpecTestInput) (gained : W → Option (List ℕ)) (old new old' new' : Watched W) where
+-- a question has one such text, which it has only where it has an answer
+pub record IsOneText (q : question.SpecTestInput) (IsAnswer : List ℕ → Type 0) : Type 0 where
+  pub one : (x y : List ℕ) → IsAnswer x → IsAnswer y → x ≡ y
+  pub answered : (x : List ℕ) → IsAnswer x → (y : List ℕ) × IsAnswerTo q y
+
+pub answer_is_one : (q : question.SpecTestInput) → IsOneText q (IsAnswerTo q)
+answer_is_one q = record { one = one_text q; answered = λ x h. (x, h) }
+
+pub answer_in_is_one : (q : question.SpecTestInput) (format : Format) → IsOneText q (IsAnswerIn format q)
+answer_in_is_one q format = record {
+  one = λ x y h i. h.text_is ∙ ap (text_in_format (Some format)) (one_text q h.plain i.plain h.is_plain i.is_plain) ∙ sym i.text_is;
+  answered = λ x h. (h.plain, h.is_plain);
+}
+
+module _ {A W : Type 0} (q : question.SpecTestInput) (IsAnswer : List ℕ → Type 0) (are : IsOneText q IsAnswer) (gained : W → Option (List ℕ)) (old new old' new' : Watched W) where
   abbrev First : Result (Unit {0}) (SpecTestRunFault A) → Type 0
-  First r = MeetsSpecTest q gained old new r
+  First r = MeetsSpecTestBy IsAnswer q gained old new r
 
   abbrev Second : Result (Unit {0}) (SpecTestRunFault A) → Type 0
-  Second r = MeetsSpecTest q gained old' new' r
+  Second r = MeetsSpecTestBy IsAnswer q gained old' new' r
+
+  -- a text and a fault of the question are there only where memory was refused
+  text_or_fault : (x : List ℕ) (f : SpecTestFault A) → IsAnswer x → IsNoAnswer q f → IsSpecTestRefused f
+  text_or_fault x f h i = let answer = are.answered x h in answer_or_fault q answer.0 f answer.1 i
 
   pub tried_alike : (r s : Result (Unit {0}) (SpecTestRunFault A)) → First r → Second s → AreTestedAlike r s
   tried_alike (Ok u) (Ok v) h i = tt
-  tried_alike (Ok u) (Err (SpecTestInput f)) h i = answer_or_fault q h.written.0 f h.written.1 i.fault.0
+  tried_alike (Ok u) (Err (SpecTestInput f)) h i = text_or_fault h.written.0 f h.written.1 i.fault.0
   tried_alike (Ok u) (Err (Run f)) h i = tt
-  tried_alike (Err (SpecTestInput e)) (Ok v) h i = answer_or_fault q i.written.0 e i.written.1 h.fault.0
+  tried_alike (Err (SpecTestInput e)) (Ok v) h i = text_or_fault i.written.0 e i.written.1 h.fault.0
   tried_alike (Err (SpecTestInput e)) (Err (SpecTestInput f)) h i = one_reason q e f h.fault.0 i.fault.0
-  tried_alike (Err (SpecTestInput e)) (Err (Run f)) h i = answer_or_fault q i.fault.1 e i.fault.2 h.fault.0
+  tried_alike (Err (SpecTestInput e)) (Err (Run f)) h i = text_or_fault i.fault.1 e i.fault.2 h.fault.0
   tried_alike (Err (Run e)) (Ok v) h i = tt
-  tried_alike (Err (Run e)) (Err (SpecTestInput f)) h i = answer_or_fault q h.fault.1 f h.fault.2 i.fault.0
+  tried_alike (Err (Run e)) (Err (SpecTestInput f)) h i = text_or_fault h.fault.1 f h.fault.2 i.fault.0
   tried_alike (Err (Run e)) (Err (Run f)) h i = tt
 
   second_as : (r s : Result (Unit {0}) (SpecTestRunFault A)) → EndAlike r s → Second s → Second r
@@ -54,14 +77,14 @@ module _ {A W : Type 0} (q : question.SpecTestInput) (gained : W → Option (Lis
   -- ---- of one answer
 
   gain_of : (r : Result (Unit {0}) (SpecTestRunFault A)) → TellAlike gained old old' → IsSome (gained (watched_inner old)) → First r → Second r → TellAlike gained new new'
-  gain_of (Ok u) e some h i = same_gain _ _ _ _ _ _ e some (one_text q h.written.0 i.written.0 h.written.1 i.written.1) h.written.2 i.written.2
+  gain_of (Ok u) e some h i = same_gain _ _ _ _ _ _ e some (are.one h.written.0 i.written.0 h.written.1 i.written.1) h.written.2 i.written.2
   gain_of (Err (SpecTestInput f)) e some h i = seen_as gained new old h.fault.1 ∙ e ∙ sym (seen_as gained new' old' i.fault.1)
   gain_of (Err (Run f)) e some h i =
       let (n, is, front) = h.fault.3 in
       let (m, so, other) = i.fault.3 in
       let both : Write n ≡ Write m = sym is ∙ so in
       let same : n ≡ m = cc in
-      same_gain _ _ _ _ _ _ e some (ap₂ take same (one_text q h.fault.1 i.fault.1 h.fault.2 i.fault.2)) front.gained other.gained
+      same_gain _ _ _ _ _ _ e some (ap₂ take same (are.one h.fault.1 i.fault.1 h.fault.2 i.fault.2)) front.gained other.gained
 
   failed_of : (r : Result (Unit {0}) (SpecTestRunFault A)) → has_failed old ≡ has_failed old' → First r → Second r → has_failed new ≡ has_failed new'
   failed_of (Ok u) e h i = h.unfailed ∙ e ∙ sym i.unfailed

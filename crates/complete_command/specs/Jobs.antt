@@ -4,7 +4,6 @@ use Rattle.std.specs.Process.{exit_status}
 use Rattle.tn_text.specs.Watch.{is_flushed}
 use Rattle.tn_text.specs.declared.watched.Watched.{Watched}
 use Rattle.tn_run.specs.Jobs.{Gives, JobView}
-use Rattle.tn_run.specs.declared.fault.LiveFault.{LiveFault}
 use Rattle.tn_run.specs.declared.live.Ran.{Ran}
 use Rattle.tn_command.specs.declared.status.JobEnd.{JobEnd}
 use Rattle.complete_workers.specs.Ends.{WriteAlike}
@@ -40,5 +39,5 @@ RemainAlike job known old one other a b = LeaveAlike job.end_of known old one ot
 -- ---- of two ends of a run by workers
 
 -- where both made the same, two writers that told their bytes tell the same ones
-abbrev pub WorkAlike : {T : Type 0} → (T → Option (List ℕ)) → (old one other : Watched T) → JobEnd Ran LiveFault → JobEnd Ran LiveFault → Type 0
-WorkAlike gained old one other a b = RunAlike gained old one other a.answer b.answer
+abbrev pub WorkAlike : {T F : Type 0} → JobView Ran F → (T → Option (List ℕ)) → (old one other : Watched T) → JobEnd Ran F → JobEnd Ran F → Type 0
+WorkAlike job gained old one other a b = RunAlike job.end_of gained old one other a.answer b.answer

@@ -4,3 +4,4 @@ pub mod SameTurns
 pub mod SameEnds
 pub mod OneRun
 pub mod SameRuns
+pub mod SamePreparations

@@ -23,7 +23,7 @@ seen_as {T} known one other e = ap (λ (w : Watched T). known (watched_inner w))
 -- ---- what both remember
 
 -- whether a read has failed, a write has, and all was flushed, after this fault
-abbrev reader_after : Bool → FailedEnd → Bool
+abbrev pub reader_after : Bool → FailedEnd → Bool
 reader_after was reader_failed = true
 reader_after was (writer_failed n) = was
 reader_after was no_end_failed = was
@@ -34,7 +34,7 @@ writer_after was (writer_failed n) = true
 writer_after was no_end_failed = was
 
 -- after this answer, where `by` says it of a fault
-abbrev after_answer : {F : Type 0} → (F → Bool) → Bool → Option F → Bool
+abbrev pub after_answer : {F : Type 0} → (F → Bool) → Bool → Option F → Bool
 after_answer by done None = done
 after_answer by done (Some fault) = by fault
 
@@ -150,8 +150,14 @@ module _ {O F : Type 0} (job : JobView O F) (one : (bytes : List ℕ) (o u : O) 
 
 -- ---- what is left of the reader
 
-abbrev Taken : (old new : Option (List ℕ)) → Type 0
+abbrev pub Taken : (old new : Option (List ℕ)) → Type 0
 Taken old new = (text : List ℕ) × TakesText old new text
+
+pub front_left : (old other new new' : Option (List ℕ)) → old ≡ other → IsSome old → Taken old new → Taken other new' → new ≡ new'
+front_left None other new new' e some h i = not_told some
+front_left (Some bytes) other new new' e some h i =
+    let i' : Taken (Some bytes) new' = subst (λ o. Taken o new') (sym e) i in
+    (taken_is bytes new h.0 h.1).1 ∙ sym (taken_is bytes new' i'.0 i'.1).1
 
 module _ {R W O F : Type 0} (job : JobView O F) (known : R → Option (List ℕ)) (gained : W → Option (List ℕ)) (either : (bytes : List ℕ) (o : O) (x : List ℕ) → Gives job bytes o x → job.reads ⊎ (job.reads → ⊥)) where
   took_at : (reader reader' : Watched R) (writer writer' : Watched W) (f : F) (x : FailedEnd) → job.end_of f ≡ x → HasRead {O = O} job.end_of (Err f) → Meets job known reader reader' gained writer writer' (Err f) → job.reads
@@ -174,12 +180,6 @@ module _ {R W O F : Type 0} (job : JobView O F) (known : R → Option (List ℕ)
   ran_of (Some bytes) old new (Ok o) some read h = let d = h.done in either bytes o d.0 d.1
   ran_of (Some bytes) old new (Err f) some read h = ran_at bytes old new f (job.end_of f) refl read h
 
-  front_left : (old other new new' : Option (List ℕ)) → old ≡ other → IsSome old → Taken old new → Taken other new' → new ≡ new'
-  front_left None other new new' e some h i = not_told some
-  front_left (Some bytes) other new new' e some h i =
-      let i' : Taken (Some bytes) new' = subst (λ o. Taken o new') (sym e) i in
-      (taken_is bytes new h.0 h.1).1 ∙ sym (taken_is bytes new' i'.0 i'.1).1
-
   left_by : (one one' other other' : Watched R) (out out' same same' : Watched W) (r q : Result O F) → TellAlike known one other → Meets job known one one' gained out out' r → Meets job known other other' gained same same' q
       → IsSome (known (watched_inner one)) → HasRead job.end_of r → HasRead job.end_of q → job.reads ⊎ (job.reads → ⊥) → TellAlike known one' other'
   left_by one one' other other' out out' same same' r q e h i some read read' (inl reads) =
@@ -199,31 +199,49 @@ no_picks : (o : Outcome) (picks : List ℕ) → IsRefusedOutcome o → HasPicksW
 no_picks Listed picks h i = absurd h
 no_picks (Refused r) picks h i = i
 
-of_one_text : (bytes w w' v v' : Option (List ℕ)) (r q : Ran) → IsSome bytes → Writes live_run bytes w w' r → Writes live_run bytes v v' q → HasPicksWhereListed r.outcome r.picks.items → HasPicksWhereListed q.outcome q.picks.items
-    → AreOfOneText r q
-of_one_text None w w' v v' r q some h i k l = not_told some
-of_one_text (Some bytes) w w' v v' r q some h i k l =
-    let same : r.outcome ≡ q.outcome = one_outcome bytes r.picks.items q.picks.items r.outcome q.outcome h.0 i.0 h.1 i.1 in
-    record { outcome = same; picks = λ is. no_picks r.outcome r.picks.items is k ∙ sym (no_picks q.outcome q.picks.items (subst IsRefusedOutcome same is) l) }
+pub of_one_text : (r q : Ran) → r.outcome ≡ q.outcome → HasPicksWhereListed r.outcome r.picks.items → HasPicksWhereListed q.outcome q.picks.items → AreOfOneText r q
+of_one_text r q same k l = record { outcome = same; picks = λ is. no_picks r.outcome r.picks.items is k ∙ sym (no_picks q.outcome q.picks.items (subst IsRefusedOutcome same is) l) }
 
-pub same_live_outcome : (bytes bytes' w w' v v' : Option (List ℕ)) (r q : Result Ran LiveFault) → bytes ≡ bytes' → IfOk r (Writes live_run bytes w w') → IfOk r live_run.has → IfOk q (Writes live_run bytes' v v') → IfOk q live_run.has
-    → IsSome bytes → IfOk r (λ x. IfOk q (AreOfOneText x))
-same_live_outcome bytes bytes' w w' v v' (Err e) q same h k i l some = tt
-same_live_outcome bytes bytes' w w' v v' (Ok x) (Err e) same h k i l some = tt
-same_live_outcome bytes bytes' w w' v v' (Ok x) (Ok y) same h k i l some = of_one_text bytes w w' v v' x y some h (subst (λ t. Writes live_run t v v' y) (sym same) i) k l
+-- a job of workers that gives one outcome of one text, and for the same picks one output
+pub record IsByPicks {F : Type 0} (job : JobView Ran F) : Type 0 where
+  pub outcome : (bytes : List ℕ) (r q : Ran) (x y : List ℕ) → Gives job bytes r x → Gives job bytes q y → r.outcome ≡ q.outcome
+  pub output : (bytes : List ℕ) (r q : Ran) (x y : List ℕ) → r.picks.items ≡ q.picks.items → Gives job bytes r x → Gives job bytes q y → x ≡ y
+  pub picks : (r : Ran) → job.has r → HasPicksWhereListed r.outcome r.picks.items
 
-same_made : (bytes w new new' : Option (List ℕ)) (r q : Ran) → r.picks.items ≡ q.picks.items → IsSome bytes → IsSome w → Writes live_run bytes w new r → Writes live_run bytes w new' q → new ≡ new'
-same_made None w new new' r q e some there h i = not_told some
-same_made (Some bytes) None new new' r q e some there h i = not_told there
-same_made (Some bytes) (Some was) new new' r q e some there h i =
-    let i' : Gives (run_for (by_workers r.picks.items)) bytes q.outcome i.0 = subst (λ ps. Gives (run_for (by_workers ps)) bytes q.outcome i.0) (sym e) i.1 in
-    appended was h.0 new h.2 ∙ ap (λ x. Some (was ++ x)) (one_run bytes (by_workers r.picks.items) r.outcome q.outcome h.0 i.0 h.1 i').1 ∙ sym (appended was i.0 new' i.2)
+one_live_output : (bytes : List ℕ) (r q : Ran) (x y : List ℕ) → r.picks.items ≡ q.picks.items → Gives live_run bytes r x → Gives live_run bytes q y → x ≡ y
+one_live_output bytes r q x y e h i =
+    let i' : Gives (run_for (by_workers r.picks.items)) bytes q.outcome y = subst (λ ps. Gives (run_for (by_workers ps)) bytes q.outcome y) (sym e) i in
+    (one_run bytes (by_workers r.picks.items) r.outcome q.outcome x y h i').1
 
-pub same_live_written : (bytes bytes' old old' new new' : Option (List ℕ)) (r q : Result Ran LiveFault) → bytes ≡ bytes' → old ≡ old' → SaysWritten live_run bytes old new r → SaysWritten live_run bytes' old' new' q
-    → IsSome bytes → IsSome old → MadeAlike r q → new ≡ new'
-same_live_written bytes bytes' old old' new new' (Ok x) (Ok y) e f h i some there made =
-    same_made bytes old new new' x y made some there h.done (subst (λ t. Writes live_run t old new' y) (sym e) (subst (λ w. Writes live_run bytes' w new' y) (sym f) i.done))
-same_live_written bytes bytes' old old' new new' (Ok x) (Err d) e f h i some there made = absurd made
-same_live_written bytes bytes' old old' new new' (Err b) (Ok y) e f h i some there made = absurd made
-same_live_written bytes bytes' old old' new new' (Err b) (Err d) e f h i some there made =
-    h.rest made.1 ∙ f ∙ sym (i.rest (subst (IsOfNoWrite live_end_of) made.0 made.1))
+pub live_by_picks : IsByPicks live_run
+live_by_picks = record {
+  outcome = λ bytes r q x y h i. one_outcome bytes r.picks.items q.picks.items r.outcome q.outcome x y h i;
+  output = one_live_output;
+  picks = λ r h. h;
+}
+
+module _ {F : Type 0} (job : JobView Ran F) (by : IsByPicks job) where
+  outcomes_of : (bytes w w' v v' : Option (List ℕ)) (r q : Ran) → IsSome bytes → Writes job bytes w w' r → Writes job bytes v v' q → job.has r → job.has q → AreOfOneText r q
+  outcomes_of None w w' v v' r q some h i k l = not_told some
+  outcomes_of (Some bytes) w w' v v' r q some h i k l = of_one_text r q (by.outcome bytes r q h.0 i.0 h.1 i.1) (by.picks r k) (by.picks q l)
+
+  pub same_live_outcome : (bytes bytes' w w' v v' : Option (List ℕ)) (r q : Result Ran F) → bytes ≡ bytes' → IfOk r (Writes job bytes w w') → IfOk r job.has → IfOk q (Writes job bytes' v v') → IfOk q job.has
+      → IsSome bytes → IfOk r (λ x. IfOk q (AreOfOneText x))
+  same_live_outcome bytes bytes' w w' v v' (Err e) q same h k i l some = tt
+  same_live_outcome bytes bytes' w w' v v' (Ok x) (Err e) same h k i l some = tt
+  same_live_outcome bytes bytes' w w' v v' (Ok x) (Ok y) same h k i l some = outcomes_of bytes w w' v v' x y some h (subst (λ t. Writes job t v v' y) (sym same) i) k l
+
+  same_made : (bytes w new new' : Option (List ℕ)) (r q : Ran) → r.picks.items ≡ q.picks.items → IsSome bytes → IsSome w → Writes job bytes w new r → Writes job bytes w new' q → new ≡ new'
+  same_made None w new new' r q e some there h i = not_told some
+  same_made (Some bytes) None new new' r q e some there h i = not_told there
+  same_made (Some bytes) (Some was) new new' r q e some there h i =
+      appended was h.0 new h.2 ∙ ap (λ x. Some (was ++ x)) (by.output bytes r q h.0 i.0 e h.1 i.1) ∙ sym (appended was i.0 new' i.2)
+
+  pub same_live_written : (bytes bytes' old old' new new' : Option (List ℕ)) (r q : Result Ran F) → bytes ≡ bytes' → old ≡ old' → SaysWritten job bytes old new r → SaysWritten job bytes' old' new' q
+      → IsSome bytes → IsSome old → MadeAlike job.end_of r q → new ≡ new'
+  same_live_written bytes bytes' old old' new new' (Ok x) (Ok y) e f h i some there made =
+      same_made bytes old new new' x y made some there h.done (subst (λ t. Writes job t old new' y) (sym e) (subst (λ w. Writes job bytes' w new' y) (sym f) i.done))
+  same_live_written bytes bytes' old old' new new' (Ok x) (Err d) e f h i some there made = absurd made
+  same_live_written bytes bytes' old old' new new' (Err b) (Ok y) e f h i some there made = absurd made
+  same_live_written bytes bytes' old old' new new' (Err b) (Err d) e f h i some there made =
+      h.rest made.1 ∙ f ∙ sym (i.rest (subst (IsOfNoWrite job.end_of) made.0 made.1))

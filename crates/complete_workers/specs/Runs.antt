@@ -1,14 +1,13 @@
 -- When two runs of one script are the same.
 use Rattle.std.specs.Prelude.{◌≡◌, ◌≢◌, ℕ, List, Option, Some, None, Result, Ok, Err, IfErr}
+use Rattle.std.specs.declared.vec.Vec.{Vec}
 use Rattle.tn_text.specs.declared.watched.Watched.{Watched}
 use Rattle.tn_refusal.specs.declared.refusal.Denial.{Denial}
 use Rattle.tn_refusal.specs.declared.refusal.Denial.TheVariants as denial
 use Rattle.tn_refusal.specs.declared.refusal.Refusal.{Refusal}
-use Rattle.tn_run.specs.Answers.{live_end_of}
 use Rattle.tn_run.specs.Jobs.{FailedEnd, no_end_failed, reader_failed, writer_failed}
 use Rattle.tn_run.specs.declared.outcome.Outcome.{Outcome}
 use Rattle.tn_run.specs.declared.outcome.Outcome.TheVariants.{Listed, Refused}
-use Rattle.tn_run.specs.declared.fault.LiveFault.{LiveFault}
 use Rattle.tn_run.specs.declared.live.Ran.{Ran}
 use Rattle.complete_workers.specs.Ends.{EndAlike, TellAlike, Knows}
 
@@ -45,15 +44,19 @@ LeaveAlike end_of known old one other r q = Knows known old → HasRead end_of r
 -- ---- runs by workers
 
 -- both answer the same picks; or the same fault, which is none of a write
-abbrev pub MadeAlike : Result Ran LiveFault → Result Ran LiveFault → Type 0
-MadeAlike (Ok r) (Ok q) = r.picks.items ≡ q.picks.items
-MadeAlike (Ok r) (Err e) = ⊥
-MadeAlike (Err e) (Ok q) = ⊥
-MadeAlike (Err e) (Err d) = (e ≡ d) × IsOfNoWrite live_end_of e
+abbrev pub MadeAlike : {F : Type 0} → (F → FailedEnd) → Result Ran F → Result Ran F → Type 0
+MadeAlike end_of (Ok r) (Ok q) = r.picks.items ≡ q.picks.items
+MadeAlike end_of (Ok r) (Err e) = ⊥
+MadeAlike end_of (Err e) (Ok q) = ⊥
+MadeAlike end_of (Err e) (Err d) = (e ≡ d) × IsOfNoWrite end_of e
 
 -- where both made the same, two writers that told their bytes tell the same ones
-abbrev pub RunAlike : {T : Type 0} → (T → Option (List ℕ)) → (old one other : Watched T) → Result Ran LiveFault → Result Ran LiveFault → Type 0
-RunAlike known old one other r q = Knows known old → MadeAlike r q → TellAlike known one other
+abbrev pub RunAlike : {T F : Type 0} → (F → FailedEnd) → (T → Option (List ℕ)) → (old one other : Watched T) → Result Ran F → Result Ran F → Type 0
+RunAlike end_of known old one other r q = Knows known old → MadeAlike end_of r q → TellAlike known one other
+
+-- where both made the same picks, their outputs are one
+abbrev pub OutputAlike : {A : Type 0} → Ran → (output : List ℕ) → Ran × Vec ℕ A → Type 0
+OutputAlike r output q = r.picks.items ≡ q.0.picks.items → output ≡ q.1.items
 
 -- the outcome is a refusal
 abbrev pub IsRefusedOutcome : Outcome → Type 0

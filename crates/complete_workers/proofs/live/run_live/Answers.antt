@@ -1,17 +1,17 @@
 use Rattle.std.proofs.Common.{inl}
 use Rattle.tn_run.specs.Answers.{live_run}
-use Rattle.complete_workers.proofs.SameRuns.{same_flushed, same_live_outcome, same_live_written, same_read_failed_by, same_run_left, same_write_failed_by, says_written}
+use Rattle.complete_workers.proofs.SameRuns.{live_by_picks, same_flushed, same_live_outcome, same_live_written, same_read_failed_by, same_run_left, same_write_failed_by, says_written}
 use Rattle.complete_workers.proofs.live.run_live.Goals as goal
 
 pub returns-clause-outcome : goal.returns-clause-outcome
 returns-clause-outcome g c =
     let one = c.run_live-first.ensures in
     let two = c.run_live-second.ensures in
-    same_live_outcome _ _ _ _ _ _ c.run_live-first.result c.run_live-second.result c.requires.reported one.written one.outcome two.written two.outcome
+    same_live_outcome live_run live_by_picks _ _ _ _ _ _ c.run_live-first.result c.run_live-second.result c.requires.reported one.written one.outcome two.written two.outcome
 
 pub returns-clause-written : goal.returns-clause-written
 returns-clause-written g c =
-    same_live_written _ _ _ _ _ _ c.run_live-first.result c.run_live-second.result c.requires.reported c.requires.outs.reported
+    same_live_written live_run live_by_picks _ _ _ _ _ _ c.run_live-first.result c.run_live-second.result c.requires.reported c.requires.outs.reported
     (says_written _ _ _ _ _ _ _ c.run_live-first.result c.run_live-first.ensures) (says_written _ _ _ _ _ _ _ c.run_live-second.result c.run_live-second.ensures)
 
 pub returns-clause-left : goal.returns-clause-left
