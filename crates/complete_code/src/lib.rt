@@ -1,8 +1,7 @@
 //! The contracts of tn_code, tn_compile, tn_machine, tn_mismatch, tn_difference, tn_reason and tn_verdict are complete.
 //!
-//! Each function calls one of theirs twice on equal values. It knows no more than the contract, so its proof shows
-//! that the contract leaves one answer. Depends on these seven crates and on the definitions that their contracts
-//! name; that code has one run is a law of def_machine, that a text spells one term a law of def_text.
+//! Each function calls one of theirs twice on equal values. It knows no more than the contract, so its proof shows that
+//! the contract leaves one answer. Depends on these seven crates, and on the laws of def_machine and def_text.
 #![tactic(auto)]
 
 mod clauses;

@@ -1,9 +1,8 @@
-//! The contracts of tn_term, tn_flags and tn_text are complete. Each function calls one of theirs twice
-//! on equal values. It knows no more than the contract, so its proof shows that the contract leaves one
-//! answer.
+//! The contracts of tn_term, tn_flags and tn_text are complete.
 //!
-//! Depends on the three crates, and on the laws of def_text, by which a text spells one term or has one
-//! refusal. Promises nothing to other crates.
+//! Each function calls one of theirs twice on equal values. It knows no more than the contract, so its proof shows that
+//! the contract leaves one answer. Depends on the three crates, and on the laws of def_text, by which a text spells one
+//! term or has one refusal.
 #![tactic(auto)]
 
 mod alive;

@@ -1,10 +1,8 @@
-//! Calls of the layers, as a library's user makes them, and what each of them answers, a line each.
+//! Calls of the layers, as a library's user makes them, and what each answers, a line each.
 //!
 //! The first word names a call, the second spells picks; standard input is a script. For `execute` it is a
-//! specification, the third word a list and the fourth a dialect. The test runs this program with each growth
-//! of memory refused in turn, and holds the lines against the answers that are allowed. Where a growth of the
-//! program's own is refused, which is before the first call, it writes nothing and ends with the status of a
-//! fault. Depends on the layers from tn_text to tn_run. It promises nothing but safety.
+//! specification, the third word a list, the fourth a dialect. Depends on the layers from tn_text to tn_run. It
+//! promises only safety.
 #![tactic(auto)]
 
 mod codes;
@@ -79,7 +77,8 @@ fn end_with_fault<R: Eprint>(rt: &R) -> ExitCode {
     ExitCode::from(3)
 }
 
-/// Reads what the layers are inputs, and calls the one that the words name: the exit status.
+/// Reads the inputs of the layers, and calls the one that the words name: the exit status. Where memory for the inputs
+/// is refused, which is before the first call, it is that of a fault, and standard output gets nothing.
 fn start<R: Env + Input + Print + Eprint + Threads + Wait + Sync + AllocGlobal>(
     rt: &R,
 ) -> ExitCode {
