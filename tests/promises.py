@@ -4,7 +4,8 @@
     tests/promises.py           says whether the tables are those of the crates
     tests/promises.py --write   writes them
 
-A crate opens with a comment: a paragraph on what it is for, and one on what it depends on and promises. Each is a cell.
+A crate opens with a comment: a paragraph on what it is for, and one on what it depends on and promises. Each is a cell,
+without the sentences that crates.txt says, and those that the page says once of all crates complete_*.
 """
 import re
 import sys
@@ -15,7 +16,22 @@ CHAPTERS = {
     "## Definitions: what is proved of them": ("def_",),
     "## Code: what the contracts say": ("tn_", "complete_"),
 }
-HEADER = ("| Crate | What it is for | What it depends on and promises |", "|---|---|---|")
+HEADER = ("| Crate | What it is for | What it promises |", "|---|---|---|")
+
+# Sentences that are in no cell.
+LEFT_OUT = re.compile(
+    r"(?:It d|D)epends on .*"
+    r"|Each function calls one of (?:theirs|its functions) twice on equal values\."
+    r"|It knows no more than the contract, so its proof shows that the contract leaves one answer[^.]*\."
+    r"|Promises nothing to other crates\."
+    r"|There is no code\."
+    r"|(?:All else|Everything else here) is definition, for (?:the crates|every crate) above\."
+)
+
+
+def cell(text):
+    """A paragraph of a comment without the sentences that are left out."""
+    return " ".join(each for each in re.split(r"(?<=\.) (?=[A-Z`])", text) if not LEFT_OUT.fullmatch(each))
 
 
 def table(prefixes):
@@ -24,7 +40,7 @@ def table(prefixes):
     for crate, _ in listed_crates():
         if crate.startswith(prefixes):
             first, *rest = comment_of(crate)
-            yield f"| `{crate}` | {first} | {' '.join(rest)} |".replace("  ", " ")
+            yield f"| `{crate}` | {cell(first)} | {cell(' '.join(rest))} |".replace("  ", " ")
 
 
 def written():
