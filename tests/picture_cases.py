@@ -95,6 +95,34 @@ def drawings():
         check(name, ran.returncode == 2 and not ran.stdout and ran.stderr, ran)
 
 
+# Two processes of which the first calls 51 functions, one inside the other, and returns from all.
+DEEP = b"".join(
+    [
+        *(b"{function,m,f%d,exported,[],[{call,'_',f%d,[]},{return,a}]}. " % (depth, depth + 1) for depth in range(50)),
+        b"{function,m,f50,exported,[],[{return,a}]}. {function,m,rest,exported,[],[{'receive','X'}]}. ",
+        b"{process,m,f0,[]}. {process,m,rest,[]}. ",
+        b"{control,[{session_create,s,t,[]},{process,s,all,true,[call]},{function,s,{m,'_','_'},true,[local]}]}.",
+    ]
+)
+
+
+def columns():
+    """Between the line of a process and that of the next one there is room for all of its frames, which are 8 apart."""
+    ran = run(["draw", "--moves", "0! 100! 101!"], DEEP)
+    picture = parsed("a picture of deep calls", ElementTree.fromstring, ran.stdout)
+    if picture is None:
+        return
+    lines = [int(text.get("x")) for text in picture.iter(f"{SVG}text") if text.get("text-anchor") == "middle"]
+    frames = [re.fullmatch(r"M(\d+) \d+(v-6l9 6l-9 6z|l9 -6v12z)", path.get("d")) for path in picture.iter(f"{SVG}path")]
+    starts = [int(frame[1]) for frame in frames if frame and frame[2][0] == "v"]
+    check("the lines of deep calls", len(lines) == 2, lines)
+    check("the frames of deep calls", {start - lines[0] for start in starts} >= set(range(8, 8 * 52, 8)), starts)
+    own = [start for start in starts if start < lines[1]]
+    check("a frame between two lines", len(own) == len(starts) - 1 and max(own) + 9 < lines[1] - 6, (own, lines))
+    texts = [(text.text, text.get("fill")) for text in picture.iter(f"{SVG}text") if (text.text or "").startswith("{trace,")]
+    check("the texts of calls", len(texts) == 103 and all((",call," in text) == (fill is None) for text, fill in texts), texts)
+
+
 def life_lines():
     """A process that is spawned has its column from its birth, and none after its exit; worked by hand."""
     ran = run(["draw", "--picks", "0 0 100 100 100 100 100", "--text"], FAMILY)

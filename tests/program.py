@@ -53,7 +53,7 @@ SUBJECTS = {
         text_cases.numbers_in_terms,
     ),
     "explanation": (explanation_cases.explanations, explanation_cases.limits, explanation_cases.differences),
-    "picture": (picture_cases.pictures, picture_cases.drawings, picture_cases.life_lines),
+    "picture": (picture_cases.pictures, picture_cases.drawings, picture_cases.life_lines, picture_cases.columns),
     "mistake": (mistake_cases.mistakes,),
     "specification": (
         specification_cases.trials,

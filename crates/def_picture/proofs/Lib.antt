@@ -1,3 +1,4 @@
 mod RowMessages
 mod Contents
 mod PictureRows
+mod Columns

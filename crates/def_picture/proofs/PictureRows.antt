@@ -8,7 +8,7 @@ use Rattle.def_script.specs.Program.{Command, Program, send, receive}
 use Rattle.def_run.proofs.Samples.{function, entry, program, creates, sets, lines}
 use Rattle.def_picture.specs.Picture.{Life, arrow, frame_start, column_of, picture_of}
 use Rattle.def_picture.specs.Templates.{fill, xml_text}
-use Rattle.def_picture.specs.Svg.{arrow_svg, shape_svg}
+use Rattle.def_picture.specs.Svg.{column_x, columns_end, arrow_svg, shape_svg, label_svg}
 use Rattle.def_picture.specs.Plain.{pad, life_cell, arrow_cell, mark_cell, shape_cell, cell_text, reporters_text, row_plain, session_plain, lives_plain, plain_text}
 
 -- ---- templates
@@ -27,7 +27,7 @@ names_of_bytes = refl
 -- ---- shapes
 
 abbrev two_lives : List Life
-two_lives = record { pid = 100; first = 0; last = 9 } ∷ record { pid = 101; first = 3; last = 9 } ∷ []
+two_lives = record { pid = 100; first = 0; last = 9; depth = 1 } ∷ record { pid = 101; first = 3; last = 9; depth = 20 } ∷ []
 
 -- a pid that no process has is right of the last
 unknown_column : column_of two_lives 7 ≡ 2
@@ -44,6 +44,15 @@ arrow_left = refl
 deeper_frame : shape_svg two_lives 104 (frame_start 101 2) ≡ codes "<path d=\"M206 104v-6l9 6l-9 6z\"/>"
 unfolding shape_svg fill digits
 deeper_frame = refl
+
+-- a column is as wide as the frame at depth 20 needs, but at least 110
+columns_of_two : (column_x two_lives 0 ≡ 80) × (column_x two_lives 1 ≡ 190) × (columns_end two_lives ≡ 390)
+columns_of_two = (refl, refl, refl)
+
+-- the text of a row that no session reports is grey
+grey_label : label_svg 250 104 [] ≡ codes "<text x=\"250\" y=\"108\" fill=\"#777\">"
+unfolding label_svg fill digits
+grey_label = refl
 
 -- ---- a run
 

@@ -1,13 +1,15 @@
 -- What is promised of pictures (own).
 -- Depends on pictures, on the history of a run and on listings.
-use Rattle.std.specs.Prelude.{◌≡◌, ◌≢◌, ℕ, zero, suc, ◌≤◌, List, [], ◌∷◌, map, flat_map, length, All}
+use Rattle.std.specs.Prelude.{◌≡◌, ◌≢◌, ℕ, zero, suc, ◌≤◌, ◌+◌, ◌*◌, List, [], ◌∷◌, ◌++◌, map, flat_map, length, All}
 use Rattle.def_term.specs.Names.{Name}
 use Rattle.def_term.specs.Text.{w}
 use Rattle.def_script.specs.Program.{Program}
 use Rattle.def_script.specs.Script.{creations}
 use Rattle.def_run.specs.Run.{events}
 use Rattle.def_run.specs.Listing.{messages}
-use Rattle.def_picture.specs.Picture.{Report, shape_of, label_of, rows_of, texts_in_rows}
+use Rattle.def_node.specs.Process.{FRAMES}
+use Rattle.def_picture.specs.Picture.{Life, Report, shape_of, label_of, rows_of, texts_in_rows}
+use Rattle.def_picture.specs.Svg.{column_width, columns_end}
 use Rattle.def_picture.specs.Templates.{xml_text}
 
 -- the name is that of the session at this place, from 0, and of none before it
@@ -32,6 +34,14 @@ PictureShowsSessionsAlone = (p : Program) (picks : List ℕ) → All (IsOfOneSes
 -- each event and command has a row, in their order
 abbrev pub PictureShowsTheEvents : Type 0
 PictureShowsTheEvents = (p : Program) (picks : List ℕ) → (map (λ r. r.shape) (rows_of p picks) ≡ map shape_of (events p picks)) × (map (λ r. r.label) (rows_of p picks) ≡ map label_of (events p picks))
+
+-- a frame of a process is left of the next column, with 40 pixels for its mark and what is beside it
+abbrev pub FrameIsInItsColumn : Type 0
+FrameIsInItsColumn = (l : Life) (d : ℕ) → d ≤ l.depth → d ≤ FRAMES → 8 * d + 40 ≤ column_width l
+
+-- where the column of one more process ends
+abbrev pub ColumnsAreSideBySide : Type 0
+ColumnsAreSideBySide = (ls : List Life) (l : Life) → columns_end (ls ++ l ∷ []) ≡ columns_end ls + column_width l
 
 -- a byte that has a name isn't in the content of an element
 abbrev pub IsContent : ℕ → Type 0

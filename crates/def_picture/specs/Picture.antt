@@ -1,6 +1,6 @@
 -- The picture of a run: its rows, the life lines of its processes, and the messages that its sessions report (own).
 -- Depends on the history of a run and on the text of terms. It knows nothing of where anything is drawn.
-use Rattle.std.specs.Prelude.{ℕ, suc, ◌==◌, Bool, false, List, [], ◌∷◌, ◌++◌, map, filter, flat_map, position, length, codes}
+use Rattle.std.specs.Prelude.{ℕ, suc, ◌==◌, max, Bool, false, if◌then◌else◌, List, [], ◌∷◌, ◌++◌, map, fold, filter, flat_map, position, length, codes}
 use Rattle.std.specs.Option.{unwrap_or}
 use Rattle.def_term.specs.Alive.{FIRST_PID}
 use Rattle.def_term.specs.Names.{Name}
@@ -96,11 +96,12 @@ moment_row m = row_at m.move m.before m.item
 
 -- ---- life lines
 
--- the life of a process: the rows of its birth and of its death, which are numbered from 0
+-- the life of a process: the rows of its birth and of its death, which are numbered from 0, and the depth of its deepest frame
 pub record Life : Type 0 where
   pub pid : ℕ
   pub first : ℕ
   pub last : ℕ
+  pub depth : ℕ
 
 -- the shape is the birth of this process
 abbrev pub is_birth : ℕ → Shape → Bool
@@ -112,12 +113,23 @@ abbrev pub is_death : ℕ → Shape → Bool
 is_death p (death q) = q == p
 is_death p _ = false
 
+-- the depth of the frame of this process that the shape starts or ends, or 0
+abbrev pub frame_depth : ℕ → Shape → ℕ
+frame_depth p (frame_start q depth) = if q == p then depth else 0
+frame_depth p (frame_end q depth) = if q == p then depth else 0
+frame_depth p _ = 0
+
+-- the depth of its deepest frame, 0 where it has none
+abbrev pub deepest_frame : List PictureRow → ℕ → ℕ
+deepest_frame rows p = fold (λ n r. max n (frame_depth p r.shape)) 0 rows
+
 -- a process that no row gives birth to lives from the start, and one that no row ends lives until the end
 abbrev pub life_of : List PictureRow → ℕ → Life
 life_of rows p = record {
   pid = p;
   first = unwrap_or (position (λ r. is_birth p r.shape) rows) 0;
   last = unwrap_or (position (λ r. is_death p r.shape) rows) (length rows);
+  depth = deepest_frame rows p;
 }
 
 -- the process that a row gives birth to

@@ -1,28 +1,41 @@
 -- The text of a picture as a graphic ("Scalable Vector Graphics 2").
 -- Depends on pictures and on templates. Lengths are in pixels; a process is a column, an event is a row.
-use Rattle.std.specs.Prelude.{ℕ, ◌+◌, ◌*◌, ◌==◌, nat_lt, max, if◌then◌else◌, List, [], ◌∷◌, ◌++◌, fold, flat_map, length, codes}
+use Rattle.std.specs.Prelude.{ℕ, ◌+◌, ◌*◌, ◌==◌, nat_lt, min, max, if◌then◌else◌, List, [], ◌∷◌, ◌++◌, take, map, sum, fold, flat_map, length, codes}
 use Rattle.def_term.specs.Names.{Name}
 use Rattle.def_term.specs.Text.{atom_text}
+use Rattle.def_node.specs.Process.{FRAMES}
 use Rattle.def_picture.specs.Picture.{Shape, arrow, frame_start, frame_end, birth, death, dot, command_line, Report, PictureRow, Life, Picture, column_of}
 use Rattle.def_picture.specs.Templates.{fill, each_numbered, xml_text}
 
 -- ---- places
 
--- the line of a column
-abbrev pub column_x : ℕ → ℕ
-column_x column = 80 + 110 * column
+-- the width of the column of a process: each frame is farther to the right of its line than the one that it was called by
+abbrev pub column_width : Life → ℕ
+column_width l = max 110 (8 * min l.depth FRAMES + 40)
+
+-- the line of the process in a column; that of the column after the last one is where the last one ends
+abbrev pub column_x : List Life → ℕ → ℕ
+column_x ls column = 80 + sum (map column_width (take column ls))
+
+-- the line of a process
+abbrev pub process_x : List Life → ℕ → ℕ
+process_x ls p = column_x ls (column_of ls p)
+
+-- where the columns end
+abbrev pub columns_end : List Life → ℕ
+columns_end ls = column_x ls (length ls)
 
 -- the line of a row, below the header, which has a line for each session
 abbrev pub row_y : (sessions row : ℕ) → ℕ
 row_y sessions row = 80 + 20 * sessions + 24 * row
 
 -- the line of a session's messages, right of the columns
-abbrev pub session_x : (columns session : ℕ) → ℕ
-session_x columns session = column_x columns + 20 * session
+abbrev pub session_x : List Life → (session : ℕ) → ℕ
+session_x ls session = columns_end ls + 20 * session
 
 -- where the labels begin
-abbrev pub label_x : (columns sessions : ℕ) → ℕ
-label_x columns sessions = session_x columns sessions + 20
+abbrev pub label_x : List Life → (sessions : ℕ) → ℕ
+label_x ls sessions = session_x ls sessions + 20
 
 -- the colour of a session is an angle of the circle of hues; neighbours are far apart
 abbrev pub hue_of : ℕ → ℕ
@@ -39,13 +52,13 @@ arrow_svg x1 x2 y =
 
 -- a shape at this height; the deeper a frame, the farther to the right
 unfoldable pub shape_svg : List Life → ℕ → Shape → List ℕ
-shape_svg ls y (arrow p q) = arrow_svg (column_x (column_of ls p)) (column_x (column_of ls q)) y
-shape_svg ls y (frame_start p d) = fill (codes "<path d=\"M@ @v-6l9 6l-9 6z\"/>") ((column_x (column_of ls p) + 8 * d) ∷ y ∷ [])
-shape_svg ls y (frame_end p d) = fill (codes "<path d=\"M@ @l9 -6v12z\"/>") ((column_x (column_of ls p) + 8 * d) ∷ y ∷ [])
-shape_svg ls y (birth p) = fill (codes "<circle cx=\"@\" cy=\"@\" r=\"6\"/>") (column_x (column_of ls p) ∷ y ∷ [])
-shape_svg ls y (death p) = fill (codes "<path d=\"M@ @m-6 -6l12 12m0 -12l-12 12\"/>") (column_x (column_of ls p) ∷ y ∷ [])
-shape_svg ls y (dot p) = fill (codes "<circle cx=\"@\" cy=\"@\" r=\"3\"/>") (column_x (column_of ls p) ∷ y ∷ [])
-shape_svg ls y command_line = fill (codes "<path d=\"M50 @H@\"/>") (y ∷ column_x (length ls) ∷ [])
+shape_svg ls y (arrow p q) = arrow_svg (process_x ls p) (process_x ls q) y
+shape_svg ls y (frame_start p d) = fill (codes "<path d=\"M@ @v-6l9 6l-9 6z\"/>") ((process_x ls p + 8 * d) ∷ y ∷ [])
+shape_svg ls y (frame_end p d) = fill (codes "<path d=\"M@ @l9 -6v12z\"/>") ((process_x ls p + 8 * d) ∷ y ∷ [])
+shape_svg ls y (birth p) = fill (codes "<circle cx=\"@\" cy=\"@\" r=\"6\"/>") (process_x ls p ∷ y ∷ [])
+shape_svg ls y (death p) = fill (codes "<path d=\"M@ @m-6 -6l12 12m0 -12l-12 12\"/>") (process_x ls p ∷ y ∷ [])
+shape_svg ls y (dot p) = fill (codes "<circle cx=\"@\" cy=\"@\" r=\"3\"/>") (process_x ls p ∷ y ∷ [])
+shape_svg ls y command_line = fill (codes "<path d=\"M50 @H@\"/>") (y ∷ columns_end ls ∷ [])
 
 -- ---- rows
 
@@ -54,12 +67,12 @@ unfoldable pub group_svg : (session : ℕ) → List ℕ
 group_svg session = fill (codes "<g fill=\"none\" stroke=\"hsl(@,90%,35%)\" stroke-width=\"2\"><title>") (hue_of session ∷ [])
 
 -- a spot on the line of a session, and the end of its group
-unfoldable pub spot_svg : (columns session y : ℕ) → List ℕ
-spot_svg columns session y = fill (codes "<circle cx=\"@\" cy=\"@\" r=\"4\" fill=\"hsl(@,90%,35%)\"/></g>\n") (session_x columns session ∷ y ∷ hue_of session ∷ [])
+unfoldable pub spot_svg : List Life → (session y : ℕ) → List ℕ
+spot_svg ls session y = fill (codes "<circle cx=\"@\" cy=\"@\" r=\"4\" fill=\"hsl(@,90%,35%)\"/></g>\n") (session_x ls session ∷ y ∷ hue_of session ∷ [])
 
 -- a message: the row's shape and a spot in the colour of the session, with the message as tooltip
 unfoldable pub report_svg : List Life → ℕ → Shape → Report → List ℕ
-report_svg ls y shape r = group_svg r.session ++ xml_text r.text ++ codes "</title>" ++ shape_svg ls y shape ++ spot_svg (length ls) r.session y
+report_svg ls y shape r = group_svg r.session ++ xml_text r.text ++ codes "</title>" ++ shape_svg ls y shape ++ spot_svg ls r.session y
 
 -- a shape that no session reports is dashed
 unfoldable pub dashed_svg : List Life → ℕ → Shape → List ℕ
@@ -69,14 +82,22 @@ dashed_svg ls y shape = codes "<g fill=\"none\" stroke=\"#777\" stroke-dasharray
 unfoldable pub marks_svg : List Life → ℕ → Shape → List Report → List ℕ
 marks_svg ls y shape rs = (if length rs == 0 then dashed_svg ls y shape else []) ++ flat_map (report_svg ls y shape) rs
 
--- the number of a move, and the start of the label beside it
-unfoldable pub move_svg : (columns sessions y move : ℕ) → List ℕ
-move_svg columns sessions y move = fill (codes "<text x=\"8\" y=\"@\">@</text><text x=\"@\" y=\"@\">") ((y + 4) ∷ move ∷ label_x columns sessions ∷ (y + 4) ∷ [])
+-- the number of a move
+unfoldable pub move_svg : (y move : ℕ) → List ℕ
+move_svg y move = fill (codes "<text x=\"8\" y=\"@\">@</text>") ((y + 4) ∷ move ∷ [])
+
+-- the start of a label of this height, which is grey where no session reports the row
+unfoldable pub label_svg : (x y : ℕ) → List Report → List ℕ
+label_svg x y rs =
+    if length rs == 0
+    then fill (codes "<text x=\"@\" y=\"@\" fill=\"#777\">") (x ∷ (y + 4) ∷ [])
+    else fill (codes "<text x=\"@\" y=\"@\">") (x ∷ (y + 4) ∷ [])
 
 -- a row: its marks, the number of its move and its label
 unfoldable pub row_svg : (sessions : ℕ) → List Life → ℕ → PictureRow → List ℕ
 row_svg sessions ls n row =
-    marks_svg ls (row_y sessions n) row.shape row.reports ++ move_svg (length ls) sessions (row_y sessions n) row.move ++ xml_text row.label ++ codes "</text>\n"
+    marks_svg ls (row_y sessions n) row.shape row.reports ++ move_svg (row_y sessions n) row.move
+    ++ label_svg (label_x ls sessions) (row_y sessions n) row.reports ++ xml_text row.label ++ codes "</text>\n"
 
 -- ---- the header
 
@@ -89,10 +110,10 @@ unfoldable pub session_svg : ℕ → Name → List ℕ
 session_svg n s = legend_svg n ++ xml_text (atom_text s) ++ codes "</text>\n"
 
 -- the pid of a process over its life line
-unfoldable pub life_svg : (sessions column : ℕ) → Life → List ℕ
-life_svg sessions column l =
+unfoldable pub life_svg : List Life → (sessions column : ℕ) → Life → List ℕ
+life_svg ls sessions column l =
     fill (codes "<text x=\"@\" y=\"@\" text-anchor=\"middle\">&lt;0.@.0&gt;</text><path d=\"M@ @V@\" stroke=\"#bbb\"/>\n")
-    (column_x column ∷ (50 + 20 * sessions) ∷ l.pid ∷ column_x column ∷ row_y sessions l.first ∷ row_y sessions l.last ∷ [])
+    (column_x ls column ∷ (50 + 20 * sessions) ∷ l.pid ∷ column_x ls column ∷ row_y sessions l.first ∷ row_y sessions l.last ∷ [])
 
 -- ---- the whole
 
@@ -102,7 +123,7 @@ longest_label rs = fold (λ n r. max n (length r.label)) 0 rs
 
 -- the width, with room for the longest label, of letters that are 8 pixels wide
 unfoldable pub width_of : Picture → ℕ
-width_of p = label_x (length p.lives) (length p.sessions) + 8 * longest_label p.rows
+width_of p = label_x p.lives (length p.sessions) + 8 * longest_label p.rows
 
 -- the height
 unfoldable pub height_of : Picture → ℕ
@@ -117,4 +138,4 @@ head_svg width height =
 abbrev pub svg_text : Picture → List ℕ
 svg_text p =
     let sessions : ℕ = length p.sessions in
-    head_svg (width_of p) (height_of p) ++ each_numbered session_svg 1 p.sessions ++ each_numbered (life_svg sessions) 0 p.lives ++ each_numbered (row_svg sessions p.lives) 0 p.rows ++ codes "</svg>\n"
+    head_svg (width_of p) (height_of p) ++ each_numbered session_svg 1 p.sessions ++ each_numbered (life_svg p.lives sessions) 0 p.lives ++ each_numbered (row_svg sessions p.lives) 0 p.rows ++ codes "</svg>\n"

@@ -28,7 +28,7 @@ picture_row_seen r = record { move = r.move_number; shape = row_shape_seen r.sha
 
 -- a life
 abbrev pub life_seen : Life → picture.Life
-life_seen l = record { pid = l.pid; first = l.first; last = l.last }
+life_seen l = record { pid = l.pid; first = l.first; last = l.last; depth = l.depth }
 
 -- a picture
 abbrev pub picture_seen : {A : Type 0} → Picture A → picture.Picture

@@ -2,19 +2,21 @@
 ghost use Rattle.std.specs.Prelude.{◌≡◌, ◌==◌, ◌<◌, ◌++◌, map, IfOk, OnOk, flat_map};
 ghost use Rattle.std.specs.List.{position};
 ghost use Rattle.def_run.specs.Round.{pass_from};
-ghost use Rattle.def_picture.specs.Picture.{births, is_birth, is_death, life_of, column_of, pids_of};
+ghost use Rattle.def_picture.specs.Picture.{births, is_birth, is_death, deepest_frame, life_of, column_of, pids_of};
 ghost use Rattle.tn_picture.specs.Views.{life_seen, picture_row_seen, row_shape_seen};
 
 use crate::row::Row;
 use crate::shape::Shape;
 use std::alloc::{AllocError, Allocator};
 
-/// The life of a process: the rows of its birth and of its death, which are numbered from 0.
+/// The life of a process: the rows of its birth and of its death, which are numbered from 0, and the depth of its
+/// deepest frame.
 #[derive(Clone, Copy, Drop)]
 pub struct Life {
     pub pid: u32,
     pub first: usize,
     pub last: usize,
+    pub depth: usize,
 }
 
 /// The row of the birth of a process.
@@ -29,6 +31,17 @@ fn death_row<A: Allocator>(rows: &[Row<A>], pid: u32) -> Option<usize>
     ensures { result ≡ position (λ r. is_death pid (row_shape_seen r.shape)) rows.now }
 {
     rows.iter().position(|row| row.shape.is_death(pid))
+}
+
+/// The depth of its deepest frame, 0 where it has none.
+fn deepest_frame<A: Allocator>(rows: &[Row<A>], pid: u32) -> usize
+    ensures { result ≡ deepest_frame (map picture_row_seen rows.now) pid }
+{
+    let mut deepest = 0;
+    for row in rows {
+        deepest = deepest.max(row.shape.frame_depth(pid));
+    }
+    deepest
 }
 
 /// The place of a process among these.
@@ -46,6 +59,7 @@ fn life_of<A: Allocator>(rows: &[Row<A>], pid: u32) -> Life
         pid,
         first: birth_row(rows, pid).unwrap_or(0),
         last: death_row(rows, pid).unwrap_or(rows.len()),
+        depth: deepest_frame(rows, pid),
     }
 }
 

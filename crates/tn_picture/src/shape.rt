@@ -28,7 +28,7 @@ pub enum Shape {
 
 impl Shape {
     ghost use Rattle.std.specs.Prelude.{◌≡◌};
-    ghost use Rattle.def_picture.specs.Picture.{is_birth, is_death};
+    ghost use Rattle.def_picture.specs.Picture.{is_birth, is_death, frame_depth};
     ghost use Rattle.tn_picture.specs.Views.{row_shape_seen};
 
     /// Whether it is the birth of this process.
@@ -38,6 +38,17 @@ impl Shape {
         match self {
             Shape::Birth { pid } => *pid == wanted,
             _ => false,
+        }
+    }
+
+    /// The depth of the frame of this process that it starts or ends, or 0.
+    pub(crate) fn frame_depth(&self, wanted: u32) -> usize
+        ensures { result ≡ frame_depth wanted (row_shape_seen self.now) }
+    {
+        match self {
+            Shape::FrameStart { pid, depth } if *pid == wanted => *depth,
+            Shape::FrameEnd { pid, depth } if *pid == wanted => *depth,
+            _ => 0,
         }
     }
 

@@ -1,9 +1,10 @@
 // The text of a picture as a graphic.
-ghost use Rattle.std.specs.Prelude.{◌≡◌, ◌++◌, ◌<◌, ◌^◌, OnOk, IfOk, codes, flat_map, length, map};
+ghost use Rattle.std.specs.Prelude.{◌≡◌, ◌++◌, ◌<◌, ◌≤◌, ◌*◌, ◌^◌, OnOk, IfOk, codes, flat_map, length, map, sum};
 ghost use Rattle.def_term.specs.Text.{atom_text};
-ghost use Rattle.def_picture.specs.Svg.{column_x, row_y, session_x, label_x, hue_of, longest_label};
+ghost use Rattle.def_picture.specs.Svg.{column_width, column_x, process_x, columns_end, row_y, session_x, label_x};
+ghost use Rattle.def_picture.specs.Svg.{hue_of, longest_label};
 ghost use Rattle.def_picture.specs.Svg.{arrow_svg, shape_svg, group_svg, spot_svg, report_svg, dashed_svg};
-ghost use Rattle.def_picture.specs.Svg.{marks_svg, move_svg, row_svg};
+ghost use Rattle.def_picture.specs.Svg.{marks_svg, move_svg, label_svg, row_svg};
 ghost use Rattle.def_picture.specs.Svg.{legend_svg, session_svg, life_svg, width_of, height_of, head_svg, svg_text};
 ghost use Rattle.def_picture.specs.Templates.{each_numbered};
 ghost use Rattle.tn_picture.specs.Views.{life_seen, report_seen, picture_row_seen, row_shape_seen, picture_seen};
@@ -19,19 +20,57 @@ use tn_text::write_atom;
 
 // ---- places
 
-/// The line of a column.
-fn column_x(column: usize) -> u128
-    ensures { result ≡ column_x column }
+/// How many frames a process has at most.
+const FRAMES: usize = 64;
+
+/// The width of the column of a process, with room for its deepest frame.
+fn column_width(life: &Life) -> u128
+    ensures width { result ≡ column_width (life_seen life.now) }
+    ensures fits { result ≤ 552 }
 {
-    80 + 110 * column as u128
+    let room = 8 * life.depth.min(FRAMES) + 40;
+    room.max(110) as u128
 }
 
-/// How many columns there are.
-#[tactic(auto, using(crate::proofs::Places::seen_count))]
-fn columns_of(lives: &[Life]) -> usize
-    ensures { result ≡ length (map life_seen lives.now) }
+/// The width of all columns.
+fn columns_width(lives: &[Life]) -> u128
+    ensures width { result ≡ sum (map column_width (map life_seen lives.now)) }
+    ensures fits { result ≤ 552 * length lives.now }
 {
-    lives.len()
+    let mut width = 0;
+    for life in lives {
+        width += column_width(life);
+    }
+    width
+}
+
+/// The line of the process in a column; that of the column after the last one is where the last one ends.
+fn column_x(lives: &[Life], column: usize) -> u128
+    ensures x { result ≡ column_x (map life_seen lives.now) column }
+    ensures fits { result < 2 ^ 80 }
+{
+    if column < lives.len() {
+        80 + columns_width(&lives[..column])
+    } else {
+        80 + columns_width(lives)
+    }
+}
+
+/// The line of a process.
+fn process_x(lives: &[Life], pid: u32) -> u128
+    ensures x { result ≡ process_x (map life_seen lives.now) pid }
+    ensures fits { result < 2 ^ 80 }
+{
+    column_x(lives, column_of(lives, pid))
+}
+
+/// Where the columns end.
+#[tactic(auto, using(crate::proofs::Places::seen_count))]
+fn columns_end(lives: &[Life]) -> u128
+    ensures x { result ≡ columns_end (map life_seen lives.now) }
+    ensures fits { result < 2 ^ 80 }
+{
+    column_x(lives, lives.len())
 }
 
 /// How many rows there are.
@@ -50,17 +89,19 @@ fn row_y(sessions: usize, row: usize) -> u128
 }
 
 /// The line of a session's messages.
-fn session_x(columns: usize, session: u64) -> u128
-    ensures { result ≡ session_x columns session }
+fn session_x(lives: &[Life], session: u64) -> u128
+    ensures x { result ≡ session_x (map life_seen lives.now) session }
+    ensures fits { result < 2 ^ 81 }
 {
-    column_x(columns) + 20 * session as u128
+    columns_end(lives) + 20 * session as u128
 }
 
 /// Where the labels begin.
-fn label_x(columns: usize, sessions: usize) -> u128
-    ensures { result ≡ label_x columns sessions }
+fn label_x(lives: &[Life], sessions: usize) -> u128
+    ensures x { result ≡ label_x (map life_seen lives.now) sessions }
+    ensures fits { result < 2 ^ 82 }
 {
-    session_x(columns, sessions as u64) + 20
+    session_x(lives, sessions as u64) + 20
 }
 
 /// The colour of a session.
@@ -102,32 +143,32 @@ fn put_shape<A: Allocator>(
 {
     match shape {
         Shape::Arrow { source, target } => {
-            let x1 = column_x(column_of(lives, source));
-            let x2 = column_x(column_of(lives, target));
+            let x1 = process_x(lives, source);
+            let x2 = process_x(lives, target);
             put_arrow(x1, x2, y, out)
         }
         Shape::FrameStart { pid, depth } => {
-            let x = column_x(column_of(lives, pid)) + 8 * depth as u128;
+            let x = process_x(lives, pid) + 8 * depth as u128;
             put_filled(b"<path d=\"M@ @v-6l9 6l-9 6z\"/>", &[x, y], out)
         }
         Shape::FrameEnd { pid, depth } => {
-            let x = column_x(column_of(lives, pid)) + 8 * depth as u128;
+            let x = process_x(lives, pid) + 8 * depth as u128;
             put_filled(b"<path d=\"M@ @l9 -6v12z\"/>", &[x, y], out)
         }
         Shape::Birth { pid } => {
-            let x = column_x(column_of(lives, pid));
+            let x = process_x(lives, pid);
             put_filled(b"<circle cx=\"@\" cy=\"@\" r=\"6\"/>", &[x, y], out)
         }
         Shape::Death { pid } => {
-            let x = column_x(column_of(lives, pid));
+            let x = process_x(lives, pid);
             put_filled(b"<path d=\"M@ @m-6 -6l12 12m0 -12l-12 12\"/>", &[x, y], out)
         }
         Shape::Dot { pid } => {
-            let x = column_x(column_of(lives, pid));
+            let x = process_x(lives, pid);
             put_filled(b"<circle cx=\"@\" cy=\"@\" r=\"3\"/>", &[x, y], out)
         }
         Shape::CommandLine => {
-            let x = column_x(columns_of(lives));
+            let x = columns_end(lives);
             put_filled(b"<path d=\"M50 @H@\"/>", &[y, x], out)
         }
     }
@@ -151,14 +192,14 @@ fn put_group<A: Allocator>(session: u64, out: &mut Vec<u8, A>) -> Result<(), All
 /// Appends a spot on the line of a session, and the end of its group.
 #[tactic(auto, unfolding(def_picture::specs::Svg::spot_svg))]
 fn put_spot<A: Allocator>(
-    columns: usize,
+    lives: &[Life],
     session: u64,
     y: u128,
     out: &mut Vec<u8, A>,
 ) -> Result<(), AllocError>
-    ensures { OnOk result (out.new.items ≡ out.old.items ++ spot_svg columns session y) }
+    ensures { OnOk result (out.new.items ≡ out.old.items ++ spot_svg (map life_seen lives.now) session y) }
 {
-    let x = session_x(columns, session);
+    let x = session_x(lives, session);
     let hue = hue_of(session);
     put_filled(
         b"<circle cx=\"@\" cy=\"@\" r=\"4\" fill=\"hsl(@,90%,35%)\"/></g>\n",
@@ -183,7 +224,7 @@ fn put_report<A: Allocator>(
     put_xml(&report.text, out)?;
     put_text(b"</title>", out)?;
     put_shape(lives, y, shape, out)?;
-    put_spot(columns_of(lives), report.session, y, out)
+    put_spot(lives, report.session, y, out)
 }
 
 /// Appends the messages of a row.
@@ -248,24 +289,39 @@ fn put_marks<A: Allocator>(
     put_reports(lives, y, shape, reports, out)
 }
 
-/// Appends the number of a move, and the start of the label beside it.
+/// Appends the number of a move.
 #[tactic(auto, unfolding(def_picture::specs::Svg::move_svg))]
 fn put_move<A: Allocator>(
-    columns: usize,
-    sessions: usize,
     y: u128,
     move_number: u64,
     out: &mut Vec<u8, A>,
 ) -> Result<(), AllocError>
     requires { y < 2 ^ 127 }
-    ensures { OnOk result (out.new.items ≡ out.old.items ++ move_svg columns sessions y move_number) }
+    ensures { OnOk result (out.new.items ≡ out.old.items ++ move_svg y move_number) }
 {
-    let x = label_x(columns, sessions);
     put_filled(
-        b"<text x=\"8\" y=\"@\">@</text><text x=\"@\" y=\"@\">",
-        &[y + 4, move_number as u128, x, y + 4],
+        b"<text x=\"8\" y=\"@\">@</text>",
+        &[y + 4, move_number as u128],
         out,
     )
+}
+
+/// Appends the start of a label, which is grey where no session reports the row.
+#[tactic(auto, unfolding(def_picture::specs::Svg::label_svg))]
+fn put_label_start<A: Allocator>(
+    x: u128,
+    y: u128,
+    reports: &[Report<A>],
+    out: &mut Vec<u8, A>,
+) -> Result<(), AllocError>
+    requires { y < 2 ^ 127 }
+    ensures { OnOk result (out.new.items ≡ out.old.items ++ label_svg x y (map report_seen reports.now)) }
+{
+    if reporters_of(reports) == 0 {
+        put_filled(b"<text x=\"@\" y=\"@\" fill=\"#777\">", &[x, y + 4], out)
+    } else {
+        put_filled(b"<text x=\"@\" y=\"@\">", &[x, y + 4], out)
+    }
 }
 
 /// Appends a row: its marks, the number of its move and its label.
@@ -282,7 +338,8 @@ fn put_row<A: Allocator>(
 {
     let y = row_y(sessions, number);
     put_marks(lives, y, row.shape, &row.reports, out)?;
-    put_move(columns_of(lives), sessions, y, row.move_number, out)?;
+    put_move(y, row.move_number, out)?;
+    put_label_start(label_x(lives, sessions), y, &row.reports, out)?;
     put_xml(&row.label, out)?;
     put_text(b"</text>\n", out)
 }
@@ -359,14 +416,16 @@ fn put_sessions<A: Allocator + Copy>(
 /// Appends the pid of a process over its life line.
 #[tactic(auto, unfolding(def_picture::specs::Svg::life_svg))]
 fn put_life<A: Allocator>(
+    lives: &[Life],
     sessions: usize,
     column: usize,
     life: &Life,
     out: &mut Vec<u8, A>,
 ) -> Result<(), AllocError>
-    ensures { OnOk result (out.new.items ≡ out.old.items ++ life_svg sessions column (life_seen life.now)) }
+    ensures { OnOk result (out.new.items ≡ out.old.items ++
+        life_svg (map life_seen lives.now) sessions column (life_seen life.now)) }
 {
-    let x = column_x(column);
+    let x = column_x(lives, column);
     put_filled(
         b"<text x=\"@\" y=\"@\" text-anchor=\"middle\">&lt;0.@.0&gt;</text><path d=\"M@ @V@\" stroke=\"#bbb\"/>\n",
         &[
@@ -388,10 +447,10 @@ fn put_lives<A: Allocator>(
     out: &mut Vec<u8, A>,
 ) -> Result<(), AllocError>
     ensures { OnOk result (out.new.items ≡ out.old.items ++
-        each_numbered (life_svg sessions) 0 (map life_seen lives.now)) }
+        each_numbered (life_svg (map life_seen lives.now) sessions) 0 (map life_seen lives.now)) }
 {
     for column in 0..lives.len() {
-        put_life(sessions, column, &lives[column], out)?;
+        put_life(lives, sessions, column, &lives[column], out)?;
     }
     Ok(())
 }
@@ -414,8 +473,7 @@ fn longest_label<A: Allocator>(rows: &[Row<A>]) -> usize
 fn width_of<A: Allocator>(picture: &Picture<A>) -> u128
     ensures { result ≡ width_of (picture_seen picture.now) }
 {
-    let columns = columns_of(&picture.lives);
-    label_x(columns, picture.sessions.len()) + 8 * longest_label(&picture.rows) as u128
+    label_x(&picture.lives, picture.sessions.len()) + 8 * longest_label(&picture.rows) as u128
 }
 
 /// The height.
