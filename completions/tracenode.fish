@@ -1,5 +1,10 @@
 # Completion of tracenode's command line for fish: this file lies in ~/.config/fish/completions.
 
+# Whether the command is the script of a checkout, which is named by its path.
+function __tracenode_is_checkout
+    string match -q '*/*' -- (commandline -opc)[1]
+end
+
 complete -c tracenode -n __fish_use_subcommand -f -a replay -d 'Run the script by the given picks or moves'
 complete -c tracenode -n __fish_use_subcommand -f -a round -d 'Run the script in rounds of all processes'
 complete -c tracenode -n __fish_use_subcommand -f -a workers -d 'Run the script by workers in threads'
@@ -7,10 +12,11 @@ complete -c tracenode -n __fish_use_subcommand -f -a explain -d 'Print why each 
 complete -c tracenode -n __fish_use_subcommand -f -a draw -d 'Print a sequence diagram of a run'
 complete -c tracenode -n __fish_use_subcommand -f -a spec -d 'Test one match specification on a list'
 complete -c tracenode -n __fish_use_subcommand -f -a help -d 'Print the help of a command'
+complete -c tracenode -n '__fish_seen_subcommand_from help' -f -a 'replay round workers explain draw spec'
 complete -c tracenode -n __fish_use_subcommand -s V -l version -d 'Print version'
-complete -c tracenode -n __fish_use_subcommand -l prove -d 'Prove and build the program, in its checkout'
-complete -c tracenode -n __fish_use_subcommand -l install -r -d 'Copy the program to a folder, from its checkout'
-complete -c tracenode -n __fish_use_subcommand -l release -r -d 'Put the program into an archive in a folder, from its checkout'
+complete -c tracenode -n '__fish_use_subcommand; and __tracenode_is_checkout' -l prove -d 'Prove and build the program'
+complete -c tracenode -n '__fish_use_subcommand; and __tracenode_is_checkout' -l install -r -d 'Copy the program to a folder'
+complete -c tracenode -n '__fish_use_subcommand; and __tracenode_is_checkout' -l release -r -d 'Put the program into an archive in a folder'
 complete -c tracenode -s h -l help -d 'Print help'
 complete -c tracenode -n '__fish_seen_subcommand_from replay' -l picks -x -d 'The picks'
 complete -c tracenode -n '__fish_seen_subcommand_from replay' -l picks-file -r -d 'The file of the picks'
