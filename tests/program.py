@@ -35,6 +35,7 @@ SUBJECTS = {
         run_cases.plain,
         run_cases.examples,
         run_cases.workers,
+        run_cases.seeds,
         run_cases.last_moves,
         run_cases.schedules,
         run_cases.full_journals,

@@ -152,6 +152,19 @@ def passes():
         wants(f"the passes of {name}", ran, 0, (row / "stdout").read_bytes())
 
 
+# Two processes that call a function 60 times each.
+CALLERS = """{{function,m,go,exported,[],[{calls}]}}. {{function,m,f,exported,[],[{{return,a}}]}}.
+{{process,m,go,[]}}. {{process,m,go,[]}}.
+""".format(calls=",".join(["{call,'_',f,[]}"] * 60))
+
+
+def seeds():
+    """Of 20 seeds at least five have different journals by two workers: each turn gives way as its seed says."""
+    runs = [run(["workers", "--n", "2", "--quiet", "--spread", str(seed)], CALLERS.encode()) for seed in range(20)]
+    journals = {ran.stdout.rpartition(b"== journal\n")[2] for ran in runs if ran.returncode == 0 and not ran.stderr}
+    check("seeds give different journals", len(journals) >= 5, (len(journals), runs[0]))
+
+
 def workers():
     """Each example by workers: the journal that is printed, replayed, gives the same bytes."""
     for script in sorted(EXAMPLES.glob("*.term")):
