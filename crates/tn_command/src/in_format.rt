@@ -18,7 +18,7 @@ pub struct InFormat<'a, J> {
 }
 
 /// The text in a format, or as it is where none is given.
-pub(crate) fn text_in_format<A: Allocator>(
+pub(crate) fn text_in_format<A: Allocator + Copy>(
     alloc: A,
     format: Option<Format>,
     text: Vec<u8, A>,

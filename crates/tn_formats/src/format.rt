@@ -26,7 +26,7 @@ pub enum Format {
 /// # Errors
 ///
 /// AllocError where memory was refused.
-pub fn in_format<A: Allocator>(
+pub fn in_format<A: Allocator + Copy>(
     alloc: A,
     format: Format,
     text: &[u8],

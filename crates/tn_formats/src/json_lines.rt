@@ -10,19 +10,19 @@ use crate::atom::{Section, section_of};
 use crate::lines::first_line;
 use crate::picks::{journal_line, put_picks};
 use crate::rows::{
-    Names, begin_row, end_row, put_line_row, put_made_row, put_message_row, put_move_row,
-    put_reply_row, put_session_row,
+    JsonText, Names, begin_row, end_row, no_rows, put_line_row, put_made_row, put_message_row,
+    put_move_row, put_reply_row, put_session_row,
 };
 use crate::section::{is_section_head, line_count, next_line};
 use std::alloc::{AllocError, Allocator};
 
 /// Appends a row for each message of a section.
 fn put_messages<A: Allocator>(
-    out: Vec<u8, A>,
+    out: JsonText<A>,
     names: Names<'_>,
     text: &[u8],
-) -> Result<Vec<u8, A>, AllocError>
-    ensures { IfOk result (λ v. v.items ≡ out.items ++ json_lines (numbered_rows
+) -> Result<JsonText<A>, AllocError>
+    ensures { IfOk result (λ v. v.lines.items ≡ out.lines.items ++ json_lines (numbered_rows
         (message_row names.entry.name.now names.entry.tracer.now) 1 (section_lines text.now))) }
 {
     let mut out = out;
@@ -37,9 +37,9 @@ fn put_messages<A: Allocator>(
 }
 
 /// Appends a row for each reply of a section.
-fn put_replies<A: Allocator>(out: Vec<u8, A>, text: &[u8]) -> Result<Vec<u8, A>, AllocError>
-    ensures { IfOk result (λ v. v.items ≡
-        out.items ++ json_lines (numbered_rows reply_row 1 (section_lines text.now))) }
+fn put_replies<A: Allocator>(out: JsonText<A>, text: &[u8]) -> Result<JsonText<A>, AllocError>
+    ensures { IfOk result (λ v. v.lines.items ≡
+        out.lines.items ++ json_lines (numbered_rows reply_row 1 (section_lines text.now))) }
 {
     let mut out = out;
     let mut number = 0;
@@ -53,23 +53,24 @@ fn put_replies<A: Allocator>(out: Vec<u8, A>, text: &[u8]) -> Result<Vec<u8, A>,
 }
 
 /// Appends the row of the journal.
-fn put_journal<A: Allocator>(out: Vec<u8, A>, text: &[u8]) -> Result<Vec<u8, A>, AllocError>
-    ensures { IfOk result (λ v. v.items ≡
-        out.items ++ json_line (journal_row (journal_picks (section_lines text.now)))) }
+fn put_journal<A: Allocator>(out: JsonText<A>, text: &[u8]) -> Result<JsonText<A>, AllocError>
+    ensures { IfOk result (λ v. v.lines.items ≡
+        out.lines.items ++ json_line (journal_row (journal_picks (section_lines text.now)))) }
 {
-    let mut writer = begin_row(out)?;
+    let JsonText { lines, row } = out;
+    let mut writer = begin_row(row)?;
     writer.key("journal")?;
     put_picks(&mut writer, journal_line(text))?;
-    end_row(writer)
+    end_row(lines, writer)
 }
 
 /// Appends the rows of a section, of its first line and the text after it.
 fn put_section<A: Allocator>(
-    out: Vec<u8, A>,
+    out: JsonText<A>,
     head: &[u8],
     text: &[u8],
-) -> Result<Vec<u8, A>, AllocError>
-    ensures { IfOk result (λ v. v.items ≡ out.items ++ section_json head.now (section_lines text.now)) }
+) -> Result<JsonText<A>, AllocError>
+    ensures { IfOk result (λ v. v.lines.items ≡ out.lines.items ++ section_json head.now (section_lines text.now)) }
 {
     match section_of(head) {
         Section::Session { name, tracer } => {
@@ -87,10 +88,13 @@ fn put_section<A: Allocator>(
 /// # Errors
 ///
 /// AllocError where memory was refused.
-pub(crate) fn output_json<A: Allocator>(alloc: A, output: &[u8]) -> Result<Vec<u8, A>, AllocError>
+pub(crate) fn output_json<A: Allocator + Copy>(
+    alloc: A,
+    output: &[u8],
+) -> Result<Vec<u8, A>, AllocError>
     ensures { IfOk result (λ v. v.items ≡ output_json output.now) }
 {
-    let mut out = Vec::new(alloc);
+    let mut out = no_rows(alloc);
     let mut rest = output;
     while !rest.is_empty() {
         let (line, after) = first_line(rest);
@@ -99,7 +103,7 @@ pub(crate) fn output_json<A: Allocator>(alloc: A, output: &[u8]) -> Result<Vec<u
         }
         rest = after;
     }
-    Ok(out)
+    Ok(out.lines)
 }
 
 /// Whether a line is of what a session makes of a move.
@@ -114,10 +118,13 @@ fn is_indented(line: &[u8]) -> bool
 /// # Errors
 ///
 /// AllocError where memory was refused.
-pub(crate) fn account_json<A: Allocator>(alloc: A, account: &[u8]) -> Result<Vec<u8, A>, AllocError>
+pub(crate) fn account_json<A: Allocator + Copy>(
+    alloc: A,
+    account: &[u8],
+) -> Result<Vec<u8, A>, AllocError>
     ensures { IfOk result (λ v. v.items ≡ account_json account.now) }
 {
-    let mut out = Vec::new(alloc);
+    let mut out = no_rows(alloc);
     let mut move_line: &[u8] = b"";
     let mut rest = account;
     while !rest.is_empty() {
@@ -130,7 +137,7 @@ pub(crate) fn account_json<A: Allocator>(alloc: A, account: &[u8]) -> Result<Vec
         }
         rest = after;
     }
-    Ok(out)
+    Ok(out.lines)
 }
 
 /// A text as JSON: a value for each of its lines.
@@ -138,10 +145,13 @@ pub(crate) fn account_json<A: Allocator>(alloc: A, account: &[u8]) -> Result<Vec
 /// # Errors
 ///
 /// AllocError where memory was refused.
-pub(crate) fn text_json<A: Allocator>(alloc: A, text: &[u8]) -> Result<Vec<u8, A>, AllocError>
+pub(crate) fn text_json<A: Allocator + Copy>(
+    alloc: A,
+    text: &[u8],
+) -> Result<Vec<u8, A>, AllocError>
     ensures { IfOk result (λ v. v.items ≡ text_json text.now) }
 {
-    let mut out = Vec::new(alloc);
+    let mut out = no_rows(alloc);
     let mut number = 0;
     let mut rest = text;
     while !rest.is_empty() {
@@ -150,5 +160,5 @@ pub(crate) fn text_json<A: Allocator>(alloc: A, text: &[u8]) -> Result<Vec<u8, A
         out = put_line_row(out, number, line)?;
         rest = after;
     }
-    Ok(out)
+    Ok(out.lines)
 }

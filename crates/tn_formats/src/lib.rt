@@ -1,8 +1,7 @@
 //! The formats of what a command writes, beside the plain one: the summary of an output, and JSON lines.
 //!
-//! Depends on the definitions of `def_formats` and on the kit's `json`, which writes each JSON value. Promises that
-//! `in_format` gives the text that is defined for a plain text and a format, and `first_line` the first line of a text
-//! and what is after it.
+//! Depends on def_formats and on the kit's `json`, which writes each JSON value. Promises that `in_format` gives the
+//! text that is defined for a plain text and a format, and `first_line` the first line of a text.
 #![tactic(auto)]
 
 mod atom;

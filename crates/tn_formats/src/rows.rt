@@ -13,25 +13,50 @@ use crate::values::{put_number_member, put_numeral_member, put_text_member};
 use json::Writer;
 use std::alloc::{AllocError, Allocator};
 
-/// Begins an object after what was written.
-pub(crate) fn begin_row<A: Allocator>(out: Vec<u8, A>) -> Result<Writer<A>, AllocError>
-    ensures before { IfOk result (λ w. w.before ≡ out.items) }
+/// Rows of JSON, each with its line feed, and the memory in which the next one is made.
+#[derive(Drop)]
+pub(crate) struct JsonText<A: Allocator> {
+    pub lines: Vec<u8, A>,
+    pub row: Vec<u8, A>,
+}
+
+/// No rows.
+pub(crate) fn no_rows<A: Allocator + Copy>(alloc: A) -> JsonText<A>
+    ensures { result.lines.items ≡ [] }
+{
+    JsonText {
+        lines: Vec::new(alloc),
+        row: Vec::new(alloc),
+    }
+}
+
+/// Begins an object in the memory of the row before it.
+pub(crate) fn begin_row<A: Allocator>(row: Vec<u8, A>) -> Result<Writer<A>, AllocError>
+    ensures before { IfOk result (λ w. w.before ≡ []) }
     ensures tokens { IfOk result (λ w. w.tokens ≡ begin_object ∷ []) }
 {
-    let mut writer = Writer::new(out);
+    let mut row = row;
+    row.clear();
+    let mut writer = Writer::new(row);
     writer.begin_object()?;
     Ok(writer)
 }
 
-/// Ends the object and its line.
-pub(crate) fn end_row<A: Allocator>(writer: Writer<A>) -> Result<Vec<u8, A>, AllocError>
-    ensures { IfOk result (λ v. v.items ≡ writer.before ++ (print (writer.tokens ++ end_object ∷ []) ++ 10 ∷ [])) }
+/// Ends the object, and appends it and a line feed to the rows before it.
+pub(crate) fn end_row<A: Allocator>(
+    lines: Vec<u8, A>,
+    writer: Writer<A>,
+) -> Result<JsonText<A>, AllocError>
+    ensures { IfOk result (λ v. v.lines.items ≡
+        lines.items ++ ((writer.before ++ print (writer.tokens ++ end_object ∷ [])) ++ 10 ∷ [])) }
 {
+    let mut lines = lines;
     let mut writer = writer;
     writer.end_object()?;
-    let mut out = writer.into_inner();
-    out.push(b'\n')?;
-    Ok(out)
+    let row = writer.into_inner();
+    lines.extend_from_slice(&row)?;
+    lines.push(b'\n')?;
+    Ok(JsonText { lines, row })
 }
 
 /// A session, by the texts of its name and of its tracer.
@@ -51,17 +76,18 @@ fn put_names<A: Allocator>(writer: &mut Writer<A>, names: Names<'_>) -> Result<(
 
 /// Appends the row of a session with so many messages.
 pub(crate) fn put_session_row<A: Allocator>(
-    out: Vec<u8, A>,
+    out: JsonText<A>,
     names: Names<'_>,
     count: usize,
-) -> Result<Vec<u8, A>, AllocError>
-    ensures { IfOk result (λ v. v.items ≡
-        out.items ++ json_line (session_row names.entry.name.now names.entry.tracer.now count)) }
+) -> Result<JsonText<A>, AllocError>
+    ensures { IfOk result (λ v. v.lines.items ≡
+        out.lines.items ++ json_line (session_row names.entry.name.now names.entry.tracer.now count)) }
 {
-    let mut writer = begin_row(out)?;
+    let JsonText { lines, row } = out;
+    let mut writer = begin_row(row)?;
     put_names(&mut writer, names)?;
     put_number_member(&mut writer, "messages", count)?;
-    end_row(writer)
+    end_row(lines, writer)
 }
 
 /// Writes the members of a message after those that name its session.
@@ -81,46 +107,49 @@ fn put_message<A: Allocator>(
 
 /// Appends the row of a message.
 pub(crate) fn put_message_row<A: Allocator>(
-    out: Vec<u8, A>,
+    out: JsonText<A>,
     names: Names<'_>,
     number: usize,
     line: &[u8],
-) -> Result<Vec<u8, A>, AllocError>
-    ensures { IfOk result (λ v. v.items ≡
-        out.items ++ json_line (message_row names.entry.name.now names.entry.tracer.now number line.now)) }
+) -> Result<JsonText<A>, AllocError>
+    ensures { IfOk result (λ v. v.lines.items ≡
+        out.lines.items ++ json_line (message_row names.entry.name.now names.entry.tracer.now number line.now)) }
 {
-    let mut writer = begin_row(out)?;
+    let JsonText { lines, row } = out;
+    let mut writer = begin_row(row)?;
     put_names(&mut writer, names)?;
     put_message(&mut writer, number, line)?;
-    end_row(writer)
+    end_row(lines, writer)
 }
 
 /// Appends the row of a reply.
 pub(crate) fn put_reply_row<A: Allocator>(
-    out: Vec<u8, A>,
+    out: JsonText<A>,
     number: usize,
     line: &[u8],
-) -> Result<Vec<u8, A>, AllocError>
-    ensures { IfOk result (λ v. v.items ≡ out.items ++ json_line (reply_row number line.now)) }
+) -> Result<JsonText<A>, AllocError>
+    ensures { IfOk result (λ v. v.lines.items ≡ out.lines.items ++ json_line (reply_row number line.now)) }
 {
-    let mut writer = begin_row(out)?;
+    let JsonText { lines, row } = out;
+    let mut writer = begin_row(row)?;
     put_number_member(&mut writer, "reply", number)?;
     put_text_member(&mut writer, "text", line)?;
-    end_row(writer)
+    end_row(lines, writer)
 }
 
 /// Appends the row of a line.
 pub(crate) fn put_line_row<A: Allocator>(
-    out: Vec<u8, A>,
+    out: JsonText<A>,
     number: usize,
     line: &[u8],
-) -> Result<Vec<u8, A>, AllocError>
-    ensures { IfOk result (λ v. v.items ≡ out.items ++ json_line (line_row number line.now)) }
+) -> Result<JsonText<A>, AllocError>
+    ensures { IfOk result (λ v. v.lines.items ≡ out.lines.items ++ json_line (line_row number line.now)) }
 {
-    let mut writer = begin_row(out)?;
+    let JsonText { lines, row } = out;
+    let mut writer = begin_row(row)?;
     put_number_member(&mut writer, "line", number)?;
     put_text_member(&mut writer, "text", line)?;
-    end_row(writer)
+    end_row(lines, writer)
 }
 
 /// What the line of a move says: its number, its pick and what it shows.
@@ -158,28 +187,30 @@ fn put_move<A: Allocator>(writer: &mut Writer<A>, parts: MoveParts<'_>) -> Resul
 
 /// Appends the row of a move.
 pub(crate) fn put_move_row<A: Allocator>(
-    out: Vec<u8, A>,
+    out: JsonText<A>,
     line: &[u8],
-) -> Result<Vec<u8, A>, AllocError>
-    ensures { IfOk result (λ v. v.items ≡ out.items ++ json_line (move_row line.now)) }
+) -> Result<JsonText<A>, AllocError>
+    ensures { IfOk result (λ v. v.lines.items ≡ out.lines.items ++ json_line (move_row line.now)) }
 {
-    let mut writer = begin_row(out)?;
+    let JsonText { lines, row } = out;
+    let mut writer = begin_row(row)?;
     put_move(&mut writer, move_parts(line))?;
-    end_row(writer)
+    end_row(lines, writer)
 }
 
 /// Appends the row of what a session makes of a move.
 pub(crate) fn put_made_row<A: Allocator>(
-    out: Vec<u8, A>,
+    out: JsonText<A>,
     move_line: &[u8],
     line: &[u8],
-) -> Result<Vec<u8, A>, AllocError>
-    ensures { IfOk result (λ v. v.items ≡ out.items ++ json_line (made_row move_line.now line.now)) }
+) -> Result<JsonText<A>, AllocError>
+    ensures { IfOk result (λ v. v.lines.items ≡ out.lines.items ++ json_line (made_row move_line.now line.now)) }
 {
     let (name, said) = cut_atom(without_front(line, 2), 2);
-    let mut writer = begin_row(out)?;
+    let JsonText { lines, row } = out;
+    let mut writer = begin_row(row)?;
     put_move(&mut writer, move_parts(move_line))?;
     put_text_member(&mut writer, "session", name)?;
     put_text_member(&mut writer, "line", said)?;
-    end_row(writer)
+    end_row(lines, writer)
 }

@@ -5,7 +5,7 @@ use Rattle.tn_formats.proofs.json_lines.put_replies.Given as goal
 
 -- what was written and the rows of what is left are the rows of all
 abbrev pub invariant-loop-line : goal.invariant-loop-line
-invariant-loop-line g l = (l.out.items ++ json_lines (numbered_rows reply_row (l.number + 1) (section_lines l.rest)) ≡ l.fn.out.items ++ json_lines (numbered_rows reply_row 1 (section_lines l.text))) × (l.number + length l.rest ≤ length l.text)
+invariant-loop-line g l = (l.out.lines.items ++ json_lines (numbered_rows reply_row (l.number + 1) (section_lines l.rest)) ≡ l.fn.out.lines.items ++ json_lines (numbered_rows reply_row 1 (section_lines l.text))) × (l.number + length l.rest ≤ length l.text)
 
 abbrev pub decreases-loop-line : goal.decreases-loop-line
 decreases-loop-line g l = length l.rest
