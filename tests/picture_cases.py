@@ -119,8 +119,9 @@ def columns():
     check("the frames of deep calls", {start - lines[0] for start in starts} >= set(range(8, 8 * 52, 8)), starts)
     own = [start for start in starts if start < lines[1]]
     check("a frame between two lines", len(own) == len(starts) - 1 and max(own) + 9 < lines[1] - 6, (own, lines))
+    # 52 calls, 51 returns and an exit
     texts = [(text.text, text.get("fill")) for text in picture.iter(f"{SVG}text") if (text.text or "").startswith("{trace,")]
-    check("the texts of calls", len(texts) == 103 and all((",call," in text) == (fill is None) for text, fill in texts), texts)
+    check("the texts of calls", len(texts) == 104 and all((",call," in text) == (fill is None) for text, fill in texts), texts)
 
 
 def life_lines():
