@@ -1,7 +1,7 @@
 -- The first place of what is seen in another way, and one more process of a pass.
-use Rattle.std.proofs.Common.{◌≡◌, ℕ, suc, ◌+◌, ◌-◌, ◌<◌, nat_lt, Bool, not, cond, List, [], ◌∷◌, ◌++◌, length, map, Some, None, refl, ap, ap₂, sym, ◌∙◌, append_assoc, arith}
+use Rattle.std.proofs.Common.{◌≡◌, ℕ, suc, ◌+◌, ◌-◌, ◌<◌, nat_lt, Bool, not, cond, List, [], ◌∷◌, ◌++◌, length, map, take, Some, None, refl, ap, ap₂, sym, ◌∙◌, append_assoc, arith}
 use Rattle.std.specs.List.{position, prefix_len}
-use Rattle.std.proofs.lemmas.List.{map-append, length-map}
+use Rattle.std.proofs.lemmas.List.{map-append, length-map, take-map}
 use Rattle.def_run.specs.Round.{pass_from}
 
 prefix-seen : {X Y : Type 0} (v : X → Y) (test : Y → Bool) (xs : List X) → prefix_len (λ x. not (test (v x))) xs ≡ prefix_len (λ y. not (test y)) (map v xs)
@@ -21,3 +21,6 @@ one-more v xs x ys = ap (λ l. l ++ ys) (map-append v xs (x ∷ [])) ∙ append_
 
 pub seen_count : {X Y : Type 0} (v : X → Y) (xs : List X) → length (map v xs) ≡ length xs
 seen_count v xs = length-map xs v
+
+pub seen_front : {X Y : Type 0} (v : X → Y) (n : ℕ) (xs : List X) → take n (map v xs) ≡ map v (take n xs)
+seen_front v n xs = take-map v n xs

@@ -45,6 +45,7 @@ fn columns_width(lives: &[Life]) -> u128
 }
 
 /// The line of the process in a column; that of the column after the last one is where the last one ends.
+#[tactic(auto, using(crate::proofs::Places::seen_front))]
 fn column_x(lives: &[Life], column: usize) -> u128
     ensures x { result ≡ column_x (map life_seen lives.now) column }
     ensures fits { result < 2 ^ 80 }
@@ -291,11 +292,7 @@ fn put_marks<A: Allocator>(
 
 /// Appends the number of a move.
 #[tactic(auto, unfolding(def_picture::specs::Svg::move_svg))]
-fn put_move<A: Allocator>(
-    y: u128,
-    move_number: u64,
-    out: &mut Vec<u8, A>,
-) -> Result<(), AllocError>
+fn put_move<A: Allocator>(y: u128, move_number: u64, out: &mut Vec<u8, A>) -> Result<(), AllocError>
     requires { y < 2 ^ 127 }
     ensures { OnOk result (out.new.items ≡ out.old.items ++ move_svg y move_number) }
 {
