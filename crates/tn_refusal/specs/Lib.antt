@@ -1,3 +1,7 @@
+pub mod ShapeReasons
+pub mod RuleViews
+pub mod PickViews
+pub mod TextViews
 pub mod Starts
 pub mod Skims
 pub mod Pieces
@@ -5,5 +9,6 @@ pub mod RefusedItems
 pub mod Refusals
 pub mod Words
 pub mod Locations
+pub mod Details
 pub mod Lines
 pub mod Laws

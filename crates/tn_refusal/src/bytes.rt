@@ -1,4 +1,5 @@
 // Parts of a text, and how long the runs at a front are.
+ghost use Rattle.std.specs.Prelude.{◌≡◌, take};
 
 /// The bytes from an offset on.
 pub fn rest_at(text: &[u8], at: usize) -> &[u8] {
@@ -10,7 +11,9 @@ pub fn rest_at(text: &[u8], at: usize) -> &[u8] {
 }
 
 /// The first bytes, so many or all.
-pub fn first_bytes(bytes: &[u8], len: usize) -> &[u8] {
+pub fn first_bytes(bytes: &[u8], len: usize) -> &[u8]
+    ensures { result.now ≡ take len bytes.now }
+{
     if len < bytes.len() {
         &bytes[..len]
     } else {

@@ -1,7 +1,13 @@
 // The functions that forms declare and name.
-use crate::put::Detail;
+ghost use Rattle.std.specs.Prelude.{◌≡◌, ◌++◌, OnOk};
+ghost use Rattle.def_wording.specs.RuleTexts.{function_text, declared_too, rule_reason_text};
+ghost use Rattle.def_script.specs.Program.{mfa_of};
+ghost use Rattle.tn_script.specs.Views.{function_of};
+ghost use Rattle.tn_refusal.specs.RuleViews.{callee_seen};
+
+use crate::put::{put_atom, put_number};
 use crate::refusal::Refusal;
-use std::alloc::Allocator;
+use std::alloc::{AllocError, Allocator};
 use tn_script::{Entry, Form, Function, Step};
 use tn_term::Atom;
 
@@ -25,7 +31,9 @@ enum DeclarationMatch {
 }
 
 /// The function that is declared.
-pub fn declared_by<A: Allocator>(function: &Function<A>) -> Callee<'_, A> {
+pub fn declared_by<A: Allocator>(function: &Function<A>) -> Callee<'_, A>
+    ensures { callee_seen result ≡ mfa_of (function_of function.now) }
+{
     Callee {
         home: &function.module,
         name: &function.name,
@@ -33,11 +41,17 @@ pub fn declared_by<A: Allocator>(function: &Function<A>) -> Callee<'_, A> {
     }
 }
 
-/// Appends words, and a function as `M:F/N`.
-pub fn put_callee<A: Allocator>(out: &mut Detail<A>, words: &[u8], callee: &Callee<'_, A>) {
-    out.atom(words, callee.home);
-    out.atom(b":", callee.name);
-    out.number(b"/", callee.arity);
+/// Appends words, and a function as `M:F/N`; after an `Err` a part of it may be there.
+pub fn put_callee<A: Allocator>(
+    words: &[u8],
+    callee: &Callee<'_, A>,
+    out: &mut Vec<u8, A>,
+) -> Result<(), AllocError>
+    ensures { OnOk result (out.new.items ≡ out.old.items ++ words.now ++ function_text (callee_seen callee.now)) }
+{
+    put_atom(words, callee.home, out)?;
+    put_atom(b":", callee.name, out)?;
+    put_number(b"/", callee.arity, out)
 }
 
 /// Whether this declares it so.
@@ -129,78 +143,98 @@ fn callee_of<'a, A: Allocator>(
 }
 
 /// Appends the numbers of parameters with which the forms declare it, with `or` between them.
-fn put_arities<A: Allocator>(out: &mut Detail<A>, forms: &[Form<A>], callee: &Callee<'_, A>) {
+fn put_arities<A: Allocator>(
+    forms: &[Form<A>],
+    callee: &Callee<'_, A>,
+    out: &mut Vec<u8, A>,
+) -> Result<(), AllocError> {
     let mut between: &[u8] = b" is declared with ";
     for form in forms {
         if let Form::Function(function) = form {
             if declares(function, DeclarationMatch::Named, callee) {
-                out.number(between, function.params.len());
+                put_number(between, function.params.len(), out)?;
                 between = b" or ";
             }
         }
     }
-    out.words(b" arguments");
+    out.extend_from_slice(b" arguments")
 }
 
 /// Appends a function that is named, and why that breaks the rule.
 fn put_wrong<A: Allocator>(
-    out: &mut Detail<A>,
     refusal: Refusal,
     forms: &[Form<A>],
     callee: &Callee<'_, A>,
-) {
-    put_callee(out, b": function ", callee);
+    out: &mut Vec<u8, A>,
+) -> Result<(), AllocError> {
+    put_callee(b": function ", callee, out)?;
     match refusal {
-        Refusal::NotExported { .. } => out.words(b" is internal"),
-        Refusal::Arity { .. } => put_arities(out, forms, callee),
-        _ => {}
+        Refusal::NotExported { .. } => out.extend_from_slice(b" is internal"),
+        Refusal::Arity { .. } => put_arities(forms, callee, out),
+        _ => Ok(()),
     }
 }
 
 /// Appends the first function that a step names and that breaks the rule, and in which step.
 pub fn put_named<A: Allocator>(
-    out: &mut Detail<A>,
     refusal: Refusal,
     forms: &[Form<A>],
     function: &Function<A>,
-) {
+    out: &mut Vec<u8, A>,
+) -> Result<(), AllocError> {
     for (i, step) in function.steps.iter().enumerate() {
         if let Some(callee) = callee_of(refusal, function, step) {
             if breaks(refusal, forms, &callee) {
-                put_wrong(out, refusal, forms, &callee);
-                out.number(b", in step ", i + 1);
-                return;
+                put_wrong(refusal, forms, &callee, out)?;
+                return put_number(b", in step ", i + 1, out);
             }
         }
     }
+    Ok(())
 }
 
 /// Appends the function that a process starts with, and why that breaks the rule.
 pub fn put_started<A: Allocator>(
-    out: &mut Detail<A>,
     refusal: Refusal,
     forms: &[Form<A>],
     entry: &Entry<A>,
-) {
+    out: &mut Vec<u8, A>,
+) -> Result<(), AllocError> {
     let callee = Callee {
         home: &entry.module,
         name: &entry.name,
         arity: entry.args.terms.len(),
     };
-    put_wrong(out, refusal, forms, &callee);
+    put_wrong(refusal, forms, &callee, out)
+}
+
+/// Appends a function, and the number of a form that declares it too; after an `Err` a part of it may be there.
+fn put_declared_too<A: Allocator>(
+    callee: &Callee<'_, A>,
+    form: usize,
+    out: &mut Vec<u8, A>,
+) -> Result<(), AllocError>
+    ensures { OnOk result (out.new.items
+        ≡ out.old.items ++ rule_reason_text (declared_too (callee_seen callee.now) form)) }
+{
+    put_callee(b": function ", callee, out)?;
+    put_number(b", in form ", form, out)?;
+    out.extend_from_slice(b" too")
 }
 
 /// Appends the function, where an earlier form declares it too.
-pub fn put_again<A: Allocator>(out: &mut Detail<A>, earlier: &[Form<A>], function: &Function<A>) {
+pub fn put_again<A: Allocator>(
+    earlier: &[Form<A>],
+    function: &Function<A>,
+    out: &mut Vec<u8, A>,
+) -> Result<(), AllocError> {
     let callee = declared_by(function);
     for (i, form) in earlier.iter().enumerate() {
         if let Form::Function(other) = form {
             if declares(other, DeclarationMatch::Exact, &callee) {
-                put_callee(out, b": function ", &callee);
-                out.number(b", in form ", i + 1);
-                out.words(b" too");
-                return;
+                return put_declared_too(&callee, i + 1, out);
             }
         }
     }
+    Ok(())
 }

@@ -1,6 +1,11 @@
 // What stands at a place of a text.
+ghost use Rattle.std.specs.Prelude.{◌≡◌, ◌++◌, OnOk};
+ghost use Rattle.def_wording.specs.ShownTexts.{shown_text};
+ghost use Rattle.def_wording.specs.SyntaxTexts.{thing_words, byte_text, quoted_text, thing_text};
+ghost use Rattle.tn_refusal.specs.TextViews.{thing_seen};
+
 use crate::bytes::{begins_with_digit, byte_at, first_bytes, last_digits_len, rest_at};
-use crate::put::Detail;
+use crate::put::{put_number, put_shown};
 use std::alloc::{AllocError, Allocator};
 use tn_text::{TextFault, digits_len, name_len, quoted_len, tokens};
 
@@ -167,12 +172,15 @@ pub fn found_at<A: Allocator>(
 }
 
 /// The words for what it is, before its bytes.
-fn words_for(thing: Thing) -> &'static [u8] {
+fn words_for(thing: Thing) -> &'static [u8]
+    ensures { result.now ≡ thing_words (thing_seen thing) }
+{
     match thing {
         Thing::End => b"the end of the text",
         Thing::Variable => b"the variable ",
         Thing::Reserved => b"the reserved word ",
-        Thing::Atom | Thing::Quoted => b"the atom ",
+        Thing::Atom => b"the atom ",
+        Thing::Quoted => b"the atom ",
         Thing::Unquoted => b"a quoted atom that is not closed",
         Thing::Number => b"the number ",
         Thing::Characters => b"the string ",
@@ -188,25 +196,54 @@ fn words_for(thing: Thing) -> &'static [u8] {
     }
 }
 
-/// Appends words, and what it is: a byte by its number, and marks in quotes.
-pub fn put_found<A: Allocator>(out: &mut Detail<A>, words: &[u8], found: TextItem<'_>) {
-    out.words(words);
-    match found.thing {
-        Thing::Byte => {
-            if let Some(b) = byte_at(found.bytes, 0) {
-                out.number(b"the byte ", b as usize);
-            }
-        }
-        Thing::Open
-        | Thing::Close
-        | Thing::Comma
-        | Thing::Bar
-        | Thing::Hash
-        | Thing::Angle
-        | Thing::Location => {
-            out.cut(b"'", found.bytes);
-            out.words(b"'");
-        }
-        thing => out.cut(words_for(thing), found.bytes),
+/// Appends a byte by its number, where there is one; after an `Err` a part of the text may be there.
+fn put_byte<A: Allocator>(bytes: &[u8], out: &mut Vec<u8, A>) -> Result<(), AllocError>
+    ensures { OnOk result (out.new.items ≡ out.old.items ++ byte_text bytes.now) }
+{
+    match bytes.first() {
+        Some(b) => put_number(b"the byte ", *b as usize, out),
+        None => Ok(()),
+    }
+}
+
+/// Appends a mark in quotes; after an `Err` a part of the text may be there.
+fn put_quoted<A: Allocator>(bytes: &[u8], out: &mut Vec<u8, A>) -> Result<(), AllocError>
+    ensures { OnOk result (out.new.items ≡ out.old.items ++ quoted_text bytes.now) }
+{
+    out.extend_from_slice(b"'")?;
+    put_shown(bytes, out)?;
+    out.extend_from_slice(b"'")
+}
+
+/// Appends what it is, and its bytes; after an `Err` a part of the text may be there.
+fn put_worded<A: Allocator>(
+    thing: Thing,
+    bytes: &[u8],
+    out: &mut Vec<u8, A>,
+) -> Result<(), AllocError>
+    ensures { OnOk result (out.new.items ≡ out.old.items ++ thing_words (thing_seen thing) ++ shown_text bytes.now) }
+{
+    out.extend_from_slice(words_for(thing))?;
+    put_shown(bytes, out)
+}
+
+/// Appends what it is: a byte by its number, and marks in quotes; after an `Err` a part of the text may be there.
+pub fn put_thing<A: Allocator>(
+    thing: Thing,
+    bytes: &[u8],
+    out: &mut Vec<u8, A>,
+) -> Result<(), AllocError>
+    ensures { OnOk result (out.new.items ≡ out.old.items ++ thing_text (thing_seen thing) bytes.now) }
+{
+    match thing {
+        Thing::Byte => put_byte(bytes, out),
+        Thing::Open => put_quoted(bytes, out),
+        Thing::Close => put_quoted(bytes, out),
+        Thing::Comma => put_quoted(bytes, out),
+        Thing::Bar => put_quoted(bytes, out),
+        Thing::Hash => put_quoted(bytes, out),
+        Thing::Angle => put_quoted(bytes, out),
+        Thing::Location => put_quoted(bytes, out),
+        thing => put_worded(thing, bytes, out),
     }
 }

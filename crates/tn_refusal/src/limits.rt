@@ -1,9 +1,14 @@
 // Which limit on scripts is passed.
+ghost use Rattle.std.specs.Prelude.{◌≡◌, ◌++◌, length, OnOk};
+ghost use Rattle.def_script.specs.Program.{mfa_of};
+ghost use Rattle.def_wording.specs.RuleTexts.{many_steps, total_text, rule_reason_text};
+ghost use Rattle.tn_script.specs.Views.{function_of};
+
 use crate::callee::{declared_by, put_callee};
-use crate::put::Detail;
-use std::alloc::Allocator;
+use crate::put::put_number;
+use std::alloc::{AllocError, Allocator};
 use tn_flags::Command;
-use tn_script::{Form, MAX_COMMANDS, MAX_STEPS};
+use tn_script::{Form, Function, MAX_COMMANDS, MAX_STEPS};
 
 /// How many functions, processes and commands forms have, and how many of the commands create a session.
 #[derive(Clone, Copy)]
@@ -53,27 +58,43 @@ fn totals_of<A: Allocator>(forms: &[Form<A>]) -> Totals {
     totals
 }
 
-/// Appends which limit the form after the earlier ones passes.
-pub fn put_limit<A: Allocator>(out: &mut Detail<A>, earlier: &[Form<A>], form: &Form<A>) {
+/// Appends how many steps a function has; after an `Err` a part of it may be there.
+fn put_steps<A: Allocator>(function: &Function<A>, out: &mut Vec<u8, A>) -> Result<(), AllocError>
+    ensures { OnOk result (out.new.items ≡ out.old.items ++ rule_reason_text
+        (many_steps (length function.now.steps.items) (mfa_of (function_of function.now)))) }
+{
+    put_number(b": ", function.steps.len(), out)?;
+    put_callee(b" steps in function ", &declared_by(function), out)
+}
+
+/// Appends a number and what there are so many of; after an `Err` a part of it may be there.
+fn put_total<A: Allocator>(
+    total: usize,
+    what: &[u8],
+    out: &mut Vec<u8, A>,
+) -> Result<(), AllocError>
+    ensures { OnOk result (out.new.items ≡ out.old.items ++ total_text total what.now) }
+{
+    put_number(b": ", total, out)?;
+    out.extend_from_slice(what)?;
+    out.extend_from_slice(b" up to here")
+}
+
+/// Appends which limit the form after the earlier ones passes; after an `Err` a part of it may be there.
+pub fn put_limit<A: Allocator>(
+    earlier: &[Form<A>],
+    form: &Form<A>,
+    out: &mut Vec<u8, A>,
+) -> Result<(), AllocError> {
     let mut totals = totals_of(earlier);
     totals.add(form);
     match form {
-        Form::Function(function) if function.steps.len() > MAX_STEPS => {
-            out.number(b": ", function.steps.len());
-            put_callee(out, b" steps in function ", &declared_by(function));
-        }
-        Form::Function(_) => put_total(out, totals.functions, b" functions"),
-        Form::Process(_) => put_total(out, totals.processes, b" processes"),
+        Form::Function(function) if function.steps.len() > MAX_STEPS => put_steps(function, out),
+        Form::Function(_) => put_total(totals.functions, b" functions", out),
+        Form::Process(_) => put_total(totals.processes, b" processes", out),
         Form::Control(_) if totals.commands > MAX_COMMANDS => {
-            put_total(out, totals.commands, b" commands")
+            put_total(totals.commands, b" commands", out)
         }
-        Form::Control(_) => put_total(out, totals.sessions, b" sessions"),
+        Form::Control(_) => put_total(totals.sessions, b" sessions", out),
     }
-}
-
-/// Appends a number and what there are so many of.
-fn put_total<A: Allocator>(out: &mut Detail<A>, total: usize, what: &[u8]) {
-    out.number(b": ", total);
-    out.words(what);
-    out.words(b" up to here");
 }

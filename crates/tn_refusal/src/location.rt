@@ -5,6 +5,7 @@ ghost use Rattle.def_text.specs.Tokens.{TokenSpan};
 ghost use Rattle.def_text.specs.Forms.{after_stops};
 ghost use Rattle.tn_script.specs.Items.{form_item_of};
 ghost use Rattle.tn_refusal.specs.Locations.{mark_text, IsMarkOf, IsFormMark, IsItemMark, location_of_item, spot_at};
+ghost use Rattle.tn_refusal.specs.Details.{IsFormText, HasFormText};
 ghost use Rattle.tn_refusal.specs.Refusals.{refusal_of, refused_part};
 ghost use Rattle.tn_refusal.specs.Skims.{AreAhead};
 ghost use Rattle.tn_refusal.specs.Starts.{IsListable};
@@ -126,7 +127,8 @@ fn form_mark<A: Allocator + Copy>(
     form: usize,
 ) -> Result<Mark<'_, A>, AllocError>
     requires { length text.now < usize.MAX }
-    ensures { IfOk result (λ m. IsFormMark text.now (refusal_of refusal) form m.location) }
+    ensures place { IfOk result (λ m. IsFormMark text.now (refusal_of refusal) form m.location) }
+    ensures form { IfOk result (λ m. IsFormText text.now form m.form.now) }
 {
     let ItemInForms { item, forms } = refused_item(alloc, text, refusal)?;
     let before = before_form(text, form);
@@ -143,7 +145,9 @@ pub fn mark_of<A: Allocator + Copy>(
     text: &[u8],
     refusal: Refusal,
 ) -> Result<Mark<'_, A>, AllocError>
-    ensures { IfOk result (λ m. IsMarkOf text.now (refusal_of refusal) (refused_part (refusal_of refusal)) m.location) }
+    ensures place { IfOk result (λ m. IsMarkOf text.now (refusal_of refusal) (refused_part (refusal_of refusal))
+        m.location) }
+    ensures form { IfOk result (λ m. HasFormText text.now (refused_part (refusal_of refusal)) m.form.now) }
 {
     if text.len() > MAX_TEXT {
         return Ok(Mark::of(Location::Whole));

@@ -1,104 +1,85 @@
-// The text of what breaks a rule, as it is written.
+// The pieces of the text of what breaks a rule.
+ghost use Rattle.std.specs.Prelude.{◌≡◌, ◌≤◌, ◌<◌, ◌++◌, length, take, drop, codes, decimal, OnOk};
+ghost use Rattle.def_term.specs.Text.{atom_text};
+ghost use Rattle.def_wording.specs.PlaceTexts.{spot_text};
+ghost use Rattle.def_wording.specs.ShownTexts.{shown_text, shown_term};
+ghost use Rattle.tn_term.specs.Views.{tree_of};
+
 use crate::bytes::first_bytes;
 use crate::line_column::line_column_of;
-use itoa::Buffer;
 use std::alloc::{AllocError, Allocator};
 use tn_term::{Atom, Term};
-use tn_text::{write_atom, write_term};
+use tn_text::{write_atom, write_decimal, write_term};
 
 /// How many bytes of a token or a term are shown.
 const SHOWN: usize = 60;
 
-/// What breaks a rule, as far as it is written. Once memory was refused, nothing more is appended.
-#[derive(Drop)]
-pub struct Detail<A: Allocator> {
-    text: Vec<u8, A>,
-    is_refused: bool,
+/// Appends words, and a number in decimal; after an `Err` a part of it may be there.
+pub fn put_number<A: Allocator>(
+    words: &[u8],
+    number: usize,
+    out: &mut Vec<u8, A>,
+) -> Result<(), AllocError>
+    ensures { OnOk result (out.new.items ≡ out.old.items ++ words.now ++ decimal number) }
+{
+    out.extend_from_slice(words)?;
+    write_decimal(number, out)
 }
 
-impl<A: Allocator> Detail<A> {
-    /// Nothing written.
-    pub fn new(alloc: A) -> Self {
-        Detail {
-            text: Vec::new(alloc),
-            is_refused: false,
-        }
-    }
-
-    /// All that is written.
-    pub fn into_text(self) -> Result<Vec<u8, A>, AllocError> {
-        let Detail { text, is_refused } = self;
-        if is_refused {
-            Err(AllocError)
-        } else {
-            Ok(text)
-        }
-    }
-
-    /// Marks that memory was refused.
-    pub fn refuse(&mut self) {
-        self.is_refused = true;
-    }
-
-    /// How many bytes are written.
-    pub fn len(&self) -> usize {
-        self.text.len()
-    }
-
-    /// Takes back all but the first bytes.
-    pub fn truncate(&mut self, len: usize) {
-        self.text.truncate(len);
-    }
-
-    /// Appends words.
-    pub fn words(&mut self, words: &[u8]) {
-        if !self.is_refused {
-            self.is_refused = self.text.extend_from_slice(words).is_err();
-        }
-    }
-
-    /// Appends words, and a number in decimal.
-    pub fn number(&mut self, words: &[u8], n: usize) {
-        self.words(words);
-        self.words(Buffer::new().format(n).as_bytes());
-    }
-
-    /// Appends words, and the first of the bytes, with two dots where there are more.
-    pub fn cut(&mut self, words: &[u8], bytes: &[u8]) {
-        self.words(words);
-        self.words(first_bytes(bytes, SHOWN));
-        if bytes.len() > SHOWN {
-            self.words(b"..");
-        }
-    }
-
-    /// Appends words, and the text of an atom.
-    pub fn atom(&mut self, words: &[u8], atom: &Atom<A>) {
-        self.words(words);
-        if !self.is_refused {
-            self.is_refused = write_atom(atom, &mut self.text).is_err();
-        }
-    }
-
-    /// Appends words, and the text of a term, of which the end may be cut.
-    pub fn term(&mut self, words: &[u8], term: &Term<A>) {
-        self.words(words);
-        let end = self.text.len().saturating_add(SHOWN);
-        if !self.is_refused {
-            self.is_refused = write_term(term, &mut self.text).is_err();
-        }
-        if self.text.len() > end {
-            self.text.truncate(end);
-            self.words(b"..");
-        }
-    }
+/// Appends words, and the text of an atom; after an `Err` a part of it may be there.
+pub fn put_atom<A: Allocator>(
+    words: &[u8],
+    atom: &Atom<A>,
+    out: &mut Vec<u8, A>,
+) -> Result<(), AllocError>
+    ensures { OnOk result (out.new.items ≡ out.old.items ++ words.now ++ atom_text atom.now) }
+{
+    out.extend_from_slice(words)?;
+    write_atom(atom, out)
 }
 
-/// Appends words, and the line and the column of an offset, as `LINE:COLUMN`.
-pub fn put_place<A: Allocator>(out: &mut Detail<A>, words: &[u8], text: &[u8], at: usize) {
-    if text.len() < usize::MAX {
-        let place = line_column_of(text, at);
-        out.number(words, place.line);
-        out.number(b":", place.column);
+/// Appends the bytes, or of more than 60 the first and two dots; after an `Err` a part of it may be there.
+pub fn put_shown<A: Allocator>(bytes: &[u8], out: &mut Vec<u8, A>) -> Result<(), AllocError>
+    ensures { OnOk result (out.new.items ≡ out.old.items ++ shown_text bytes.now) }
+{
+    if bytes.len() <= SHOWN {
+        return out.extend_from_slice(bytes);
     }
+    out.extend_from_slice(first_bytes(bytes, SHOWN))?;
+    out.extend_from_slice(b"..")
+}
+
+/// Cuts what stands after the first so many bytes, where that is more than 60: its first 60 and two dots stay.
+fn cut_after<A: Allocator>(start: usize, out: &mut Vec<u8, A>) -> Result<(), AllocError>
+    requires { start ≤ length out.old.items }
+    ensures { OnOk result (out.new.items ≡ take start out.old.items ++ shown_text (drop start out.old.items)) }
+{
+    if out.len() - start <= SHOWN {
+        return Ok(());
+    }
+    out.truncate(start + SHOWN);
+    out.extend_from_slice(b"..")
+}
+
+/// Appends the text of a term, or of more than 60 bytes the first and two dots; after an `Err` a part of it may be there.
+pub fn put_term<A: Allocator>(term: &Term<A>, out: &mut Vec<u8, A>) -> Result<(), AllocError>
+    ensures { OnOk result (out.new.items ≡ out.old.items ++ shown_term (tree_of term.now)) }
+{
+    let start = out.len();
+    write_term(term, out)?;
+    cut_after(start, out)
+}
+
+/// Appends the line and the column of an offset, as `LINE:COLUMN`; after an `Err` a part of it may be there.
+pub fn put_place<A: Allocator>(
+    text: &[u8],
+    at: usize,
+    out: &mut Vec<u8, A>,
+) -> Result<(), AllocError>
+    requires { length text.now < usize.MAX }
+    ensures { OnOk result (out.new.items ≡ out.old.items ++ spot_text text.now at) }
+{
+    let place = line_column_of(text, at);
+    write_decimal(place.line, out)?;
+    put_number(b":", place.column, out)
 }

@@ -1,6 +1,9 @@
 // The sessions that commands create and name.
-use crate::put::Detail;
-use std::alloc::Allocator;
+ghost use Rattle.std.specs.Prelude.{◌≡◌, ◌++◌, OnOk};
+ghost use Rattle.def_wording.specs.RuleTexts.{created_twice, tracer_of, without_creation, rule_reason_text};
+
+use crate::put::put_atom;
+use std::alloc::{AllocError, Allocator};
 use tn_flags::Command;
 use tn_script::Form;
 use tn_term::Atom;
@@ -69,44 +72,66 @@ fn earlier_creation<'a, A: Allocator>(
     }
 }
 
+/// Appends a session that is created twice; after an `Err` a part of it may be there.
+fn put_twice<A: Allocator>(name: &Atom<A>, out: &mut Vec<u8, A>) -> Result<(), AllocError>
+    ensures { OnOk result (out.new.items ≡ out.old.items ++ rule_reason_text (created_twice name.now)) }
+{
+    put_atom(b": session ", name, out)
+}
+
+/// Appends a tracer and its session; after an `Err` a part of it may be there.
+fn put_tracer<A: Allocator>(
+    tracer: &Atom<A>,
+    session: &Atom<A>,
+    out: &mut Vec<u8, A>,
+) -> Result<(), AllocError>
+    ensures { OnOk result (out.new.items ≡ out.old.items ++ rule_reason_text (tracer_of tracer.now session.now)) }
+{
+    put_atom(b": ", tracer, out)?;
+    put_atom(b" is the tracer of session ", session, out)
+}
+
+/// Appends a session that no earlier command creates; after an `Err` a part of it may be there.
+fn put_uncreated<A: Allocator>(session: &Atom<A>, out: &mut Vec<u8, A>) -> Result<(), AllocError>
+    ensures { OnOk result (out.new.items ≡ out.old.items ++ rule_reason_text (without_creation session.now)) }
+{
+    put_atom(b": session ", session, out)?;
+    out.extend_from_slice(b", which no earlier command creates")
+}
+
 /// Appends the session that is created twice, or the tracer that a session has already.
 pub fn put_taken<A: Allocator>(
-    out: &mut Detail<A>,
     role: Role,
     earlier: &[Form<A>],
     commands: &[Command<A>],
-) {
+    out: &mut Vec<u8, A>,
+) -> Result<(), AllocError> {
     for i in 0..commands.len() {
         if let Some(name) = named_by(role, &commands[i]) {
             if let Some(session) = earlier_creation(role, earlier, &commands[..i], name.text()) {
-                put_holder(out, role, name, session);
-                return;
+                return match role {
+                    Role::Session => put_twice(name, out),
+                    Role::Tracer => put_tracer(name, session, out),
+                };
             }
         }
     }
-}
-
-/// Appends a session that is created twice, or a tracer and its session.
-fn put_holder<A: Allocator>(out: &mut Detail<A>, role: Role, name: &Atom<A>, session: &Atom<A>) {
-    match role {
-        Role::Session => out.atom(b": session ", name),
-        Role::Tracer => {
-            out.atom(b": ", name);
-            out.atom(b" is the tracer of session ", session);
-        }
-    }
+    Ok(())
 }
 
 /// Appends the session that a command other than a creation names and no earlier one creates.
-pub fn put_unmade<A: Allocator>(out: &mut Detail<A>, earlier: &[Form<A>], commands: &[Command<A>]) {
+pub fn put_unmade<A: Allocator>(
+    earlier: &[Form<A>],
+    commands: &[Command<A>],
+    out: &mut Vec<u8, A>,
+) -> Result<(), AllocError> {
     for i in 0..commands.len() {
         let session = commands[i].session();
         let is_made = matches!(commands[i], Command::SessionCreate { .. })
             || earlier_creation(Role::Session, earlier, &commands[..i], session.text()).is_some();
         if !is_made {
-            out.atom(b": session ", session);
-            out.words(b", which no earlier command creates");
-            return;
+            return put_uncreated(session, out);
         }
     }
+    Ok(())
 }

@@ -1,10 +1,21 @@
 // What breaks the rules on a text: refusals 2 to 4.
+ghost use Rattle.std.specs.Prelude.{◌≡◌, ◌<◌, ◌≤◌, ◌+◌, ◌-◌, ◌^◌, min, ◌++◌, length, codes, if◌then◌else◌};
+ghost use Rattle.std.specs.Prelude.{OnOk, Some};
+ghost use Rattle.def_text.specs.Spelling.{LENGTH};
+ghost use Rattle.def_wording.specs.SyntaxTexts.{in_tuple, next_text, thing_hint, reserved_words_text};
+ghost use Rattle.def_wording.specs.SyntaxTexts.{word_in_quotes, unopened_text, unclosed_text, closing_text};
+ghost use Rattle.def_wording.specs.SyntaxTexts.{closer_text, string_hint, hint_text, misplaced_text, string_note};
+ghost use Rattle.def_wording.specs.SyntaxTexts.{thing_at_text};
+ghost use Rattle.def_wording.specs.SyntaxTexts.{deep_text, characters_text, wide_text, open_text, large_text};
+ghost use Rattle.tn_refusal.specs.TextViews.{thing_seen, item_seen, next_seen, bracket_seen, innermost_seen};
+ghost use Rattle.tn_refusal.specs.TextViews.{state_seen, states_seen, kind_seen, TellsToken};
+
 use crate::bytes::characters_in;
-use crate::item::{TextItem, Thing, found_at, put_found};
-use crate::position::{Position, ReadState, TextKind, standing_at};
-use crate::put::{Detail, put_place};
-use crate::refusal::Refusal;
+use crate::item::{TextItem, Thing, found_at, put_thing};
+use crate::position::{OpenFrame, Position, ReadState, TextKind, standing_at};
+use crate::put::{put_number, put_place, put_shown};
 use std::alloc::{AllocError, Allocator};
+use tn_text::MAX_TEXT;
 
 /// What stands at a place of a text, and how far the text is read there; unknown where no tokens end there.
 #[derive(Clone, Copy)]
@@ -24,27 +35,43 @@ fn seen_at<A: Allocator + Copy>(
     Ok(TextView { found, standing })
 }
 
-/// What may stand next, in the words of a line.
-fn next_words(standing: ReadState, kind: TextKind) -> &'static [u8] {
-    let in_tuple = match standing.innermost {
+/// Whether the innermost that is open is a tuple.
+fn is_in_tuple(innermost: Option<OpenFrame>) -> bool
+    ensures { result ≡ in_tuple (innermost_seen innermost) }
+{
+    match innermost {
         Some(opened) => opened.is_tuple,
         None => false,
-    };
-    match standing.position {
-        Position::Form if kind == TextKind::Term => b"a term",
-        Position::Form => b"a form",
-        Position::Done if kind == TextKind::Term => b"the end of the text",
-        Position::Done => b"'.'",
-        Position::Next => b"a term",
-        Position::First if in_tuple => b"a term or '}'",
-        Position::First => b"a term or ']'",
-        Position::After if in_tuple => b"',' or '}'",
-        Position::After => b"',' or ']'",
+    }
+}
+
+/// What may stand next, in the words of a line.
+fn next_words(position: Position, in_tuple: bool, kind: TextKind) -> &'static [u8]
+    ensures { result.now ≡ next_text (next_seen position) in_tuple (kind_seen kind) }
+{
+    match (position, kind) {
+        (Position::Form, TextKind::Term) => b"a term",
+        (Position::Form, TextKind::Script) => b"a form",
+        (Position::Done, TextKind::Term) => b"the end of the text",
+        (Position::Done, TextKind::Script) => b"'.'",
+        (Position::Next, _) => b"a term",
+        (Position::First, _) => if in_tuple {
+            b"a term or '}'"
+        } else {
+            b"a term or ']'"
+        },
+        (Position::After, _) => if in_tuple {
+            b"',' or '}'"
+        } else {
+            b"',' or ']'"
+        },
     }
 }
 
 /// What is said of a thing wherever it stands.
-fn hint_of(thing: Thing) -> &'static [u8] {
+fn hint_of(thing: Thing) -> &'static [u8]
+    ensures { result.now ≡ thing_hint (thing_seen thing) }
+{
     match thing {
         Thing::Float => b": there are no floats",
         Thing::Binary => b": there are no binaries",
@@ -61,43 +88,76 @@ fn hint_of(thing: Thing) -> &'static [u8] {
     }
 }
 
-/// Appends what a place says of a thing that closes or ends something where nothing is open.
-fn put_unopened<A: Allocator>(out: &mut Detail<A>, thing: Thing, kind: TextKind) {
+/// What is said of a thing that closes or ends something where nothing is open.
+fn unopened_words(thing: Thing, kind: TextKind) -> &'static [u8]
+    ensures { result.now ≡ unopened_text (thing_seen thing) (kind_seen kind) }
+{
     match (thing, kind) {
-        (Thing::End, TextKind::Script) => out.words(b": a form ends with a full stop"),
-        (Thing::End, TextKind::Term) => {}
-        (Thing::Stop, TextKind::Term) => out.words(b": the term has no full stop after it here"),
-        _ => out.words(b": nothing is open"),
+        (Thing::End, TextKind::Script) => b": a form ends with a full stop",
+        (Thing::End, TextKind::Term) => b"",
+        (Thing::Stop, TextKind::Term) => b": the term has no full stop after it here",
+        _ => b": nothing is open",
     }
 }
 
-/// Appends what a place says of a thing that closes or ends something.
-fn put_ending<A: Allocator>(
-    out: &mut Detail<A>,
+/// Appends which tuple or list isn't closed; after an `Err` a part of the text may be there.
+fn put_unclosed<A: Allocator>(
     text: &[u8],
-    standing: ReadState,
+    opened: OpenFrame,
+    out: &mut Vec<u8, A>,
+) -> Result<(), AllocError>
+    requires { length text.now < usize.MAX }
+    ensures { OnOk result (out.new.items ≡ out.old.items ++ unclosed_text text.now (bracket_seen opened)) }
+{
+    if opened.is_tuple {
+        out.extend_from_slice(b": '{' at ")?;
+    } else {
+        out.extend_from_slice(b": '[' at ")?;
+    }
+    put_place(text, opened.at, out)?;
+    out.extend_from_slice(b" is not closed")
+}
+
+/// Appends what is said of a thing that closes or ends something, by what is open; after an `Err` a part of the text may
+/// be there.
+fn put_closing<A: Allocator>(
+    text: &[u8],
+    innermost: Option<OpenFrame>,
     thing: Thing,
     kind: TextKind,
-) {
-    match standing.innermost {
-        _ if thing == Thing::Close && standing.position == Position::Next => {
-            out.words(b": no comma stands before a closing bracket")
-        }
-        Some(opened) => {
-            let words: &[u8] = if opened.is_tuple {
-                b": '{' at "
-            } else {
-                b": '[' at "
-            };
-            put_place(out, words, text, opened.at);
-            out.words(b" is not closed");
-        }
-        None => put_unopened(out, thing, kind),
+    out: &mut Vec<u8, A>,
+) -> Result<(), AllocError>
+    requires { length text.now < usize.MAX }
+    ensures { OnOk result (out.new.items ≡
+        out.old.items ++ closing_text text.now (innermost_seen innermost) (thing_seen thing) (kind_seen kind)) }
+{
+    match innermost {
+        Some(opened) => put_unclosed(text, opened, out),
+        None => out.extend_from_slice(unopened_words(thing, kind)),
+    }
+}
+
+/// Appends what is said of a bracket that closes; after an `Err` a part of the text may be there.
+fn put_closer<A: Allocator>(
+    text: &[u8],
+    standing: ReadState,
+    kind: TextKind,
+    out: &mut Vec<u8, A>,
+) -> Result<(), AllocError>
+    requires { length text.now < usize.MAX }
+    ensures { OnOk result (out.new.items ≡
+        out.old.items ++ closer_text text.now (state_seen standing) (kind_seen kind)) }
+{
+    match standing.position {
+        Position::Next => out.extend_from_slice(b": no comma stands before a closing bracket"),
+        _ => put_closing(text, standing.innermost, Thing::Close, kind, out),
     }
 }
 
 /// What is said of a reserved word before the word in quotes.
-fn reserved_hint(word: &[u8]) -> &'static [u8] {
+fn reserved_hint(word: &[u8]) -> &'static [u8]
+    ensures { result.now ≡ reserved_words_text word.now }
+{
     if word == b"fun".as_slice() {
         b": there are no funs, and the atom is written '"
     } else {
@@ -105,112 +165,256 @@ fn reserved_hint(word: &[u8]) -> &'static [u8] {
     }
 }
 
-/// Appends that the word is written in quotes.
-fn put_quotes<A: Allocator>(out: &mut Detail<A>, words: &[u8], name: &[u8]) {
-    out.cut(words, name);
-    out.words(b"'");
+/// What is said of a string.
+fn string_words(position: Position) -> &'static [u8]
+    ensures { result.now ≡ string_hint (next_seen position) }
+{
+    match position {
+        Position::After => b": strings are not joined",
+        _ => b"",
+    }
 }
 
-/// Appends how the text can be mended, where the mistake is a common one.
+/// Appends words, and the word in quotes; after an `Err` a part of the text may be there.
+fn put_in_quotes<A: Allocator>(
+    words: &[u8],
+    word: &[u8],
+    out: &mut Vec<u8, A>,
+) -> Result<(), AllocError>
+    ensures { OnOk result (out.new.items ≡ out.old.items ++ word_in_quotes words.now word.now) }
+{
+    out.extend_from_slice(words)?;
+    put_shown(word, out)?;
+    out.extend_from_slice(b"'")
+}
+
+/// Appends how the text can be fixed, where the mistake is a common one; after an `Err` a part of the text may be there.
 fn put_hint<A: Allocator>(
-    out: &mut Detail<A>,
+    text: &[u8],
+    standing: ReadState,
+    thing: Thing,
+    bytes: &[u8],
+    kind: TextKind,
+    out: &mut Vec<u8, A>,
+) -> Result<(), AllocError>
+    requires { length text.now < usize.MAX }
+    ensures { OnOk result (out.new.items ≡
+        out.old.items ++ hint_text text.now (state_seen standing) (thing_seen thing) bytes.now (kind_seen kind)) }
+{
+    match thing {
+        Thing::Variable => put_in_quotes(b": variables are written in quotes, '", bytes, out),
+        Thing::Reserved => put_in_quotes(reserved_hint(bytes), bytes, out),
+        Thing::Close => put_closer(text, standing, kind, out),
+        Thing::End => put_closing(text, standing.innermost, Thing::End, kind, out),
+        Thing::Stop => put_closing(text, standing.innermost, Thing::Stop, kind, out),
+        Thing::Characters => out.extend_from_slice(string_words(standing.position)),
+        thing => out.extend_from_slice(hint_of(thing)),
+    }
+}
+
+/// Appends what could stand where a token is refused, what stands there, and how that can be fixed; after an `Err` a
+/// part of the text may be there.
+fn put_expected<A: Allocator>(
     text: &[u8],
     standing: ReadState,
     found: TextItem<'_>,
     kind: TextKind,
-) {
-    match found.thing {
-        Thing::Variable => put_quotes(out, b": variables are written in quotes, '", found.bytes),
-        Thing::Reserved => put_quotes(out, reserved_hint(found.bytes), found.bytes),
-        Thing::Close | Thing::End | Thing::Stop => {
-            put_ending(out, text, standing, found.thing, kind)
-        }
-        Thing::Characters if standing.position == Position::After => {
-            out.words(b": strings are not joined")
-        }
-        thing => out.words(hint_of(thing)),
+    out: &mut Vec<u8, A>,
+) -> Result<(), AllocError>
+    requires { length text.now < usize.MAX }
+    ensures { OnOk result (out.new.items ≡
+        out.old.items ++ misplaced_text text.now (Some (state_seen standing)) (item_seen found.entry) (kind_seen kind)) }
+{
+    let in_tuple = is_in_tuple(standing.innermost);
+    out.extend_from_slice(b": ")?;
+    out.extend_from_slice(next_words(standing.position, in_tuple, kind))?;
+    out.extend_from_slice(b" expected, found ")?;
+    put_thing(found.thing, found.bytes, out)?;
+    put_hint(text, standing, found.thing, found.bytes, kind, out)
+}
+
+/// Appends words and what stands there; after an `Err` a part of the text may be there.
+fn put_found<A: Allocator>(
+    words: &[u8],
+    found: TextItem<'_>,
+    out: &mut Vec<u8, A>,
+) -> Result<(), AllocError>
+    ensures { OnOk result (out.new.items ≡ out.old.items ++ words.now ++ thing_at_text (item_seen found.entry)) }
+{
+    out.extend_from_slice(words)?;
+    put_thing(found.thing, found.bytes, out)
+}
+
+/// Appends what is said of a token that stands where it may not; after an `Err` a part of the text may be there.
+fn put_misplaced<A: Allocator>(
+    text: &[u8],
+    standing: Option<ReadState>,
+    found: TextItem<'_>,
+    kind: TextKind,
+    out: &mut Vec<u8, A>,
+) -> Result<(), AllocError>
+    requires { length text.now < usize.MAX }
+    ensures { OnOk result (out.new.items ≡
+        out.old.items ++ misplaced_text text.now (states_seen standing) (item_seen found.entry) (kind_seen kind)) }
+{
+    match standing {
+        Some(standing) => put_expected(text, standing, found, kind, out),
+        None => put_found(b": found ", found, out),
     }
 }
 
-/// Appends what could stand where a token is refused, what stands there, and how that can be mended.
-fn put_misplaced<A: Allocator>(
-    out: &mut Detail<A>,
+/// What is said of a string that nests too deep.
+fn string_note_words(thing: Thing) -> &'static [u8]
+    ensures { result.now ≡ string_note (thing_seen thing) }
+{
+    match thing {
+        Thing::Characters => b", which is a list",
+        _ => b"",
+    }
+}
+
+/// Appends the token that nests too deep; after an `Err` a part of the text may be there.
+fn put_deep<A: Allocator>(found: TextItem<'_>, out: &mut Vec<u8, A>) -> Result<(), AllocError>
+    ensures { OnOk result (out.new.items ≡ out.old.items ++ deep_text (item_seen found.entry)) }
+{
+    put_found(b": level 33 begins with ", found, out)?;
+    out.extend_from_slice(string_note_words(found.thing))
+}
+
+/// Appends words, and how many characters there are; after an `Err` a part of the text may be there.
+fn put_length<A: Allocator>(
+    words: &[u8],
+    count: usize,
+    out: &mut Vec<u8, A>,
+) -> Result<(), AllocError>
+    ensures { OnOk result (out.new.items ≡ out.old.items ++ characters_text words.now count) }
+{
+    put_number(words, count, out)?;
+    out.extend_from_slice(b" characters")
+}
+
+/// The words before the place of a tuple or a list that has one element too many.
+fn wide_words(is_tuple: bool) -> &'static [u8]
+    ensures { result.now ≡ (if is_tuple then codes ": the tuple at " else codes ": the list at ") }
+{
+    if is_tuple {
+        b": the tuple at "
+    } else {
+        b": the list at "
+    }
+}
+
+/// How many elements stand before so many commas and the last of them.
+fn element_count(commas: usize) -> usize
+    ensures { result ≡ min (commas + 1) (2 ^ 64 - 1) }
+{
+    commas.saturating_add(1)
+}
+
+/// Appends the tuple or the list that has one element too many; after an `Err` a part of the text may be there.
+fn put_wide<A: Allocator>(
     text: &[u8],
+    opened: OpenFrame,
+    out: &mut Vec<u8, A>,
+) -> Result<(), AllocError>
+    requires { length text.now < usize.MAX }
+    ensures { OnOk result (out.new.items ≡ out.old.items ++ wide_text text.now (bracket_seen opened)) }
+{
+    out.extend_from_slice(wide_words(opened.is_tuple))?;
+    put_place(text, opened.at, out)?;
+    put_number(
+        b" goes on after element ",
+        element_count(opened.commas),
+        out,
+    )
+}
+
+/// The same, where it is known what is open; after an `Err` a part of the text may be there.
+fn put_open<A: Allocator>(
+    text: &[u8],
+    standing: Option<ReadState>,
+    out: &mut Vec<u8, A>,
+) -> Result<(), AllocError>
+    requires { length text.now < usize.MAX }
+    ensures { OnOk result (out.new.items ≡ out.old.items ++ open_text text.now (states_seen standing)) }
+{
+    match standing {
+        Some(standing) => match standing.innermost {
+            Some(opened) => put_wide(text, opened, out),
+            None => Ok(()),
+        },
+        None => Ok(()),
+    }
+}
+
+/// Appends the token that passes a limit on sizes, with so many characters in quotes; after an `Err` a part of the text
+/// may be there.
+fn put_large<A: Allocator>(
+    text: &[u8],
+    standing: Option<ReadState>,
+    found: TextItem<'_>,
+    characters: usize,
+    out: &mut Vec<u8, A>,
+) -> Result<(), AllocError>
+    requires { length text.now < usize.MAX }
+    ensures { OnOk result (out.new.items ≡ out.old.items ++ large_text text.now (states_seen standing)
+        (thing_seen found.entry.thing) found.entry.bytes.now characters) }
+{
+    match found.thing {
+        Thing::Comma => put_open(text, standing, out),
+        Thing::Atom => put_length(b": the atom has ", found.bytes.len(), out),
+        Thing::Quoted => put_length(b": the atom has ", characters, out),
+        Thing::Characters => put_length(b": the string has ", characters, out),
+        _ => put_found(b": found ", found, out),
+    }
+}
+
+/// What is wrong with a token: it may not stand there, nests too deep, or passes another limit.
+#[derive(Clone, Copy)]
+pub enum TokenFault {
+    Misplaced,
+    Deep,
+    Large,
+}
+
+/// Appends what of a token breaks a rule; after an `Err` a part of the text may be there.
+fn put_seen<A: Allocator>(
+    text: &[u8],
+    fault: TokenFault,
     seen: TextView<'_>,
     kind: TextKind,
-) {
-    match seen.standing {
-        Some(standing) => {
-            out.words(b": ");
-            out.words(next_words(standing, kind));
-            put_found(out, b" expected, found ", seen.found);
-            put_hint(out, text, standing, seen.found, kind);
+    out: &mut Vec<u8, A>,
+) -> Result<(), AllocError>
+    requires { length text.now < usize.MAX }
+    ensures { OnOk result (TellsToken fault text.now (kind_seen kind) out.old.items out.new.items) }
+{
+    match fault {
+        TokenFault::Misplaced => put_misplaced(text, seen.standing, seen.found, kind, out),
+        TokenFault::Deep => put_deep(seen.found, out),
+        TokenFault::Large => {
+            let characters = characters_in(seen.found.bytes);
+            put_large(text, seen.standing, seen.found, characters, out)
         }
-        None => put_found(out, b": found ", seen.found),
     }
 }
 
-/// Appends the token that nests too deep.
-fn put_deep<A: Allocator>(out: &mut Detail<A>, found: TextItem<'_>) {
-    put_found(out, b": level 33 begins with ", found);
-    if found.thing == Thing::Characters {
-        out.words(b", which is a list");
-    }
-}
-
-/// Appends how many characters a name or a string has.
-fn put_length<A: Allocator>(out: &mut Detail<A>, words: &[u8], len: usize) {
-    out.number(words, len);
-    out.words(b" characters");
-}
-
-/// Appends the tuple or the list that has one element too many.
-fn put_wide<A: Allocator>(out: &mut Detail<A>, text: &[u8], standing: Option<ReadState>) {
-    if let Some(
-        ReadState {
-            innermost: Some(opened),
-            ..
-        },
-    ) = standing
-    {
-        let words: &[u8] = if opened.is_tuple {
-            b": the tuple at "
-        } else {
-            b": the list at "
-        };
-        put_place(out, words, text, opened.at);
-        out.number(b" goes on after element ", opened.commas.saturating_add(1));
-    }
-}
-
-/// Appends the token that passes a limit on sizes.
-fn put_large<A: Allocator>(out: &mut Detail<A>, text: &[u8], seen: TextView<'_>) {
-    let bytes = seen.found.bytes;
-    match seen.found.thing {
-        Thing::Comma => put_wide(out, text, seen.standing),
-        Thing::Atom => put_length(out, b": the atom has ", bytes.len()),
-        Thing::Quoted => put_length(out, b": the atom has ", characters_in(bytes)),
-        Thing::Characters => put_length(out, b": the string has ", characters_in(bytes)),
-        _ => put_found(out, b": found ", seen.found),
-    }
-}
-
-/// Appends what of a token breaks a rule.
+/// Appends what of the token at this offset breaks a rule, and nothing of a text of more than 1,048,576 bytes. What
+/// stands there is found by looking at the text: no clause says that it is right. After an `Err` a part of the text may
+/// be there.
 pub fn put_token<A: Allocator + Copy>(
     alloc: A,
-    out: &mut Detail<A>,
     text: &[u8],
-    refusal: Refusal,
+    fault: TokenFault,
     at: usize,
     kind: TextKind,
-) {
-    match seen_at(alloc, text, at) {
-        Ok(seen) => match refusal {
-            Refusal::Token { .. } => put_misplaced(out, text, seen, kind),
-            Refusal::TooDeep { .. } => put_deep(out, seen.found),
-            Refusal::TooLarge { .. } => put_large(out, text, seen),
-            _ => {}
-        },
-        Err(AllocError) => out.refuse(),
+    out: &mut Vec<u8, A>,
+) -> Result<(), AllocError>
+    ensures { length text.now ≤ LENGTH
+        → OnOk result (TellsToken fault text.now (kind_seen kind) out.old.items out.new.items) }
+{
+    if text.len() > MAX_TEXT {
+        return Ok(());
     }
+    let seen = seen_at(alloc, text, at)?;
+    put_seen(text, fault, seen, kind, out)
 }

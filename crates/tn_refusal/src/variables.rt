@@ -1,7 +1,12 @@
 // The variables that aren't bound where they stand.
+ghost use Rattle.std.specs.Prelude.{◌≡◌, ◌++◌, OnOk};
+ghost use Rattle.def_script.specs.Program.{mfa_of};
+ghost use Rattle.def_wording.specs.RuleTexts.{free_in_step, free_in_process, rule_reason_text};
+ghost use Rattle.tn_script.specs.Views.{function_of};
+
 use crate::callee::{declared_by, put_callee};
-use crate::put::Detail;
-use std::alloc::Allocator;
+use crate::put::{put_atom, put_number};
+use std::alloc::{AllocError, Allocator};
 use tn_script::{Entry, Function, Step, is_variable};
 use tn_term::{Atom, Term};
 
@@ -110,22 +115,52 @@ fn in_step<'a, A: Allocator>(
     }
 }
 
+/// Appends a variable, and the step of a function that has it; after an `Err` a part of it may be there.
+fn put_free<A: Allocator>(
+    variable: &Atom<A>,
+    step: usize,
+    function: &Function<A>,
+    out: &mut Vec<u8, A>,
+) -> Result<(), AllocError>
+    ensures { OnOk result (out.new.items
+        ≡ out.old.items ++ rule_reason_text (free_in_step variable.now step (mfa_of (function_of function.now)))) }
+{
+    put_atom(b": ", variable, out)?;
+    put_number(b" in step ", step, out)?;
+    put_callee(b" of function ", &declared_by(function), out)
+}
+
+/// Appends a variable of the arguments of a process; after an `Err` a part of it may be there.
+fn put_free_argument<A: Allocator>(
+    variable: &Atom<A>,
+    out: &mut Vec<u8, A>,
+) -> Result<(), AllocError>
+    ensures { OnOk result (out.new.items ≡ out.old.items ++ rule_reason_text (free_in_process variable.now)) }
+{
+    put_atom(b": ", variable, out)?;
+    out.extend_from_slice(b" in the arguments of a process, where no variable is")
+}
+
 /// Appends the first variable that isn't bound where a step of the function has it.
-pub fn put_in_function<A: Allocator>(out: &mut Detail<A>, function: &Function<A>) {
+pub fn put_in_function<A: Allocator>(
+    function: &Function<A>,
+    out: &mut Vec<u8, A>,
+) -> Result<(), AllocError> {
     for (i, step) in function.steps.iter().enumerate() {
-        if let Some(atom) = in_step(step, function, i) {
-            out.atom(b": ", atom);
-            out.number(b" in step ", i + 1);
-            put_callee(out, b" of function ", &declared_by(function));
-            return;
+        if let Some(variable) = in_step(step, function, i) {
+            return put_free(variable, i + 1, function, out);
         }
     }
+    Ok(())
 }
 
 /// Appends the first variable of the arguments of a process.
-pub fn put_in_process<A: Allocator>(out: &mut Detail<A>, entry: &Entry<A>) {
-    if let Some(atom) = in_terms(&entry.args.terms, None, 0) {
-        out.atom(b": ", atom);
-        out.words(b" in the arguments of a process, where no variable is");
+pub fn put_in_process<A: Allocator>(
+    entry: &Entry<A>,
+    out: &mut Vec<u8, A>,
+) -> Result<(), AllocError> {
+    match in_terms(&entry.args.terms, None, 0) {
+        Some(variable) => put_free_argument(variable, out),
+        None => Ok(()),
     }
 }

@@ -1,0 +1,25 @@
+-- What is told of a refused token and of a form without a shape.
+use Rattle.std.proofs.Common.{◌≡◌, ◌∙◌, ℕ, List, [], ◌∷◌, ◌++◌, length, get_or, map, Result, Ok, Err, OnOk, ap, subst, arith}
+use Rattle.def_term.specs.Tree.{Tree}
+use Rattle.def_text.specs.Scripts.{SpellsTerms}
+use Rattle.def_wording.specs.ShapeTexts.{shape_detail}
+use Rattle.tn_term.specs.declared.term.Term.{Term}
+use Rattle.tn_term.specs.Views.{tree_of}
+use Rattle.tn_refusal.specs.Pieces.{SpellsFirst}
+use Rattle.tn_refusal.specs.Details.{IsFormText, TellsShape}
+
+pub first_tree : {A : Type 0} (xs : List (Term A)) (x : Term A) (t : Tree) → x ≡ get_or xs 0 x → map tree_of xs ≡ t ∷ [] → tree_of x ≡ t
+first_tree [] x t is e = absurd (cc e)
+first_tree (y ∷ ys) x t is e = let same : tree_of y ≡ t = cc e in ap tree_of is ∙ same
+
+pub no_first : {A : Type 0} (xs : List (Term A)) (t : Tree) → length xs ≡ 0 → map tree_of xs ≡ t ∷ [] → ⊥
+no_first [] t n e = cc e
+no_first (x ∷ xs) t n e = absurd (omega (arith, n))
+
+pub told_shape : {T E : Type 0} (done : Result T E) (bytes own : List ℕ) (n : ℕ) (o d : List ℕ) → IsFormText bytes n own → ((t : Tree) → SpellsTerms own (t ∷ []) → OnOk done (d ≡ o ++ shape_detail t)) → OnOk done (TellsShape bytes n o d)
+told_shape (Ok v) bytes own n o d is says = λ ts later t s e. says t (subst (SpellsFirst own) e (is ts s))
+told_shape (Err x) bytes own n o d is says = tt
+
+pub told_under : {T E : Type 0} (done : Result T E) (P Q : Type 0) → (P → OnOk done Q) → OnOk done (P → Q)
+told_under (Ok v) P Q f = f
+told_under (Err x) P Q f = tt
