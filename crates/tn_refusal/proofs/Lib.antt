@@ -7,6 +7,6 @@ pub mod Printables
 pub mod RefusedItems
 pub mod Refusals
 pub mod ShapeReasons
-pub mod Shown
+pub mod CutTexts
 mod Skims
 pub mod Writes

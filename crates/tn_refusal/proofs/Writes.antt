@@ -6,7 +6,7 @@ pub after_ok : {T E : Type 0} (done : Result T E) (o x r b d : List ℕ) → b �
 after_ok (Ok v) o x r b d first rest = rest ∙ ap (λ s. s ++ r) first ∙ append_assoc o x r
 after_ok (Err e) o x r b d first rest = tt
 
--- one piece more behind what was written
+-- one piece more after what was written
 pub grown : (o x b r : List ℕ) → b ≡ o ++ x → b ++ r ≡ o ++ (x ++ r)
 grown o x b r first = ap (λ s. s ++ r) first ∙ append_assoc o x r
 

@@ -41,8 +41,8 @@ thing_seen Comma = texts.a_comma
 thing_seen Location = texts.a_mark
 thing_seen Byte = texts.a_byte
 
-abbrev pub item_seen : TextItem → texts.ThingAt
-item_seen x = record { thing = thing_seen x.thing; bytes = x.bytes.now }
+abbrev pub text_item_seen : TextItem → texts.ThingAt
+text_item_seen x = record { thing = thing_seen x.thing; bytes = x.bytes.now }
 
 abbrev pub next_seen : Position → texts.NextPart
 next_seen Form = texts.a_form
@@ -57,11 +57,11 @@ bracket_seen b = record { is_tuple = b.is_tuple; at = b.at; commas = b.commas }
 abbrev pub innermost_seen : Option OpenFrame → Option texts.OpenBracket
 innermost_seen b = option_map bracket_seen b
 
-abbrev pub state_seen : ReadState → texts.ReadSoFar
-state_seen s = record { next = next_seen s.position; innermost = innermost_seen s.innermost }
+abbrev pub read_state_seen : ReadState → texts.ReadSoFar
+read_state_seen s = record { next = next_seen s.position; innermost = innermost_seen s.innermost }
 
-abbrev pub states_seen : Option ReadState → Option texts.ReadSoFar
-states_seen s = option_map state_seen s
+abbrev pub read_states_seen : Option ReadState → Option texts.ReadSoFar
+read_states_seen s = option_map read_state_seen s
 
 abbrev pub kind_seen : TextKind → texts.TextKind
 kind_seen Script = texts.of_script
@@ -78,4 +78,4 @@ pub record TellsToken (f : TokenFault) (bytes : List ℕ) (k : texts.TextKind) (
   pub standing : Option texts.ReadSoFar
   pub found : texts.ThingAt
   pub characters : ℕ
-  pub told : new ≡ old ++ token_text f bytes standing found characters k
+  pub says : new ≡ old ++ token_text f bytes standing found characters k

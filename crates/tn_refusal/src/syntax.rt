@@ -7,8 +7,8 @@ ghost use Rattle.def_wording.specs.SyntaxTexts.{word_in_quotes, unopened_text, u
 ghost use Rattle.def_wording.specs.SyntaxTexts.{closer_text, string_hint, hint_text, misplaced_text, string_note};
 ghost use Rattle.def_wording.specs.SyntaxTexts.{thing_at_text};
 ghost use Rattle.def_wording.specs.SyntaxTexts.{deep_text, characters_text, wide_text, open_text, large_text};
-ghost use Rattle.tn_refusal.specs.TextViews.{thing_seen, item_seen, next_seen, bracket_seen, innermost_seen};
-ghost use Rattle.tn_refusal.specs.TextViews.{state_seen, states_seen, kind_seen, TellsToken};
+ghost use Rattle.tn_refusal.specs.TextViews.{thing_seen, text_item_seen, next_seen, bracket_seen, innermost_seen};
+ghost use Rattle.tn_refusal.specs.TextViews.{read_state_seen, read_states_seen, kind_seen, TellsToken};
 
 use crate::bytes::characters_in;
 use crate::item::{TextItem, Thing, found_at, put_thing};
@@ -118,8 +118,8 @@ fn put_unclosed<A: Allocator>(
     out.extend_from_slice(b" is not closed")
 }
 
-/// Appends what is said of a thing that closes or ends something, by what is open; after an `Err` a part of the text may
-/// be there.
+/// Appends what is said of a thing that closes or ends something, by what is open. After an `Err` a part of the text
+/// may be there.
 fn put_closing<A: Allocator>(
     text: &[u8],
     innermost: Option<OpenFrame>,
@@ -146,7 +146,7 @@ fn put_closer<A: Allocator>(
 ) -> Result<(), AllocError>
     requires { length text.now < usize.MAX }
     ensures { OnOk result (out.new.items ≡
-        out.old.items ++ closer_text text.now (state_seen standing) (kind_seen kind)) }
+        out.old.items ++ closer_text text.now (read_state_seen standing) (kind_seen kind)) }
 {
     match standing.position {
         Position::Next => out.extend_from_slice(b": no comma stands before a closing bracket"),
@@ -188,7 +188,8 @@ fn put_in_quotes<A: Allocator>(
     out.extend_from_slice(b"'")
 }
 
-/// Appends how the text can be fixed, where the mistake is a common one; after an `Err` a part of the text may be there.
+/// Appends how the text can be fixed, where the mistake is a common one. After an `Err` a part of the text may be
+/// there.
 fn put_hint<A: Allocator>(
     text: &[u8],
     standing: ReadState,
@@ -199,7 +200,7 @@ fn put_hint<A: Allocator>(
 ) -> Result<(), AllocError>
     requires { length text.now < usize.MAX }
     ensures { OnOk result (out.new.items ≡
-        out.old.items ++ hint_text text.now (state_seen standing) (thing_seen thing) bytes.now (kind_seen kind)) }
+        out.old.items ++ hint_text text.now (read_state_seen standing) (thing_seen thing) bytes.now (kind_seen kind)) }
 {
     match thing {
         Thing::Variable => put_in_quotes(b": variables are written in quotes, '", bytes, out),
@@ -223,7 +224,8 @@ fn put_expected<A: Allocator>(
 ) -> Result<(), AllocError>
     requires { length text.now < usize.MAX }
     ensures { OnOk result (out.new.items ≡
-        out.old.items ++ misplaced_text text.now (Some (state_seen standing)) (item_seen found.entry) (kind_seen kind)) }
+        out.old.items ++ misplaced_text text.now
+        (Some (read_state_seen standing)) (text_item_seen found.entry) (kind_seen kind)) }
 {
     let in_tuple = is_in_tuple(standing.innermost);
     out.extend_from_slice(b": ")?;
@@ -239,7 +241,7 @@ fn put_found<A: Allocator>(
     found: TextItem<'_>,
     out: &mut Vec<u8, A>,
 ) -> Result<(), AllocError>
-    ensures { OnOk result (out.new.items ≡ out.old.items ++ words.now ++ thing_at_text (item_seen found.entry)) }
+    ensures { OnOk result (out.new.items ≡ out.old.items ++ words.now ++ thing_at_text (text_item_seen found.entry)) }
 {
     out.extend_from_slice(words)?;
     put_thing(found.thing, found.bytes, out)
@@ -255,7 +257,8 @@ fn put_misplaced<A: Allocator>(
 ) -> Result<(), AllocError>
     requires { length text.now < usize.MAX }
     ensures { OnOk result (out.new.items ≡
-        out.old.items ++ misplaced_text text.now (states_seen standing) (item_seen found.entry) (kind_seen kind)) }
+        out.old.items ++ misplaced_text text.now
+        (read_states_seen standing) (text_item_seen found.entry) (kind_seen kind)) }
 {
     match standing {
         Some(standing) => put_expected(text, standing, found, kind, out),
@@ -275,7 +278,7 @@ fn string_note_words(thing: Thing) -> &'static [u8]
 
 /// Appends the token that nests too deep; after an `Err` a part of the text may be there.
 fn put_deep<A: Allocator>(found: TextItem<'_>, out: &mut Vec<u8, A>) -> Result<(), AllocError>
-    ensures { OnOk result (out.new.items ≡ out.old.items ++ deep_text (item_seen found.entry)) }
+    ensures { OnOk result (out.new.items ≡ out.old.items ++ deep_text (text_item_seen found.entry)) }
 {
     put_found(b": level 33 begins with ", found, out)?;
     out.extend_from_slice(string_note_words(found.thing))
@@ -336,7 +339,7 @@ fn put_open<A: Allocator>(
     out: &mut Vec<u8, A>,
 ) -> Result<(), AllocError>
     requires { length text.now < usize.MAX }
-    ensures { OnOk result (out.new.items ≡ out.old.items ++ open_text text.now (states_seen standing)) }
+    ensures { OnOk result (out.new.items ≡ out.old.items ++ open_text text.now (read_states_seen standing)) }
 {
     match standing {
         Some(standing) => match standing.innermost {
@@ -357,7 +360,7 @@ fn put_large<A: Allocator>(
     out: &mut Vec<u8, A>,
 ) -> Result<(), AllocError>
     requires { length text.now < usize.MAX }
-    ensures { OnOk result (out.new.items ≡ out.old.items ++ large_text text.now (states_seen standing)
+    ensures { OnOk result (out.new.items ≡ out.old.items ++ large_text text.now (read_states_seen standing)
         (thing_seen found.entry.thing) found.entry.bytes.now characters) }
 {
     match found.thing {

@@ -1,5 +1,5 @@
 use Rattle.std.proofs.Common.{arith}
-use Rattle.tn_refusal.proofs.Shown.{cut_off}
+use Rattle.tn_refusal.proofs.CutTexts.{cut_off}
 use Rattle.tn_refusal.proofs.put.cut_after.Goals as goal
 
 pub returns : goal.returns
