@@ -1,5 +1,5 @@
 -- A run by workers whose output is in a form gives one outcome of one text, and for the same picks one output.
-use Rattle.std.proofs.Common.{◌≡◌, ◌∙◌, ℕ, List, MatchOption, refl, ap, ap₂, sym}
+use Rattle.std.proofs.Common.{◌≡◌, ◌∙◌, ℕ, List, MatchOption, refl, ap₂, sym}
 use Rattle.def_run.specs.Output.{refusal_text}
 use Rattle.tn_moves.specs.Schedules.{by_workers}
 use Rattle.tn_run.specs.Answers.{IsListedOutput, live_run, outcome_refusal, run_for}

@@ -6,7 +6,6 @@ use Rattle.def_run.specs.Output.{refusal_text}
 use Rattle.tn_run.specs.Answers.{is_listed}
 use Rattle.tn_run.specs.Jobs.{Gives, IsJobRefusal, JobView, OfScript}
 use Rattle.tn_run.specs.declared.live.Ran.{Ran}
-use Rattle.tn_run.specs.declared.fault.LiveFault.{LiveFault}
 use Rattle.tn_explain.specs.Accounts.{explain_by}
 use Rattle.tn_replay.specs.Notes.{replay_by}
 use Rattle.tn_explain.specs.declared.request.ExplainRequest.{ExplainRequest}

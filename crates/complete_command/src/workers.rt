@@ -68,13 +68,13 @@ pub fn run_workers_in_form_over<R: Read, W: Write, T: Threads + Wait + Sync, G: 
     requires outs { SeenAlike W.contents out.old same_out.old }
     ensures outcome { Knows R.remaining one.old → IfOk result.0.answer (λ r. IfOk result.1.answer (AreOfOneText r)) }
     ensures status { Knows R.remaining one.old → HaveOneStatus result.0 result.1 }
-    ensures written { Knows R.remaining one.old → WorkAlike (job_in_form by.2 live_run) W.contents
+    ensures written { Knows R.remaining one.old → WorkAlike (job_in_form by.entry.2 live_run) W.contents
         out.old out.new same_out.new result.0 result.1 }
-    ensures left { RemainAlike (job_in_form by.2 live_run) R.remaining
+    ensures left { RemainAlike (job_in_form by.entry.2 live_run) R.remaining
         one.old one.new other.new result.0 result.1 }
     ensures reader { EndAlike result.0.answer result.1.answer → has_failed one.new ≡ has_failed other.new }
     ensures writer { EndAlike result.0.answer result.1.answer → has_failed out.new ≡ has_failed same_out.new }
-    ensures flushed { FlushAlike (job_in_form by.2 live_run) out.new same_out.new result.0 result.1 }
+    ensures flushed { FlushAlike (job_in_form by.entry.2 live_run) out.new same_out.new result.0 result.1 }
 {
     let (alloc, workers, form) = by;
     let first = tn_command::run_workers_in_form_over(rt, alloc, one, out, workers, form);

@@ -4,7 +4,7 @@ use Rattle.std.specs.declared.vec.Vec.{Vec}
 use Rattle.tn_text.specs.Watch.{watched_inner, has_failed}
 use Rattle.tn_text.specs.declared.watched.Watched.{Watched}
 use Rattle.tn_run.specs.Answers.{live_end_of, live_run}
-use Rattle.tn_run.specs.Jobs.{FailedEnd, Gives, JobView, Prepares, no_end_failed, reader_failed, writer_failed}
+use Rattle.tn_run.specs.Jobs.{FailedEnd, Gives, Prepares, no_end_failed, reader_failed, writer_failed}
 use Rattle.tn_run.specs.declared.fault.LiveFault.{LiveFault}
 use Rattle.tn_run.specs.declared.live.Ran.{Ran}
 use Rattle.complete_runs.proofs.Both.{both_if_ok}
@@ -48,7 +48,7 @@ module _ {R A : Type 0} (known : R → Option (List ℕ)) (one one' other other'
 -- ---- what is left of the reader
 
 module _ {R A : Type 0} (known : R → Option (List ℕ)) (reader reader' : Watched R) where
-  took_at : (f : LiveFault) (x : FailedEnd) → live_end_of f ≡ x → HasRead {O = Ran × Vec ℕ A} live_end_of (Err f) → Prepares live_run known reader reader' (Err {A = Ran × Vec ℕ A} f) → Taken (known (watched_inner reader)) (known (watched_inner reader'))
+  took_at : (f : LiveFault) (x : FailedEnd) → live_end_of f ≡ x → HasRead {O = Ran × Vec ℕ A} live_end_of (Err f) → Prepares {A = A} live_run known reader reader' (Err f) → Taken (known (watched_inner reader)) (known (watched_inner reader'))
   took_at f reader_failed e read h = absurd (rw e at read)
   took_at f (writer_failed n) e read h = absurd (h.no_write n e)
   took_at f no_end_failed e read h = absurd (rw e at read)
@@ -57,7 +57,7 @@ module _ {R A : Type 0} (known : R → Option (List ℕ)) (reader reader' : Watc
   took (Ok x) read h = h.read.taken tt
   took (Err f) read h = took_at f (live_end_of f) refl read h
 
-  failed_at : (f : LiveFault) (x : FailedEnd) → live_end_of f ≡ x → Prepares live_run known reader reader' (Err {A = Ran × Vec ℕ A} f) → has_failed reader' ≡ reader_after (has_failed reader) x
+  failed_at : (f : LiveFault) (x : FailedEnd) → live_end_of f ≡ x → Prepares {A = A} live_run known reader reader' (Err f) → has_failed reader' ≡ reader_after (has_failed reader) x
   failed_at f reader_failed e h = h.on_read e
   failed_at f (writer_failed n) e h = absurd (h.no_write n e)
   failed_at f no_end_failed e h = h.on_neither e

@@ -3,12 +3,11 @@ use Rattle.std.proofs.Common.{◌≡◌, ◌∙◌, ◌⊎◌, inl, inr, ℕ, Bo
 use Rattle.tn_text.specs.Watch.{watched_inner, has_failed, is_flushed}
 use Rattle.tn_text.specs.declared.watched.Watched.{Watched}
 use Rattle.tn_moves.specs.Schedules.{by_workers}
-use Rattle.tn_run.specs.Answers.{HasPicksWhereListed, live_end_of, live_run, run_for}
+use Rattle.tn_run.specs.Answers.{HasPicksWhereListed, live_run, run_for}
 use Rattle.tn_run.specs.Ends.{TakesText}
 use Rattle.tn_run.specs.Jobs.{Meets, FailedEnd, Gives, JobView, Writes, WritesSome, no_end_failed, reader_failed, writer_failed}
 use Rattle.tn_run.specs.declared.outcome.Outcome.{Outcome}
 use Rattle.tn_run.specs.declared.outcome.Outcome.TheVariants.{Listed, Refused}
-use Rattle.tn_run.specs.declared.fault.LiveFault.{LiveFault}
 use Rattle.tn_run.specs.declared.live.Ran.{Ran}
 use Rattle.complete_runs.proofs.Both.{both_if_ok}
 use Rattle.complete_workers.specs.Ends.{EndAlike, TellAlike, error_of}
