@@ -16,10 +16,10 @@ pub no_first : {A : Type 0} (xs : List (Term A)) (t : Tree) → length xs ≡ 0 
 no_first [] t n e = cc e
 no_first (x ∷ xs) t n e = absurd (omega (arith, n))
 
-pub shape_of_form : {T E : Type 0} (done : Result T E) (bytes own : List ℕ) (n : ℕ) (o d : List ℕ) → IsFormText bytes n own → ((t : Tree) → SpellsTerms own (t ∷ []) → OnOk done (d ≡ o ++ shape_detail t)) → OnOk done (TellsShape bytes n o d)
-shape_of_form (Ok v) bytes own n o d is says = λ ts later t s e. says t (subst (SpellsFirst own) e (is ts s))
-shape_of_form (Err x) bytes own n o d is says = tt
+pub told_shape : {T E : Type 0} (done : Result T E) (bytes own : List ℕ) (n : ℕ) (o d : List ℕ) → IsFormText bytes n own → ((t : Tree) → SpellsTerms own (t ∷ []) → OnOk done (d ≡ o ++ shape_detail t)) → OnOk done (TellsShape bytes n o d)
+told_shape (Ok v) bytes own n o d is says = λ ts later t s e. says t (subst (SpellsFirst own) e (is ts s))
+told_shape (Err x) bytes own n o d is says = tt
 
-pub detail_under : {T E : Type 0} (done : Result T E) (P Q : Type 0) → (P → OnOk done Q) → OnOk done (P → Q)
-detail_under (Ok v) P Q f = f
-detail_under (Err x) P Q f = tt
+pub told_under : {T E : Type 0} (done : Result T E) (P Q : Type 0) → (P → OnOk done Q) → OnOk done (P → Q)
+told_under (Ok v) P Q f = f
+told_under (Err x) P Q f = tt

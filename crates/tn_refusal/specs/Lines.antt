@@ -18,7 +18,7 @@ printable_byte b = if nat_le 32 b && nat_le b 126 then b else 63
 pub record ShowsDetail (bytes : List ℕ) (r : Refusal) (rest : List ℕ) : Type 0 where
   pub kind : TextKind
   pub detail : List ℕ
-  pub says : TellsDetail r bytes kind [] detail
+  pub told : TellsDetail r bytes kind [] detail
   pub shown : rest ≡ map printable_byte detail
 
 -- the name and where the refusal is, the words of its rule, and then what breaks it, in printable characters

@@ -78,4 +78,4 @@ pub record TellsToken (f : TokenFault) (bytes : List ℕ) (k : texts.TextKind) (
   pub standing : Option texts.ReadSoFar
   pub found : texts.ThingAt
   pub characters : ℕ
-  pub says : new ≡ old ++ token_text f bytes standing found characters k
+  pub told : new ≡ old ++ token_text f bytes standing found characters k

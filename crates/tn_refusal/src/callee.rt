@@ -1,9 +1,14 @@
 // The functions that forms declare and name.
-ghost use Rattle.std.specs.Prelude.{◌≡◌, ◌++◌, OnOk};
+ghost use Rattle.std.specs.Prelude.{◌≡◌, [], ◌++◌, map, OnOk};
+ghost use Rattle.std.specs.List.{list_any};
 ghost use Rattle.def_wording.specs.RuleTexts.{function_text, declared_too, rule_reason_text};
+ghost use Rattle.def_wording.specs.RuleTexts.{again_at, again_reason, rule_reasons_text};
+ghost use Rattle.tn_program.specs.FunctionNames.{is_it, is_named_so};
 ghost use Rattle.def_script.specs.Program.{mfa_of};
-ghost use Rattle.tn_script.specs.Views.{function_of};
-ghost use Rattle.tn_refusal.specs.RuleViews.{callee_seen};
+ghost use Rattle.def_script.specs.Rules.{declares_one};
+ghost use Rattle.def_wording.specs.Firsts.{first_with_earlier};
+ghost use Rattle.tn_script.specs.Views.{function_of, form_of};
+ghost use Rattle.tn_refusal.specs.RuleViews.{callee_seen, declares_so};
 
 use crate::put::{put_atom, put_number};
 use crate::refusal::Refusal;
@@ -54,19 +59,49 @@ pub fn put_callee<A: Allocator>(
     put_number(b"/", callee.arity, out)
 }
 
+/// Whether it has the module and the name.
+fn is_named<A: Allocator>(function: &Function<A>, callee: &Callee<'_, A>) -> bool
+    ensures { result ≡ is_named_so (callee_seen callee.now).module_name (callee_seen callee.now).function_name
+        (function_of function.now) }
+{
+    function.module.text() == callee.home.text() && function.name.text() == callee.name.text()
+}
+
+/// Whether it has the module, the name and the number of parameters.
+fn is_same<A: Allocator>(function: &Function<A>, callee: &Callee<'_, A>) -> bool
+    ensures { result ≡ is_it (callee_seen callee.now) (function_of function.now) }
+{
+    function.module.text() == callee.home.text()
+        && function.name.text() == callee.name.text()
+        && function.params.len() == callee.arity
+}
+
 /// Whether this declares it so.
 fn declares<A: Allocator>(
     function: &Function<A>,
     how: DeclarationMatch,
     callee: &Callee<'_, A>,
-) -> bool {
-    if function.module.text() != callee.home.text() || function.name.text() != callee.name.text() {
-        return false;
-    }
+) -> bool
+    ensures { result ≡ declares_so how (callee_seen callee.now) (function_of function.now) }
+{
     match how {
-        DeclarationMatch::Named => true,
-        DeclarationMatch::Exact => function.params.len() == callee.arity,
-        DeclarationMatch::Internal => function.params.len() == callee.arity && !function.exported,
+        DeclarationMatch::Named => is_named(function, callee),
+        DeclarationMatch::Exact => is_same(function, callee),
+        DeclarationMatch::Internal => is_same(function, callee) && !function.exported,
+    }
+}
+
+/// Whether the form declares it so.
+fn form_declares<A: Allocator>(
+    form: &Form<A>,
+    how: DeclarationMatch,
+    callee: &Callee<'_, A>,
+) -> bool
+    ensures { result ≡ declares_one (declares_so how (callee_seen callee.now)) (form_of form.now) }
+{
+    match form {
+        Form::Function(function) => declares(function, how, callee),
+        _ => false,
     }
 }
 
@@ -75,12 +110,12 @@ fn is_declared<A: Allocator>(
     forms: &[Form<A>],
     how: DeclarationMatch,
     callee: &Callee<'_, A>,
-) -> bool {
+) -> bool
+    ensures { result ≡ list_any (declares_one (declares_so how (callee_seen callee.now))) (map form_of forms.now) }
+{
     for form in forms {
-        if let Form::Function(function) = form {
-            if declares(function, how, callee) {
-                return true;
-            }
+        if form_declares(form, how, callee) {
+            return true;
         }
     }
     false
@@ -222,19 +257,31 @@ fn put_declared_too<A: Allocator>(
     out.extend_from_slice(b" too")
 }
 
-/// Appends the function, where an earlier form declares it too.
+/// The number of the first of the forms that declares it, from 1.
+fn declaring_form<A: Allocator>(earlier: &[Form<A>], callee: &Callee<'_, A>) -> Option<usize>
+    ensures { result ≡ first_with_earlier (again_at (callee_seen callee.now)) [] (map form_of earlier.now) }
+{
+    for i in 0..earlier.len() {
+        let form = &earlier[i];
+        if form_declares(form, DeclarationMatch::Exact, callee) {
+            return Some(i + 1);
+        }
+    }
+    None
+}
+
+/// Appends the function, where an earlier form declares it too; after an `Err` a part of it may be there.
 pub fn put_again<A: Allocator>(
     earlier: &[Form<A>],
     function: &Function<A>,
     out: &mut Vec<u8, A>,
-) -> Result<(), AllocError> {
+) -> Result<(), AllocError>
+    ensures { OnOk result (out.new.items ≡ out.old.items
+        ++ rule_reasons_text (again_reason (mfa_of (function_of function.now)) (map form_of earlier.now))) }
+{
     let callee = declared_by(function);
-    for (i, form) in earlier.iter().enumerate() {
-        if let Form::Function(other) = form {
-            if declares(other, DeclarationMatch::Exact, &callee) {
-                return put_declared_too(&callee, i + 1, out);
-            }
-        }
+    match declaring_form(earlier, &callee) {
+        Some(form) => put_declared_too(&callee, form, out),
+        None => Ok(()),
     }
-    Ok(())
 }

@@ -80,8 +80,8 @@ fn put_rule<A: Allocator>(
 
 /// Appends what breaks the shape of the first of these terms; after an `Err` a part of it may be there.
 fn put_first_shape<A: Allocator>(terms: &[Term<A>], out: &mut Vec<u8, A>) -> Result<(), AllocError>
-    ensures { (t : Tree) → map tree_of terms.now ≡ t ∷ [] →
-        OnOk result (out.new.items ≡ out.old.items ++ shape_detail t) }
+    ensures { (t : Tree) → map tree_of terms.now ≡ t ∷ []
+        → OnOk result (out.new.items ≡ out.old.items ++ shape_detail t) }
 {
     if terms.len() == 0 {
         return Ok(());

@@ -1,12 +1,7 @@
-//! Why a script or a text of picks is refused: the refusal, its numbered line, and one line that the text can be
-//! fixed by.
+//! Why a script or a text of picks is refused: the refusal, its numbered line, and one line to fix the text by.
 //!
-//! Depends on tn_text, tn_script and tn_program, whose faults become refusals, and on the definitions of def_text,
-//! def_script, def_refusal and def_run. Promises that `refusal_bytes` is the line that is defined for the refusal; that
-//! `line_column_of` is the line and the column of an offset, and `form_offset` where a form begins; and that the
-//! line of `explain`, and that of `explain_term`, begins with the name, the place and the words of the refusal's
-//! rule: the place of the step or command that the refusal is of, where it is of one. What follows these, which is
-//! what breaks the rule, is printable and is not promised to be right.
+//! Depends on tn_program and def_wording. Promises the defined numbered line, and of `explain`, `explain_term` the
+//! place, the rule's words, and what is at fault in a form without a shape.
 #![tactic(auto)]
 
 mod bytes;

@@ -50,7 +50,9 @@ fn line_of<A: Allocator + Copy>(
 /// the rule, and then what breaks it, after `: `, where that can be found by looking through the text. For
 /// refusal 20 the text is that of the picks. Where the text isn't refused so, the line may say less.
 ///
-/// The contract says nothing of what breaks the rule, but that all of it is printable.
+/// The contract says which part of a form without a shape is at fault, and how long a text is that is too long. Of a
+/// refused token it gives the words, for something that stands there. Of the static rules, of picks and of how many
+/// forms there are it says nothing but that all of it is printable.
 ///
 /// # Errors
 ///

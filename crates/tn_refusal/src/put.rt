@@ -61,7 +61,7 @@ fn cut_after<A: Allocator>(start: usize, out: &mut Vec<u8, A>) -> Result<(), All
     out.extend_from_slice(b"..")
 }
 
-/// Appends the text of a term, or of more than 60 bytes the first and two dots. After an `Err` a part of it may be
+/// Appends the text of a term, or of more than 60 bytes the first and two dots; after an `Err` a part of it may be
 /// there.
 pub fn put_term<A: Allocator>(term: &Term<A>, out: &mut Vec<u8, A>) -> Result<(), AllocError>
     ensures { OnOk result (out.new.items ≡ out.old.items ++ shown_term (tree_of term.now)) }

@@ -118,8 +118,8 @@ fn put_unclosed<A: Allocator>(
     out.extend_from_slice(b" is not closed")
 }
 
-/// Appends what is said of a thing that closes or ends something, by what is open. After an `Err` a part of the text
-/// may be there.
+/// Appends what is said of a thing that closes or ends something, by what is open; after an `Err` a part of it may be
+/// there.
 fn put_closing<A: Allocator>(
     text: &[u8],
     innermost: Option<OpenFrame>,
@@ -188,8 +188,7 @@ fn put_in_quotes<A: Allocator>(
     out.extend_from_slice(b"'")
 }
 
-/// Appends how the text can be fixed, where the mistake is a common one. After an `Err` a part of the text may be
-/// there.
+/// Appends how the text can be fixed, where the mistake is a common one; after an `Err` a part of it may be there.
 fn put_hint<A: Allocator>(
     text: &[u8],
     standing: ReadState,
@@ -223,9 +222,8 @@ fn put_expected<A: Allocator>(
     out: &mut Vec<u8, A>,
 ) -> Result<(), AllocError>
     requires { length text.now < usize.MAX }
-    ensures { OnOk result (out.new.items ≡
-        out.old.items ++ misplaced_text text.now
-        (Some (read_state_seen standing)) (text_item_seen found.entry) (kind_seen kind)) }
+    ensures { OnOk result (out.new.items ≡ out.old.items
+        ++ misplaced_text text.now (Some (read_state_seen standing)) (text_item_seen found.entry) (kind_seen kind)) }
 {
     let in_tuple = is_in_tuple(standing.innermost);
     out.extend_from_slice(b": ")?;
@@ -256,9 +254,8 @@ fn put_misplaced<A: Allocator>(
     out: &mut Vec<u8, A>,
 ) -> Result<(), AllocError>
     requires { length text.now < usize.MAX }
-    ensures { OnOk result (out.new.items ≡
-        out.old.items ++ misplaced_text text.now
-        (read_states_seen standing) (text_item_seen found.entry) (kind_seen kind)) }
+    ensures { OnOk result (out.new.items ≡ out.old.items
+        ++ misplaced_text text.now (read_states_seen standing) (text_item_seen found.entry) (kind_seen kind)) }
 {
     match standing {
         Some(standing) => put_expected(text, standing, found, kind, out),

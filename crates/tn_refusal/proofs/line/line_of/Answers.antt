@@ -13,7 +13,7 @@ returns g c =
       rest = map printable_byte c.in_ok-found.found.items;
       place = c.in_ok-mark.ensures.place;
       text = cc (named, found, c.in_ok-line.ensures, c.words_of.ensures);
-      details = record { kind = kind_seen c.args.kind; detail = c.in_ok-found.found.items; says = c.in_ok-found.ensures; shown = refl };
+      details = record { kind = kind_seen c.args.kind; detail = c.in_ok-found.found.items; told = c.in_ok-found.ensures; shown = refl };
       printable = all_shown c.in_ok-found.found.items;
     }
 
