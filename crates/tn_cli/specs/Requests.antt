@@ -17,14 +17,16 @@ use Rattle.tn_spec.specs.declared.func.Dialect.{Dialect}
 use Rattle.tn_spec.specs.declared.func.Dialect.TheVariants.{Call, Send, Recv}
 use Rattle.tn_picture.specs.declared.request.PictureFormat.{PictureFormat}
 use Rattle.tn_picture.specs.declared.request.PictureFormat.TheVariants.{Svg, Plain}
-use Rattle.tn_cli.specs.declared.request.PicksSource.{PicksSource}
-use Rattle.tn_cli.specs.declared.request.PicksSource.TheVariants.{Text, In, Moves, MovesIn}
-use Rattle.tn_cli.specs.declared.request.RunSource.{RunSource}
-use Rattle.tn_cli.specs.declared.request.RunSource.TheVariants.{ByPicks, ByRound}
-use Rattle.tn_cli.specs.declared.request.ExpectationArgs.{ExpectationArgs}
-use Rattle.tn_cli.specs.declared.request.SpecTestArgs.{SpecTestArgs}
-use Rattle.tn_cli.specs.declared.request.Request.{Request}
-use Rattle.tn_cli.specs.declared.request.Request.TheVariants.{Replay, Explain, Draw, Round, Workers, Spec}
+use Rattle.tn_request.specs.declared.request.PicksSource.{PicksSource}
+use Rattle.tn_request.specs.declared.request.PicksSource.TheVariants.{Text, In, Moves, MovesIn}
+use Rattle.tn_request.specs.declared.request.RunSource.{RunSource}
+use Rattle.tn_request.specs.declared.request.RunSource.TheVariants.{ByPicks, ByRound}
+use Rattle.tn_request.specs.declared.request.ExpectationArgs.{ExpectationArgs}
+use Rattle.tn_request.specs.declared.request.SpecTestArgs.{SpecTestArgs}
+use Rattle.tn_request.specs.declared.request.RunRequest.{RunRequest}
+use Rattle.tn_request.specs.declared.request.RunRequest.TheVariants.{Replay, Explain, Draw, Round}
+use Rattle.tn_request.specs.declared.request.Request.{Request}
+use Rattle.tn_request.specs.declared.request.Request.TheVariants.{Run, Workers, Spec}
 
 -- the text that the command line gives for this name
 abbrev pub argument : ArgMatches → List ℕ → Option (List ℕ)
@@ -157,34 +159,29 @@ IsExpectationOf m e =
     × IsTextOf (argument m (codes "reject-line")) e.no_line
     × (e.strict ≡ is_given m (codes "strict"))
 
--- what the output of a request must be: anything, of a trial
-abbrev pub request_expectation : Request → ExpectationArgs
-request_expectation (Replay script picks quiet e) = e
-request_expectation (Explain script run filter e) = e
-request_expectation (Draw script picks format e) = e
-request_expectation (Round script limit control_first quiet e) = e
-request_expectation (Workers script count turns spread quiet e) = e
-request_expectation (Spec trial) = record { file = None; line = None; no_line = None; strict = false }
-
--- what the subcommand of this name asks for, by what was found after it
-abbrev pub Asks : List ℕ → ArgMatches → Request → Type 0
-Asks name m (Replay script picks quiet expectation) =
+-- which run by a schedule the subcommand of this name asks for, by what was found after it
+abbrev pub AsksRun : List ℕ → ArgMatches → RunRequest → Type 0
+AsksRun name m (Replay script picks quiet expectation) =
     (name ≡ codes "replay") × IsSourceNamed (argument m (codes "script")) script × ArePicksOf m picks
     × (quiet ≡ is_given m (codes "quiet")) × IsExpectationOf m expectation
-Asks name m (Explain script run filter expectation) =
+AsksRun name m (Explain script run filter expectation) =
     (name ≡ codes "explain") × IsSourceNamed (argument m (codes "script")) script × IsRunOf m run × IsAskedOf m filter
     × IsExpectationOf m expectation
-Asks name m (Draw script picks format expectation) =
+AsksRun name m (Draw script picks format expectation) =
     (name ≡ codes "draw") × IsSourceNamed (argument m (codes "script")) script × ArePicksOf m picks
     × (format ≡ picture_format_named (is_given m (codes "text"))) × IsExpectationOf m expectation
-Asks name m (Round script limit control_first quiet expectation) =
+AsksRun name m (Round script limit control_first quiet expectation) =
     (name ≡ codes "round") × IsSourceNamed (argument m (codes "script")) script × IsGiven 1 65536 (argument m (codes "limit")) limit
     × (control_first ≡ takes_control_first m) × (quiet ≡ is_given m (codes "quiet")) × IsExpectationOf m expectation
-Asks name m (Workers script count turns spread quiet expectation) =
-    (name ≡ codes "workers") × IsSourceNamed (argument m (codes "script")) script
-    × IsGiven 1 16 (argument m (codes "n")) count × IsGiven 1 65536 (argument m (codes "turns")) turns
-    × IsNumberOrNone {E = Unit {0}} (argument m (codes "spread")) (Ok spread)
-    × (quiet ≡ is_given m (codes "quiet")) × IsExpectationOf m expectation
+
+-- what the subcommand of this name asks for
+abbrev pub Asks : List ℕ → ArgMatches → Request → Type 0
+Asks name m (Run run) = AsksRun name m run
+Asks name m (Workers w) =
+    (name ≡ codes "workers") × IsSourceNamed (argument m (codes "script")) w.script
+    × IsGiven 1 16 (argument m (codes "n")) w.count × IsGiven 1 65536 (argument m (codes "turns")) w.turns
+    × IsNumberOrNone {E = Unit {0}} (argument m (codes "spread")) (Ok w.spread)
+    × (w.quiet ≡ is_given m (codes "quiet")) × IsExpectationOf m w.expectation
 Asks name m (Spec trial) = (name ≡ codes "spec") × IsTrialOf m trial
 
 -- the run is a round, whose limit is no number or is out of its bounds

@@ -18,9 +18,7 @@ use clap::ArgMatches;
 use clap::error::ErrorKind;
 use format::format_of;
 use output_bound::most_of;
-use request::{
-    BadNumber, ExpectationArgs, PicksSource, Request, RunSource, SpecTestArgs, request_of,
-};
+use request::{BadNumber, request_of};
 use std::alloc::{AllocError, Global};
 use std::io;
 use std::process::ExitCode;
@@ -28,112 +26,23 @@ use std::rt::{Env, Files};
 use std::sync::Wait;
 use std::thread::Threads;
 use tn_command::{
-    Command, Expectation, FAULT, InFormat, LastError, OutputForm, REFUSED, Source, Start,
-    WithinBytes, WorkersRun, arguments, escape_controls, output_of, perform, picks_of, report,
-    tell_fault, test_spec,
+    FAULT, LastError, OutputForm, REFUSED, Source, arguments, escape_controls, output_of, picks_of,
+    report, tell_fault,
 };
-use tn_explain::{ExplainRequest, Filter};
-use tn_formats::Format;
-use tn_moves::Schedule;
-use tn_picture::{DrawRequest, PictureFormat};
-use tn_replay::Replay;
-use tn_run::{DirectJob, RunFault, Workers, write_output};
+use tn_request::{Request, TextSource, answer_request, expectation_of};
+use tn_run::{RunFault, write_output};
 use tn_text::Watched;
-use tn_verdict::SpecTestInput;
-
-/// What is done with the run of a script.
-#[derive(Clone, Copy)]
-enum Task<'a> {
-    /// The run's output is printed, and its note where there is one, unless nothing is asked for on standard error.
-    Replay(PrintArgs),
-    /// The run is explained, in a form: the session and the move that are asked for.
-    Explain {
-        filter: Filter<'a>,
-        form: OutputForm,
-    },
-    /// The run is drawn, in so many bytes at most.
-    Draw {
-        picture: PictureFormat,
-        most: usize,
-    },
-}
-
-/// What is printed of a run: in which form, and whether notes are printed on standard error.
-#[derive(Clone, Copy)]
-struct PrintArgs {
-    form: OutputForm,
-    quiet: bool,
-}
-
-/// What a text says.
-#[derive(Clone, Copy)]
-enum TextKind {
-    Picks,
-    Moves,
-}
-
-/// Does a job with the script, whose output is written in a form.
-fn perform_in<R: Input + Files + Print + Eprint + AllocGlobal, J: Command + DirectJob<Global>>(
-    rt: &R,
-    script: Source<'_>,
-    job: &J,
-    form: OutputForm,
-    expectation: &Expectation<'_>,
-) -> ExitCode
-    ensures { IsStatus (exit_status result) }
-{
-    let OutputForm { format, most } = form;
-    let job = &InFormat { job, format };
-    perform(rt, script, &WithinBytes { job, most }, expectation)
-}
-
-/// Does the task by a schedule.
-fn run_schedule<R: Input + Files + Print + Eprint + AllocGlobal>(
-    rt: &R,
-    task: Task<'_>,
-    script: Source<'_>,
-    schedule: Schedule<'_>,
-    expectation: &Expectation<'_>,
-) -> ExitCode
-    ensures { IsStatus (exit_status result) }
-{
-    match task {
-        Task::Replay(PrintArgs { form, quiet }) => {
-            let job = &Replay {
-                schedule,
-                has_notes: !quiet || expectation.strict,
-                quiet,
-            };
-            perform_in(rt, script, job, form, expectation)
-        }
-        Task::Explain { filter, form } => {
-            let job = &ExplainRequest { schedule, filter };
-            perform_in(rt, script, job, form, expectation)
-        }
-        Task::Draw { picture, most } => {
-            let job = &DrawRequest {
-                schedule,
-                format: picture,
-            };
-            perform(rt, script, &WithinBytes { job, most }, expectation)
-        }
-    }
-}
 
 /// The text of picks or of moves in a file, or in standard input where that isn't the script.
 fn text_in<R: Input + Files + Eprint + AllocGlobal>(
     rt: &R,
-    script: Source<'_>,
-    kind: TextKind,
+    script: Option<Source<'_>>,
+    what: &str,
     source: Source<'_>,
 ) -> Result<Vec<u8>, ExitCode>
     ensures { IfErr result (λ s. IsStatus (exit_status s)) }
 {
-    if let (Source::Input, Source::Input) = (script, source) {
-        let what = match kind {
-            TextKind::Picks => "picks",
-            TextKind::Moves => "moves",
-        };
+    if let (Some(Source::Input), Source::Input) = (script, source) {
         let _ = rt.eprintln(format_args!(
             "error: the script and the {what} can't both be standard input"
         ));
@@ -142,233 +51,41 @@ fn text_in<R: Input + Files + Eprint + AllocGlobal>(
     picks_of(rt, source)
 }
 
-/// Does the task with a file of picks or of moves, or with standard input for one.
-fn run_from<R: Input + Files + Print + Eprint + AllocGlobal>(
+/// The text that a request needs beside the script; the empty text where it needs none.
+fn text_of<R: Input + Files + Eprint + AllocGlobal>(
     rt: &R,
-    task: Task<'_>,
-    script: Source<'_>,
-    kind: TextKind,
-    source: Source<'_>,
-    expectation: &Expectation<'_>,
-) -> ExitCode
-    ensures { IsStatus (exit_status result) }
+    request: &Request<'_>,
+) -> Result<Vec<u8>, ExitCode>
+    ensures { IfErr result (λ s. IsStatus (exit_status s)) }
 {
-    match text_in(rt, script, kind, source) {
-        Ok(text) => {
-            let schedule = match kind {
-                TextKind::Picks => Schedule::Picks(&text),
-                TextKind::Moves => Schedule::Moves(&text),
-            };
-            run_schedule(rt, task, script, schedule, expectation)
-        }
-        Err(status) => status,
+    match request.text_source() {
+        None => Ok(Vec::new(rt.alloc())),
+        Some(TextSource::Picks(source)) => text_in(rt, request.script(), "picks", source),
+        Some(TextSource::Moves(source)) => text_in(rt, request.script(), "moves", source),
+        Some(TextSource::Specification) => picks_of(rt, Source::Input),
     }
 }
 
-/// Does the task with a script and picks or moves.
-fn run_by_picks<R: Input + Files + Print + Eprint + AllocGlobal>(
-    rt: &R,
-    task: Task<'_>,
-    script: Source<'_>,
-    picks: PicksSource<'_>,
-    expectation: &Expectation<'_>,
-) -> ExitCode
-    ensures { IsStatus (exit_status result) }
-{
-    match picks {
-        PicksSource::In(source) => {
-            run_from(rt, task, script, TextKind::Picks, source, expectation)
-        }
-        PicksSource::Text(text) => {
-            let schedule = Schedule::Picks(text.as_bytes());
-            run_schedule(rt, task, script, schedule, expectation)
-        }
-        PicksSource::MovesIn(source) => {
-            run_from(rt, task, script, TextKind::Moves, source, expectation)
-        }
-        PicksSource::Moves(text) => {
-            let schedule = Schedule::Moves(text.as_bytes());
-            run_schedule(rt, task, script, schedule, expectation)
-        }
-    }
-}
-
-/// A round, in which so many picks may move.
-fn round_schedule(limit: u32, control_first: bool) -> Schedule<'static> {
-    if control_first {
-        Schedule::ControlFirst(limit)
-    } else {
-        Schedule::Round(limit)
-    }
-}
-
-/// Does the task, which is an explanation, by picks or in a round.
-fn run_explain<R: Input + Files + Print + Eprint + AllocGlobal>(
-    rt: &R,
-    script: Source<'_>,
-    run: RunSource<'_>,
-    task: Task<'_>,
-    expectation: &Expectation<'_>,
-) -> ExitCode
-    ensures { IsStatus (exit_status result) }
-{
-    match run {
-        RunSource::ByPicks(picks) => run_by_picks(rt, task, script, picks, expectation),
-        RunSource::ByRound {
-            limit,
-            control_first,
-        } => {
-            let schedule = round_schedule(limit, control_first);
-            run_schedule(rt, task, script, schedule, expectation)
-        }
-    }
-}
-
-/// Runs a script by so many workers, from 1 to 16.
-fn run_workers<R: Input + Files + Print + Eprint + AllocGlobal + Threads + Wait + Sync>(
-    rt: &R,
-    script: Source<'_>,
-    count: u32,
-    turns: u32,
-    spread: Option<u64>,
-    job: &WorkersRun<'_>,
-) -> ExitCode
-    ensures { IsStatus (exit_status result) }
-{
-    let count = count.max(1).min(16);
-    let workers = Workers {
-        count,
-        turns,
-        gate: &Start::new(count, spread),
-    };
-    tn_command::run_workers(rt, script, &workers, job)
-}
-
-/// Makes a trial of a specification, whose answer is printed in a format.
-fn try_spec<R: Print + Eprint + AllocGlobal>(
-    rt: &R,
-    trial: &SpecTestArgs<'_>,
-    spec: &[u8],
-    format: Option<Format>,
-) -> ExitCode
-    ensures { IsStatus (exit_status result) }
-{
-    let question = SpecTestInput {
-        dialect: trial.dialect,
-        list: trial.list.as_bytes(),
-        self_pid: trial.self_pid,
-        caller: trial.caller.map(|text| text.as_bytes()),
-        spec,
-    };
-    test_spec(rt, &question, format)
-}
-
-/// Makes a trial, of standard input where no specification is given or `-` is.
-fn run_spec<R: Input + Files + Print + Eprint + AllocGlobal>(
-    rt: &R,
-    trial: &SpecTestArgs<'_>,
-    format: Option<Format>,
-) -> ExitCode
-    ensures { IsStatus (exit_status result) }
-{
-    match trial.specification {
-        None | Some("-") => match picks_of(rt, Source::Input) {
-            Ok(text) => try_spec(rt, trial, &text, format),
-            Err(status) => status,
-        },
-        Some(text) => try_spec(rt, trial, text.as_bytes(), format),
-    }
-}
-
-/// Does what is asked for, in a form, whose output must be what is expected.
-fn run_so<R: Input + Files + Print + Eprint + AllocGlobal + Threads + Wait + Sync>(
-    rt: &R,
-    ask: Request<'_>,
-    form: OutputForm,
-    expectation: &Expectation<'_>,
-) -> ExitCode
-    ensures { IsStatus (exit_status result) }
-{
-    match ask {
-        Request::Replay {
-            script,
-            picks,
-            quiet,
-            ..
-        } => {
-            let task = Task::Replay(PrintArgs { form, quiet });
-            run_by_picks(rt, task, script, picks, expectation)
-        }
-        Request::Explain {
-            script,
-            run,
-            filter,
-            ..
-        } => run_explain(rt, script, run, Task::Explain { filter, form }, expectation),
-        Request::Draw {
-            script,
-            picks,
-            format: picture,
-            ..
-        } => {
-            let most = form.most;
-            run_by_picks(rt, Task::Draw { picture, most }, script, picks, expectation)
-        }
-        Request::Round {
-            script,
-            limit,
-            control_first,
-            quiet,
-            ..
-        } => {
-            let task = Task::Replay(PrintArgs { form, quiet });
-            let schedule = round_schedule(limit, control_first);
-            run_schedule(rt, task, script, schedule, expectation)
-        }
-        Request::Workers {
-            script,
-            count,
-            turns,
-            spread,
-            quiet,
-            ..
-        } => {
-            let job = WorkersRun {
-                has_note: !quiet,
-                form,
-                expectation,
-            };
-            run_workers(rt, script, count, turns, spread, &job)
-        }
-        Request::Spec(trial) => run_spec(rt, &trial, form.format),
-    }
-}
-
-/// Does what is asked for, in a form. The file that has the output that is expected is read first.
+/// Does what is asked for, in a form. The file that has the output that is expected is read first, and then the text
+/// beside the script.
 fn run_request<R: Input + Files + Print + Eprint + AllocGlobal + Threads + Wait + Sync>(
     rt: &R,
-    ask: Request<'_>,
+    request: &Request<'_>,
     form: OutputForm,
 ) -> ExitCode
     ensures { IsStatus (exit_status result) }
 {
-    let ExpectationArgs {
-        file,
-        line,
-        no_line,
-        strict,
-    } = ask.expectation();
-    let output = match output_of(rt, file) {
+    let words = request.expectation();
+    let output = match output_of(rt, words.file) {
         Ok(output) => output,
         Err(status) => return status,
     };
-    let expectation = Expectation {
-        output: output.as_deref(),
-        line: line.map(|text| text.as_bytes()),
-        no_line: no_line.map(|text| text.as_bytes()),
-        strict,
+    let text = match text_of(rt, request) {
+        Ok(text) => text,
+        Err(status) => return status,
     };
-    run_so(rt, ask, form, &expectation)
+    let expectation = expectation_of(&words, output.as_deref());
+    answer_request(rt, request, &text, form, &expectation)
 }
 
 /// Says that a value is no number, as other wrong values are refused.
@@ -405,7 +122,7 @@ fn run_command<R: Input + Files + Print + Eprint + AllocGlobal + Threads + Wait 
         Err(bad) => return refuse_number(rt, bad),
     };
     match request_of(matches) {
-        Ok(Some(ask)) => run_request(rt, ask, form),
+        Ok(Some(request)) => run_request(rt, &request, form),
         Ok(None) => ExitCode::from(REFUSED),
         Err(bad) => refuse_number(rt, bad),
     }

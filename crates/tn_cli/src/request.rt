@@ -5,135 +5,17 @@ ghost use Rattle.tn_cli.specs.Requests.{number_given, IsNumberOrNone};
 ghost use Rattle.tn_cli.specs.Requests.{NamesProcess, NamesNoProcess, ArePicksOf, IsSourceNamed, Asks, IsAskedBy};
 ghost use Rattle.tn_cli.specs.Requests.{LacksLimit, LacksNumber, IsWithoutNumber, NamesNoCommand};
 ghost use Rattle.tn_cli.specs.Requests.{IsRunOf, takes_control_first};
-ghost use Rattle.tn_cli.specs.Requests.{IsExpectationOf, request_expectation};
+ghost use Rattle.tn_cli.specs.Requests.{IsExpectationOf};
 
 use crate::value::{process_number, session_name};
 use clap::ArgMatches;
 use tn_command::{Source, plain_number, source_of};
 use tn_explain::Filter;
 use tn_picture::PictureFormat;
+use tn_request::{
+    ExpectationArgs, PicksSource, Request, RunRequest, RunSource, SpecTestArgs, WorkersRequest,
+};
 use tn_spec::Dialect;
-
-/// Where the text of picks or of moves is.
-#[derive(Clone, Copy)]
-pub enum PicksSource<'a> {
-    /// The text of picks is given.
-    Text(&'a str),
-    /// It is in a file, or is standard input.
-    In(Source<'a>),
-    /// The text of moves is given.
-    Moves(&'a str),
-    /// It is in a file, or is standard input.
-    MovesIn(Source<'a>),
-}
-
-/// Which run is explained.
-#[derive(Clone, Copy)]
-pub enum RunSource<'a> {
-    /// The run by picks.
-    ByPicks(PicksSource<'a>),
-    /// The round in which so many picks may move.
-    ByRound {
-        limit: u32,
-        /// Whether all commands of the control list are taken before it.
-        control_first: bool,
-    },
-}
-
-/// What a trial is of, in the words of `spec`.
-#[derive(Clone, Copy)]
-pub struct SpecTestArgs<'a> {
-    pub dialect: Dialect,
-    pub list: &'a str,
-    pub self_pid: u32,
-    pub caller: Option<&'a str>,
-    /// The specification, where it isn't standard input.
-    pub specification: Option<&'a str>,
-}
-
-/// What an output must be, in the words of the command line.
-#[derive(Clone, Copy)]
-pub struct ExpectationArgs<'a> {
-    /// The file whose bytes it must be.
-    pub file: Option<&'a str>,
-    /// The line that it must have.
-    pub line: Option<&'a str>,
-    /// The line that it must not have.
-    pub no_line: Option<&'a str>,
-    /// Whether each command must be done.
-    pub strict: bool,
-}
-
-/// What the command line asks for.
-#[derive(Clone, Copy)]
-pub enum Request<'a> {
-    /// A run by picks.
-    Replay {
-        script: Source<'a>,
-        picks: PicksSource<'a>,
-        /// Whether no notes are printed on standard error.
-        quiet: bool,
-        expectation: ExpectationArgs<'a>,
-    },
-    /// An explanation of a run.
-    Explain {
-        script: Source<'a>,
-        run: RunSource<'a>,
-        filter: Filter<'a>,
-        expectation: ExpectationArgs<'a>,
-    },
-    /// A picture of a run by picks or moves.
-    Draw {
-        script: Source<'a>,
-        picks: PicksSource<'a>,
-        format: PictureFormat,
-        expectation: ExpectationArgs<'a>,
-    },
-    /// A round, in which so many picks may move.
-    Round {
-        script: Source<'a>,
-        limit: u32,
-        /// Whether all commands of the control list are taken before it.
-        control_first: bool,
-        /// Whether no notes are printed on standard error.
-        quiet: bool,
-        expectation: ExpectationArgs<'a>,
-    },
-    /// A run by so many workers, of so many turns each.
-    Workers {
-        script: Source<'a>,
-        count: u32,
-        turns: u32,
-        /// The seed by which turns give way to other workers.
-        spread: Option<u64>,
-        /// Whether no notes are printed on standard error.
-        quiet: bool,
-        expectation: ExpectationArgs<'a>,
-    },
-    /// A trial of a match specification.
-    Spec(SpecTestArgs<'a>),
-}
-
-impl<'a> Request<'a> {
-    /// What the output must be; anything, of a trial.
-    pub fn expectation(&self) -> ExpectationArgs<'a>
-        ensures { result ≡ request_expectation self.now }
-    {
-        match *self {
-            Request::Replay { expectation, .. } => expectation,
-            Request::Explain { expectation, .. } => expectation,
-            Request::Draw { expectation, .. } => expectation,
-            Request::Round { expectation, .. } => expectation,
-            Request::Workers { expectation, .. } => expectation,
-            Request::Spec(_) => ExpectationArgs {
-                file: None,
-                line: None,
-                no_line: None,
-                strict: false,
-            },
-        }
-    }
-}
 
 /// A value that isn't a number that the option takes.
 #[derive(Clone, Copy)]
@@ -287,12 +169,12 @@ fn expectation<'a>(matches: &ArgMatches<'a>) -> ExpectationArgs<'a>
 fn replay<'a>(matches: &ArgMatches<'a>) -> Request<'a>
     ensures { Asks (codes "replay") matches.now result }
 {
-    Request::Replay {
+    Request::Run(RunRequest::Replay {
         script: script(matches),
         picks: picks(matches),
         quiet: flag(matches, "quiet"),
         expectation: expectation(matches),
-    }
+    })
 }
 
 /// What `explain` asks for.
@@ -302,7 +184,7 @@ fn explain<'a>(matches: &ArgMatches<'a>) -> Result<Request<'a>, BadNumber<'a>>
 {
     let move_number = number_or_none(matches, "move", "--move <N>")?;
     let run = run_source(matches)?;
-    Ok(Request::Explain {
+    Ok(Request::Run(RunRequest::Explain {
         script: script(matches),
         run,
         filter: Filter {
@@ -311,7 +193,7 @@ fn explain<'a>(matches: &ArgMatches<'a>) -> Result<Request<'a>, BadNumber<'a>>
             node: flag(matches, "node"),
         },
         expectation: expectation(matches),
-    })
+    }))
 }
 
 /// What a picture is written as.
@@ -329,12 +211,12 @@ fn format<'a>(matches: &ArgMatches<'a>) -> PictureFormat
 fn draw<'a>(matches: &ArgMatches<'a>) -> Request<'a>
     ensures { Asks (codes "draw") matches.now result }
 {
-    Request::Draw {
+    Request::Run(RunRequest::Draw {
         script: script(matches),
         picks: picks(matches),
         format: format(matches),
         expectation: expectation(matches),
-    }
+    })
 }
 
 /// What `round` asks for.
@@ -343,13 +225,13 @@ fn round<'a>(matches: &ArgMatches<'a>) -> Result<Request<'a>, BadNumber<'a>>
     ensures refused { IfErr result (λ e. LacksNumber (codes "round") matches.now) }
 {
     let limit = number(matches, "limit", "--limit <N>", 1, 65536)?;
-    Ok(Request::Round {
+    Ok(Request::Run(RunRequest::Round {
         script: script(matches),
         limit,
         control_first: control_first(matches),
         quiet: flag(matches, "quiet"),
         expectation: expectation(matches),
-    })
+    }))
 }
 
 /// What `workers` asks for.
@@ -360,14 +242,14 @@ fn workers<'a>(matches: &ArgMatches<'a>) -> Result<Request<'a>, BadNumber<'a>>
     let count = number(matches, "n", "--n <N>", 1, 16)?;
     let turns = number(matches, "turns", "--turns <T>", 1, 65536)?;
     let spread = number_or_none(matches, "spread", "--spread <SEED>")?;
-    Ok(Request::Workers {
+    Ok(Request::Workers(WorkersRequest {
         script: script(matches),
         count,
         turns,
         spread,
         quiet: flag(matches, "quiet"),
         expectation: expectation(matches),
-    })
+    }))
 }
 
 /// What `spec` asks for.

@@ -1,5 +1,6 @@
 mod NumberLemmas
 mod StatusLemmas
+mod PrintLemmas
 mod FormLemmas
 mod SpecNotes
 mod SpecNoteRows

@@ -24,7 +24,7 @@ pub has_status : {O F : Type 0} (job : JobView O F) (n : ℕ) (r : Result O F) �
 has_status job n (Ok o) e = status_is n (job.succeeds o) e
 has_status job n (Err f) e = inr (inr (inl e))
 
-unflawed_stays : (b : Bool) (n : ℕ) → n ≡ (if b && false then UNMET_STATUS else n)
+pub unflawed_stays : (b : Bool) (n : ℕ) → n ≡ (if b && false then UNMET_STATUS else n)
 unflawed_stays true n = refl
 unflawed_stays false n = refl
 

@@ -12,3 +12,4 @@ pub mod PickNotes
 pub mod SpecNotes
 pub mod SpecNoteViews
 pub mod Delays
+pub mod PrintedJobs

@@ -1,9 +1,11 @@
 // What a command does with a script.
-ghost use Rattle.std.specs.Prelude.{◌≡◌, true};
+ghost use Rattle.std.specs.Prelude.{◌≡◌, true, IfOk, OnErr, OnOk};
 ghost use Rattle.std.specs.Process.{exit_status};
+ghost use Rattle.tn_run.specs.Ends.{WroteAll};
 ghost use Rattle.tn_run.specs.Jobs.{Meets};
 ghost use Rattle.tn_command.specs.Expectations.{meets_expectation};
 ghost use Rattle.tn_command.specs.Flaws.{IsEndFlaw, output_bytes, script_bytes};
+ghost use Rattle.tn_command.specs.PrintedJobs.{IsMetByAll, IsPrintedAs, WroteNoneOrFront, script_inner};
 ghost use Rattle.tn_command.specs.Status.{IsStatus, OnFaultUntouchedOrFailed, WroteAs};
 ghost use Rattle.tn_command.specs.Status.{IsStrictStatus, IsStrictJudgement, status_of};
 
@@ -13,7 +15,7 @@ use crate::judgement::judge;
 use crate::last_error::LastError;
 use crate::plain_text::{escape_controls, plain_name};
 use crate::source::{Source, open};
-use crate::status::{JobEnd, job_status, judge_status, report};
+use crate::status::{FAULT, JobEnd, job_status, judge_status, report};
 use crate::stderr::{NamedText, tell_fault};
 use crate::tee::Tee;
 use std::alloc::{Allocator, Global};
@@ -21,11 +23,11 @@ use std::io;
 use std::io::{Error, Read, Write};
 use std::process::ExitCode;
 use std::rt::Files;
-use tn_run::{DirectJob, RunFault, transact};
+use tn_run::{DirectJob, Job, RunFault, transact, write_output};
 use tn_text::Watched;
 
 /// What the script of standard input is called.
-pub(crate) const INPUT: &str = "script";
+pub const INPUT: &str = "script";
 
 /// Does a job with the script that a reader holds: what the writer gained is what the status says.
 pub fn perform_over<A: Allocator + Copy, J: DirectJob<A>, R: Read, W: Write>(
@@ -59,7 +61,9 @@ pub(crate) struct NamedScript<'a, R> {
 }
 
 /// A script with this name, of which nothing was read yet.
-pub(crate) fn script_of<'a, R>(alloc: Global, name: &'a str, reader: R) -> NamedScript<'a, R> {
+pub(crate) fn script_of<'a, R>(alloc: Global, name: &'a str, reader: R) -> NamedScript<'a, R>
+    ensures { script_inner result ≡ reader }
+{
     let reader = Watched::of(LastError::of(Tee::of(alloc, reader)));
     NamedScript { name, reader }
 }
@@ -147,6 +151,120 @@ pub(crate) fn print_judgement<R: Eprint + AllocGlobal, J: Command, S: Drop, W: D
     judge(rt, status, &output, expectation)
 }
 
+/// What a command reads and writes.
+pub struct Streams<'a, S, W> {
+    /// What the script is called.
+    pub name: &'a str,
+    /// The reader of the script.
+    pub reader: S,
+    /// The writer of the output.
+    pub writer: W,
+}
+
+/// The output that a job left in memory, written to a writer where the job has an outcome.
+fn write_end<A: Allocator + Copy, J: Job<A>, W: Write>(
+    job: &J,
+    end: JobEnd<J::Outcome, J::Fault>,
+    output: &[u8],
+    writer: &mut Watched<W>,
+) -> JobEnd<J::Outcome, J::Fault>
+    requires { exit_status end.status ≡ status_of (J.view job.now) end.answer }
+    ensures status { exit_status result.status ≡ status_of (J.view job.now) result.answer }
+    ensures outcome { IfOk result.answer (λ o. end.answer ≡ Ok o) }
+    ensures all { OnOk result.answer (WroteAll W.contents writer.old writer.new output.now) }
+    ensures front { OnErr result.answer (WroteNoneOrFront W.contents writer.old writer.new output.now end.answer) }
+{
+    let JobEnd { status, answer } = end;
+    match answer {
+        Ok(outcome) => match write_output(writer, output) {
+            Ok(()) => JobEnd {
+                status,
+                answer: Ok(outcome),
+            },
+            Err(fault) => JobEnd {
+                status: ExitCode::from(FAULT),
+                answer: Err(job.fault_of(fault)),
+            },
+        },
+        Err(fault) => JobEnd {
+            status,
+            answer: Err(fault),
+        },
+    }
+}
+
+/// Does a job with the script of a reader, where nothing is expected of its output, which a writer gains.
+fn print_plain<
+    R: Eprint + AllocGlobal,
+    S: Read + Drop,
+    W: Write + Drop,
+    J: Command + DirectJob<Global>,
+>(rt: &R, job: &J, streams: Streams<'_, S, W>, expectation: &Expectation<'_>) -> (ExitCode, W)
+    requires { IsMetByAll expectation.now }
+    ensures printed { IsPrintedAs (J.view job.now) (J.flaw job.now) expectation.now (S.remaining streams.entry.reader)
+        (W.contents streams.entry.writer) (W.contents result.1) (exit_status result.0) }
+    ensures status { IsStatus (exit_status result.0) }
+{
+    let Streams {
+        name,
+        reader,
+        writer,
+    } = streams;
+    let mut script = script_of(rt.alloc(), name, reader);
+    let mut writer = Watched::of(LastError::of(writer));
+    let end = perform_over(rt.alloc(), job, &mut script.reader, &mut writer);
+    let (writer, unwritten) = writer.into_inner().into_parts();
+    let status = print_end(rt, job, end, script, unwritten, expectation.strict);
+    (status, writer)
+}
+
+/// The same, where the output is compared with what is expected: it is kept in memory before it is written.
+fn print_with_expectation<
+    R: Eprint + AllocGlobal,
+    S: Read + Drop,
+    W: Write + Drop,
+    J: Command + DirectJob<Global>,
+>(rt: &R, job: &J, streams: Streams<'_, S, W>, expectation: &Expectation<'_>) -> (ExitCode, W)
+    ensures printed { IsPrintedAs (J.view job.now) (J.flaw job.now) expectation.now (S.remaining streams.entry.reader)
+        (W.contents streams.entry.writer) (W.contents result.1) (exit_status result.0) }
+    ensures status { IsStatus (exit_status result.0) }
+{
+    let Streams {
+        name,
+        reader,
+        writer,
+    } = streams;
+    let mut script = script_of(rt.alloc(), name, reader);
+    let mut memory = Watched::of(LastError::of(Vec::new(rt.alloc())));
+    let end = perform_over(rt.alloc(), job, &mut script.reader, &mut memory);
+    let (output, lack) = memory.into_inner().into_parts();
+    let mut writer = Watched::of(LastError::of(writer));
+    let end = write_end(job, end, &output, &mut writer);
+    let (writer, unwritten) = writer.into_inner().into_parts();
+    let status = print_end(rt, job, end, script, lack.or(unwritten), expectation.strict);
+    (judge(rt, status, &output, expectation), writer)
+}
+
+/// Does a job with the script that a reader holds: the writer, which is given back, has gained what the job writes, or
+/// a front of that where it failed; and the status is that of the answer, of a flaw under `--strict` or of an unmet
+/// expectation.
+pub fn print_over<
+    R: Eprint + AllocGlobal,
+    S: Read + Drop,
+    W: Write + Drop,
+    J: Command + DirectJob<Global>,
+>(rt: &R, job: &J, streams: Streams<'_, S, W>, expectation: &Expectation<'_>) -> (ExitCode, W)
+    ensures printed { IsPrintedAs (J.view job.now) (J.flaw job.now) expectation.now (S.remaining streams.entry.reader)
+        (W.contents streams.entry.writer) (W.contents result.1) (exit_status result.0) }
+    ensures status { IsStatus (exit_status result.0) }
+{
+    if expectation.is_none() {
+        print_plain(rt, job, streams, expectation)
+    } else {
+        print_with_expectation(rt, job, streams, expectation)
+    }
+}
+
 /// Does a job with the script that a reader with this name holds, and writes to standard output.
 fn print_job<R: Print + Eprint + AllocGlobal, S: Read + Drop, J: Command + DirectJob<Global>>(
     rt: &R,
@@ -157,22 +275,14 @@ fn print_job<R: Print + Eprint + AllocGlobal, S: Read + Drop, J: Command + Direc
 ) -> ExitCode
     ensures { IsStatus (exit_status result) }
 {
-    let mut script = script_of(rt.alloc(), name, reader);
-    if expectation.is_none() {
-        let mut writer = Watched::of(LastError::of(io::writer(rt)));
-        let end = perform_over(rt.alloc(), job, &mut script.reader, &mut writer);
-        return print_end(
-            rt,
-            job,
-            end,
-            script,
-            write_error(writer),
-            expectation.strict,
-        );
-    }
-    let mut writer = Watched::of(LastError::of(Tee::of(rt.alloc(), io::writer(rt))));
-    let end = perform_over(rt.alloc(), job, &mut script.reader, &mut writer);
-    print_judgement(rt, job, end, script, writer, expectation)
+    let writer = io::writer(rt);
+    let streams = Streams {
+        name,
+        reader,
+        writer,
+    };
+    let (status, _) = print_over(rt, job, streams, expectation);
+    status
 }
 
 /// Does a job with the script of a source, and writes to standard output. Where something is expected of the output,

@@ -1,0 +1,138 @@
+// What a request asks for is done.
+ghost use Rattle.std.specs.Prelude.{◌≡◌};
+ghost use Rattle.std.specs.Process.{exit_status};
+ghost use Rattle.tn_run.specs.Jobs.{Meets};
+ghost use Rattle.tn_command.specs.PrintedJobs.{IsPrintedAs};
+ghost use Rattle.tn_command.specs.Status.{IsStatus, OnFaultUntouchedOrFailed, WroteAs, status_of};
+ghost use Rattle.tn_request.specs.TaskFlaws.{flaw_asked};
+ghost use Rattle.tn_request.specs.Tasks.{job_asked};
+
+use crate::job::{RequestOutcome, format_of, job_of};
+use crate::request::{Request, RunRequest};
+use crate::trial::spec_input_of;
+use crate::workers::run_workers_request;
+use std::alloc::Allocator;
+use std::io;
+use std::io::{Read, Write};
+use std::marker::Sync;
+use std::process::ExitCode;
+use std::rt::Files;
+use std::sync::Wait;
+use std::thread::Threads;
+use tn_command::{
+    Expectation, INPUT, InFormat, JobEnd, OutputFault, OutputForm, Source, Streams, WithinBytes,
+    open, perform_over, print_over, test_spec,
+};
+use tn_run::RunFault;
+use tn_text::Watched;
+
+/// Does the job of a request, with the text that was read of its picks or its moves and the script that a reader holds,
+/// and writes the output in a form: what the writer gained is what the status says.
+pub fn perform_request_over<A: Allocator + Copy, R: Read, W: Write>(
+    alloc: A,
+    request: &RunRequest<'_>,
+    read: &[u8],
+    form: OutputForm,
+    reader: &mut Watched<R>,
+    writer: &mut Watched<W>,
+) -> JobEnd<RequestOutcome, OutputFault<RunFault>>
+    ensures written { WroteAs (job_asked request.now read.now form) result.status
+        R.remaining reader.old W.contents writer.old writer.new }
+    ensures failed { OnFaultUntouchedOrFailed result.status writer.old writer.new }
+    ensures status { IsStatus (exit_status result.status) }
+    ensures answer { exit_status result.status ≡ status_of (job_asked request.now read.now form) result.answer }
+    ensures done { Meets (job_asked request.now read.now form) R.remaining reader.old reader.new
+        W.contents writer.old writer.new result.answer }
+{
+    let job = &job_of(request, read);
+    let format = format_of(request, form.format);
+    let job = &InFormat { job, format };
+    let most = form.most;
+    let within = &WithinBytes { job, most };
+    perform_over(alloc, within, reader, writer)
+}
+
+/// Does the job of a request, with the text that was read of its picks or its moves and the script that a reader holds,
+/// and prints its end. The writer, which is given back, has gained in a form what the job writes, or a front where
+/// a write failed. The status is that of the answer, of a flaw under `--strict` or of an unmet expectation.
+pub fn print_request_over<R: Eprint + AllocGlobal, S: Read + Drop, W: Write + Drop>(
+    rt: &R,
+    request: &RunRequest<'_>,
+    read: &[u8],
+    form: OutputForm,
+    expectation: &Expectation<'_>,
+    streams: Streams<'_, S, W>,
+) -> (ExitCode, W)
+    ensures printed { IsPrintedAs (job_asked request.now read.now form) (flaw_asked request.now read.now)
+        expectation.now (S.remaining streams.entry.reader) (W.contents streams.entry.writer) (W.contents result.1)
+        (exit_status result.0) }
+    ensures status { IsStatus (exit_status result.0) }
+{
+    let job = &job_of(request, read);
+    let format = format_of(request, form.format);
+    let job = &InFormat { job, format };
+    let OutputForm { most, .. } = form;
+    print_over(rt, &WithinBytes { job, most }, streams, expectation)
+}
+
+/// Does so with a script of this name, and writes to standard output.
+fn print_request<R: Print + Eprint + AllocGlobal, S: Read + Drop>(
+    rt: &R,
+    request: &RunRequest<'_>,
+    read: &[u8],
+    form: OutputForm,
+    expectation: &Expectation<'_>,
+    script: (&str, S),
+) -> ExitCode
+    ensures { IsStatus (exit_status result) }
+{
+    let (name, reader) = script;
+    let writer = io::writer(rt);
+    let streams = Streams {
+        name,
+        reader,
+        writer,
+    };
+    let (status, _) = print_request_over(rt, request, read, form, expectation, streams);
+    status
+}
+
+/// Does so with the script that the request names.
+fn perform_request<R: Input + Files + Print + Eprint + AllocGlobal>(
+    rt: &R,
+    request: &RunRequest<'_>,
+    read: &[u8],
+    form: OutputForm,
+    expectation: &Expectation<'_>,
+) -> ExitCode
+    ensures { IsStatus (exit_status result) }
+{
+    match request.script() {
+        Source::Input => {
+            let script = (INPUT, rt.reader());
+            print_request(rt, request, read, form, expectation, script)
+        }
+        Source::File(path) => match open(rt, path) {
+            Ok(file) => print_request(rt, request, read, form, expectation, (path, file)),
+            Err(status) => status,
+        },
+    }
+}
+
+/// Does what is asked for, with the text that was read beside the script, and writes to standard output in a form. The
+/// output is compared with what is expected of it.
+pub fn answer_request<R: Input + Files + Print + Eprint + AllocGlobal + Threads + Wait + Sync>(
+    rt: &R,
+    request: &Request<'_>,
+    read: &[u8],
+    form: OutputForm,
+    expectation: &Expectation<'_>,
+) -> ExitCode
+    ensures { IsStatus (exit_status result) }
+{
+    match request {
+        Request::Run(run) => perform_request(rt, run, read, form, expectation),
+        Request::Workers(workers) => run_workers_request(rt, workers, form, expectation),
+        Request::Spec(trial) => test_spec(rt, &spec_input_of(trial, read), form.format),
+    }
+}

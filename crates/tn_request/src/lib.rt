@@ -1,0 +1,24 @@
+//! What the command line asks for, once its words are read, and the job that this is.
+//!
+//! Depends on tn_command, and on the crates of its jobs. Promises that the schedule, the job, the workers and the trial
+//! of a request are the defined ones, and that a writer gains what the defined job writes of a reader's script.
+#![tactic(auto)]
+
+mod answer;
+mod job;
+mod output;
+mod request;
+mod schedule;
+mod trial;
+mod workers;
+
+pub use answer::{answer_request, perform_request_over, print_request_over};
+pub use job::{RequestJob, RequestOutcome, format_of, job_of};
+pub use output::expectation_of;
+pub use request::{
+    ExpectationArgs, PicksSource, Request, RunRequest, RunSource, SpecTestArgs, TextSource,
+    WorkersRequest,
+};
+pub use schedule::schedule_of;
+pub use trial::spec_input_of;
+pub use workers::{run_workers_request_over, workers_job_of, workers_of};

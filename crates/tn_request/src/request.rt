@@ -1,0 +1,241 @@
+// What the command line asks for.
+ghost use Rattle.std.specs.Prelude.{◌≡◌};
+
+use tn_command::Source;
+use tn_explain::Filter;
+use tn_picture::PictureFormat;
+use tn_spec::Dialect;
+
+/// Where the text of picks or of moves is.
+#[derive(Clone, Copy)]
+pub enum PicksSource<'a> {
+    /// The text of picks is given.
+    Text(&'a str),
+    /// It is in a file, or is standard input.
+    In(Source<'a>),
+    /// The text of moves is given.
+    Moves(&'a str),
+    /// It is in a file, or is standard input.
+    MovesIn(Source<'a>),
+}
+
+/// Which run is explained.
+#[derive(Clone, Copy)]
+pub enum RunSource<'a> {
+    /// The run by picks.
+    ByPicks(PicksSource<'a>),
+    /// The round in which so many picks may move.
+    ByRound {
+        limit: u32,
+        /// Whether all commands of the control list are taken before it.
+        control_first: bool,
+    },
+}
+
+/// What a trial is of, in the words of `spec`.
+#[derive(Clone, Copy)]
+pub struct SpecTestArgs<'a> {
+    pub dialect: Dialect,
+    pub list: &'a str,
+    pub self_pid: u32,
+    pub caller: Option<&'a str>,
+    /// The specification, where it isn't standard input.
+    pub specification: Option<&'a str>,
+}
+
+/// What an output must be, in the words of the command line.
+#[derive(Clone, Copy)]
+pub struct ExpectationArgs<'a> {
+    /// The file whose bytes it must be.
+    pub file: Option<&'a str>,
+    /// The line that it must have.
+    pub line: Option<&'a str>,
+    /// The line that it must not have.
+    pub no_line: Option<&'a str>,
+    /// Whether each command must be done.
+    pub strict: bool,
+}
+
+/// A run by a schedule that the command line asks for.
+#[derive(Clone, Copy)]
+pub enum RunRequest<'a> {
+    /// A run by picks.
+    Replay {
+        script: Source<'a>,
+        picks: PicksSource<'a>,
+        /// Whether no notes are printed on standard error.
+        quiet: bool,
+        expectation: ExpectationArgs<'a>,
+    },
+    /// An explanation of a run.
+    Explain {
+        script: Source<'a>,
+        run: RunSource<'a>,
+        filter: Filter<'a>,
+        expectation: ExpectationArgs<'a>,
+    },
+    /// A picture of a run by picks or moves.
+    Draw {
+        script: Source<'a>,
+        picks: PicksSource<'a>,
+        format: PictureFormat,
+        expectation: ExpectationArgs<'a>,
+    },
+    /// A round, in which so many picks may move.
+    Round {
+        script: Source<'a>,
+        limit: u32,
+        /// Whether all commands of the control list are taken before it.
+        control_first: bool,
+        /// Whether no notes are printed on standard error.
+        quiet: bool,
+        expectation: ExpectationArgs<'a>,
+    },
+}
+
+/// A run by so many workers, of so many turns each, that the command line asks for.
+#[derive(Clone, Copy)]
+pub struct WorkersRequest<'a> {
+    pub script: Source<'a>,
+    pub count: u32,
+    pub turns: u32,
+    /// The seed by which turns give way to other workers.
+    pub spread: Option<u64>,
+    /// Whether no notes are printed on standard error.
+    pub quiet: bool,
+    pub expectation: ExpectationArgs<'a>,
+}
+
+/// What the command line asks for.
+#[derive(Clone, Copy)]
+pub enum Request<'a> {
+    /// A run by a schedule: its output, an explanation or a picture of it.
+    Run(RunRequest<'a>),
+    /// A run by workers.
+    Workers(WorkersRequest<'a>),
+    /// A trial of a match specification.
+    Spec(SpecTestArgs<'a>),
+}
+
+/// A text that a request needs beside the script, and where it is.
+#[derive(Clone, Copy)]
+pub enum TextSource<'a> {
+    Picks(Source<'a>),
+    Moves(Source<'a>),
+    Specification,
+}
+
+impl<'a> PicksSource<'a> {
+    ghost use Rattle.tn_request.specs.RequestParts.{picks_source_asked};
+
+    /// The text of picks or of moves that is to be read, where it isn't given.
+    fn text_source(&self) -> Option<TextSource<'a>>
+        ensures { result ≡ picks_source_asked self.now }
+    {
+        match *self {
+            PicksSource::Text(_) => None,
+            PicksSource::In(source) => Some(TextSource::Picks(source)),
+            PicksSource::Moves(_) => None,
+            PicksSource::MovesIn(source) => Some(TextSource::Moves(source)),
+        }
+    }
+}
+
+impl<'a> RunRequest<'a> {
+    ghost use Rattle.tn_request.specs.RequestParts.{run_expectation, run_script, run_text_source};
+
+    /// What the output must be.
+    fn expectation(&self) -> ExpectationArgs<'a>
+        ensures { result ≡ run_expectation self.now }
+    {
+        match *self {
+            RunRequest::Replay { expectation, .. } => expectation,
+            RunRequest::Explain { expectation, .. } => expectation,
+            RunRequest::Draw { expectation, .. } => expectation,
+            RunRequest::Round { expectation, .. } => expectation,
+        }
+    }
+
+    /// Where the script is read from.
+    pub(crate) fn script(&self) -> Source<'a>
+        ensures { result ≡ run_script self.now }
+    {
+        match *self {
+            RunRequest::Replay { script, .. } => script,
+            RunRequest::Explain { script, .. } => script,
+            RunRequest::Draw { script, .. } => script,
+            RunRequest::Round { script, .. } => script,
+        }
+    }
+
+    /// The text of picks or of moves that is to be read, where there is one.
+    fn text_source(&self) -> Option<TextSource<'a>>
+        ensures { result ≡ run_text_source self.now }
+    {
+        match *self {
+            RunRequest::Replay { picks, .. } => picks.text_source(),
+            RunRequest::Explain { run, .. } => match run {
+                RunSource::ByPicks(picks) => picks.text_source(),
+                RunSource::ByRound { .. } => None,
+            },
+            RunRequest::Draw { picks, .. } => picks.text_source(),
+            RunRequest::Round { .. } => None,
+        }
+    }
+}
+
+impl<'a> SpecTestArgs<'a> {
+    ghost use Rattle.tn_request.specs.RequestParts.{spec_text_source};
+
+    /// The text of the specification, where it is to be read.
+    fn text_source(&self) -> Option<TextSource<'a>>
+        ensures { result ≡ spec_text_source self.now.specification }
+    {
+        match self.specification {
+            None | Some("-") => Some(TextSource::Specification),
+            Some(_) => None,
+        }
+    }
+}
+
+impl<'a> Request<'a> {
+    ghost use Rattle.tn_request.specs.RequestParts.{request_expectation, script_asked, text_source_asked};
+
+    /// What the output must be; anything, of a trial.
+    pub fn expectation(&self) -> ExpectationArgs<'a>
+        ensures { result ≡ request_expectation self.now }
+    {
+        match *self {
+            Request::Run(run) => run.expectation(),
+            Request::Workers(workers) => workers.expectation,
+            Request::Spec(_) => ExpectationArgs {
+                file: None,
+                line: None,
+                no_line: None,
+                strict: false,
+            },
+        }
+    }
+
+    /// Where the script is read from; a trial has none.
+    pub fn script(&self) -> Option<Source<'a>>
+        ensures { result ≡ script_asked self.now }
+    {
+        match *self {
+            Request::Run(run) => Some(run.script()),
+            Request::Workers(workers) => Some(workers.script),
+            Request::Spec(_) => None,
+        }
+    }
+
+    /// The text that is to be read beside the script, where there is one.
+    pub fn text_source(&self) -> Option<TextSource<'a>>
+        ensures { result ≡ text_source_asked self.now }
+    {
+        match *self {
+            Request::Run(run) => run.text_source(),
+            Request::Workers(_) => None,
+            Request::Spec(trial) => trial.text_source(),
+        }
+    }
+}
