@@ -1,2 +1,9 @@
 pub mod SpanLists
 pub mod AsciiNames
+pub mod TreeViews
+pub mod PartViews
+pub mod PartEnds
+pub mod SizeSteps
+pub mod Follows
+pub mod Operands
+pub mod TokenKinds

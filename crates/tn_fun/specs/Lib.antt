@@ -1,2 +1,5 @@
 pub mod Tokens
 pub mod Scan
+pub mod Trees
+pub mod Sizes
+pub mod States

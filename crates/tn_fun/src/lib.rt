@@ -4,12 +4,20 @@
 //! exactly the tokens of a text, with their places.
 #![tactic(auto)]
 
+mod follow;
+mod gather;
+mod level;
 mod lexer;
+mod operand;
 mod operator;
+mod part;
 mod scan;
+mod size;
 mod token;
+mod tree;
 mod words;
 
 pub use lexer::tokens;
 pub use operator::Operator;
 pub use token::{Kind, Token};
+pub use tree::{Clause, Expr, Head};

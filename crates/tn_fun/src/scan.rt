@@ -13,14 +13,14 @@ use crate::words::{symbol_of, word_of};
 use tn_text::{digits_len, ends_form, name_len};
 
 /// Whether the byte is a character by itself within these quotes.
-fn is_plain(quote: u8, b: u8) -> bool
+pub fn is_plain(quote: u8, b: u8) -> bool
     ensures { result ≡ is_plain_in quote b }
 {
     32 <= b && b <= 126 && !(b == quote || b == b'\\')
 }
 
 /// Whether the byte may be after a backslash.
-fn is_escaped(b: u8) -> bool
+pub fn is_escaped(b: u8) -> bool
     ensures { result ≡ is_escape b }
 {
     32 <= b && b <= 126 && !(b == b'x' || b == b'^' || (b'0' <= b && b <= b'7'))

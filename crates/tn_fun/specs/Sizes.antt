@@ -1,0 +1,12 @@
+-- Sizes within a limit.
+use Rattle.std.specs.Prelude.{ℕ, ◌+◌, List, length, nat_le, if◌then◌else◌, Option, Some, None}
+use Rattle.tn_fun.specs.Tokens.{codes_of_quoted}
+
+-- the number, where it is at most the first
+abbrev pub if_at_most : ℕ → ℕ → Option ℕ
+if_at_most most n = if nat_le n most then Some n else None
+
+-- how many codes a quoted text has, after so many
+abbrev pub codes_after : ℕ → Option (List ℕ × ℕ) → ℕ
+codes_after n None = 0
+codes_after n (Some r) = n + length r.0
