@@ -81,7 +81,7 @@ pub string_put : (text : List ℕ) (v : Token) (placed : Bool) (vs : List Token)
     × (n ≡ length (joined_codes (string_codes text v) (map (string_codes text) vs)))
 string_put text v placed vs n fs p count few none = (
   string_by placed _ _ p (le-leb (length (string_codes text v)) LIST_LENGTH (omega (arith, count, few)))
-  ∙ ap (λ xs. Ok (has (tree.strings v.from (string_codes text v) (map (string_codes text) xs)) fs)) (sym none),
+      ∙ ap (λ xs. Ok (has (tree.strings v.from (string_codes text v) (map (string_codes text) xs)) fs)) (sym none),
   count ∙ ap (λ xs. length (joined_codes (string_codes text v) (map (string_codes text) xs))) (sym none),
 )
 

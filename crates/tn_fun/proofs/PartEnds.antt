@@ -144,10 +144,12 @@ module _ (pattern : Bool) (at : ℕ) where
     pub list_ends : (here : ℕ) (es : Vec (Expr A) A) → p ≡ parts.List here es → es.items ≡ []
         → (closing token.close_bracket (open_parts_seen text all) ≡ Ok (has (fun_expr_seen text (node.List here es)) (open_parts_seen text rest))) × (are_strings (fun_expr_seen text (node.List here es)) ≡ false)
     list_ends here es is none =
-        let made : fun_expr_seen text (node.List here es) ≡ tree.list here tree.none = seen_list text here es ∙ ap (λ xs. tree.list here (fun_exprs_seen text xs)) none in
-        (ap (closing token.close_bracket) (parts_top text all rest p (parts.List here es) taken is)
-        ∙ ap (λ xs. closing token.close_bracket (in_open_list here (fun_row_seen text xs) ∷ open_parts_seen text rest)) none
-        ∙ ap (λ e. Ok (has e (open_parts_seen text rest))) (sym made), ap are_strings made)
+        let made : fun_expr_seen text (node.List here es) ≡ tree.list here tree.none = seen_list text here es ∙ ap (λ xs. tree.list here (fun_exprs_seen text xs)) none in (
+          ap (closing token.close_bracket) (parts_top text all rest p (parts.List here es) taken is)
+              ∙ ap (λ xs. closing token.close_bracket (in_open_list here (fun_row_seen text xs) ∷ open_parts_seen text rest)) none
+              ∙ ap (λ e. Ok (has e (open_parts_seen text rest))) (sym made),
+          ap are_strings made,
+        )
 
     pub list_goes_on : (here : ℕ) (es : Vec (Expr A) A) → p ≡ parts.List here es → 0 < length es.items → closing token.close_bracket (open_parts_seen text all) ≡ Err misplaced
     list_goes_on here es is some =
@@ -159,10 +161,12 @@ module _ (pattern : Bool) (at : ℕ) where
     pub tuple_ends : (here : ℕ) (es : Vec (Expr A) A) → p ≡ parts.Tuple here es → es.items ≡ []
         → (closing token.close_brace (open_parts_seen text all) ≡ Ok (has (fun_expr_seen text (node.Tuple here es)) (open_parts_seen text rest))) × (are_strings (fun_expr_seen text (node.Tuple here es)) ≡ false)
     tuple_ends here es is none =
-        let made : fun_expr_seen text (node.Tuple here es) ≡ tree.tuple here tree.none = seen_tuple text here es ∙ ap (λ xs. tree.tuple here (fun_exprs_seen text xs)) none in
-        (ap (closing token.close_brace) (parts_top text all rest p (parts.Tuple here es) taken is)
-        ∙ ap (λ xs. closing token.close_brace (in_open_tuple here (fun_row_seen text xs) ∷ open_parts_seen text rest)) none
-        ∙ ap (λ e. Ok (has e (open_parts_seen text rest))) (sym made), ap are_strings made)
+        let made : fun_expr_seen text (node.Tuple here es) ≡ tree.tuple here tree.none = seen_tuple text here es ∙ ap (λ xs. tree.tuple here (fun_exprs_seen text xs)) none in (
+          ap (closing token.close_brace) (parts_top text all rest p (parts.Tuple here es) taken is)
+              ∙ ap (λ xs. closing token.close_brace (in_open_tuple here (fun_row_seen text xs) ∷ open_parts_seen text rest)) none
+              ∙ ap (λ e. Ok (has e (open_parts_seen text rest))) (sym made),
+          ap are_strings made,
+        )
 
     pub tuple_goes_on : (here : ℕ) (es : Vec (Expr A) A) → p ≡ parts.Tuple here es → 0 < length es.items → closing token.close_brace (open_parts_seen text all) ≡ Err misplaced
     tuple_goes_on here es is some =
@@ -174,10 +178,12 @@ module _ (pattern : Bool) (at : ℕ) where
     pub call_ends : (here : Token) (es : Vec (Expr A) A) → p ≡ parts.Call here es → es.items ≡ []
         → (closing token.close_paren (open_parts_seen text all) ≡ Ok (has (fun_expr_seen text (node.Call here es)) (open_parts_seen text rest))) × (are_strings (fun_expr_seen text (node.Call here es)) ≡ false)
     call_ends here es is none =
-        let made : fun_expr_seen text (node.Call here es) ≡ tree.call here.from (token_name text here) tree.none = seen_call text here es ∙ ap (λ xs. tree.call here.from (token_name text here) (fun_exprs_seen text xs)) none in
-        (ap (closing token.close_paren) (parts_top text all rest p (parts.Call here es) taken is)
-        ∙ ap (λ xs. closing token.close_paren (in_open_call here.from (token_name text here) (fun_row_seen text xs) ∷ open_parts_seen text rest)) none
-        ∙ ap (λ e. Ok (has e (open_parts_seen text rest))) (sym made), ap are_strings made)
+        let made : fun_expr_seen text (node.Call here es) ≡ tree.call here.from (token_name text here) tree.none = seen_call text here es ∙ ap (λ xs. tree.call here.from (token_name text here) (fun_exprs_seen text xs)) none in (
+          ap (closing token.close_paren) (parts_top text all rest p (parts.Call here es) taken is)
+              ∙ ap (λ xs. closing token.close_paren (in_open_call here.from (token_name text here) (fun_row_seen text xs) ∷ open_parts_seen text rest)) none
+              ∙ ap (λ e. Ok (has e (open_parts_seen text rest))) (sym made),
+          ap are_strings made,
+        )
 
     pub call_goes_on : (here : Token) (es : Vec (Expr A) A) → p ≡ parts.Call here es → 0 < length es.items → closing token.close_paren (open_parts_seen text all) ≡ Err misplaced
     call_goes_on here es is some =

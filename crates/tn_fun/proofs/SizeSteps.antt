@@ -39,7 +39,9 @@ some_by n most m false is e = absurd (let none : None ≡ Some m = e in cc)
 pub integer_put : (A : Type 0) (text : List ℕ) (at n most m : ℕ) (fs : List OpenPart) (value : Option ℕ) → value ≡ Some m → value ≡ if_at_most most n
     → ((if nat_le n most then Ok (has (tree.whole at n) fs) else Err too_large) ≡ Ok (has (fun_expr_seen {A = A} text (Integer at m)) fs)) × (are_strings (fun_expr_seen {A = A} text (Integer at m)) ≡ false)
 integer_put A text at n most m fs value is e =
-    let p = some_by n most m (nat_le n most) refl (sym e ∙ is) in
-    (ap (λ b. if b then Ok (has (tree.whole at n) fs) else Err too_large) p.0
-    ∙ ap (λ k. Ok (has (tree.whole at k) fs)) p.1
-    ∙ ap (λ x. Ok (has x fs)) (sym (seen_integer A text at m)), ap are_strings (seen_integer A text at m))
+    let p = some_by n most m (nat_le n most) refl (sym e ∙ is) in (
+      ap (λ b. if b then Ok (has (tree.whole at n) fs) else Err too_large) p.0
+          ∙ ap (λ k. Ok (has (tree.whole at k) fs)) p.1
+          ∙ ap (λ x. Ok (has x fs)) (sym (seen_integer A text at m)),
+      ap are_strings (seen_integer A text at m),
+    )

@@ -15,8 +15,8 @@ use Rattle.tn_fun.specs.Trees.{token_name, string_codes, fun_expr_seen, fun_row_
 use Rattle.tn_fun.specs.declared.token.Kind.{Kind}
 use Rattle.tn_fun.specs.declared.token.Kind.TheVariants as kinds
 use Rattle.tn_fun.specs.declared.token.Token.{Token}
-use Rattle.tn_fun.specs.declared.gather.Taken.{Taken}
-use Rattle.tn_fun.specs.declared.gather.Taken.TheVariants as taken
+use Rattle.tn_fun.specs.declared.gather.Combination.{Combination}
+use Rattle.tn_fun.specs.declared.gather.Combination.TheVariants as combinations
 use Rattle.tn_fun.specs.declared.tree.Expr.{Expr}
 use Rattle.tn_fun.specs.declared.part.Part.{Part}
 use Rattle.tn_fun.specs.declared.part.Part.TheVariants as parts
@@ -26,8 +26,8 @@ use Rattle.tn_fun.specs.declared.part.StepError.{StepError}
 use Rattle.tn_fun.specs.declared.part.StepError.TheVariants as errors
 
 -- a token of the text
-abbrev pub token_seen : List ℕ → Token → FunToken
-token_seen text v = fun_token_seen v.kind (take (v.to - v.from) (drop v.from text)) (drop v.from text)
+abbrev pub token_there : List ℕ → Token → FunToken
+token_there text v = fun_token_seen v.kind (take (v.to - v.from) (drop v.from text)) (drop v.from text)
 
 abbrev pub open_part_seen : {A : Type 0} → List ℕ → Part A → OpenPart
 open_part_seen text (parts.Parens at) = in_open_parens at
@@ -99,9 +99,9 @@ StepsExpr text (Ok s) r = (r ≡ Ok (expr_state_seen text s)) × AreCounted text
 StepsExpr text (Err e) r = IsStepErrorOf e r
 
 -- gathering goes on with what is taken, or the part takes nothing
-abbrev pub TakesOperand : {A : Type 0} → List ℕ → ℕ → Taken A → Part A → Expr A → List OpenPart → Type 0
-TakesOperand text level (taken.Whole e) p operand fs = gather level (fun_expr_seen text operand) (open_part_seen text p ∷ fs) ≡ gather level (fun_expr_seen text e) fs
-TakesOperand text level (taken.Apart q e) p operand fs = gather level (fun_expr_seen text operand) (open_part_seen text p ∷ fs) ≡ (fun_expr_seen text e, open_part_seen text q ∷ fs)
+abbrev pub CombinesOperand : {A : Type 0} → List ℕ → ℕ → Combination A → Part A → Expr A → List OpenPart → Type 0
+CombinesOperand text level (combinations.Whole e) p operand fs = gather level (fun_expr_seen text operand) (open_part_seen text p ∷ fs) ≡ gather level (fun_expr_seen text e) fs
+CombinesOperand text level (combinations.Apart q e) p operand fs = gather level (fun_expr_seen text operand) (open_part_seen text p ∷ fs) ≡ (fun_expr_seen text e, open_part_seen text q ∷ fs)
 
 -- the step adds an element to the part before these
 abbrev pub AddsElement : {A : Type 0} → List ℕ → Result (Part A) StepError → Result reading.ExprState FaultKind → List OpenPart → Type 0

@@ -2,7 +2,7 @@
 use Rattle.std.specs.Prelude.{ℕ, ◌-◌, List, [], ◌∷◌, map, box_value, take, drop}
 use Rattle.def_term.specs.Names.{Name}
 use Rattle.def_fun.specs.Tokens.{FunToken}
-use Rattle.def_fun.specs.Trees.{FunExpr, variable, whole, atom, strings, in_parens, call, list, list_onto, tuple, before, between, FunExprs, of_exprs, FunHead, alone, both, FunClause}
+use Rattle.def_fun.specs.Trees.{FunExpr, variable, whole, atom, strings, in_parens, call, list, list_onto, tuple, before, between, FunExprs, of_exprs, joined_codes, FunHead, alone, both, FunClause}
 use Rattle.tn_fun.specs.Tokens.{operator_seen, quoted_codes, fun_token_seen}
 use Rattle.tn_fun.specs.declared.token.Kind.{Kind}
 use Rattle.tn_fun.specs.declared.token.Kind.TheVariants as kinds
@@ -26,23 +26,31 @@ token_name text v = name_of_kind v.kind (take (v.to - v.from) (drop v.from text)
 abbrev pub string_codes : List ℕ → Token → List ℕ
 string_codes text v = quoted_codes 34 (drop v.from text)
 
+-- with its offset
+abbrev pub named_there : List ℕ → Token → ℕ × Name
+named_there text v = (v.from, token_name text v)
+
+-- the codes of strings beside each other
+abbrev pub strings_codes : List ℕ → Token → List Token → List ℕ
+strings_codes text v vs = joined_codes (string_codes text v) (map (string_codes text) vs)
+
 -- one level, with each part already seen
-abbrev pub fun_expr_step : {A : Type 0} → List ℕ → Expr-F A FunExpr → FunExpr
-fun_expr_step text (Expr-F.Variable v) = variable v.from (token_name text v)
-fun_expr_step text (Expr-F.Integer at n) = whole at n
-fun_expr_step text (Expr-F.Atom v) = atom v.from (token_name text v)
-fun_expr_step text (Expr-F.Strings v vs) = strings v.from (string_codes text v) (map (string_codes text) vs.items)
-fun_expr_step text (Expr-F.Parens at e) = in_parens at (box_value e)
-fun_expr_step text (Expr-F.Call v es) = call v.from (token_name text v) (of_exprs es.items)
-fun_expr_step text (Expr-F.List at es) = list at (of_exprs es.items)
-fun_expr_step text (Expr-F.ListOnto at es e) = list_onto at (of_exprs es.items) (box_value e)
-fun_expr_step text (Expr-F.Tuple at es) = tuple at (of_exprs es.items)
-fun_expr_step text (Expr-F.Before at o e) = before at (operator_seen o) (box_value e)
-fun_expr_step text (Expr-F.Between at o l r) = between at (operator_seen o) (box_value l) (box_value r)
+abbrev pub fun_node_seen : {A : Type 0} → List ℕ → Expr-F A FunExpr → FunExpr
+fun_node_seen text (Expr-F.Variable v) = variable v.from (token_name text v)
+fun_node_seen text (Expr-F.Integer at n) = whole at n
+fun_node_seen text (Expr-F.Atom v) = atom v.from (token_name text v)
+fun_node_seen text (Expr-F.Strings v vs) = strings v.from (string_codes text v) (map (string_codes text) vs.items)
+fun_node_seen text (Expr-F.Parens at e) = in_parens at (box_value e)
+fun_node_seen text (Expr-F.Call v es) = call v.from (token_name text v) (of_exprs es.items)
+fun_node_seen text (Expr-F.List at es) = list at (of_exprs es.items)
+fun_node_seen text (Expr-F.ListOnto at es e) = list_onto at (of_exprs es.items) (box_value e)
+fun_node_seen text (Expr-F.Tuple at es) = tuple at (of_exprs es.items)
+fun_node_seen text (Expr-F.Before at o e) = before at (operator_seen o) (box_value e)
+fun_node_seen text (Expr-F.Between at o l r) = between at (operator_seen o) (box_value l) (box_value r)
 
 -- an expression of the text
 abbrev pub fun_expr_seen : {A : Type 0} → List ℕ → Expr A → FunExpr
-fun_expr_seen {A} text = fold-Expr A FunExpr (fun_expr_step text)
+fun_expr_seen {A} text = fold-Expr A FunExpr (fun_node_seen text)
 
 -- several, in their order
 abbrev pub fun_exprs_seen : {A : Type 0} → List ℕ → List (Expr A) → FunExprs

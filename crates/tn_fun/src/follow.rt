@@ -4,13 +4,13 @@ ghost use Rattle.def_fun.specs.Limits.{FUN_DEPTH};
 ghost use Rattle.def_fun.specs.Tokens as token;
 ghost use Rattle.def_fun.specs.Tokens.{characters};
 ghost use Rattle.std.specs.Option.{option_map};
-ghost use Rattle.def_fun.specs.Trees.{joined_codes, strings};
+ghost use Rattle.def_fun.specs.Trees.{strings};
 ghost use Rattle.def_fun.specs.Reading.{OpenPart, comma_after, after_operand, fun_expr_step};
 ghost use Rattle.def_fun.specs.Operators.{is_infix as stands_between};
 ghost use Rattle.def_fun.specs.Reading.{may_follow as follows_there};
 ghost use Rattle.tn_fun.specs.Tokens.{operator_seen, span_seen};
-ghost use Rattle.tn_fun.specs.Trees.{fun_expr_seen, string_codes, token_name};
-ghost use Rattle.tn_fun.specs.States.{open_part_seen, open_parts_seen, expr_state_seen, token_seen};
+ghost use Rattle.tn_fun.specs.Trees.{fun_expr_seen, string_codes, strings_codes, named_there};
+ghost use Rattle.tn_fun.specs.States.{open_part_seen, open_parts_seen, expr_state_seen, token_there};
 ghost use Rattle.tn_fun.specs.States.{atom_alone, opens_right, is_string_again, AddsElement, AreCounted, StepsExpr};
 
 use crate::gather::gather;
@@ -18,7 +18,7 @@ use crate::level::{is_infix, left_level, level_of, right_level};
 use crate::operand::{open, operand};
 use crate::operator::Operator;
 use crate::part::{ExprState, MAX_NESTING, Part, StepError, left_of};
-use crate::size::{MAX_LIST, MAX_TUPLE, codes_len, nesting};
+use crate::size::{MAX_LIST, MAX_TUPLE, codes_len, nesting_of};
 use crate::token::{Kind, Token};
 use crate::tree::Expr;
 use std::alloc::Allocator;
@@ -53,7 +53,7 @@ fn open_right<A: Allocator>(
     if !may_follow(operator, &parts) {
         return Err(StepError::Misplaced);
     }
-    if nesting(&operand).saturating_add(parts.len() as u64) >= MAX_NESTING as u64 {
+    if nesting_of(&operand).saturating_add(parts.len() as u64) >= MAX_NESTING as u64 {
         return Err(StepError::TooDeep);
     }
     let mut parts = parts;
@@ -90,7 +90,7 @@ fn string_after<A: Allocator>(
     parts: Vec<Part<A>, A>,
 ) -> Result<ExprState<A>, StepError>
     requires within { token.from ≤ length bytes.now }
-    requires counted { codes ≡ length (joined_codes (string_codes bytes.now first) (map (string_codes bytes.now) others.items)) }
+    requires counted { codes ≡ length (strings_codes bytes.now first others.items) }
     ensures { (pattern : Bool) (at : ℕ) → StepsExpr bytes.now result (after_operand pattern FUN_DEPTH true
         (strings first.from (string_codes bytes.now first) (map (string_codes bytes.now) others.items))
         (open_parts_seen bytes.now parts.items) at (characters (string_codes bytes.now token))) }
@@ -106,7 +106,7 @@ fn string_after<A: Allocator>(
 
 /// The atom that the expression is.
 fn atom_of<A: Allocator>(operand: &Expr<A>) -> Option<Token>
-    ensures { (text : List ℕ) → option_map (λ v. (v.from, token_name text v)) result ≡ atom_alone (fun_expr_seen text operand.now) }
+    ensures { (text : List ℕ) → option_map (named_there text) result ≡ atom_alone (fun_expr_seen text operand.now) }
 {
     match operand {
         Expr::Atom(name) => Some(*name),
@@ -293,10 +293,12 @@ fn follow<A: Allocator + Copy>(
 ) -> Result<ExprState<A>, StepError>
     ensures { (text : List ℕ) → is_string_again token.kind (fun_expr_seen text operand) ≡ false → StepsExpr text result
         (after_operand pattern FUN_DEPTH true (fun_expr_seen text operand) (open_parts_seen text parts.items)
-        token.from (token_seen text token)) }
+        token.from (token_there text token)) }
 {
     match token.kind {
-        Kind::Operator(operator) => operator_after(alloc, token.from, operator, pattern, operand, parts),
+        Kind::Operator(operator) => operator_after(
+            alloc, token.from, operator, pattern, operand, parts,
+        ),
         Kind::OpenParen => open_call(alloc, pattern, operand, parts),
         Kind::CloseParen => close_paren(alloc, operand, parts),
         Kind::CloseBracket => close_bracket(alloc, operand, parts),

@@ -2,41 +2,41 @@
 ghost use Rattle.std.specs.Prelude.{◌≡◌, List, ℕ, IfOk};
 ghost use Rattle.def_fun.specs.Reading.{OpenPart, gather as with_operators};
 ghost use Rattle.tn_fun.specs.Trees.{fun_expr_seen};
-ghost use Rattle.tn_fun.specs.States.{open_parts_seen, TakesOperand};
+ghost use Rattle.tn_fun.specs.States.{open_parts_seen, CombinesOperand};
 
 use crate::level::level_of;
 use crate::part::Part;
 use crate::tree::Expr;
 use std::alloc::{AllocError, Allocator};
 
-/// An operand that an operator takes, or the part and the operand apart.
+/// An operand with its operator, or the part and the operand apart.
 #[derive(Drop)]
-pub enum Taken<A: Allocator> {
+pub enum Combination<A: Allocator> {
     Whole(Expr<A>),
     Apart(Part<A>, Expr<A>),
 }
 
 /// The operand with its operator, where the part is an operator that binds so strongly.
-fn take<A: Allocator + Copy>(
+fn combine<A: Allocator + Copy>(
     alloc: A,
     level: u8,
     part: Part<A>,
     operand: Expr<A>,
-) -> Result<Taken<A>, AllocError>
-    ensures { IfOk result (λ t. (text : List ℕ) (fs : List OpenPart) → TakesOperand text level t part operand fs) }
+) -> Result<Combination<A>, AllocError>
+    ensures { IfOk result (λ t. (text : List ℕ) (fs : List OpenPart) → CombinesOperand text level t part operand fs) }
 {
     match part {
         Part::Prefix(at, operator) => {
-            Ok(Taken::Whole(Expr::Before(at, operator, Box::new(alloc, operand)?)))
+            Ok(Combination::Whole(Expr::Before(at, operator, Box::new(alloc, operand)?)))
         }
         Part::Left(at, operator, left) => {
             if level_of(operator) < level {
-                return Ok(Taken::Apart(Part::Left(at, operator, left), operand));
+                return Ok(Combination::Apart(Part::Left(at, operator, left), operand));
             }
             let left = Box::new(alloc, left)?;
-            Ok(Taken::Whole(Expr::Between(at, operator, left, Box::new(alloc, operand)?)))
+            Ok(Combination::Whole(Expr::Between(at, operator, left, Box::new(alloc, operand)?)))
         }
-        other => Ok(Taken::Apart(other, operand)),
+        other => Ok(Combination::Apart(other, operand)),
     }
 }
 
@@ -54,9 +54,9 @@ pub fn gather<A: Allocator + Copy>(
     let mut operand = operand;
     let mut parts = parts;
     while let Some(part) = parts.pop() {
-        match take(alloc, level, part, operand)? {
-            Taken::Whole(whole) => operand = whole,
-            Taken::Apart(part, operand) => {
+        match combine(alloc, level, part, operand)? {
+            Combination::Whole(whole) => operand = whole,
+            Combination::Apart(part, operand) => {
                 parts.push(part)?;
                 return Ok((operand, parts));
             }

@@ -10,8 +10,7 @@ ghost use Rattle.def_fun.specs.Tokens as token;
 ghost use Rattle.tn_fun.specs.Sizes.{if_at_most};
 ghost use Rattle.tn_fun.specs.Tokens.{operator_seen};
 ghost use Rattle.tn_fun.specs.Trees.{fun_expr_seen, string_codes};
-ghost use Rattle.tn_fun.specs.States.{open_part_seen, open_parts_seen, token_seen, are_strings, StepsExpr};
-
+ghost use Rattle.tn_fun.specs.States.{open_part_seen, open_parts_seen, token_there, are_strings, StepsExpr};
 ghost use Rattle.tn_fun.specs.States.{precedes};
 
 use crate::operator::Operator;
@@ -78,8 +77,9 @@ fn put_character<A: Allocator>(
     code: u8,
     parts: Vec<Part<A>, A>,
 ) -> Result<ExprState<A>, StepError>
-    ensures { (text : List ℕ) → StepsExpr text result (if_placed true true
-        (nat_le code (greatest_there (open_parts_seen text parts.items))) (has (whole at code) (open_parts_seen text parts.items))) }
+    ensures { (text : List ℕ) → StepsExpr text result
+        (if_placed true true (nat_le code (greatest_there (open_parts_seen text parts.items)))
+        (has (whole at code) (open_parts_seen text parts.items))) }
 {
     Ok(ExprState::Has(Expr::Integer(at, u64::from(code)), parts))
 }
@@ -93,7 +93,8 @@ fn put_string<A: Allocator>(
     parts: Vec<Part<A>, A>,
 ) -> Result<ExprState<A>, StepError>
     requires start { token.from ≤ length bytes.now }
-    ensures { StepsExpr bytes.now result (if_placed placed true (nat_le (length (string_codes bytes.now token)) MAX_LIST)
+    ensures { StepsExpr bytes.now result
+        (if_placed placed true (nat_le (length (string_codes bytes.now token)) MAX_LIST)
         (has (strings token.from (string_codes bytes.now token) []) (open_parts_seen bytes.now parts.items))) }
 {
     let codes = codes_len(&bytes[token.from..], b'"');
@@ -212,7 +213,7 @@ pub fn operand<A: Allocator + Copy>(
     requires start { token.from ≤ token.to }
     requires end { token.to ≤ length bytes.now }
     ensures { StepsExpr bytes.now result (operand_at pattern FUN_DEPTH true (open_parts_seen bytes.now parts.items)
-        token.from (token_seen bytes.now token)) }
+        token.from (token_there bytes.now token)) }
 {
     let at = token.from;
     let len = token.to - at;

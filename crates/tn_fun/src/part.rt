@@ -3,12 +3,12 @@ ghost use Rattle.std.specs.Prelude.{◌≡◌, List, ℕ};
 ghost use Rattle.std.specs.Option.{option_map};
 ghost use Rattle.tn_fun.specs.Tokens.{operator_seen};
 ghost use Rattle.tn_fun.specs.States.{open_parts_seen, prefix_in_front, left_in_front};
+ghost use Rattle.tn_fun.specs.declared.part.StepError.TheVariants.{OutOfMemory};
 
 use crate::operator::Operator;
 use crate::token::Token;
 use crate::tree::Expr;
 use std::alloc::{AllocError, AllocFailed, Allocator};
-ghost use Rattle.tn_fun.specs.declared.part.StepError.TheVariants.{OutOfMemory};
 
 /// How deep brackets, braces, parentheses, calls and operators nest.
 pub const MAX_NESTING: usize = 64;

@@ -68,17 +68,19 @@ pub fn number_within(digits: &[u8], greatest: u64) -> Option<u64>
 
 /// How deep the expression nests.
 #[cycle(nesting)]
-pub fn nesting<A: Allocator>(expr: &Expr<A>) -> u64
+pub fn nesting_of<A: Allocator>(expr: &Expr<A>) -> u64
     ensures { (text : List ℕ) → result ≡ min (nesting_depth (fun_expr_seen text expr.now)) u64.MAX }
 {
     match expr {
         Expr::Variable(_) | Expr::Integer(_, _) | Expr::Atom(_) | Expr::Strings(_, _) => 0,
-        Expr::Parens(_, inner) | Expr::Before(_, _, inner) => nesting(inner).saturating_add(1),
+        Expr::Parens(_, inner) | Expr::Before(_, _, inner) => nesting_of(inner).saturating_add(1),
         Expr::Call(_, items) | Expr::List(_, items) | Expr::Tuple(_, items) => {
             deepest(items).saturating_add(1)
         }
-        Expr::ListOnto(_, items, tail) => deepest(items).max(nesting(tail)).saturating_add(1),
-        Expr::Between(_, _, left, right) => nesting(left).max(nesting(right)).saturating_add(1),
+        Expr::ListOnto(_, items, tail) => deepest(items).max(nesting_of(tail)).saturating_add(1),
+        Expr::Between(_, _, left, right) => nesting_of(left)
+            .max(nesting_of(right))
+            .saturating_add(1),
     }
 }
 
@@ -89,7 +91,7 @@ fn deepest<A: Allocator>(items: &Vec<Expr<A>, A>) -> u64
 {
     let mut greatest = 0;
     for item in items {
-        greatest = nesting(item).max(greatest);
+        greatest = nesting_of(item).max(greatest);
     }
     greatest
 }

@@ -4,7 +4,7 @@ use Rattle.def_fun.specs.Trees.{strings}
 use Rattle.def_fun.specs.Reading.{fun_expr_step, after_operand}
 use Rattle.tn_fun.specs.Tokens.{span_seen, fun_token_seen}
 use Rattle.tn_fun.specs.Trees.{fun_expr_seen, string_codes}
-use Rattle.tn_fun.specs.States.{open_parts_seen, expr_state_seen, token_seen, StepsExpr}
+use Rattle.tn_fun.specs.States.{open_parts_seen, expr_state_seen, token_there, StepsExpr}
 use Rattle.tn_fun.proofs.TokenKinds.{none_again, no_string_comes}
 use Rattle.tn_fun.proofs.TreeViews.{seen_strings}
 use Rattle.tn_fun.proofs.follow.step.Goals as goal
@@ -33,5 +33,5 @@ returns-in_default g c =
     let h = c.in-HasStrings in
     let none = no_string_comes v.kind _ (λ e. c.in_default.not-Characters e) in
     subst (λ s. StepsExpr bytes c.follow-in_default.result (fun_expr_step c.args.pattern FUN_DEPTH true (expr_state_seen bytes s) (span_seen bytes v))) (sym h.is)
-    (subst (λ x. StepsExpr bytes c.follow-in_default.result (after_operand c.args.pattern FUN_DEPTH true x (open_parts_seen bytes h.parts.items) v.from (token_seen bytes v))) (seen_strings bytes h.first h.others)
+    (subst (λ x. StepsExpr bytes c.follow-in_default.result (after_operand c.args.pattern FUN_DEPTH true x (open_parts_seen bytes h.parts.items) v.from (token_there bytes v))) (seen_strings bytes h.first h.others)
     (c.follow-in_default.ensures bytes none))
