@@ -1,5 +1,5 @@
 -- Tokens after an operand, by the part that is the innermost.
-use Rattle.std.proofs.Common.{◌≡◌, ℕ, ◌+◌, ◌<◌, ◌≤◌, List, [], ◌∷◌, ◌++◌, length, map, refl, ap, sym, ◌∙◌, arith, Bool, true, false, Result, Ok, Err, box_value}
+use Rattle.std.proofs.Common.{◌≡◌, ℕ, List, [], ◌∷◌, ◌++◌, refl, ap, sym, ◌∙◌, Bool, true, false, Result, Ok, Err, box_value}
 use Rattle.std.specs.Prelude.{Box as Boxed}
 use Rattle.std.specs.declared.vec.Vec.{Vec}
 use Rattle.std.proofs.lemmas.List.{map-append}
@@ -8,8 +8,7 @@ use Rattle.def_fun.specs.Limits.{FUN_DEPTH}
 use Rattle.def_fun.specs.Tokens as token
 use Rattle.def_fun.specs.Trees as tree
 use Rattle.def_fun.specs.Trees.{FunExpr, of_exprs}
-use Rattle.def_fun.specs.Reading.{OpenPart, in_open_tail, ExprState, wants, has, gather, close_after, bar_after, comma_after}
-use Rattle.tn_fun.specs.declared.operator.Operator.{Operator}
+use Rattle.def_fun.specs.Reading.{OpenPart, in_open_tail, ExprState, wants, has, close_after, bar_after, comma_after}
 use Rattle.tn_fun.specs.declared.token.Token.{Token}
 use Rattle.tn_fun.specs.declared.part.Part.{Part}
 use Rattle.tn_fun.specs.declared.part.Part.TheVariants as parts

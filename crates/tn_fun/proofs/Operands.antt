@@ -7,11 +7,10 @@ use Rattle.def_term.specs.Names.{Name}
 use Rattle.def_text.specs.Faults.{FaultKind, misplaced, too_deep, too_large}
 use Rattle.def_text.specs.Limits.{LIST_LENGTH}
 use Rattle.def_fun.specs.Limits.{FUN_DEPTH}
-use Rattle.def_fun.specs.Operators.{FunOperator}
 use Rattle.def_fun.specs.Tokens as token
 use Rattle.def_fun.specs.Trees as tree
 use Rattle.def_fun.specs.Trees.{FunExpr, joined_codes}
-use Rattle.def_fun.specs.Reading.{OpenPart, in_open_call, after_left, ExprState, wants, has, if_placed, may_follow, has_level_left, arguments_after, after_operand}
+use Rattle.def_fun.specs.Reading.{OpenPart, in_open_call, ExprState, wants, has, if_placed, may_follow, arguments_after, after_operand}
 use Rattle.tn_fun.specs.declared.operator.Operator.{Operator}
 use Rattle.tn_fun.specs.declared.token.Token.{Token}
 use Rattle.tn_fun.specs.declared.tree.Expr.{Expr}
@@ -19,7 +18,7 @@ use Rattle.tn_fun.specs.declared.part.Part.{Part}
 use Rattle.tn_fun.specs.declared.part.Part.TheVariants as parts
 use Rattle.tn_fun.specs.Tokens.{operator_seen}
 use Rattle.tn_fun.specs.Trees.{string_codes, fun_expr_seen}
-use Rattle.tn_fun.specs.States.{open_part_seen, open_parts_seen, are_strings, atom_alone, opens_right}
+use Rattle.tn_fun.specs.States.{open_parts_seen, are_strings, atom_alone, opens_right}
 use Rattle.tn_fun.proofs.PartViews.{parts_push, parts_length}
 
 module _ (pattern : Bool) (fs : List OpenPart) where

@@ -1,11 +1,10 @@
 -- Brackets that close where an operand must come, and the innermost part.
-use Rattle.std.proofs.Common.{◌≡◌, ◌≢◌, ℕ, suc, ◌+◌, ◌-◌, ◌<◌, List, [], ◌∷◌, ◌++◌, length, map, refl, ap, ap₂, sym, ◌∙◌, arith, Bool, true, false, Option, Some, None, Result, Ok, Err}
+use Rattle.std.proofs.Common.{◌≡◌, ℕ, suc, ◌-◌, ◌<◌, List, [], ◌∷◌, ◌++◌, length, refl, ap, sym, ◌∙◌, arith, Bool, true, false, Some, None, Result, Ok, Err}
 use Rattle.std.specs.declared.vec.Vec.{Vec}
 use Rattle.std.specs.List.{slice_get}
 use Rattle.std.proofs.lemmas.Option.{slice_get_within}
 use Rattle.def_text.specs.Faults.{FaultKind, misplaced}
 use Rattle.def_fun.specs.Limits.{FUN_DEPTH}
-use Rattle.def_fun.specs.Operators.{FunOperator}
 use Rattle.def_fun.specs.Tokens as token
 use Rattle.def_fun.specs.Tokens.{FunToken}
 use Rattle.def_fun.specs.Trees as tree

@@ -1,16 +1,15 @@
 -- The parts that are open, as a vector whose last is the innermost.
-use Rattle.std.proofs.Common.{◌≡◌, ℕ, ◌+◌, ◌<◌, ◌≤◌, List, [], ◌∷◌, ◌++◌, length, map, refl, ap, sym, ◌∙◌, arith, Bool, true, false, not, nat_lt, Option, Some, None, Ok, Err}
+use Rattle.std.proofs.Common.{◌≡◌, ℕ, ◌+◌, ◌<◌, ◌≤◌, List, [], ◌∷◌, ◌++◌, length, refl, ap, sym, ◌∙◌, arith, Bool, true, false, nat_lt, Ok, Err}
 use Rattle.std.proofs.lemmas.Bool.{le-ltb, lt-ltb}
-use Rattle.def_text.specs.Faults.{misplaced, too_deep}
+use Rattle.def_text.specs.Faults.{too_deep}
 use Rattle.def_fun.specs.Limits.{FUN_DEPTH}
 use Rattle.def_fun.specs.Operators as op
 use Rattle.def_fun.specs.Operators.{FunOperator}
 use Rattle.def_fun.specs.Tokens as token
-use Rattle.def_fun.specs.Trees.{FunExpr}
 use Rattle.def_fun.specs.Reading as reading
 use Rattle.def_fun.specs.Reading.{OpenPart, in_open_parens, in_open_call, in_open_list, in_open_tail, in_open_tuple, after_left, after_prefix, wants, if_placed, operand_at, has_level_left, greatest_there, may_stand}
 use Rattle.tn_fun.specs.declared.part.Part.{Part}
-use Rattle.tn_fun.specs.States.{open_part_seen, open_parts_onto, open_parts_seen, precedes, prefix_in_front}
+use Rattle.tn_fun.specs.States.{open_part_seen, open_parts_onto, open_parts_seen, precedes}
 
 onto_push : {A : Type 0} (text : List ℕ) (vs : List (Part A)) (v : Part A) (stack : List OpenPart) → open_parts_onto text (vs ++ v ∷ []) stack ≡ open_part_seen text v ∷ open_parts_onto text vs stack
 onto_push text [] v stack = refl

@@ -1,13 +1,12 @@
 -- Numbers within a limit.
-use Rattle.std.proofs.Common.{◌≡◌, ℕ, ◌+◌, ◌-◌, ◌*◌, ◌<◌, ◌≤◌, List, [], ◌∷◌, length, get_or, drop, true, false, nat_le, Option, Some, None, Ok, Err, Result, refl, ap, sym, ◌∙◌, arith, if◌then◌else◌}
-use Rattle.std.proofs.lemmas.Bool.{le-leb}
+use Rattle.std.proofs.Common.{◌≡◌, ℕ, ◌+◌, ◌-◌, ◌*◌, ◌<◌, ◌≤◌, List, [], ◌∷◌, length, get_or, drop, true, false, nat_le, Option, Some, None, Ok, Err, refl, ap, sym, ◌∙◌, arith, if◌then◌else◌}
 use Rattle.std.proofs.lemmas.Bool.Decides.{nat_tests}
 use Rattle.std.proofs.lemmas.List.{drop_more}
 use Rattle.def_term.specs.Text.{number_after}
 use Rattle.def_text.specs.Tokens.{number}
-use Rattle.def_text.specs.Faults.{FaultKind, too_large}
+use Rattle.def_text.specs.Faults.{too_large}
 use Rattle.def_fun.specs.Trees as tree
-use Rattle.def_fun.specs.Reading.{OpenPart, ExprState, has}
+use Rattle.def_fun.specs.Reading.{OpenPart, has}
 use Rattle.tn_fun.specs.Sizes.{if_at_most}
 use Rattle.tn_fun.specs.Trees.{fun_expr_seen}
 use Rattle.tn_fun.specs.States.{are_strings}

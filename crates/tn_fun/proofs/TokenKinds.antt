@@ -1,22 +1,21 @@
 -- Tokens by their kind.
-use Rattle.std.proofs.Common.{◌≡◌, ℕ, ◌+◌, ◌-◌, ◌<◌, ◌≤◌, List, [], ◌∷◌, length, take, drop, map, refl, ap, sym, ◌∙◌, subst, arith, Bool, true, false, not, ◌&&◌, nat_le, nat_lt, if◌then◌else◌, Option, Some, None, Result, Ok, Err, length-take, length-drop}
+use Rattle.std.proofs.Common.{◌≡◌, ℕ, ◌-◌, ◌<◌, ◌≤◌, List, [], ◌∷◌, length, take, drop, refl, ap, sym, ◌∙◌, subst, arith, Bool, true, false, ◌&&◌, nat_le, if◌then◌else◌, Option, Some, None, Result, Err, length-take, length-drop}
 use Rattle.std.proofs.lemmas.Bool.{le-leb}
 use Rattle.def_text.specs.Faults.{misplaced}
 use Rattle.def_fun.specs.Limits.{FUN_DEPTH}
 use Rattle.def_fun.specs.Trees.{FunExpr}
 use Rattle.def_fun.specs.Operators as op
-use Rattle.def_fun.specs.Reading.{OpenPart, in_open_parens, in_open_call, in_open_list, in_open_tail, in_open_tuple, after_left, after_prefix, wants, has, if_placed, greatest_there, operand_at, after_operand}
+use Rattle.def_fun.specs.Reading.{OpenPart, in_open_parens, in_open_call, in_open_list, in_open_tail, in_open_tuple, after_left, after_prefix, has, if_placed, greatest_there, operand_at, after_operand}
 use Rattle.tn_fun.specs.declared.operator.Operator.{Operator}
 use Rattle.tn_fun.specs.declared.token.Kind.{Kind}
 use Rattle.tn_fun.specs.declared.token.Kind.TheVariants as kinds
 use Rattle.tn_fun.specs.declared.tree.Expr.{Expr}
-use Rattle.tn_fun.specs.declared.part.Part.{Part}
 use Rattle.tn_fun.specs.declared.part.ExprState.{ExprState}
 use Rattle.tn_fun.specs.declared.part.StepError.{StepError}
 use Rattle.tn_fun.specs.Sizes.{if_at_most}
 use Rattle.tn_fun.specs.Tokens.{fun_token_seen}
 use Rattle.tn_fun.specs.Trees.{fun_expr_seen}
-use Rattle.tn_fun.specs.States.{open_part_seen, are_strings, is_string_kind, is_string_again, StepsExpr}
+use Rattle.tn_fun.specs.States.{are_strings, is_string_kind, is_string_again, StepsExpr}
 use Rattle.tn_fun.proofs.Operands.{no_strings_there}
 
 no_string : (b : Bool) → (b && false) ≡ false

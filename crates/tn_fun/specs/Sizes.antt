@@ -1,6 +1,5 @@
 -- Sizes within a limit.
 use Rattle.std.specs.Prelude.{ℕ, ◌+◌, List, length, nat_le, if◌then◌else◌, Option, Some, None}
-use Rattle.tn_fun.specs.Tokens.{codes_of_quoted}
 
 -- the number, where it is at most the first
 abbrev pub if_at_most : ℕ → ℕ → Option ℕ

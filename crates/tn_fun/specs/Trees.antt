@@ -1,17 +1,13 @@
 -- The trees of the code, and those of the definition that they stand for, in a text.
-use Rattle.std.specs.Prelude.{ℕ, ◌-◌, List, [], ◌∷◌, map, box_value, take, drop}
+use Rattle.std.specs.Prelude.{ℕ, ◌-◌, List, map, box_value, take, drop}
 use Rattle.def_term.specs.Names.{Name}
-use Rattle.def_fun.specs.Tokens.{FunToken}
-use Rattle.def_fun.specs.Trees.{FunExpr, variable, whole, atom, strings, in_parens, call, list, list_onto, tuple, before, between, FunExprs, of_exprs, joined_codes, FunHead, alone, both, FunClause}
-use Rattle.tn_fun.specs.Tokens.{operator_seen, quoted_codes, fun_token_seen}
+use Rattle.def_fun.specs.Trees.{FunExpr, variable, whole, atom, strings, in_parens, call, list, list_onto, tuple, before, between, FunExprs, of_exprs, joined_codes}
+use Rattle.tn_fun.specs.Tokens.{operator_seen, quoted_codes}
 use Rattle.tn_fun.specs.declared.token.Kind.{Kind}
 use Rattle.tn_fun.specs.declared.token.Kind.TheVariants as kinds
 use Rattle.tn_fun.specs.declared.token.Token.{Token}
 use Rattle.tn_fun.specs.declared.tree.Expr.{Expr, fold-Expr}
 use Rattle.tn_fun.specs.declared.tree.Expr.TheOpen.{Expr-F}
-use Rattle.tn_fun.specs.declared.tree.Head.{Head}
-use Rattle.tn_fun.specs.declared.tree.Head.TheVariants as heads
-use Rattle.tn_fun.specs.declared.tree.Clause.{Clause}
 
 -- the name of an atom or a variable, of its own bytes u and of all bytes from its first on
 abbrev pub name_of_kind : Kind → List ℕ → List ℕ → Name
@@ -56,11 +52,6 @@ fun_expr_seen {A} text = fold-Expr A FunExpr (fun_node_seen text)
 abbrev pub fun_exprs_seen : {A : Type 0} → List ℕ → List (Expr A) → FunExprs
 fun_exprs_seen text es = of_exprs (map (fun_expr_seen text) es)
 
--- a head
-abbrev pub fun_head_seen : {A : Type 0} → List ℕ → Head A → FunHead
-fun_head_seen text (heads.Alone e) = alone (fun_expr_seen text e)
-fun_head_seen text (heads.Both a b) = both (fun_expr_seen text a) (fun_expr_seen text b)
-
--- a guard, as a list of conditions
+-- the same as a list
 abbrev pub fun_row_seen : {A : Type 0} → List ℕ → List (Expr A) → List FunExpr
 fun_row_seen text es = map (fun_expr_seen text) es

@@ -21,4 +21,3 @@ mod words;
 pub use lexer::tokens;
 pub use operator::Operator;
 pub use token::{Kind, Token};
-pub use tree::{Clause, Expr, Head};

@@ -1,4 +1,4 @@
-// Funs as trees.
+// Expressions of funs as trees.
 
 use crate::operator::Operator;
 use crate::token::Token;
@@ -24,21 +24,4 @@ pub enum Expr<A: Allocator> {
     Before(usize, Operator, Box<Expr<A>, A>),
     /// An operator between its operands.
     Between(usize, Operator, Box<Expr<A>, A>, Box<Expr<A>, A>),
-}
-
-/// A head alone, or two parts with `=` between them.
-#[derive(Drop)]
-pub enum Head<A: Allocator> {
-    Alone(Expr<A>),
-    Both(Expr<A>, Expr<A>),
-}
-
-/// A clause of a fun: the offset of its `(`, its head, its guards, each of some conditions, and its
-/// body.
-#[derive(Drop)]
-pub struct Clause<A: Allocator> {
-    pub at: usize,
-    pub head: Head<A>,
-    pub guards: Vec<Vec<Expr<A>, A>, A>,
-    pub body: Vec<Expr<A>, A>,
 }

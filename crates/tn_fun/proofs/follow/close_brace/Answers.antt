@@ -1,4 +1,3 @@
-use Rattle.std.proofs.Common.{◌≡◌, ◌++◌, ◌∷◌, [], ap, sym, ◌∙◌, arith, rules}
 use Rattle.tn_fun.proofs.Follows.{tuple_closes, no_brace}
 use Rattle.tn_fun.proofs.follow.close_brace.Goals as goal
 

@@ -1,4 +1,3 @@
-use Rattle.std.proofs.Common.{◌≡◌, ◌++◌, ◌∷◌, [], ap, sym, ◌∙◌, arith, rules}
 use Rattle.tn_fun.proofs.Follows.{onto_closes, list_closes, no_bracket}
 use Rattle.tn_fun.proofs.follow.close_bracket.Goals as goal
 

@@ -1,4 +1,3 @@
-use Rattle.std.proofs.Common.{◌≡◌, ◌++◌, ◌∷◌, [], ap, sym, ◌∙◌, arith, rules}
 use Rattle.tn_fun.proofs.Follows.{parens_close, call_closes, no_paren}
 use Rattle.tn_fun.proofs.follow.close_paren.Goals as goal
 

@@ -1,4 +1,4 @@
-use Rattle.std.proofs.Common.{◌∷◌, not, length, map, nat_lt, true, ap, sym, ◌∙◌, subst}
+use Rattle.std.proofs.Common.{◌∷◌, not, length, nat_lt, true, ap, sym, ◌∙◌, subst}
 use Rattle.def_fun.specs.Limits.{FUN_DEPTH}
 use Rattle.def_fun.specs.Reading.{wants, in_open_call, if_placed}
 use Rattle.tn_fun.specs.Trees.{fun_expr_seen, fun_row_seen, token_name}

@@ -1,4 +1,4 @@
-use Rattle.std.proofs.Common.{◌≡◌, ◌+◌, ◌∷◌, length, nat_lt, ap, sym, ◌∙◌, subst}
+use Rattle.std.proofs.Common.{◌+◌, ◌∷◌, length, nat_lt, ap, sym, ◌∙◌, subst}
 use Rattle.std.proofs.lemmas.Result.{err_from_is_err_and}
 use Rattle.def_fun.specs.Limits.{FUN_DEPTH}
 use Rattle.def_fun.specs.Operators.{operator_binding, left_level, is_infix}

@@ -1,9 +1,6 @@
-use Rattle.std.proofs.Common.{ap, sym, ◌∙◌, arith}
+use Rattle.std.proofs.Common.{sym, ◌∙◌, arith}
 use Rattle.std.proofs.lemmas.Bool.{eqb-true, eqb-false}
-use Rattle.def_fun.specs.Limits.{FUN_DEPTH}
-use Rattle.def_fun.specs.Reading.{operand_at}
-use Rattle.def_fun.specs.Tokens as token
-use Rattle.tn_fun.proofs.PartEnds.{no_items, parts_none, list_ends, list_goes_on, no_list_ends}
+use Rattle.tn_fun.proofs.PartEnds.{no_items, list_ends, list_goes_on, no_list_ends}
 use Rattle.tn_fun.proofs.operand.end_list.Goals as goal
 
 pub returns-then-is_empty : goal.returns-then-is_empty

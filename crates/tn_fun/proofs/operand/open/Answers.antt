@@ -1,8 +1,5 @@
-use Rattle.std.proofs.Common.{◌≡◌, ap, sym, ◌∙◌, arith, Ok, Err, cond, true, false, not}
-use Rattle.std.proofs.lemmas.Bool.{le-ltb, lt-ltb}
-use Rattle.def_fun.specs.Limits.{FUN_DEPTH}
-use Rattle.tn_fun.specs.States.{open_part_seen, open_parts_seen}
-use Rattle.tn_fun.proofs.PartViews.{parts_length, part_opens, too_many_parts}
+use Rattle.std.proofs.Common.{◌≡◌, arith, true}
+use Rattle.tn_fun.proofs.PartViews.{part_opens, too_many_parts}
 use Rattle.tn_fun.proofs.operand.open.Goals as goal
 
 pub returns-then-len-ge-MAX_NESTING : goal.returns-then-len-ge-MAX_NESTING

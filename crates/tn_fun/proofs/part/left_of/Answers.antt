@@ -1,4 +1,4 @@
-use Rattle.std.proofs.Common.{ap, sym, ◌∙◌, Some}
+use Rattle.std.proofs.Common.{ap, sym, ◌∙◌}
 use Rattle.std.specs.Option.{option_copied}
 use Rattle.tn_fun.specs.States.{left_in_front}
 use Rattle.tn_fun.proofs.PartEnds.{left_is, no_left_is, none_in_front}
