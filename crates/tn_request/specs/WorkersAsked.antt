@@ -16,7 +16,7 @@ abbrev pub worker_count_asked : WorkersRequest → ℕ
 worker_count_asked request = min (max request.count 1) 16
 
 -- so many, of so many turns each
-pub record AreWorkersAsked (request : WorkersRequest) (workers : Workers) : Type 0 where
+pub record AreWorkersAsked {G : Type 0} (request : WorkersRequest) (workers : Workers G) : Type 0 where
   pub count : workers.count ≡ worker_count_asked request
   pub turns : workers.turns ≡ request.turns
 
