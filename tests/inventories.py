@@ -73,7 +73,7 @@ def formulas():
     yield "the counts of contracts with one answer", counts in text, counts
     sources = " ".join(
         " ".join(read(CRATES / path).split())
-        for path in ("tn_run/src/runs.rt", "tn_run/specs/Laws.antt", "def_run/specs/Listing.antt")
+        for path in ("tn_request/src/answer.rt", "tn_run/specs/Laws.antt", "def_run/specs/Listing.antt")
     )
     yield "the theorem has formulas", bool(readme_formulas()), text
     for formula in readme_formulas():
