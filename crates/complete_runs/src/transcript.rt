@@ -2,56 +2,12 @@
 ghost use Rattle.std.specs.Prelude.{◌≡◌, ℕ, List};
 ghost use Rattle.std.specs.Option.{option_map};
 ghost use Rattle.def_script.specs.Program as definition;
-ghost use Rattle.tn_program.specs.Views.{program_of};
 ghost use Rattle.tn_trace.specs.Items.{AreTexts};
 ghost use Rattle.tn_trace.specs.Recorders.{HasRecorded};
 ghost use Rattle.tn_trace.specs.Runs.{IsRun};
-ghost use Rattle.complete_scripts.specs.Agreement.{Agree, answer_of};
-ghost use Rattle.complete_runs.specs.Alike.{transcript_fault_seen};
 
 use std::alloc::Allocator;
-use tn_program::Program;
-use tn_trace::{Lines, Recorder, Run, Transcript, TranscriptFault};
-
-/// `tn_trace::Transcript::of_picks` has one answer.
-pub fn of_picks<A: Allocator + Copy>(
-    alloc: A,
-    one: &Program<A>,
-    other: &Program<A>,
-    picks: &[u32],
-    same_picks: &[u32],
-    most: usize,
-) -> (
-    Result<Transcript<A>, TranscriptFault>,
-    Result<Transcript<A>, TranscriptFault>,
-)
-    requires programs { program_of one.now ≡ program_of other.now }
-    requires picks { picks.now ≡ same_picks.now }
-    ensures { let told = answer_of (λ t. t) transcript_fault_seen in Agree (told result.0) (told result.1) }
-{
-    let first = Transcript::of_picks(alloc, one, picks, most);
-    let second = Transcript::of_picks(alloc, other, same_picks, most);
-    (first, second)
-}
-
-/// `tn_trace::Transcript::of_round` has one answer.
-pub fn of_round<A: Allocator + Copy>(
-    alloc: A,
-    one: &Program<A>,
-    other: &Program<A>,
-    limit: u32,
-    most: usize,
-) -> (
-    Result<Transcript<A>, TranscriptFault>,
-    Result<Transcript<A>, TranscriptFault>,
-)
-    requires { program_of one.now ≡ program_of other.now }
-    ensures { let told = answer_of (λ t. t) transcript_fault_seen in Agree (told result.0) (told result.1) }
-{
-    let first = Transcript::of_round(alloc, one, limit, most);
-    let second = Transcript::of_round(alloc, other, limit, most);
-    (first, second)
-}
+use tn_trace::{Lines, Recorder, Run, Transcript};
 
 /// `tn_trace::Transcript::of_run` has one answer for two runs by the same picks.
 pub fn of_run<A: Allocator + Copy>(

@@ -5,7 +5,6 @@ use Rattle.std.specs.declared.vec.Vec.{Vec}
 use Rattle.def_script.specs.Program.{Program}
 use Rattle.def_script.specs.Script.{creations}
 use Rattle.def_run.specs.Listing.{messages, listings_text, program_output}
-use Rattle.def_run.specs.Round.{round}
 use Rattle.tn_program.specs.declared.parts.Program as code
 use Rattle.tn_program.specs.Views.{program_of}
 use Rattle.tn_trace.specs.Transcripts.{TranscriptValue, transcript_of, listing_bytes}
@@ -21,14 +20,6 @@ listing_numbered p picks n = listings_text (λ s. messages s p picks) (option_to
 -- the listings of all sessions
 abbrev pub all_listings : Program → List ℕ → List ℕ
 all_listings p picks = listings_text (λ s. messages s p picks) (creations p.commands)
-
--- the output for the picks of a round with this limit
-abbrev pub output_of_round : Program → ℕ → List ℕ
-output_of_round p limit = program_output p (round p limit)
-
--- how many bytes the lines of all sessions have then together
-abbrev pub listing_bytes_of_round : Program → ℕ → ℕ
-listing_bytes_of_round p limit = listing_bytes p (round p limit)
 
 -- an output has at least as many bytes as the lines of all sessions together
 abbrev pub OutputHasTheListings : Type 0

@@ -1,17 +1,15 @@
 // The text of an output.
-ghost use Rattle.std.specs.Prelude.{◌≡◌, ◌++◌, ◌<◌, ◌≤◌, IfOk, OnOk, IsErrOf};
+ghost use Rattle.std.specs.Prelude.{◌≡◌, ◌++◌, IfOk, OnOk};
 ghost use Rattle.def_run.specs.Listing.{header_line, program_output};
-ghost use Rattle.tn_program.specs.Views.{program_of};
-ghost use Rattle.tn_trace.specs.Transcripts.{listing_bytes};
 ghost use Rattle.tn_listing.specs.Outputs.{OnItsPicks, Outputs, AppendsListing, SaysTheRest};
-ghost use Rattle.tn_listing.specs.Outputs.{all_listings, listing_bytes_of_round, output_of_round};
+ghost use Rattle.tn_listing.specs.Outputs.{all_listings};
 
 use crate::listing::put_header;
 use crate::picks::write_picks;
 use std::alloc::{AllocError, Allocator};
 use tn_program::Program;
 use tn_term::Atom;
-use tn_trace::{Transcript, TranscriptFault};
+use tn_trace::Transcript;
 
 /// Puts the header of a session before its lines, which are copied to no other vector. After an `Err` the lines are
 /// of no use.
@@ -120,52 +118,4 @@ pub fn transcript_output<A: Allocator + Copy>(
     write_picks(transcript.journal(), &mut text)?;
     text.push(b'\n')?;
     Ok(text)
-}
-
-/// The output of a program for these picks: each session's listing, the replies and the journal, where the lines of
-/// all sessions together have at most so many bytes.
-///
-/// # Errors
-///
-/// TooLong as soon as they have more, after the move that made them so: the output would have more, too. OutOfMemory
-/// where memory was refused.
-pub fn replay<A: Allocator + Copy>(
-    alloc: A,
-    program: &Program<A>,
-    picks: &[u32],
-    most: usize,
-) -> Result<Vec<u8, A>, TranscriptFault>
-    ensures output { IfOk result (λ v. v.items ≡ program_output (program_of program.now) picks.now) }
-    ensures within { OnOk result (listing_bytes (program_of program.now) picks.now ≤ most) }
-    ensures long { IsErrOf result TranscriptFault.TooLong →
-        most < listing_bytes (program_of program.now) picks.now }
-{
-    let transcript = Transcript::of_picks(alloc, program, picks, most)?;
-    match transcript_output(alloc, transcript, program) {
-        Ok(output) => Ok(output),
-        Err(_) => Err(TranscriptFault::OutOfMemory),
-    }
-}
-
-/// The output of a program for the picks of its round with this limit on the number of moves, as `replay` makes it.
-///
-/// # Errors
-///
-/// Those of `replay`.
-pub fn round<A: Allocator + Copy>(
-    alloc: A,
-    program: &Program<A>,
-    limit: u32,
-    most: usize,
-) -> Result<Vec<u8, A>, TranscriptFault>
-    ensures output { IfOk result (λ v. v.items ≡ output_of_round (program_of program.now) limit) }
-    ensures within { OnOk result (listing_bytes_of_round (program_of program.now) limit ≤ most) }
-    ensures long { IsErrOf result TranscriptFault.TooLong →
-        most < listing_bytes_of_round (program_of program.now) limit }
-{
-    let transcript = Transcript::of_round(alloc, program, limit, most)?;
-    match transcript_output(alloc, transcript, program) {
-        Ok(output) => Ok(output),
-        Err(_) => Err(TranscriptFault::OutOfMemory),
-    }
 }

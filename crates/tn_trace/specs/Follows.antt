@@ -1,9 +1,8 @@
 -- A run by some picks, of which no more than its limit move.
-use Rattle.std.specs.Prelude.{◌≡◌, ℕ, min, List, [], ◌∷◌, ◌++◌, take, Result, OnOk}
+use Rattle.std.specs.Prelude.{◌≡◌, ℕ, List, [], ◌∷◌, ◌++◌, take, Result, OnOk}
 use Rattle.std.specs.declared.alloc.AllocError.{AllocError}
 use Rattle.def_script.specs.Program.{Program}
-use Rattle.def_run.specs.Run.{JOURNAL, moves}
-use Rattle.def_run.specs.Round.{round}
+use Rattle.def_run.specs.Run.{moves}
 use Rattle.tn_program.specs.Views.{program_of}
 use Rattle.tn_program.specs.declared.parts.Program as code
 use Rattle.tn_trace.specs.Runs.{IsRun}
@@ -34,11 +33,3 @@ abbrev pub AddsMore : {A O G : Type 0} → (O → Program → List ℕ → Type 
 AddsMore Seen Adds program more old new out out' result =
     (limit : ℕ) (before : List ℕ) → let p : Program = program_of program in Follows Seen p limit before old
     → OnOk result (AddsFrom Adds p (take limit (moves p before)) (take limit (moves p (before ++ more))) old.observer new.observer out out')
-
--- the run is that of the program by these picks
-abbrev pub IsRunOfPicks : {A O : Type 0} → (O → Program → List ℕ → Type 0) → code.Program A → List ℕ → Run A O → Type 0
-IsRunOfPicks Seen program picks r = let p : Program = program_of program in IsRun Seen p JOURNAL (moves p picks) r
-
--- it is that of the program's round with this limit
-abbrev pub IsRunOfRound : {A O : Type 0} → (O → Program → List ℕ → Type 0) → code.Program A → ℕ → Run A O → Type 0
-IsRunOfRound Seen program limit r = let p : Program = program_of program in IsRun Seen p (min limit JOURNAL) (round p limit) r

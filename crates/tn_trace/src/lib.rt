@@ -6,9 +6,9 @@
 //! have; that a core that isn't spent is the core of its journal: its node, listings and replies are those that def_run
 //! defines for its program and its journal's picks, each of which moved; that a step adds exactly the answer of its
 //! move; that a listing goes by the session's view, which no other session changes; and that the transcript of
-//! a run, which keeps text alone, has the lines, the replies and the journal of its picks, where the lines have at
-//! most so many bytes, and is refused for its length only where they have more. What is kept of a session's messages
-//! is its user's, by `MessageSink`, what is made of a run its user's, by `Observer`, and how much of it by `Bound`.
+//! a run, which keeps text alone, has the lines, the replies and the journal of its picks. What is kept of a session's
+//! messages is its user's, by `MessageSink`, what is made of a run its user's, by `Observer`, and how much of it by
+//! `Bound`.
 #![tactic(auto)]
 
 mod bound;
@@ -27,7 +27,6 @@ mod sessions;
 mod sink;
 mod sinks;
 mod slot;
-mod texts;
 mod transcript;
 mod transcript_fault;
 

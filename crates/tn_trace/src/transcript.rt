@@ -2,12 +2,9 @@
 use crate::recorder::Recorder;
 use crate::run::Run;
 use crate::sinks::Lines;
-use crate::texts::{run_of_picks, run_of_round};
-use crate::transcript_fault::TranscriptFault;
 use std::alloc::Allocator;
 use std::marker::Model;
 use std::mem::replace;
-use tn_program::Program;
 
 /// What a run of a program wrote down: the messages of each session and the replies as text, each with
 /// a line feed, and the picks that moved.
@@ -30,11 +27,9 @@ impl<A: Allocator> Model for Transcript<A> {
 }
 
 impl<A: Allocator + Copy> Transcript<A> {
-    ghost use Rattle.std.specs.Prelude.{◌≡◌, ◌<◌, ◌≤◌, IfOk, OnOk, IsErrOf, slice_get};
+    ghost use Rattle.std.specs.Prelude.{◌≡◌, slice_get};
     ghost use Rattle.std.specs.Option.{option_map};
-    ghost use Rattle.def_run.specs.Round.{round};
-    ghost use Rattle.tn_program.specs.Views.{program_of};
-    ghost use Rattle.tn_trace.specs.Transcripts.{listing_bytes, transcript_of, without_lines};
+    ghost use Rattle.tn_trace.specs.Transcripts.{without_lines};
     ghost use Rattle.tn_trace.specs.Bounds.{IsOfItsRun};
 
     /// The transcript of a run that kept text.
@@ -45,46 +40,6 @@ impl<A: Allocator + Copy> Transcript<A> {
             recorder: run.observer,
             journal: run.journal,
         }
-    }
-
-    /// The transcript of the run by these picks, where its listings together have at most so many bytes.
-    ///
-    /// # Errors
-    ///
-    /// TooLong as soon as they have more, after the move that made them so; OutOfMemory where memory was refused.
-    pub fn of_picks(
-        alloc: A,
-        program: &Program<A>,
-        picks: &[u32],
-        most: usize,
-    ) -> Result<Transcript<A>, TranscriptFault>
-        ensures run { IfOk result (λ t. t ≡ transcript_of (program_of program.now) picks.now) }
-        ensures within { OnOk result (listing_bytes (program_of program.now) picks.now ≤ most) }
-        ensures long { IsErrOf result TranscriptFault.TooLong →
-            most < listing_bytes (program_of program.now) picks.now }
-    {
-        Ok(Transcript::of_run(run_of_picks(alloc, program, picks, most)?))
-    }
-
-    /// The transcript of the round with this limit on the number of moves, where its listings together have at most so
-    /// many bytes.
-    ///
-    /// # Errors
-    ///
-    /// TooLong as soon as they have more, after the move that made them so; OutOfMemory where memory was refused.
-    pub fn of_round(
-        alloc: A,
-        program: &Program<A>,
-        limit: u32,
-        most: usize,
-    ) -> Result<Transcript<A>, TranscriptFault>
-        ensures run { let p = program_of program.now in IfOk result (λ t. t ≡ transcript_of p (round p limit)) }
-        ensures within { OnOk result
-            (listing_bytes (program_of program.now) (round (program_of program.now) limit) ≤ most) }
-        ensures long { IsErrOf result TranscriptFault.TooLong →
-            most < listing_bytes (program_of program.now) (round (program_of program.now) limit) }
-    {
-        Ok(Transcript::of_run(run_of_round(alloc, program, limit, most)?))
     }
 
     /// The lines of the session at this place among the creations of the control list, from 0, in order;
