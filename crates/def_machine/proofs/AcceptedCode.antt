@@ -9,10 +9,10 @@ use Rattle.def_spec.specs.Outcome.{Clause}
 use Rattle.def_machine.specs.Instructions.{Instruction, load_list, end_with_match, end_without_match}
 use Rattle.def_machine.specs.Validity.{Valid, LeadsForward, IsInPlace, ways, leads_to, reads, has_its_number}
 use Rattle.def_machine.specs.Acceptance.{all_of_them, where_standing, leads_forward, is_set_before, is_fine, is_checked}
-use Rattle.def_machine.specs.HeadFolds.{folded_clause}
+use Rattle.def_machine.specs.ExprFolds.{folded_clause}
 use Rattle.def_machine.specs.Compilation.{VariableRegisters, registers_taken, variables_after, pattern_code, exprs_code, while_true_code, clauses_code, code_of, code_from}
 use Rattle.def_machine.proofs.Fine.{AreFineClauses, sound-fine}
-use Rattle.def_machine.proofs.FoldedHeads.{folded-fine}
+use Rattle.def_machine.proofs.FoldedClauses.{folded-fine}
 use Rattle.def_machine.proofs.Fronts.{pattern_front, exprs_front, while_front}
 use Rattle.def_machine.proofs.PlacedCode.{placed-length}
 use Rattle.def_machine.proofs.CompiledCode.{compiled_code_is_valid}

@@ -1,5 +1,5 @@
 -- The registers of the variables of a head: what holds of each, and which variables have one.
-use Rattle.std.proofs.Common.{◌≡◌, ℕ, suc, ◌+◌, ◌≤◌, List, [], ◌∷◌, Option, Some, None, refl, ap, ◌∙◌, nat_cmp, Bool, true, false, ◌==◌, ◌||◌, is_some, Ordering, Less, Equal, Greater, cond, unwrap_or}
+use Rattle.std.proofs.Common.{◌≡◌, ℕ, ◌≤◌, List, [], ◌∷◌, Option, Some, None, nat_cmp, Bool, true, false, is_some, Ordering, Less, Equal, Greater, cond, unwrap_or}
 use Rattle.std.specs.Bool.{⊤}
 use Rattle.std.specs.FinMap.{find, put}
 use Rattle.std.specs.FinMap.Entries.{by_order}

@@ -1,18 +1,17 @@
--- Folded heads bind as the heads do, and the code of folded clauses is that of sound ones.
-use Rattle.std.proofs.Common.{◌≡◌, ℕ, List, [], ◌∷◌, map, Option, Some, None, refl, sym, ap, ◌∙◌, subst, Bool, true, false, ◌&&◌, ◌||◌, if◌then◌else◌, option_map, option_and_then}
+-- Folded heads bind as the heads do, and expressions that fit a head fit the folded one.
+use Rattle.std.proofs.Common.{◌≡◌, ℕ, [], Option, Some, None, refl, sym, ap, ◌∙◌, subst, Bool, true, false, ◌&&◌, ◌||◌, if◌then◌else◌, option_map, option_and_then}
 use Rattle.std.specs.declared.cmp.Ordering.{Ordering}
 use Rattle.std.specs.declared.cmp.Ordering.TheVariants.{Less, Equal, Greater}
 use Rattle.std.specs.Ordering.{ordering_then, is_eq}
 use Rattle.def_term.specs.Tree.{Tree, int, atom, pid, tuple, list, Trees, none, more}
 use Rattle.def_term.specs.Order.{tree_cmp, trees_cmp, same}
 use Rattle.def_term.proofs.Same.{same-is, same-self}
-use Rattle.def_spec.specs.Matching.{Pattern, Patterns, variable, anything, only_term, in_tuple, in_list, no_patterns, and_pattern, Bindings, occurs, occurs_in_some, bind_on, bind_each, bindings_of}
-use Rattle.def_spec.specs.Expressions.{Dialect, Expr, bound_to, whole_list, all_bound, constant, tuple_of, list_of, call, and_also, or_else, perform, Exprs, no_exprs, and_expr, Context, Position, in_condition, in_body}
-use Rattle.def_spec.specs.Outcome.{Clause, each_true, or_next, outcome_in, matched_term}
+use Rattle.def_spec.specs.Matching.{Pattern, Patterns, variable, anything, only_term, in_tuple, in_list, no_patterns, and_pattern, Bindings, occurs, occurs_in_some, bind_on, bind_each}
+use Rattle.def_spec.specs.Expressions.{Expr, bound_to, whole_list, all_bound, constant, tuple_of, list_of, call, and_also, or_else, perform, Exprs, no_exprs, and_expr, Position, in_condition, in_body}
 use Rattle.def_spec.proofs.Binding.{bind-matches, matches-bind}
-use Rattle.def_machine.specs.HeadFolds.{term_before, constant_in, constants_in, term_or, fold_head, folded_each, folded_clause}
+use Rattle.def_machine.specs.HeadFolds.{term_before, constant_in, constants_in, term_or, fold_head, folded_each}
 use Rattle.def_machine.specs.Laws.{FoldedHeadsMatchAlike}
-use Rattle.def_machine.proofs.Fine.{IsFine, AreFine, AreFineClauses}
+use Rattle.def_machine.proofs.Fine.{IsFine, AreFine}
 
 -- ---- a pattern that one term alone matches
 
@@ -50,14 +49,14 @@ then_kept true f b = refl
 then_kept false f b = refl
 
 -- what is in front of the others, where all are there
-record FrontOf (x : Option Tree) (y : Option Trees) (us : Trees) : Type 0 where
-  first : Tree
-  others : Trees
-  first_is : x ≡ Some first
-  others_are : y ≡ Some others
-  all_are : more first others ≡ us
+pub record FrontOf (x : Option Tree) (y : Option Trees) (us : Trees) : Type 0 where
+  pub first : Tree
+  pub others : Trees
+  pub first_is : x ≡ Some first
+  pub others_are : y ≡ Some others
+  pub all_are : more first others ≡ us
 
-front_of : (x : Option Tree) (y : Option Trees) (us : Trees) → term_before x y ≡ Some us → FrontOf x y us
+pub front_of : (x : Option Tree) (y : Option Trees) (us : Trees) → term_before x y ≡ Some us → FrontOf x y us
 front_of None y us e = absurd (cc)
 front_of (Some u) None us e = absurd (cc)
 front_of (Some u) (Some vs) us e = record { first = u; others = vs; first_is = refl; others_are = refl; all_are = cc }
@@ -141,7 +140,7 @@ on_others f g None each = refl
 on_others f g (Some b) each = each b
 
 mutual
-  bind_folded : (p : Pattern) (t : Tree) (b : Bindings) → bind_on (fold_head p) t b ≡ bind_on p t b
+  pub bind_folded : (p : Pattern) (t : Tree) (b : Bindings) → bind_on (fold_head p) t b ≡ bind_on p t b
   bind_folded (variable n) t b = refl
   bind_folded anything t b = refl
   bind_folded (only_term u) t b = refl
@@ -161,13 +160,7 @@ folded_heads_match_alike p t b = (
   (λ m. bind-matches (fold_head p) t b (bind_folded p t [] ∙ matches-bind p t b m)),
 )
 
--- ---- clauses with folded heads
-
-pub folded-outcome : (d : Dialect) (ks : List Clause) (c : Context) → outcome_in d (map folded_clause ks) c ≡ outcome_in d ks c
-folded-outcome d [] c = refl
-folded-outcome d (k ∷ ks) c =
-    ap (λ x. or_next d (option_and_then (λ b. if each_true d b c k.conditions then Some b else None) x) c k.body (outcome_in d (map folded_clause ks) c)) (bind_folded k.head (matched_term c) [])
-    ∙ ap (or_next d (option_and_then (λ b. if each_true d b c k.conditions then Some b else None) (bindings_of k.head (matched_term c))) c k.body) (folded-outcome d ks c)
+-- ---- expressions of clauses with folded heads
 
 neither : (x y : Bool) → x ≡ false → y ≡ false → (x || y) ≡ false
 neither x y e f = ap (λ z. z || y) e ∙ f
@@ -216,13 +209,6 @@ mutual
   fine_folded in_condition p (perform a es) h = h
   fine_folded in_body p (perform a es) h = (h.0, all_fine_folded in_body p es h.1)
 
-  all_fine_folded : (part : Position) (p : Pattern) (es : Exprs) → AreFine part p es → AreFine part (fold_head p) es
+  pub all_fine_folded : (part : Position) (p : Pattern) (es : Exprs) → AreFine part p es → AreFine part (fold_head p) es
   all_fine_folded part p no_exprs h = tt
   all_fine_folded part p (and_expr e es) h = (fine_folded part p e h.0, all_fine_folded part p es h.1)
-
-pub folded-fine : (ks : List Clause) → AreFineClauses ks → AreFineClauses (map folded_clause ks)
-folded-fine [] h = tt
-folded-fine (k ∷ ks) h = (
-  record { conditions = all_fine_folded in_condition k.head k.conditions h.0.conditions; body = all_fine_folded in_body k.head k.body h.0.body },
-  folded-fine ks h.1,
-)

@@ -11,6 +11,8 @@ pub mod Safe
 pub mod PlacedCode
 pub mod Endings
 pub mod FoldedHeads
+pub mod FoldedExpressions
+pub mod FoldedClauses
 pub mod CompiledCode
 pub mod CheckedCode
 mod Rows

@@ -5,7 +5,7 @@ use Rattle.def_term.specs.Names.{word}
 use Rattle.def_spec.specs.Matching.{variable, anything, only_term, in_tuple, in_list, no_patterns, and_pattern}
 use Rattle.def_spec.specs.Functions as fn
 use Rattle.def_spec.specs.Functions.{truth}
-use Rattle.def_spec.specs.Expressions.{for_calls, for_sends, message, trace, bound_to, whole_list, all_bound, constant, list_of, call, or_else, perform, no_exprs, and_expr}
+use Rattle.def_spec.specs.Expressions.{for_calls, for_sends, message, trace, bound_to, whole_list, all_bound, constant, tuple_of, list_of, call, or_else, perform, no_exprs, and_expr}
 use Rattle.def_spec.specs.Outcome.{Spec}
 use Rattle.def_spec.specs.Reading.{spec_of}
 use Rattle.def_machine.specs.Instructions.{kind_tuple, kind_list, goes_on_at, gives_exit, load_constant, load_list, load_own_pid, take_element, test_kind, test_length, test_equal, jump, build, apply_function, perform_action, change_flags, end_with_match, end_without_match}
@@ -52,7 +52,7 @@ guard_fault_is_checked = refl
 -- [{['$1','$1'],[],[{message,{hd,[]}}]}]: the second '$1' is compared, and the fault gives 'EXIT'
 same_variable : code_of (record { dialect = for_calls; clauses = record { head = in_list (and_pattern (variable 1) (and_pattern (variable 1) no_patterns)); conditions = no_exprs; body = and_expr (perform message (and_expr (call fn.head (and_expr (list_of no_exprs) no_exprs)) no_exprs)) no_exprs } ∷ [] }) ≡
     load_list 0 ∷ test_kind 0 kind_list 10 ∷ take_element 1 0 0 10 ∷ take_element 2 0 1 10 ∷ test_equal 1 2 10 ∷ test_length 0 2 10
-    ∷ build kind_list 3 [] ∷ apply_function fn.head 3 (3 ∷ []) gives_exit ∷ perform_action for_calls message 3 (3 ∷ []) ∷ end_with_match
+    ∷ load_constant 3 (list none) ∷ apply_function fn.head 3 (3 ∷ []) gives_exit ∷ perform_action for_calls message 3 (3 ∷ []) ∷ end_with_match
     ∷ end_without_match ∷ []
 same_variable = refl
 
@@ -66,6 +66,17 @@ constant_is_folded : code_of (record { dialect = for_calls; clauses = record { h
     ∷ end_with_match
     ∷ end_without_match ∷ []
 constant_is_folded = refl
+
+-- [{'_',[],[{message,[a,{{1,[]}},['$_',[b]],{tl,[c]}]}]}]: each tuple or list of constants is one constant, and a call is made
+constant_expression_is_folded : code_of (record { dialect = for_calls; clauses = record { head = anything; conditions = no_exprs; body = and_expr (perform message (and_expr (list_of (and_expr (constant (word "a")) (and_expr (tuple_of (and_expr (constant (int (pos 1))) (and_expr (list_of no_exprs) no_exprs))) (and_expr (list_of (and_expr whole_list (and_expr (list_of (and_expr (constant (word "b")) no_exprs)) no_exprs))) (and_expr (call fn.tail (and_expr (list_of (and_expr (constant (word "c")) no_exprs)) no_exprs)) no_exprs))))) no_exprs)) no_exprs } ∷ [] }) ≡
+    load_list 0
+    ∷ load_constant 1 (word "a") ∷ load_constant 2 (tuple (more (int (pos 1)) (more (list none) none)))
+    ∷ load_list 3 ∷ load_constant 4 (list (more (word "b") none)) ∷ build kind_list 3 (3 ∷ 4 ∷ [])
+    ∷ load_constant 4 (list (more (word "c") none)) ∷ apply_function fn.tail 4 (4 ∷ []) gives_exit
+    ∷ build kind_list 1 (1 ∷ 2 ∷ 3 ∷ 4 ∷ []) ∷ perform_action for_calls message 1 (1 ∷ [])
+    ∷ end_with_match
+    ∷ end_without_match ∷ []
+constant_expression_is_folded = refl
 
 -- [{'$1',[{'orelse',{is_list,'$1'},true}],[{message,'$$'}]}]: the test that is true jumps past the others
 first_that_is_true : code_of (record { dialect = for_sends; clauses = record { head = variable 1; conditions = and_expr (or_else (and_expr (call fn.is_list (and_expr (bound_to 1) no_exprs)) (and_expr (constant (truth true)) no_exprs))) no_exprs; body = and_expr (perform message (and_expr all_bound no_exprs)) no_exprs } ∷ [] }) ≡
@@ -96,8 +107,8 @@ tracing = record {
 
 flags_by_three_registers : code_of tracing ≡
     load_list 0
-    ∷ load_own_pid 1 ∷ build kind_list 2 [] ∷ load_list 3 ∷ build kind_list 3 (3 ∷ []) ∷ change_flags 1 1 2 3 gives_exit ∷ perform_action for_calls message 1 (1 ∷ [])
-    ∷ apply_function fn.own_pid 2 [] gives_exit ∷ build kind_list 3 [] ∷ build kind_list 4 [] ∷ change_flags 2 2 3 4 gives_exit
+    ∷ load_own_pid 1 ∷ load_constant 2 (list none) ∷ load_list 3 ∷ build kind_list 3 (3 ∷ []) ∷ change_flags 1 1 2 3 gives_exit ∷ perform_action for_calls message 1 (1 ∷ [])
+    ∷ apply_function fn.own_pid 2 [] gives_exit ∷ load_constant 3 (list none) ∷ load_constant 4 (list none) ∷ change_flags 2 2 3 4 gives_exit
     ∷ end_with_match
     ∷ end_without_match ∷ []
 flags_by_three_registers = refl

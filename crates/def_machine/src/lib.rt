@@ -3,13 +3,15 @@
 //!
 //! Depends on def_term and def_spec. Promises, as laws: from each state at most one step is possible, and
 //! none at the end; valid code comes to an end in every context, in at most as many steps as it has
-//! instructions; code that the test accepts is valid; folded heads match alike; the code of a sound
-//! specification is valid, and ends with the specification's outcome; and the test accepts that code.
+//! instructions; code that the test accepts is valid; folded heads match alike, and folded expressions
+//! evaluate alike; the code of a sound specification is valid, and ends with the specification's outcome;
+//! and the test accepts that code.
 //! There is no code.
 #![tactic(auto)]
 
 ghost use Rattle.def_machine.specs.Laws.{StepIsOne, NoStepFromTheEnd, RunsEndAlike, ValidCodeEnds};
 ghost use Rattle.def_machine.specs.Laws.{CheckedCodeIsValid, FoldedHeadsMatchAlike};
+ghost use Rattle.def_machine.specs.Laws.{FoldedExpressionsEvaluateAlike};
 ghost use Rattle.def_machine.specs.Laws.{CompiledCodeIsValid, CompiledCodeEndsWithTheOutcome};
 ghost use Rattle.def_machine.specs.Laws.{CompiledCodeIsChecked};
 
@@ -36,6 +38,12 @@ pub fn checked_code_is_valid()
 /// the same binding ("Match Specifications in Erlang", "Grammar").
 pub fn folded_heads_match_alike()
     ensures { FoldedHeadsMatchAlike }
+{}
+
+/// An expression in which each tuple or list of constants is one constant has the value or the fault that
+/// the expression has, and the same effects ("Match Specifications in Erlang", "Variables and Literals").
+pub fn folded_expressions_evaluate_alike()
+    ensures { FoldedExpressionsEvaluateAlike }
 {}
 
 /// The code of a sound specification is valid. In every context it has a run of at most as many steps as

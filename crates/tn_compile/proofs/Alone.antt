@@ -10,16 +10,16 @@ use Rattle.tn_compile.specs.Folds.{shape_pattern, shape_term}
 
 -- ---- whether each is constant
 
-some-before : (x : Option Tree) (y : Option Trees) → is_some x ≡ true → is_some (term_before x y) ≡ is_some y
+pub some-before : (x : Option Tree) (y : Option Trees) → is_some x ≡ true → is_some (term_before x y) ≡ is_some y
 some-before None y e = absurd (cc)
 some-before (Some t) None e = refl
 some-before (Some t) (Some ts) e = refl
 
-none-before : (x : Option Tree) (y : Option Trees) → is_some x ≡ false → is_some (term_before x y) ≡ false
+pub none-before : (x : Option Tree) (y : Option Trees) → is_some x ≡ false → is_some (term_before x y) ≡ false
 none-before None y e = refl
 none-before (Some t) y e = absurd (cc)
 
-first-some : (x : Option Tree) (y : Option Trees) → is_some (term_before x y) ≡ true → is_some x ≡ true
+pub first-some : (x : Option Tree) (y : Option Trees) → is_some (term_before x y) ≡ true → is_some x ≡ true
 first-some None y e = e
 first-some (Some t) y e = refl
 
@@ -31,7 +31,7 @@ not-constant-first es rest p s is first h = sym (none-before (constant_in p) (co
 
 -- ---- the terms
 
-mapped-some : (f : Trees → Trees) (x : Option Trees) → is_some (option_map f x) ≡ is_some x
+pub mapped-some : (f : Trees → Trees) (x : Option Trees) → is_some (option_map f x) ≡ is_some x
 mapped-some f None = refl
 mapped-some f (Some ts) = refl
 
@@ -43,7 +43,7 @@ before-more : (us : List Tree) (u : Tree) (ts : Trees) → trees_before (us ++ u
 before-more [] u ts = refl
 before-more (x ∷ us) u ts = ap (more x) (before-more us u ts)
 
-mapped-more : (us : List Tree) (u : Tree) (y : Option Trees) → option_map (trees_before (us ++ u ∷ [])) y ≡ option_map (trees_before us) (term_before (Some u) y)
+pub mapped-more : (us : List Tree) (u : Tree) (y : Option Trees) → option_map (trees_before (us ++ u ∷ [])) y ≡ option_map (trees_before us) (term_before (Some u) y)
 mapped-more us u None = refl
 mapped-more us u (Some ts) = ap Some (before-more us u ts)
 
@@ -61,7 +61,7 @@ before-none (u ∷ us) = ap (more u) (before-none us)
 
 -- ---- folding
 
-some-of : (x : Option Trees) → is_some x ≡ false → x ≡ None
+pub some-of : (x : Option Trees) → is_some x ≡ false → x ≡ None
 some-of None e = refl
 some-of (Some ts) e = absurd (cc)
 

@@ -41,8 +41,8 @@ clause-room ks i k l is small =
 pub room-of-head : (taken size : ℕ) → 2 + taken + size < 2 ^ 64 → 1 + taken < 2 ^ 64
 room-of-head taken size h = omega (arith, h)
 
-pub room-behind-head : (free taken size : ℕ) → free ≡ 1 + taken → 2 + taken + size < 2 ^ 64 → free + 1 + size < 2 ^ 64
-room-behind-head free taken size is h = omega (arith, is, h)
+pub room-behind-head : (free taken size small : ℕ) → free ≡ 1 + taken → small ≤ size → 2 + taken + size < 2 ^ 64 → free + 1 + small < 2 ^ 64
+room-behind-head free taken size small is le h = omega (arith, is, le, h)
 
 pub one-longer : (n old new : ℕ) → n ≡ old → new ≡ old + 1 → n ≤ new
 one-longer n old new is h = omega (arith, is, h)

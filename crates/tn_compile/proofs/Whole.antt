@@ -10,9 +10,9 @@ use Rattle.def_machine.specs.Instructions.{goes_on_at, gives_exit, Instruction, 
 use Rattle.def_machine.specs.Validity.{Each, ways, Valid}
 use Rattle.def_machine.specs.Compilation.{clause_code, clauses_code, code_of}
 use Rattle.def_machine.proofs.CompiledCode.{compiled_code_is_valid}
-use Rattle.def_machine.specs.HeadFolds.{folded_clause}
+use Rattle.def_machine.specs.ExprFolds.{folded_clause}
 use Rattle.def_machine.proofs.Fine.{sound-fine}
-use Rattle.def_machine.proofs.FoldedHeads.{folded-fine}
+use Rattle.def_machine.proofs.FoldedClauses.{folded-fine}
 use Rattle.def_machine.proofs.Inside.{StaysInside, clauses_inside}
 use Rattle.tn_code.specs.OneProof.{valid-prop}
 use Rattle.tn_spec.specs.Views.{clause_seen}

@@ -6,7 +6,7 @@ use Rattle.def_spec.specs.Expressions.{Dialect, Expr, Exprs}
 use Rattle.def_spec.specs.Outcome.{Clause}
 use Rattle.def_machine.specs.Instructions.{Instruction, test_equal, jump, build, apply_function}
 use Rattle.def_machine.specs.Compilation.{registers_of, action_code, expr_code, exprs_code, while_true_code, until_true_code, clause_code}
-use Rattle.def_machine.specs.HeadFolds.{folded_clause}
+use Rattle.def_machine.specs.ExprFolds.{folded_clause}
 use Rattle.tn_spec.specs.Views.{dialect_of, func_of, action_of}
 use Rattle.tn_spec.specs.declared.func.Func.{Func}
 use Rattle.tn_spec.specs.declared.func.Action.{Action}
@@ -39,7 +39,7 @@ abbrev pub test_emitted : Bool → (left right place : ℕ) → List Instruction
 test_emitted true left right place k = test_equal left right 1 ∷ jump place ∷ k
 test_emitted false left right place k = test_equal left right place ∷ k
 
--- the code of clauses, their heads folded, and then what follows where none fires
+-- the code of clauses, each folded, and then what follows where none fires
 abbrev pub clauses_emitted : Dialect → List Clause → List Instruction → List Instruction
 clauses_emitted d [] k = k
 clauses_emitted d (c ∷ cs) k = clause_code d (folded_clause c) (clauses_emitted d cs k)

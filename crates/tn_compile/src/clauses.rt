@@ -10,6 +10,7 @@ ghost use Rattle.tn_compile.specs.Rooms.{HasRoomFor};
 
 use crate::emit_context::{EmitContext, Position, Stop, emit};
 use crate::exprs::{emit_exprs, emit_tests};
+use crate::folds::folded_exprs;
 use crate::fronts::put_in_front;
 use crate::heads::{HeadSteps, steps_of_head};
 use crate::places::in_places;
@@ -41,7 +42,8 @@ fn emit_clause<P: Allocator, A: Allocator + Copy>(
         variables: variables.as_slice(),
         left,
     };
-    emit_exprs(alloc, code, &clause.body, &body, free)?;
+    let values = folded_exprs(alloc, &clause.body)?;
+    emit_exprs(alloc, code, &values, &body, free)?;
     let conditions = EmitContext {
         part: Position::Condition,
         ..body
@@ -50,7 +52,8 @@ fn emit_clause<P: Allocator, A: Allocator + Copy>(
         on_true: false,
         left,
     };
-    emit_tests(alloc, code, &clause.conditions, &conditions, free, stop)?;
+    let tests = folded_exprs(alloc, &clause.conditions)?;
+    emit_tests(alloc, code, &tests, &conditions, free, stop)?;
     put_in_front(code, steps, left)?;
     Ok(emit(code, Instr::LoadList { to: 0 })?)
 }

@@ -1,10 +1,12 @@
-// Patterns that one term alone matches, and that term.
+// Patterns that one term alone matches, and that term; terms of several parts.
 ghost use Rattle.std.specs.Prelude.{◌≡◌, true, Some, IfOk, is_some};
 ghost use Rattle.def_machine.specs.HeadFolds.{constant_in, constants_in};
 ghost use Rattle.tn_spec.specs.Views.{pattern_seen, patterns_seen};
 ghost use Rattle.tn_term.specs.Views.{tree_of, trees_of};
+ghost use Rattle.tn_compile.specs.Folds.{shape_term};
 
 use std::alloc::{AllocError, Allocator};
+use tn_code::Kind;
 use tn_spec::Pattern;
 use tn_term::Term;
 
@@ -67,4 +69,14 @@ pub fn constants_of<P: Allocator, A: Allocator + Copy>(
         terms.push(constant_of(alloc, pattern)?)?;
     }
     Ok(terms)
+}
+
+/// A tuple or list of the terms.
+pub fn term_of<A: Allocator>(kind: Kind, terms: Vec<Term<A>, A>) -> Term<A>
+    ensures { tree_of result ≡ shape_term kind (trees_of terms.items) }
+{
+    match kind {
+        Kind::Tuple => Term::Tuple(terms),
+        Kind::List => Term::List(terms),
+    }
 }

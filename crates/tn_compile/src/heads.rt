@@ -6,15 +6,15 @@ ghost use Rattle.std.specs.Ordering.{nat_cmp};
 ghost use Rattle.def_spec.specs.Matching.{only_term};
 ghost use Rattle.def_machine.specs.Compilation.{registers_taken, registers_taken_each, variables_after};
 ghost use Rattle.def_machine.specs.HeadFolds.{fold_head};
-ghost use Rattle.tn_term.specs.Views.{tree_of, trees_of};
+ghost use Rattle.tn_term.specs.Views.{tree_of};
 ghost use Rattle.tn_spec.specs.Views.{head_seen, pattern_seen};
-ghost use Rattle.tn_compile.specs.Folds.{shape_term, parts_folded, each_folded};
+ghost use Rattle.tn_compile.specs.Folds.{parts_folded, each_folded};
 ghost use Rattle.tn_compile.specs.Heads.{pattern_steps};
 ghost use Rattle.tn_compile.specs.Views.{variables_seen};
 ghost use Rattle.tn_compile.specs.Walks.{steps_seen, walk_registers, AddsSteps, AddsVariables, AddsVariable};
 ghost use Rattle.tn_compile.specs.Walks.{TakesRegisters, AddsEachStep, AddsEachVariable, TakesRegistersEach};
 
-use crate::constants::{are_constant, constants_of};
+use crate::constants::{are_constant, constants_of, term_of};
 use crate::emit_context::{VariableRegister, register_of_variable};
 use std::alloc::{AllocError, Allocator};
 use tn_code::{Instr, Kind};
@@ -78,16 +78,6 @@ fn compare<A: Allocator>(
     })?;
     head.free = to + 1;
     Ok(())
-}
-
-/// A tuple or list of the terms.
-fn term_of<A: Allocator>(kind: Kind, terms: Vec<Term<A>, A>) -> Term<A>
-    ensures { tree_of result ≡ shape_term kind (trees_of terms.items) }
-{
-    match kind {
-        Kind::Tuple => Term::Tuple(terms),
-        Kind::List => Term::List(terms),
-    }
 }
 
 /// A pattern against a register.

@@ -8,6 +8,7 @@ mod clauses;
 mod constants;
 mod emit_context;
 mod exprs;
+mod folds;
 mod fronts;
 mod heads;
 mod places;

@@ -1,7 +1,7 @@
 use Rattle.std.proofs.Common.{◌≡◌, ◌<◌, ◌^◌, ◌∷◌, [], ◌∙◌, ap, sym, subst, map, reverse}
 use Rattle.def_machine.specs.Instructions.{end_without_match}
 use Rattle.def_machine.specs.Compilation.{clauses_code, code_from}
-use Rattle.def_machine.specs.HeadFolds.{folded_clause}
+use Rattle.def_machine.specs.ExprFolds.{folded_clause}
 use Rattle.def_machine.specs.Validity.{Valid}
 use Rattle.tn_code.specs.Views.{instructions_of}
 use Rattle.tn_spec.specs.Sizes.{clauses_size}
