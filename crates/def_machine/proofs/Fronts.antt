@@ -17,11 +17,11 @@ mutual
   pattern_front (variable n) env r d f k = var_front (find nat_cmp n env) r f k
   pattern_front anything env r d f k = before-self k
   pattern_front (only_term t) env r d f k = before-cons _ _ k (before-cons _ k k (before-self k))
-  pattern_front (in_tuple ps) env r d f k = before-cons _ _ k (each_front ps env r 0 d f k)
-  pattern_front (in_list ps) env r d f k = before-cons _ _ k (each_front ps env r 0 d f k)
+  pattern_front (in_tuple ps) env r d f k = before-cons _ _ k (before-cons _ _ k (each_front ps env r 0 d f k))
+  pattern_front (in_list ps) env r d f k = before-cons _ _ k (before-cons _ _ k (each_front ps env r 0 d f k))
 
   pub each_front : (ps : Patterns) (env : VariableRegisters) (r i d f : ℕ) (k : List Instruction) → Before (each_pattern_code ps env r i d f k) k
-  each_front no_patterns env r i d f k = before-cons _ k k (before-self k)
+  each_front no_patterns env r i d f k = before-self k
   each_front (and_pattern p ps) env r i d f k = before-cons _ _ k (before-trans _ _ k (pattern_front p env d (suc d) f _) (each_front ps (variables_after p env d (suc d)) r (suc i) (suc d + registers_taken p) f k))
 
 apply_front : (place : Position) (f : ℕ) (i : OnFault → Instruction) (k : List Instruction) → Before (call_code place f i k) k

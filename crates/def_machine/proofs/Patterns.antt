@@ -9,21 +9,15 @@ use Rattle.def_spec.specs.Expressions.{Context, Effect}
 use Rattle.def_spec.specs.Outcome.{Outcome}
 use Rattle.def_machine.specs.Instructions.{ShapeKind, kind_tuple, kind_list, Instruction, take_element, test_kind, test_length, test_equal}
 use Rattle.def_machine.specs.Machine.{Registers, with_register, going_to, set_register, test_move, parts, has_kind, set_term, equal_terms, does}
-use Rattle.def_machine.specs.Compilation.{VariableRegisters, jump_by, registers_taken, registers_taken_each, variable_met, variables_after, variables_after_each, variable_code, pattern_code, each_pattern_code}
-use Rattle.def_machine.proofs.Runs.{Ends, by_move, Before, jump_to, before-trans}
+use Rattle.def_machine.specs.Compilation.{VariableRegisters, jump_by, registers_taken, registers_taken_each, variable_met, variables_after, variables_after_each, variable_code, number_of_patterns, shape_code, pattern_code, each_pattern_code}
+use Rattle.def_machine.proofs.Runs.{Ends, by_move, Before, jump_to, before-cons, before-trans}
 use Rattle.def_machine.proofs.KnownRegisters.{Known, terms_of, where_of, Holds, Agree, holds-on, agree-self, agree-both, agree-with, with-same, put-terms, put-where, put-holds, found, FoundAs}
-use Rattle.def_machine.proofs.Fronts.{pattern_front, each_front}
+use Rattle.def_machine.proofs.Fronts.{each_front}
 
 abbrev past : ℕ → Trees → Trees
 past zero us = us
 past (suc i) none = none
 past (suc i) (more u us) = past i us
-
-nth_nil : (i : ℕ) (us : Trees) → past i us ≡ none → nth us i ≡ None
-nth_nil zero none e = refl
-nth_nil zero (more u us) e = cc
-nth_nil (suc i) none e = refl
-nth_nil (suc i) (more u us) e = nth_nil i us e
 
 nth_cons : (i : ℕ) (us : Trees) (t : Tree) (ts : Trees) → past i us ≡ more t ts → nth us i ≡ Some t
 nth_cons zero none t ts e = cc
@@ -37,9 +31,16 @@ past_cons zero (more u us) t ts e = cc
 past_cons (suc i) none t ts e = cc
 past_cons (suc i) (more u us) t ts e = past_cons i us t ts e
 
-not_length : (n i : ℕ) (b : Bool) → (n == i) ≡ b → i < n → b ≡ false
-not_length n i true e l = let f : n ≡ i = eqb-true n i e in absurd (omega (arith, f, l))
-not_length n i false e l = refl
+then_none : (f : Bindings → Option Bindings) (x : Option Bindings) → ((b : Bindings) → f b ≡ None) → option_and_then f x ≡ None
+then_none f None h = refl
+then_none f (Some b) h = h b
+
+-- patterns match no other number of terms
+other_number : (ps : Patterns) (ts : Trees) (b : Bindings) → (count ts ≡ number_of_patterns ps → ⊥) → bind_each ps ts b ≡ None
+other_number no_patterns none b other = absurd (other refl)
+other_number no_patterns (more t ts) b other = refl
+other_number (and_pattern p ps) none b other = refl
+other_number (and_pattern p ps) (more t ts) b other = then_none (bind_each ps ts) (bind_on p t b) (λ x. other_number ps ts x (λ e. other (omega (arith, e))))
 
 module _ (c : Context) (o : Outcome) (F : List Instruction) (e : List Effect) where
   pub jump_ends : (i : ℕ → Instruction) (rest : List Instruction) (g h : Registers) → Before rest F → does c (i (length rest - length F)) g e ≡ Some (going_to (length rest - length F) h e) → Ends c o F h e → Ends c o (jump_by i (length F) rest) g e
@@ -80,9 +81,14 @@ module _ (c : Context) (o : Outcome) (F : List Instruction) (e : List Effect) wh
       (λ yes. subst (AfterPattern k (where_of m) g d (d + 0)) (chosen (same u t) (terms_of m) yes) after g m (agree-self d g) (subst (λ w. Holds g w m) z holds) refl refl)
       (λ no. subst (AfterPattern k (where_of m) g d (d + 0)) (refused (same u t) (terms_of m) no) after g)
 
-  -- the kind is tested, and then the parts
-  kind_ends : (kind : ShapeKind) (r : ℕ) (t : Tree) (rest : List Instruction) (g : Registers) → g r ≡ Some t → Before rest F → (has_kind kind t ≡ true → Ends c o rest g e) → (has_kind kind t ≡ false → Ends c o F g e) → Ends c o (jump_by (test_kind r kind) (length F) rest) g e
-  kind_ends kind r t rest g is b y1 n1 = test_ends (test_kind r kind) (has_kind kind t) rest g b (λ n. ap (option_map (λ s. test_move (has_kind kind s) n g e)) is) y1 n1
+  -- the kind is tested, and then the number of parts
+  shape_ends : (kind : ShapeKind) (n r : ℕ) (t : Tree) (rest : List Instruction) (g : Registers) → g r ≡ Some t → Before rest F → (has_kind kind t ≡ true → count (parts t) ≡ n → Ends c o rest g e) → (has_kind kind t ≡ false → Ends c o F g e) → (has_kind kind t ≡ true → (count (parts t) ≡ n → ⊥) → Ends c o F g e) → Ends c o (shape_code kind n r (length F) rest) g e
+  shape_ends kind n r t rest g is b same_number other_kind other_length =
+      test_ends (test_kind r kind) (has_kind kind t) _ g (before-cons _ rest F b) (λ j. ap (option_map (λ s. test_move (has_kind kind s) j g e)) is)
+      (λ y. test_ends (test_length r n) (count (parts t) == n) rest g b (λ j. ap (option_map (λ s. test_move (count (parts s) == n) j g e)) is)
+      (λ z. same_number y (eqb-true (count (parts t)) n z))
+      (λ z. other_length y (λ q. absurd (cc (sym (eq-eqb (count (parts t)) n q) ∙ z)))))
+      other_kind
 
   -- once the first was held against its element, the others
   rest_ends : (p : Pattern) (ps : Patterns) (ts : Trees) (u : Tree) (i : ℕ) (m : Known) (r d : ℕ) (k : List Instruction) (g h : Registers) (x : Option Bindings) → ((m1 : Known) (d1 : ℕ) (j : Registers) → r < d1 → Holds j d1 m1 → j r ≡ Some u → AfterPattern k (variables_after_each ps (where_of m1) d1) j d1 (d1 + registers_taken_each ps) (bind_each ps ts (terms_of m1)) → Ends c o (each_pattern_code ps (where_of m1) r (suc i) d1 (length F) k) j e) → r < d → Agree d g h → g r ≡ Some u → AfterPattern k (variables_after_each (and_pattern p ps) (where_of m) d) g d (d + registers_taken_each (and_pattern p ps)) (option_and_then (bind_each ps ts) x) → AfterPattern (each_pattern_code ps (variables_after p (where_of m) d (suc d)) r (suc i) (suc d + registers_taken p) (length F) k) (variables_after p (where_of m) d (suc d)) h (suc d) (suc d + registers_taken p) x
@@ -99,9 +105,6 @@ module _ (c : Context) (o : Outcome) (F : List Instruction) (e : List Effect) wh
   takes : (d r i n : ℕ) (u : Tree) (x : Option Tree) (g : Registers) → g r ≡ Some u → nth (parts u) i ≡ x → does c (take_element d r i n) g e ≡ Some (set_term d n x g e)
   takes d r i n u x g is at = ap (option_map (λ s. set_term d n (nth (parts s) i) g e)) is ∙ ap (λ s. Some (set_term d n s g e)) at
 
-  none_ends : (d r i : ℕ) (u : Tree) (rest : List Instruction) (g : Registers) → g r ≡ Some u → nth (parts u) i ≡ None → Before rest F → Ends c o F g e → Ends c o (jump_by (take_element d r i) (length F) rest) g e
-  none_ends d r i u rest g is at b after = jump_ends (take_element d r i) rest g g b (takes d r i (length rest - length F) u None g is at) after
-
   some_ends : (d r i : ℕ) (u t : Tree) (rest : List Instruction) (g : Registers) → g r ≡ Some u → nth (parts u) i ≡ Some t → Ends c o rest (with_register d t g) e → Ends c o (jump_by (take_element d r i) (length F) rest) g e
   some_ends d r i u t rest g is at after = by_move c o (take_element d r i (length rest - length F)) rest g e (set_register d t g e) (takes d r i (length rest - length F) u (Some t) g is at) after
 
@@ -117,29 +120,25 @@ module _ (c : Context) (o : Outcome) (F : List Instruction) (e : List Effect) wh
         (λ yes. subst (AfterPattern k (where_of m) g d (d + 1)) (chosen (same u t) (terms_of m) yes) after h m a (holds-on g h d (d + 1) m (omega arith) a holds) refl refl)
         (λ no. subst (AfterPattern k (where_of m) g d (d + 1)) (refused (same u t) (terms_of m) no) after h))
     pattern_ends (in_tuple ps) (tuple ts) m r d k g l holds is b after =
-        kind_ends kind_tuple r (tuple ts) _ g is (before-trans _ k F (each_front ps (where_of m) r 0 d (length F) k) b) (λ _. each_ends ps ts (tuple ts) 0 m r d k g l holds is refl (omega arith) b after) (λ no. cc)
-    pattern_ends (in_tuple ps) (list ts) m r d k g l holds is b after = kind_ends kind_tuple r (list ts) _ g is (before-trans _ k F (each_front ps (where_of m) r 0 d (length F) k) b) (λ yes. cc) (λ no. after g)
-    pattern_ends (in_tuple ps) (int z) m r d k g l holds is b after = kind_ends kind_tuple r (int z) _ g is (before-trans _ k F (each_front ps (where_of m) r 0 d (length F) k) b) (λ yes. cc) (λ no. after g)
-    pattern_ends (in_tuple ps) (atom z) m r d k g l holds is b after = kind_ends kind_tuple r (atom z) _ g is (before-trans _ k F (each_front ps (where_of m) r 0 d (length F) k) b) (λ yes. cc) (λ no. after g)
-    pattern_ends (in_tuple ps) (pid z) m r d k g l holds is b after = kind_ends kind_tuple r (pid z) _ g is (before-trans _ k F (each_front ps (where_of m) r 0 d (length F) k) b) (λ yes. cc) (λ no. after g)
+        shape_ends kind_tuple (number_of_patterns ps) r (tuple ts) _ g is (before-trans _ k F (each_front ps (where_of m) r 0 d (length F) k) b) (λ _ n. each_ends ps ts (tuple ts) 0 m r d k g l holds is refl n b after) (λ no. cc)
+        (λ _ no. subst (AfterPattern k (variables_after_each ps (where_of m) d) g d (d + registers_taken_each ps)) (other_number ps ts (terms_of m) no) after g)
+    pattern_ends (in_tuple ps) (list ts) m r d k g l holds is b after = shape_ends kind_tuple (number_of_patterns ps) r (list ts) _ g is (before-trans _ k F (each_front ps (where_of m) r 0 d (length F) k) b) (λ yes _. cc) (λ no. after g) (λ yes _. cc)
+    pattern_ends (in_tuple ps) (int z) m r d k g l holds is b after = shape_ends kind_tuple (number_of_patterns ps) r (int z) _ g is (before-trans _ k F (each_front ps (where_of m) r 0 d (length F) k) b) (λ yes _. cc) (λ no. after g) (λ yes _. cc)
+    pattern_ends (in_tuple ps) (atom z) m r d k g l holds is b after = shape_ends kind_tuple (number_of_patterns ps) r (atom z) _ g is (before-trans _ k F (each_front ps (where_of m) r 0 d (length F) k) b) (λ yes _. cc) (λ no. after g) (λ yes _. cc)
+    pattern_ends (in_tuple ps) (pid z) m r d k g l holds is b after = shape_ends kind_tuple (number_of_patterns ps) r (pid z) _ g is (before-trans _ k F (each_front ps (where_of m) r 0 d (length F) k) b) (λ yes _. cc) (λ no. after g) (λ yes _. cc)
     pattern_ends (in_list ps) (list ts) m r d k g l holds is b after =
-        kind_ends kind_list r (list ts) _ g is (before-trans _ k F (each_front ps (where_of m) r 0 d (length F) k) b) (λ _. each_ends ps ts (list ts) 0 m r d k g l holds is refl (omega arith) b after) (λ no. cc)
-    pattern_ends (in_list ps) (tuple ts) m r d k g l holds is b after = kind_ends kind_list r (tuple ts) _ g is (before-trans _ k F (each_front ps (where_of m) r 0 d (length F) k) b) (λ yes. cc) (λ no. after g)
-    pattern_ends (in_list ps) (int z) m r d k g l holds is b after = kind_ends kind_list r (int z) _ g is (before-trans _ k F (each_front ps (where_of m) r 0 d (length F) k) b) (λ yes. cc) (λ no. after g)
-    pattern_ends (in_list ps) (atom z) m r d k g l holds is b after = kind_ends kind_list r (atom z) _ g is (before-trans _ k F (each_front ps (where_of m) r 0 d (length F) k) b) (λ yes. cc) (λ no. after g)
-    pattern_ends (in_list ps) (pid z) m r d k g l holds is b after = kind_ends kind_list r (pid z) _ g is (before-trans _ k F (each_front ps (where_of m) r 0 d (length F) k) b) (λ yes. cc) (λ no. after g)
+        shape_ends kind_list (number_of_patterns ps) r (list ts) _ g is (before-trans _ k F (each_front ps (where_of m) r 0 d (length F) k) b) (λ _ n. each_ends ps ts (list ts) 0 m r d k g l holds is refl n b after) (λ no. cc)
+        (λ _ no. subst (AfterPattern k (variables_after_each ps (where_of m) d) g d (d + registers_taken_each ps)) (other_number ps ts (terms_of m) no) after g)
+    pattern_ends (in_list ps) (tuple ts) m r d k g l holds is b after = shape_ends kind_list (number_of_patterns ps) r (tuple ts) _ g is (before-trans _ k F (each_front ps (where_of m) r 0 d (length F) k) b) (λ yes _. cc) (λ no. after g) (λ yes _. cc)
+    pattern_ends (in_list ps) (int z) m r d k g l holds is b after = shape_ends kind_list (number_of_patterns ps) r (int z) _ g is (before-trans _ k F (each_front ps (where_of m) r 0 d (length F) k) b) (λ yes _. cc) (λ no. after g) (λ yes _. cc)
+    pattern_ends (in_list ps) (atom z) m r d k g l holds is b after = shape_ends kind_list (number_of_patterns ps) r (atom z) _ g is (before-trans _ k F (each_front ps (where_of m) r 0 d (length F) k) b) (λ yes _. cc) (λ no. after g) (λ yes _. cc)
+    pattern_ends (in_list ps) (pid z) m r d k g l holds is b after = shape_ends kind_list (number_of_patterns ps) r (pid z) _ g is (before-trans _ k F (each_front ps (where_of m) r 0 d (length F) k) b) (λ yes _. cc) (λ no. after g) (λ yes _. cc)
 
     -- the parts of u from the i-th on
-    pub each_ends : (ps : Patterns) (ts : Trees) (u : Tree) (i : ℕ) (m : Known) (r d : ℕ) (k : List Instruction) (g : Registers) → r < d → Holds g d m → g r ≡ Some u → past i (parts u) ≡ ts → count (parts u) ≡ i + count ts → Before k F → AfterPattern k (variables_after_each ps (where_of m) d) g d (d + registers_taken_each ps) (bind_each ps ts (terms_of m)) → Ends c o (each_pattern_code ps (where_of m) r i d (length F) k) g e
-    each_ends no_patterns none u i m r d k g l holds is at n b after =
-        let z : d ≡ d + 0 = omega arith in
-        let yes : (count (parts u) == i) ≡ true = eq-eqb (count (parts u)) i (omega (arith, n)) in
-        test_ends (test_length r i) true k g b (λ j. ap (option_map (λ s. test_move (count (parts s) == i) j g e)) is ∙ ap (λ s. Some (test_move s j g e)) yes) (λ _. after g m (agree-self d g) (subst (λ w. Holds g w m) z holds) refl refl) (λ no. cc)
-    each_ends no_patterns (more t ts) u i m r d k g l holds is at n b after =
-        let not : (count (parts u) == i) ≡ false = not_length (count (parts u)) i _ refl (omega (arith, n)) in
-        test_ends (test_length r i) false k g b (λ j. ap (option_map (λ s. test_move (count (parts s) == i) j g e)) is ∙ ap (λ s. Some (test_move s j g e)) not) (λ yes. cc) (λ _. after g)
-    each_ends (and_pattern p ps) none u i m r d k g l holds is at n b after =
-        none_ends d r i u _ g is (nth_nil i (parts u) at) (before-trans _ _ F (pattern_front p (where_of m) d (suc d) (length F) _) (before-trans _ k F (each_front ps (variables_after p (where_of m) d (suc d)) r (suc i) (suc d + registers_taken p) (length F) k) b)) (after g)
+    pub each_ends : (ps : Patterns) (ts : Trees) (u : Tree) (i : ℕ) (m : Known) (r d : ℕ) (k : List Instruction) (g : Registers) → r < d → Holds g d m → g r ≡ Some u → past i (parts u) ≡ ts → count ts ≡ number_of_patterns ps → Before k F → AfterPattern k (variables_after_each ps (where_of m) d) g d (d + registers_taken_each ps) (bind_each ps ts (terms_of m)) → Ends c o (each_pattern_code ps (where_of m) r i d (length F) k) g e
+    each_ends no_patterns none u i m r d k g l holds is at n b after = let z : d ≡ d + 0 = omega arith in after g m (agree-self d g) (subst (λ w. Holds g w m) z holds) refl refl
+    each_ends no_patterns (more t ts) u i m r d k g l holds is at n b after = absurd (omega (arith, n))
+    each_ends (and_pattern p ps) none u i m r d k g l holds is at n b after = absurd (omega (arith, n))
     each_ends (and_pattern p ps) (more t ts) u i m r d k g l holds is at n b after =
         let h : Registers = with_register d t g in
         let a : Agree d g h = agree-with d d t g (omega arith) in

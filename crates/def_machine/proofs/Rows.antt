@@ -38,10 +38,10 @@ guard_fault_is_read = refl
 
 -- a fault of the condition goes on at place 10, where the second clause begins
 guard_fault_skips_clause : code_of guard_fault ≡
-    load_list 0 ∷ test_kind 0 kind_list 10 ∷ take_element 1 0 0 10 ∷ test_length 0 1 10
+    load_list 0 ∷ test_kind 0 kind_list 10 ∷ test_length 0 1 10 ∷ take_element 1 0 0 10
     ∷ apply_function fn.head 2 (1 ∷ []) (goes_on_at 10) ∷ load_constant 3 (int (pos 3)) ∷ apply_function fn.greater 2 (2 ∷ 3 ∷ []) (goes_on_at 10)
     ∷ load_constant 3 (truth true) ∷ test_equal 2 3 10 ∷ end_with_match
-    ∷ load_list 0 ∷ test_kind 0 kind_list 17 ∷ take_element 1 0 0 17 ∷ test_length 0 1 17
+    ∷ load_list 0 ∷ test_kind 0 kind_list 17 ∷ test_length 0 1 17 ∷ take_element 1 0 0 17
     ∷ load_constant 2 (word "second") ∷ perform_action for_calls message 2 (2 ∷ []) ∷ end_with_match
     ∷ end_without_match ∷ []
 guard_fault_skips_clause = refl
@@ -51,18 +51,18 @@ guard_fault_is_checked = refl
 
 -- [{['$1','$1'],[],[{message,{hd,[]}}]}]: the second '$1' is compared, and the fault gives 'EXIT'
 same_variable : code_of (record { dialect = for_calls; clauses = record { head = in_list (and_pattern (variable 1) (and_pattern (variable 1) no_patterns)); conditions = no_exprs; body = and_expr (perform message (and_expr (call fn.head (and_expr (list_of no_exprs) no_exprs)) no_exprs)) no_exprs } ∷ [] }) ≡
-    load_list 0 ∷ test_kind 0 kind_list 10 ∷ take_element 1 0 0 10 ∷ take_element 2 0 1 10 ∷ test_equal 1 2 10 ∷ test_length 0 2 10
+    load_list 0 ∷ test_kind 0 kind_list 10 ∷ test_length 0 2 10 ∷ take_element 1 0 0 10 ∷ take_element 2 0 1 10 ∷ test_equal 1 2 10
     ∷ load_constant 3 (list none) ∷ apply_function fn.head 3 (3 ∷ []) gives_exit ∷ perform_action for_calls message 3 (3 ∷ []) ∷ end_with_match
     ∷ end_without_match ∷ []
 same_variable = refl
 
 -- [{[{'$1',[a,{1}]},[2,'_'],{3}],[],[]}]: each part without a variable and without '_' is one constant
 constant_is_folded : code_of (record { dialect = for_calls; clauses = record { head = in_list (and_pattern (in_tuple (and_pattern (variable 1) (and_pattern (in_list (and_pattern (only_term (word "a")) (and_pattern (in_tuple (and_pattern (only_term (int (pos 1))) no_patterns)) no_patterns))) no_patterns))) (and_pattern (in_list (and_pattern (only_term (int (pos 2))) (and_pattern anything no_patterns))) (and_pattern (in_tuple (and_pattern (only_term (int (pos 3))) no_patterns)) no_patterns))); conditions = no_exprs; body = no_exprs } ∷ [] }) ≡
-    load_list 0 ∷ test_kind 0 kind_list 21
-    ∷ take_element 1 0 0 21 ∷ test_kind 1 kind_tuple 21 ∷ take_element 2 1 0 21
-    ∷ take_element 3 1 1 21 ∷ load_constant 4 (list (more (word "a") (more (tuple (more (int (pos 1)) none)) none))) ∷ test_equal 4 3 21 ∷ test_length 1 2 21
-    ∷ take_element 5 0 1 21 ∷ test_kind 5 kind_list 21 ∷ take_element 6 5 0 21 ∷ load_constant 7 (int (pos 2)) ∷ test_equal 7 6 21 ∷ take_element 8 5 1 21 ∷ test_length 5 2 21
-    ∷ take_element 9 0 2 21 ∷ load_constant 10 (tuple (more (int (pos 3)) none)) ∷ test_equal 10 9 21 ∷ test_length 0 3 21
+    load_list 0 ∷ test_kind 0 kind_list 21 ∷ test_length 0 3 21
+    ∷ take_element 1 0 0 21 ∷ test_kind 1 kind_tuple 21 ∷ test_length 1 2 21 ∷ take_element 2 1 0 21
+    ∷ take_element 3 1 1 21 ∷ load_constant 4 (list (more (word "a") (more (tuple (more (int (pos 1)) none)) none))) ∷ test_equal 4 3 21
+    ∷ take_element 5 0 1 21 ∷ test_kind 5 kind_list 21 ∷ test_length 5 2 21 ∷ take_element 6 5 0 21 ∷ load_constant 7 (int (pos 2)) ∷ test_equal 7 6 21 ∷ take_element 8 5 1 21
+    ∷ take_element 9 0 2 21 ∷ load_constant 10 (tuple (more (int (pos 3)) none)) ∷ test_equal 10 9 21
     ∷ end_with_match
     ∷ end_without_match ∷ []
 constant_is_folded = refl

@@ -12,8 +12,8 @@ const SPEC: &[u8] = b"[{['$1'],[{'>',{hd,'$1'},3}],[]},{['_'],[],[{message,secon
 
 const CODE: &str = "0 load_list r0
 1 test_kind r0 list else 10
-2 take_element r1 r0 0 else 10
-3 test_length r0 1 else 10
+2 test_length r0 1 else 10
+3 take_element r1 r0 0 else 10
 4 apply hd r2 r1 else 10
 5 load_constant r3 3
 6 apply > r2 r2 r3 else 10
@@ -22,8 +22,8 @@ const CODE: &str = "0 load_list r0
 9 end_match
 10 load_list r0
 11 test_kind r0 list else 17
-12 take_element r1 r0 0 else 17
-13 test_length r0 1 else 17
+12 test_length r0 1 else 17
+13 take_element r1 r0 0 else 17
 14 load_constant r2 second
 15 perform call message r2 r2
 16 end_match

@@ -2,8 +2,8 @@
 use Rattle.std.proofs.Common.{◌≡◌, ℕ, suc, ◌+◌, ◌-◌, List, [], ◌∷◌, ◌++◌, length, Option, Some, None, refl, ap, ◌∙◌, nat_cmp, sym}
 use Rattle.std.specs.FinMap.{find}
 use Rattle.def_spec.specs.Matching.{Pattern, Patterns, variable, anything, only_term, in_tuple, in_list, no_patterns, and_pattern}
-use Rattle.def_machine.specs.Instructions.{kind_tuple, kind_list, Instruction, take_element, test_kind}
-use Rattle.def_machine.specs.Compilation.{VariableRegisters, jump_by, registers_taken, variables_after, variable_code, pattern_code, each_pattern_code}
+use Rattle.def_machine.specs.Instructions.{kind_tuple, kind_list, Instruction, take_element}
+use Rattle.def_machine.specs.Compilation.{VariableRegisters, jump_by, registers_taken, variables_after, variable_code, number_of_patterns, shape_code, pattern_code, each_pattern_code}
 use Rattle.tn_compile.specs.Heads.{variable_steps, pattern_steps, each_steps, with_jump, in_front}
 
 pub front-append : (f : ℕ) (a b k : List Instruction) → in_front f (a ++ b) k ≡ in_front f a (in_front f b k)
@@ -19,8 +19,8 @@ mutual
   pattern-front (variable n) v r d f k = variable-front (find nat_cmp n v) r f k
   pattern-front anything v r d f k = refl
   pattern-front (only_term t) v r d f k = refl
-  pattern-front (in_tuple ps) v r d f k = ap (jump_by (test_kind r kind_tuple) f) (each-front ps v r 0 d f k)
-  pattern-front (in_list ps) v r d f k = ap (jump_by (test_kind r kind_list) f) (each-front ps v r 0 d f k)
+  pattern-front (in_tuple ps) v r d f k = ap (shape_code kind_tuple (number_of_patterns ps) r f) (each-front ps v r 0 d f k)
+  pattern-front (in_list ps) v r d f k = ap (shape_code kind_list (number_of_patterns ps) r f) (each-front ps v r 0 d f k)
 
   pub each-front : (ps : Patterns) (v : VariableRegisters) (r i d f : ℕ) (k : List Instruction) → in_front f (each_steps ps v r i d) k ≡ each_pattern_code ps v r i d f k
   each-front no_patterns v r i d f k = refl

@@ -5,12 +5,17 @@ use Rattle.std.specs.Ordering.{is_eq}
 use Rattle.std.specs.declared.cmp.Ordering.TheVariants.{Less, Equal, Greater}
 use Rattle.std.specs.FinMap.{find, put}
 use Rattle.std.specs.FinMap.Entries.{by_order}
-use Rattle.std.proofs.lemmas.List.{drop_more, drop_all}
+use Rattle.std.proofs.lemmas.List.{drop_more, drop_all, append-nil}
 use Rattle.def_spec.specs.Matching.{Pattern, Patterns, no_patterns, and_pattern}
-use Rattle.def_machine.specs.Instructions.{Instruction, take_element, test_length}
-use Rattle.def_machine.specs.Compilation.{VariableRegisters, registers_taken, variables_after, variables_after_each}
+use Rattle.def_machine.specs.Instructions.{Instruction, take_element, test_kind, test_length}
+use Rattle.def_machine.specs.Compilation.{VariableRegisters, registers_taken, variables_after, variables_after_each, number_of_patterns}
+use Rattle.def_machine.specs.HeadFolds.{folded_each}
+use Rattle.tn_code.specs.Views.{shape_kind_seen}
+use Rattle.tn_code.specs.declared.instr.Kind.{Kind}
+use Rattle.tn_code.specs.declared.instr.Kind.TheVariants as kinds
 use Rattle.tn_spec.specs.Views.{pattern_seen, patterns_seen}
 use Rattle.tn_spec.specs.declared.pattern.Pattern as code
+use Rattle.tn_compile.specs.Folds.{shape_pattern}
 use Rattle.tn_compile.specs.Heads.{pattern_steps, each_steps}
 use Rattle.tn_compile.specs.Views.{variable_seen, variables_seen}
 use Rattle.tn_compile.specs.declared.emit_context.VariableRegister.{VariableRegister}
@@ -70,5 +75,25 @@ variables-more total v w es rest p free d is after more h =
     ∙ h
 
 -- after the last of several patterns
-pub steps-done : (total front new : List Instruction) (es : Patterns) (v : VariableRegisters) (r i n free : ℕ) → es ≡ no_patterns → n ≡ i → new ≡ front ++ test_length r n 0 ∷ [] → front ++ each_steps es v r i free ≡ total → new ≡ total
-steps-done total front new es v r i n free none same pushed h = pushed ∙ ap (λ m. front ++ test_length r m 0 ∷ []) same ∙ ap (λ q. front ++ each_steps q v r i free) (sym none) ∙ h
+pub steps-done : (total front : List Instruction) (es : Patterns) (v : VariableRegisters) (r i free : ℕ) → es ≡ no_patterns → front ++ each_steps es v r i free ≡ total → front ≡ total
+steps-done total front es v r i free none h = sym (append-nil front) ∙ ap (λ q. front ++ each_steps q v r i free) (sym none) ∙ h
+
+-- how many patterns there are
+pub patterns-counted : {P : Type 0} (ps : List (code.Pattern P)) → number_of_patterns (folded_each (patterns_seen ps)) ≡ length ps
+patterns-counted [] = refl
+patterns-counted (p ∷ ps) = let others : number_of_patterns (folded_each (patterns_seen ps)) ≡ length ps = patterns-counted ps in omega (arith, others)
+
+-- the tests of kind and number, and then each pattern
+pub parts-walked : (k : Kind) (ps : Patterns) (front front1 front2 last : List Instruction) (v : VariableRegisters) (r n d : ℕ) → n ≡ number_of_patterns ps → front1 ≡ front ++ test_kind r (shape_kind_seen k) 0 ∷ [] → front2 ≡ front1 ++ test_length r n 0 ∷ [] → last ≡ front2 ++ each_steps ps v r 0 d → last ≡ front ++ pattern_steps (shape_pattern k ps) v r d
+parts-walked k ps front front1 front2 last v r n d many first second walked =
+    let a : Instruction = test_kind r (shape_kind_seen k) 0 in
+    let b : Instruction = test_length r n 0 in
+    walked ∙ ap (λ x. x ++ each_steps ps v r 0 d) (second ∙ ap (λ x. x ++ b ∷ []) first)
+    ∙ append_assoc (front ++ a ∷ []) (b ∷ []) (each_steps ps v r 0 d)
+    ∙ append_assoc front (a ∷ []) (b ∷ each_steps ps v r 0 d)
+    ∙ ap (λ m. front ++ a ∷ test_length r m 0 ∷ each_steps ps v r 0 d) many
+    ∙ ap (λ xs. front ++ xs) (steps-of k)
+  where
+    steps-of : (k : Kind) → test_kind r (shape_kind_seen k) 0 ∷ test_length r (number_of_patterns ps) 0 ∷ each_steps ps v r 0 d ≡ pattern_steps (shape_pattern k ps) v r d
+    steps-of kinds.Tuple = refl
+    steps-of kinds.List = refl

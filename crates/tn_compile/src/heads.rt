@@ -137,11 +137,16 @@ pub fn walk_parts<P: Allocator, A: Allocator + Copy>(
             kind,
             place: 0,
         })?;
+        head.steps.push(Instr::TestLength {
+            from: register,
+            length: patterns.len(),
+            place: 0,
+        })?;
         Ok(walk_each(alloc, head, patterns, register)?)
     }
 }
 
-/// Each pattern against the elements of a register, and their number.
+/// Each pattern against the elements of a register.
 #[cycle(walk)]
 pub fn walk_each<P: Allocator, A: Allocator + Copy>(
     alloc: A,
@@ -166,11 +171,6 @@ pub fn walk_each<P: Allocator, A: Allocator + Copy>(
         head.free = to + 1;
         walk(alloc, head, pattern, to)?;
     }
-    head.steps.push(Instr::TestLength {
-        from: register,
-        length: patterns.len(),
-        place: 0,
-    })?;
     Ok(())
 }
 

@@ -1,12 +1,14 @@
 use Rattle.std.proofs.Common.{◌≡◌, suc, ◌+◌, ◌≤◌, ◌∷◌, [], length, ◌++◌, ◌∙◌, sym, ap, arith, drop}
 use Rattle.std.proofs.lemmas.List.{map-append}
-use Rattle.def_machine.specs.Compilation.{registers_taken, registers_taken_each}
-use Rattle.def_machine.specs.Instructions.{take_element, test_length}
+use Rattle.def_machine.specs.Compilation.{number_of_patterns, registers_taken, registers_taken_each}
+use Rattle.def_machine.specs.Instructions.{take_element}
 use Rattle.def_machine.specs.HeadFolds.{fold_head, folded_each}
 use Rattle.tn_code.specs.Views.{instruction_of, instructions_of}
 use Rattle.tn_spec.specs.Views.{pattern_seen, patterns_seen}
 use Rattle.tn_compile.specs.Views.{variables_seen}
-use Rattle.tn_compile.proofs.Walks.{patterns_here, patterns_past, steps-done, steps-more, variables-more}
+use Rattle.tn_compile.specs.Heads.{pattern_steps}
+use Rattle.tn_compile.proofs.Alone.{folded-parts}
+use Rattle.tn_compile.proofs.Walks.{patterns_here, patterns_past, patterns-counted, parts-walked, steps-done, steps-more, variables-more}
 use Rattle.tn_compile.proofs.heads.+walk.Goals as goal
 
 pub walk_each-overflow_add-head : goal.walk_each-overflow_add-head
@@ -38,9 +40,19 @@ walk_each-returns-clause-steps g t c =
     let ps = c.args.patterns.now.items in
     let ended : length ps ≡ c.len-index-end.result = sym (c.len-index-end.ensures ∙ c.args.patterns.now.ok.0) in
     let past : length ps ≤ c.loop-index.index = omega (arith, ended, c.loop-index-test.false) in
-    let counted : c.len.result ≡ length ps = c.len.ensures ∙ c.args.patterns.now.ok.0 in
-    let same : c.len.result ≡ c.loop-index.index = omega (arith, ended, counted, past, c.loop-index.auto.index-end) in
-    let pushed : instructions_of c.push-2.new.self.items ≡ instructions_of c.loop-index.head.steps.items ++ test_length c.args.register c.len.result 0 ∷ [] =
-    ap instructions_of c.in_ok-push-2.ensures.items ∙ map-append instruction_of c.loop-index.head.steps.items (_ ∷ []) in
-    steps-done _ (instructions_of c.loop-index.head.steps.items) (instructions_of c.push-2.new.self.items) (folded_each (patterns_seen (drop c.loop-index.index ps))) (variables_seen c.loop-index.head.variables.items) c.args.register c.loop-index.index c.len.result c.loop-index.head.free
-    (ap folded_each (patterns_past ps c.loop-index.index past)) same pushed c.loop-index.invariant.steps
+    steps-done _ (instructions_of c.loop-index.head.steps.items) (folded_each (patterns_seen (drop c.loop-index.index ps))) (variables_seen c.loop-index.head.variables.items) c.args.register c.loop-index.index c.loop-index.head.free
+    (ap folded_each (patterns_past ps c.loop-index.index past)) c.loop-index.invariant.steps
+
+pub walk_parts-returns-in_ok-walk_each-clause-steps : goal.walk_parts-returns-in_ok-walk_each-clause-steps
+walk_parts-returns-in_ok-walk_each-clause-steps g t c =
+    let ps = c.args.patterns.now.items in
+    let k = c.args.kind in
+    let v = variables_seen c.args.head.now.variables.items in
+    let before = c.args.head.now.steps.items in
+    let folded = folded-parts k (patterns_seen ps) (sym c.are_constant.ensures ∙ c.if-are_constant.false) in
+    let many : c.len.result ≡ number_of_patterns (folded_each (patterns_seen ps)) = c.len.ensures ∙ c.args.patterns.now.ok.0 ∙ sym (patterns-counted ps) in
+    parts-walked k (folded_each (patterns_seen ps)) (instructions_of before) (instructions_of c.push.new.self.items) (instructions_of c.push-else-are_constant.new.self.items) (instructions_of c.walk_each.new.head.steps.items) v c.args.register c.len.result c.args.head.now.free many
+    (ap instructions_of c.in_ok-push.ensures.items ∙ map-append instruction_of before (_ ∷ []))
+    (ap instructions_of c.in_ok-push-2.ensures.items ∙ map-append instruction_of c.push.new.self.items (_ ∷ []))
+    c.in_ok-walk_each.ensures.steps
+    ∙ sym (ap (λ p. instructions_of before ++ pattern_steps p v c.args.register c.args.head.now.free) folded)
