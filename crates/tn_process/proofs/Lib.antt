@@ -3,3 +3,5 @@ pub mod Templates
 pub mod Acts
 pub mod Exceptions
 pub mod Outlooks
+pub mod Additions
+pub mod Frames

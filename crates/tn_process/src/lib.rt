@@ -7,7 +7,8 @@
 //! owners (`SharedTerm`) and are not copied; a call or a return changes the newest frame; an exception
 //! leaves frames down to the newest that a catch step called; whatever concerns another process comes out
 //! as an act, for the node to carry out; and what is known of the next step before it is made is what
-//! def_outlook says of it.
+//! def_outlook says of it. A `StatePart` once more stands for the same, and its values and messages have one
+//! owner more; `same` tells whether two stand for the same; nothing is promised of a fingerprint.
 #![tactic(auto)]
 
 mod act;
@@ -17,6 +18,8 @@ mod function;
 mod neighbours;
 mod outlook;
 mod process;
+mod share;
+mod state_part;
 mod value;
 mod values;
 
@@ -24,3 +27,4 @@ pub use act::Act;
 pub use function::function_mfa;
 pub use outlook::{OwnLink, RuntimeError};
 pub use process::Process;
+pub use state_part::StatePart;

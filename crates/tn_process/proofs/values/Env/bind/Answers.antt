@@ -1,7 +1,6 @@
-use Rattle.std.proofs.Common.{◌≡◌, ℕ, List, ap, ap₂, ◌∙◌, map, rules, ◌++◌, ◌∷◌, []}
+use Rattle.std.proofs.Common.{◌≡◌, ℕ, List, ap, ◌∙◌, map, rules, ◌++◌, ◌∷◌, []}
 use Rattle.std.proofs.lemmas.List.Quantifiers.{position-Some}
 use Rattle.std.specs.Str.{bytes_eq}
-use Rattle.def_term.specs.Tree.{Tree}
 use Rattle.tn_term.specs.SharedTree.{shared_tree}
 use Rattle.tn_process.specs.Views.{name_and_term}
 use Rattle.tn_process.proofs.Lookup.{bound_at, bound_none}
