@@ -18,7 +18,7 @@ _tracenode() {
         *,=) before=${COMP_WORDS[COMP_CWORD - 1]} word= ;;
     esac
     if [ "$COMP_CWORD" -eq 1 ]; then
-        words='replay round workers explain draw spec help -h --help -V --version'
+        words='run replay round workers explain draw spec help -h --help -V --version'
         case ${COMP_WORDS[0]} in
             */*) words+=' --prove --install --release' ;;
         esac
@@ -40,6 +40,10 @@ _tracenode() {
                 ;;
         esac
         case $command in
+            run)
+                words='--limit --quiet --summary --json'
+                words+=' --expect --expect-line --reject-line --strict --max-output -h --help'
+                ;;
             replay)
                 words='--picks --picks-file --moves --moves-file --quiet --summary --json'
                 words+=' --expect --expect-line --reject-line --strict --max-output -h --help'
@@ -57,17 +61,17 @@ _tracenode() {
                 words+=' --json --expect --expect-line --reject-line --strict --max-output -h --help'
                 ;;
             draw)
-                words='--picks --picks-file --moves --moves-file --text'
+                words='--picks --picks-file --moves --moves-file --round --limit --control --text'
                 words+=' --expect --expect-line --reject-line --strict --max-output -h --help'
                 ;;
             spec) words='--list --for --me --caller --json -h --help' ;;
-            help) words='replay round workers explain draw spec' ;;
+            help) words='run replay round workers explain draw spec' ;;
         esac
     fi
     COMPREPLY=($(compgen -W "$words" -- "$word"))
     [ "$COMP_CWORD" -gt 1 ] || return
     case $command in
-        replay | round | workers | explain | draw) _tracenode_files "$word" ;;
+        run | replay | round | workers | explain | draw) _tracenode_files "$word" ;;
     esac
 }
 

@@ -29,7 +29,7 @@ exit 7
     limits = {limit: ["round", "--limit", limit] for limit in ("1", "65536", "65537", "01", "ten")}
     explain = ["explain", "--picks", "0", "--session", "s1", "--move", "2"]
     words = {
-        "tn_plain": (["replay", "--picks", "0 0"], ["replay", "--picks", ""], ["round"], limits["1"], limits["65536"]),
+        "tn_plain": (["run"], ["replay", "--picks", "0 0"], ["replay", "--picks", ""], ["round"], limits["1"], limits["65536"]),
         "tn_cli": (
             ["--help"],
             ["replay"],
@@ -39,6 +39,9 @@ exit 7
             ["workers", "--n", "2"],
             explain,
             ["replay", "--picks", "0", "--quiet"],
+            ["run", "--quiet"],
+            ["run", "--limit", "5"],
+            ["draw", "--round", "--limit", "5"],
             ["round", "--quiet"],
             ["round", "--expect-line", "x"],
             ["round", "--max-output", "9"],
@@ -139,7 +142,7 @@ def command_lines():
         wants(f"version by {word}", run([word]), 0, f"tracenode {said_version()}\n".encode() + logic)
     for word in ("--help", "-h"):
         ran = run([word])
-        names = (b"replay", b"round", b"workers", b"explain", b"draw", b"spec", b"Example:", b"Exit status:", b"A pick says")
+        names = (b"run", b"replay", b"round", b"workers", b"explain", b"draw", b"spec", b"Example:", b"Exit status:", b"A pick says")
         good = ran.returncode == 0 and all(name in ran.stdout for name in names)
         check(f"help by {word}", good and not ran.stderr, ran)
     wrong = {
@@ -149,6 +152,10 @@ def command_lines():
         "no picks": ["replay"],
         "picks without a text": ["replay", "--picks"],
         "a limit of 0": ["round", "--limit", "0"],
+        "a run with a limit of 0": ["run", "--limit", "0"],
+        "a run with an order of commands": ["run", "--control", "first"],
+        "a picture of a round with picks": ["draw", "--round", "--picks", "0"],
+        "a picture of a round with a limit of 0": ["draw", "--round", "--limit", "0"],
         "a limit of 65537": ["round", "--limit", "65537"],
         "a limit of letters": ["round", "--limit", "ten"],
         "a limit below 0": ["round", "--limit", "-1"],

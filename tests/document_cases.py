@@ -22,7 +22,7 @@ from harness import SECONDS, START, TOP, check, run
 # The options of ./tracenode, which are not the program's.
 STARTS = {"--prove", "--install", "--release"}
 
-COMMANDS = (("replay",), ("round",), ("workers",), ("explain",), ("draw",), ("spec",))
+COMMANDS = (("run",), ("replay",), ("round",), ("workers",), ("explain",), ("draw",), ("spec",))
 
 
 def documents():
@@ -162,6 +162,9 @@ def completions():
             (("./tracenode", "--install", "scr"), ["scripts"]),
             (("./tracenode", "--release", "scr"), ["scripts"]),
             (("tracenode", "explain", "--m"), ["--max-output", "--move", "--moves", "--moves-file"]),
+            (("tracenode", "ru"), ["run"]),
+            (("tracenode", "run", "--l"), ["--limit"]),
+            (("tracenode", "draw", "--r"), ["--reject-line", "--round"]),
             (("tracenode", "draw", "--m"), ["--max-output", "--moves", "--moves-file"]),
             (("tracenode", "round", "--m"), ["--max-output"]),
             (("tracenode", "round", "--max-output", ""), [""]),

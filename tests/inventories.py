@@ -183,7 +183,7 @@ def sizes():
 
 def said_version():
     """The version as the program's source says it."""
-    return re.search(r'VERSION: &str = "([\d.]+)\\n', read(CRATES / "tn_cli" / "src" / "line.rt"))[1]
+    return re.search(r'VERSION: &str = "([\d.]+)\\n', read(CRATES / "tn_line" / "src" / "commands.rt"))[1]
 
 
 def version():
@@ -197,13 +197,13 @@ def version():
 
 
 # The list that says what each command of the program takes, and the words that are no options.
-TAKEN = {"replay": "REPLAY", "round": "ROUND", "workers": "WORKERS", "explain": "EXPLAIN", "draw": "DRAW", "spec": "TRIAL"}
+TAKEN = {"run": "RUN", "replay": "REPLAY", "round": "ROUND", "workers": "WORKERS", "explain": "EXPLAIN", "draw": "DRAW", "spec": "TRIAL"}
 BARE_WORDS = {"script", "specification"}
 
 
 def taken_options():
     """The options of each command, by the lists that the contracts of the command line name."""
-    text = read(CRATES / "tn_cli" / "specs" / "Line.antt")
+    text = read(CRATES / "tn_line" / "specs" / "Line.antt")
     found = dict(re.findall(r"^([A-Z_]+) =((?:.*\n)(?:    .*\n)*)", text, re.M))
     also = {"EXPECTATION": re.findall(r'codes "([^"]+)"', found["EXPECTATION"])}
     for command, name in TAKEN.items():

@@ -43,9 +43,12 @@ def rounds():
     """Rounds after the control list, and rounds that are explained."""
     whole = f"{LISTED}== journal\n{CONTROL_FIRST}\n".encode()
     wants("the control list, and then rounds", run(["round", "--control", "first"], NUMBERS), 0, whole)
+    wants("a run", run(["run"], NUMBERS), 0, whole)
     for limit, moved in (("2", "0 0"), ("3", "0 0 0"), ("4", "0 0 0 100"), ("15", CONTROL_FIRST), ("16", CONTROL_FIRST)):
         ran = run(["round", "--control", "first", "--limit", limit], NUMBERS)
         check(f"the control list within {limit} moves", (ran.returncode, journal(ran)) == (0, moved), ran)
+        ran = run(["run", "--limit", limit], NUMBERS)
+        check(f"a run within {limit} moves", (ran.returncode, journal(ran)) == (0, moved), ran)
     for words, moved in (
         (["--control", "first"], CONTROL_FIRST),
         (["--control", "first", "--limit", "5"], "0 0 0 100 101"),
@@ -55,7 +58,11 @@ def rounds():
             by_round, by_picks = run(["explain", "--round", *words, *more], NUMBERS), run(["explain", "--picks", moved, *more], NUMBERS)
             seen = [(ran.returncode, ran.stdout, ran.stderr) for ran in (by_round, by_picks)]
             check(f"the round {words} explained with {more}", seen[0] == seen[1], seen)
-    for words in (["round", "--control", "first"], ["explain", "--round"], ["explain", "--round", "--control", "first"]):
+        for more in ([], ["--text"]):
+            by_round, by_picks = run(["draw", "--round", *words, *more], NUMBERS), run(["draw", "--picks", moved, *more], NUMBERS)
+            seen = [(ran.returncode, ran.stdout, ran.stderr) for ran in (by_round, by_picks)]
+            check(f"the round {words} drawn with {more}", seen[0] == seen[1] and seen[0][0] == 0, seen)
+    for words in (["run"], ["draw", "--round"], ["round", "--control", "first"], ["explain", "--round"], ["explain", "--round", "--control", "first"]):
         wants(f"{words} of a refused script", run(words, b"7."), 2, b"refused 5 form 1\n")
 
 

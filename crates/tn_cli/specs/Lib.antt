@@ -1,4 +1,3 @@
-pub mod Line
 pub mod Requests
 pub mod Formats
 pub mod Bounds

@@ -159,6 +159,10 @@ IsExpectationOf m e =
     × IsTextOf (argument m (codes "reject-line")) e.no_line
     × (e.strict ≡ is_given m (codes "strict"))
 
+-- `run` is a round after the control list, and `round` one after it where `--control first` is given
+abbrev pub IsRound : List ℕ → ArgMatches → Bool → Type 0
+IsRound name m control_first = ((name ≡ codes "run") × (control_first ≡ true)) ⊎ ((name ≡ codes "round") × (control_first ≡ takes_control_first m))
+
 -- which run by a schedule the subcommand of this name asks for, by what was found after it
 abbrev pub AsksRun : List ℕ → ArgMatches → RunRequest → Type 0
 AsksRun name m (Replay script picks quiet expectation) =
@@ -167,12 +171,12 @@ AsksRun name m (Replay script picks quiet expectation) =
 AsksRun name m (Explain script run filter expectation) =
     (name ≡ codes "explain") × IsSourceNamed (argument m (codes "script")) script × IsRunOf m run × IsAskedOf m filter
     × IsExpectationOf m expectation
-AsksRun name m (Draw script picks format expectation) =
-    (name ≡ codes "draw") × IsSourceNamed (argument m (codes "script")) script × ArePicksOf m picks
+AsksRun name m (Draw script run format expectation) =
+    (name ≡ codes "draw") × IsSourceNamed (argument m (codes "script")) script × IsRunOf m run
     × (format ≡ picture_format_named (is_given m (codes "text"))) × IsExpectationOf m expectation
 AsksRun name m (Round script limit control_first quiet expectation) =
-    (name ≡ codes "round") × IsSourceNamed (argument m (codes "script")) script × IsGiven 1 65536 (argument m (codes "limit")) limit
-    × (control_first ≡ takes_control_first m) × (quiet ≡ is_given m (codes "quiet")) × IsExpectationOf m expectation
+    IsRound name m control_first × IsSourceNamed (argument m (codes "script")) script × IsGiven 1 65536 (argument m (codes "limit")) limit
+    × (quiet ≡ is_given m (codes "quiet")) × IsExpectationOf m expectation
 
 -- what the subcommand of this name asks for
 abbrev pub Asks : List ℕ → ArgMatches → Request → Type 0
@@ -193,6 +197,8 @@ abbrev pub LacksNumber : List ℕ → ArgMatches → Type 0
 LacksNumber name m =
     ((name ≡ codes "explain") × IsSomeAnd (argument m (codes "move")) (λ text. ¬ (IsPlainNumber text)))
     ⊎ ((name ≡ codes "explain") × LacksLimit m)
+    ⊎ ((name ≡ codes "draw") × LacksLimit m)
+    ⊎ ((name ≡ codes "run") × (¬ (IsBetween 1 65536 (argument m (codes "limit")))))
     ⊎ ((name ≡ codes "round") × (¬ (IsBetween 1 65536 (argument m (codes "limit")))))
     ⊎ ((name ≡ codes "workers") × (¬ (IsBetween 1 16 (argument m (codes "n")) × IsBetween 1 65536 (argument m (codes "turns")))))
     ⊎ ((name ≡ codes "workers") × IsSomeAnd (argument m (codes "spread")) (λ text. ¬ (IsPlainNumber text)))
@@ -209,7 +215,7 @@ pub record IsWithoutNumber (m : ArgMatches) : Type 0 where
 -- no subcommand was found, or one of another name
 abbrev pub NamesNoCommand : ArgMatches → Type 0
 NamesNoCommand m =
-    (subcommand_name_of m ≢ Some (codes "replay")) × (subcommand_name_of m ≢ Some (codes "explain")) × (subcommand_name_of m ≢ Some (codes "draw")) × (subcommand_name_of m ≢ Some (codes "round"))
+    (subcommand_name_of m ≢ Some (codes "run")) × (subcommand_name_of m ≢ Some (codes "replay")) × (subcommand_name_of m ≢ Some (codes "explain")) × (subcommand_name_of m ≢ Some (codes "draw")) × (subcommand_name_of m ≢ Some (codes "round"))
     × (subcommand_name_of m ≢ Some (codes "workers")) × (subcommand_name_of m ≢ Some (codes "spec"))
 
 -- the subcommand that was found asks for it

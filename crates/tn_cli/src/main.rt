@@ -9,7 +9,6 @@ ghost use Rattle.std.specs.Process.{exit_status};
 ghost use Rattle.tn_command.specs.Status.{IsStatus};
 
 mod format;
-mod line;
 mod output_bound;
 mod request;
 mod value;
@@ -29,6 +28,7 @@ use tn_command::{
     FAULT, LastError, OutputForm, REFUSED, Source, arguments, escape_controls, output_of, picks_of,
     report, tell_fault,
 };
+use tn_line::command;
 use tn_request::{Request, TextSource, answer_request, expectation_of};
 use tn_run::{RunFault, write_output};
 use tn_text::Watched;
@@ -168,7 +168,7 @@ fn refuse_plain<R: Print + Eprint + AllocGlobal>(
 ) -> ExitCode
     ensures { IsStatus (exit_status result) }
 {
-    let Ok(command) = line::command(rt.alloc()) else {
+    let Ok(command) = command(rt.alloc()) else {
         return report(rt, RunFault::OutOfMemory);
     };
     match command.try_get_matches_from(words) {
@@ -202,7 +202,7 @@ fn program<R: Env + Input + Files + Print + Eprint + AllocGlobal + Threads + Wai
 ) -> ExitCode
     ensures { IsStatus (exit_status result) }
 {
-    let Ok(command) = line::command(rt.alloc()) else {
+    let Ok(command) = command(rt.alloc()) else {
         return report(rt, RunFault::OutOfMemory);
     };
     match command.try_get_matches_from(words) {

@@ -127,7 +127,7 @@ fn control_first(matches: &ArgMatches<'_>) -> bool
     matches!(matches.get_str("control"), Some("first"))
 }
 
-/// Which run is explained.
+/// Which run is explained or drawn.
 fn run_source<'a>(matches: &ArgMatches<'a>) -> Result<RunSource<'a>, BadNumber<'a>>
     ensures run { IfOk result (IsRunOf matches.now) }
     ensures refused { IfErr result (λ e. LacksLimit matches.now) }
@@ -208,15 +208,32 @@ fn format<'a>(matches: &ArgMatches<'a>) -> PictureFormat
 }
 
 /// What `draw` asks for.
-fn draw<'a>(matches: &ArgMatches<'a>) -> Request<'a>
-    ensures { Asks (codes "draw") matches.now result }
+fn draw<'a>(matches: &ArgMatches<'a>) -> Result<Request<'a>, BadNumber<'a>>
+    ensures asks { IfOk result (Asks (codes "draw") matches.now) }
+    ensures refused { IfErr result (λ e. LacksNumber (codes "draw") matches.now) }
 {
-    Request::Run(RunRequest::Draw {
+    let run = run_source(matches)?;
+    Ok(Request::Run(RunRequest::Draw {
         script: script(matches),
-        picks: picks(matches),
+        run,
         format: format(matches),
         expectation: expectation(matches),
-    })
+    }))
+}
+
+/// What `run` asks for: a round after the control list.
+fn run<'a>(matches: &ArgMatches<'a>) -> Result<Request<'a>, BadNumber<'a>>
+    ensures asks { IfOk result (Asks (codes "run") matches.now) }
+    ensures refused { IfErr result (λ e. LacksNumber (codes "run") matches.now) }
+{
+    let limit = number(matches, "limit", "--limit <N>", 1, 65536)?;
+    Ok(Request::Run(RunRequest::Round {
+        script: script(matches),
+        limit,
+        control_first: true,
+        quiet: flag(matches, "quiet"),
+        expectation: expectation(matches),
+    }))
 }
 
 /// What `round` asks for.
@@ -274,9 +291,10 @@ pub fn request_of<'a>(matches: &ArgMatches<'a>) -> Result<Option<Request<'a>>, B
     ensures refused { IfErr result (λ e. IsWithoutNumber matches.now) }
 {
     match matches.subcommand() {
+        Some(("run", given)) => Ok(Some(run(given)?)),
         Some(("replay", given)) => Ok(Some(replay(given))),
         Some(("explain", given)) => Ok(Some(explain(given)?)),
-        Some(("draw", given)) => Ok(Some(draw(given))),
+        Some(("draw", given)) => Ok(Some(draw(given)?)),
         Some(("round", given)) => Ok(Some(round(given)?)),
         Some(("workers", given)) => Ok(Some(workers(given)?)),
         Some(("spec", given)) => Ok(Some(spec(given)?)),

@@ -1,4 +1,4 @@
-//! The runs `replay --picks TEXT` and `round [--limit N]` of `tracenode`, in a program without `clap`.
+//! The runs `run`, `replay --picks TEXT` and `round [--limit N]` of `tracenode`, in a program without `clap`.
 //!
 //! The start script runs it where the whole program isn't built yet, since it takes little more than half the time to
 //! compile. Depends on tn_command and tn_explain. Other words are refused with status 2.
@@ -35,11 +35,14 @@ fn limit(word: &str) -> Option<u32>
     }
 }
 
-/// What the words after the program's name ask for; None where that isn't one of the two runs.
+/// What the words after the program's name ask for; None where that isn't one of these runs.
 fn schedule(words: &[String]) -> Option<Schedule<'_>>
     ensures some { IfSome result (λ s. AsksFor (drop 1 (map string_bytes words.now)) (schedule_seen s)) }
     ensures none { IfNone result (AsksNothing (drop 1 (map string_bytes words.now))) }
 {
+    if words.len() == 2 && words[1].as_str() == "run" {
+        return Some(Schedule::ControlFirst(LIMIT));
+    }
     if words.len() == 2 && words[1].as_str() == "round" {
         return Some(Schedule::Round(LIMIT));
     }
@@ -74,7 +77,7 @@ fn start<R: Env + Input + Files + Print + Eprint + AllocGlobal>(rt: &R) -> ExitC
             perform(rt, Source::Input, within, &Expectation::NONE)
         }
         None => {
-            let _ = rt.eprintln("error: the words are replay --picks TEXT, or round [--limit N]");
+            let _ = rt.eprintln("error: the words are run, replay --picks TEXT, or round [--limit N]");
             ExitCode::from(REFUSED)
         }
     }

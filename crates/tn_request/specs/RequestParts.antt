@@ -19,14 +19,14 @@ use Rattle.tn_request.specs.declared.request.TextSource.TheVariants.{Picks, Move
 abbrev pub run_expectation : RunRequest → ExpectationArgs
 run_expectation (Replay script picks quiet e) = e
 run_expectation (Explain script run filter e) = e
-run_expectation (Draw script picks format e) = e
+run_expectation (Draw script run format e) = e
 run_expectation (Round script limit control_first quiet e) = e
 
 -- where the script of a run is
 abbrev pub run_script : RunRequest → Source
 run_script (Replay script picks quiet e) = script
 run_script (Explain script run filter e) = script
-run_script (Draw script picks format e) = script
+run_script (Draw script run format e) = script
 run_script (Round script limit control_first quiet e) = script
 
 -- where the script of a request is; a trial has none
@@ -48,16 +48,16 @@ picks_source_asked (picks.In source) = Some (Picks source)
 picks_source_asked (picks.Moves words) = None
 picks_source_asked (picks.MovesIn source) = Some (Moves source)
 
--- that of a run that is explained
-abbrev pub explained_text_source : RunSource → Option TextSource
-explained_text_source (ByPicks source) = picks_source_asked source
-explained_text_source (ByRound limit control_first) = None
+-- that of a run that is explained or drawn
+abbrev pub run_source_asked : RunSource → Option TextSource
+run_source_asked (ByPicks source) = picks_source_asked source
+run_source_asked (ByRound limit control_first) = None
 
 -- that of any run by a schedule
 abbrev pub run_text_source : RunRequest → Option TextSource
 run_text_source (Replay script source quiet e) = picks_source_asked source
-run_text_source (Explain script run filter e) = explained_text_source run
-run_text_source (Draw script source format e) = picks_source_asked source
+run_text_source (Explain script run filter e) = run_source_asked run
+run_text_source (Draw script run format e) = run_source_asked run
 run_text_source (Round script limit control_first quiet e) = None
 
 -- the specification is to be read where none is given, or `-` is

@@ -21,14 +21,14 @@ abbrev pub round_asked : (limit : ℕ) → (control_first : Bool) → ScheduleVi
 round_asked limit true = by_control_first limit
 round_asked limit false = by_round limit
 
--- the run that is explained
-abbrev pub explained_schedule : RunSource → (read : List ℕ) → ScheduleView
-explained_schedule (ByPicks picks) read = picks_asked picks read
-explained_schedule (ByRound limit control_first) read = round_asked limit control_first
+-- the run that is explained or drawn
+abbrev pub run_asked : RunSource → (read : List ℕ) → ScheduleView
+run_asked (ByPicks picks) read = picks_asked picks read
+run_asked (ByRound limit control_first) read = round_asked limit control_first
 
 -- the run of a request, with the text that was read of its picks or its moves
 abbrev pub schedule_asked : RunRequest → (read : List ℕ) → ScheduleView
 schedule_asked (Replay script picks quiet e) read = picks_asked picks read
-schedule_asked (Explain script run filter e) read = explained_schedule run read
-schedule_asked (Draw script picks format e) read = picks_asked picks read
+schedule_asked (Explain script run filter e) read = run_asked run read
+schedule_asked (Draw script run format e) read = run_asked run read
 schedule_asked (Round script limit control_first quiet e) read = round_asked limit control_first

@@ -26,7 +26,7 @@ use Rattle.tn_picture.specs.declared.request.DrawOutcome.TheVariants as drawn
 use Rattle.tn_command.specs.JobForms.{job_in, job_within}
 use Rattle.tn_command.specs.declared.output_fault.OutputFault.{OutputFault}
 use Rattle.tn_command.specs.declared.output_form.OutputForm.{OutputForm}
-use Rattle.tn_request.specs.SchedulesAsked.{explained_schedule, picks_asked, round_asked}
+use Rattle.tn_request.specs.SchedulesAsked.{picks_asked, round_asked, run_asked}
 use Rattle.tn_request.specs.declared.job.RequestJob.{RequestJob}
 use Rattle.tn_request.specs.declared.job.RequestJob.TheVariants as jobs
 use Rattle.tn_request.specs.declared.job.RequestOutcome.{RequestOutcome}
@@ -48,8 +48,8 @@ task_schedule (drawing_task a format) = a
 -- what a request asks for, with the text that was read of its picks or its moves: a run has notes where they are said, or where a strict command line asks whether its commands were done
 abbrev pub task_asked : RunRequest → (read : List ℕ) → Task
 task_asked (requests.Replay script picks quiet e) read = listing_task (picks_asked picks read) (not quiet || e.strict) quiet
-task_asked (requests.Explain script run filter e) read = account_task (explained_schedule run read) (question_seen filter)
-task_asked (requests.Draw script picks format e) read = drawing_task (picks_asked picks read) format
+task_asked (requests.Explain script run filter e) read = account_task (run_asked run read) (question_seen filter)
+task_asked (requests.Draw script run format e) read = drawing_task (run_asked run read) format
 task_asked (requests.Round script limit control_first quiet e) read = listing_task (round_asked limit control_first) (not quiet || e.strict) quiet
 
 -- what each job of the code does
@@ -127,7 +127,7 @@ task_job task = record {
 abbrev pub format_asked : RunRequest → Option Format → Option Format
 format_asked (requests.Replay script picks quiet e) format = format
 format_asked (requests.Explain script run filter e) format = format
-format_asked (requests.Draw script picks picture e) format = None
+format_asked (requests.Draw script run picture e) format = None
 format_asked (requests.Round script limit control_first quiet e) format = format
 
 -- the job of a request, with the text that was read of its picks or its moves: what its task writes, in the format that is asked for, where it has at most so many bytes

@@ -19,7 +19,7 @@ pub enum PicksSource<'a> {
     MovesIn(Source<'a>),
 }
 
-/// Which run is explained.
+/// Which run is explained or drawn.
 #[derive(Clone, Copy)]
 pub enum RunSource<'a> {
     /// The run by picks.
@@ -74,10 +74,10 @@ pub enum RunRequest<'a> {
         filter: Filter<'a>,
         expectation: ExpectationArgs<'a>,
     },
-    /// A picture of a run by picks or moves.
+    /// A picture of a run.
     Draw {
         script: Source<'a>,
-        picks: PicksSource<'a>,
+        run: RunSource<'a>,
         format: PictureFormat,
         expectation: ExpectationArgs<'a>,
     },
@@ -141,6 +141,20 @@ impl<'a> PicksSource<'a> {
     }
 }
 
+impl<'a> RunSource<'a> {
+    ghost use Rattle.tn_request.specs.RequestParts.{run_source_asked};
+
+    /// The text of picks or of moves that is to be read, where there is one.
+    fn text_source(&self) -> Option<TextSource<'a>>
+        ensures { result ≡ run_source_asked self.now }
+    {
+        match *self {
+            RunSource::ByPicks(picks) => picks.text_source(),
+            RunSource::ByRound { .. } => None,
+        }
+    }
+}
+
 impl<'a> RunRequest<'a> {
     ghost use Rattle.tn_request.specs.RequestParts.{run_expectation, run_script, run_text_source};
 
@@ -174,11 +188,8 @@ impl<'a> RunRequest<'a> {
     {
         match *self {
             RunRequest::Replay { picks, .. } => picks.text_source(),
-            RunRequest::Explain { run, .. } => match run {
-                RunSource::ByPicks(picks) => picks.text_source(),
-                RunSource::ByRound { .. } => None,
-            },
-            RunRequest::Draw { picks, .. } => picks.text_source(),
+            RunRequest::Explain { run, .. } => run.text_source(),
+            RunRequest::Draw { run, .. } => run.text_source(),
             RunRequest::Round { .. } => None,
         }
     }

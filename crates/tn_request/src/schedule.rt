@@ -1,7 +1,7 @@
 // Which picks a request asks for.
 ghost use Rattle.std.specs.Prelude.{◌≡◌};
 ghost use Rattle.tn_moves.specs.Schedules.{schedule_seen};
-ghost use Rattle.tn_request.specs.SchedulesAsked.{explained_schedule, picks_asked, round_asked, schedule_asked};
+ghost use Rattle.tn_request.specs.SchedulesAsked.{picks_asked, round_asked, run_asked, schedule_asked};
 
 use crate::request::{PicksSource, RunRequest, RunSource};
 use tn_moves::Schedule;
@@ -29,9 +29,9 @@ fn round_schedule(limit: u32, control_first: bool) -> Schedule<'static>
     }
 }
 
-/// The picks of a run that is explained.
+/// The picks of a run that is explained or drawn.
 fn run_schedule<'a>(run: &RunSource<'a>, read: &'a [u8]) -> Schedule<'a>
-    ensures { schedule_seen result ≡ explained_schedule run.now read.now }
+    ensures { schedule_seen result ≡ run_asked run.now read.now }
 {
     match run {
         RunSource::ByPicks(picks) => picks_schedule(picks, read),
@@ -49,7 +49,7 @@ pub fn schedule_of<'a>(request: &RunRequest<'a>, read: &'a [u8]) -> Schedule<'a>
     match request {
         RunRequest::Replay { picks, .. } => picks_schedule(picks, read),
         RunRequest::Explain { run, .. } => run_schedule(run, read),
-        RunRequest::Draw { picks, .. } => picks_schedule(picks, read),
+        RunRequest::Draw { run, .. } => run_schedule(run, read),
         RunRequest::Round {
             limit,
             control_first,

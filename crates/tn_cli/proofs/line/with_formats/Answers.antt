@@ -1,9 +1,0 @@
-use Rattle.std.proofs.lemmas.Result.{IfOk-weaker}
-use Rattle.tn_cli.proofs.Names.{formats_more}
-use Rattle.tn_cli.proofs.line.with_formats.Goals as goal
-
-pub returns : goal.returns
-returns c =
-    IfOk-weaker c.arg-2.result _ _
-    (λ new added. formats_more c.args.command c.in_ok-arg.field-0 new c.summary.result c.in_ok-json_alone.field-0 c.summary.ensures.0 c.in_ok-json_alone.ensures.0 c.in_ok-arg.ensures added)
-    c.arg-2.ensures

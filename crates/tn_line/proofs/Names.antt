@@ -1,0 +1,119 @@
+-- What one argument, one group or one command more makes of the names of a command's arguments and commands.
+use Rattle.std.proofs.Common.{◌≡◌, ◌∙◌, ℕ, List, [], ◌∷◌, ◌++◌, map, Result, IfOk, IsOkAnd, Ok, Err, refl, ap, ap₂, subst, codes}
+use Rattle.std.proofs.lemmas.List.{map-append}
+use Rattle.std.proofs.lemmas.Result.{IfOk-weaker}
+use Rattle.clap.specs.declared.builder.arg.Arg.{Arg}
+use Rattle.clap.specs.declared.builder.arg_group.ArgGroup.{ArgGroup}
+use Rattle.clap.specs.declared.builder.command.Command.{Command}
+use Rattle.std.specs.Borrow.{Bor}
+use Rattle.clap.specs.Adds.{AddsConflicts}
+use Rattle.clap.specs.Facts.{args_of, groups_of, subcommands_of}
+use Rattle.clap.specs.Built.{AddsArg, AddsGroup, AddsSubcommand, subcommand_names}
+use Rattle.clap.specs.Simple.{Shape, shape_of}
+use Rattle.tn_line.specs.Line.{EXPECTATION, IsCommand, IsWithFormats, IsWithExpectation, ExcludesPicks, PICKS, WantsBy}
+
+pub one_more : (name : List ℕ) (arguments : List (List ℕ)) (word : List ℕ) (old new : Command) (a : Arg)
+    → IsCommand name arguments old → a.id.now ≡ word → AddsArg old a new → IsCommand name (arguments ++ word ∷ []) new
+one_more name arguments word old new a is id added = record {
+  called = added.names.0 ∙ is.called;
+  takes = ap (map (λ b. b.id.now)) added.args ∙ map-append (λ b. b.id.now) (args_of old) (added.arg ∷ [])
+      ∙ ap₂ (λ xs x. xs ++ x ∷ []) is.takes (ap (λ i. i.now) added.rules.id ∙ id);
+}
+
+-- the same, where there was memory for it
+pub one_more_so : {E : Type 0} (name : List ℕ) (arguments : List (List ℕ)) (word : List ℕ) (old : Command) (a : Arg)
+    (r : Result Command E) → IsCommand name arguments old → a.id.now ≡ word → IfOk r (λ new. AddsArg old a new)
+    → IfOk r (IsCommand name (arguments ++ word ∷ []))
+one_more_so name arguments word old a r is id =
+    IfOk-weaker r _ _ (λ new added. one_more name arguments word old new a is id added)
+
+-- a group more leaves the name and the arguments as they were
+pub one_group : (name : List ℕ) (arguments : List (List ℕ)) (old new : Command) (g : ArgGroup)
+    → IsCommand name arguments old → AddsGroup old g new → IsCommand name arguments new
+one_group name arguments old new g is added = record {
+  called = ap (λ f. f.name.now) added.0 ∙ is.called;
+  takes = ap (λ f. map (λ a. a.id.now) f.args.items) added.0 ∙ is.takes;
+}
+
+-- where it is the only one, it is the command's only rule
+pub wants_it : (old new : Command) (g : ArgGroup) → groups_of old ≡ [] → AddsGroup old g new → WantsBy g new
+wants_it old new g none added = added.1 ∙ ap (λ gs. gs ++ g ∷ []) none
+
+-- so it is with an argument more
+pub still_wants : (g : ArgGroup) (old new : Command) (a : Arg) → WantsBy g old → AddsArg old a new → WantsBy g new
+still_wants g old new a wants added = added.groups ∙ wants
+
+-- an argument that can't be given with picks has the same name
+pub same_name : (word : List ℕ) (old new : Arg) → old.id.now ≡ word → ExcludesPicks old new → new.id.now ≡ word
+same_name word old new is excludes = ap (λ (a : Arg). a.id.now) excludes.same ∙ is
+
+-- some references more, of these texts
+pub excluded : (old new : Arg) (ids : List (Bor (List ℕ))) → map (λ w. w.now) ids ≡ PICKS → AddsConflicts old new ids → ExcludesPicks old new
+excluded old new ids are added = record {
+  same = added.0;
+  excludes = ap (map (λ w. w.now)) added.1 ∙ map-append (λ w. w.now) old.conflicts.items ids ∙ ap (λ l. map (λ w. w.now) old.conflicts.items ++ l) are;
+}
+
+-- three arguments, one after the other
+three_after : (xs : List (List ℕ)) (a b d : List ℕ) → ((xs ++ a ∷ []) ++ b ∷ []) ++ d ∷ [] ≡ xs ++ a ∷ b ∷ d ∷ []
+three_after [] a b d = refl
+three_after (x ∷ xs) a b d = ap (λ l. x ∷ l) (three_after xs a b d)
+
+-- two arguments, one after the other
+two_after : (xs : List (List ℕ)) (a b : List ℕ) → (xs ++ a ∷ []) ++ b ∷ [] ≡ xs ++ a ∷ b ∷ []
+two_after [] a b = refl
+two_after (x ∷ xs) a b = ap (λ l. x ∷ l) (two_after xs a b)
+
+-- the two arguments that say in which format the output is
+pub formats_more : (old second new : Command) (a b : Arg) → a.id.now ≡ codes "summary" → b.id.now ≡ codes "json" → AddsArg old a second → AddsArg second b new → IsWithFormats old new
+formats_more old second new a b is_a is_b with_a with_b = record {
+  takes_formats = λ name arguments is.
+      let one = one_more name arguments (codes "summary") old second a is is_a with_a in
+      let two = one_more name _ (codes "json") second new b one is_b with_b in
+      subst (λ l. IsCommand name l new) (two_after arguments (codes "summary") (codes "json")) two;
+  wants_picks_so = λ g wants. still_wants g second new b (still_wants g old second a wants with_a) with_b;
+}
+
+-- four arguments, one after the other
+four_after : (xs : List (List ℕ)) (a b d f : List ℕ) → ((xs ++ a ∷ b ∷ d ∷ []) ++ f ∷ []) ≡ xs ++ a ∷ b ∷ d ∷ f ∷ []
+four_after [] a b d f = refl
+four_after (x ∷ xs) a b d f = ap (λ l. x ∷ l) (four_after xs a b d f)
+
+-- five arguments, one after the other
+five_after : (xs : List (List ℕ)) (a b d f h : List ℕ) → ((xs ++ a ∷ b ∷ d ∷ f ∷ []) ++ h ∷ []) ≡ xs ++ a ∷ b ∷ d ∷ f ∷ h ∷ []
+five_after [] a b d f h = refl
+five_after (x ∷ xs) a b d f h = ap (λ l. x ∷ l) (five_after xs a b d f h)
+
+-- the five arguments that say what the output must be, and its commands
+pub expectation_more : (old second third fourth fifth new : Command) (a b d f h : Arg) → a.id.now ≡ codes "expect" → b.id.now ≡ codes "expect-line"
+    → d.id.now ≡ codes "reject-line" → f.id.now ≡ codes "strict" → h.id.now ≡ codes "max-output" → AddsArg old a second → AddsArg second b third → AddsArg third d fourth
+    → AddsArg fourth f fifth → AddsArg fifth h new → IsWithExpectation old new
+expectation_more old second third fourth fifth new a b d f h is_a is_b is_d is_f is_h with_a with_b with_d with_f with_h = record {
+  takes_more = λ name arguments is.
+      let one = one_more name arguments (codes "expect") old second a is is_a with_a in
+      let two = one_more name _ (codes "expect-line") second third b one is_b with_b in
+      let three = one_more name _ (codes "reject-line") third fourth d two is_d with_d in
+      let so = subst (λ l. IsCommand name l fourth) (three_after arguments (codes "expect") (codes "expect-line") (codes "reject-line")) three in
+      let four = one_more name _ (codes "strict") fourth fifth f so is_f with_f in
+      let next = subst (λ l. IsCommand name l fifth) (four_after arguments (codes "expect") (codes "expect-line") (codes "reject-line") (codes "strict")) four in
+      let five = one_more name _ (codes "max-output") fifth new h next is_h with_h in
+      subst (λ l. IsCommand name l new) (five_after arguments (codes "expect") (codes "expect-line") (codes "reject-line") (codes "strict") (codes "max-output")) five;
+  wants_so = λ g wants. still_wants g fifth new h (still_wants g fourth fifth f (still_wants g third fourth d
+      (still_wants g second third b (still_wants g old second a wants with_a) with_b) with_d) with_f) with_h;
+}
+
+-- a command with these after its own arguments, where there was memory for that
+pub expectation_so : {E : Type 0} (name : List ℕ) (arguments : List (List ℕ)) (old : Command) (r : Result Command E)
+    → IsCommand name arguments old → IfOk r (IsWithExpectation old) → IfOk r (IsCommand name (arguments ++ EXPECTATION))
+expectation_so name arguments old r is = IfOk-weaker r _ _ (λ new more. more.takes_more name arguments is)
+
+-- a command more, that there was memory for
+pub command_made : {E : Type 0} (names : List (List ℕ)) (word : List ℕ) (arguments : List (List ℕ)) (old new : Command)
+    (c : Result Command E) → subcommand_names old ≡ names → IfOk c (IsCommand word arguments) → IsOkAnd c (λ x. AddsSubcommand old x new)
+    → subcommand_names new ≡ names ++ word ∷ []
+command_made names word arguments old new (Ok c) is one added =
+    ap (λ cs. map (λ (s : Shape). s.name) (map shape_of cs)) added.subcommands
+    ∙ ap (map (λ (s : Shape). s.name)) (map-append shape_of (subcommands_of old) (added.added ∷ []))
+    ∙ map-append (λ (s : Shape). s.name) (map shape_of (subcommands_of old)) (shape_of added.added ∷ [])
+    ∙ ap₂ (λ xs x. xs ++ x ∷ []) is (ap (λ n. n.now) added.name ∙ one.called)
+command_made names word arguments old new (Err e) is one added = absurd added

@@ -1,0 +1,16 @@
+use Rattle.std.proofs.Common.{rules, codes, []}
+use Rattle.tn_line.specs.Line.{IsCommand}
+use Rattle.tn_line.proofs.Names.{expectation_so, one_more}
+use Rattle.tn_line.proofs.commands.run.Goals as goal
+
+pub returns : goal.returns
+returns c =
+    let name = codes "run" in
+    let bare : IsCommand name [] c.about.result = record { called = search rules; takes = search rules } in
+    let first = one_more name [] (codes "script") c.about.result c.in_ok-arg.field-0 c.script.result bare c.script.ensures.0 c.in_ok-arg.ensures in
+    let second = one_more name _ (codes "limit") c.in_ok-arg.field-0 c.in_ok-arg-2.field-0 c.limit.result first c.limit.ensures.named.0
+    c.in_ok-arg-2.ensures in
+    let third = one_more name _ (codes "quiet") c.in_ok-arg-2.field-0 c.in_ok-command.command c.quiet.result second c.quiet.ensures.0
+    c.in_ok-command.ensures in
+    let fourth = c.in_ok-command-2.ensures.takes_formats name _ third in
+    expectation_so name _ c.in_ok-command-2.command c.with_expectation.result fourth c.with_expectation.ensures

@@ -1,0 +1,397 @@
+// The arguments of the commands.
+ghost use Rattle.std.specs.Prelude.{◌≡◌, codes, true, IfOk};
+ghost use Rattle.tn_line.specs.Line.{IsOption, IsFlag, IsWord, IsElse, IsFromTo, IsOneOf, ExcludesPicks};
+ghost use Rattle.tn_line.specs.Line.{PICKS, PICKS_OR_ROUND};
+
+use clap::{Arg, ArgAction, ArgGroup, value_parser};
+use std::alloc::{AllocError, Global};
+
+/// The script of a command.
+pub(crate) fn script<'a>(alloc: Global) -> Arg<'a>
+    ensures { IsWord (codes "script") result }
+{
+    Arg::new(alloc, "script")
+        .value_name("SCRIPT")
+        .help("The file of the script; standard input where it is absent or -")
+        .action(ArgAction::Set)
+}
+
+/// `--picks TEXT`. TEXT may begin with a hyphen: the run refuses it, not the command line.
+pub(crate) fn picks<'a>(alloc: Global) -> Arg<'a>
+    ensures { IsOption (codes "picks") result }
+{
+    Arg::new(alloc, "picks")
+        .long("picks")
+        .value_name("TEXT")
+        .help("The picks: decimal numbers, one space between each two")
+        .allow_hyphen_values(true)
+        .action(ArgAction::Set)
+}
+
+/// `--picks-file FILE`.
+pub(crate) fn picks_file<'a>(alloc: Global) -> Arg<'a>
+    ensures { IsOption (codes "picks-file") result }
+{
+    Arg::new(alloc, "picks-file")
+        .long("picks-file")
+        .value_name("FILE")
+        .help("The file of the picks; standard input where it is -")
+        .action(ArgAction::Set)
+}
+
+/// `--moves TEXT`. TEXT may begin with a hyphen: the run refuses it, not the command line.
+pub(crate) fn moves<'a>(alloc: Global) -> Arg<'a>
+    ensures { IsOption (codes "moves") result }
+{
+    Arg::new(alloc, "moves")
+        .long("moves")
+        .value_name("TEXT")
+        .help("The moves: N, N*K, N!, where N is a number or a function, and * for everybody")
+        .allow_hyphen_values(true)
+        .action(ArgAction::Set)
+}
+
+/// `--moves-file FILE`.
+pub(crate) fn moves_file<'a>(alloc: Global) -> Arg<'a>
+    ensures { IsOption (codes "moves-file") result }
+{
+    Arg::new(alloc, "moves-file")
+        .long("moves-file")
+        .value_name("FILE")
+        .help("The file of the moves; standard input where it is -")
+        .action(ArgAction::Set)
+}
+
+/// Just one of `--picks`, `--picks-file`, `--moves` and `--moves-file` must be given; the usage names all.
+pub(crate) fn one_of_picks<'a>(alloc: Global) -> Result<ArgGroup<'a>, AllocError>
+    ensures { IfOk result (IsOneOf PICKS) }
+{
+    ArgGroup::new(alloc, "picks-source")
+        .required(true)
+        .arg("picks")?
+        .arg("picks-file")?
+        .arg("moves")?
+        .arg("moves-file")
+}
+
+/// Just one of these and `--round` must be given; the usage names all.
+pub(crate) fn picks_or_round<'a>(alloc: Global) -> Result<ArgGroup<'a>, AllocError>
+    ensures { IfOk result (IsOneOf PICKS_OR_ROUND) }
+{
+    ArgGroup::new(alloc, "picks-source")
+        .required(true)
+        .arg("picks")?
+        .arg("picks-file")?
+        .arg("moves")?
+        .arg("moves-file")?
+        .arg("round")
+}
+
+/// `--quiet`.
+pub(crate) fn quiet<'a>(alloc: Global) -> Arg<'a>
+    ensures { IsFlag (codes "quiet") result }
+{
+    Arg::new(alloc, "quiet")
+        .long("quiet")
+        .help("Prints no notes on standard error")
+        .action(ArgAction::SetTrue)
+}
+
+/// `--summary`.
+pub(crate) fn summary<'a>(alloc: Global) -> Arg<'a>
+    ensures { IsFlag (codes "summary") result }
+{
+    Arg::new(alloc, "summary")
+        .long("summary")
+        .help("Prints how many messages and bytes each session has, in place of the messages")
+        .action(ArgAction::SetTrue)
+}
+
+/// `--json`.
+pub(crate) fn json<'a>(alloc: Global) -> Arg<'a>
+    ensures { IsFlag (codes "json") result }
+{
+    Arg::new(alloc, "json")
+        .long("json")
+        .help("Prints JSON, a value a line")
+        .action(ArgAction::SetTrue)
+}
+
+/// `--json`, which no command takes beside `--summary`.
+pub(crate) fn json_alone<'a>(alloc: Global) -> Result<Arg<'a>, AllocError>
+    ensures { IfOk result (IsFlag (codes "json")) }
+{
+    json(alloc).conflicts_with("summary")
+}
+
+/// `--expect FILE`.
+pub(crate) fn expect<'a>(alloc: Global) -> Arg<'a>
+    ensures { IsOption (codes "expect") result }
+{
+    Arg::new(alloc, "expect")
+        .long("expect")
+        .value_name("FILE")
+        .help("The output must be the bytes of this file, or else the exit status is 1")
+        .action(ArgAction::Set)
+}
+
+/// `--expect-line TEXT`. TEXT may begin with a hyphen.
+pub(crate) fn expect_line<'a>(alloc: Global) -> Arg<'a>
+    ensures { IsOption (codes "expect-line") result }
+{
+    Arg::new(alloc, "expect-line")
+        .long("expect-line")
+        .value_name("TEXT")
+        .help("The output must have this line, or else the exit status is 1")
+        .allow_hyphen_values(true)
+        .action(ArgAction::Set)
+}
+
+/// `--reject-line TEXT`. TEXT may begin with a hyphen.
+pub(crate) fn reject_line<'a>(alloc: Global) -> Arg<'a>
+    ensures { IsOption (codes "reject-line") result }
+{
+    Arg::new(alloc, "reject-line")
+        .long("reject-line")
+        .value_name("TEXT")
+        .help("The output must not have this line, or else the exit status is 1")
+        .allow_hyphen_values(true)
+        .action(ArgAction::Set)
+}
+
+/// `--strict`.
+pub(crate) fn strict<'a>(alloc: Global) -> Arg<'a>
+    ensures { IsFlag (codes "strict") result }
+{
+    Arg::new(alloc, "strict")
+        .long("strict")
+        .help(
+            "Each command must be done, and the script must have forms, or else the exit status is 1",
+        )
+        .action(ArgAction::SetTrue)
+}
+
+/// `--max-output BYTES`.
+pub(crate) fn max_output<'a>(alloc: Global) -> Arg<'a>
+    ensures named { IsOption (codes "max-output") result }
+    ensures value { IsElse (codes "1073741824") result }
+    ensures range { IsFromTo 1 4294967295 result }
+{
+    Arg::new(alloc, "max-output")
+        .long("max-output")
+        .value_name("BYTES")
+        .help(
+            "How many bytes the output may have, from 1 to 4294967295; where it has more, nothing is written",
+        )
+        .value_parser(value_parser!(u32).range(1..=4294967295))
+        .default_value("1073741824")
+        .action(ArgAction::Set)
+}
+
+/// `--session NAME`. NAME may begin with a hyphen, and may be in quotes as atoms are in scripts.
+pub(crate) fn session<'a>(alloc: Global) -> Arg<'a>
+    ensures { IsOption (codes "session") result }
+{
+    Arg::new(alloc, "session")
+        .long("session")
+        .value_name("NAME")
+        .help(
+            "Explains what the session of this name, in quotes or not, makes of the run, and no other",
+        )
+        .allow_hyphen_values(true)
+        .action(ArgAction::Set)
+}
+
+/// `--move N`.
+pub(crate) fn move_number<'a>(alloc: Global) -> Arg<'a>
+    ensures { IsOption (codes "move") result }
+{
+    Arg::new(alloc, "move")
+        .long("move")
+        .value_name("N")
+        .help("Explains the move of this number alone, counted from 1")
+        .value_parser(value_parser!(u32))
+        .action(ArgAction::Set)
+}
+
+/// `--node`.
+pub(crate) fn node<'a>(alloc: Global) -> Arg<'a>
+    ensures { IsFlag (codes "node") result }
+{
+    Arg::new(alloc, "node")
+        .long("node")
+        .help("Explains the moves alone that a running node does otherwise")
+        .action(ArgAction::SetTrue)
+}
+
+/// `--text`.
+pub(crate) fn text<'a>(alloc: Global) -> Arg<'a>
+    ensures { IsFlag (codes "text") result }
+{
+    Arg::new(alloc, "text")
+        .long("text")
+        .help("Writes lines for a terminal, and no SVG")
+        .action(ArgAction::SetTrue)
+}
+
+/// `--limit N`.
+pub(crate) fn limit<'a>(alloc: Global) -> Arg<'a>
+    ensures named { IsOption (codes "limit") result }
+    ensures value { IsElse (codes "10000") result }
+    ensures range { IsFromTo 1 65536 result }
+{
+    Arg::new(alloc, "limit")
+        .long("limit")
+        .value_name("N")
+        .help("How many picks may move, from 1 to 65536")
+        .value_parser(value_parser!(u32).range(1..=65536))
+        .default_value("10000")
+        .action(ArgAction::Set)
+}
+
+/// When the control list may be taken.
+const ORDERS: &[&str] = &["first"];
+
+/// `--control first`.
+pub(crate) fn control<'a>(alloc: Global) -> Arg<'a>
+    ensures { IsOption (codes "control") result }
+{
+    Arg::new(alloc, "control")
+        .long("control")
+        .value_name("ORDER")
+        .help("When all commands of the control list are taken: first, before the rounds")
+        .value_parser(ORDERS)
+        .action(ArgAction::Set)
+}
+
+/// `--round`.
+pub(crate) fn in_rounds<'a>(alloc: Global) -> Arg<'a>
+    ensures { IsFlag (codes "round") result }
+{
+    Arg::new(alloc, "round")
+        .long("round")
+        .help("The run is the one that the command round makes")
+        .action(ArgAction::SetTrue)
+}
+
+/// The argument, which can't be given with picks or moves.
+pub(crate) fn without_picks<'a>(arg: Arg<'a>) -> Result<Arg<'a>, AllocError>
+    ensures { IfOk result (ExcludesPicks arg.entry) }
+{
+    arg.conflicts_with_all(&["picks", "picks-file", "moves", "moves-file"])
+}
+
+/// `--n N`.
+pub(crate) fn worker_count<'a>(alloc: Global) -> Arg<'a>
+    ensures named { IsOption (codes "n") result }
+    ensures needed { result.required ≡ true }
+    ensures range { IsFromTo 1 16 result }
+{
+    Arg::new(alloc, "n")
+        .long("n")
+        .value_name("N")
+        .help("How many workers there are, from 1 to 16")
+        .required(true)
+        .value_parser(value_parser!(u32).range(1..=16))
+        .action(ArgAction::Set)
+}
+
+/// `--turns T`.
+pub(crate) fn turns<'a>(alloc: Global) -> Arg<'a>
+    ensures named { IsOption (codes "turns") result }
+    ensures value { IsElse (codes "1000") result }
+    ensures range { IsFromTo 1 65536 result }
+{
+    Arg::new(alloc, "turns")
+        .long("turns")
+        .value_name("T")
+        .help("How many turns each worker takes at most, from 1 to 65536")
+        .value_parser(value_parser!(u32).range(1..=65536))
+        .default_value("1000")
+        .action(ArgAction::Set)
+}
+
+/// `--spread SEED`.
+pub(crate) fn spread<'a>(alloc: Global) -> Arg<'a>
+    ensures { IsOption (codes "spread") result }
+{
+    Arg::new(alloc, "spread")
+        .long("spread")
+        .value_name("SEED")
+        .help("Each turn gives way to other workers some times, by this number, so that races show")
+        .value_parser(value_parser!(u32))
+        .action(ArgAction::Set)
+}
+
+/// `--list TERM`. TERM may begin with a hyphen, as in all words of `spec`.
+pub(crate) fn list<'a>(alloc: Global) -> Arg<'a>
+    ensures named { IsOption (codes "list") result }
+    ensures needed { result.required ≡ true }
+{
+    Arg::new(alloc, "list")
+        .long("list")
+        .value_name("TERM")
+        .help(
+            "The list: [Arg, ..] of a call, [Receiver, Message] of a send, [Node, Sender, Message] of a receive",
+        )
+        .required(true)
+        .allow_hyphen_values(true)
+        .action(ArgAction::Set)
+}
+
+/// What the specification of `spec` is for.
+const EVENTS: &[&str] = &["call", "send", "receive"];
+
+/// `--for EVENT`.
+pub(crate) fn event<'a>(alloc: Global) -> Arg<'a>
+    ensures named { IsOption (codes "for") result }
+    ensures value { IsElse (codes "call") result }
+{
+    Arg::new(alloc, "for")
+        .long("for")
+        .value_name("EVENT")
+        .help(
+            "What the specification is for, and the one flag that the process has: call, send or receive",
+        )
+        .value_parser(EVENTS)
+        .default_value("call")
+        .action(ArgAction::Set)
+}
+
+/// `--me N`, where N is a number or a pid: what `spec` asks for reads it.
+pub(crate) fn own_process<'a>(alloc: Global) -> Arg<'a>
+    ensures named { IsOption (codes "me") result }
+    ensures value { IsElse (codes "100") result }
+{
+    Arg::new(alloc, "me")
+        .long("me")
+        .value_name("N")
+        .help(
+            "The process whose event it is: a number N or a pid <0.N.0>; no other process has a flag",
+        )
+        .default_value("100")
+        .action(ArgAction::Set)
+}
+
+/// `--caller TERM`.
+pub(crate) fn caller<'a>(alloc: Global) -> Arg<'a>
+    ensures { IsOption (codes "caller") result }
+{
+    Arg::new(alloc, "caller")
+        .long("caller")
+        .value_name("TERM")
+        .help("The function that the call comes from, {Module,Function,Arity}")
+        .allow_hyphen_values(true)
+        .action(ArgAction::Set)
+}
+
+/// The specification of `spec`.
+pub(crate) fn specification<'a>(alloc: Global) -> Arg<'a>
+    ensures { IsWord (codes "specification") result }
+{
+    Arg::new(alloc, "specification")
+        .value_name("SPECIFICATION")
+        .help("The specification; standard input where it is absent or -")
+        .allow_hyphen_values(true)
+        .action(ArgAction::Set)
+}
