@@ -1,14 +1,14 @@
 -- Worked rows, computed: the texts of small pictures and their parts.
-use Rattle.std.proofs.Common.{◌≡◌, List, [], ◌∷◌, codes, refl, None}
+use Rattle.std.proofs.Common.{◌≡◌, List, [], ◌∷◌, ◌++◌, replicate, codes, refl, None}
 use Rattle.std.specs.Fmt.{digits}
 use Rattle.def_term.specs.Names.{word}
 use Rattle.def_term.specs.Text.{is_written_bare}
 use Rattle.def_term.specs.Tree.{pid}
 use Rattle.def_script.specs.Program.{Command, Program, send, receive}
 use Rattle.def_run.proofs.Samples.{function, entry, program, creates, sets, lines}
-use Rattle.def_picture.specs.Picture.{Life, arrow, frame_start, column_of, picture_of}
+use Rattle.def_picture.specs.Picture.{Life, arrow, frame_start, column_of, picture_of, message_or}
 use Rattle.def_picture.specs.Templates.{fill, xml_text}
-use Rattle.def_picture.specs.Svg.{column_x, columns_end, arrow_svg, shape_svg, label_svg}
+use Rattle.def_picture.specs.Svg.{column_x, columns_end, arrow_svg, shape_svg, label_svg, first_letters, whole_svg}
 use Rattle.def_picture.specs.Plain.{pad, life_cell, arrow_cell, mark_cell, shape_cell, cell_text, reporters_text, row_plain, session_plain, lives_plain, plain_text}
 
 -- ---- templates
@@ -50,9 +50,23 @@ columns_of_two : (column_x two_lives 0 ≡ 80) × (column_x two_lives 1 ≡ 190)
 columns_of_two = (refl, refl, refl)
 
 -- the text of a row that no session reports is grey
-grey_label : label_svg 250 104 [] ≡ codes "<text x=\"250\" y=\"108\" fill=\"#777\">"
+grey_label : label_svg 60 104 [] ≡ codes "<text x=\"60\" y=\"108\" fill=\"#777\">"
 unfolding label_svg fill digits
 grey_label = refl
+
+-- a row that a session reports shows its message, with the last element that it has there
+message_of_a_session : message_or (codes "{trace,<0.100.0>,call,{m,go,[]}}") (record { session = 2; text = codes "{trace,<0.100.0>,call,{m,go,[]},last}" } ∷ []) ≡ codes "{trace,<0.100.0>,call,{m,go,[]},last}"
+message_of_a_session = refl
+
+-- a text of 101 letters is cut after 100, and whole in its tooltip
+cut_letters : first_letters (replicate 101 97) ≡ replicate 100 97 ++ codes ".."
+cut_letters = refl
+
+whole_letters : whole_svg (replicate 101 97) ≡ codes "<title>" ++ replicate 101 97 ++ codes "</title>"
+whole_letters = refl
+
+uncut_letters : (first_letters (replicate 100 97) ≡ replicate 100 97) × (whole_svg (replicate 100 97) ≡ [])
+uncut_letters = (refl, refl)
 
 -- ---- a run
 
@@ -68,10 +82,10 @@ picture_of_a_send : plain_text (picture_of one_send (0 ∷ 0 ∷ 0 ∷ 0 ∷ 100
     "=>1 session s1"
     ∷ "=>2 session s2"
     ∷ "        <0.100.0>   <0.101.0>   "
-    ∷ "1       =========== =========== session_create s1"
-    ∷ "2       =========== =========== session_create s2"
-    ∷ "3       =========== =========== process s1"
-    ∷ "4       =========== =========== process s2"
+    ∷ "1       =========== =========== session_create s1 t1"
+    ∷ "2       =========== =========== session_create s2 t2"
+    ∷ "3       =========== =========== process s1 all true [send]"
+    ∷ "4       =========== =========== process s2 all true ['receive']"
     ∷ "5       [1          |           {trace,<0.100.0>,call,{m,go,[]}}"
     ∷ "6       |           [1          {trace,<0.101.0>,call,{m,peer,[]}}"
     ∷ "7       *----------->           {trace,<0.100.0>,send,hi,<0.101.0>} =>1"

@@ -5,7 +5,7 @@ use Rattle.std.specs.Option.{unwrap_or}
 use Rattle.def_term.specs.Alive.{FIRST_PID}
 use Rattle.def_term.specs.Names.{Name}
 use Rattle.def_term.specs.Text.{w, atom_text}
-use Rattle.def_term.specs.Tree.{Tree, tuple, of_elements}
+use Rattle.def_term.specs.Tree.{Tree, atom, tuple, of_elements}
 use Rattle.def_script.specs.Program.{Command, create, destroy, set_processes, set_function, set_send, set_receive, Program}
 use Rattle.def_script.specs.Script.{creations}
 use Rattle.def_node.specs.Event.{Event, sent, received, called, returned, raised, spawning, spawned, exited, linked, unlinked, getting_linked, getting_unlinked}
@@ -59,14 +59,18 @@ abbrev pub shape_of : HistoryItem → Shape
 shape_of (event_item e) = shape_of_event e
 shape_of (command_item c) = command_line
 
--- a command's name and its session
+-- the name of a function of the module `trace`, a session, and the other arguments
+abbrev pub call_label : (function : List ℕ) → Name → (arguments : List Tree) → List ℕ
+call_label function s ts = function ++ atom_text s ++ flat_map (λ t. 32 ∷ w t) ts
+
+-- a command's name, its session, and what it sets
 abbrev pub command_label : Command → List ℕ
-command_label (create s t) = codes "session_create " ++ atom_text s
-command_label (destroy s) = codes "session_destroy " ++ atom_text s
-command_label (set_processes s procs how flags) = codes "process " ++ atom_text s
-command_label (set_function s mfa spec options) = codes "function " ++ atom_text s
-command_label (set_send s spec) = codes "send " ++ atom_text s
-command_label (set_receive s spec) = codes "recv " ++ atom_text s
+command_label (create s t) = call_label (codes "session_create ") s (atom t ∷ [])
+command_label (destroy s) = call_label (codes "session_destroy ") s []
+command_label (set_processes s procs how flags) = call_label (codes "process ") s (procs ∷ how ∷ flags ∷ [])
+command_label (set_function s mfa spec options) = call_label (codes "function ") s (mfa ∷ spec ∷ options ∷ [])
+command_label (set_send s spec) = call_label (codes "send ") s (spec ∷ [])
+command_label (set_receive s spec) = call_label (codes "recv ") s (spec ∷ [])
 
 -- the trace message that an event has, whoever reports it
 abbrev pub event_label : Event → List ℕ
@@ -93,6 +97,17 @@ row_at move ss x = record { move = move; shape = shape_of x; label = label_of x;
 -- a moment of the history is a row
 abbrev pub moment_row : Moment → PictureRow
 moment_row m = row_at m.move m.before m.item
+
+-- ---- what a row shows
+
+-- the message of the first session that reports it, else what the event or the command is
+abbrev pub message_or : (label : List ℕ) → List Report → List ℕ
+message_or label [] = label
+message_or label (r ∷ rs) = r.text
+
+-- of a row
+abbrev pub row_text : PictureRow → List ℕ
+row_text row = message_or row.label row.reports
 
 -- ---- life lines
 

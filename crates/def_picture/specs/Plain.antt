@@ -3,7 +3,7 @@
 use Rattle.std.specs.Prelude.{ℕ, ◌-◌, ◌==◌, nat_lt, nat_le, ◌&&◌, ◌||◌, if◌then◌else◌, List, [], ◌∷◌, ◌++◌, flat_map, length, replicate, codes, decimal}
 use Rattle.def_term.specs.Names.{Name}
 use Rattle.def_term.specs.Text.{atom_text}
-use Rattle.def_picture.specs.Picture.{Shape, arrow, frame_start, frame_end, birth, death, dot, command_line, Report, PictureRow, Life, Picture, column_of}
+use Rattle.def_picture.specs.Picture.{Shape, arrow, frame_start, frame_end, birth, death, dot, command_line, Report, PictureRow, Life, Picture, column_of, row_text}
 use Rattle.def_picture.specs.Templates.{fill, each_numbered}
 
 -- a text with this letter after it, to a width
@@ -47,9 +47,9 @@ cell_text all row shape n l = shape_cell all n shape (life_cell row l)
 unfoldable pub reporters_text : List Report → List ℕ
 reporters_text rs = flat_map (λ r. fill (codes " =>@") (r.session ∷ [])) rs
 
--- a row: the number of its move, its cells, its label and who reports it
+-- a row: the number of its move, its cells, what it shows and who reports it
 unfoldable pub row_plain : List Life → ℕ → PictureRow → List ℕ
-row_plain ls n row = pad 8 32 (decimal row.move) ++ each_numbered (cell_text ls n row.shape) 0 ls ++ row.label ++ reporters_text row.reports ++ codes "\n"
+row_plain ls n row = pad 8 32 (decimal row.move) ++ each_numbered (cell_text ls n row.shape) 0 ls ++ row_text row ++ reporters_text row.reports ++ codes "\n"
 
 -- ---- the header
 

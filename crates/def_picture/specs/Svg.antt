@@ -1,10 +1,10 @@
 -- The text of a picture as a graphic ("Scalable Vector Graphics 2").
 -- Depends on pictures and on templates. Lengths are in pixels; a process is a column, an event is a row.
-use Rattle.std.specs.Prelude.{ℕ, ◌+◌, ◌*◌, ◌==◌, nat_lt, min, max, if◌then◌else◌, List, [], ◌∷◌, ◌++◌, take, map, sum, fold, flat_map, length, codes}
+use Rattle.std.specs.Prelude.{ℕ, ◌+◌, ◌*◌, ◌==◌, nat_lt, Bool, min, max, if◌then◌else◌, List, [], ◌∷◌, ◌++◌, take, map, sum, fold, flat_map, length, codes}
 use Rattle.def_term.specs.Names.{Name}
 use Rattle.def_term.specs.Text.{atom_text}
 use Rattle.def_node.specs.Process.{FRAMES}
-use Rattle.def_picture.specs.Picture.{Shape, arrow, frame_start, frame_end, birth, death, dot, command_line, Report, PictureRow, Life, Picture, column_of}
+use Rattle.def_picture.specs.Picture.{Shape, arrow, frame_start, frame_end, birth, death, dot, command_line, Report, PictureRow, Life, Picture, column_of, row_text}
 use Rattle.def_picture.specs.Templates.{fill, each_numbered, xml_text}
 
 -- ---- places
@@ -29,13 +29,9 @@ columns_end ls = column_x ls (length ls)
 abbrev pub row_y : (sessions row : ℕ) → ℕ
 row_y sessions row = 80 + 20 * sessions + 24 * row
 
--- the line of a session's messages, right of the columns
+-- the line of a session's messages, right of the columns, which are right of the texts
 abbrev pub session_x : List Life → (session : ℕ) → ℕ
 session_x ls session = columns_end ls + 20 * session
-
--- where the labels begin
-abbrev pub label_x : List Life → (sessions : ℕ) → ℕ
-label_x ls sessions = session_x ls sessions + 20
 
 -- the colour of a session is an angle of the circle of hues; neighbours are far apart
 abbrev pub hue_of : ℕ → ℕ
@@ -86,24 +82,40 @@ marks_svg ls y shape rs = (if length rs == 0 then dashed_svg ls y shape else [])
 unfoldable pub move_svg : (y move : ℕ) → List ℕ
 move_svg y move = fill (codes "<text x=\"8\" y=\"@\">@</text>") ((y + 4) ∷ move ∷ [])
 
--- the start of a label of this height, which is grey where no session reports the row
+-- the start of a text at this place, which is grey where no session reports the row
 unfoldable pub label_svg : (x y : ℕ) → List Report → List ℕ
 label_svg x y rs =
     if length rs == 0
     then fill (codes "<text x=\"@\" y=\"@\" fill=\"#777\">") (x ∷ (y + 4) ∷ [])
     else fill (codes "<text x=\"@\" y=\"@\">") (x ∷ (y + 4) ∷ [])
 
--- a row: its marks, the number of its move and its label
-unfoldable pub row_svg : (sessions : ℕ) → List Life → ℕ → PictureRow → List ℕ
-row_svg sessions ls n row =
-    marks_svg ls (row_y sessions n) row.shape row.reports ++ move_svg (row_y sessions n) row.move
-    ++ label_svg (label_x ls sessions) (row_y sessions n) row.reports ++ xml_text row.label ++ codes "</text>\n"
+-- a text has more letters than are shown
+abbrev pub is_long : List ℕ → Bool
+is_long text = nat_lt 100 (length text)
+
+-- its first letters, and two dots where there are more
+abbrev pub first_letters : List ℕ → List ℕ
+first_letters text = if is_long text then take 100 text ++ codes ".." else text
+
+-- a long text is whole in a tooltip
+abbrev pub whole_svg : List ℕ → List ℕ
+whole_svg text = if is_long text then codes "<title>" ++ xml_text text ++ codes "</title>" else []
+
+-- the text of a row: the number of its move, and what it shows
+unfoldable pub row_text_svg : (sessions : ℕ) → ℕ → PictureRow → List ℕ
+row_text_svg sessions n row =
+    move_svg (row_y sessions n) row.move ++ label_svg 60 (row_y sessions n) row.reports ++ whole_svg (row_text row) ++ xml_text (first_letters (row_text row))
+    ++ codes "</text>\n"
+
+-- the marks of a row
+unfoldable pub row_marks_svg : (sessions : ℕ) → List Life → ℕ → PictureRow → List ℕ
+row_marks_svg sessions ls n row = marks_svg ls (row_y sessions n) row.shape row.reports
 
 -- ---- the header
 
 -- the start of the name of a session, in its colour
 unfoldable pub legend_svg : ℕ → List ℕ
-legend_svg n = fill (codes "<text x=\"80\" y=\"@\" fill=\"hsl(@,90%,35%)\">session ") ((10 + 20 * n) ∷ hue_of n ∷ [])
+legend_svg n = fill (codes "<text x=\"60\" y=\"@\" fill=\"hsl(@,90%,35%)\">session ") ((10 + 20 * n) ∷ hue_of n ∷ [])
 
 -- the name of a session
 unfoldable pub session_svg : ℕ → Name → List ℕ
@@ -117,13 +129,17 @@ life_svg ls sessions column l =
 
 -- ---- the whole
 
--- the longest label
-abbrev pub longest_label : List PictureRow → ℕ
-longest_label rs = fold (λ n r. max n (length r.label)) 0 rs
+-- the longest text of a row, as it is shown
+abbrev pub longest_text : List PictureRow → ℕ
+longest_text rs = fold (λ n r. max n (length (first_letters (row_text r)))) 0 rs
 
--- the width, with room for the longest label, of letters that are 8 pixels wide
+-- how far the columns are moved to the right, so that they are beside the texts, whose letters are 8 pixels wide
+unfoldable pub columns_shift : Picture → ℕ
+columns_shift p = 8 * longest_text p.rows + 10
+
+-- the width
 unfoldable pub width_of : Picture → ℕ
-width_of p = label_x p.lives (length p.sessions) + 8 * longest_label p.rows
+width_of p = columns_shift p + session_x p.lives (length p.sessions) + 20
 
 -- the height
 unfoldable pub height_of : Picture → ℕ
@@ -134,8 +150,14 @@ unfoldable pub head_svg : (width height : ℕ) → List ℕ
 head_svg width height =
     fill (codes "<svg xmlns=\"http://www.w3.org/2000/svg\" width=\"@\" height=\"@\" font-family=\"monospace\" font-size=\"13\">\n<rect width=\"100%\" height=\"100%\" fill=\"#fff\"/>\n") (width ∷ height ∷ [])
 
--- the sessions, which are numbered from 1, the life lines and the rows, which are numbered from 0
+-- the start of the columns
+unfoldable pub columns_svg : (shift : ℕ) → List ℕ
+columns_svg shift = fill (codes "<g transform=\"translate(@)\">\n") (shift ∷ [])
+
+-- the sessions, which are numbered from 1, the texts of the rows, which are numbered from 0, and beside them the life lines with the marks of the rows
 abbrev pub svg_text : Picture → List ℕ
 svg_text p =
     let sessions : ℕ = length p.sessions in
-    head_svg (width_of p) (height_of p) ++ each_numbered session_svg 1 p.sessions ++ each_numbered (life_svg p.lives sessions) 0 p.lives ++ each_numbered (row_svg sessions p.lives) 0 p.rows ++ codes "</svg>\n"
+    head_svg (width_of p) (height_of p) ++ each_numbered session_svg 1 p.sessions ++ each_numbered (row_text_svg sessions) 0 p.rows
+    ++ columns_svg (columns_shift p) ++ each_numbered (life_svg p.lives sessions) 0 p.lives ++ each_numbered (row_marks_svg sessions p.lives) 0 p.rows
+    ++ codes "</g>\n</svg>\n"

@@ -3,3 +3,4 @@ pub mod Texts
 pub mod SlotMessages
 pub mod PaintedMoves
 pub mod SessionNames
+pub mod Cuts

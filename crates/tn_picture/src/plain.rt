@@ -9,7 +9,7 @@ ghost use Rattle.tn_picture.specs.Views.{life_seen, report_seen, picture_row_see
 
 use crate::life::{Life, column_of};
 use crate::picture::Picture;
-use crate::row::{Report, Row};
+use crate::row::{Report, Row, row_text};
 use crate::shape::Shape;
 use crate::templates::{put_filled, put_text};
 use itoa::Buffer;
@@ -213,7 +213,7 @@ fn put_reporters<A: Allocator>(
     Ok(())
 }
 
-/// Appends a row: the number of its move, its cells, its label and who reports it.
+/// Appends a row: the number of its move, its cells, what it shows and who reports it.
 #[tactic(auto, unfolding(def_picture::specs::Plain::row_plain))]
 fn put_row<A: Allocator + Copy>(
     alloc: A,
@@ -228,7 +228,7 @@ fn put_row<A: Allocator + Copy>(
     let mut buffer = Buffer::new();
     put_padded(8, b' ', buffer.format(row.move_number).as_bytes(), out)?;
     put_cells(alloc, lives, number, row.shape, out)?;
-    put_text(&row.label, out)?;
+    put_text(row_text(row), out)?;
     put_reporters(&row.reports, out)?;
     put_text(b"\n", out)
 }

@@ -1,17 +1,18 @@
 // The text of a picture as a graphic.
 ghost use Rattle.std.specs.Prelude.{◌≡◌, ◌++◌, ◌<◌, ◌≤◌, ◌*◌, ◌^◌, OnOk, IfOk, codes, flat_map, length, map, sum};
 ghost use Rattle.def_term.specs.Text.{atom_text};
-ghost use Rattle.def_picture.specs.Svg.{column_width, column_x, process_x, columns_end, row_y, session_x, label_x};
-ghost use Rattle.def_picture.specs.Svg.{hue_of, longest_label};
+ghost use Rattle.def_picture.specs.Svg.{column_width, column_x, process_x, columns_end, row_y, session_x};
+ghost use Rattle.def_picture.specs.Svg.{hue_of, longest_text, is_long, first_letters, whole_svg};
+ghost use Rattle.def_picture.specs.Svg.{columns_shift, columns_svg};
 ghost use Rattle.def_picture.specs.Svg.{arrow_svg, shape_svg, group_svg, spot_svg, report_svg, dashed_svg};
-ghost use Rattle.def_picture.specs.Svg.{marks_svg, move_svg, label_svg, row_svg};
+ghost use Rattle.def_picture.specs.Svg.{marks_svg, move_svg, label_svg, row_text_svg, row_marks_svg};
 ghost use Rattle.def_picture.specs.Svg.{legend_svg, session_svg, life_svg, width_of, height_of, head_svg, svg_text};
-ghost use Rattle.def_picture.specs.Templates.{each_numbered};
+ghost use Rattle.def_picture.specs.Templates.{each_numbered, xml_text};
 ghost use Rattle.tn_picture.specs.Views.{life_seen, report_seen, picture_row_seen, row_shape_seen, picture_seen};
 
 use crate::life::{Life, column_of};
 use crate::picture::Picture;
-use crate::row::{Report, Row};
+use crate::row::{Report, Row, row_text};
 use crate::shape::Shape;
 use crate::templates::{put_filled, put_text, put_xml};
 use std::alloc::{AllocError, Allocator};
@@ -95,14 +96,6 @@ fn session_x(lives: &[Life], session: u64) -> u128
     ensures fits { result < 2 ^ 81 }
 {
     columns_end(lives) + 20 * session as u128
-}
-
-/// Where the labels begin.
-fn label_x(lives: &[Life], sessions: usize) -> u128
-    ensures x { result ≡ label_x (map life_seen lives.now) sessions }
-    ensures fits { result < 2 ^ 82 }
-{
-    session_x(lives, sessions as u64) + 20
 }
 
 /// The colour of a session.
@@ -303,7 +296,7 @@ fn put_move<A: Allocator>(y: u128, move_number: u64, out: &mut Vec<u8, A>) -> Re
     )
 }
 
-/// Appends the start of a label, which is grey where no session reports the row.
+/// Appends the start of a text at this place, which is grey where no session reports the row.
 #[tactic(auto, unfolding(def_picture::specs::Svg::label_svg))]
 fn put_label_start<A: Allocator>(
     x: u128,
@@ -321,9 +314,81 @@ fn put_label_start<A: Allocator>(
     }
 }
 
-/// Appends a row: its marks, the number of its move and its label.
-#[tactic(auto, unfolding(def_picture::specs::Svg::row_svg))]
-fn put_row<A: Allocator>(
+/// How many letters of a text are shown.
+const MOST_LETTERS: usize = 100;
+
+/// Whether a text has more letters than are shown.
+fn is_long(text: &[u8]) -> bool
+    ensures { result ≡ is_long text.now }
+{
+    text.len() > MOST_LETTERS
+}
+
+/// Appends a long text whole, as a tooltip.
+fn put_whole<A: Allocator>(text: &[u8], out: &mut Vec<u8, A>) -> Result<(), AllocError>
+    ensures { OnOk result (out.new.items ≡ out.old.items ++ whole_svg text.now) }
+{
+    if !is_long(text) {
+        return Ok(());
+    }
+    put_text(b"<title>", out)?;
+    put_xml(text, out)?;
+    put_text(b"</title>", out)
+}
+
+/// Appends the first letters of a text, and two dots where there are more.
+#[tactic(auto, using(crate::proofs::Cuts::long_cut, crate::proofs::Cuts::short_cut, crate::proofs::Cuts::front))]
+fn put_cut<A: Allocator>(text: &[u8], out: &mut Vec<u8, A>) -> Result<(), AllocError>
+    ensures { OnOk result (out.new.items ≡ out.old.items ++ xml_text (first_letters text.now)) }
+{
+    if text.len() <= MOST_LETTERS {
+        return put_xml(text, out);
+    }
+    put_xml(&text[..MOST_LETTERS], out)?;
+    put_text(b"..", out)
+}
+
+/// Where the texts of the rows begin.
+const TEXT_X: u128 = 60;
+
+/// Appends the text of a row: the number of its move, and what it shows.
+#[tactic(auto, unfolding(def_picture::specs::Svg::row_text_svg))]
+fn put_row_text<A: Allocator>(
+    sessions: usize,
+    number: usize,
+    row: &Row<A>,
+    out: &mut Vec<u8, A>,
+) -> Result<(), AllocError>
+    ensures { OnOk result (out.new.items ≡ out.old.items ++
+        row_text_svg sessions number (picture_row_seen row.now)) }
+{
+    let y = row_y(sessions, number);
+    let text = row_text(row);
+    put_move(y, row.move_number, out)?;
+    put_label_start(TEXT_X, y, &row.reports, out)?;
+    put_whole(text, out)?;
+    put_cut(text, out)?;
+    put_text(b"</text>\n", out)
+}
+
+/// Appends the texts of the rows.
+fn put_row_texts<A: Allocator>(
+    sessions: usize,
+    rows: &[Row<A>],
+    out: &mut Vec<u8, A>,
+) -> Result<(), AllocError>
+    ensures { OnOk result (out.new.items ≡ out.old.items ++
+        each_numbered (row_text_svg sessions) 0 (map picture_row_seen rows.now)) }
+{
+    for number in 0..rows.len() {
+        put_row_text(sessions, number, &rows[number], out)?;
+    }
+    Ok(())
+}
+
+/// Appends the marks of a row.
+#[tactic(auto, unfolding(def_picture::specs::Svg::row_marks_svg))]
+fn put_row_marks<A: Allocator>(
     sessions: usize,
     lives: &[Life],
     number: usize,
@@ -331,17 +396,13 @@ fn put_row<A: Allocator>(
     out: &mut Vec<u8, A>,
 ) -> Result<(), AllocError>
     ensures { OnOk result (out.new.items ≡ out.old.items ++
-        row_svg sessions (map life_seen lives.now) number (picture_row_seen row.now)) }
+        row_marks_svg sessions (map life_seen lives.now) number (picture_row_seen row.now)) }
 {
     let y = row_y(sessions, number);
-    put_marks(lives, y, row.shape, &row.reports, out)?;
-    put_move(y, row.move_number, out)?;
-    put_label_start(label_x(lives, sessions), y, &row.reports, out)?;
-    put_xml(&row.label, out)?;
-    put_text(b"</text>\n", out)
+    put_marks(lives, y, row.shape, &row.reports, out)
 }
 
-/// Appends the rows.
+/// Appends the marks of the rows.
 fn put_rows<A: Allocator>(
     sessions: usize,
     lives: &[Life],
@@ -349,10 +410,10 @@ fn put_rows<A: Allocator>(
     out: &mut Vec<u8, A>,
 ) -> Result<(), AllocError>
     ensures { OnOk result (out.new.items ≡ out.old.items ++
-        each_numbered (row_svg sessions (map life_seen lives.now)) 0 (map picture_row_seen rows.now)) }
+        each_numbered (row_marks_svg sessions (map life_seen lives.now)) 0 (map picture_row_seen rows.now)) }
 {
     for number in 0..rows.len() {
-        put_row(sessions, lives, number, &rows[number], out)?;
+        put_row_marks(sessions, lives, number, &rows[number], out)?;
     }
     Ok(())
 }
@@ -365,7 +426,7 @@ fn put_legend<A: Allocator>(number: u64, out: &mut Vec<u8, A>) -> Result<(), All
     ensures { OnOk result (out.new.items ≡ out.old.items ++ legend_svg number) }
 {
     put_filled(
-        b"<text x=\"80\" y=\"@\" fill=\"hsl(@,90%,35%)\">session ",
+        b"<text x=\"60\" y=\"@\" fill=\"hsl(@,90%,35%)\">session ",
         &[10 + 20 * number as u128, hue_of(number)],
         out,
     )
@@ -454,23 +515,47 @@ fn put_lives<A: Allocator>(
 
 // ---- the whole
 
-/// The length of the longest label.
-fn longest_label<A: Allocator>(rows: &[Row<A>]) -> usize
-    ensures { result ≡ longest_label (map picture_row_seen rows.now) }
+/// How many letters of a text are shown, with the dots.
+#[tactic(auto, using(crate::proofs::Cuts::long_letters, crate::proofs::Cuts::short_letters))]
+fn shown_letters(text: &[u8]) -> usize
+    ensures letters { result ≡ length (first_letters text.now) }
+    ensures few { result ≤ 102 }
+{
+    if text.len() > MOST_LETTERS {
+        MOST_LETTERS + 2
+    } else {
+        text.len()
+    }
+}
+
+/// The length of the longest text of a row, as it is shown.
+fn longest_text<A: Allocator>(rows: &[Row<A>]) -> usize
+    ensures length { result ≡ longest_text (map picture_row_seen rows.now) }
+    ensures few { result ≤ 102 }
 {
     let mut longest = 0;
     for row in rows {
-        longest = longest.max(row.label.len());
+        longest = longest.max(shown_letters(row_text(row)));
     }
     longest
 }
 
-/// The width, with room for the longest label.
+/// How far the columns are moved to the right, so that they are beside the texts.
+#[tactic(auto, unfolding(def_picture::specs::Svg::columns_shift))]
+fn columns_shift<A: Allocator>(picture: &Picture<A>) -> u128
+    ensures shift { result ≡ columns_shift (picture_seen picture.now) }
+    ensures few { result ≤ 826 }
+{
+    8 * longest_text(&picture.rows) as u128 + 10
+}
+
+/// The width.
 #[tactic(auto, unfolding(def_picture::specs::Svg::width_of))]
 fn width_of<A: Allocator>(picture: &Picture<A>) -> u128
     ensures { result ≡ width_of (picture_seen picture.now) }
 {
-    label_x(&picture.lives, picture.sessions.len()) + 8 * longest_label(&picture.rows) as u128
+    let sessions = picture.sessions.len() as u64;
+    columns_shift(picture) + session_x(&picture.lives, sessions) + 20
 }
 
 /// The height.
@@ -493,6 +578,14 @@ fn put_head<A: Allocator>(width: u128, height: u128, out: &mut Vec<u8, A>) -> Re
     )
 }
 
+/// Appends the start of the columns.
+#[tactic(auto, unfolding(def_picture::specs::Svg::columns_svg))]
+fn put_columns<A: Allocator>(shift: u128, out: &mut Vec<u8, A>) -> Result<(), AllocError>
+    ensures { OnOk result (out.new.items ≡ out.old.items ++ columns_svg shift) }
+{
+    put_filled(b"<g transform=\"translate(@)\">\n", &[shift], out)
+}
+
 /// The text of a picture as a graphic.
 ///
 /// # Errors
@@ -508,8 +601,10 @@ pub fn svg_text<A: Allocator + Copy>(
     let sessions = picture.sessions.len();
     put_head(width_of(picture), height_of(picture), &mut out)?;
     put_sessions(alloc, &picture.sessions, &mut out)?;
+    put_row_texts(sessions, &picture.rows, &mut out)?;
+    put_columns(columns_shift(picture), &mut out)?;
     put_lives(sessions, &picture.lives, &mut out)?;
     put_rows(sessions, &picture.lives, &picture.rows, &mut out)?;
-    put_text(b"</svg>\n", &mut out)?;
+    put_text(b"</g>\n</svg>\n", &mut out)?;
     Ok(out)
 }

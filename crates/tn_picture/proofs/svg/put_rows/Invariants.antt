@@ -1,10 +1,10 @@
 use Rattle.std.proofs.Common.{◌≡◌, ◌++◌, map, drop}
-use Rattle.def_picture.specs.Svg.{row_svg}
+use Rattle.def_picture.specs.Svg.{row_marks_svg}
 use Rattle.def_picture.specs.Templates.{each_numbered}
 use Rattle.tn_picture.specs.Views.{life_seen, picture_row_seen}
 use Rattle.tn_picture.proofs.svg.put_rows.Given as goal
 
 abbrev pub invariant-loop-number : goal.invariant-loop-number
 invariant-loop-number g l =
-    l.out.items ++ each_numbered (row_svg l.sessions (map life_seen l.lives)) l.number (map picture_row_seen (drop l.number l.rows))
-    ≡ l.fn.out.items ++ each_numbered (row_svg l.sessions (map life_seen l.lives)) 0 (map picture_row_seen l.rows)
+    l.out.items ++ each_numbered (row_marks_svg l.sessions (map life_seen l.lives)) l.number (map picture_row_seen (drop l.number l.rows))
+    ≡ l.fn.out.items ++ each_numbered (row_marks_svg l.sessions (map life_seen l.lives)) 0 (map picture_row_seen l.rows)
