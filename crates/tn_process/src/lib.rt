@@ -8,7 +8,7 @@
 //! leaves frames down to the newest that a catch step called; whatever concerns another process comes out
 //! as an act, for the node to carry out; and what is known of the next step before it is made is what
 //! def_outlook says of it. A `StatePart` once more stands for the same, and its values and messages have one
-//! owner more; `same` tells whether two stand for the same; nothing is promised of a fingerprint.
+//! owner more; `same` says whether two stand for the same; nothing is promised of a fingerprint.
 #![tactic(auto)]
 
 mod act;
