@@ -1,6 +1,7 @@
 -- What the code's node stands for, and a step of it.
 use Rattle.std.specs.Prelude.{ℕ, Bool, true, false, List, length, map, Option, Some, None, refl}
 use Rattle.std.specs.Arc.{arc_value}
+use Rattle.std.specs.Option.{option_map}
 use Rattle.std.specs.Coded.{Coded, code_by, coded_ℕ, coded_list, coded×}
 use Rattle.def_script.specs.Program.{Function, Program}
 use Rattle.def_node.specs.Event.{Event}
@@ -59,3 +60,7 @@ node_seen c = record {
   commands = c.commands;
   state = record { world = world_of c.world; taken = c.taken };
 }
+
+-- the state of a node; none where it is spent
+abbrev pub state_in : Option NodeValue → Option node.NodeState
+state_in n = option_map (λ v. v.state) n

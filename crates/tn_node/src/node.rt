@@ -3,7 +3,10 @@ use crate::outlook::Outlook;
 use crate::step_outcome::Moved;
 use crate::world::World;
 use std::alloc::{AllocError, Allocator};
+use std::hash::{FoldHasher, Hasher};
 use std::marker::Model;
+use std::sync::Arc;
+use tn_process::StatePart;
 use tn_program::{Program, SharedFunctions};
 
 /// The processes, and how many commands of the control list were taken.
@@ -152,5 +155,78 @@ impl<A: Allocator + Copy> Node<A> {
         self.state
             .world
             .outlook(self.state.functions.as_slice(), pick)
+    }
+}
+
+impl<A: Allocator + Copy> State<A> {
+    ghost use Rattle.std.specs.Prelude.{◌≡◌, ◌↔◌, IfOk, IsTrue};
+    ghost use Rattle.tn_node.specs.Nodes.{node_seen};
+
+    /// The same state once more. The functions have one owner more.
+    fn share(&self) -> Result<State<A>, AllocError>
+        ensures { IfOk result (λ s. node_seen s ≡ node_seen self.now) }
+    {
+        let functions = Arc::try_clone(&self.functions)?;
+        let world = self.world.share(self.alloc)?;
+        Ok(State {
+            alloc: self.alloc,
+            functions,
+            commands: self.commands,
+            taken: self.taken,
+            world,
+        })
+    }
+
+    /// Whether the processes are the same, and equally many commands were taken.
+    fn same(&self, other: &State<A>) -> bool
+        ensures { IsTrue result ↔ ((node_seen self.now).state ≡ (node_seen other.now).state) }
+    {
+        self.taken == other.taken && self.world.same(&other.world)
+    }
+
+    /// A number that is the same for the same states, and mostly another for others.
+    fn fingerprint(&self) -> u64 {
+        let mut hasher = FoldHasher::default();
+        hasher.write_usize(self.taken);
+        self.world.add_to(&mut hasher);
+        hasher.finish()
+    }
+}
+
+impl<A: Allocator + Copy> Node<A> {
+    ghost use Rattle.std.specs.Prelude.{◌≡◌, ◌↔◌, IfOk, IsTrue};
+    ghost use Rattle.tn_node.specs.Nodes.{state_in};
+
+    /// The same node once more. The functions of the program have one owner more, and so has each term that a
+    /// variable or a mailbox holds.
+    ///
+    /// # Errors
+    ///
+    /// AllocError where memory was refused, or a count of owners is full.
+    pub fn share(&self) -> Result<Node<A>, AllocError>
+        ensures { IfOk result (λ n. n ≡ self.now) }
+    {
+        Ok(Node {
+            state: self.state.share()?,
+            is_spent: self.is_spent,
+        })
+    }
+
+    /// Whether both nodes are in the same state. Their programs are not compared. Nodes that are spent are the same.
+    pub fn same(&self, other: &Node<A>) -> bool
+        ensures { IsTrue result ↔ (state_in self.now ≡ state_in other.now) }
+    {
+        if self.is_spent || other.is_spent {
+            return self.is_spent == other.is_spent;
+        }
+        self.state.same(&other.state)
+    }
+
+    /// A number that is the same for nodes in the same state, and mostly another for others.
+    pub fn fingerprint(&self) -> u64 {
+        if self.is_spent {
+            return 0;
+        }
+        self.state.fingerprint()
     }
 }
