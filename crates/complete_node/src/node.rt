@@ -36,6 +36,25 @@ pub fn step<A: Allocator + Copy>(
     (first, second)
 }
 
+/// `tn_node::Node::share` has one answer.
+pub fn share<A: Allocator + Copy>(
+    one: &Node<A>,
+    other: &Node<A>,
+) -> (Result<Node<A>, AllocError>, Result<Node<A>, AllocError>)
+    requires { one.now ≡ other.now }
+    ensures { IfOk result.0 (λ n. IfOk result.1 (λ k. n ≡ k)) }
+{
+    (one.share(), other.share())
+}
+
+/// `tn_node::Node::same` has one answer.
+pub fn same<A: Allocator + Copy>(one: &Node<A>, other: &Node<A>, node: &Node<A>) -> (bool, bool)
+    requires { one.now ≡ other.now }
+    ensures { result.0 ≡ result.1 }
+{
+    (one.same(node), other.same(node))
+}
+
 /// `tn_node::Node::outlook` has one answer.
 pub fn outlook<A: Allocator + Copy>(one: &Node<A>, other: &Node<A>, pick: u32) -> (Outlook, Outlook)
     requires { one.now ≡ other.now }
