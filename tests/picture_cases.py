@@ -46,6 +46,13 @@ def tooltips(picture):
             yield group.get("stroke"), [title.text for title in titles]
 
 
+def is_shown(text, title):
+    """Whether a text is short, or has 100 letters of its tooltip and two dots."""
+    if title is None:
+        return len(text) <= 100
+    return len(title.text) > 100 and title.tail == f"{title.text[:100]}.."
+
+
 def pictures():
     """The picture of each example parses; each line of a listing is one tooltip, in order, in its session's colour."""
     for script in sorted(EXAMPLES.glob("*.term")):
@@ -60,8 +67,10 @@ def pictures():
         numbers = range(1, len(wanted) + 1)
         seen = [[title for colour, titles in marks if colour == hue(number) for title in titles] for number in numbers]
         check(f"the tooltips of example {script.stem}", seen == wanted, (seen, wanted))
-        titles = sum(1 for _ in picture.iter(f"{SVG}title"))
+        titles = sum(len(group.findall(f"{SVG}title")) for group in picture.iter(f"{SVG}g"))
         check(f"the number of tooltips of example {script.stem}", titles == sum(map(len, wanted)) == len(marks), titles)
+        cut = [(part.text or "", part.find(f"{SVG}title")) for part in picture.iter(f"{SVG}text")]
+        check(f"the texts of example {script.stem}", all(is_shown(*pair) for pair in cut), cut)
         plain = run(["draw", "--picks", picks, "--text"], text).stdout.decode().splitlines()
         counts = [sum(line.split().count(f"=>{number}") for line in plain[len(wanted) :]) for number in numbers]
         check(f"the lines of example {script.stem}", counts == list(map(len, wanted)), counts)
@@ -119,6 +128,11 @@ def columns():
     check("the frames of deep calls", {start - lines[0] for start in starts} >= set(range(8, 8 * 52, 8)), starts)
     own = [start for start in starts if start < lines[1]]
     check("a frame between two lines", len(own) == len(starts) - 1 and max(own) + 9 < lines[1] - 6, (own, lines))
+    shift = [re.fullmatch(r"translate\((\d+)\)", group.get("transform") or "") for group in picture.iter(f"{SVG}g")]
+    shift = int(next(found for found in shift if found)[1])
+    # the letters are 8 wide, and the line of a command is the leftmost mark
+    ends = [int(text.get("x")) + 8 * len(text.text or "") for text in picture.iter(f"{SVG}text") if text.get("x") == "60"]
+    check("no text is over a mark", max(ends) <= shift + 50, (ends, shift))
     # 52 calls, 51 returns and an exit
     texts = [(text.text, text.get("fill")) for text in picture.iter(f"{SVG}text") if (text.text or "").startswith("{trace,")]
     check("the texts of calls", len(texts) == 104 and all((",call," in text) == (fill is None) for text, fill in texts), texts)
