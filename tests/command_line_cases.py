@@ -142,7 +142,7 @@ def command_lines():
         wants(f"version by {word}", run([word]), 0, f"tracenode {said_version()}\n".encode() + logic)
     for word in ("--help", "-h"):
         ran = run([word])
-        names = (b"run", b"replay", b"round", b"workers", b"explain", b"draw", b"spec", b"Example:", b"Exit status:", b"A pick says")
+        names = (b"run", b"replay", b"round", b"workers", b"explain", b"draw", b"spec", b"Examples:", b"Exit status:", b"A pick says")
         good = ran.returncode == 0 and all(name in ran.stdout for name in names)
         check(f"help by {word}", good and not ran.stderr, ran)
     wrong = {
@@ -188,7 +188,7 @@ def command_lines():
         wants(f"picks {text!r}", run(["replay", "--picks", text], SEND_HI), 2, bad_picks)
     wants("the greatest pick", run(["replay", "--picks", "4294967295"]), 0, EMPTY, NO_FORMS + note_of_nobody(1, 4294967295))
     texts = b"<--picks <TEXT>|--picks-file <FILE>|--moves <TEXT>|--moves-file <FILE>"
-    for command, either in (("replay", texts + b">"), ("explain", texts + b"|--round>"), ("draw", texts + b">")):
+    for command, either in (("replay", texts + b">"), ("explain", texts + b"|--round>"), ("draw", texts + b"|--round>")):
         ran = run([command])
         usage = f"Usage: tracenode {command} ".encode() + either + b" [SCRIPT]\n"
         check(f"{command} without picks names all sources of picks", usage in ran.stderr, ran)

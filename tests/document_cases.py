@@ -29,7 +29,7 @@ def documents():
     """The man page and the completions name the commands and options of the help, and no others."""
     helps = {word: run([*word, "--help"]).stdout.decode() for word in ((), *COMMANDS)}
     commands = set(re.findall(r"^  ([a-z]+) ", helps[()], re.M))
-    options = set(re.findall(r"--[a-z-]+", "".join(text.partition("\nExample:")[0] for text in helps.values())))
+    options = set(re.findall(r"--[a-z-]+", "".join(text.partition("\nExamples:")[0] for text in helps.values())))
     check("the help has commands and options", len(commands) >= 5 and len(options) >= 9, (commands, options))
     files = [TOP / "docs" / "tracenode.1", *sorted((TOP / "completions").iterdir())]
     for file in files:

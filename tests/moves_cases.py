@@ -154,7 +154,6 @@ def bad_moves():
         ["replay", "--moves"],
         ["explain", "--round", "--moves", "0"],
         ["draw", "--moves", "0", "--picks", "0"],
-        ["draw", "--round"],
         ["explain", "--picks", "0", "--limit", "5"],
         ["explain", "--picks", "0", "--control", "first"],
         ["explain", "--round", "--limit", "0"],
