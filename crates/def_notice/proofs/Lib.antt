@@ -1,0 +1,3 @@
+pub mod LineFeeds
+pub mod NoticeLines
+mod NoticeRows

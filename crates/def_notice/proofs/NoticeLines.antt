@@ -1,0 +1,146 @@
+-- What is said has the line feeds of the words that it is given, and few of its own.
+use Rattle.std.proofs.Common.{◌≡◌, ◌+◌, ℕ, List, ◌++◌, codes, decimal, refl, ◌∙◌, arith, Some, None}
+use Rattle.def_text.specs.Places.{line_feeds}
+use Rattle.def_text.proofs.Columns.{line_feeds-append}
+use Rattle.def_notice.specs.FaultTexts.{CommandFault, of_reading, of_writing, of_memory, of_workers, of_bytes, of_listings, output_text, fault_text}
+use Rattle.def_notice.specs.DifferenceTexts.{Side, expected_output, found_output, OutputDifference, one_line, two_lines, lines_without_text, last_line_feed, no_line, end_of_output, more_lines, more_differences, side_text, numbered_line, output_difference_text}
+use Rattle.def_notice.specs.NoticeTexts.{NodeCommand, by_same_picks, by_journal, node_command_text, TestText, the_list, the_caller, the_specification, TestTextFault, is_no_list, is_no_function, fault_in_words, ReadBeside, picks_beside, moves_beside, Notice, given_line, of_fault, of_fault_because, no_file, both_from_input, no_value, of_test_text, no_session, no_move, no_node_move, no_forms, pick_of_nobody, node_moves, of_difference, lacks_a_line, has_a_line, notice_text}
+use Rattle.def_notice.specs.NoticeLaws.{words_of_notice, line_feeds_of_notice}
+use Rattle.def_notice.proofs.LineFeeds.{decimal_has_none}
+
+-- ---- texts put together
+
+-- before a text without line feeds
+before_none : (xs ys : List ℕ) → line_feeds ys ≡ 0 → line_feeds (xs ++ ys) ≡ line_feeds xs
+before_none xs ys e = omega (arith, e, line_feeds-append xs ys)
+
+before_number : (xs : List ℕ) (n : ℕ) → line_feeds (xs ++ decimal n) ≡ line_feeds xs
+before_number xs n = before_none xs (decimal n) (decimal_has_none n)
+
+-- ---- faults
+
+output_is_a_line : (bytes : List ℕ) (most : ℕ) → line_feeds bytes ≡ 0 → line_feeds (output_text bytes most) ≡ 0
+output_is_a_line bytes most e = before_number (bytes ++ codes " bytes, and --max-output is ") most ∙ before_none bytes (codes " bytes, and --max-output is ") refl ∙ e
+
+fault_is_a_line : (f : CommandFault) → line_feeds (fault_text f) ≡ 0
+fault_is_a_line of_reading = refl
+fault_is_a_line (of_writing n) = before_none (decimal n) (codes " bytes") refl ∙ decimal_has_none n
+fault_is_a_line of_memory = refl
+fault_is_a_line of_workers = refl
+fault_is_a_line (of_bytes n most) = output_is_a_line (decimal n) most (decimal_has_none n)
+fault_is_a_line (of_listings most) = output_is_a_line (codes "more than " ++ decimal most) most (decimal_has_none most)
+
+-- ---- differences
+
+side_is_a_line : (s : Side) → line_feeds (side_text s) ≡ 0
+side_is_a_line expected_output = refl
+side_is_a_line found_output = refl
+
+-- a side and words
+side_and_words : (s : Side) (words : List ℕ) → line_feeds words ≡ 0 → line_feeds (side_text s ++ words) ≡ 0
+side_and_words s words e = before_none (side_text s) words e ∙ side_is_a_line s
+
+side_and_number : (s : Side) (n : ℕ) → line_feeds (side_text s ++ codes " line " ++ decimal n) ≡ 0
+side_and_number s n = before_number (side_text s ++ codes " line ") n ∙ side_and_words s (codes " line ") refl
+
+text_of_line : (s : Side) (n : ℕ) (text : List ℕ) → line_feeds (numbered_line s n (Some text)) ≡ line_feeds text
+text_of_line s n text =
+    let front = side_text s ++ codes " line " ++ decimal n in
+    omega (arith, line_feeds-append (front ++ codes ": ") text, before_none front (codes ": ") refl, side_and_number s n)
+
+no_text_of_line : (s : Side) (n : ℕ) → line_feeds (numbered_line s n None) ≡ 0
+no_text_of_line s n = before_none (side_text s ++ codes " line " ++ decimal n) (codes ", which isn't printable") refl ∙ side_and_number s n
+
+-- two lines, with a line feed between them
+both_lines : (n : ℕ) (one other : List ℕ) → line_feeds (output_difference_text (two_lines n one other)) ≡ line_feeds (one ++ other) + 1
+both_lines n one other =
+    let first = numbered_line expected_output n (Some one) in
+    let second = numbered_line found_output n (Some other) in
+    let split : line_feeds (first ++ codes "\n") ≡ line_feeds first + 1 = line_feeds-append first (codes "\n") in
+    omega (arith, split, line_feeds-append (first ++ codes "\n") second, text_of_line expected_output n one, text_of_line found_output n other, line_feeds-append one other)
+
+difference_is_a_line : (x : OutputDifference) → line_feeds (notice_text (of_difference x)) ≡ line_feeds (words_of_notice (of_difference x)) + line_feeds_of_notice (of_difference x)
+difference_is_a_line (one_line s n (Some text)) = omega (arith, text_of_line s n text)
+difference_is_a_line (one_line s n None) = no_text_of_line s n
+difference_is_a_line (two_lines n one other) = both_lines n one other
+difference_is_a_line (lines_without_text n) = before_none (decimal n) (codes " differs") refl ∙ decimal_has_none n
+difference_is_a_line (last_line_feed n) = before_none (decimal n) (codes " differs in the line feed at its end") refl ∙ decimal_has_none n
+difference_is_a_line (no_line s) = side_and_words s (codes " no line here") refl
+difference_is_a_line (end_of_output s) = side_and_words s (codes " the end of the output") refl
+difference_is_a_line (more_lines s) = side_and_words s (codes " more lines") refl
+difference_is_a_line more_differences = refl
+
+-- ---- what else is said
+
+beside_is_a_line : (what : ReadBeside) → line_feeds (notice_text (both_from_input what)) ≡ 0
+beside_is_a_line picks_beside = refl
+beside_is_a_line moves_beside = refl
+
+test_is_a_line : (t : TestText) (f : TestTextFault) → line_feeds (notice_text (of_test_text t f)) ≡ line_feeds (words_of_notice (of_test_text t f)) + 0
+test_is_a_line the_list is_no_list = refl
+test_is_a_line the_list is_no_function = refl
+test_is_a_line the_list (fault_in_words words) = omega arith
+test_is_a_line the_caller is_no_list = refl
+test_is_a_line the_caller is_no_function = refl
+test_is_a_line the_caller (fault_in_words words) = omega arith
+test_is_a_line the_specification is_no_list = refl
+test_is_a_line the_specification is_no_function = refl
+test_is_a_line the_specification (fault_in_words words) = omega arith
+
+command_is_a_line : (c : NodeCommand) → line_feeds (node_command_text c) ≡ 0
+command_is_a_line by_same_picks = refl
+command_is_a_line by_journal = refl
+
+moves_are_a_line : (n m : ℕ) (c : NodeCommand) → line_feeds (notice_text (node_moves n m c)) ≡ 0
+moves_are_a_line n m c =
+    let differing = decimal n ++ codes " of " in
+    let moves = differing ++ decimal m ++ codes " moves; " in
+    before_none (moves ++ node_command_text c) (codes " shows where") refl
+    ∙ before_none moves (node_command_text c) (command_is_a_line c)
+    ∙ before_none (differing ++ decimal m) (codes " moves; ") refl
+    ∙ before_number differing m
+    ∙ before_none (decimal n) (codes " of ") refl
+    ∙ decimal_has_none n
+
+pick_is_a_line : (n pick : ℕ) → line_feeds (notice_text (pick_of_nobody n pick)) ≡ 0
+pick_is_a_line n pick =
+    before_none (decimal n ++ codes " is " ++ decimal pick) (codes ", and no process has that pid: pids are 100 to 163, and 0 takes the next command") refl
+    ∙ before_number (decimal n ++ codes " is ") pick
+    ∙ before_none (decimal n) (codes " is ") refl
+    ∙ decimal_has_none n
+
+value_is_three_lines : (text option reason : List ℕ) → line_feeds (notice_text (no_value text option reason)) ≡ line_feeds (text ++ option ++ reason) + 2
+value_is_three_lines text option reason =
+    let end = codes "\n\nFor more information, try '--help'." in
+    let one = text ++ codes "' for '" in
+    let two = one ++ option ++ codes "': " in
+    let last : line_feeds (notice_text (no_value text option reason)) ≡ line_feeds (two ++ reason) + 2 = line_feeds-append (two ++ reason) end in
+    omega (arith, last, line_feeds-append two reason, before_none (one ++ option) (codes "': ") refl, line_feeds-append one option, before_none text (codes "' for '") refl, line_feeds-append (text ++ option) reason, line_feeds-append text option)
+
+file_is_a_line : (path reason : List ℕ) → line_feeds (notice_text (no_file path reason)) ≡ line_feeds (path ++ reason) + 0
+file_is_a_line path reason =
+    let last : line_feeds (notice_text (no_file path reason)) ≡ line_feeds (path ++ codes ": ") + line_feeds reason = line_feeds-append (path ++ codes ": ") reason in
+    omega (arith, last, before_none path (codes ": ") refl, line_feeds-append path reason)
+
+reason_is_a_line : (f : CommandFault) (reason : List ℕ) → line_feeds (notice_text (of_fault_because f reason)) ≡ line_feeds reason + 0
+reason_is_a_line f reason =
+    let last : line_feeds (notice_text (of_fault_because f reason)) ≡ line_feeds (fault_text f ++ codes ": ") + line_feeds reason = line_feeds-append (fault_text f ++ codes ": ") reason in
+    omega (arith, last, before_none (fault_text f) (codes ": ") refl, fault_is_a_line f)
+
+pub notice_is_a_line : (n : Notice) → line_feeds (notice_text n) ≡ line_feeds (words_of_notice n) + line_feeds_of_notice n
+notice_is_a_line (given_line line) = omega arith
+notice_is_a_line (of_fault f) = fault_is_a_line f
+notice_is_a_line (of_fault_because f reason) = reason_is_a_line f reason
+notice_is_a_line (no_file path reason) = file_is_a_line path reason
+notice_is_a_line (both_from_input what) = beside_is_a_line what
+notice_is_a_line (no_value text option reason) = value_is_three_lines text option reason
+notice_is_a_line (of_test_text t f) = test_is_a_line t f
+notice_is_a_line (no_session name) = omega arith
+notice_is_a_line (no_move n) = decimal_has_none n
+notice_is_a_line no_node_move = refl
+notice_is_a_line no_forms = refl
+notice_is_a_line (pick_of_nobody n pick) = pick_is_a_line n pick
+notice_is_a_line (node_moves n m c) = moves_are_a_line n m c
+notice_is_a_line (of_difference x) = difference_is_a_line x
+notice_is_a_line (lacks_a_line line) = omega arith
+notice_is_a_line (has_a_line line) = omega arith

@@ -1,0 +1,44 @@
+-- What an output that isn't the one that is expected has otherwise, and the line that says it (own): the exit status is 1.
+-- Depends on nothing. Lines are counted from 1, and a line that isn't printable has no text here.
+use Rattle.std.specs.Prelude.{ℕ, List, ◌++◌, Option, Some, None, codes, decimal}
+
+-- one of the two outputs
+pub data Side : Type 0 where
+  expected_output : Side
+  found_output : Side
+
+abbrev pub side_text : Side → List ℕ
+side_text expected_output = codes "expected"
+side_text found_output = codes "found"
+
+-- what there is to say
+pub data OutputDifference : Type 0 where
+  -- a line that the other output lacks
+  one_line : Side → (number : ℕ) → (text : Option (List ℕ)) → OutputDifference
+  -- two lines of one number; they have texts where both are printable
+  two_lines : (number : ℕ) → (expected found : List ℕ) → OutputDifference
+  lines_without_text : (number : ℕ) → OutputDifference
+  -- the same, but for the line feed at the end
+  last_line_feed : (number : ℕ) → OutputDifference
+  -- lines are missing here: lines of both come after them, or none
+  no_line : Side → OutputDifference
+  end_of_output : Side → OutputDifference
+  -- there is more to say
+  more_lines : Side → OutputDifference
+  more_differences : OutputDifference
+
+-- a line with its number
+abbrev pub numbered_line : Side → ℕ → Option (List ℕ) → List ℕ
+numbered_line side n None = side_text side ++ codes " line " ++ decimal n ++ codes ", which isn't printable"
+numbered_line side n (Some text) = side_text side ++ codes " line " ++ decimal n ++ codes ": " ++ text
+
+-- the line, or of two lines with texts both
+abbrev pub output_difference_text : OutputDifference → List ℕ
+output_difference_text (one_line side n text) = numbered_line side n text
+output_difference_text (two_lines n one other) = numbered_line expected_output n (Some one) ++ codes "\n" ++ numbered_line found_output n (Some other)
+output_difference_text (lines_without_text n) = codes "line " ++ decimal n ++ codes " differs"
+output_difference_text (last_line_feed n) = codes "line " ++ decimal n ++ codes " differs in the line feed at its end"
+output_difference_text (no_line side) = side_text side ++ codes " no line here"
+output_difference_text (end_of_output side) = side_text side ++ codes " the end of the output"
+output_difference_text (more_lines side) = side_text side ++ codes " more lines"
+output_difference_text more_differences = codes "more lines may differ"

@@ -1,0 +1,5 @@
+pub mod FaultTexts
+pub mod MovesTexts
+pub mod DifferenceTexts
+pub mod NoticeTexts
+pub mod NoticeLaws

@@ -1,0 +1,69 @@
+-- Why a text of moves is refused, and the line that says it (own): the exit status is 2.
+-- Depends on the texts of atoms and pids, on the first pid, on places in a text and on what is printable.
+use Rattle.std.specs.Prelude.{ℕ, suc, List, [], ◌∷◌, ◌++◌, map, codes, decimal, if◌then◌else◌}
+use Rattle.def_term.specs.Alive.{FIRST_PID}
+use Rattle.def_term.specs.Names.{Name}
+use Rattle.def_term.specs.Text.{atom_text, pid_text}
+use Rattle.def_text.specs.Places.{LineColumn}
+use Rattle.def_text.specs.Tokens.{is_printable}
+
+-- why no directive stands at a piece of the text
+pub data MovesReason : Type 0 where
+  -- nothing that may move stands there
+  no_mover : MovesReason
+  -- a digit is first, and what stands there is no number, or not how often it moves
+  no_number : MovesReason
+  -- how often the process with this name moves isn't what stands after it
+  no_count : (name : List ℕ) → MovesReason
+  -- no initial process starts in a function of this name; in these they start
+  no_start : (name : List ℕ) → (functions : List Name) → MovesReason
+  -- several do, which have these pids
+  many_starts : (name : List ℕ) → (pids : List ℕ) → MovesReason
+  -- it isn't known in which functions initial processes start
+  no_program : MovesReason
+
+-- a question mark in place of each byte that isn't printable
+abbrev pub plain_byte : ℕ → ℕ
+plain_byte b = if is_printable b then b else 63
+
+abbrev pub plain_bytes : List ℕ → List ℕ
+plain_bytes bytes = map plain_byte bytes
+
+-- each pid, with this between it and what comes before
+abbrev pub pids_after : List ℕ → List ℕ → List ℕ
+pids_after between [] = []
+pids_after between (n ∷ ns) = between ++ pid_text n ++ pids_after (codes ", ") ns
+
+-- pids with commas between them
+abbrev pub pids_text : List ℕ → List ℕ
+pids_text ns = pids_after [] ns
+
+-- each function in which an initial process starts, with its pid, the first of which this is
+abbrev pub starts_after : List ℕ → ℕ → List Name → List ℕ
+starts_after between pid [] = []
+starts_after between pid (f ∷ fs) = between ++ atom_text f ++ codes " is " ++ pid_text pid ++ starts_after (codes ", ") (suc pid) fs
+
+-- of all initial processes
+abbrev pub starts_text : List Name → List ℕ
+starts_text fs = starts_after (codes "; ") FIRST_PID fs
+
+-- the reason in words
+abbrev pub moves_reason_text : MovesReason → List ℕ
+moves_reason_text no_mover = codes "a number, a name or `*` alone is expected"
+moves_reason_text no_number = codes "a number below 4294967296 without a leading zero is expected, and then nothing, `!` or `*` with a number up to 65535"
+moves_reason_text (no_count name) = codes "after " ++ plain_bytes name ++ codes " nothing, `!` or `*` with a number up to 65535 is expected"
+moves_reason_text (no_start name fs) = codes "no initial process starts in a function '" ++ plain_bytes name ++ codes "'" ++ starts_text fs
+moves_reason_text (many_starts name ns) = codes "several initial processes start in a function " ++ plain_bytes name ++ codes ": " ++ pids_text ns
+moves_reason_text no_program = []
+
+-- why a text of moves is refused
+pub data BadMoves : Type 0 where
+  -- it has more bytes than a text may have
+  too_many_bytes : BadMoves
+  -- no directive stands at this place
+  no_directive_at : LineColumn → MovesReason → BadMoves
+
+-- the line
+abbrev pub bad_moves_text : BadMoves → List ℕ
+bad_moves_text too_many_bytes = codes "moves: longer than 1048576 bytes"
+bad_moves_text (no_directive_at p r) = codes "moves:" ++ decimal p.line ++ codes ":" ++ decimal p.column ++ codes ": " ++ moves_reason_text r

@@ -1,0 +1,106 @@
+-- A line that a command says beside its output, on standard error (own).
+-- Depends on faults and on how an output differs from the one that is expected.
+use Rattle.std.specs.Prelude.{ℕ, List, ◌++◌, Option, Some, None, codes, decimal}
+use Rattle.def_notice.specs.FaultTexts.{CommandFault, of_memory, fault_text, SystemReason, broken_pipe, refused_memory, in_words}
+use Rattle.def_notice.specs.DifferenceTexts.{OutputDifference, output_difference_text}
+
+-- which command shows where a running node differs
+pub data NodeCommand : Type 0 where
+  -- by the same picks
+  by_same_picks : NodeCommand
+  -- by the picks of the journal
+  by_journal : NodeCommand
+
+abbrev pub node_command_text : NodeCommand → List ℕ
+node_command_text by_same_picks = codes "explain --node"
+node_command_text by_journal = codes "explain --node, by the picks of the journal,"
+
+-- a text of the test of a match specification
+pub data TestText : Type 0 where
+  the_list : TestText
+  the_caller : TestText
+  the_specification : TestText
+
+abbrev pub test_text_name : TestText → List ℕ
+test_text_name the_list = codes "list"
+test_text_name the_caller = codes "caller"
+test_text_name the_specification = codes "specification"
+
+-- why a text of a test isn't what it should be
+pub data TestTextFault : Type 0 where
+  -- it is no list
+  is_no_list : TestTextFault
+  -- it is no {Module,Function,Arity}
+  is_no_function : TestTextFault
+  -- another reason, in words
+  fault_in_words : List ℕ → TestTextFault
+
+abbrev pub test_fault_text : TestTextFault → List ℕ
+test_fault_text is_no_list = codes "no list"
+test_fault_text is_no_function = codes "no {Module,Function,Arity}"
+test_fault_text (fault_in_words words) = words
+
+-- what can't be read from standard input beside the script
+pub data ReadBeside : Type 0 where
+  picks_beside : ReadBeside
+  moves_beside : ReadBeside
+
+abbrev pub read_beside_text : ReadBeside → List ℕ
+read_beside_text picks_beside = codes "picks"
+read_beside_text moves_beside = codes "moves"
+
+-- what is said
+pub data Notice : Type 0 where
+  -- a line that another definition has: of a refusal, of the remarks on a run, of the notes on a test
+  given_line : List ℕ → Notice
+  -- a fault, and one with the system's reason
+  of_fault : CommandFault → Notice
+  of_fault_because : CommandFault → (reason : List ℕ) → Notice
+  -- a file that can't be opened, and the system's reason
+  no_file : (path reason : List ℕ) → Notice
+  -- the command line
+  both_from_input : ReadBeside → Notice
+  no_value : (text option reason : List ℕ) → Notice
+  -- a text of the test of a match specification
+  of_test_text : TestText → TestTextFault → Notice
+  -- what is asked of an account: there is no such session, no such move, and no move at which a running node differs
+  no_session : (name : List ℕ) → Notice
+  no_move : (number : ℕ) → Notice
+  no_node_move : Notice
+  -- of a run
+  no_forms : Notice
+  pick_of_nobody : (number pick : ℕ) → Notice
+  node_moves : (differing moves : ℕ) → NodeCommand → Notice
+  -- of an output that isn't what is expected
+  of_difference : OutputDifference → Notice
+  lacks_a_line : (line : List ℕ) → Notice
+  has_a_line : (line : List ℕ) → Notice
+
+-- the line
+abbrev pub notice_text : Notice → List ℕ
+notice_text (given_line line) = line
+notice_text (of_fault f) = fault_text f
+notice_text (of_fault_because f reason) = fault_text f ++ codes ": " ++ reason
+notice_text (no_file path reason) = codes "error: " ++ path ++ codes ": " ++ reason
+notice_text (both_from_input what) = codes "error: the script and the " ++ read_beside_text what ++ codes " can't both be standard input"
+notice_text (no_value text option reason) =
+    codes "error: invalid value '" ++ text ++ codes "' for '" ++ option ++ codes "': " ++ reason ++ codes "\n\nFor more information, try '--help'."
+notice_text (of_test_text text f) = test_text_name text ++ codes ": " ++ test_fault_text f
+notice_text (no_session name) = codes "error: the script creates no session " ++ name
+notice_text (no_move n) = codes "error: the run has no move " ++ decimal n
+notice_text no_node_move = codes "note: a running node is known to do nothing otherwise there"
+notice_text no_forms = codes "note: the script has no forms"
+notice_text (pick_of_nobody n pick) =
+    codes "note: pick " ++ decimal n ++ codes " is " ++ decimal pick ++ codes ", and no process has that pid: pids are 100 to 163, and 0 takes the next command"
+notice_text (node_moves n m command) =
+    codes "note: a running node differs at " ++ decimal n ++ codes " of " ++ decimal m ++ codes " moves; " ++ node_command_text command ++ codes " shows where"
+notice_text (of_difference x) = output_difference_text x
+notice_text (lacks_a_line line) = codes "error: the output has no line " ++ line
+notice_text (has_a_line line) = codes "error: the output has the line " ++ line
+
+-- what is said of a fault, where the system gives this reason: nothing where whoever read the output is gone
+abbrev pub notice_of_fault : CommandFault → Option SystemReason → Option Notice
+notice_of_fault f None = Some (of_fault f)
+notice_of_fault f (Some broken_pipe) = None
+notice_of_fault f (Some refused_memory) = Some (of_fault of_memory)
+notice_of_fault f (Some (in_words reason)) = Some (of_fault_because f reason)
