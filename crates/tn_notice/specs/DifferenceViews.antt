@@ -1,0 +1,22 @@
+-- What the code's differences of outputs stand for.
+-- Depends on differences of outputs.
+use Rattle.std.specs.Option.{option_map}
+use Rattle.def_notice.specs.DifferenceTexts as texts
+use Rattle.tn_notice.specs.declared.difference.Side.{Side}
+use Rattle.tn_notice.specs.declared.difference.Side.TheVariants.{Expected, Found}
+use Rattle.tn_notice.specs.declared.difference.OutputDifference.{OutputDifference}
+use Rattle.tn_notice.specs.declared.difference.OutputDifference.TheVariants.{OneLine, TwoLines, LinesWithoutText, LastLineFeed, NoLine, EndOfOutput, MoreLines, MoreDifferences}
+
+abbrev pub side_seen : Side → texts.Side
+side_seen Expected = texts.expected_output
+side_seen Found = texts.found_output
+
+abbrev pub difference_seen_of : OutputDifference → texts.OutputDifference
+difference_seen_of (OneLine side n text) = texts.one_line (side_seen side) n (option_map (λ t. t.now) text)
+difference_seen_of (TwoLines n one other) = texts.two_lines n one.now other.now
+difference_seen_of (LinesWithoutText n) = texts.lines_without_text n
+difference_seen_of (LastLineFeed n) = texts.last_line_feed n
+difference_seen_of (NoLine side) = texts.no_line (side_seen side)
+difference_seen_of (EndOfOutput side) = texts.end_of_output (side_seen side)
+difference_seen_of (MoreLines side) = texts.more_lines (side_seen side)
+difference_seen_of MoreDifferences = texts.more_differences

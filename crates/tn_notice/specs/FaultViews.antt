@@ -1,0 +1,25 @@
+-- What the code's faults stand for.
+-- Depends on faults.
+use Rattle.std.specs.Prelude.{Option}
+use Rattle.std.specs.Option.{option_map}
+use Rattle.def_notice.specs.FaultTexts as texts
+use Rattle.tn_notice.specs.declared.fault.CommandFault.{CommandFault}
+use Rattle.tn_notice.specs.declared.fault.CommandFault.TheVariants as faults
+use Rattle.tn_notice.specs.declared.fault.SystemReason.{SystemReason}
+use Rattle.tn_notice.specs.declared.fault.SystemReason.TheVariants as reasons
+
+abbrev pub fault_seen : CommandFault → texts.CommandFault
+fault_seen faults.Read = texts.of_reading
+fault_seen (faults.Write written) = texts.of_writing written
+fault_seen faults.Memory = texts.of_memory
+fault_seen faults.Workers = texts.of_workers
+fault_seen (faults.Bytes bytes most) = texts.of_bytes bytes most
+fault_seen (faults.Listings most) = texts.of_listings most
+
+abbrev pub reason_seen : SystemReason → texts.SystemReason
+reason_seen reasons.BrokenPipe = texts.broken_pipe
+reason_seen reasons.NoMemory = texts.refused_memory
+reason_seen (reasons.Words words) = texts.in_words words.now
+
+abbrev pub reasons_seen : Option SystemReason → Option texts.SystemReason
+reasons_seen r = option_map reason_seen r

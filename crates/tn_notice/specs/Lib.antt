@@ -1,0 +1,4 @@
+pub mod FaultViews
+pub mod DifferenceViews
+pub mod TestViews
+pub mod NoticeViews

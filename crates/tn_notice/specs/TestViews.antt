@@ -1,0 +1,17 @@
+-- What the code's texts of a test stand for.
+-- Depends on what is said beside an output.
+use Rattle.def_notice.specs.NoticeTexts as texts
+use Rattle.tn_notice.specs.declared.test_text.TestText.{TestText}
+use Rattle.tn_notice.specs.declared.test_text.TestText.TheVariants as names
+use Rattle.tn_notice.specs.declared.test_text.TestTextFault.{TestTextFault}
+use Rattle.tn_notice.specs.declared.test_text.TestTextFault.TheVariants as faults
+
+abbrev pub test_text_seen : TestText → texts.TestText
+test_text_seen names.List = texts.the_list
+test_text_seen names.Caller = texts.the_caller
+test_text_seen names.Specification = texts.the_specification
+
+abbrev pub test_fault_seen : TestTextFault → texts.TestTextFault
+test_fault_seen faults.NoList = texts.is_no_list
+test_fault_seen faults.NoFunction = texts.is_no_function
+test_fault_seen (faults.Words words) = texts.fault_in_words words.now

@@ -1,0 +1,15 @@
+//! What a command says beside its output, on standard error, and the one function that prints it.
+//!
+//! Depends on def_notice, tn_text and tn_script. Promises that what a notice shows is its defined line, and that the
+//! line of a refused text of moves is the defined one. It takes no memory to show a notice.
+#![tactic(auto)]
+
+mod difference;
+mod fault;
+mod notice;
+mod test_text;
+
+pub use difference::{OutputDifference, Side};
+pub use fault::{CommandFault, SystemReason, notice_of_fault};
+pub use notice::{NodeCommand, Notice, ReadBeside, print_notice};
+pub use test_text::{TestText, TestTextFault};

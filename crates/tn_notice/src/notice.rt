@@ -1,0 +1,168 @@
+// What a command says beside its output.
+ghost use Rattle.std.specs.Prelude.{Some};
+ghost use Rattle.def_notice.specs.NoticeTexts.{node_command_text, notice_text, read_beside_text};
+ghost use Rattle.tn_notice.specs.NoticeViews.{beside_seen, command_seen_of, notice_seen};
+
+use crate::difference::OutputDifference;
+use crate::fault::CommandFault;
+use crate::test_text::{TestText, TestTextFault};
+use std::fmt;
+use std::fmt::{Display, Formatter, Write};
+
+/// Which command shows where a running node differs.
+#[derive(Clone, Copy)]
+pub enum NodeCommand {
+    /// `explain --node`, by the same picks.
+    SamePicks,
+    /// By the picks of the journal.
+    Journal,
+}
+
+impl Display for NodeCommand {
+    ghost output = { λ c. Some (node_command_text (command_seen_of c)) };
+
+    fn fmt<W: Write>(&self, f: &mut Formatter<W>) -> fmt::Result {
+        match self {
+            NodeCommand::SamePicks => f.write_str("explain --node"),
+            NodeCommand::Journal => f.write_str("explain --node, by the picks of the journal,"),
+        }
+    }
+}
+
+/// What can't be read from standard input where the script is.
+#[derive(Clone, Copy)]
+pub enum ReadBeside {
+    Picks,
+    Moves,
+}
+
+impl Display for ReadBeside {
+    ghost output = { λ what. Some (read_beside_text (beside_seen what)) };
+
+    fn fmt<W: Write>(&self, f: &mut Formatter<W>) -> fmt::Result {
+        match self {
+            ReadBeside::Picks => f.write_str("picks"),
+            ReadBeside::Moves => f.write_str("moves"),
+        }
+    }
+}
+
+/// What a command says beside its output.
+#[derive(Clone, Copy)]
+pub enum Notice<'a> {
+    /// A line that is there already: of a refusal, of the remarks on a run, or of the notes on a test.
+    Line(&'a str),
+    /// A fault.
+    Fault(CommandFault),
+    /// A fault, with the system's reason.
+    FaultBecause {
+        fault: CommandFault,
+        reason: &'a str,
+    },
+    /// A file that can't be opened.
+    NoFile {
+        path: &'a str,
+        reason: &'a str,
+    },
+    /// The script is read from standard input, and this too.
+    BothFromInput(ReadBeside),
+    /// A value of an option is none.
+    NoValue {
+        text: &'a str,
+        option: &'a str,
+        reason: &'a str,
+    },
+    /// A text of the test of a match specification isn't what it should be.
+    TestText {
+        text: TestText,
+        fault: TestTextFault<'a>,
+    },
+    /// The script creates no session of this name.
+    NoSession {
+        name: &'a str,
+    },
+    /// The run has no move with this number.
+    NoMove {
+        number: u32,
+    },
+    /// A running node is known to do nothing otherwise.
+    NoNodeMove,
+    /// The script has no forms.
+    NoForms,
+    /// The pick with this number, from 1, is neither 0 nor a pid that a process may have.
+    PickOfNobody {
+        number: usize,
+        pick: u32,
+    },
+    /// A running node differs at so many of so many moves.
+    NodeMoves {
+        differing: usize,
+        moves: usize,
+        command: NodeCommand,
+    },
+    /// Where the output isn't the one that is expected.
+    Difference(OutputDifference<'a>),
+    /// The output doesn't have the line that it must have.
+    LacksLine {
+        line: &'a str,
+    },
+    /// The output has the line that it must not have.
+    HasLine {
+        line: &'a str,
+    },
+}
+
+impl Display for Notice<'_> {
+    ghost output = { λ n. Some (notice_text (notice_seen n)) };
+
+    fn fmt<W: Write>(&self, f: &mut Formatter<W>) -> fmt::Result {
+        match self {
+            Notice::Line(line) => f.write_str(line),
+            Notice::Fault(fault) => Display::fmt(fault, f),
+            Notice::FaultBecause { fault, reason } => write!(f, "{fault}: {reason}"),
+            Notice::NoFile { path, reason } => write!(f, "error: {path}: {reason}"),
+            Notice::BothFromInput(what) => write!(
+                f,
+                "error: the script and the {what} can't both be standard input"
+            ),
+            Notice::NoValue {
+                text,
+                option,
+                reason,
+            } => write!(
+                f,
+                "error: invalid value '{text}' for '{option}': {reason}\n\nFor more information, try '--help'."
+            ),
+            Notice::TestText { text, fault } => write!(f, "{text}: {fault}"),
+            Notice::NoSession { name } => {
+                write!(f, "error: the script creates no session {name}")
+            }
+            Notice::NoMove { number } => write!(f, "error: the run has no move {number}"),
+            Notice::NoNodeMove => {
+                f.write_str("note: a running node is known to do nothing otherwise there")
+            }
+            Notice::NoForms => f.write_str("note: the script has no forms"),
+            Notice::PickOfNobody { number, pick } => write!(
+                f,
+                "note: pick {number} is {pick}, and no process has that pid: pids are 100 to 163, and 0 takes the next command"
+            ),
+            Notice::NodeMoves {
+                differing,
+                moves,
+                command,
+            } => write!(
+                f,
+                "note: a running node differs at {differing} of {moves} moves; {command} shows where"
+            ),
+            Notice::Difference(difference) => Display::fmt(difference, f),
+            Notice::LacksLine { line } => write!(f, "error: the output has no line {line}"),
+            Notice::HasLine { line } => write!(f, "error: the output has the line {line}"),
+        }
+    }
+}
+
+/// Prints a notice and a line feed on standard error. Nothing else of the program prints there, but `clap`, which reads
+/// the command line. Where that fails, nothing is said.
+pub fn print_notice<R: Eprint>(rt: &R, notice: Notice<'_>) {
+    let _ = rt.eprintln(notice);
+}
