@@ -2,10 +2,10 @@
 use Rattle.std.proofs.Common.{◌≡◌, ◌+◌, ℕ, List, ◌++◌, codes, decimal, refl, ◌∙◌, arith, Some, None}
 use Rattle.def_text.specs.Places.{line_feeds}
 use Rattle.def_text.proofs.Columns.{line_feeds-append}
-use Rattle.def_notice.specs.FaultTexts.{CommandFault, of_reading, of_writing, of_memory, of_workers, of_bytes, of_listings, output_text, fault_text}
+use Rattle.def_notice.specs.FaultTexts.{FaultSaid, of_reading, of_writing, of_memory, of_workers, of_bytes, of_listings, output_text, fault_text}
 use Rattle.def_notice.specs.DifferenceTexts.{Side, expected_output, found_output, OutputDifference, one_line, two_lines, lines_without_text, last_line_feed, no_line, end_of_output, more_lines, more_differences, side_text, numbered_line, output_difference_text}
-use Rattle.def_notice.specs.NoticeTexts.{NodeCommand, by_same_picks, by_journal, node_command_text, TestText, the_list, the_caller, the_specification, TestTextFault, is_no_list, is_no_function, fault_in_words, ReadBeside, picks_beside, moves_beside, Notice, given_line, of_fault, of_fault_because, no_file, both_from_input, no_value, of_test_text, no_session, no_move, no_node_move, no_forms, pick_of_nobody, node_moves, of_difference, lacks_a_line, has_a_line, notice_text}
-use Rattle.def_notice.specs.NoticeLaws.{words_of_notice, line_feeds_of_notice}
+use Rattle.def_notice.specs.NoticeTexts.{NodeCommand, by_same_picks, by_journal, node_command_text, TestText, the_list, the_caller, the_specification, test_text_name, TestTextFault, is_no_list, is_no_function, is_too_long, goes_on_otherwise, is_too_deep, is_too_large, has_no_memory, fault_in_words, test_fault_text, ReadBeside, picks_beside, moves_beside, Notice, given_line, of_fault, of_fault_because, no_file, both_from_input, no_value, of_test_text, no_session, no_move, no_node_move, no_forms, pick_of_nobody, node_moves, of_difference, lacks_a_line, has_a_line, notice_text}
+use Rattle.def_notice.specs.NoticeLaws.{words_of_test_fault, words_of_notice, line_feeds_of_notice}
 use Rattle.def_notice.proofs.LineFeeds.{decimal_has_none}
 
 -- ---- texts put together
@@ -22,7 +22,7 @@ before_number xs n = before_none xs (decimal n) (decimal_has_none n)
 output_is_a_line : (bytes : List ℕ) (most : ℕ) → line_feeds bytes ≡ 0 → line_feeds (output_text bytes most) ≡ 0
 output_is_a_line bytes most e = before_number (bytes ++ codes " bytes, and --max-output is ") most ∙ before_none bytes (codes " bytes, and --max-output is ") refl ∙ e
 
-fault_is_a_line : (f : CommandFault) → line_feeds (fault_text f) ≡ 0
+fault_is_a_line : (f : FaultSaid) → line_feeds (fault_text f) ≡ 0
 fault_is_a_line of_reading = refl
 fault_is_a_line (of_writing n) = before_none (decimal n) (codes " bytes") refl ∙ decimal_has_none n
 fault_is_a_line of_memory = refl
@@ -76,16 +76,25 @@ beside_is_a_line : (what : ReadBeside) → line_feeds (notice_text (both_from_in
 beside_is_a_line picks_beside = refl
 beside_is_a_line moves_beside = refl
 
+name_is_a_line : (t : TestText) → line_feeds (test_text_name t) ≡ 0
+name_is_a_line the_list = refl
+name_is_a_line the_caller = refl
+name_is_a_line the_specification = refl
+
+fault_of_test_is_a_line : (f : TestTextFault) → line_feeds (test_fault_text f) ≡ line_feeds (words_of_test_fault f)
+fault_of_test_is_a_line is_no_list = refl
+fault_of_test_is_a_line is_no_function = refl
+fault_of_test_is_a_line is_too_long = refl
+fault_of_test_is_a_line (goes_on_otherwise at) = decimal_has_none at
+fault_of_test_is_a_line (is_too_deep at) = decimal_has_none at
+fault_of_test_is_a_line (is_too_large at) = decimal_has_none at
+fault_of_test_is_a_line has_no_memory = refl
+fault_of_test_is_a_line (fault_in_words words) = refl
+
 test_is_a_line : (t : TestText) (f : TestTextFault) → line_feeds (notice_text (of_test_text t f)) ≡ line_feeds (words_of_notice (of_test_text t f)) + 0
-test_is_a_line the_list is_no_list = refl
-test_is_a_line the_list is_no_function = refl
-test_is_a_line the_list (fault_in_words words) = omega arith
-test_is_a_line the_caller is_no_list = refl
-test_is_a_line the_caller is_no_function = refl
-test_is_a_line the_caller (fault_in_words words) = omega arith
-test_is_a_line the_specification is_no_list = refl
-test_is_a_line the_specification is_no_function = refl
-test_is_a_line the_specification (fault_in_words words) = omega arith
+test_is_a_line t f =
+    let last : line_feeds (notice_text (of_test_text t f)) ≡ line_feeds (test_text_name t ++ codes ": ") + line_feeds (test_fault_text f) = line_feeds-append (test_text_name t ++ codes ": ") (test_fault_text f) in
+    omega (arith, last, before_none (test_text_name t) (codes ": ") refl, name_is_a_line t, fault_of_test_is_a_line f)
 
 command_is_a_line : (c : NodeCommand) → line_feeds (node_command_text c) ≡ 0
 command_is_a_line by_same_picks = refl
@@ -122,7 +131,7 @@ file_is_a_line path reason =
     let last : line_feeds (notice_text (no_file path reason)) ≡ line_feeds (path ++ codes ": ") + line_feeds reason = line_feeds-append (path ++ codes ": ") reason in
     omega (arith, last, before_none path (codes ": ") refl, line_feeds-append path reason)
 
-reason_is_a_line : (f : CommandFault) (reason : List ℕ) → line_feeds (notice_text (of_fault_because f reason)) ≡ line_feeds reason + 0
+reason_is_a_line : (f : FaultSaid) (reason : List ℕ) → line_feeds (notice_text (of_fault_because f reason)) ≡ line_feeds reason + 0
 reason_is_a_line f reason =
     let last : line_feeds (notice_text (of_fault_because f reason)) ≡ line_feeds (fault_text f ++ codes ": ") + line_feeds reason = line_feeds-append (fault_text f ++ codes ": ") reason in
     omega (arith, last, before_none (fault_text f) (codes ": ") refl, fault_is_a_line f)

@@ -7,7 +7,7 @@ use Rattle.def_text.specs.Places.{place_at}
 use Rattle.def_notice.specs.FaultTexts.{of_reading, of_writing, of_memory, of_workers, of_bytes, of_listings, broken_pipe, refused_memory}
 use Rattle.def_notice.specs.MovesTexts.{MovesReason, no_mover, no_number, no_count, no_start, many_starts, too_many_bytes, no_directive_at, bad_moves_text}
 use Rattle.def_notice.specs.DifferenceTexts.{expected_output, found_output, one_line, two_lines, lines_without_text, last_line_feed, no_line, end_of_output, more_lines, more_differences}
-use Rattle.def_notice.specs.NoticeTexts.{by_same_picks, by_journal, the_list, the_caller, the_specification, is_no_list, is_no_function, fault_in_words, picks_beside, moves_beside, Notice, of_fault, of_fault_because, no_file, both_from_input, no_value, of_test_text, no_session, no_move, no_node_move, no_forms, pick_of_nobody, node_moves, of_difference, lacks_a_line, has_a_line, notice_text, notice_of_fault}
+use Rattle.def_notice.specs.NoticeTexts.{by_same_picks, by_journal, the_list, the_caller, the_specification, is_no_list, is_no_function, is_too_long, is_too_deep, fault_in_words, picks_beside, moves_beside, Notice, of_fault, of_fault_because, no_file, both_from_input, no_value, of_test_text, no_session, no_move, no_node_move, no_forms, pick_of_nobody, node_moves, of_difference, lacks_a_line, has_a_line, notice_text, notice_of_fault}
 
 -- this is the line
 abbrev Says : Notice → String → Type 0
@@ -64,8 +64,15 @@ a_list_of_none = refl
 a_caller_of_none : Says (of_test_text the_caller is_no_function) "caller: no {Module,Function,Arity}"
 a_caller_of_none = refl
 
-a_long_specification : Says (of_test_text the_specification (fault_in_words (codes "the text is too long"))) "specification: the text is too long"
+a_long_specification : Says (of_test_text the_specification is_too_long) "specification: the text is too long"
 a_long_specification = refl
+
+a_deep_list : Says (of_test_text the_list (is_too_deep 32)) "list: too deep at 32"
+unfolding digits
+a_deep_list = refl
+
+no_match_specification : Says (of_test_text the_specification (fault_in_words (codes "clause 1: body 1: a is bound"))) "specification: clause 1: body 1: a is bound"
+no_match_specification = refl
 
 -- ---- accounts and runs
 

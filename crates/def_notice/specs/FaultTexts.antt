@@ -3,25 +3,25 @@
 use Rattle.std.specs.Prelude.{ℕ, List, ◌++◌, codes, decimal}
 
 -- why a command has no output, or not all of it
-pub data CommandFault : Type 0 where
+pub data FaultSaid : Type 0 where
   -- 18: the script, the picks or the file of the output that is expected can't be read
-  of_reading : CommandFault
+  of_reading : FaultSaid
   -- 19: standard output took so many bytes, and no more
-  of_writing : (written : ℕ) → CommandFault
+  of_writing : (written : ℕ) → FaultSaid
   -- the system refused memory, and while workers ran the node
-  of_memory : CommandFault
-  of_workers : CommandFault
+  of_memory : FaultSaid
+  of_workers : FaultSaid
   -- the output has so many bytes, and may have so many
-  of_bytes : (bytes most : ℕ) → CommandFault
+  of_bytes : (bytes most : ℕ) → FaultSaid
   -- the listings alone have more bytes than the output may have
-  of_listings : (most : ℕ) → CommandFault
+  of_listings : (most : ℕ) → FaultSaid
 
 -- how many bytes the output has, and how many it may have
 abbrev pub output_text : List ℕ → ℕ → List ℕ
 output_text bytes most = codes "fault output: the output has " ++ bytes ++ codes " bytes, and --max-output is " ++ decimal most
 
 -- the line of a fault
-abbrev pub fault_text : CommandFault → List ℕ
+abbrev pub fault_text : FaultSaid → List ℕ
 fault_text of_reading = codes "fault 18 read"
 fault_text (of_writing written) = codes "fault 19 write after " ++ decimal written ++ codes " bytes"
 fault_text of_memory = codes "fault memory"

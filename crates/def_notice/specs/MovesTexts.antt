@@ -38,10 +38,14 @@ pids_after between (n ∷ ns) = between ++ pid_text n ++ pids_after (codes ", ")
 abbrev pub pids_text : List ℕ → List ℕ
 pids_text ns = pids_after [] ns
 
--- each function in which an initial process starts, with its pid, the first of which this is
+-- a function in which an initial process starts, with its pid
+abbrev pub one_start_text : List ℕ → ℕ → Name → List ℕ
+one_start_text between pid f = between ++ atom_text f ++ codes " is " ++ pid_text pid
+
+-- each of these functions, where the first of the pids is this
 abbrev pub starts_after : List ℕ → ℕ → List Name → List ℕ
 starts_after between pid [] = []
-starts_after between pid (f ∷ fs) = between ++ atom_text f ++ codes " is " ++ pid_text pid ++ starts_after (codes ", ") (suc pid) fs
+starts_after between pid (f ∷ fs) = one_start_text between pid f ++ starts_after (codes ", ") (suc pid) fs
 
 -- of all initial processes
 abbrev pub starts_text : List Name → List ℕ

@@ -2,7 +2,7 @@
 -- Depends on what these are, and on line feeds.
 use Rattle.std.specs.Prelude.{◌≡◌, ◌↔◌, ◌+◌, ℕ, List, [], ◌++◌, Option, Some, None}
 use Rattle.def_text.specs.Places.{line_feeds}
-use Rattle.def_notice.specs.FaultTexts.{CommandFault, SystemReason, broken_pipe}
+use Rattle.def_notice.specs.FaultTexts.{FaultSaid, SystemReason, broken_pipe}
 use Rattle.def_notice.specs.DifferenceTexts.{OutputDifference, one_line, two_lines}
 use Rattle.def_notice.specs.NoticeTexts.{Notice, given_line, of_fault_because, no_file, no_value, TestTextFault, fault_in_words, of_test_text, no_session, of_difference, lacks_a_line, has_a_line, notice_text, notice_of_fault}
 
@@ -42,4 +42,4 @@ NoticeIsALine = (n : Notice) → line_feeds (notice_text n) ≡ line_feeds (word
 
 -- a fault is said, but where whoever read the output is gone
 abbrev pub FaultIsSaid : Type 0
-FaultIsSaid = (f : CommandFault) (r : Option SystemReason) → (notice_of_fault f r ≡ None) ↔ (r ≡ Some broken_pipe)
+FaultIsSaid = (f : FaultSaid) (r : Option SystemReason) → (notice_of_fault f r ≡ None) ↔ (r ≡ Some broken_pipe)

@@ -1,7 +1,7 @@
 -- A line that a command says beside its output, on standard error (own).
 -- Depends on faults and on how an output differs from the one that is expected.
 use Rattle.std.specs.Prelude.{ℕ, List, ◌++◌, Option, Some, None, codes, decimal}
-use Rattle.def_notice.specs.FaultTexts.{CommandFault, of_memory, fault_text, SystemReason, broken_pipe, refused_memory, in_words}
+use Rattle.def_notice.specs.FaultTexts.{FaultSaid, of_memory, fault_text, SystemReason, broken_pipe, refused_memory, in_words}
 use Rattle.def_notice.specs.DifferenceTexts.{OutputDifference, output_difference_text}
 
 -- which command shows where a running node differs
@@ -32,12 +32,24 @@ pub data TestTextFault : Type 0 where
   is_no_list : TestTextFault
   -- it is no {Module,Function,Arity}
   is_no_function : TestTextFault
+  -- it is no term: too long, or refused at this offset
+  is_too_long : TestTextFault
+  goes_on_otherwise : (at : ℕ) → TestTextFault
+  is_too_deep : (at : ℕ) → TestTextFault
+  is_too_large : (at : ℕ) → TestTextFault
+  -- there was no memory to read it
+  has_no_memory : TestTextFault
   -- another reason, in words
   fault_in_words : List ℕ → TestTextFault
 
 abbrev pub test_fault_text : TestTextFault → List ℕ
 test_fault_text is_no_list = codes "no list"
 test_fault_text is_no_function = codes "no {Module,Function,Arity}"
+test_fault_text is_too_long = codes "the text is too long"
+test_fault_text (goes_on_otherwise at) = codes "no term goes on so at " ++ decimal at
+test_fault_text (is_too_deep at) = codes "too deep at " ++ decimal at
+test_fault_text (is_too_large at) = codes "too large at " ++ decimal at
+test_fault_text has_no_memory = codes "out of memory"
 test_fault_text (fault_in_words words) = words
 
 -- what can't be read from standard input beside the script
@@ -54,8 +66,8 @@ pub data Notice : Type 0 where
   -- a line that another definition has: of a refusal, of the remarks on a run, of the notes on a test
   given_line : List ℕ → Notice
   -- a fault, and one with the system's reason
-  of_fault : CommandFault → Notice
-  of_fault_because : CommandFault → (reason : List ℕ) → Notice
+  of_fault : FaultSaid → Notice
+  of_fault_because : FaultSaid → (reason : List ℕ) → Notice
   -- a file that can't be opened, and the system's reason
   no_file : (path reason : List ℕ) → Notice
   -- the command line
@@ -99,7 +111,7 @@ notice_text (lacks_a_line line) = codes "error: the output has no line " ++ line
 notice_text (has_a_line line) = codes "error: the output has the line " ++ line
 
 -- what is said of a fault, where the system gives this reason: nothing where whoever read the output is gone
-abbrev pub notice_of_fault : CommandFault → Option SystemReason → Option Notice
+abbrev pub notice_of_fault : FaultSaid → Option SystemReason → Option Notice
 notice_of_fault f None = Some (of_fault f)
 notice_of_fault f (Some broken_pipe) = None
 notice_of_fault f (Some refused_memory) = Some (of_fault of_memory)

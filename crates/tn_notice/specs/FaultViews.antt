@@ -8,7 +8,7 @@ use Rattle.tn_notice.specs.declared.fault.CommandFault.TheVariants as faults
 use Rattle.tn_notice.specs.declared.fault.SystemReason.{SystemReason}
 use Rattle.tn_notice.specs.declared.fault.SystemReason.TheVariants as reasons
 
-abbrev pub fault_seen : CommandFault → texts.CommandFault
+abbrev pub fault_seen : CommandFault → texts.FaultSaid
 fault_seen faults.Read = texts.of_reading
 fault_seen (faults.Write written) = texts.of_writing written
 fault_seen faults.Memory = texts.of_memory

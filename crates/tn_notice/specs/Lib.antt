@@ -2,3 +2,5 @@ pub mod FaultViews
 pub mod DifferenceViews
 pub mod TestViews
 pub mod NoticeViews
+pub mod MovesViews
+pub mod PickNotes

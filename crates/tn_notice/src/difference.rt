@@ -41,9 +41,13 @@ pub enum OutputDifference<'a> {
         found: &'a str,
     },
     /// Two lines of one number, one of which isn't printable.
-    LinesWithoutText { number: u64 },
+    LinesWithoutText {
+        number: u64,
+    },
     /// The same, but for the line feed at the end.
-    LastLineFeed { number: u64 },
+    LastLineFeed {
+        number: u64,
+    },
     /// Lines are missing here, and lines of both come after them.
     NoLine(Side),
     /// Lines are missing here, and none comes after them.
@@ -73,7 +77,10 @@ impl Display for OutputDifference<'_> {
                 number,
                 expected,
                 found,
-            } => write!(f, "expected line {number}: {expected}\nfound line {number}: {found}"),
+            } => write!(
+                f,
+                "expected line {number}: {expected}\nfound line {number}: {found}"
+            ),
             OutputDifference::LinesWithoutText { number } => write!(f, "line {number} differs"),
             OutputDifference::LastLineFeed { number } => {
                 write!(f, "line {number} differs in the line feed at its end")

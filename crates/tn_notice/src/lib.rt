@@ -6,10 +6,14 @@
 
 mod difference;
 mod fault;
+mod moves;
 mod notice;
+mod pick_notes;
 mod test_text;
 
 pub use difference::{OutputDifference, Side};
 pub use fault::{CommandFault, SystemReason, notice_of_fault};
+pub use moves::{BadMoves, MovesReason, write_bad_moves};
 pub use notice::{NodeCommand, Notice, ReadBeside, print_notice};
+pub use pick_notes::nobody_notice;
 pub use test_text::{TestText, TestTextFault};
