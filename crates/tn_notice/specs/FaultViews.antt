@@ -1,7 +1,9 @@
 -- What the code's faults stand for.
 -- Depends on faults.
-use Rattle.std.specs.Prelude.{Option}
+use Rattle.std.specs.Prelude.{ℕ, List, Option}
 use Rattle.std.specs.Option.{option_map}
+use Rattle.std.specs.declared.io.ErrorKind.{ErrorKind}
+use Rattle.std.specs.declared.io.ErrorKind.TheVariants as kinds
 use Rattle.def_notice.specs.FaultTexts as texts
 use Rattle.tn_notice.specs.declared.fault.CommandFault.{CommandFault}
 use Rattle.tn_notice.specs.declared.fault.CommandFault.TheVariants as faults
@@ -23,3 +25,9 @@ reason_seen (reasons.Words words) = texts.in_words words.now
 
 abbrev pub reasons_seen : Option SystemReason → Option texts.SystemReason
 reasons_seen r = option_map reason_seen r
+
+-- why a call of the system failed, by the kind of its error, which has these words
+abbrev pub reason_of_kind : ErrorKind → (words : List ℕ) → texts.SystemReason
+reason_of_kind kinds.BrokenPipe words = texts.broken_pipe
+reason_of_kind kinds.OutOfMemory words = texts.refused_memory
+reason_of_kind k words = texts.in_words words

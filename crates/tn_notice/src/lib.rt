@@ -9,6 +9,7 @@ mod fault;
 mod moves;
 mod notice;
 mod pick_notes;
+mod system;
 mod test_text;
 
 pub use difference::{OutputDifference, Side};
@@ -16,4 +17,5 @@ pub use fault::{CommandFault, SystemReason, notice_of_fault};
 pub use moves::{BadMoves, MovesReason, write_bad_moves};
 pub use notice::{NodeCommand, Notice, ReadBeside, print_notice};
 pub use pick_notes::nobody_notice;
+pub use system::{print_fault, print_line, print_no_file};
 pub use test_text::{TestText, TestTextFault};
