@@ -1,6 +1,6 @@
 -- What an output that isn't the one that is expected has otherwise, and the line that says it (own): the exit status is 1.
 -- Depends on nothing. Lines are counted from 1, and a line that isn't printable has no text here.
-use Rattle.std.specs.Prelude.{ℕ, List, ◌++◌, Option, Some, None, codes, decimal}
+use Rattle.std.specs.Prelude.{◌≡◌, ◌≢◌, ◌⊎◌, ℕ, Bool, List, ◌++◌, Option, Some, None, codes, decimal, if◌then◌else◌}
 
 -- one of the two outputs
 pub data Side : Type 0 where
@@ -42,3 +42,18 @@ output_difference_text (no_line side) = side_text side ++ codes " no line here"
 output_difference_text (end_of_output side) = side_text side ++ codes " the end of the output"
 output_difference_text (more_lines side) = side_text side ++ codes " more lines"
 output_difference_text more_differences = codes "more lines may differ"
+
+-- ---- which of them is said
+
+-- of a line that the other output lacks: its text, or that it isn't printable
+abbrev pub SaysLine : Side → ℕ → List ℕ → OutputDifference → Type 0
+SaysLine side n line x = (x ≡ one_line side n (Some line)) ⊎ (x ≡ one_line side n None)
+
+-- of two lines of one number: nothing where they are the same, else both, or that one of them isn't printable
+abbrev pub SaysPair : ℕ → (expected found : List ℕ) → Option OutputDifference → Type 0
+SaysPair n one other None = one ≡ other
+SaysPair n one other (Some x) = (one ≢ other) × ((x ≡ two_lines n one other) ⊎ (x ≡ lines_without_text n))
+
+-- of an output that has no line where the other has some
+abbrev pub lack_of_lines : Side → (is_end : Bool) → OutputDifference
+lack_of_lines side is_end = if is_end then end_of_output side else no_line side

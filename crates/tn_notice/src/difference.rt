@@ -1,6 +1,8 @@
 // What an output that isn't the one that is expected has otherwise.
-ghost use Rattle.std.specs.Prelude.{Some};
-ghost use Rattle.def_notice.specs.DifferenceTexts.{output_difference_text, side_text};
+ghost use Rattle.std.specs.Prelude.{◌≡◌, ◌⊎◌, Some, IfSome};
+ghost use Rattle.std.specs.Option.{option_map};
+ghost use Rattle.def_notice.specs.DifferenceTexts.{SaysLine, SaysPair, lack_of_lines, lines_without_text};
+ghost use Rattle.def_notice.specs.DifferenceTexts.{output_difference_text, side_text, two_lines};
 ghost use Rattle.tn_notice.specs.DifferenceViews.{difference_seen_of, side_seen};
 
 use std::fmt;
@@ -90,5 +92,69 @@ impl Display for OutputDifference<'_> {
             OutputDifference::MoreLines(side) => write!(f, "{side} more lines"),
             OutputDifference::MoreDifferences => f.write_str("more lines may differ"),
         }
+    }
+}
+
+/// A line as it is printed: None where it is no text, or has control characters.
+fn printable(line: &[u8]) -> Option<&str>
+    ensures { IfSome result (λ text. text.now ≡ line.now) }
+{
+    let Ok(text) = str::from_utf8(line) else {
+        return None;
+    };
+    if text.chars().any(|letter| letter.is_control()) {
+        return None;
+    }
+    Some(text)
+}
+
+/// What is said of a line that the other output lacks.
+pub fn line_difference(side: Side, number: u64, line: &[u8]) -> OutputDifference<'_>
+    ensures { SaysLine (side_seen side) number line.now (difference_seen_of result) }
+{
+    OutputDifference::OneLine {
+        side,
+        number,
+        text: printable(line),
+    }
+}
+
+/// What is said of two lines that differ.
+fn difference_of_two<'a>(number: u64, expected: &'a [u8], found: &'a [u8]) -> OutputDifference<'a>
+    ensures { (difference_seen_of result ≡ two_lines number expected.now found.now)
+        ⊎ (difference_seen_of result ≡ lines_without_text number) }
+{
+    match (printable(expected), printable(found)) {
+        (Some(expected), Some(found)) => OutputDifference::TwoLines {
+            number,
+            expected,
+            found,
+        },
+        _ => OutputDifference::LinesWithoutText { number },
+    }
+}
+
+/// What is said of two lines of one number: nothing where they are the same.
+pub fn pair_difference<'a>(
+    number: u64,
+    expected: &'a [u8],
+    found: &'a [u8],
+) -> Option<OutputDifference<'a>>
+    ensures { SaysPair number expected.now found.now (option_map difference_seen_of result) }
+{
+    if expected == found {
+        return None;
+    }
+    Some(difference_of_two(number, expected, found))
+}
+
+/// What is said of an output that has no line where the other has some: it ends there, or goes on with lines of both.
+pub fn lack_of_lines(side: Side, is_end: bool) -> OutputDifference<'static>
+    ensures { difference_seen_of result ≡ lack_of_lines (side_seen side) is_end }
+{
+    if is_end {
+        OutputDifference::EndOfOutput(side)
+    } else {
+        OutputDifference::NoLine(side)
     }
 }

@@ -12,7 +12,7 @@ mod pick_notes;
 mod system;
 mod test_text;
 
-pub use difference::{OutputDifference, Side};
+pub use difference::{OutputDifference, Side, lack_of_lines, line_difference, pair_difference};
 pub use fault::{CommandFault, SystemReason, notice_of_fault};
 pub use moves::{BadMoves, MovesReason, write_bad_moves};
 pub use notice::{NodeCommand, Notice, ReadBeside, print_notice};

@@ -1,4 +1,4 @@
-use Rattle.std.proofs.Common.{arith, rules}
+use Rattle.std.proofs.Common.{rules}
 use Rattle.tn_notice.specs.MovesViews.{entry_name}
 use Rattle.tn_notice.proofs.Starts.{grows_more, next_start}
 use Rattle.tn_notice.proofs.moves.put_starts.Goals as goal

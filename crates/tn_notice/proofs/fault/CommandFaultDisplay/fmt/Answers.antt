@@ -1,4 +1,4 @@
-use Rattle.std.proofs.Common.{◌++◌, codes, decimal, ap, sym, ◌∙◌}
+use Rattle.std.proofs.Common.{decimal, ap, sym, ◌∙◌}
 use Rattle.std.proofs.Output.{has_written_of_eq}
 use Rattle.def_notice.specs.FaultTexts.{fault_text}
 use Rattle.tn_notice.specs.FaultViews.{fault_seen}
