@@ -83,7 +83,7 @@ pub enum Notice<'a> {
     },
     /// The run has no move with this number.
     NoMove {
-        number: u32,
+        number: u64,
     },
     /// A running node is known to do nothing otherwise.
     NoNodeMove,
