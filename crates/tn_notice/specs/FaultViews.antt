@@ -10,21 +10,21 @@ use Rattle.tn_notice.specs.declared.fault.CommandFault.TheVariants as faults
 use Rattle.tn_notice.specs.declared.fault.SystemReason.{SystemReason}
 use Rattle.tn_notice.specs.declared.fault.SystemReason.TheVariants as reasons
 
-abbrev pub fault_seen : CommandFault → texts.FaultSaid
-fault_seen faults.Read = texts.of_reading
-fault_seen (faults.Write written) = texts.of_writing written
-fault_seen faults.Memory = texts.of_memory
-fault_seen faults.Workers = texts.of_workers
-fault_seen (faults.Bytes bytes most) = texts.of_bytes bytes most
-fault_seen (faults.Listings most) = texts.of_listings most
+abbrev pub command_fault_seen : CommandFault → texts.FaultSaid
+command_fault_seen faults.Read = texts.of_reading
+command_fault_seen (faults.Write written) = texts.of_writing written
+command_fault_seen faults.Memory = texts.of_memory
+command_fault_seen faults.Workers = texts.of_workers
+command_fault_seen (faults.Bytes bytes most) = texts.of_bytes bytes most
+command_fault_seen (faults.Listings most) = texts.of_listings most
 
-abbrev pub reason_seen : SystemReason → texts.SystemReason
-reason_seen reasons.BrokenPipe = texts.broken_pipe
-reason_seen reasons.NoMemory = texts.refused_memory
-reason_seen (reasons.Words words) = texts.in_words words.now
+abbrev pub system_reason_seen : SystemReason → texts.SystemReason
+system_reason_seen reasons.BrokenPipe = texts.broken_pipe
+system_reason_seen reasons.NoMemory = texts.refused_memory
+system_reason_seen (reasons.Words words) = texts.in_words words.now
 
-abbrev pub reasons_seen : Option SystemReason → Option texts.SystemReason
-reasons_seen r = option_map reason_seen r
+abbrev pub system_reasons_seen : Option SystemReason → Option texts.SystemReason
+system_reasons_seen r = option_map system_reason_seen r
 
 -- why a call of the system failed, by the kind of its error, which has these words
 abbrev pub reason_of_kind : ErrorKind → (words : List ℕ) → texts.SystemReason

@@ -9,7 +9,7 @@ use Rattle.tn_notice.specs.declared.notice.ReadBeside.{ReadBeside}
 use Rattle.tn_notice.specs.declared.notice.ReadBeside.TheVariants as beside
 use Rattle.tn_notice.specs.declared.notice.Notice.{Notice}
 use Rattle.tn_notice.specs.declared.notice.Notice.TheVariants as notices
-use Rattle.tn_notice.specs.FaultViews.{fault_seen}
+use Rattle.tn_notice.specs.FaultViews.{command_fault_seen}
 use Rattle.tn_notice.specs.DifferenceViews.{difference_seen_of}
 use Rattle.tn_notice.specs.TestViews.{test_text_seen, test_fault_seen}
 
@@ -23,8 +23,8 @@ beside_seen beside.Moves = texts.moves_beside
 
 abbrev pub notice_seen : Notice → texts.Notice
 notice_seen (notices.Line line) = texts.given_line line.now
-notice_seen (notices.Fault f) = texts.of_fault (fault_seen f)
-notice_seen (notices.FaultBecause f reason) = texts.of_fault_because (fault_seen f) reason.now
+notice_seen (notices.Fault f) = texts.of_fault (command_fault_seen f)
+notice_seen (notices.FaultBecause f reason) = texts.of_fault_because (command_fault_seen f) reason.now
 notice_seen (notices.NoFile path reason) = texts.no_file path.now reason.now
 notice_seen (notices.BothFromInput what) = texts.both_from_input (beside_seen what)
 notice_seen (notices.NoValue text option reason) = texts.no_value text.now option.now reason.now

@@ -26,8 +26,8 @@ impl Display for Side {
     }
 }
 
-/// What there is to say of an output that isn't the one that is expected. Lines are counted from 1, and a line that isn't
-/// printable has no text here.
+/// What there is to say of an output that isn't the one that is expected. Lines are counted from 1, and a line that
+/// isn't printable has no text here.
 #[derive(Clone, Copy)]
 pub enum OutputDifference<'a> {
     /// A line that the other output lacks.

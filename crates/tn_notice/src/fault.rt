@@ -2,7 +2,7 @@
 ghost use Rattle.std.specs.Prelude.{◌≡◌, Some};
 ghost use Rattle.def_notice.specs.FaultTexts.{fault_text};
 ghost use Rattle.def_notice.specs.NoticeTexts.{notice_of_fault};
-ghost use Rattle.tn_notice.specs.FaultViews.{fault_seen, reasons_seen};
+ghost use Rattle.tn_notice.specs.FaultViews.{command_fault_seen, system_reasons_seen};
 ghost use Rattle.tn_notice.specs.NoticeViews.{notices_seen};
 
 use crate::notice::Notice;
@@ -27,7 +27,7 @@ pub enum CommandFault {
 }
 
 impl Display for CommandFault {
-    ghost output = { λ f. Some (fault_text (fault_seen f)) };
+    ghost output = { λ f. Some (fault_text (command_fault_seen f)) };
 
     fn fmt<W: Write>(&self, f: &mut Formatter<W>) -> fmt::Result {
         match self {
@@ -60,7 +60,7 @@ pub enum SystemReason<'a> {
 
 /// What is said of a fault, where the system gives this reason: nothing where whoever read the output is gone.
 pub fn notice_of_fault(fault: CommandFault, reason: Option<SystemReason<'_>>) -> Option<Notice<'_>>
-    ensures { notices_seen result ≡ notice_of_fault (fault_seen fault) (reasons_seen reason.entry) }
+    ensures { notices_seen result ≡ notice_of_fault (command_fault_seen fault) (system_reasons_seen reason.entry) }
 {
     match reason {
         None => Some(Notice::Fault(fault)),

@@ -147,8 +147,8 @@ fn put_no_start<A: Allocator, B: Allocator>(
     entries: &[Entry<A>],
     out: &mut Vec<u8, B>,
 ) -> Result<(), AllocError>
-    ensures ok { OnOk result (out.new.items ≡
-        out.old.items ++ (before.now ++ plain_bytes name.now ++ after.now ++ starts_text (map entry_name entries.now))) }
+    ensures ok { OnOk result (out.new.items ≡ out.old.items ++ (before.now ++ plain_bytes name.now ++ after.now
+        ++ starts_text (map entry_name entries.now))) }
     ensures grows { Grows out.old.items out.new.items }
 {
     put_named(before, name, after, out)?;
@@ -163,8 +163,8 @@ fn put_many_starts<B: Allocator>(
     pids: &[u32],
     out: &mut Vec<u8, B>,
 ) -> Result<(), AllocError>
-    ensures ok { OnOk result (out.new.items ≡
-        out.old.items ++ (before.now ++ plain_bytes name.now ++ after.now ++ pids_text pids.now)) }
+    ensures ok { OnOk result (out.new.items ≡ out.old.items ++ (before.now ++ plain_bytes name.now ++ after.now
+        ++ pids_text pids.now)) }
     ensures grows { Grows out.old.items out.new.items }
 {
     put_named(before, name, after, out)?;

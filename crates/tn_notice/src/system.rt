@@ -1,7 +1,7 @@
 // What is said of errors of the system, and of lines that are there already.
 ghost use Rattle.std.specs.Prelude.{◌≡◌};
 ghost use Rattle.std.specs.IoError.{error_kind};
-ghost use Rattle.tn_notice.specs.FaultViews.{reason_of_kind, reason_seen};
+ghost use Rattle.tn_notice.specs.FaultViews.{reason_of_kind, system_reason_seen};
 
 use crate::fault::{CommandFault, SystemReason, notice_of_fault};
 use crate::notice::{Notice, print_notice};
@@ -13,7 +13,7 @@ type SystemWords = InlineText<320>;
 
 /// Why a call of the system failed, with the words of its error.
 fn reason_of(error: Error, words: &str) -> SystemReason<'_>
-    ensures { reason_seen result ≡ reason_of_kind (error_kind error) words.now }
+    ensures { system_reason_seen result ≡ reason_of_kind (error_kind error) words.now }
 {
     match error.kind() {
         ErrorKind::BrokenPipe => SystemReason::BrokenPipe,
