@@ -1,0 +1,8 @@
+//! The contracts of tn_notice are complete. Each function calls one of theirs twice on equal values. It knows no more
+//! than the contract, so its proof shows that the contract leaves one answer.
+//!
+//! Depends on tn_notice. Promises nothing to other crates.
+#![tactic(auto)]
+
+mod moves;
+mod notices;
