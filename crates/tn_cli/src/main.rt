@@ -26,26 +26,25 @@ use std::sync::Wait;
 use std::thread::Threads;
 use tn_command::{
     FAULT, LastError, OutputForm, REFUSED, Source, arguments, escape_controls, output_of, picks_of,
-    report, tell_fault,
+    report, run_fault,
 };
 use tn_line::command;
+use tn_notice::{CommandFault, Notice, ReadBeside, print_fault, print_notice};
 use tn_request::{Request, TextSource, answer_request, expectation_of};
-use tn_run::{RunFault, write_output};
+use tn_run::write_output;
 use tn_text::Watched;
 
 /// The text of picks or of moves in a file, or in standard input where that isn't the script.
 fn text_in<R: Input + Files + Eprint + AllocGlobal>(
     rt: &R,
     script: Option<Source<'_>>,
-    what: &str,
+    what: ReadBeside,
     source: Source<'_>,
 ) -> Result<Vec<u8>, ExitCode>
     ensures { IfErr result (λ s. IsStatus (exit_status s)) }
 {
     if let (Some(Source::Input), Source::Input) = (script, source) {
-        let _ = rt.eprintln(format_args!(
-            "error: the script and the {what} can't both be standard input"
-        ));
+        print_notice(rt, Notice::BothFromInput(what));
         return Err(ExitCode::from(REFUSED));
     }
     picks_of(rt, source)
@@ -60,8 +59,8 @@ fn text_of<R: Input + Files + Eprint + AllocGlobal>(
 {
     match request.text_source() {
         None => Ok(Vec::new(rt.alloc())),
-        Some(TextSource::Picks(source)) => text_in(rt, request.script(), "picks", source),
-        Some(TextSource::Moves(source)) => text_in(rt, request.script(), "moves", source),
+        Some(TextSource::Picks(source)) => text_in(rt, request.script(), ReadBeside::Picks, source),
+        Some(TextSource::Moves(source)) => text_in(rt, request.script(), ReadBeside::Moves, source),
         Some(TextSource::Specification) => picks_of(rt, Source::Input),
     }
 }
@@ -98,12 +97,17 @@ fn refuse_number<R: Eprint + AllocGlobal>(rt: &R, bad: BadNumber<'_>) -> ExitCod
         reason,
     } = bad;
     let Ok(plain) = escape_controls(rt.alloc(), text) else {
-        return report(rt, RunFault::OutOfMemory);
+        return report(rt, CommandFault::Memory);
     };
     let text = str::from_utf8(&plain).unwrap_or("");
-    let _ = rt.eprintln(format_args!(
-        "error: invalid value '{text}' for '{option}': {reason}\n\nFor more information, try '--help'."
-    ));
+    print_notice(
+        rt,
+        Notice::NoValue {
+            text,
+            option,
+            reason,
+        },
+    );
     ExitCode::from(REFUSED)
 }
 
@@ -137,14 +141,14 @@ fn explain<R: Print + Eprint + AllocGlobal>(rt: &R, error: &clap::Error) -> Exit
         return ExitCode::from(REFUSED);
     }
     let Ok(text) = format!(in rt.alloc(); "{error}") else {
-        return report(rt, RunFault::OutOfMemory);
+        return report(rt, CommandFault::Memory);
     };
     let mut writer = Watched::of(LastError::of(io::writer(rt)));
     match write_output(&mut writer, text.as_bytes()) {
         Ok(()) => ExitCode::SUCCESS,
         Err(fault) => {
             let (_, reason) = writer.into_inner().into_parts();
-            tell_fault(rt, &fault, reason);
+            print_fault(rt, run_fault(fault), reason);
             ExitCode::from(FAULT)
         }
     }
@@ -169,12 +173,12 @@ fn refuse_plain<R: Print + Eprint + AllocGlobal>(
     ensures { IsStatus (exit_status result) }
 {
     let Ok(command) = command(rt.alloc()) else {
-        return report(rt, RunFault::OutOfMemory);
+        return report(rt, CommandFault::Memory);
     };
     match command.try_get_matches_from(words) {
         Ok(_matches) => explain(rt, error),
         Err(error) if error.kind() == ErrorKind::OutOfMemory => {
-            report(rt, RunFault::OutOfMemory)
+            report(rt, CommandFault::Memory)
         }
         Err(error) => explain(rt, &error),
     }
@@ -191,7 +195,7 @@ fn refuse<R: Print + Eprint + AllocGlobal>(
 {
     match plain_words(rt.alloc(), words) {
         Ok(plain) => refuse_plain(rt, &plain, error),
-        Err(_) => report(rt, RunFault::OutOfMemory),
+        Err(_) => report(rt, CommandFault::Memory),
     }
 }
 
@@ -203,12 +207,12 @@ fn program<R: Env + Input + Files + Print + Eprint + AllocGlobal + Threads + Wai
     ensures { IsStatus (exit_status result) }
 {
     let Ok(command) = command(rt.alloc()) else {
-        return report(rt, RunFault::OutOfMemory);
+        return report(rt, CommandFault::Memory);
     };
     match command.try_get_matches_from(words) {
         Ok(matches) => run_command(rt, &matches),
         Err(error) if error.kind() == ErrorKind::OutOfMemory => {
-            report(rt, RunFault::OutOfMemory)
+            report(rt, CommandFault::Memory)
         }
         Err(error) => refuse(rt, words, &error),
     }

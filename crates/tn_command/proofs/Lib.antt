@@ -5,3 +5,4 @@ mod FormLemmas
 mod SpecNotes
 mod SpecNoteRows
 mod SpecNoteTerms
+mod EntryNames

@@ -8,8 +8,8 @@ pub mod Sources
 pub mod Status
 pub mod SpecTests
 pub mod PlainTexts
-pub mod PickNotes
 pub mod SpecNotes
 pub mod SpecNoteViews
 pub mod Delays
 pub mod PrintedJobs
+pub mod Notices

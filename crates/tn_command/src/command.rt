@@ -1,24 +1,36 @@
 // The jobs of the commands, and what is said of their outcomes.
-ghost use Rattle.std.specs.Prelude.{IfOk};
+ghost use Rattle.std.specs.Prelude.{◌≡◌, IfOk};
+ghost use Rattle.tn_notice.specs.NoticeViews.{command_seen_of, notices_seen};
 ghost use Rattle.tn_command.specs.Flaws.{IsFlawBy, IsScheduleFlaw};
+ghost use Rattle.tn_command.specs.Notices.{node_command_of, notice_of_account};
 
 use crate::moves_line::tell_run_refusal;
 use crate::plain_text::{escape_controls, plain_name};
-use crate::remarks::{tell_empty_script, tell_schedule_picks, tell_schedule_remarks};
-use crate::stderr::{NamedText, tell_note};
+use crate::remarks::{forms_notice, print_notices, tell_schedule_picks, tell_schedule_remarks};
+use crate::stderr::{NamedText, node_notice, run_fault};
 use std::alloc::Global;
 use tn_explain::{ExplainOutcome, ExplainRequest};
 use tn_moves::Schedule;
+use tn_notice::{CommandFault, NodeCommand, Notice, print_notice};
 use tn_replay::{Replay, ReplayOutcome, has_no_forms, schedule_has_remarks, text_has_remarks};
-use tn_run::{Denial, Job};
+use tn_run::{Denial, Job, RunFault};
 
 /// A job that a command does.
 pub trait Command: Job<Global> {
-    ghost use Rattle.std.specs.Prelude.{ℕ, Bool, List, IfOk};
+    ghost use Rattle.std.specs.Prelude.{◌≡◌, ℕ, Bool, List, IfOk};
+    ghost use Rattle.def_notice.specs.FaultTexts.{FaultSaid};
+    ghost use Rattle.tn_notice.specs.FaultViews.{command_fault_seen};
 
     /// Whether an outcome shows a fault of the script with these bytes: a command is refused or matches no function, or
     /// there are no forms.
     ghost flaw: { Self → Self.Outcome → List ℕ → Bool → Type 0 };
+
+    /// What is said of a fault of the job.
+    ghost said: { Self.Fault → FaultSaid };
+
+    /// What fault of a command a fault of the job is.
+    fn command_fault(&self, fault: &Self::Fault) -> CommandFault
+        ensures { command_fault_seen result ≡ said fault.now };
 
     /// Says in one line on standard error why the outcome isn't what was asked for; nothing where it is.
     fn tell_outcome<R: Eprint + AllocGlobal>(
@@ -74,17 +86,39 @@ pub(crate) fn schedule_text<'a>(schedule: &Schedule<'a>) -> &'a [u8] {
 }
 
 /// Which command shows what a node does otherwise in a run by a schedule.
-fn node_command(schedule: &Schedule<'_>) -> &'static str {
+fn node_command(schedule: &Schedule<'_>) -> NodeCommand
+    ensures { command_seen_of result ≡ node_command_of schedule.now }
+{
     match schedule {
-        Schedule::Picks(_) => "explain --node",
-        _ => "explain --node, by the picks of the journal,",
+        Schedule::Picks(_) => NodeCommand::SamePicks,
+        _ => NodeCommand::Journal,
+    }
+}
+
+/// What is said of the outcome of an account that is asked for of the session of a name, or of the move of a number.
+fn account_notice(outcome: ExplainOutcome, name: &str, number: u64) -> Option<Notice<'_>>
+    ensures { notices_seen result ≡ notice_of_account outcome name.now number }
+{
+    match outcome {
+        ExplainOutcome::Account => None,
+        ExplainOutcome::Refused(_) => None,
+        ExplainOutcome::NoSession => Some(Notice::NoSession { name }),
+        ExplainOutcome::NoMove => Some(Notice::NoMove { number }),
+        ExplainOutcome::NoDifference => Some(Notice::NoNodeMove),
     }
 }
 
 impl Command for Replay<'_> {
     ghost use Rattle.tn_command.specs.Flaws.{IsReplayFlaw};
+    ghost use Rattle.tn_command.specs.Notices.{run_fault_said};
 
     ghost flaw = { IsReplayFlaw };
+
+    ghost said = { run_fault_said };
+
+    fn command_fault(&self, fault: &RunFault) -> CommandFault {
+        run_fault(*fault)
+    }
 
     fn tell_outcome<R: Eprint + AllocGlobal>(
         &self,
@@ -96,13 +130,13 @@ impl Command for Replay<'_> {
             ReplayOutcome::Listed(None) => {}
             ReplayOutcome::Listed(_) if self.quiet => {}
             ReplayOutcome::Listed(Some(notes)) => {
-                tell_empty_script(rt, script);
+                print_notices(rt, forms_notice(script.bytes));
                 tell_schedule_picks(rt, self.schedule);
                 if notes.has_remarks {
                     tell_schedule_remarks(rt, script, &self.schedule);
                 }
                 if let Some(note) = notes.node {
-                    tell_note(rt, note, node_command(&self.schedule));
+                    print_notice(rt, node_notice(note, node_command(&self.schedule)));
                 }
             }
             ReplayOutcome::Refused(refusal) => {
@@ -129,8 +163,15 @@ impl Command for Replay<'_> {
 
 impl Command for ExplainRequest<'_> {
     ghost use Rattle.tn_command.specs.Flaws.{IsExplainedFlaw};
+    ghost use Rattle.tn_command.specs.Notices.{run_fault_said};
 
     ghost flaw = { IsExplainedFlaw };
+
+    ghost said = { run_fault_said };
+
+    fn command_fault(&self, fault: &RunFault) -> CommandFault {
+        run_fault(*fault)
+    }
 
     fn tell_outcome<R: Eprint + AllocGlobal>(
         &self,
@@ -143,17 +184,11 @@ impl Command for ExplainRequest<'_> {
             ExplainOutcome::Refused(refusal) => {
                 tell_run_refusal(rt, refusal, script, schedule_text(&self.schedule));
             }
-            ExplainOutcome::NoSession => {
+            _ => {
                 let plain = escape_controls(rt.alloc(), self.filter.session.unwrap_or(""));
                 let name = plain_name(&plain, "of this name");
-                let _ = rt.eprintln(format_args!("error: the script creates no session {name}"));
-            }
-            ExplainOutcome::NoMove => {
                 let number = self.filter.move_number.unwrap_or(0);
-                let _ = rt.eprintln(format_args!("error: the run has no move {number}"));
-            }
-            ExplainOutcome::NoDifference => {
-                let _ = rt.eprintln("note: a running node is known to do nothing otherwise there");
+                print_notices(rt, account_notice(outcome, name, number));
             }
         }
     }

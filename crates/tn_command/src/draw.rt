@@ -1,15 +1,23 @@
 // The job of `draw`, and what is said of its outcome.
 use crate::command::{Command, has_schedule_flaw, schedule_text};
 use crate::moves_line::tell_run_refusal;
-use crate::stderr::NamedText;
+use crate::stderr::{NamedText, run_fault};
 use std::alloc::Global;
+use tn_notice::CommandFault;
 use tn_picture::{DrawOutcome, DrawRequest};
-use tn_run::Denial;
+use tn_run::{Denial, RunFault};
 
 impl Command for DrawRequest<'_> {
     ghost use Rattle.tn_command.specs.Flaws.{IsDrawnFlaw};
+    ghost use Rattle.tn_command.specs.Notices.{run_fault_said};
 
     ghost flaw = { IsDrawnFlaw };
+
+    ghost said = { run_fault_said };
+
+    fn command_fault(&self, fault: &RunFault) -> CommandFault {
+        run_fault(*fault)
+    }
 
     fn tell_outcome<R: Eprint + AllocGlobal>(
         &self,

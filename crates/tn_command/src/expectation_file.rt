@@ -5,13 +5,12 @@ ghost use Rattle.tn_command.specs.Status.{IsFailure};
 
 use crate::source::open;
 use crate::status::FAULT;
-use crate::stderr::tell_fault;
 use std::alloc::Allocator;
 use std::io;
 use std::io::Read;
 use std::process::ExitCode;
 use std::rt::Files;
-use tn_run::RunFault;
+use tn_notice::{CommandFault, print_fault};
 
 /// All that a reader holds.
 fn read_whole<A: Allocator, R: Read>(alloc: A, reader: &mut R) -> io::Result<Vec<u8, A>>
@@ -30,7 +29,7 @@ fn file_bytes<R: Files + Eprint + AllocGlobal>(rt: &R, path: &str) -> Result<Vec
     match read_whole(rt.alloc(), &mut file) {
         Ok(bytes) => Ok(bytes),
         Err(error) => {
-            tell_fault(rt, &RunFault::Read, Some(error));
+            print_fault(rt, CommandFault::Read, Some(error));
             Err(ExitCode::from(FAULT))
         }
     }

@@ -7,6 +7,7 @@ use crate::stderr::NamedText;
 use std::alloc::{AllocError, Allocator, Global};
 use tn_formats::{Format, in_format};
 use tn_listing::PicksFault;
+use tn_notice::CommandFault;
 use tn_program::Program;
 use tn_run::{Denial, DirectJob, Job, Refusal, RunFault};
 
@@ -89,6 +90,12 @@ impl<A: Allocator + Copy, J: DirectJob<A>> DirectJob<A> for InFormat<'_, J> {
 
 impl<J: Command> Command for InFormat<'_, J> {
     ghost flaw = { λ f outcome bytes flawed. J.flaw f.job.now outcome bytes flawed };
+
+    ghost said = { J.said };
+
+    fn command_fault(&self, fault: &J::Fault) -> CommandFault {
+        self.job.command_fault(fault)
+    }
 
     fn tell_outcome<R: Eprint + AllocGlobal>(
         &self,

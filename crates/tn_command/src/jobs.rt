@@ -16,14 +16,15 @@ use crate::last_error::LastError;
 use crate::plain_text::{escape_controls, plain_name};
 use crate::source::{Source, open};
 use crate::status::{FAULT, JobEnd, job_status, judge_status, report};
-use crate::stderr::{NamedText, tell_fault};
+use crate::stderr::NamedText;
 use crate::tee::Tee;
 use std::alloc::{Allocator, Global};
 use std::io;
 use std::io::{Error, Read, Write};
 use std::process::ExitCode;
 use std::rt::Files;
-use tn_run::{DirectJob, Job, RunFault, transact, write_output};
+use tn_notice::{CommandFault, print_fault};
+use tn_run::{DirectJob, Job, transact, write_output};
 use tn_text::Watched;
 
 /// What the script of standard input is called.
@@ -83,7 +84,7 @@ fn strict_status<R: Eprint + AllocGlobal, J: Command>(
 {
     match job.is_flawed(rt.alloc(), outcome, script) {
         Ok(flawed) => judge_status(status, !flawed),
-        Err(_) if status == ExitCode::SUCCESS => report(rt, RunFault::OutOfMemory),
+        Err(_) if status == ExitCode::SUCCESS => report(rt, CommandFault::Memory),
         Err(_) => status,
     }
 }
@@ -121,7 +122,7 @@ pub(crate) fn print_end<R: Eprint + AllocGlobal, J: Command, S: Drop>(
             status
         }
         Err(fault) => {
-            tell_fault(rt, &fault, unread.or(unwritten));
+            print_fault(rt, job.command_fault(&fault), unread.or(unwritten));
             status
         }
     }

@@ -1,7 +1,9 @@
 // What an output is held against, and what is said of one that isn't what is expected.
 ghost use Rattle.std.specs.Prelude.{◌≡◌, ◌≤◌, length};
 ghost use Rattle.std.specs.Process.{exit_status};
+ghost use Rattle.tn_notice.specs.NoticeViews.{notice_seen};
 ghost use Rattle.tn_command.specs.Expectations.{meets_expectation};
+ghost use Rattle.tn_command.specs.Notices.{notice_of_line};
 ghost use Rattle.tn_command.specs.Status.{status_after_judgement};
 
 use crate::expectation::Expectation;
@@ -9,65 +11,32 @@ use crate::plain_text::{escape_controls, plain_name};
 use crate::status::judge_status;
 use std::process::ExitCode;
 use tn_formats::first_line;
-
-/// A line as it is printed: None where it is no text, or has control characters.
-fn printable(line: &[u8]) -> Option<&str> {
-    let Ok(text) = str::from_utf8(line) else {
-        return None;
-    };
-    if text.chars().any(|letter| letter.is_control()) {
-        return None;
-    }
-    Some(text)
-}
+use tn_notice::{
+    Notice, OutputDifference, Side, lack_of_lines, line_difference, pair_difference, print_notice,
+};
 
 /// How many lines of a difference are printed.
 const MOST_LINES: u64 = 100;
 
-/// Says of a line what was expected or found.
-fn tell_line<R: Eprint>(rt: &R, how: &str, number: u64, line: &[u8]) {
-    let _ = match printable(line) {
-        Some(text) => rt.eprintln(format_args!("{how} line {number}: {text}")),
-        None => rt.eprintln(format_args!("{how} line {number}, which isn't printable")),
-    };
-}
-
-/// Says of two lines of one number what was expected, and what was found, where they differ.
-fn tell_pair<R: Eprint>(rt: &R, number: u64, line: &[u8], found: &[u8]) {
-    if line == found {
-        return;
-    }
-    let _ = match (printable(line), printable(found)) {
-        (Some(line), Some(found)) => rt.eprintln(format_args!(
-            "expected line {number}: {line}\nfound line {number}: {found}"
-        )),
-        _ => rt.eprintln(format_args!("line {number} differs")),
-    };
+/// Prints what an output has otherwise.
+fn print_difference<R: Eprint>(rt: &R, difference: OutputDifference<'_>) {
+    print_notice(rt, Notice::Difference(difference));
 }
 
 /// Says of the lines from this number on, which one of the two outputs alone has, what was expected or found.
-fn tell_lines<R: Eprint>(rt: &R, how: &str, first: u64, text: &[u8]) {
+fn tell_lines<R: Eprint>(rt: &R, side: Side, first: u64, text: &[u8]) {
     let mut number = first;
     let mut rest = text;
     while !rest.is_empty() {
         if number >= MOST_LINES.saturating_add(first) {
-            let _ = rt.eprintln(format_args!("{how} more lines"));
+            print_difference(rt, OutputDifference::MoreLines(side));
             return;
         }
         let (line, after) = first_line(rest);
-        tell_line(rt, how, number, line);
+        print_difference(rt, line_difference(side, number, line));
         rest = after;
         number = number.saturating_add(1);
     }
-}
-
-/// Says that an output has no line where the other one has some: it ends there, or goes on with lines of both.
-fn tell_none<R: Eprint>(rt: &R, how: &str, is_end: bool) {
-    let _ = if is_end {
-        rt.eprintln(format_args!("{how} the end of the output"))
-    } else {
-        rt.eprintln(format_args!("{how} no line here"))
-    };
 }
 
 /// Says of all lines from this number on which differ what was expected, and what was found. `is_end` says that no
@@ -78,22 +47,24 @@ fn tell_changes<R: Eprint>(rt: &R, first: u64, expected: &[u8], output: &[u8], i
     let mut output = output;
     while !expected.is_empty() && !output.is_empty() {
         if number >= MOST_LINES.saturating_add(first) {
-            let _ = rt.eprintln(format_args!("more lines may differ"));
+            print_difference(rt, OutputDifference::MoreDifferences);
             return;
         }
         let (line, expected_rest) = first_line(expected);
         let (found, output_rest) = first_line(output);
-        tell_pair(rt, number, line, found);
+        if let Some(difference) = pair_difference(number, line, found) {
+            print_difference(rt, difference);
+        }
         expected = expected_rest;
         output = output_rest;
         number = number.saturating_add(1);
     }
     if !expected.is_empty() {
-        tell_lines(rt, "expected", number, expected);
-        tell_none(rt, "found", is_end);
+        tell_lines(rt, Side::Expected, number, expected);
+        print_difference(rt, lack_of_lines(Side::Found, is_end));
     } else if !output.is_empty() {
-        tell_none(rt, "expected", is_end);
-        tell_lines(rt, "found", number, output);
+        print_difference(rt, lack_of_lines(Side::Expected, is_end));
+        tell_lines(rt, Side::Found, number, output);
     }
 }
 
@@ -133,8 +104,7 @@ fn tell_difference<R: Eprint>(rt: &R, expected: &[u8], output: &[u8]) {
             break;
         }
         if expected_rest.is_empty() && output_rest.is_empty() {
-            let told = format_args!("line {number} differs in the line feed at its end");
-            let _ = rt.eprintln(told);
+            print_difference(rt, OutputDifference::LastLineFeed { number });
             return;
         }
         expected = expected_rest;
@@ -147,11 +117,21 @@ fn tell_difference<R: Eprint>(rt: &R, expected: &[u8], output: &[u8]) {
     tell_changes(rt, number, expected, output, common == 0);
 }
 
-/// Says of a line of the command line how the output has it, or hasn't.
-fn tell_about_line<R: Eprint + AllocGlobal>(rt: &R, how: &str, line: &[u8]) {
+/// What is said of a line of the command line, which the output has or hasn't.
+fn line_notice(line: &str, is_there: bool) -> Notice<'_>
+    ensures { notice_seen result ≡ notice_of_line line.now is_there }
+{
+    if is_there {
+        Notice::HasLine { line }
+    } else {
+        Notice::LacksLine { line }
+    }
+}
+
+/// Says of a line of the command line that the output has it, or hasn't.
+fn tell_about_line<R: Eprint + AllocGlobal>(rt: &R, line: &[u8], is_there: bool) {
     let plain = escape_controls(rt.alloc(), str::from_utf8(line).unwrap_or(""));
-    let text = plain_name(&plain, "of this text");
-    let _ = rt.eprintln(format_args!("error: the output has {how} line {text}"));
+    print_notice(rt, line_notice(plain_name(&plain, "of this text"), is_there));
 }
 
 /// Says of each thing that is expected and isn't so what is otherwise.
@@ -163,12 +143,12 @@ fn tell_unmet<R: Eprint + AllocGlobal>(rt: &R, expectation: &Expectation<'_>, ou
     }
     if let Some(line) = expectation.line {
         if !expectation.finds_line(output) {
-            tell_about_line(rt, "no", line);
+            tell_about_line(rt, line, false);
         }
     }
     if let Some(line) = expectation.no_line {
         if !expectation.lacks_line(output) {
-            tell_about_line(rt, "the", line);
+            tell_about_line(rt, line, true);
         }
     }
 }

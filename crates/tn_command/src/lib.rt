@@ -1,8 +1,8 @@
 //! What a command of the command line does once its words are read, and its exit status.
 //!
-//! Depends on tn_run, tn_replay, tn_explain, tn_picture and tn_formats. Promises that each job is done as its crate
-//! says, in its format and within its bound, and that the status is its answer's, or 1 for an unmet expectation or a
-//! flaw under `--strict`.
+//! Depends on tn_run, tn_replay, tn_explain, tn_picture, tn_formats and tn_notice. Promises that each job is done as
+//! its crate says, in its format and within its bound, and that the status is its answer's, or 1 for an unmet
+//! expectation or a flaw under `--strict`; and which notice there is of a fault, of an outcome and of refused moves.
 #![tactic(auto)]
 
 mod command;
@@ -18,7 +18,6 @@ mod moves_line;
 mod number;
 mod output_fault;
 mod output_form;
-mod pick_notes;
 mod picks;
 mod plain_text;
 mod remarks;
@@ -53,7 +52,7 @@ pub use spec_notes::a_list_of_another_length_is_none_of_the_dialect;
 pub use spec_test::{SpecTestRunFault, test_spec, test_spec_over};
 pub use start::Start;
 pub use status::{FAULT, JobEnd, REFUSED, UNMET, report};
-pub use stderr::{NamedText, tell_fault};
+pub use stderr::{NamedText, run_fault};
 pub use within_bytes::WithinBytes;
 pub use words::arguments;
 pub use workers::{WorkersRun, run_workers, run_workers_over};

@@ -1,101 +1,130 @@
 // What is said on standard error of a run that is refused, for its text of moves or another.
+ghost use Rattle.std.specs.Prelude.{◌≡◌, ◌++◌, [], drop, OnOk, IfOk};
+ghost use Rattle.std.specs.Option.{option_map};
+ghost use Rattle.def_text.specs.Places.{place_at};
+ghost use Rattle.def_notice.specs.MovesTexts.{bad_moves_text, no_directive_at, no_start, too_many_bytes};
+ghost use Rattle.tn_program.specs.Views.{program_of};
+ghost use Rattle.tn_notice.specs.MovesViews.{moves_reason_seen};
+ghost use Rattle.tn_command.specs.Notices.{IsDirectiveLine, IsMovesLine, start_functions, mover_at};
+ghost use Rattle.tn_command.specs.Notices.{reason_of_name, reason_without_name};
+
 use crate::stderr::{NamedText, tell_refusal};
 use std::alloc::{AllocError, Global};
 use tn_moves::{MovesRefusal, mover_len, pids_named};
+use tn_notice::{BadMoves, MovesReason, print_line, write_bad_moves};
 use tn_program::Program;
-use tn_refusal::line_column_of;
+use tn_refusal::{LineColumn, line_column_of};
 use tn_run::{RunRefusal, accept};
-use tn_text::write_atom;
 
-/// Appends bytes, with `?` in place of each that isn't printable.
-fn put_printable(bytes: &[u8], out: &mut Vec<u8>) -> Result<(), AllocError> {
-    for byte in bytes {
-        let shown = if *byte < 32 || *byte > 126 {
-            b'?'
-        } else {
-            *byte
-        };
-        out.push(shown)?;
-    }
-    Ok(())
+/// That no initial process starts in a function of this name.
+fn no_start_of<'a>(program: &'a Program<Global>, name: &'a [u8]) -> MovesReason<'a, Global>
+    ensures { moves_reason_seen result ≡ no_start name.now (start_functions (program_of program.now)) }
+{
+    let entries = program.entries();
+    MovesReason::NoStart { name, entries }
 }
 
-/// Appends the pid of a process.
-fn put_pid(alloc: Global, pid: u32, out: &mut Vec<u8>) -> Result<(), AllocError> {
-    let text = format!(in alloc; "<0.{pid}.0>")?;
-    out.extend_from_slice(text.as_bytes())
-}
-
-/// Appends these pids, with commas between them.
-fn put_pids(alloc: Global, pids: &[u32], out: &mut Vec<u8>) -> Result<(), AllocError> {
-    for (i, pid) in pids.iter().enumerate() {
-        if i > 0 {
-            out.extend_from_slice(b", ")?;
-        }
-        put_pid(alloc, *pid, out)?;
-    }
-    Ok(())
-}
-
-/// Appends the function of each initial process, with its pid.
-fn put_starts(
-    alloc: Global,
-    program: &Program<Global>,
-    out: &mut Vec<u8>,
-) -> Result<(), AllocError> {
-    for (i, entry) in program.entries().iter().enumerate() {
-        out.extend_from_slice(if i == 0 { b"; " } else { b", " })?;
-        write_atom(&entry.name, out)?;
-        out.extend_from_slice(b" is ")?;
-        put_pid(alloc, 100 + i as u32, out)?;
-    }
-    Ok(())
-}
-
-/// Appends why a name lets no process move, or how often isn't said.
-fn put_name(
-    alloc: Global,
-    program: &Program<Global>,
-    name: &[u8],
-    out: &mut Vec<u8>,
-) -> Result<(), AllocError> {
-    let pids = pids_named(alloc, program, name)?;
-    if pids.len() == 1 {
-        out.extend_from_slice(b"after ")?;
-        put_printable(name, out)?;
-        return out.extend_from_slice(b" nothing, `!` or `*` with a number up to 65535 is expected");
-    }
+/// Why a name stands for no directive, where the initial processes with that name have these pids.
+fn reason_of_name<'a>(
+    program: &'a Program<Global>,
+    name: &'a [u8],
+    pids: &'a [u32],
+) -> MovesReason<'a, Global>
+    ensures { moves_reason_seen result ≡ reason_of_name (program_of program.now) name.now pids.now }
+{
     if pids.is_empty() {
-        out.extend_from_slice(b"no initial process starts in a function '")?;
-        put_printable(name, out)?;
-        out.push(b'\'')?;
-        return put_starts(alloc, program, out);
+        return no_start_of(program, name);
     }
-    out.extend_from_slice(b"several initial processes start in a function ")?;
-    put_printable(name, out)?;
-    out.extend_from_slice(b": ")?;
-    put_pids(alloc, &pids, out)
+    if pids.len() == 1 {
+        return MovesReason::NoCount { name };
+    }
+    MovesReason::ManyStarts { name, pids }
 }
 
-/// Appends why a piece stands for no directive.
-fn put_reason(
+/// Why bytes that are no name stand for no directive.
+fn reason_without_name(mover: &[u8]) -> Option<MovesReason<'static, Global>>
+    ensures { option_map moves_reason_seen result ≡ reason_without_name mover.now }
+{
+    if mover.is_empty() {
+        return Some(MovesReason::NoMover);
+    }
+    if mover[0].is_ascii_digit() {
+        return Some(MovesReason::NoNumber);
+    }
+    None
+}
+
+/// Appends the line of a text of moves in which no directive stands at this place.
+fn put_no_directive(
+    place: LineColumn,
+    reason: MovesReason<'_, Global>,
+    line: &mut Vec<u8>,
+) -> Result<(), AllocError>
+    ensures { OnOk result (line.new.items ≡ line.old.items ++ bad_moves_text
+        (no_directive_at (record { line = place.line; column = place.column }) (moves_reason_seen reason.entry))) }
+{
+    let moves = BadMoves::NoDirective {
+        line: place.line,
+        column: place.column,
+        reason,
+    };
+    write_bad_moves(moves, line)
+}
+
+/// Appends the line of a text of moves in which no directive stands at this place, where these bytes are.
+fn put_refused_mover(
     alloc: Global,
     script: NamedText<'_>,
+    place: LineColumn,
     mover: &[u8],
-    out: &mut Vec<u8>,
-) -> Result<(), AllocError> {
-    let [first, ..] = mover else {
-        return out.extend_from_slice(b"a number, a name or `*` alone is expected");
+    line: &mut Vec<u8>,
+) -> Result<(), AllocError>
+    requires { line.old.items ≡ [] }
+    ensures { OnOk result (IsDirectiveLine script.entry.bytes.now mover.now
+        (record { line = place.line; column = place.column }) line.new.items) }
+{
+    if let Some(reason) = reason_without_name(mover) {
+        return put_no_directive(place, reason, line);
+    }
+    let Ok(program) = accept(alloc, script.bytes) else {
+        return put_no_directive(place, MovesReason::NoProgram, line);
     };
-    if first.is_ascii_digit() {
-        return out.extend_from_slice(
-            b"a number below 4294967296 without a leading zero is expected, and then nothing, `!` or `*` with a number up to 65535",
-        );
-    }
-    match accept(alloc, script.bytes) {
-        Ok(program) => put_name(alloc, &program, mover, out),
-        Err(_) => Ok(()),
-    }
+    let pids = pids_named(alloc, &program, mover)?;
+    put_no_directive(place, reason_of_name(&program, mover, &pids), line)
+}
+
+/// The bytes of a text from an offset on.
+fn rest_at(text: &[u8], at: usize) -> &[u8]
+    ensures { result.now ≡ drop at text.now }
+{
+    if at < text.len() { &text[at..] } else { b"" }
+}
+
+/// The line of a text of moves in which no directive stands at this offset.
+fn directive_line(
+    alloc: Global,
+    script: NamedText<'_>,
+    moves: &[u8],
+    at: usize,
+) -> Result<Vec<u8>, AllocError>
+    ensures { IfOk result (λ v.
+        IsDirectiveLine script.entry.bytes.now (mover_at moves.now at) (place_at moves.now at) v.items) }
+{
+    let place = line_column_of(moves, at);
+    let left = rest_at(moves, at);
+    let mover = &left[..mover_len(left)];
+    let mut line = Vec::new(alloc);
+    put_refused_mover(alloc, script, place, mover, &mut line)?;
+    Ok(line)
+}
+
+/// The line of a text of moves that is too long.
+fn long_moves_line(alloc: Global) -> Result<Vec<u8>, AllocError>
+    ensures { IfOk result (λ v. v.items ≡ bad_moves_text too_many_bytes) }
+{
+    let mut line = Vec::new(alloc);
+    write_bad_moves(BadMoves::<Global>::TooManyBytes, &mut line)?;
+    Ok(line)
 }
 
 /// The line that says where a text of moves is refused, and why.
@@ -104,36 +133,12 @@ fn moves_line(
     refusal: MovesRefusal,
     script: NamedText<'_>,
     moves: &[u8],
-) -> Result<Vec<u8>, AllocError> {
-    let mut line = Vec::new(alloc);
+) -> Result<Vec<u8>, AllocError>
+    ensures { IfOk result (λ v. IsMovesLine script.entry.bytes.now moves.now refusal v.items) }
+{
     match refusal {
-        MovesRefusal::TooLong => {
-            line.extend_from_slice(b"moves: longer than 1048576 bytes")?;
-        }
-        MovesRefusal::NoDirective { at } => {
-            let at = at.min(moves.len());
-            let place = line_column_of(moves, at);
-            let text = format!(in alloc; "moves:{}:{}: ", place.line, place.column)?;
-            line.extend_from_slice(text.as_bytes())?;
-            let left = &moves[at..];
-            put_reason(alloc, script, &left[..mover_len(left)], &mut line)?;
-        }
-    }
-    Ok(line)
-}
-
-/// Says in one line where a text of moves is refused, and why.
-fn tell_moves<R: Eprint + AllocGlobal>(
-    rt: &R,
-    refusal: MovesRefusal,
-    script: NamedText<'_>,
-    moves: &[u8],
-) {
-    let Ok(line) = moves_line(rt.alloc(), refusal, script, moves) else {
-        return;
-    };
-    if let Ok(line) = str::from_utf8(&line) {
-        let _ = rt.eprintln(line);
+        MovesRefusal::TooLong => long_moves_line(alloc),
+        MovesRefusal::NoDirective { at } => directive_line(alloc, script, moves, at),
     }
 }
 
@@ -146,6 +151,10 @@ pub(crate) fn tell_run_refusal<R: Eprint + AllocGlobal>(
 ) {
     match refusal {
         RunRefusal::Text(refusal) => tell_refusal(rt, refusal, script, text),
-        RunRefusal::Moves(refusal) => tell_moves(rt, refusal, script, text),
+        RunRefusal::Moves(refusal) => {
+            if let Ok(line) = moves_line(rt.alloc(), refusal, script, text) {
+                print_line(rt, &line);
+            }
+        }
     }
 }

@@ -9,11 +9,12 @@ ghost use Rattle.tn_command.specs.Status.{IsFailure};
 use crate::last_error::LastError;
 use crate::source::{Source, open};
 use crate::status::FAULT;
-use crate::stderr::tell_fault;
+use crate::stderr::run_fault;
 use std::alloc::{Allocator, Global};
 use std::io::Read;
 use std::process::ExitCode;
 use std::rt::Files;
+use tn_notice::print_fault;
 use tn_run::{RunFault, read_text};
 use tn_text::Watched;
 
@@ -47,8 +48,8 @@ pub fn picks_over<A: Allocator, R: Read>(
 }
 
 /// The same, with a line on standard error where it fails.
-fn picks_text<R: Read + Drop>(
-    rt: &impl Eprint,
+fn picks_text<E: Eprint, R: Read + Drop>(
+    rt: &E,
     alloc: Global,
     reader: R,
 ) -> Result<Vec<u8>, ExitCode>
@@ -59,7 +60,7 @@ fn picks_text<R: Read + Drop>(
         Ok(text) => Ok(text),
         Err(fault) => {
             let (_, reason) = reader.into_inner().into_parts();
-            tell_fault(rt, &fault, reason);
+            print_fault(rt, run_fault(fault), reason);
             Err(ExitCode::from(FAULT))
         }
     }

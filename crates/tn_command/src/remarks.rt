@@ -1,10 +1,14 @@
 // What is remarked of a run, or of the test of a match specification, on standard error.
-use crate::pick_notes::tell_pick_of_nobody;
+ghost use Rattle.std.specs.Prelude.{◌≡◌};
+ghost use Rattle.tn_notice.specs.NoticeViews.{notices_seen};
+ghost use Rattle.tn_command.specs.Notices.{notice_of_forms};
+
 use crate::spec_notes::spec_note_lines;
 use crate::stderr::NamedText;
 use std::alloc::Global;
 use tn_listing::read_picks;
 use tn_moves::Schedule;
+use tn_notice::{Notice, nobody_notice, print_notice};
 use tn_replay::{has_no_forms, remark_lines, schedule_remark_lines};
 use tn_verdict::SpecTestInput;
 
@@ -15,15 +19,26 @@ fn print_lines<R: Eprint>(rt: &R, lines: Option<Vec<u8>>) {
     };
     if let Ok(text) = str::from_utf8(&lines) {
         if let Some(text) = text.strip_suffix("\n") {
-            let _ = rt.eprintln(text);
+            print_notice(rt, Notice::Line(text));
         }
     }
 }
 
-/// Says of a script that it has no forms, where it has none.
-pub(crate) fn tell_empty_script<R: Eprint>(rt: &R, script: NamedText<'_>) {
-    if has_no_forms(script.bytes) {
-        let _ = rt.eprintln("note: the script has no forms");
+/// Prints a notice, where there is one.
+pub(crate) fn print_notices<R: Eprint>(rt: &R, notice: Option<Notice<'_>>) {
+    if let Some(notice) = notice {
+        print_notice(rt, notice);
+    }
+}
+
+/// What is said of a script that has no forms.
+pub(crate) fn forms_notice(script: &[u8]) -> Option<Notice<'static>>
+    ensures { notices_seen result ≡ notice_of_forms script.now }
+{
+    if has_no_forms(script) {
+        Some(Notice::NoForms)
+    } else {
+        None
     }
 }
 
@@ -54,7 +69,7 @@ pub(crate) fn tell_schedule_remarks<R: Eprint + AllocGlobal>(
 pub(crate) fn tell_schedule_picks<R: Eprint + AllocGlobal>(rt: &R, schedule: Schedule<'_>) {
     if let Schedule::Picks(text) = schedule {
         if let Ok(picks) = read_picks::<Global>(rt.alloc(), text) {
-            tell_pick_of_nobody(rt, &picks);
+            print_notices(rt, nobody_notice(&picks));
         }
     }
 }

@@ -11,6 +11,7 @@ use std::io::ErrorKind;
 use std::process::ExitCode;
 use std::rt::Files;
 use std::{fs, io};
+use tn_notice::print_no_file;
 
 /// Where a text is read from.
 #[derive(Clone, Copy)]
@@ -65,8 +66,7 @@ pub fn open<R: Files + Eprint + AllocGlobal>(rt: &R, path: &str) -> Result<R::Fi
         Ok(file) => Ok(file),
         Err(error) => {
             let plain = escape_controls(rt.alloc(), path);
-            let name = plain_name(&plain, "the file");
-            let _ = rt.eprintln(format_args!("error: {name}: {error}"));
+            print_no_file(rt, plain_name(&plain, "the file"), error);
             let status = if is_mistaken(error.kind()) {
                 REFUSED
             } else {

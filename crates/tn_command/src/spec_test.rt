@@ -1,21 +1,28 @@
 // The trial of one specification.
 ghost use Rattle.std.specs.Prelude.{◌≡◌};
 ghost use Rattle.std.specs.Process.{exit_status};
+ghost use Rattle.tn_notice.specs.NoticeViews.{notices_seen};
+ghost use Rattle.tn_command.specs.Notices.{notice_of_test};
 ghost use Rattle.tn_command.specs.Status.{IsStatus, OnFaultUntouchedOrFailed};
 ghost use Rattle.tn_command.specs.SpecTests.{HasAnswerIfListed, MeetsSpecTest, TriedAs, spec_test_status_of};
 
 use crate::last_error::LastError;
-use crate::remarks::tell_spec_notes;
+use crate::remarks::{print_notices, tell_spec_notes};
 use crate::spec_format::test_spec_by;
 use crate::status::{FAULT, JobEnd, REFUSED};
-use crate::stderr::tell_fault;
-use std::alloc::Allocator;
+use crate::stderr::run_fault;
+use std::alloc::{Allocator, Global};
+use std::fmt::InlineText;
 use std::io;
 use std::io::Write;
 use std::process::ExitCode;
 use tn_formats::Format;
+use tn_notice::{
+    CommandFault, Notice, TestText, TestTextFault, print_fault, print_notice,
+};
 use tn_refusal::{Refusal, explain_term};
 use tn_run::{RunFault, write_output};
+use tn_spec::SpecFault;
 use tn_text::{TextFault, Watched};
 use tn_verdict::{SpecTestFault, SpecTestInput, answer, no_specification_text};
 
@@ -66,6 +73,9 @@ pub fn test_spec_over<A: Allocator + Copy, W: Write>(
     }
 }
 
+/// The words of a fault of a match specification, which has the name of a function at most.
+type FaultWords = InlineText<320>;
+
 /// Why a text is no term, as a refusal of its token, where it is of one.
 fn refusal_of(fault: TextFault) -> Option<Refusal> {
     match fault {
@@ -76,60 +86,93 @@ fn refusal_of(fault: TextFault) -> Option<Refusal> {
     }
 }
 
-/// Says on standard error where the text of this name can be fixed, and why.
-fn tell_text<A: Allocator + Copy>(
-    rt: &impl Eprint,
-    alloc: A,
-    name: &str,
-    text: &[u8],
-    fault: TextFault,
-) {
+/// Says on standard error where this text of the test can be fixed, and why.
+fn tell_text<R: Eprint + AllocGlobal>(rt: &R, text: TestText, bytes: &[u8], fault: TextFault) {
     let line = match refusal_of(fault) {
-        Some(refusal) => explain_term(alloc, name, text, refusal).ok(),
+        Some(refusal) => explain_term::<Global>(rt.alloc(), text.name(), bytes, refusal).ok(),
         None => None,
     };
-    let _ = match &line {
-        Some(line) => rt.eprintln(str::from_utf8(line).unwrap_or(name)),
-        None => rt.eprintln(format_args!("{name}: {fault}")),
-    };
+    match &line {
+        Some(line) => print_notice(
+            rt,
+            Notice::Line(str::from_utf8(line).unwrap_or(text.name())),
+        ),
+        None => {
+            let fault = TestTextFault::NoTerm(fault);
+            print_notice(rt, Notice::TestText { text, fault });
+        }
+    }
 }
 
-/// Says on standard error why the specification can't be read.
-fn tell_specification<A: Allocator + Copy>(
-    rt: &impl Eprint,
-    alloc: A,
+/// Says on standard error why the specification can't be read, in these words.
+fn tell_specification<R: Eprint>(rt: &R, words: &str) {
+    let text = TestText::Specification;
+    let fault = TestTextFault::Words(words);
+    print_notice(rt, Notice::TestText { text, fault });
+}
+
+/// Says on standard error that the specification can't be read, in the words of its first fault.
+fn tell_first_fault<R: Eprint>(rt: &R, fault: &SpecFault<Global>) {
+    let words = FaultWords::of(fault);
+    tell_specification(rt, words.as_str());
+}
+
+/// Says on standard error why the specification can't be read: in the words of its first fault where there is no
+/// memory for the reason.
+fn tell_reason<R: Eprint + AllocGlobal>(
+    rt: &R,
     question: &SpecTestInput<'_>,
-    fault: &SpecTestFault<A>,
+    fault: &SpecFault<Global>,
 ) {
-    let Ok(reason) = no_specification_text(alloc, question.spec, question.dialect) else {
-        let _ = rt.eprintln(fault);
-        return;
+    let reason = no_specification_text::<Global>(rt.alloc(), question.spec, question.dialect);
+    let words = match &reason {
+        Ok(reason) => str::from_utf8(reason).unwrap_or(""),
+        Err(_) => "",
     };
-    let reason = str::from_utf8(&reason).unwrap_or("");
-    let _ = if reason.is_empty() {
-        rt.eprintln(fault)
+    if words.is_empty() {
+        tell_first_fault(rt, fault);
     } else {
-        rt.eprintln(format_args!("specification: {reason}"))
-    };
+        tell_specification(rt, words);
+    }
+}
+
+/// What is said of a fault of the test that needs no other words.
+fn test_notice<A: Allocator>(fault: &SpecTestFault<A>) -> Option<Notice<'static>>
+    ensures { notices_seen result ≡ notice_of_test fault.now }
+{
+    match fault {
+        SpecTestFault::NoList => Some(Notice::TestText {
+            text: TestText::List,
+            fault: TestTextFault::NoList,
+        }),
+        SpecTestFault::NoCaller => Some(Notice::TestText {
+            text: TestText::Caller,
+            fault: TestTextFault::NoFunction,
+        }),
+        SpecTestFault::OutOfMemory => Some(Notice::Fault(CommandFault::Memory)),
+        _ => None,
+    }
 }
 
 /// Says on standard error why the question has no answer, in one line.
-fn tell_question<A: Allocator + Copy>(
-    rt: &impl Eprint,
-    alloc: A,
+fn tell_question<R: Eprint + AllocGlobal>(
+    rt: &R,
     question: &SpecTestInput<'_>,
-    fault: &SpecTestFault<A>,
+    fault: &SpecTestFault<Global>,
 ) {
     match fault {
-        SpecTestFault::List(fault) => tell_text(rt, alloc, "list", question.list, *fault),
+        SpecTestFault::List(fault) => tell_text(rt, TestText::List, question.list, *fault),
         SpecTestFault::Caller(fault) => {
-            tell_text(rt, alloc, "caller", question.caller.unwrap_or(b""), *fault);
+            tell_text(
+                rt,
+                TestText::Caller,
+                question.caller.unwrap_or(b""),
+                *fault,
+            );
         }
-        SpecTestFault::Text(fault) => tell_text(rt, alloc, "specification", question.spec, *fault),
-        SpecTestFault::Spec { .. } => tell_specification(rt, alloc, question, fault),
-        _ => {
-            let _ = rt.eprintln(fault);
-        }
+        SpecTestFault::Text(fault) => tell_text(rt, TestText::Specification, question.spec, *fault),
+        SpecTestFault::Spec { fault, .. } => tell_reason(rt, question, fault),
+        _ => print_notices(rt, test_notice(fault)),
     }
 }
 
@@ -147,13 +190,8 @@ pub fn test_spec<R: Print + Eprint + AllocGlobal>(
     let (_, reason) = writer.into_inner().into_parts();
     match answer {
         Ok(()) => tell_spec_notes(rt, question),
-        Err(SpecTestRunFault::SpecTestInput(fault)) => tell_question(
-            rt,
-            rt.alloc(),
-            question,
-            &fault,
-        ),
-        Err(SpecTestRunFault::Run(fault)) => tell_fault(rt, &fault, reason),
+        Err(SpecTestRunFault::SpecTestInput(fault)) => tell_question(rt, question, &fault),
+        Err(SpecTestRunFault::Run(fault)) => print_fault(rt, run_fault(fault), reason),
     }
     status
 }

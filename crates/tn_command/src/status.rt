@@ -4,8 +4,8 @@ ghost use Rattle.std.specs.Process.{exit_status};
 ghost use Rattle.tn_command.specs.Status.{FAULT_STATUS, status_after_judgement, status_of};
 
 use std::alloc::Allocator;
-use std::fmt::Display;
 use std::process::ExitCode;
+use tn_notice::{CommandFault, Notice, print_notice};
 use tn_run::Job;
 
 /// The status of a run whose output isn't what is expected.
@@ -57,9 +57,9 @@ pub fn judge_status(status: ExitCode, is_met: bool) -> ExitCode
 }
 
 /// The exit status of a fault, after its line on standard error.
-pub fn report<F: Display + Drop>(rt: &impl Eprint, fault: F) -> ExitCode
+pub fn report<R: Eprint>(rt: &R, fault: CommandFault) -> ExitCode
     ensures { exit_status result ≡ FAULT_STATUS }
 {
-    let _ = rt.eprintln(&fault);
+    print_notice(rt, Notice::Fault(fault));
     ExitCode::from(FAULT)
 }

@@ -1,9 +1,17 @@
 // What is said on standard error of a refusal or a fault, and of what a running node does otherwise.
-use std::fmt::Display;
-use std::io::{Error, ErrorKind};
+ghost use Rattle.std.specs.Prelude.{◌≡◌, ◌≢◌, codes, IfOk};
+ghost use Rattle.def_notice.specs.NoticeTexts.{node_moves};
+ghost use Rattle.tn_notice.specs.FaultViews.{command_fault_seen};
+ghost use Rattle.tn_notice.specs.NoticeViews.{command_seen_of, notice_seen};
+ghost use Rattle.tn_refusal.specs.Lines.{IsExplained};
+ghost use Rattle.tn_refusal.specs.Refusals.{refusal_of};
+ghost use Rattle.tn_command.specs.Notices.{live_fault_said, run_fault_said};
+
+use std::alloc::{AllocError, Global};
+use tn_notice::{CommandFault, NodeCommand, Notice, print_line};
 use tn_refusal::explain;
 use tn_replay::NodeNote;
-use tn_run::{Refusal, RunFault};
+use tn_run::{LiveFault, Refusal, RunFault};
 
 /// A text, and the name that it goes by.
 #[derive(Clone, Copy)]
@@ -12,43 +20,64 @@ pub struct NamedText<'a> {
     pub bytes: &'a [u8],
 }
 
-/// Says in one line how the refused text can be fixed: the script, or for refusal 20 the picks. Where memory
-/// for that is refused, the refusal stands alone.
+/// The line that says how the refused text can be fixed: the script, or for refusal 20 the picks.
+fn refusal_line(
+    alloc: Global,
+    refusal: Refusal,
+    script: NamedText<'_>,
+    picks: &[u8],
+) -> Result<Vec<u8>, AllocError>
+    ensures picks { refusal ≡ Refusal.BadPicks → IfOk result (λ v.
+        IsExplained (codes "picks") picks.now (refusal_of refusal) v.items) }
+    ensures script { refusal ≢ Refusal.BadPicks → IfOk result (λ v.
+        IsExplained script.entry.name.now script.entry.bytes.now (refusal_of refusal) v.items) }
+{
+    match refusal {
+        Refusal::BadPicks => explain(alloc, "picks", picks, refusal),
+        _ => explain(alloc, script.name, script.bytes, refusal),
+    }
+}
+
+/// Says in one line how the refused text can be fixed. Where memory for that is refused, the refusal stands alone.
 pub fn tell_refusal<R: Eprint + AllocGlobal>(
     rt: &R,
     refusal: Refusal,
     script: NamedText<'_>,
     picks: &[u8],
 ) {
-    let (name, bytes) = match refusal {
-        Refusal::BadPicks => ("picks", picks),
-        _ => (script.name, script.bytes),
-    };
-    let Ok(line) = explain(rt.alloc(), name, bytes, refusal) else {
-        return;
-    };
-    if let Ok(line) = str::from_utf8(&line) {
-        let _ = rt.eprintln(line);
+    if let Ok(line) = refusal_line(rt.alloc(), refusal, script, picks) {
+        print_line(rt, &line);
     }
 }
 
-/// Says which fault it was, and the system's reason where there is one. A reader that was refused memory is
-/// a lack of memory, as that of the run itself is. Of a closed pipe nothing is said, since whoever read it is gone.
-pub fn tell_fault<F: Display>(rt: &impl Eprint, fault: &F, reason: Option<Error>) {
-    let _ = match reason {
-        None => rt.eprintln(fault),
-        Some(error) if error.kind() == ErrorKind::BrokenPipe => Ok(()),
-        Some(error) if error.kind() == ErrorKind::OutOfMemory => {
-            rt.eprintln(RunFault::OutOfMemory)
-        }
-        Some(error) => rt.eprintln(format_args!("{fault}: {error}")),
-    };
+/// What fault of a command a fault of a run is.
+pub fn run_fault(fault: RunFault) -> CommandFault
+    ensures { command_fault_seen result ≡ run_fault_said fault }
+{
+    match fault {
+        RunFault::Read => CommandFault::Read,
+        RunFault::Write { written } => CommandFault::Write { written },
+        RunFault::OutOfMemory => CommandFault::Memory,
+    }
 }
 
-/// Says how many moves of a run a running node does otherwise, and which command shows them.
-pub(crate) fn tell_note<R: Eprint>(rt: &R, note: NodeNote, how: &str) {
-    let NodeNote { differing, moves } = note;
-    let _ = rt.eprintln(format_args!(
-        "note: a running node differs at {differing} of {moves} moves; {how} shows where"
-    ));
+/// What fault of a command a fault of a run by workers is.
+pub(crate) fn live_fault(fault: LiveFault) -> CommandFault
+    ensures { command_fault_seen result ≡ live_fault_said fault }
+{
+    match fault {
+        LiveFault::Run(fault) => run_fault(fault),
+        LiveFault::Pool(_) => CommandFault::Workers,
+    }
+}
+
+/// At how many moves of a run a running node differs, and which command shows them.
+pub(crate) fn node_notice(note: NodeNote, command: NodeCommand) -> Notice<'static>
+    ensures { notice_seen result ≡ node_moves note.differing note.moves (command_seen_of command) }
+{
+    Notice::NodeMoves {
+        differing: note.differing,
+        moves: note.moves,
+        command,
+    }
 }

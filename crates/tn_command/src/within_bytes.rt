@@ -7,6 +7,7 @@ use crate::output_fault::OutputFault;
 use crate::stderr::NamedText;
 use std::alloc::{Allocator, Global};
 use tn_listing::PicksFault;
+use tn_notice::CommandFault;
 use tn_program::Program;
 use tn_run::{Denial, DirectJob, Job, Refusal, RunFault};
 
@@ -96,7 +97,22 @@ impl<A: Allocator + Copy, J: DirectJob<A>> DirectJob<A> for WithinBytes<'_, J> {
 }
 
 impl<J: Command> Command for WithinBytes<'_, J> {
+    ghost use Rattle.tn_command.specs.Notices.{output_fault_said};
+
     ghost flaw = { λ w outcome bytes flawed. J.flaw w.job.now outcome bytes flawed };
+
+    ghost said = { output_fault_said J.said };
+
+    fn command_fault(&self, fault: &OutputFault<J::Fault>) -> CommandFault {
+        match fault {
+            OutputFault::Job(fault) => self.job.command_fault(fault),
+            OutputFault::TooLong { bytes, most } => CommandFault::Bytes {
+                bytes: *bytes,
+                most: *most,
+            },
+            OutputFault::ListingsTooLong { most } => CommandFault::Listings { most: *most },
+        }
+    }
 
     fn tell_outcome<R: Eprint + AllocGlobal>(
         &self,

@@ -8,7 +8,7 @@ use std::alloc::{AllocError, Global};
 use std::env::FillError;
 use std::process::ExitCode;
 use std::rt::Env;
-use tn_run::RunFault;
+use tn_notice::CommandFault;
 
 /// How many bytes a word may have at first; twice as many at each further try.
 const ROOM: usize = 256;
@@ -54,6 +54,6 @@ pub fn arguments<R: Env + Eprint + AllocGlobal>(rt: &R) -> Result<Vec<String>, E
 {
     match words(rt, rt.alloc()) {
         Ok(words) => Ok(words),
-        Err(_) => Err(report(rt, RunFault::OutOfMemory)),
+        Err(_) => Err(report(rt, CommandFault::Memory)),
     }
 }

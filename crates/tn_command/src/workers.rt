@@ -13,10 +13,10 @@ use crate::last_error::LastError;
 use crate::moves_line::tell_run_refusal;
 use crate::output_fault::OutputFault;
 use crate::output_form::OutputForm;
-use crate::remarks::{tell_empty_script, tell_remarks};
+use crate::remarks::{forms_notice, print_notices, tell_remarks};
 use crate::source::{Source, open};
 use crate::status::{JobEnd, job_status};
-use crate::stderr::{NamedText, tell_note};
+use crate::stderr::{NamedText, live_fault, node_notice};
 use crate::tee::Tee;
 use crate::workers_form::run_workers_in_form_over;
 use std::alloc::Global;
@@ -28,6 +28,7 @@ use std::rt::Files;
 use std::sync::Wait;
 use std::thread::Threads;
 use tn_listing::PicksFault;
+use tn_notice::{CommandFault, NodeCommand, print_notice};
 use tn_pool::Gate;
 use tn_replay::text_note;
 use tn_run::{Denial, Job, LiveFault, LiveRun, Outcome, Ran, Refusal, RunFault, Workers, run_live};
@@ -93,18 +94,32 @@ impl Job<Global> for WorkersRun<'_> {
 
 impl Command for WorkersRun<'_> {
     ghost use Rattle.tn_command.specs.Flaws.{IsWorkersFlaw};
+    ghost use Rattle.tn_command.specs.Notices.{live_fault_said, output_fault_said};
 
     ghost flaw = { λ job ran bytes flawed. IsWorkersFlaw ran bytes flawed };
+
+    ghost said = { output_fault_said live_fault_said };
+
+    fn command_fault(&self, fault: &OutputFault<LiveFault>) -> CommandFault {
+        match fault {
+            OutputFault::Job(fault) => live_fault(*fault),
+            OutputFault::TooLong { bytes, most } => CommandFault::Bytes {
+                bytes: *bytes,
+                most: *most,
+            },
+            OutputFault::ListingsTooLong { most } => CommandFault::Listings { most: *most },
+        }
+    }
 
     fn tell_outcome<R: Eprint + AllocGlobal>(&self, rt: &R, ran: Ran, script: NamedText<'_>) {
         match ran.outcome {
             Outcome::Refused(refusal) => tell_run_refusal(rt, refusal, script, b""),
             Outcome::Listed if !self.has_note => {}
             Outcome::Listed => {
-                tell_empty_script(rt, script);
+                print_notices(rt, forms_notice(script.bytes));
                 tell_remarks(rt, script, &ran.picks);
                 if let Ok(Some(note)) = text_note(rt.alloc(), script.bytes, &ran.picks) {
-                    tell_note(rt, note, "explain --node, by the picks of the journal,");
+                    print_notice(rt, node_notice(note, NodeCommand::Journal));
                 }
             }
         }

@@ -16,6 +16,7 @@ use tn_command::{
     Expectation, MAX_OUTPUT, REFUSED, Source, WithinBytes, arguments, perform, plain_number,
 };
 use tn_moves::Schedule;
+use tn_notice::{Notice, print_notice};
 use tn_replay::Replay;
 use tn_trace::JOURNAL;
 
@@ -77,7 +78,8 @@ fn start<R: Env + Input + Files + Print + Eprint + AllocGlobal>(rt: &R) -> ExitC
             perform(rt, Source::Input, within, &Expectation::NONE)
         }
         None => {
-            let _ = rt.eprintln("error: the words are run, replay --picks TEXT, or round [--limit N]");
+            let words = "error: the words are run, replay --picks TEXT, or round [--limit N]";
+            print_notice(rt, Notice::Line(words));
             ExitCode::from(REFUSED)
         }
     }

@@ -9,11 +9,12 @@ ghost use Rattle.tn_request.specs.Tasks.{format_asked, listing_task, task_asked,
 use crate::request::RunRequest;
 use crate::schedule::schedule_of;
 use std::alloc::{Allocator, Global};
-use tn_command::{Command, NamedText};
+use tn_command::{Command, NamedText, run_fault};
 use tn_explain::{ExplainOutcome, ExplainRequest};
 use tn_formats::Format;
 use tn_listing::PicksFault;
 use tn_moves::Schedule;
+use tn_notice::CommandFault;
 use tn_picture::{DrawOutcome, DrawRequest};
 use tn_program::Program;
 use tn_replay::{Replay, ReplayOutcome};
@@ -223,10 +224,17 @@ impl<A: Allocator + Copy> DirectJob<A> for RequestJob<'_> {
 }
 
 impl Command for RequestJob<'_> {
+    ghost use Rattle.tn_command.specs.Notices.{run_fault_said};
     ghost use Rattle.tn_request.specs.TaskFlaws.{IsTaskFlaw};
     ghost use Rattle.tn_request.specs.Tasks.{task_seen};
 
     ghost flaw = { λ job outcome bytes flawed. IsTaskFlaw (task_seen job) outcome bytes flawed };
+
+    ghost said = { run_fault_said };
+
+    fn command_fault(&self, fault: &RunFault) -> CommandFault {
+        run_fault(*fault)
+    }
 
     fn tell_outcome<R: Eprint + AllocGlobal>(
         &self,
