@@ -2,7 +2,7 @@
 use Rattle.std.proofs.Common.{◌≡◌, ◌+◌, ℕ, List, ◌++◌, codes, decimal, refl, ◌∙◌, arith, Some, None}
 use Rattle.def_text.specs.Places.{line_feeds}
 use Rattle.def_text.proofs.Columns.{line_feeds-append}
-use Rattle.def_notice.specs.FaultTexts.{FaultSaid, of_reading, of_writing, of_memory, of_workers, of_bytes, of_listings, output_text, fault_text}
+use Rattle.def_notice.specs.FaultTexts.{FaultSaid, of_reading, of_writing, of_memory, of_workers, of_bytes, of_listings, of_expectation, output_text, fault_text}
 use Rattle.def_notice.specs.DifferenceTexts.{Side, expected_output, found_output, OutputDifference, one_line, two_lines, lines_without_text, last_line_feed, no_line, end_of_output, more_lines, more_differences, side_text, numbered_line, output_difference_text}
 use Rattle.def_notice.specs.NoticeTexts.{NodeCommand, by_same_picks, by_journal, node_command_text, TestText, the_list, the_caller, the_specification, test_text_name, TestTextFault, is_no_list, is_no_function, is_too_long, goes_on_otherwise, is_too_deep, is_too_large, has_no_memory, fault_in_words, test_fault_text, ReadBeside, picks_beside, moves_beside, Notice, given_line, of_fault, of_fault_because, no_file, both_from_input, no_value, of_test_text, no_session, no_move, no_node_move, no_forms, pick_of_nobody, node_moves, of_difference, lacks_a_line, has_a_line, notice_text}
 use Rattle.def_notice.specs.NoticeLaws.{words_of_test_fault, words_of_notice, line_feeds_of_notice}
@@ -29,6 +29,11 @@ fault_is_a_line of_memory = refl
 fault_is_a_line of_workers = refl
 fault_is_a_line (of_bytes n most) = output_is_a_line (decimal n) most (decimal_has_none n)
 fault_is_a_line (of_listings most) = output_is_a_line (codes "more than " ++ decimal most) most (decimal_has_none most)
+fault_is_a_line (of_expectation most) =
+    let front = codes "fault expect: the file has more than " in
+    before_number (front ++ decimal most ++ codes " bytes, and --max-output is ") most
+    ∙ before_none (front ++ decimal most) (codes " bytes, and --max-output is ") refl
+    ∙ before_number front most
 
 -- ---- differences
 

@@ -4,7 +4,7 @@ use Rattle.std.specs.Fmt.{digits}
 use Prim.Native.String.{String}
 use Rattle.def_term.specs.Text.{is_written_bare}
 use Rattle.def_text.specs.Places.{place_at}
-use Rattle.def_notice.specs.FaultTexts.{of_reading, of_writing, of_memory, of_workers, of_bytes, of_listings, broken_pipe, refused_memory}
+use Rattle.def_notice.specs.FaultTexts.{of_reading, of_writing, of_memory, of_workers, of_bytes, of_listings, of_expectation, broken_pipe, refused_memory}
 use Rattle.def_notice.specs.MovesTexts.{MovesReason, no_mover, no_number, no_count, no_start, many_starts, too_many_bytes, no_directive_at, bad_moves_text}
 use Rattle.def_notice.specs.DifferenceTexts.{expected_output, found_output, one_line, two_lines, lines_without_text, last_line_feed, no_line, end_of_output, more_lines, more_differences}
 use Rattle.def_notice.specs.NoticeTexts.{by_same_picks, by_journal, the_list, the_caller, the_specification, is_no_list, is_no_function, is_too_long, is_too_deep, fault_in_words, picks_beside, moves_beside, Notice, of_fault, of_fault_because, no_file, both_from_input, no_value, of_test_text, no_session, no_move, no_node_move, no_forms, pick_of_nobody, node_moves, of_difference, lacks_a_line, has_a_line, notice_text, notice_of_fault}
@@ -35,6 +35,10 @@ long_output = refl
 long_listings : Says (of_fault (of_listings 10)) "fault output: the output has more than 10 bytes, and --max-output is 10"
 unfolding digits
 long_listings = refl
+
+long_expectation : Says (of_fault (of_expectation 10)) "fault expect: the file has more than 10 bytes, and --max-output is 10"
+unfolding digits
+long_expectation = refl
 
 pipe_broken : notice_of_fault (of_writing 0) (Some broken_pipe) ≡ None
 pipe_broken = refl

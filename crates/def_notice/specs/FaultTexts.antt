@@ -15,6 +15,8 @@ pub data FaultSaid : Type 0 where
   of_bytes : (bytes most : ℕ) → FaultSaid
   -- the listings alone have more bytes than the output may have
   of_listings : (most : ℕ) → FaultSaid
+  -- the file of the output that is expected has more bytes than an output may have
+  of_expectation : (most : ℕ) → FaultSaid
 
 -- how many bytes the output has, and how many it may have
 abbrev pub output_text : List ℕ → ℕ → List ℕ
@@ -28,6 +30,7 @@ fault_text of_memory = codes "fault memory"
 fault_text of_workers = codes "fault workers"
 fault_text (of_bytes bytes most) = output_text (decimal bytes) most
 fault_text (of_listings most) = output_text (codes "more than " ++ decimal most) most
+fault_text (of_expectation most) = codes "fault expect: the file has more than " ++ decimal most ++ codes " bytes, and --max-output is " ++ decimal most
 
 -- why a read or a write failed
 pub data SystemReason : Type 0 where

@@ -1,6 +1,6 @@
 -- Lines as the pieces that are written one after another.
 use Rattle.std.proofs.Common.{◌≡◌, ℕ, List, ◌++◌, Some, codes, decimal, ap, ◌∙◌, append_assoc}
-use Rattle.def_notice.specs.FaultTexts.{output_text, of_listings, fault_text}
+use Rattle.def_notice.specs.FaultTexts.{output_text, of_listings, of_expectation, fault_text}
 use Rattle.def_notice.specs.DifferenceTexts.{expected_output, found_output, two_lines, numbered_line, output_difference_text}
 use Rattle.def_notice.specs.NoticeTexts.{NodeCommand, node_command_text, no_value, pick_of_nobody, node_moves, notice_text}
 
@@ -22,6 +22,9 @@ pieces_of_output bytes most = of_four (codes "fault output: the output has ") by
 
 pub pieces_of_listings : (most : ℕ) → fault_text (of_listings most) ≡ codes "fault output: the output has more than " ++ (decimal most ++ (codes " bytes, and --max-output is " ++ decimal most))
 pieces_of_listings most = pieces_of_output (codes "more than " ++ decimal most) most
+
+pub pieces_of_expectation : (most : ℕ) → fault_text (of_expectation most) ≡ codes "fault expect: the file has more than " ++ (decimal most ++ (codes " bytes, and --max-output is " ++ decimal most))
+pieces_of_expectation most = of_four (codes "fault expect: the file has more than ") (decimal most) (codes " bytes, and --max-output is ") (decimal most)
 
 pub pieces_of_two_lines : (n : ℕ) (one other : List ℕ) → output_difference_text (two_lines n one other)
     ≡ codes "expected line " ++ (decimal n ++ (codes ": " ++ (one ++ (codes "\nfound line " ++ (decimal n ++ (codes ": " ++ other))))))

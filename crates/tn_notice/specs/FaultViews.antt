@@ -17,6 +17,7 @@ command_fault_seen faults.Memory = texts.of_memory
 command_fault_seen faults.Workers = texts.of_workers
 command_fault_seen (faults.Bytes bytes most) = texts.of_bytes bytes most
 command_fault_seen (faults.Listings most) = texts.of_listings most
+command_fault_seen (faults.Expectation most) = texts.of_expectation most
 
 abbrev pub system_reason_seen : SystemReason → texts.SystemReason
 system_reason_seen reasons.BrokenPipe = texts.broken_pipe

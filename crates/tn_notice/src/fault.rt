@@ -24,6 +24,8 @@ pub enum CommandFault {
     Bytes { bytes: usize, most: usize },
     /// The listings alone have more bytes than the output may have.
     Listings { most: usize },
+    /// The file of the output that is expected has more bytes than an output may have.
+    Expectation { most: usize },
 }
 
 impl Display for CommandFault {
@@ -42,6 +44,10 @@ impl Display for CommandFault {
             CommandFault::Listings { most } => write!(
                 f,
                 "fault output: the output has more than {most} bytes, and --max-output is {most}"
+            ),
+            CommandFault::Expectation { most } => write!(
+                f,
+                "fault expect: the file has more than {most} bytes, and --max-output is {most}"
             ),
         }
     }
