@@ -329,6 +329,9 @@ def expectations():
                 ran = run([*words, "--expect", str(path)], SEND_HI)
                 good = ran.returncode == 2 and not ran.stdout and ran.stderr.count(b"\n") == 1
                 check(f"{name} with {path.name} as the output", good and str(path).encode() in ran.stderr, ran)
+            for path, bound in (("/dev/zero", 4096), (str(whole), len(output) - 1)):
+                long = f"fault expect: the file has more than {bound} bytes, and --max-output is {bound}\n".encode()
+                wants(f"{name} with {path} too long", run([*words, "--expect", path, "--max-output", str(bound)], SEND_HI), 3, b"", long)
             ran = run([*words, "--expect", str(whole), "--expect", str(whole)], SEND_HI)
             check(f"{name} with two outputs", ran.returncode == 2 and not ran.stdout and ran.stderr, ran)
             ran = run([*words, "--expect-line", "no such line"], b"[")

@@ -75,7 +75,7 @@ fn run_request<R: Input + Files + Print + Eprint + AllocGlobal + Threads + Wait 
     ensures { IsStatus (exit_status result) }
 {
     let words = request.expectation();
-    let output = match output_of(rt, words.file) {
+    let output = match output_of(rt, words.file, form.most) {
         Ok(output) => output,
         Err(status) => return status,
     };

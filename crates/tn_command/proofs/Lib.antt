@@ -6,3 +6,4 @@ mod SpecNotes
 mod SpecNoteRows
 mod SpecNoteTerms
 mod EntryNames
+pub mod Fronts
