@@ -7,3 +7,7 @@ pub mod SizeSteps
 pub mod Follows
 pub mod Operands
 pub mod TokenKinds
+pub mod Endings
+pub mod OtherKinds
+pub mod FunSteps
+pub mod FunRuns

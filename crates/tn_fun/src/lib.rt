@@ -1,23 +1,36 @@
 //! Funs as `dbg:fun2ms/1` takes them: their tokens, and the trees of their expressions.
 //!
 //! Depends on `def_fun` (tokens, grammar, limits, translation, refusals). Promises: `tokens` gives
-//! exactly the tokens of a text, with their places. Reading goes a token further as defined; no
-//! function reads a whole fun yet.
+//! exactly the tokens of a text, with their places; `read_fun` answers the clauses of the fun that a
+//! text is, or its refusal with its place.
 #![tactic(auto)]
 
+mod body_step;
+mod clause;
+mod ending;
+mod fault;
 mod follow;
+mod fun_state;
+mod fun_step;
 mod gather;
+mod guard_step;
+mod head_step;
 mod level;
 mod lexer;
 mod operand;
 mod operator;
 mod part;
+mod reader;
 mod scan;
 mod size;
 mod token;
 mod tree;
 mod words;
 
+pub use clause::{Clause, Head};
+pub use fault::ReadFault;
 pub use lexer::tokens;
 pub use operator::Operator;
+pub use reader::read_fun;
 pub use token::{Kind, Token};
+pub use tree::Expr;

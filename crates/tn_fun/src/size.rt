@@ -19,6 +19,9 @@ pub const MAX_TUPLE: usize = 255;
 /// The most elements of a list, and the most codes of strings beside each other.
 pub const MAX_LIST: usize = 4096;
 
+/// The most clauses of a specification.
+pub const MAX_CLAUSES: usize = 4096;
+
 /// The greatest integer of a text; right after a prefix `-` it may be one more.
 pub const MAX_INTEGER: u64 = 9223372036854775807;
 
