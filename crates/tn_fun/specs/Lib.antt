@@ -6,3 +6,4 @@ pub mod States
 pub mod Clauses
 pub mod FunStates
 pub mod Answers
+pub mod Constants

@@ -14,7 +14,7 @@ ghost use Rattle.tn_fun.specs.FunStates.{clause_so_far_seen, IsCountOf, StepsFun
 ghost use Rattle.tn_fun.specs.FunStates.{ends_body_expr as body_expr_ends};
 
 use crate::clause::Clause;
-use crate::ending::{ended, expr_start, may_end};
+use crate::ending::{expr_at_end, expr_start, may_end};
 use crate::follow::step;
 use crate::fun_state::{ClauseSoFar, Earlier, FunState};
 use crate::part::{ExprState, StepError};
@@ -152,7 +152,7 @@ pub fn body_step<A: Allocator + Copy>(
         let state = step(alloc, bytes, token, false, state)?;
         return Ok(FunState::InBody(clause, body, state));
     }
-    let last = ended(alloc, state)?;
+    let last = expr_at_end(alloc, state)?;
     match last {
         Some(expr) => {
             let mut body = body;

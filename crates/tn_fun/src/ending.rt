@@ -64,7 +64,7 @@ pub fn may_end<A: Allocator>(state: &ExprState<A>) -> bool
 }
 
 /// The operand with all operators that wait for it, where no bracket is open.
-fn closed<A: Allocator + Copy>(
+fn without_parts<A: Allocator + Copy>(
     alloc: A,
     operand: Expr<A>,
     parts: Vec<Part<A>, A>,
@@ -81,7 +81,7 @@ fn closed<A: Allocator + Copy>(
 }
 
 /// The expression, where it may end here.
-pub fn ended<A: Allocator + Copy>(
+pub fn expr_at_end<A: Allocator + Copy>(
     alloc: A,
     state: ExprState<A>,
 ) -> Result<Option<Expr<A>>, AllocError>
@@ -90,9 +90,9 @@ pub fn ended<A: Allocator + Copy>(
 {
     match state {
         ExprState::Wants(_) => Ok(None),
-        ExprState::Has(operand, parts) => closed(alloc, operand, parts),
+        ExprState::Has(operand, parts) => without_parts(alloc, operand, parts),
         ExprState::HasStrings(first, others, _, parts) => {
-            closed(alloc, Expr::Strings(first, others), parts)
+            without_parts(alloc, Expr::Strings(first, others), parts)
         }
     }
 }

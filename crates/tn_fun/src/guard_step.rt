@@ -12,7 +12,7 @@ ghost use Rattle.tn_fun.specs.States.{expr_state_seen, AreCounted};
 ghost use Rattle.tn_fun.specs.FunStates.{clause_so_far_seen, IsCountOf, StepsFun};
 ghost use Rattle.tn_fun.specs.FunStates.{ends_condition as condition_ends};
 
-use crate::ending::{ended, expr_start, may_end};
+use crate::ending::{expr_at_end, expr_start, may_end};
 use crate::follow::step;
 use crate::fun_state::{ClauseSoFar, FunState};
 use crate::part::{ExprState, StepError};
@@ -153,7 +153,7 @@ pub fn guard_step<A: Allocator + Copy>(
         let state = step(alloc, bytes, token, false, state)?;
         return Ok(FunState::InGuard(clause, conditions, state));
     }
-    let last = ended(alloc, state)?;
+    let last = expr_at_end(alloc, state)?;
     match last {
         Some(condition) => {
             let mut conditions = conditions;

@@ -14,7 +14,7 @@ ghost use Rattle.tn_fun.specs.Clauses.{head_seen, clauses_seen, first_seen};
 ghost use Rattle.tn_fun.specs.FunStates.{list_may_be, is_expr_start, ends_head as head_ends, IsCountOf, StepsFun};
 
 use crate::clause::Head;
-use crate::ending::{ended, expr_start, is_start, may_end};
+use crate::ending::{expr_at_end, expr_start, is_start, may_end};
 use crate::follow::step;
 use crate::fun_state::{ClauseSoFar, FunState, HeadSoFar};
 use crate::part::{ExprState, StepError};
@@ -154,7 +154,7 @@ pub fn head_step<A: Allocator + Copy>(
         let state = step(alloc, bytes, token, true, state)?;
         return Ok(FunState::InHead(head, state));
     }
-    let last = ended(alloc, state)?;
+    let last = expr_at_end(alloc, state)?;
     match last {
         Some(part) => after_part(alloc, token.kind, head, part),
         None => Err(StepError::Misplaced),

@@ -1,12 +1,14 @@
 //! Funs as `dbg:fun2ms/1` takes them: their tokens, and the trees of their expressions.
 //!
-//! Depends on `def_fun` (tokens, grammar, limits, translation, refusals). Promises: `tokens` gives
-//! exactly the tokens of a text, with their places; `read_fun` answers the clauses of the fun that a
-//! text is, or its refusal with its place.
+//! Depends on `def_fun` (tokens, grammar, limits, constants, refusals), on `tn_term` and `tn_text`.
+//! Promises: `tokens` gives exactly the tokens of a text, with their places; `read_fun` answers the
+//! clauses of the fun that a text is, or its refusal with its place. An operator of constants gives what
+//! is defined; no function translates a fun yet.
 #![tactic(auto)]
 
 mod body_step;
 mod clause;
+mod constants;
 mod ending;
 mod fault;
 mod follow;
@@ -15,6 +17,7 @@ mod fun_step;
 mod gather;
 mod guard_step;
 mod head_step;
+mod integers;
 mod level;
 mod lexer;
 mod operand;

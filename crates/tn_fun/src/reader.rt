@@ -19,7 +19,7 @@ use std::alloc::Allocator;
 use tn_text::MAX_TEXT;
 
 /// The refusal of a token with which the text begins no fun.
-fn misplaced(token: Token) -> ReadFault
+fn fault_of_token(token: Token) -> ReadFault
     ensures { (text : List ℕ) → RefusesAs text result token not_there }
 {
     match token.kind {
@@ -36,7 +36,7 @@ fn fault_at(error: StepError, token: Token) -> ReadFault
 {
     match error {
         StepError::OutOfMemory => ReadFault::OutOfMemory,
-        StepError::Misplaced => misplaced(token),
+        StepError::Misplaced => fault_of_token(token),
         StepError::TooDeep => ReadFault::TooDeep { at: token.from },
         StepError::TooLarge => ReadFault::TooLarge { at: token.from },
     }

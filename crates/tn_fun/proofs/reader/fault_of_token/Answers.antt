@@ -1,6 +1,6 @@
 use Rattle.std.proofs.Common.{◌-◌, take, drop, ap, Err}
 use Rattle.tn_fun.proofs.OtherKinds.{no_name}
-use Rattle.tn_fun.proofs.reader.misplaced.Goals as goal
+use Rattle.tn_fun.proofs.reader.fault_of_token.Goals as goal
 
 pub returns-in_default : goal.returns-in_default
 returns-in_default c = λ text xs.
