@@ -88,7 +88,8 @@ fn of_truths(operator: Operator, a: bool, b: bool) -> Option<bool>
 
 /// An operator of two terms, where both are truths.
 fn between_truths<A: Allocator>(operator: Operator, left: &Term<A>, right: &Term<A>) -> Option<bool>
-    ensures { result ≡ if_truths (operator_seen operator) (truth_value (tree_of left.now)) (truth_value (tree_of right.now)) }
+    ensures { result ≡ if_truths (operator_seen operator)
+        (truth_value (tree_of left.now)) (truth_value (tree_of right.now)) }
 {
     match (truth_of(left), truth_of(right)) {
         (Some(a), Some(b)) => of_truths(operator, a, b),
