@@ -1,5 +1,5 @@
 // The fun of a text.
-ghost use Rattle.complete_funs.specs.Answers.{AreReadAlike};
+ghost use Rattle.complete_funs.specs.Answers.{AreFunsAlike};
 
 use std::alloc::Allocator;
 use tn_fun::{Clause, ReadFault};
@@ -12,7 +12,7 @@ pub fn one_fun<A: Allocator + Copy>(
     Result<Vec<Clause<A>, A>, ReadFault>,
     Result<Vec<Clause<A>, A>, ReadFault>,
 )
-    ensures { AreReadAlike bytes.now result.0 result.1 }
+    ensures { AreFunsAlike bytes.now result.0 result.1 }
 {
     let first = tn_fun::read_fun(alloc, bytes);
     let second = tn_fun::read_fun(alloc, bytes);

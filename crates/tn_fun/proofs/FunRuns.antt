@@ -14,7 +14,7 @@ use Rattle.tn_fun.specs.declared.clause.Clause.{Clause}
 use Rattle.tn_fun.specs.declared.fault.ReadFault.{ReadFault}
 use Rattle.tn_fun.specs.declared.fault.ReadFault.TheVariants as faults
 use Rattle.tn_fun.specs.Tokens.{span_seen, spans_from}
-use Rattle.tn_fun.specs.Answers.{IsRefused, IsFunRead, RefusesAs, IsFaultAt, Finishes}
+use Rattle.tn_fun.specs.Answers.{IsRefusedFun, IsFunRead, RefusesAs, IsFaultAt, FinishesFun}
 
 -- up to there the tokens led to that state
 pub record LedTo (text : List ℕ) (at : ℕ) (s : FunState) : Type 0 where
@@ -35,13 +35,13 @@ module _ (text : List ℕ) (at : ℕ) (v : Token) (s : FunState) (led : LedTo te
       ap (λ b. if b then read_or_refusal (length text) (read_fun 64 true (fun_spans text)) else Err too_long) (le-leb (length text) LENGTH short)
       ∙ ap (λ q. read_or_refusal (length text) (fun_finish q)) (one_token (Err k) is)
 
-  pub refuses : (f : ReadFault) → length text ≤ LENGTH → IsFaultAt text f v (fun_step 64 true s (span_seen text v)) → IsRefused text f (fun_of_text text)
+  pub refuses : (f : ReadFault) → length text ≤ LENGTH → IsFaultAt text f v (fun_step 64 true s (span_seen text v)) → IsRefusedFun text f (fun_of_text text)
   refuses faults.OutOfMemory short h = tt
-  refuses faults.TooLong short h = subst (IsRefused text faults.TooLong) (sym (refused_at h.0 h.1 short)) (h.2 (spans_from text v.to))
-  refuses (faults.Token from) short h = subst (IsRefused text (faults.Token from)) (sym (refused_at h.0 h.1 short)) (h.2 (spans_from text v.to))
-  refuses (faults.NoSuch w) short h = subst (IsRefused text (faults.NoSuch w)) (sym (refused_at h.0 h.1 short)) (h.2 (spans_from text v.to))
-  refuses (faults.TooDeep from) short h = subst (IsRefused text (faults.TooDeep from)) (sym (refused_at h.0 h.1 short)) (h.2 (spans_from text v.to))
-  refuses (faults.TooLarge from) short h = subst (IsRefused text (faults.TooLarge from)) (sym (refused_at h.0 h.1 short)) (h.2 (spans_from text v.to))
+  refuses faults.TooLong short h = subst (IsRefusedFun text faults.TooLong) (sym (refused_at h.0 h.1 short)) (h.2 (spans_from text v.to))
+  refuses (faults.Token from) short h = subst (IsRefusedFun text (faults.Token from)) (sym (refused_at h.0 h.1 short)) (h.2 (spans_from text v.to))
+  refuses (faults.NoSuch w) short h = subst (IsRefusedFun text (faults.NoSuch w)) (sym (refused_at h.0 h.1 short)) (h.2 (spans_from text v.to))
+  refuses (faults.TooDeep from) short h = subst (IsRefusedFun text (faults.TooDeep from)) (sym (refused_at h.0 h.1 short)) (h.2 (spans_from text v.to))
+  refuses (faults.TooLarge from) short h = subst (IsRefusedFun text (faults.TooLarge from)) (sym (refused_at h.0 h.1 short)) (h.2 (spans_from text v.to))
 
 module _ (text : List ℕ) (at : ℕ) (s : FunState) (led : LedTo text at s) (over : spans_from text at ≡ []) (short : length text ≤ LENGTH) where
   ended_run : fun_of_text text ≡ read_or_refusal (length text) (fun_end s)
@@ -49,9 +49,9 @@ module _ (text : List ℕ) (at : ℕ) (s : FunState) (led : LedTo text at s) (ov
       ap (λ b. if b then read_or_refusal (length text) (read_fun 64 true (fun_spans text)) else Err too_long) (le-leb (length text) LENGTH short)
       ∙ ap (λ q. read_or_refusal (length text) (fun_finish q)) (led.run ∙ ap (fun_run 64 true s) over)
 
-  pub reads : {A : Type 0} (r : Result (Vec (Clause A) A) ReadFault) → Finishes text r (length text) (fun_end s) → IsFunRead text r
+  pub reads : {A : Type 0} (r : Result (Vec (Clause A) A) ReadFault) → FinishesFun text r (length text) (fun_end s) → IsFunRead text r
   reads (Ok v) h = ended_run ∙ ap (read_or_refusal (length text)) h
-  reads (Err f) h = subst (λ g. IsRefused text g (fun_of_text text)) (sym h.0) (ended_run ∙ ap (read_or_refusal (length text)) h.1)
+  reads (Err f) h = subst (λ g. IsRefusedFun text g (fun_of_text text)) (sym h.0) (ended_run ∙ ap (read_or_refusal (length text)) h.1)
 
 pub too_long_text : (text : List ℕ) → LENGTH < length text → fun_of_text text ≡ Err too_long
 too_long_text text long = let no : nat_le (length text) LENGTH ≡ false = grind (arith, nat_tests) in ap (λ b. if b then read_or_refusal (length text) (read_fun 64 true (fun_spans text)) else Err too_long) no

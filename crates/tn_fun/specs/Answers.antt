@@ -12,7 +12,7 @@ use Rattle.def_fun.specs.Refusals.{too_long, misplaced_token, no_such, too_deep_
 use Rattle.def_fun.specs.Answers.{reading_refusal, fun_of_text}
 use Rattle.tn_fun.specs.Tokens.{span_seen}
 use Rattle.tn_fun.specs.States.{token_there}
-use Rattle.tn_fun.specs.Clauses.{clauses_seen}
+use Rattle.tn_fun.specs.Clauses.{fun_clauses_seen}
 use Rattle.tn_fun.specs.FunStates.{fun_state_seen, IsCountedState}
 use Rattle.tn_fun.specs.declared.clause.Clause.{Clause}
 use Rattle.tn_fun.specs.declared.token.Token.{Token}
@@ -28,22 +28,22 @@ left_out_name token.match = codes "="
 left_out_name t = []
 
 -- the refusal of the text; where memory ran out nothing is said
-abbrev pub IsRefused : List ℕ → ReadFault → OrRefusal (List FunClause) → Type 0
-IsRefused text faults.TooLong r = r ≡ Err too_long
-IsRefused text (faults.Token at) r = r ≡ Err (misplaced_token at)
-IsRefused text (faults.NoSuch v) r = r ≡ Err (no_such (left_out_name (token_there text v)) v.from)
-IsRefused text (faults.TooDeep at) r = r ≡ Err (too_deep_at at)
-IsRefused text (faults.TooLarge at) r = r ≡ Err (too_large_at at)
-IsRefused text faults.OutOfMemory r = Unit {0}
+abbrev pub IsRefusedFun : List ℕ → ReadFault → OrRefusal (List FunClause) → Type 0
+IsRefusedFun text faults.TooLong r = r ≡ Err too_long
+IsRefusedFun text (faults.Token at) r = r ≡ Err (misplaced_token at)
+IsRefusedFun text (faults.NoSuch v) r = r ≡ Err (no_such (left_out_name (token_there text v)) v.from)
+IsRefusedFun text (faults.TooDeep at) r = r ≡ Err (too_deep_at at)
+IsRefusedFun text (faults.TooLarge at) r = r ≡ Err (too_large_at at)
+IsRefusedFun text faults.OutOfMemory r = Unit {0}
 
 -- the clauses of the fun, or the refusal of the text
 abbrev pub IsFunRead : {A : Type 0} → List ℕ → Result (Vec (Clause A) A) ReadFault → Type 0
-IsFunRead text (Ok v) = fun_of_text text ≡ Ok (clauses_seen text v.items)
-IsFunRead text (Err f) = IsRefused text f (fun_of_text text)
+IsFunRead text (Ok v) = fun_of_text text ≡ Ok (fun_clauses_seen text v.items)
+IsFunRead text (Err f) = IsRefusedFun text f (fun_of_text text)
 
 -- the refusal that the definition has of that kind, of a token and whatever is after it
 abbrev pub RefusesAs : List ℕ → ReadFault → Token → FaultKind → Type 0
-RefusesAs text f v k = (xs : List FunSpan) → IsRefused text f (Err (reading_refusal (length text) k (span_seen text v ∷ xs)))
+RefusesAs text f v k = (xs : List FunSpan) → IsRefusedFun text f (Err (reading_refusal (length text) k (span_seen text v ∷ xs)))
 
 -- the refusal of a step with a token
 abbrev pub IsFaultAt : {S : Type 0} → List ℕ → ReadFault → Token → Result S FaultKind → Type 0
@@ -51,11 +51,11 @@ IsFaultAt text faults.OutOfMemory v r = Unit {0}
 IsFaultAt text f v r = (k : FaultKind) × (r ≡ Err k) × RefusesAs text f v k
 
 -- the step that the definition takes
-abbrev pub TakesToken : {A : Type 0} → List ℕ → Result (FunState A) ReadFault → Token → Result reading.FunState FaultKind → Type 0
-TakesToken text (Ok s) v r = (r ≡ Ok (fun_state_seen text s)) × IsCountedState text s
-TakesToken text (Err f) v r = IsFaultAt text f v r
+abbrev pub TakesFunToken : {A : Type 0} → List ℕ → Result (FunState A) ReadFault → Token → Result reading.FunState FaultKind → Type 0
+TakesFunToken text (Ok s) v r = (r ≡ Ok (fun_state_seen text s)) × IsCountedState text s
+TakesFunToken text (Err f) v r = IsFaultAt text f v r
 
 -- what is read at the end of the text
-abbrev pub Finishes : {A : Type 0} → List ℕ → Result (Vec (Clause A) A) ReadFault → ℕ → Result (List FunClause) FunFault → Type 0
-Finishes text (Ok v) end r = r ≡ Ok (clauses_seen text v.items)
-Finishes text (Err f) end r = (f ≡ faults.Token end) × (r ≡ Err (misplaced, []))
+abbrev pub FinishesFun : {A : Type 0} → List ℕ → Result (Vec (Clause A) A) ReadFault → ℕ → Result (List FunClause) FunFault → Type 0
+FinishesFun text (Ok v) end r = r ≡ Ok (fun_clauses_seen text v.items)
+FinishesFun text (Err f) end r = (f ≡ faults.Token end) × (r ≡ Err (misplaced, []))

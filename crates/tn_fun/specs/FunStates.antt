@@ -9,7 +9,7 @@ use Rattle.def_fun.specs.Reading as reading
 use Rattle.def_fun.specs.Reading.{OpenPart, in_open_parens, in_open_call, in_open_list, in_open_tail, in_open_tuple, after_left, after_prefix, wants, has}
 use Rattle.tn_fun.specs.Trees.{fun_row_seen}
 use Rattle.tn_fun.specs.States.{expr_state_seen, AreCounted, IsStepErrorOf}
-use Rattle.tn_fun.specs.Clauses.{head_seen, guards_seen, clauses_seen, first_seen}
+use Rattle.tn_fun.specs.Clauses.{fun_head_seen, guards_seen, fun_clauses_seen, first_seen}
 use Rattle.tn_fun.specs.declared.part.StepError.{StepError}
 use Rattle.tn_fun.specs.declared.fun_state.Earlier.{Earlier}
 use Rattle.tn_fun.specs.declared.fun_state.ClauseSoFar.{ClauseSoFar}
@@ -69,21 +69,21 @@ ends_body_expr t = false
 -- ---- states
 
 abbrev pub clause_so_far_seen : {A : Type 0} → List ℕ → ClauseSoFar A → reading.ClauseSoFar
-clause_so_far_seen text c = record { earlier = clauses_seen text c.earlier.clauses.items; at = c.at; head = head_seen text c.head; guards = guards_seen text c.guards.items }
+clause_so_far_seen text c = record { earlier = fun_clauses_seen text c.earlier.clauses.items; at = c.at; head = fun_head_seen text c.head; guards = guards_seen text c.guards.items }
 
 abbrev pub fun_state_seen : {A : Type 0} → List ℕ → FunState A → reading.FunState
 fun_state_seen text states.BeforeFun = reading.before_fun
-fun_state_seen text (states.BeforeClause e) = reading.before_clause (clauses_seen text e.clauses.items)
-fun_state_seen text (states.InHead h s) = reading.in_head (clauses_seen text h.earlier.clauses.items) h.at (first_seen text h.first) (expr_state_seen text s)
+fun_state_seen text (states.BeforeClause e) = reading.before_clause (fun_clauses_seen text e.clauses.items)
+fun_state_seen text (states.InHead h s) = reading.in_head (fun_clauses_seen text h.earlier.clauses.items) h.at (first_seen text h.first) (expr_state_seen text s)
 fun_state_seen text (states.AfterHead c) = reading.after_head (clause_so_far_seen text c)
 fun_state_seen text (states.InGuard c es s) = reading.in_guard (clause_so_far_seen text c) (fun_row_seen text es.items) (expr_state_seen text s)
 fun_state_seen text (states.InBody c es s) = reading.in_fun_body (clause_so_far_seen text c) (fun_row_seen text es.items) (expr_state_seen text s)
-fun_state_seen text (states.AfterEnd ks) = reading.after_end (clauses_seen text ks.items)
-fun_state_seen text (states.AfterStop ks) = reading.after_stop (clauses_seen text ks.items)
+fun_state_seen text (states.AfterEnd ks) = reading.after_end (fun_clauses_seen text ks.items)
+fun_state_seen text (states.AfterStop ks) = reading.after_stop (fun_clauses_seen text ks.items)
 
 -- the count of the clauses before
 abbrev pub IsCountOf : {A : Type 0} → List ℕ → Earlier A → Type 0
-IsCountOf text e = e.count ≡ spec_clauses (clauses_seen text e.clauses.items)
+IsCountOf text e = e.count ≡ spec_clauses (fun_clauses_seen text e.clauses.items)
 
 -- clauses are counted, and so are strings
 abbrev pub IsCountedState : {A : Type 0} → List ℕ → FunState A → Type 0

@@ -9,12 +9,12 @@ ghost use Rattle.def_fun.specs.Tokens as token;
 ghost use Rattle.tn_fun.specs.Tokens.{fun_token_seen, span_seen};
 ghost use Rattle.tn_fun.specs.Trees.{fun_row_seen};
 ghost use Rattle.tn_fun.specs.States.{expr_state_seen, AreCounted};
-ghost use Rattle.tn_fun.specs.Clauses.{clauses_seen};
+ghost use Rattle.tn_fun.specs.Clauses.{fun_clauses_seen};
 ghost use Rattle.tn_fun.specs.FunStates.{clause_so_far_seen, IsCountOf, StepsFun};
 ghost use Rattle.tn_fun.specs.FunStates.{ends_body_expr as body_expr_ends};
 
 use crate::clause::Clause;
-use crate::ending::{expr_at_end, expr_start, may_end};
+use crate::expr_end::{expr_at_end, expr_start, may_end};
 use crate::follow::step;
 use crate::fun_state::{ClauseSoFar, Earlier, FunState};
 use crate::part::{ExprState, StepError};
@@ -46,7 +46,7 @@ fn with_clause<A: Allocator>(
     clause: ClauseSoFar<A>,
     body: Vec<Expr<A>, A>,
 ) -> Result<Vec<Clause<A>, A>, AllocError>
-    ensures { IfOk result (λ v. (text : List ℕ) → clauses_seen text v.items
+    ensures { IfOk result (λ v. (text : List ℕ) → fun_clauses_seen text v.items
         ≡ clause_added (clause_so_far_seen text clause) (fun_row_seen text body.items)) }
 {
     let ClauseSoFar {

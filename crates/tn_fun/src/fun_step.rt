@@ -5,13 +5,13 @@ ghost use Rattle.def_fun.specs.Reading.{begin_fun as fun_begins, begin_clause as
 ghost use Rattle.def_fun.specs.Reading.{begin_guard as guard_begins, stop_fun as fun_stops};
 ghost use Rattle.def_fun.specs.Reading.{fun_step as step_of_fun};
 ghost use Rattle.tn_fun.specs.Tokens.{fun_token_seen, span_seen};
-ghost use Rattle.tn_fun.specs.Clauses.{clauses_seen};
+ghost use Rattle.tn_fun.specs.Clauses.{fun_clauses_seen};
 ghost use Rattle.tn_fun.specs.FunStates.{clause_so_far_seen, fun_state_seen};
 ghost use Rattle.tn_fun.specs.FunStates.{IsCountOf, IsCountedState, StepsFun};
 
 use crate::body_step::body_step;
 use crate::clause::Clause;
-use crate::ending::expr_start;
+use crate::expr_end::expr_start;
 use crate::fun_state::{ClauseSoFar, Earlier, FunState, HeadSoFar};
 use crate::guard_step::guard_step;
 use crate::head_step::head_step;
@@ -39,7 +39,7 @@ fn begin_clause<A: Allocator>(
     earlier: Earlier<A>,
 ) -> Result<FunState<A>, StepError>
     ensures { (text u more : List ℕ) → IsCountOf text earlier → StepsFun text result
-        (clause_begins (clauses_seen text earlier.clauses.items) token.from (fun_token_seen token.kind u more)) }
+        (clause_begins (fun_clauses_seen text earlier.clauses.items) token.from (fun_token_seen token.kind u more)) }
 {
     match token.kind {
         Kind::OpenParen => {
@@ -73,7 +73,7 @@ fn begin_guard<A: Allocator + Copy>(
 /// A full stop, after `end`.
 fn stop_fun<A: Allocator>(kind: Kind, clauses: Vec<Clause<A>, A>) -> Result<FunState<A>, StepError>
     ensures { (text u more : List ℕ) → StepsFun text result
-        (fun_stops (clauses_seen text clauses.items) (fun_token_seen kind u more)) }
+        (fun_stops (fun_clauses_seen text clauses.items) (fun_token_seen kind u more)) }
 {
     match kind {
         Kind::FullStop => Ok(FunState::AfterStop(clauses)),

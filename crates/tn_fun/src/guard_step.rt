@@ -12,7 +12,7 @@ ghost use Rattle.tn_fun.specs.States.{expr_state_seen, AreCounted};
 ghost use Rattle.tn_fun.specs.FunStates.{clause_so_far_seen, IsCountOf, StepsFun};
 ghost use Rattle.tn_fun.specs.FunStates.{ends_condition as condition_ends};
 
-use crate::ending::{expr_at_end, expr_start, may_end};
+use crate::expr_end::{expr_at_end, expr_start, may_end};
 use crate::follow::step;
 use crate::fun_state::{ClauseSoFar, FunState};
 use crate::part::{ExprState, StepError};

@@ -10,11 +10,11 @@ ghost use Rattle.def_fun.specs.Trees.{is_variable_expr};
 ghost use Rattle.tn_fun.specs.Tokens.{fun_token_seen, span_seen};
 ghost use Rattle.tn_fun.specs.Trees.{fun_expr_seen};
 ghost use Rattle.tn_fun.specs.States.{expr_state_seen, AreCounted};
-ghost use Rattle.tn_fun.specs.Clauses.{head_seen, clauses_seen, first_seen};
+ghost use Rattle.tn_fun.specs.Clauses.{fun_head_seen, fun_clauses_seen, first_seen};
 ghost use Rattle.tn_fun.specs.FunStates.{list_may_be, is_expr_start, ends_head as head_ends, IsCountOf, StepsFun};
 
 use crate::clause::Head;
-use crate::ending::{expr_at_end, expr_start, is_start, may_end};
+use crate::expr_end::{expr_at_end, expr_start, is_start, may_end};
 use crate::follow::step;
 use crate::fun_state::{ClauseSoFar, FunState, HeadSoFar};
 use crate::part::{ExprState, StepError};
@@ -86,7 +86,7 @@ fn is_wrong_start<A: Allocator>(kind: Kind, first: &Option<Expr<A>>, state: &Exp
 
 /// The head of one part or two.
 fn head_of<A: Allocator>(first: Option<Expr<A>>, part: Expr<A>) -> Head<A>
-    ensures { (text : List ℕ) → head_seen text result
+    ensures { (text : List ℕ) → fun_head_seen text result
         ≡ head_of_parts (first_seen text first) (fun_expr_seen text part) }
 {
     match first {
@@ -104,7 +104,7 @@ fn after_part<A: Allocator>(
 ) -> Result<FunState<A>, StepError>
     ensures { (text u more : List ℕ) (r : Result reading.FunState FaultKind)
         → head_ends (first_seen text head.first) (fun_token_seen kind u more) ≡ true → IsCountOf text head.earlier
-        → StepsFun text result (head_after FUN_DEPTH true (clauses_seen text head.earlier.clauses.items) head.at
+        → StepsFun text result (head_after FUN_DEPTH true (fun_clauses_seen text head.earlier.clauses.items) head.at
         (first_seen text head.first) (fun_expr_seen text part) (fun_token_seen kind u more) r) }
 {
     let HeadSoFar { earlier, at, first } = head;
@@ -144,7 +144,7 @@ pub fn head_step<A: Allocator + Copy>(
     requires clauses { IsCountOf bytes.now head.earlier }
     requires strings { AreCounted bytes.now state }
     ensures { StepsFun bytes.now result (step_of_head FUN_DEPTH true
-        (clauses_seen bytes.now head.earlier.clauses.items) head.at (first_seen bytes.now head.first)
+        (fun_clauses_seen bytes.now head.earlier.clauses.items) head.at (first_seen bytes.now head.first)
         (expr_state_seen bytes.now state) (span_seen bytes.now token)) }
 {
     if is_wrong_start(token.kind, &head.first, &state) {

@@ -9,7 +9,7 @@
 mod body_step;
 mod clause;
 mod constants;
-mod ending;
+mod expr_end;
 mod fault;
 mod follow;
 mod fun_state;

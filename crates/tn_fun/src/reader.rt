@@ -6,7 +6,7 @@ ghost use Rattle.def_fun.specs.Reading.{FunState as FunRead, fun_end, fun_step a
 ghost use Rattle.tn_fun.specs.Tokens.{span_seen};
 ghost use Rattle.tn_fun.specs.States.{IsStepErrorOf};
 ghost use Rattle.tn_fun.specs.FunStates.{fun_state_seen, IsCountedState};
-ghost use Rattle.tn_fun.specs.Answers.{RefusesAs, IsFaultAt, TakesToken, Finishes, IsFunRead};
+ghost use Rattle.tn_fun.specs.Answers.{RefusesAs, IsFaultAt, TakesFunToken, FinishesFun, IsFunRead};
 
 use crate::clause::Clause;
 use crate::fault::ReadFault;
@@ -52,7 +52,7 @@ fn step_at<A: Allocator + Copy>(
     requires start { token.from ≤ token.to }
     requires end { token.to ≤ length bytes.now }
     requires counted { IsCountedState bytes.now state }
-    ensures { TakesToken bytes.now result token
+    ensures { TakesFunToken bytes.now result token
         (step_of_fun FUN_DEPTH true (fun_state_seen bytes.now state) (span_seen bytes.now token)) }
 {
     match fun_step(alloc, bytes, token, state) {
@@ -63,7 +63,7 @@ fn step_at<A: Allocator + Copy>(
 
 /// The clauses, where the tokens end with the fun.
 fn finish<A: Allocator>(state: FunState<A>, end: usize) -> Result<Vec<Clause<A>, A>, ReadFault>
-    ensures { (text : List ℕ) → Finishes text result end (fun_end (fun_state_seen text state)) }
+    ensures { (text : List ℕ) → FinishesFun text result end (fun_end (fun_state_seen text state)) }
 {
     match state {
         FunState::AfterEnd(clauses) => Ok(clauses),

@@ -4,7 +4,7 @@ use Rattle.def_fun.specs.Reading.{begins_head, ended_expr, in_head, on_step, fun
 use Rattle.tn_fun.specs.Tokens.{span_seen}
 use Rattle.tn_fun.specs.Trees.{fun_expr_seen}
 use Rattle.tn_fun.specs.States.{expr_state_seen, token_there, IsStepErrorOf}
-use Rattle.tn_fun.specs.Clauses.{clauses_seen, first_seen}
+use Rattle.tn_fun.specs.Clauses.{fun_clauses_seen, first_seen}
 use Rattle.tn_fun.specs.FunStates.{is_expr_start, ends_head, StepsFun}
 use Rattle.tn_fun.proofs.FunSteps.{error_within, within_head, starts_wrong, head_goes_on, head_ends_with, must_end, ends_by_token}
 use Rattle.tn_fun.proofs.head_step.head_step.Goals as goal
@@ -15,7 +15,7 @@ returns-then-is_wrong_start g c =
     let v = c.args.token in
     let h = c.args.head in
     let x = span_seen bytes v in
-    starts_wrong (clauses_seen bytes h.earlier.clauses.items) h.at (first_seen bytes h.first) x (expr_state_seen bytes c.args.state)
+    starts_wrong (fun_clauses_seen bytes h.earlier.clauses.items) h.at (first_seen bytes h.first) x (expr_state_seen bytes c.args.state)
     (sym (c.is_wrong_start.ensures bytes (take (v.to - v.from) (drop v.from bytes)) (drop v.from bytes)) ∙ c.if-is_wrong_start.true)
 
 pub returns-in_err-state : goal.returns-in_err-state
@@ -25,7 +25,7 @@ returns-in_err-state g c =
     let u = take (v.to - v.from) (drop v.from bytes) in
     let more = drop v.from bytes in
     let h = c.args.head in
-    let ks = clauses_seen bytes h.earlier.clauses.items in
+    let ks = fun_clauses_seen bytes h.earlier.clauses.items in
     let a = first_seen bytes h.first in
     let s = expr_state_seen bytes c.args.state in
     let x = span_seen bytes v in
@@ -42,7 +42,7 @@ returns-then-not-is_part_end g c =
     let u = take (v.to - v.from) (drop v.from bytes) in
     let more = drop v.from bytes in
     let h = c.args.head in
-    let ks = clauses_seen bytes h.earlier.clauses.items in
+    let ks = fun_clauses_seen bytes h.earlier.clauses.items in
     let a = first_seen bytes h.first in
     let s = expr_state_seen bytes c.args.state in
     let x = span_seen bytes v in
@@ -58,7 +58,7 @@ returns-in-Some g c =
     let u = take (v.to - v.from) (drop v.from bytes) in
     let more = drop v.from bytes in
     let h = c.args.head in
-    let ks = clauses_seen bytes h.earlier.clauses.items in
+    let ks = fun_clauses_seen bytes h.earlier.clauses.items in
     let a = first_seen bytes h.first in
     let s = expr_state_seen bytes c.args.state in
     let x = span_seen bytes v in

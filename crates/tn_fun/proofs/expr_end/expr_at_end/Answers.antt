@@ -3,7 +3,7 @@ use Rattle.std.proofs.lemmas.Result.{IfOk-weaker}
 use Rattle.def_fun.specs.Reading.{ended_expr, if_none_open, whole_operand}
 use Rattle.tn_fun.specs.States.{open_parts_seen, expr_state_seen}
 use Rattle.tn_fun.proofs.TreeViews.{seen_strings}
-use Rattle.tn_fun.proofs.ending.expr_at_end.Goals as goal
+use Rattle.tn_fun.proofs.expr_end.expr_at_end.Goals as goal
 
 pub returns : goal.returns
 returns g c =

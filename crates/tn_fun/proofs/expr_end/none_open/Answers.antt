@@ -1,6 +1,6 @@
 use Rattle.std.proofs.Common.{◌+◌, drop, ◌&&◌, ap, sym, ◌∙◌, arith}
 use Rattle.tn_fun.proofs.Endings.{all_wait, wait_here, wait_past, parts_wait}
-use Rattle.tn_fun.proofs.ending.none_open.Goals as goal
+use Rattle.tn_fun.proofs.expr_end.none_open.Goals as goal
 
 pub returns-then-not-is_operator : goal.returns-then-not-is_operator
 returns-then-not-is_operator g c = λ text.

@@ -3,7 +3,7 @@ use Rattle.def_fun.specs.Reading.{ended_expr}
 use Rattle.tn_fun.specs.States.{open_parts_seen, expr_state_seen}
 use Rattle.tn_fun.specs.FunStates.{wait_for_operands}
 use Rattle.tn_fun.proofs.Endings.{ends_alone}
-use Rattle.tn_fun.proofs.ending.may_end.Goals as goal
+use Rattle.tn_fun.proofs.expr_end.may_end.Goals as goal
 
 pub returns-in-Has : goal.returns-in-Has
 returns-in-Has g c = λ text.

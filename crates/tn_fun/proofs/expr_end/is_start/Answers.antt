@@ -3,7 +3,7 @@ use Rattle.tn_fun.specs.States.{open_parts_seen, expr_state_seen}
 use Rattle.tn_fun.specs.FunStates.{is_expr_start}
 use Rattle.tn_fun.proofs.PartViews.{parts_length}
 use Rattle.tn_fun.proofs.Endings.{starts_empty}
-use Rattle.tn_fun.proofs.ending.is_start.Goals as goal
+use Rattle.tn_fun.proofs.expr_end.is_start.Goals as goal
 
 pub returns-in-Wants : goal.returns-in-Wants
 returns-in-Wants g c = λ text.

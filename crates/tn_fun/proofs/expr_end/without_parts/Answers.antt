@@ -3,7 +3,7 @@ use Rattle.std.proofs.lemmas.Bool.{eqb-true, eqb-false}
 use Rattle.def_fun.specs.Reading.{if_none_open}
 use Rattle.tn_fun.proofs.PartViews.{parts_length}
 use Rattle.tn_fun.proofs.Endings.{ends_empty, ends_open}
-use Rattle.tn_fun.proofs.ending.without_parts.Goals as goal
+use Rattle.tn_fun.proofs.expr_end.without_parts.Goals as goal
 
 pub returns-then-is_empty : goal.returns-then-is_empty
 returns-then-is_empty g c = λ text.
