@@ -131,7 +131,10 @@ fn line_notice(line: &str, is_there: bool) -> Notice<'_>
 /// Says of a line of the command line that the output has it, or hasn't.
 fn tell_about_line<R: Eprint + AllocGlobal>(rt: &R, line: &[u8], is_there: bool) {
     let plain = escape_controls(rt.alloc(), str::from_utf8(line).unwrap_or(""));
-    print_notice(rt, line_notice(plain_name(&plain, "of this text"), is_there));
+    print_notice(
+        rt,
+        line_notice(plain_name(&plain, "of this text"), is_there),
+    );
 }
 
 /// Says of each thing that is expected and isn't so what is otherwise.

@@ -17,9 +17,7 @@ use std::io;
 use std::io::Write;
 use std::process::ExitCode;
 use tn_formats::Format;
-use tn_notice::{
-    CommandFault, Notice, TestText, TestTextFault, print_fault, print_notice,
-};
+use tn_notice::{CommandFault, Notice, TestText, TestTextFault, print_fault, print_notice};
 use tn_refusal::{Refusal, explain_term};
 use tn_run::{RunFault, write_output};
 use tn_spec::SpecFault;
@@ -124,11 +122,12 @@ fn tell_reason<R: Eprint + AllocGlobal>(
     question: &SpecTestInput<'_>,
     fault: &SpecFault<Global>,
 ) {
-    let reason = no_specification_text::<Global>(rt.alloc(), question.spec, question.dialect);
-    let words = match &reason {
-        Ok(reason) => str::from_utf8(reason).unwrap_or(""),
-        Err(_) => "",
+    let Ok(reason) = no_specification_text::<Global>(rt.alloc(), question.spec, question.dialect)
+    else {
+        tell_first_fault(rt, fault);
+        return;
     };
+    let words = str::from_utf8(&reason).unwrap_or("");
     if words.is_empty() {
         tell_first_fault(rt, fault);
     } else {
@@ -163,12 +162,7 @@ fn tell_question<R: Eprint + AllocGlobal>(
     match fault {
         SpecTestFault::List(fault) => tell_text(rt, TestText::List, question.list, *fault),
         SpecTestFault::Caller(fault) => {
-            tell_text(
-                rt,
-                TestText::Caller,
-                question.caller.unwrap_or(b""),
-                *fault,
-            );
+            tell_text(rt, TestText::Caller, question.caller.unwrap_or(b""), *fault);
         }
         SpecTestFault::Text(fault) => tell_text(rt, TestText::Specification, question.spec, *fault),
         SpecTestFault::Spec { fault, .. } => tell_reason(rt, question, fault),
