@@ -177,9 +177,7 @@ fn refuse_plain<R: Print + Eprint + AllocGlobal>(
     };
     match command.try_get_matches_from(words) {
         Ok(_matches) => explain(rt, error),
-        Err(error) if error.kind() == ErrorKind::OutOfMemory => {
-            report(rt, CommandFault::Memory)
-        }
+        Err(error) if error.kind() == ErrorKind::OutOfMemory => { report(rt, CommandFault::Memory) }
         Err(error) => explain(rt, &error),
     }
 }
@@ -211,9 +209,7 @@ fn program<R: Env + Input + Files + Print + Eprint + AllocGlobal + Threads + Wai
     };
     match command.try_get_matches_from(words) {
         Ok(matches) => run_command(rt, &matches),
-        Err(error) if error.kind() == ErrorKind::OutOfMemory => {
-            report(rt, CommandFault::Memory)
-        }
+        Err(error) if error.kind() == ErrorKind::OutOfMemory => { report(rt, CommandFault::Memory) }
         Err(error) => refuse(rt, words, &error),
     }
 }
