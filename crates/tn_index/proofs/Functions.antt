@@ -1,5 +1,5 @@
 -- Functions that are the same.
-use Rattle.std.proofs.Common.{◌≡◌, ◌&&◌, Bool, true, false, eqb-true}
+use Rattle.std.proofs.Common.{◌≡◌, Bool, true, eqb-true}
 use Rattle.std.specs.Cmp.{booleans_Decides}
 use Rattle.std.proofs.Math.Bool.{beq}
 use Rattle.std.proofs.lemmas.Slice.Eq.{bytes_eq-Decides}

@@ -1,10 +1,10 @@
 // What a function command sets, and for which functions.
-ghost use Rattle.std.specs.Prelude.{◌≡◌};
+ghost use Rattle.std.specs.Prelude.{◌≡◌, IfOk};
 ghost use Rattle.def_session.specs.Settings.{is_covered};
 ghost use Rattle.tn_term.specs.Views.{mfa_seen};
 ghost use Rattle.tn_index.specs.Views.{function_pattern_seen, covers};
 
-use std::alloc::Allocator;
+use std::alloc::{AllocError, Allocator};
 use tn_term::{Atom, Mfa};
 
 /// What a command sets (`trace:function/4`, `trace:send/3`, `trace:recv/3`).
@@ -28,6 +28,28 @@ pub enum FunctionPattern<A: Allocator> {
 }
 
 impl<A: Allocator> FunctionPattern<A> {
+    /// The same functions in another allocator.
+    ///
+    /// # Errors
+    ///
+    /// AllocError where memory was refused.
+    pub fn copy_into<B: Allocator + Copy>(&self, b: B) -> Result<FunctionPattern<B>, AllocError>
+        ensures { IfOk result (λ p. function_pattern_seen p ≡ function_pattern_seen self.now) }
+    {
+        match self {
+            FunctionPattern::One(one) => Ok(FunctionPattern::One(one.copy_into(b)?)),
+            FunctionPattern::AnyArity { module, name } => {
+                let module = module.copy_into(b)?;
+                let name = name.copy_into(b)?;
+                Ok(FunctionPattern::AnyArity { module, name })
+            }
+            FunctionPattern::WholeModule(module) => {
+                Ok(FunctionPattern::WholeModule(module.copy_into(b)?))
+            }
+            FunctionPattern::Every => Ok(FunctionPattern::Every),
+        }
+    }
+
     /// Whether the function is one of these.
     pub fn has(&self, function: &Mfa<A>) -> bool
         ensures { result ≡ is_covered (function_pattern_seen self.now) (mfa_seen function.now) }

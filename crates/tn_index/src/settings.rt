@@ -132,6 +132,13 @@ impl<S: Drop, A: Allocator + Copy> Settings<S, A> {
         Ok(())
     }
 
+    /// The commands, the oldest first.
+    pub fn commands(&self) -> &[FunctionSetting<S, A>]
+        ensures { reverse result.now ≡ self.now }
+    {
+        &self.accepted
+    }
+
     /// The newest command that has the function, exported or not, among its own, whichever kind it is.
     pub fn get(&self, function: &Mfa<A>, exported: bool) -> Option<&FunctionSetting<S, A>>
         ensures { option_map (λ k. k.now) result ≡ newest_setting self.now (mfa_seen function.now) exported }

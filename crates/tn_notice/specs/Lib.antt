@@ -4,3 +4,4 @@ pub mod TestViews
 pub mod NoticeViews
 pub mod MovesViews
 pub mod PickNotes
+pub mod PrintableLines

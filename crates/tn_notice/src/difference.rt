@@ -1,9 +1,13 @@
 // What an output that isn't the one that is expected has otherwise.
-ghost use Rattle.std.specs.Prelude.{◌≡◌, ◌⊎◌, Some, IfSome};
+ghost use Rattle.std.specs.Prelude.{◌≡◌, ◌⊎◌, ◌≢◌, None, Some, IfNone, IfSome};
+ghost use Rattle.std.specs.Char.{is_control};
+ghost use Rattle.std.specs.List.{list_any};
 ghost use Rattle.std.specs.Option.{option_map};
-ghost use Rattle.def_notice.specs.DifferenceTexts.{SaysLine, SaysPair, lack_of_lines, lines_without_text};
+ghost use Rattle.std.specs.Str.{chars};
+ghost use Rattle.def_notice.specs.DifferenceTexts.{SaysLine, SaysPair, lack_of_lines, lines_without_text, one_line};
 ghost use Rattle.def_notice.specs.DifferenceTexts.{output_difference_text, side_text, two_lines};
 ghost use Rattle.tn_notice.specs.DifferenceViews.{difference_seen_of, side_seen};
+ghost use Rattle.tn_notice.specs.PrintableLines.{IsPrintable};
 
 use std::fmt;
 use std::fmt::{Display, Formatter, Write};
@@ -95,14 +99,23 @@ impl Display for OutputDifference<'_> {
     }
 }
 
+/// Whether the text has a control character.
+fn has_control(text: &str) -> bool
+    ensures { result ≡ list_any is_control (chars text.now) }
+{
+    text.chars().any(|letter| letter.is_control())
+}
+
 /// A line as it is printed: None where it is no text, or has control characters.
 fn printable(line: &[u8]) -> Option<&str>
-    ensures { IfSome result (λ text. text.now ≡ line.now) }
+    ensures text { IfSome result (λ text. text.now ≡ line.now) }
+    ensures some { IfSome result (λ text. IsPrintable line.now) }
+    ensures none { IfNone result (IsPrintable line.now → ⊥) }
 {
     let Ok(text) = str::from_utf8(line) else {
         return None;
     };
-    if text.chars().any(|letter| letter.is_control()) {
+    if has_control(text) {
         return None;
     }
     Some(text)
@@ -110,7 +123,11 @@ fn printable(line: &[u8]) -> Option<&str>
 
 /// What is said of a line that the other output lacks.
 pub fn line_difference(side: Side, number: u64, line: &[u8]) -> OutputDifference<'_>
-    ensures { SaysLine (side_seen side) number line.now (difference_seen_of result) }
+    ensures line { SaysLine (side_seen side) number line.now (difference_seen_of result) }
+    ensures text { IsPrintable line.now
+        → difference_seen_of result ≡ one_line (side_seen side) number (Some line.now) }
+    ensures none { (IsPrintable line.now → ⊥)
+        → difference_seen_of result ≡ one_line (side_seen side) number None }
 {
     OutputDifference::OneLine {
         side,
@@ -121,8 +138,12 @@ pub fn line_difference(side: Side, number: u64, line: &[u8]) -> OutputDifference
 
 /// What is said of two lines that differ.
 fn difference_of_two<'a>(number: u64, expected: &'a [u8], found: &'a [u8]) -> OutputDifference<'a>
-    ensures { (difference_seen_of result ≡ two_lines number expected.now found.now)
+    ensures either { (difference_seen_of result ≡ two_lines number expected.now found.now)
         ⊎ (difference_seen_of result ≡ lines_without_text number) }
+    ensures texts { IsPrintable expected.now → IsPrintable found.now
+        → difference_seen_of result ≡ two_lines number expected.now found.now }
+    ensures without { (IsPrintable expected.now → IsPrintable found.now → ⊥)
+        → difference_seen_of result ≡ lines_without_text number }
 {
     match (printable(expected), printable(found)) {
         (Some(expected), Some(found)) => OutputDifference::TwoLines {
@@ -140,7 +161,11 @@ pub fn pair_difference<'a>(
     expected: &'a [u8],
     found: &'a [u8],
 ) -> Option<OutputDifference<'a>>
-    ensures { SaysPair number expected.now found.now (option_map difference_seen_of result) }
+    ensures pair { SaysPair number expected.now found.now (option_map difference_seen_of result) }
+    ensures texts { expected.now ≢ found.now → IsPrintable expected.now → IsPrintable found.now
+        → option_map difference_seen_of result ≡ Some (two_lines number expected.now found.now) }
+    ensures without { expected.now ≢ found.now → (IsPrintable expected.now → IsPrintable found.now → ⊥)
+        → option_map difference_seen_of result ≡ Some (lines_without_text number) }
 {
     if expected == found {
         return None;

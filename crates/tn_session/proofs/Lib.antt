@@ -13,3 +13,6 @@ pub mod Longer
 pub mod CallLemmas
 pub mod AtomTexts
 pub mod Outcomes
+pub mod SamePlaces
+pub mod Reversals
+pub mod Values

@@ -1,7 +1,9 @@
 -- What a session stands for, and what its calls give.
 use Rattle.std.specs.Prelude.{ℕ, List, Bool, map, Option, Some, None, if◌then◌else◌}
+use Rattle.std.specs.Option.{option_map}
 use Rattle.def_term.specs.Names as names
-use Rattle.def_spec.specs.Flags.{Flags}
+use Rattle.def_term.specs.Alive.{Alive}
+use Rattle.def_spec.specs.Flags.{Flags, FlagTable}
 use Rattle.def_session.specs.State as definition
 use Rattle.def_script.specs.Exports.{Exports}
 use Rattle.tn_session.specs.Views.{state_seen, function_seen}
@@ -31,3 +33,16 @@ with_new_process_flags f s = record s { state = record s.state { new_process_fla
 -- what the definition needs of the program for a command, which has so many processes at its start
 abbrev pub exports_in : SessionValue → ℕ → Exports
 exports_in s n = record { functions = s.functions; processes = n }
+
+-- what events change of a session: who lives, the flags of processes and the marks of their frames
+pub record SessionProcesses : Type 0 where
+  pub alive : Alive
+  pub flags : FlagTable
+  pub marks : List (List definition.Mark)
+
+abbrev pub processes_in : definition.Session → SessionProcesses
+processes_in s = record { alive = s.alive; flags = s.flags; marks = s.marks }
+
+-- the same of a session that was not refused memory
+abbrev pub processes_of : Option SessionValue → Option SessionProcesses
+processes_of v = option_map (λ s. processes_in s.state) v

@@ -7,12 +7,15 @@
 //! reports of an event is a `Message` that borrows from the event and from the `Room` of its evaluation. An
 //! `EventText` writes the elements of an event once for several sessions, and makes a message that they share once.
 //! A `Look` shows the session between two steps, `mark_for` is the mark that the effects of a call ask for, and
-//! `procs_of`, `how_of`, `pattern_of` and `options_of` read the arguments of commands.
+//! `procs_of`, `how_of`, `pattern_of` and `options_of` read the arguments of commands. A session once more stands for
+//! the same, and `same` says yes only where the same processes live, with the same flags and marks.
 #![tactic(auto)]
 
 mod arguments;
 mod command;
+mod comparison;
 mod compiled_spec;
+mod copies;
 mod elements;
 mod event;
 mod event_text;

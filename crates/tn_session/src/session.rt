@@ -147,3 +147,41 @@ impl<A: Allocator + Copy> Session<A> {
         }
     }
 }
+
+impl<A: Allocator + Copy> Session<A> {
+    ghost use Rattle.std.specs.Prelude.{◌≡◌, IfOk, IsTrue};
+    ghost use Rattle.tn_session.specs.Sessions.{value_in, processes_of};
+
+    /// The same session once more. The functions of the program are copied, the specifications have one owner more.
+    ///
+    /// # Errors
+    ///
+    /// AllocError where memory was refused, or a count of owners is full.
+    pub fn share(&self) -> Result<Session<A>, AllocError>
+        ensures { IfOk result (λ s. value_in s ≡ value_in self.now) }
+    {
+        Ok(Session {
+            state: self.state.share()?,
+            is_spent: self.is_spent,
+        })
+    }
+
+    /// Whether the same processes live in both, with the same flags and the same marks. The settings are not compared.
+    /// Where it is false that may be so too.
+    pub fn same(&self, other: &Session<A>) -> bool
+        ensures { IsTrue result → processes_of (value_in self.now) ≡ processes_of (value_in other.now) }
+    {
+        if self.is_spent || other.is_spent {
+            return self.is_spent == other.is_spent;
+        }
+        self.state.same(&other.state)
+    }
+
+    /// A number that is the same where `same` says so, and mostly another elsewhere.
+    pub fn fingerprint(&self) -> u64 {
+        if self.is_spent {
+            return 0;
+        }
+        self.state.fingerprint()
+    }
+}

@@ -25,7 +25,7 @@ pub enum Kind {
 }
 
 /// The mark of the frame of this depth.
-#[derive(Clone, Copy)]
+#[derive(Clone, Copy, PartialEq, Eq)]
 pub(crate) struct Mark {
     pub depth: usize,
     pub kind: Kind,
