@@ -18,7 +18,7 @@ mod session_rules;
 mod variables;
 
 pub use creations::Sessions;
-pub use fault::RuleFault;
+pub use fault::{Rule, RuleFault};
 pub use gather::program;
 pub use items::breaking_item;
 pub use parts::{Program, SharedFunctions};
