@@ -1,9 +1,10 @@
 -- What the code's functions, variables and sessions that break rules stand for.
-use Rattle.std.specs.Prelude.{ℕ, Bool, List, [], map, flat_map, Option}
+use Rattle.std.specs.Prelude.{ℕ, ◌+◌, Bool, List, [], length, map, flat_map, Option}
+use Rattle.std.specs.Option.{option_map}
 use Rattle.def_term.specs.Names.{Name, Mfa}
 use Rattle.def_script.specs.Program.{Step, Function, Command}
-use Rattle.def_script.specs.Rules.{bound_before, creates_session, gives_tracer}
-use Rattle.def_wording.specs.RuleTexts.{session_holder, tracer_holder}
+use Rattle.def_script.specs.Rules.{bound_before, creates_session, gives_tracer, terms_of}
+use Rattle.def_wording.specs.RuleTexts.{first_free_in, session_holder, tracer_holder}
 use Rattle.tn_script.specs.Views.{step_of}
 use Rattle.tn_program.specs.Variables.{target_names}
 use Rattle.tn_program.specs.FunctionNames.{is_it, is_named_so, is_it_internal}
@@ -38,6 +39,10 @@ variable_in_step_seen v = (v.variable.now, v.step)
 -- the variables that the steps bind
 abbrev pub targets_of_steps : List Step → List Name
 targets_of_steps ss = flat_map target_names ss
+
+-- the first variable of a step after these that isn't bound there, in a function with these parameters, and the number of the step
+abbrev pub free_at_step : (params : List Name) → List Step → Step → Option (Name × ℕ)
+free_at_step params before s = option_map (λ v. (v, length before + 1)) (first_free_in (bound_before params before) (terms_of s))
 
 -- the variables that are bound where a term stands
 abbrev pub bound_at : {A : Type 0} → TermSite A → List Name

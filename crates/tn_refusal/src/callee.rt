@@ -266,17 +266,22 @@ struct CalleeInStep<'a, A: Allocator> {
 fn first_wrong<'a, A: Allocator>(
     rule: Rule,
     forms: &[Form<A>],
-    function: &'a Function<A>,
+    home: &'a Atom<A>,
+    steps: &'a [Step<A>],
 ) -> Option<CalleeInStep<'a, A>>
     ensures { option_map callee_in_step_seen result ≡ first_with_earlier
-        (step_name (rule_of rule) (map form_of forms.now) function.now.module) [] (map step_of function.now.steps.items) }
+        (step_name (rule_of rule) (map form_of forms.now) home.now) [] (map step_of steps.now) }
 {
-    for i in 0..function.steps.len() {
-        if let Some(callee) = wrong_callee(rule, forms, &function.module, &function.steps[i]) {
-            return Some(CalleeInStep {
-                callee,
-                step: i + 1,
-            });
+    for i in 0..steps.len() {
+        let step = &steps[i];
+        match wrong_callee(rule, forms, home, step) {
+            Some(callee) => {
+                return Some(CalleeInStep {
+                    callee,
+                    step: i + 1,
+                });
+            }
+            None => {}
         }
     }
     None
@@ -310,9 +315,12 @@ fn put_arities<A: Allocator>(
 {
     let mut between: &[u8] = b" is declared with ";
     for form in forms {
-        if let Some(arity) = arity_in(form, callee) {
-            put_number(between, arity, out)?;
-            between = b" or ";
+        match arity_in(form, callee) {
+            Some(arity) => {
+                put_number(between, arity, out)?;
+                between = b" or ";
+            }
+            None => {}
         }
     }
     out.extend_from_slice(b" arguments")
@@ -365,7 +373,7 @@ pub fn put_named<A: Allocator>(
     ensures { OnOk result (out.new.items ≡ out.old.items ++ rule_reasons_text
         (steps_name_reason (rule_of rule) (map form_of forms.now) (function_of function.now))) }
 {
-    match first_wrong(rule, forms, function) {
+    match first_wrong(rule, forms, &function.module, &function.steps) {
         Some(wrong) => put_wrong_in_step(rule, forms, &wrong, out),
         None => Ok(()),
     }

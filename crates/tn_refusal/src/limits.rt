@@ -22,11 +22,7 @@ fn put_steps<A: Allocator>(function: &Function<A>, out: &mut Vec<u8, A>) -> Resu
 }
 
 /// Appends a number and what there are so many of; after an `Err` a part of it may be there.
-fn put_total<A: Allocator>(
-    total: u64,
-    what: &[u8],
-    out: &mut Vec<u8, A>,
-) -> Result<(), AllocError>
+fn put_total<A: Allocator>(total: u64, what: &[u8], out: &mut Vec<u8, A>) -> Result<(), AllocError>
     ensures { OnOk result (out.new.items ≡ out.old.items ++ total_text total what.now) }
 {
     put_number(b": ", total as usize, out)?;
@@ -47,7 +43,11 @@ fn put_function_limit<A: Allocator>(
     if function.steps.len() > MAX_STEPS {
         put_steps(function, out)
     } else {
-        put_total(function_total(earlier).saturating_add(1), b" functions", out)
+        put_total(
+            function_total(earlier).saturating_add(1),
+            b" functions",
+            out,
+        )
     }
 }
 

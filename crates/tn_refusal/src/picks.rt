@@ -19,7 +19,10 @@ fn fits(digits: &[u8]) -> bool
     ensures { result ≡ fits_a_pick digits.now }
 {
     match from_utf8(digits) {
-        Ok(text) => text.parse::<u32>().is_ok(),
+        Ok(text) => match text.parse::<u32>() {
+            Ok(_) => true,
+            Err(_) => false,
+        },
         Err(_) => false,
     }
 }
@@ -108,9 +111,9 @@ fn first_wrong(text: &[u8]) -> Option<WrongPick<'_>>
     let mut number = 1usize;
     for i in 0..text.len() {
         if text[i] == b' ' {
-            let wrong = wrong_pick(&text[from..i], number);
-            if wrong.is_some() {
-                return wrong;
+            match wrong_pick(&text[from..i], number) {
+                Some(wrong) => return Some(wrong),
+                None => {}
             }
             from = i + 1;
             number += 1;

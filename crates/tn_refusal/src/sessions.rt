@@ -1,10 +1,11 @@
 // The sessions that commands create and name.
 ghost use Rattle.std.specs.Prelude.{◌≡◌, ◌++◌, map, OnOk};
 ghost use Rattle.std.specs.Option.{option_map};
-ghost use Rattle.def_script.specs.Rules.{commands_of_form};
+ghost use Rattle.def_script.specs.Rules.{commands_of_form, creates_session};
 ghost use Rattle.def_wording.specs.Firsts.{first_with_earlier};
 ghost use Rattle.def_wording.specs.RuleTexts.{created_twice, tracer_of, without_creation, rule_reason_text};
 ghost use Rattle.def_wording.specs.RuleTexts.{session_passing, unmade_session, unmade_reason, rule_reasons_text};
+ghost use Rattle.def_wording.specs.RuleTexts.{session_holder, tracer_holder, unless_there};
 ghost use Rattle.def_wording.specs.RuleTexts.{created_again_reason, tracer_reason};
 ghost use Rattle.tn_flags.specs.Views.{command_of};
 ghost use Rattle.tn_script.specs.Views.{form_of};
@@ -79,9 +80,9 @@ fn created_before<'a, A: Allocator>(
         ≡ session_passing (creates_in_role role name.now) (form_commands forms.now) }
 {
     for form in forms {
-        let created = created_by_form(role, form, name);
-        if created.is_some() {
-            return created;
+        match created_by_form(role, form, name) {
+            Some(session) => return Some(session),
+            None => {}
         }
     }
     None
@@ -126,6 +127,49 @@ fn holder_of<'a, A: Allocator>(
     }
 }
 
+/// The session of a creation, where an earlier one creates it.
+fn session_taken<'a, A: Allocator>(
+    earlier: &'a [Form<A>],
+    before: &'a [Command<A>],
+    command: &'a Command<A>,
+) -> Option<CreatedName<'a, A>>
+    ensures { option_map created_name_seen result
+        ≡ session_holder (commands_before earlier.now before.now) (command_of command.now) }
+{
+    match command {
+        Command::SessionCreate { session, .. } => holder_of(
+            Role::Session,
+            earlier,
+            before,
+            session,
+        ),
+        Command::SessionDestroy { .. } => None,
+        Command::Process { .. } => None,
+        Command::Function { .. } => None,
+        Command::Send { .. } => None,
+        Command::Recv { .. } => None,
+    }
+}
+
+/// The tracer of a creation, where an earlier one has it.
+fn tracer_taken<'a, A: Allocator>(
+    earlier: &'a [Form<A>],
+    before: &'a [Command<A>],
+    command: &'a Command<A>,
+) -> Option<CreatedName<'a, A>>
+    ensures { option_map created_name_seen result
+        ≡ tracer_holder (commands_before earlier.now before.now) (command_of command.now) }
+{
+    match command {
+        Command::SessionCreate { tracer, .. } => holder_of(Role::Tracer, earlier, before, tracer),
+        Command::SessionDestroy { .. } => None,
+        Command::Process { .. } => None,
+        Command::Function { .. } => None,
+        Command::Send { .. } => None,
+        Command::Recv { .. } => None,
+    }
+}
+
 /// What a command names in the role, where it is a creation and an earlier one has that name.
 fn taken_by<'a, A: Allocator>(
     role: Role,
@@ -136,12 +180,9 @@ fn taken_by<'a, A: Allocator>(
     ensures { option_map created_name_seen result
         ≡ holder_in_role role (commands_before earlier.now before.now) (command_of command.now) }
 {
-    match command {
-        Command::SessionCreate { session, tracer } => match role {
-            Role::Session => holder_of(role, earlier, before, session),
-            Role::Tracer => holder_of(role, earlier, before, tracer),
-        },
-        _ => None,
+    match role {
+        Role::Session => session_taken(earlier, before, command),
+        Role::Tracer => tracer_taken(earlier, before, command),
     }
 }
 
@@ -155,9 +196,10 @@ fn first_taken<'a, A: Allocator>(
         ≡ first_with_earlier (holder_in_role role) (form_commands earlier.now) (map command_of commands.now) }
 {
     for i in 0..commands.len() {
-        let taken = taken_by(role, earlier, &commands[..i], &commands[i]);
-        if taken.is_some() {
-            return taken;
+        let command = &commands[i];
+        match taken_by(role, earlier, &commands[..i], command) {
+            Some(taken) => return Some(taken),
+            None => {}
         }
     }
     None
@@ -220,6 +262,21 @@ pub fn put_tracer_taken<A: Allocator>(
     }
 }
 
+/// The session of this name, where no earlier command creates it.
+fn unless_created<'a, A: Allocator>(
+    earlier: &[Form<A>],
+    before: &[Command<A>],
+    session: &'a Atom<A>,
+) -> Option<&'a Atom<A>>
+    ensures { option_map (λ a. a.now) result ≡ unless_there session.now
+        (session_passing (creates_session session.now) (commands_before earlier.now before.now)) }
+{
+    match earlier_creation(Role::Session, earlier, before, session.text()) {
+        Some(_) => None,
+        None => Some(session),
+    }
+}
+
 /// The session of a command other than a creation, where no earlier command creates it.
 fn unmade_by<'a, A: Allocator>(
     earlier: &[Form<A>],
@@ -229,13 +286,13 @@ fn unmade_by<'a, A: Allocator>(
     ensures { option_map (λ a. a.now) result
         ≡ unmade_session (commands_before earlier.now before.now) (command_of command.now) }
 {
-    if matches!(command, Command::SessionCreate { .. }) {
-        return None;
-    }
-    let session = command.session();
-    match earlier_creation(Role::Session, earlier, before, session.text()) {
-        Some(_) => None,
-        None => Some(session),
+    match command {
+        Command::SessionCreate { .. } => None,
+        Command::SessionDestroy { session } => unless_created(earlier, before, session),
+        Command::Process { session, .. } => unless_created(earlier, before, session),
+        Command::Function { session, .. } => unless_created(earlier, before, session),
+        Command::Send { session, .. } => unless_created(earlier, before, session),
+        Command::Recv { session, .. } => unless_created(earlier, before, session),
     }
 }
 
@@ -248,9 +305,10 @@ fn first_unmade<'a, A: Allocator>(
         ≡ first_with_earlier unmade_session (form_commands earlier.now) (map command_of commands.now) }
 {
     for i in 0..commands.len() {
-        let unmade = unmade_by(earlier, &commands[..i], &commands[i]);
-        if unmade.is_some() {
-            return unmade;
+        let command = &commands[i];
+        match unmade_by(earlier, &commands[..i], command) {
+            Some(session) => return Some(session),
+            None => {}
         }
     }
     None

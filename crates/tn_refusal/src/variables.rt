@@ -6,12 +6,12 @@ ghost use Rattle.def_script.specs.Program.{is_variable as is_variable_name};
 ghost use Rattle.def_script.specs.Rules.{terms_of, target_of_step};
 ghost use Rattle.def_wording.specs.Firsts.{first_with_earlier};
 ghost use Rattle.def_wording.specs.RuleTexts.{free_in_process, rule_reason_text, rule_reasons_text};
-ghost use Rattle.def_wording.specs.RuleTexts.{first_free, first_free_of, first_free_in, free_at, free_reason};
+ghost use Rattle.def_wording.specs.RuleTexts.{first_free, first_free_of, first_free_in, free_reason};
 ghost use Rattle.def_wording.specs.RuleTexts.{free_reason_of, entry_free_reason};
 ghost use Rattle.tn_program.specs.Variables.{target_names};
 ghost use Rattle.tn_term.specs.Views.{tree_of, trees_of};
 ghost use Rattle.tn_script.specs.Views.{entry_of, function_of, step_of};
-ghost use Rattle.tn_refusal.specs.RuleViews.{bound_at, targets_of_steps, variable_in_step_seen};
+ghost use Rattle.tn_refusal.specs.RuleViews.{bound_at, free_at_step, targets_of_steps, variable_in_step_seen};
 
 use crate::callee::{declared_by, put_callee};
 use crate::put::{put_atom, put_number};
@@ -35,7 +35,7 @@ fn has_param<A: Allocator>(params: &[Atom<A>], name: &str) -> bool
     ensures { result ≡ is_among params.now name.now }
 {
     for param in params {
-        if param.text() == name {
+        if name == param.text() {
             return true;
         }
     }
@@ -61,7 +61,7 @@ fn is_target<A: Allocator>(step: &Step<A>, name: &str) -> bool
     ensures { result ≡ is_among (target_names (step_of step.now)) name.now }
 {
     match target_of(step) {
-        Some(target) => target.text() == name,
+        Some(target) => name == target.text(),
         None => false,
     }
 }
@@ -78,13 +78,20 @@ fn has_target<A: Allocator>(steps: &[Step<A>], name: &str) -> bool
     false
 }
 
+/// Whether the name is one of these parameters or the target of one of these steps.
+fn is_param_or_target<A: Allocator>(params: &[Atom<A>], steps: &[Step<A>], name: &str) -> bool
+    ensures { result ≡ is_among (params.now ++ targets_of_steps (map step_of steps.now)) name.now }
+{
+    has_param(params, name) || has_target(steps, name)
+}
+
 /// Whether the variable is bound there.
 fn is_bound<A: Allocator>(site: &TermSite<'_, A>, name: &str) -> bool
     ensures { result ≡ is_among (bound_at site.now) name.now }
 {
     match site {
         TermSite::InStep { params, earlier } => {
-            name == "Self" || has_param(params, name) || has_target(earlier, name)
+            name == "Self" || is_param_or_target(params, earlier, name)
         }
         TermSite::InArguments => false,
     }
@@ -126,9 +133,9 @@ fn in_terms<'a, A: Allocator>(
     ensures { option_map (λ a. a.now) result ≡ first_free_of (bound_at site.now) (trees_of terms.now.items) }
 {
     for term in terms {
-        let found = in_term(term, site);
-        if found.is_some() {
-            return found;
+        match in_term(term, site) {
+            Some(atom) => return Some(atom),
+            None => {}
         }
     }
     None
@@ -184,21 +191,26 @@ struct VariableInStep<'a, A: Allocator> {
     step: usize,
 }
 
-/// The first variable that isn't bound where a step of the function has it.
-fn first_in_function<A: Allocator>(function: &Function<A>) -> Option<VariableInStep<'_, A>>
+/// The first variable that isn't bound where one of the steps of a function with these parameters has it.
+fn first_in_steps<'a, A: Allocator>(
+    params: &'a [Atom<A>],
+    steps: &'a [Step<A>],
+) -> Option<VariableInStep<'a, A>>
     ensures { option_map variable_in_step_seen result
-        ≡ first_with_earlier (free_at (function_of function.now)) [] (map step_of function.now.steps.items) }
+        ≡ first_with_earlier (free_at_step params.now) [] (map step_of steps.now) }
 {
-    for i in 0..function.steps.len() {
-        let site = TermSite::InStep {
-            params: &function.params,
-            earlier: &function.steps[..i],
-        };
-        if let Some(variable) = in_step(&function.steps[i], &site) {
-            return Some(VariableInStep {
-                variable,
-                step: i + 1,
-            });
+    for i in 0..steps.len() {
+        let step = &steps[i];
+        let earlier = &steps[..i];
+        let site = TermSite::InStep { params, earlier };
+        match in_step(step, &site) {
+            Some(variable) => {
+                return Some(VariableInStep {
+                    variable,
+                    step: i + 1,
+                });
+            }
+            None => {}
         }
     }
     None
@@ -238,7 +250,7 @@ pub fn put_in_function<A: Allocator>(
     ensures { OnOk result (out.new.items
         ≡ out.old.items ++ rule_reasons_text (free_reason (function_of function.now))) }
 {
-    match first_in_function(function) {
+    match first_in_steps(&function.params, &function.steps) {
         Some(free) => put_free(&free, function, out),
         None => Ok(()),
     }
