@@ -1,4 +1,3 @@
 pub mod OneExplanation
 pub mod Both
-pub mod Fronts
 pub mod OneNote

@@ -2,3 +2,5 @@ pub mod Agreements
 pub mod SameForms
 pub mod SamePrograms
 pub mod SameSessions
+pub mod Fronts
+pub mod OneLine

@@ -1,1 +1,3 @@
 pub mod Agreement
+pub mod Fronts
+pub mod Lines

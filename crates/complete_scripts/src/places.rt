@@ -3,7 +3,7 @@ ghost use Rattle.std.specs.Prelude.{◌≡◌, ◌<◌, length, IfOk};
 ghost use Rattle.tn_refusal.specs.Locations.{IsPlaced};
 ghost use Rattle.tn_refusal.specs.Refusals.{refusal_of, refused_part};
 ghost use Rattle.tn_refusal.specs.Starts.{IsListable};
-ghost use Rattle.complete_explain.specs.Fronts.{BeginAlike};
+ghost use Rattle.complete_scripts.specs.Fronts.{BeginAlike};
 
 use std::alloc::{AllocError, Allocator};
 use tn_refusal::{LineColumn, Refusal, form_offset, line_column_of};

@@ -1,7 +1,7 @@
 use Rattle.def_wording.specs.SyntaxTexts.{of_script}
-use Rattle.complete_explain.proofs.Fronts.{both_alike, begin_alike}
+use Rattle.complete_scripts.proofs.Fronts.{both_alike, begin_alike}
 use Rattle.tn_refusal.specs.Refusals.{refusal_of}
-use Rattle.complete_explain.proofs.places.line.Goals as goal
+use Rattle.complete_scripts.proofs.places.line.Goals as goal
 
 pub returns : goal.returns
 returns g c =

@@ -16,7 +16,7 @@ use Rattle.tn_refusal.specs.Refusals.{refused_part}
 use Rattle.def_text.proofs.Unique.{same_tokens}
 use Rattle.tn_refusal.specs.Starts.{IsListable, IsFormOffset}
 use Rattle.tn_refusal.specs.Words.{words}
-use Rattle.complete_explain.specs.Fronts.{BeginAlike}
+use Rattle.complete_scripts.specs.Fronts.{BeginAlike}
 
 -- each form of a text of tokens begins somewhere
 begins : (bytes : List ℕ) (n : ℕ) (l : IsListable bytes) → FormBegins bytes n (offset_of (length bytes) (after_stops (n - 1) l.tokens))
@@ -30,7 +30,7 @@ one_item_mark : (bytes : List ℕ) (n : ℕ) (o : Option FormItem) (m k : Locati
 one_item_mark bytes n None m k h p q = p _ (begins bytes n h) ∙ sym (q _ (begins bytes n h))
 one_item_mark bytes n (Some i) m k h p q = p _ (item_begins bytes n i h) ∙ sym (q _ (item_begins bytes n i h))
 
-one_mark : (bytes : List ℕ) (r : Refusal) (part : RefusedPart) (m k : Location) → IsPlaced bytes part → IsMarkOf bytes r part m → IsMarkOf bytes r part k → m ≡ k
+pub one_mark : (bytes : List ℕ) (r : Refusal) (part : RefusedPart) (m k : Location) → IsPlaced bytes part → IsMarkOf bytes r part m → IsMarkOf bytes r part k → m ≡ k
 one_mark bytes r Whole m k h p q = p ∙ sym q
 one_mark bytes r (Token at) m k h p q = p h ∙ sym (q h)
 one_mark bytes r (Form n) m k h p q =

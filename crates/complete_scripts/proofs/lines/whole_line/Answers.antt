@@ -1,0 +1,10 @@
+use Rattle.def_wording.specs.SyntaxTexts.{of_script}
+use Rattle.tn_refusal.specs.Refusals.{refusal_of}
+use Rattle.complete_scripts.proofs.Fronts.{both_alike}
+use Rattle.complete_scripts.proofs.OneLine.{one_line}
+use Rattle.complete_scripts.proofs.lines.whole_line.Goals as goal
+
+pub returns : goal.returns
+returns g c =
+    both_alike _ _ _ (λ v w p q. one_line of_script c.args.name.now c.args.text.now (refusal_of c.args.refusal) v.items w.items c.requires p q) c.explain-first.result c.explain-second.result c.explain-first.ensures
+    c.explain-second.ensures
