@@ -13,8 +13,11 @@
 
 mod act;
 mod context;
+mod env;
 mod exception;
 mod function;
+mod functions;
+mod names;
 mod neighbours;
 mod outlook;
 mod process;
@@ -25,6 +28,7 @@ mod values;
 
 pub use act::Act;
 pub use function::function_mfa;
+pub use functions::Functions;
 pub use outlook::{OwnLink, RuntimeError};
 pub use process::Process;
 pub use state_part::StatePart;

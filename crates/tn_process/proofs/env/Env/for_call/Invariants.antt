@@ -3,7 +3,7 @@ use Rattle.def_term.specs.Tree as Tree
 use Rattle.def_node.specs.Values.{params_bound}
 use Rattle.tn_term.specs.SharedTree.{shared_tree}
 use Rattle.tn_process.specs.Views.{env_of}
-use Rattle.tn_process.proofs.values.Env.for_call.Given as goal
+use Rattle.tn_process.proofs.env.Env.for_call.Given as goal
 
 abbrev pub invariant-loop-param : goal.invariant-loop-param
 invariant-loop-param g l =

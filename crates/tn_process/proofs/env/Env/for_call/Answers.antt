@@ -4,7 +4,7 @@ use Rattle.def_term.specs.Tree as Tree
 use Rattle.def_node.specs.Values.{params_bound, Env}
 use Rattle.tn_term.specs.SharedTree.{shared_tree}
 use Rattle.tn_process.specs.Views.{env_of}
-use Rattle.tn_process.proofs.values.Env.for_call.Goals as goal
+use Rattle.tn_process.proofs.env.Env.for_call.Goals as goal
 
 pub loop-param-init : goal.loop-param-init
 loop-param-init g c =

@@ -5,7 +5,7 @@ use Rattle.def_node.specs.Values.{instance_of, fits}
 use Rattle.tn_term.specs.Views.{tree_of}
 use Rattle.tn_process.specs.Views.{env_of}
 use Rattle.tn_process.proofs.Templates.{fit_here, fit_false, fit_true}
-use Rattle.tn_process.proofs.values.Env.all_fit.Goals as goal
+use Rattle.tn_process.proofs.env.Env.all_fit.Goals as goal
 
 pub returns-then-not-fits : goal.returns-then-not-fits
 returns-then-not-fits g c =

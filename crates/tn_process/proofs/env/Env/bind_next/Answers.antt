@@ -3,7 +3,7 @@ use Rattle.def_node.specs.Values.{params_bound}
 use Rattle.tn_term.specs.SharedTree.{shared_tree}
 use Rattle.tn_process.specs.Views.{env_of}
 use Rattle.tn_process.proofs.Acts.{none_bound}
-use Rattle.tn_process.proofs.values.Env.bind_next.Goals as goal
+use Rattle.tn_process.proofs.env.Env.bind_next.Goals as goal
 
 pub returns-in-None : goal.returns-in-None
 returns-in-None g c ps =

@@ -8,7 +8,7 @@ use Rattle.tn_term.specs.declared.term.Term.{Term}
 use Rattle.tn_process.specs.Templates.{args_built_by}
 use Rattle.tn_process.specs.Views.{env_of}
 use Rattle.tn_process.proofs.Templates.{fit_is}
-use Rattle.tn_process.proofs.values.Env.fitting_all.Goals as goal
+use Rattle.tn_process.proofs.env.Env.fitting_all.Goals as goal
 
 pub invariant_of-result : goal.invariant_of-result
 invariant_of-result g c =
