@@ -2,7 +2,7 @@
 ghost use Rattle.std.specs.Prelude.{◌≡◌, IfOk};
 ghost use Rattle.std.specs.Arc.{arc_value};
 ghost use Rattle.tn_script.specs.Views.{functions_of};
-ghost use Rattle.tn_process.specs.Functions.{functions_seen};
+ghost use Rattle.tn_process.specs.Functions.{functions_in};
 
 use std::alloc::{AllocError, Allocator};
 use std::sync::Arc;
@@ -19,7 +19,7 @@ pub fn new<A: Allocator + Copy>(
     Result<Functions<A>, AllocError>,
 )
     requires { functions_of (arc_value one).items ≡ functions_of (arc_value other).items }
-    ensures { IfOk result.0 (λ x. IfOk result.1 (λ y. functions_seen x ≡ functions_seen y)) }
+    ensures { IfOk result.0 (λ x. IfOk result.1 (λ y. functions_in x ≡ functions_in y)) }
 {
     let first = Functions::new(alloc, one);
     let second = Functions::new(alloc, other);
@@ -34,8 +34,8 @@ pub fn share<A: Allocator + Copy>(
     Result<Functions<A>, AllocError>,
     Result<Functions<A>, AllocError>,
 )
-    requires { functions_seen one.now ≡ functions_seen other.now }
-    ensures { IfOk result.0 (λ x. IfOk result.1 (λ y. functions_seen x ≡ functions_seen y)) }
+    requires { functions_in one.now ≡ functions_in other.now }
+    ensures { IfOk result.0 (λ x. IfOk result.1 (λ y. functions_in x ≡ functions_in y)) }
 {
     (one.share(), other.share())
 }
@@ -45,7 +45,7 @@ pub fn as_slice<'a, A: Allocator + Copy>(
     one: &'a Functions<A>,
     other: &'a Functions<A>,
 ) -> (&'a [Function<A>], &'a [Function<A>])
-    requires { functions_seen one.now ≡ functions_seen other.now }
+    requires { functions_in one.now ≡ functions_in other.now }
     ensures { functions_of result.0.now ≡ functions_of result.1.now }
 {
     (one.as_slice(), other.as_slice())

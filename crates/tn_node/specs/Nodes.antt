@@ -6,7 +6,7 @@ use Rattle.def_script.specs.Program.{Function, Program}
 use Rattle.def_node.specs.Event.{Event}
 use Rattle.def_node.specs.Node as node
 use Rattle.tn_flags.specs.Views.{event_of}
-use Rattle.tn_process.specs.Functions.{functions_seen}
+use Rattle.tn_process.specs.Functions.{functions_in}
 use Rattle.tn_node.specs.Codes.{function_code, state_code}
 use Rattle.tn_node.specs.Worlds.{world_of}
 use Rattle.tn_node.specs.declared.step_outcome.Moved as code
@@ -55,7 +55,7 @@ moved_seen code.TheVariants.Idle = answers_nothing
 -- what the code's state stands for
 abbrev pub node_seen : {A : Type 0} → State A → NodeValue
 node_seen c = record {
-  functions = functions_seen c.functions;
+  functions = functions_in c.functions;
   commands = c.commands;
   state = record { world = world_of c.world; taken = c.taken };
 }

@@ -19,7 +19,7 @@ impl<A: Allocator + Copy> World<A> {
     ghost use Rattle.std.specs.Prelude.{◌≡◌, ℕ, ◌+◌, ◌<◌, IfOk, IfSome, IsTrue, map, Some, slice_get};
     ghost use Rattle.tn_term.specs.Views.{tree_of};
     ghost use Rattle.tn_term.specs.SharedTree.{shared_tree};
-    ghost use Rattle.tn_process.specs.Functions.{functions_seen};
+    ghost use Rattle.tn_process.specs.Functions.{functions_in};
     ghost use Rattle.tn_script.specs.Views.{entry_of};
     ghost use Rattle.def_node.specs.Process as process;
     ghost use Rattle.def_node.specs.Node.{opening_world, place_of_pid, next_pid, with_message, with_link, with_signal};
@@ -432,7 +432,7 @@ impl<A: Allocator + Copy> World<A> {
         functions: &Functions<A>,
         pid: u32,
     ) -> Result<Option<Vec<Event<A>, A>>, AllocError>
-        ensures { IfOk result (λ o. move_of self.new o ≡ next_of (functions_seen functions.now) (world_of self.old) pid) }
+        ensures { IfOk result (λ o. move_of self.new o ≡ next_of (functions_in functions.now) (world_of self.old) pid) }
     {
         let Some(place) = self.place_of_pid(pid) else {
             return Ok(None);

@@ -82,7 +82,7 @@ impl<A: Allocator + Copy> Lookup<A> {
 }
 
 impl<A: Allocator + Copy> Functions<A> {
-    ghost use Rattle.tn_process.specs.Functions.{functions_seen};
+    ghost use Rattle.tn_process.specs.Functions.{functions_in};
 
     /// The functions, with what finds them.
     ///
@@ -90,7 +90,7 @@ impl<A: Allocator + Copy> Functions<A> {
     ///
     /// AllocError where memory was refused.
     pub fn new(alloc: A, list: Arc<Vec<Function<A>, A>, A>) -> Result<Functions<A>, AllocError>
-        ensures { IfOk result (λ f. functions_seen f ≡ functions_of (arc_value list).items) }
+        ensures { IfOk result (λ f. functions_in f ≡ functions_of (arc_value list).items) }
     {
         let lookup = Arc::new(alloc, Lookup::of_functions(alloc, list.as_slice())?)?;
         Ok(Functions { list, lookup })
@@ -102,7 +102,7 @@ impl<A: Allocator + Copy> Functions<A> {
     ///
     /// AllocError where a count of owners is full.
     pub fn share(&self) -> Result<Functions<A>, AllocError>
-        ensures { IfOk result (λ f. functions_seen f ≡ functions_seen self.now) }
+        ensures { IfOk result (λ f. functions_in f ≡ functions_in self.now) }
     {
         Ok(Functions {
             list: Arc::try_clone(&self.list)?,
@@ -112,7 +112,7 @@ impl<A: Allocator + Copy> Functions<A> {
 
     /// The functions.
     pub fn as_slice(&self) -> &[Function<A>]
-        ensures { functions_of result.now ≡ functions_seen self.now }
+        ensures { functions_of result.now ≡ functions_in self.now }
     {
         self.list.as_slice()
     }

@@ -12,6 +12,9 @@ use tn_term::Atom;
 /// How many places a table of guesses has for each name: with few, names share one, and the search is made.
 const PLACES: usize = 8;
 
+/// The last place that a table has: a function has few names, and a script few functions.
+const LAST_PLACE: usize = 65535;
+
 /// A place for each name, by a hash of its text. Of names with the same hash the last one has it.
 #[derive(Drop)]
 pub struct Guesses<A: Allocator> {
@@ -51,6 +54,9 @@ impl<A: Allocator + Copy> Guesses<A> {
 
     /// The place of the name is this one.
     pub fn note(&mut self, name: &str, place: usize) {
+        if place > LAST_PLACE {
+            return;
+        }
         let entry = self.entry(name);
         if let Some(known) = self.places.get_mut(entry) {
             *known = place as u16;

@@ -10,7 +10,7 @@ ghost use Rattle.tn_script.specs.Views.{step_of, functions_of};
 ghost use Rattle.def_node.specs.Values.{fit};
 ghost use Rattle.def_node.specs.Process as World;
 ghost use Rattle.def_node.specs.Process.{next_step, act, mfa_at};
-ghost use Rattle.tn_process.specs.Functions.{functions_seen};
+ghost use Rattle.tn_process.specs.Functions.{functions_in};
 ghost use Rattle.tn_process.specs.Views.{frame_of, process_seen, events_of, act_of};
 ghost use Rattle.tn_process.specs.declared.process.Process.{Process};
 ghost use Rattle.tn_process.specs.Templates.{built_in};
@@ -597,7 +597,7 @@ impl<A: Allocator + Copy> Process<A> {
         pid: u32,
         child: Option<u32>,
     ) -> Result<Act<A>, AllocError>
-        ensures { Does self.new result (act (functions_seen functions.now) pid child (process_seen self.old)) }
+        ensures { Does self.new result (act (functions_in functions.now) pid child (process_seen self.old)) }
     {
         if let Some(reason) = self.signal.take() {
             return Ok(Act::Exits {

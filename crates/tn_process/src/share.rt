@@ -182,10 +182,9 @@ impl<A: Allocator + Copy> StatePart<A> for Env<A> {
     ghost seen = { env_of };
 
     fn share(&self, alloc: A) -> Result<Self, AllocError> {
-        Ok(Env {
-            values: self.values.share(alloc)?,
-            names: Arc::try_clone(&self.names)?,
-        })
+        let values = self.values.share(alloc)?;
+        let names = Arc::try_clone(&self.names)?;
+        Ok(Env { values, names })
     }
 
     fn same(&self, other: &Self) -> bool {
