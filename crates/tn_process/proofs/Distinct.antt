@@ -48,8 +48,8 @@ not_first : {X : Type 0} (h : X → Name) (y : X) (ys : List X) (i : ℕ) (d : X
     → i < length ys → bytes_eq (h (get_or ys i d)) s ≡ true → is_among (map h ys) (h y) ≡ false → bytes_eq (h y) s ≡ false
 not_first h y ys i d s below is new =
     unless (bytes_eq (h y) s) (λ holds.
-        let same : h y ≡ h (get_or ys i d) = (bytes_eq-Decides (h y) s).0 holds ∙ sym ((bytes_eq-Decides (h (get_or ys i d)) s).0 is) in
-        clash _ (among_at h ys i d (h y) below ((bytes_eq-Decides (h y) (h (get_or ys i d))).1 same)) new)
+    let same : h y ≡ h (get_or ys i d) = (bytes_eq-Decides (h y) s).0 holds ∙ sym ((bytes_eq-Decides (h (get_or ys i d)) s).0 is) in
+    clash _ (among_at h ys i d (h y) below ((bytes_eq-Decides (h y) (h (get_or ys i d))).1 same)) new)
 
 placed_from : {X : Type 0} (h : X → Name) (xs : List X) (s : Name) (i : ℕ) (d : X) (j : ℕ)
     → are_distinct (map h xs) ≡ true → i < length xs → bytes_eq (h (get_or xs i d)) s ≡ true

@@ -1,6 +1,6 @@
 // Where a search by name begins: guesses, which a look at the name there confirms or refutes. Nothing is promised
 // of a guess, so no contract speaks of one.
-ghost use Rattle.std.specs.Prelude.{◌≡◌, IfOk, IfSome};
+ghost use Rattle.std.specs.Prelude.{◌≡◌, IfOk};
 ghost use Rattle.std.specs.Arc.{arc_value};
 ghost use Rattle.def_term.specs.Atoms.{IsAtomText};
 

@@ -1,4 +1,4 @@
-use Rattle.std.proofs.Common.{◌≡◌, ◌<◌, true, ap, sym, ◌∙◌, length, get_or, arith, rules}
+use Rattle.std.proofs.Common.{◌≡◌, true, ap, sym, ◌∙◌, get_or, arith, rules}
 use Rattle.std.specs.Str.{bytes_eq}
 use Rattle.tn_process.specs.Bindings.{bound_name}
 use Rattle.tn_process.proofs.Distinct.{placed}

@@ -1,4 +1,4 @@
-use Rattle.std.proofs.Common.{◌≡◌, ℕ, List, [], ◌∷◌, ◌++◌, ap, ap₂, ◌∙◌, map, rules}
+use Rattle.std.proofs.Common.{◌≡◌, ℕ, List, [], ◌∷◌, ap, ap₂, ◌∙◌, map, rules}
 use Rattle.def_term.specs.Tree.{Tree}
 use Rattle.tn_term.proofs.Views.{tree_of_pid}
 use Rattle.tn_process.specs.Views.{name_and_term}
