@@ -5,5 +5,6 @@
 #![tactic(auto)]
 
 mod function;
+mod functions;
 mod node;
 mod process;

@@ -8,7 +8,7 @@ ghost use Rattle.tn_process.specs.Outlooks.{error_seen, own_link_seen};
 ghost use Rattle.tn_process.specs.Views.{process_seen, act_of};
 
 use std::alloc::{AllocError, Allocator};
-use tn_process::{Act, OwnLink, Process, RuntimeError};
+use tn_process::{Act, Functions, OwnLink, Process, RuntimeError};
 use tn_script::{Entry, Function};
 use tn_term::{SharedTerm, Term};
 
@@ -118,7 +118,7 @@ pub fn act<A: Allocator + Copy>(
     one: &mut Process<A>,
     other: &mut Process<A>,
     alloc: A,
-    functions: &[Function<A>],
+    functions: &Functions<A>,
     pid: u32,
     child: Option<u32>,
 ) -> (Result<Act<A>, AllocError>, Result<Act<A>, AllocError>)

@@ -1,13 +1,12 @@
 -- What the code's node stands for, and a step of it.
 use Rattle.std.specs.Prelude.{ℕ, Bool, true, false, List, length, map, Option, Some, None, refl}
-use Rattle.std.specs.Arc.{arc_value}
 use Rattle.std.specs.Option.{option_map}
 use Rattle.std.specs.Coded.{Coded, code_by, coded_ℕ, coded_list, coded×}
 use Rattle.def_script.specs.Program.{Function, Program}
 use Rattle.def_node.specs.Event.{Event}
 use Rattle.def_node.specs.Node as node
 use Rattle.tn_flags.specs.Views.{event_of}
-use Rattle.tn_script.specs.Views.{functions_of}
+use Rattle.tn_process.specs.Functions.{functions_in}
 use Rattle.tn_node.specs.Codes.{function_code, state_code}
 use Rattle.tn_node.specs.Worlds.{world_of}
 use Rattle.tn_node.specs.declared.step_outcome.Moved as code
@@ -56,7 +55,7 @@ moved_seen code.TheVariants.Idle = answers_nothing
 -- what the code's state stands for
 abbrev pub node_seen : {A : Type 0} → State A → NodeValue
 node_seen c = record {
-  functions = functions_of (arc_value c.functions).items;
+  functions = functions_in c.functions;
   commands = c.commands;
   state = record { world = world_of c.world; taken = c.taken };
 }

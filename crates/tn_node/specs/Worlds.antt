@@ -10,8 +10,8 @@ use Rattle.tn_flags.specs.declared.event.Event.{Event}
 use Rattle.std.specs.declared.vec.Vec.{Vec}
 use Rattle.tn_term.specs.Views.{tree_of}
 use Rattle.tn_term.specs.declared.term.Term.{Term}
-use Rattle.tn_script.specs.Views.{functions_of}
-use Rattle.tn_script.specs.declared.form.Function.{Function}
+use Rattle.tn_process.specs.Functions.{functions_in}
+use Rattle.tn_process.specs.declared.functions.Functions.{Functions}
 use Rattle.tn_process.specs.Views.{process_seen, act_seen}
 use Rattle.tn_process.specs.declared.process.Process.{Process}
 use Rattle.tn_process.specs.declared.act.Act.{Act}
@@ -64,10 +64,10 @@ abbrev pub ChangesAt : {A : Type 0} → World A → World A → ℕ → (process
 ChangesAt old new place f = world_of new ≡ change_at (world_of old) place f
 
 -- the process at the place acts; the others stay
-abbrev pub ActsAt : {A : Type 0} → World A → World A → List (Function A) → ℕ → ℕ → Option ℕ → Act A → Type 0
+abbrev pub ActsAt : {A : Type 0} → World A → World A → Functions A → ℕ → ℕ → Option ℕ → Act A → Type 0
 ActsAt old new functions place pid child a =
     (q : process.Process) → slice_get (world_of old).slots place ≡ Some (Some q)
-    → (r : process.Process) × (world_of new ≡ put_at (world_of old) place r) × (act_seen r a ≡ act (functions_of functions) pid child q)
+    → (r : process.Process) × (world_of new ≡ put_at (world_of old) place r) × (act_seen r a ≡ act (functions_in functions) pid child q)
 
 -- what the act of the process at the place does, where the change in the process itself is made already
 abbrev pub CarriesOut : {A E : Type 0} → World A → World A → ℕ → ℕ → Act A → Result (Option (Vec (Event A) A)) E → Type 0

@@ -5,15 +5,14 @@ use crate::world::World;
 use std::alloc::{AllocError, Allocator};
 use std::hash::{FoldHasher, Hasher};
 use std::marker::Model;
-use std::sync::Arc;
-use tn_process::StatePart;
-use tn_program::{Program, SharedFunctions};
+use tn_process::{Functions, StatePart};
+use tn_program::Program;
 
 /// The processes, and how many commands of the control list were taken.
 #[derive(Drop)]
 pub struct State<A: Allocator> {
     alloc: A,
-    functions: SharedFunctions<A>,
+    functions: Functions<A>,
     commands: usize,
     taken: usize,
     world: World<A>,
@@ -50,7 +49,7 @@ impl<A: Allocator + Copy> State<A> {
     fn new(alloc: A, program: &Program<A>) -> Result<State<A>, AllocError>
         ensures { let p = program_of program.now in IfOk result (λ s. node_seen s ≡ node_at p (opening_state p)) }
     {
-        let functions = program.share_functions()?;
+        let functions = Functions::new(alloc, program.share_functions()?)?;
         let world = World::new(alloc, program.entries())?;
         Ok(State {
             alloc,
@@ -80,7 +79,7 @@ impl<A: Allocator + Copy> State<A> {
         ensures { let n = node_seen self.old in IfOk result (λ m.
             next_node n (pick_result n.functions n.commands n.state pid) ≡ (Some (node_seen self.new), moved_seen m)) }
     {
-        match self.world.step(self.alloc, self.functions.as_slice(), pid)? {
+        match self.world.step(self.alloc, &self.functions, pid)? {
             Some(events) => Ok(Moved::Moved(events)),
             None => Ok(Moved::Idle),
         }
@@ -166,7 +165,7 @@ impl<A: Allocator + Copy> State<A> {
     fn share(&self) -> Result<State<A>, AllocError>
         ensures { IfOk result (λ s. node_seen s ≡ node_seen self.now) }
     {
-        let functions = Arc::try_clone(&self.functions)?;
+        let functions = self.functions.share()?;
         let world = self.world.share(self.alloc)?;
         Ok(State {
             alloc: self.alloc,

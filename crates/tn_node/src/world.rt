@@ -4,8 +4,8 @@ ghost use Rattle.std.specs.Prelude.{◌≤◌, length};
 use crate::events::{exit_events, start_events};
 use std::alloc::{AllocError, Allocator};
 use tn_flags::Event;
-use tn_process::{Act, Process};
-use tn_script::{Entry, Function, copy_entry};
+use tn_process::{Act, Functions, Process};
+use tn_script::{Entry, copy_entry};
 use tn_term::{FIRST_PID, PROCESSES, SharedTerm, Term};
 
 /// The processes from pid 100 on; none where one has exited.
@@ -19,7 +19,8 @@ impl<A: Allocator + Copy> World<A> {
     ghost use Rattle.std.specs.Prelude.{◌≡◌, ℕ, ◌+◌, ◌<◌, IfOk, IfSome, IsTrue, map, Some, slice_get};
     ghost use Rattle.tn_term.specs.Views.{tree_of};
     ghost use Rattle.tn_term.specs.SharedTree.{shared_tree};
-    ghost use Rattle.tn_script.specs.Views.{entry_of, functions_of};
+    ghost use Rattle.tn_process.specs.Functions.{functions_in};
+    ghost use Rattle.tn_script.specs.Views.{entry_of};
     ghost use Rattle.def_node.specs.Process as process;
     ghost use Rattle.def_node.specs.Node.{opening_world, place_of_pid, next_pid, with_message, with_link, with_signal};
     ghost use Rattle.def_node.specs.Node.{part, linked_at, deliver, linked_to, link_made, unlinked_from};
@@ -382,7 +383,7 @@ impl<A: Allocator + Copy> World<A> {
     fn act_at(
         &mut self,
         alloc: A,
-        functions: &[Function<A>],
+        functions: &Functions<A>,
         place: usize,
         pid: u32,
         child: Option<u32>,
@@ -428,10 +429,10 @@ impl<A: Allocator + Copy> World<A> {
     pub fn step(
         &mut self,
         alloc: A,
-        functions: &[Function<A>],
+        functions: &Functions<A>,
         pid: u32,
     ) -> Result<Option<Vec<Event<A>, A>>, AllocError>
-        ensures { IfOk result (λ o. move_of self.new o ≡ next_of (functions_of functions.now) (world_of self.old) pid) }
+        ensures { IfOk result (λ o. move_of self.new o ≡ next_of (functions_in functions.now) (world_of self.old) pid) }
     {
         let Some(place) = self.place_of_pid(pid) else {
             return Ok(None);

@@ -5,3 +5,4 @@ pub mod Exceptions
 pub mod Outlooks
 pub mod Additions
 pub mod Frames
+pub mod Distinct

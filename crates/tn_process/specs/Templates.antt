@@ -12,7 +12,7 @@ use Rattle.tn_script.specs.declared.form.Arguments.{Arguments}
 use Rattle.tn_process.specs.declared.process.Frame.{Frame}
 use Rattle.tn_process.specs.declared.value.Elements.{Elements}
 use Rattle.tn_process.specs.declared.value.Value.{Value}
-use Rattle.tn_process.specs.declared.values.Env.{Env}
+use Rattle.tn_process.specs.declared.env.Env.{Env}
 use Rattle.tn_process.specs.Views.{env_of}
 
 -- what templates stand for, by the values of variables

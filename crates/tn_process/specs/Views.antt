@@ -12,8 +12,9 @@ use Rattle.tn_script.specs.Views.{entry_of}
 use Rattle.def_node.specs.Event.{Event}
 use Rattle.def_node.specs.Values as values
 use Rattle.def_node.specs.Process as process
-use Rattle.tn_process.specs.declared.values.Binding.{Binding}
-use Rattle.tn_process.specs.declared.values.Env.{Env}
+use Rattle.tn_process.specs.declared.env.Binding.{Binding}
+use Rattle.tn_process.specs.declared.env.Env.{Env}
+use Rattle.tn_process.specs.Bindings.{bound_name}
 use Rattle.tn_process.specs.declared.act.Act.{Act}
 use Rattle.tn_process.specs.declared.act.Act.TheVariants.{Waits, Continues, Sends, LinksTo, UnlinksFrom, Spawns, Exits}
 use Rattle.tn_process.specs.declared.exception.Exception.{Exception}
@@ -21,7 +22,7 @@ use Rattle.tn_process.specs.declared.process.Frame.{Frame}
 use Rattle.tn_process.specs.declared.process.Process.{Process}
 
 abbrev pub name_and_term : {A : Type 0} → Binding A → Name × Tree
-name_and_term b = (b.name, shared_tree b.value)
+name_and_term b = (bound_name b, shared_tree b.value)
 
 abbrev pub env_of : {A : Type 0} → Env A → values.Env
 env_of e = map name_and_term e.values.items

@@ -10,7 +10,7 @@ use tn_script::Function;
 use tn_term::Mfa;
 
 /// Whether the function has this name and number of parameters.
-fn is_named<A: Allocator>(
+pub fn is_named<A: Allocator>(
     function: &Function<A>,
     module_name: &str,
     name: &str,

@@ -2,19 +2,23 @@
 //! signal and its links.
 //!
 //! Depends on the functions of a script and on the definitions of def_node. Promises that what a process
-//! does at its next step, and what it is then, are those of the definition: templates are built in one
-//! go and measured as they are built; the value of a variable, a message and a returned value have several
-//! owners (`SharedTerm`) and are not copied; a call or a return changes the newest frame; an exception
+//! does at its next step, and what it is then, are those of the definition: a function and a variable are
+//! looked for at a guess before they are searched; templates are built in one go and measured as they are
+//! built; the value of a variable, a message and a returned value have several owners (`SharedTerm`) and
+//! are not copied, nor is the name of a variable; a call or a return changes the newest frame; an exception
 //! leaves frames down to the newest that a catch step called; whatever concerns another process comes out
 //! as an act, for the node to carry out; and what is known of the next step before it is made is what
-//! def_outlook says of it. A `StatePart` once more stands for the same, and its values and messages have one
-//! owner more; `same` says whether two stand for the same; nothing is promised of a fingerprint.
+//! def_outlook says of it. A `StatePart` once more stands for the same, and its values and messages have
+//! one owner more; `same` says whether two stand for the same; nothing is promised of a fingerprint.
 #![tactic(auto)]
 
 mod act;
 mod context;
+mod env;
 mod exception;
 mod function;
+mod functions;
+mod names;
 mod neighbours;
 mod outlook;
 mod process;
@@ -25,6 +29,7 @@ mod values;
 
 pub use act::Act;
 pub use function::function_mfa;
+pub use functions::Functions;
 pub use outlook::{OwnLink, RuntimeError};
 pub use process::Process;
 pub use state_part::StatePart;

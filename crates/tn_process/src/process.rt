@@ -10,6 +10,7 @@ ghost use Rattle.tn_script.specs.Views.{step_of, functions_of};
 ghost use Rattle.def_node.specs.Values.{fit};
 ghost use Rattle.def_node.specs.Process as World;
 ghost use Rattle.def_node.specs.Process.{next_step, act, mfa_at};
+ghost use Rattle.tn_process.specs.Functions.{functions_in};
 ghost use Rattle.tn_process.specs.Views.{frame_of, process_seen, events_of, act_of};
 ghost use Rattle.tn_process.specs.declared.process.Process.{Process};
 ghost use Rattle.tn_process.specs.Templates.{built_in};
@@ -21,8 +22,10 @@ ghost use Rattle.tn_process.specs.StepAnswers.{performs_in, runs_frame_in, run_a
 
 use crate::act::Act;
 use crate::context::{Callee, PendingCall, StepContext};
-use crate::function::{find_function, function_mfa};
-use crate::values::{Env, pid_in};
+use crate::env::Env;
+use crate::function::function_mfa;
+use crate::functions::Functions;
+use crate::values::pid_in;
 use std::alloc::{AllocError, Allocator};
 use std::collections::VecDeque;
 use tn_flags::{Call, Event, own_arguments, share_arguments};
@@ -323,7 +326,9 @@ impl<A: Allocator + Copy> Process<A> {
     ) -> Result<(), AllocError>
         ensures { IfOk result (λ _. process_seen self.new ≡ enter context.now self.old calling number function.now) }
     {
-        let env = Env::for_call(context.alloc, context.pid, &function.params, calling.args)?;
+        let names = context.lookup.frame_names(number);
+        let params = &function.params;
+        let env = Env::for_call(context.alloc, context.pid, names, params, calling.args)?;
         let target = calling.target;
         let by_catch = calling.by_catch;
         self.push_frame(Frame {
@@ -371,12 +376,7 @@ impl<A: Allocator + Copy> Process<A> {
         let Some(args) = frame.env.fit_all_shared(context.alloc, templates)? else {
             return over_limit(context.alloc);
         };
-        let number = find_function(
-            context.functions,
-            callee.home.text(),
-            callee.name.text(),
-            args.len(),
-        );
+        let number = context.find(callee.home.text(), callee.name.text(), args.len());
         let target = copy_target(context.alloc, callee.target)?;
         frame.advance();
         self.push_frame(frame)?;
@@ -578,12 +578,8 @@ impl<A: Allocator + Copy> Process<A> {
     fn begin(&mut self, context: &StepContext<'_, A>, entry: Entry<A>) -> Result<Act<A>, AllocError>
         ensures { Does self.new result (begins_in context.now self.old entry) }
     {
-        let number = find_function(
-            context.functions,
-            entry.module.text(),
-            entry.name.text(),
-            entry.args.terms.len(),
-        );
+        let count = entry.args.terms.len();
+        let number = context.find(entry.module.text(), entry.name.text(), count);
         let calling = PendingCall {
             target: None,
             named: true,
@@ -597,11 +593,11 @@ impl<A: Allocator + Copy> Process<A> {
     pub fn act(
         &mut self,
         alloc: A,
-        functions: &[Function<A>],
+        functions: &Functions<A>,
         pid: u32,
         child: Option<u32>,
     ) -> Result<Act<A>, AllocError>
-        ensures { Does self.new result (act (functions_of functions.now) pid child (process_seen self.old)) }
+        ensures { Does self.new result (act (functions_in functions.now) pid child (process_seen self.old)) }
     {
         if let Some(reason) = self.signal.take() {
             return Ok(Act::Exits {
@@ -611,7 +607,8 @@ impl<A: Allocator + Copy> Process<A> {
         }
         let context = StepContext {
             alloc,
-            functions,
+            functions: functions.list.as_slice(),
+            lookup: &*functions.lookup,
             pid,
             child,
         };

@@ -10,11 +10,12 @@ ghost use Rattle.tn_term.specs.SharedTree.{shared_tree};
 ghost use Rattle.tn_script.specs.Views.{entry_of};
 ghost use Rattle.tn_process.specs.Views.{name_and_term, env_of, frame_of, process_seen};
 
+use crate::env::{Binding, Env};
 use crate::process::{Frame, Process};
 use crate::state_part::StatePart;
-use crate::values::{Binding, Env};
 use std::alloc::{AllocError, Allocator};
 use std::hash::{FoldHasher, Hasher};
+use std::sync::Arc;
 use tn_script::{Entry, copy_entry};
 use tn_term::{Atom, SharedTerm, Term};
 
@@ -158,19 +159,19 @@ impl<A: Allocator + Copy> StatePart<A> for Binding<A> {
 
     ghost seen = { name_and_term };
 
-    fn share(&self, alloc: A) -> Result<Self, AllocError> {
+    fn share(&self, _: A) -> Result<Self, AllocError> {
         Ok(Binding {
-            name: self.name.copy_into(alloc)?,
+            name: Arc::try_clone(&self.name)?,
             value: SharedTerm::share(&self.value)?,
         })
     }
 
     fn same(&self, other: &Self) -> bool {
-        self.name.same(&other.name) && self.value.same(&other.value)
+        self.name.text() == other.name.text() && self.value.same(&other.value)
     }
 
     fn add_to(&self, hasher: &mut FoldHasher) {
-        self.name.add_to(hasher);
+        hasher.write(self.name.text().as_bytes());
         self.value.add_to(hasher);
     }
 }
@@ -181,9 +182,9 @@ impl<A: Allocator + Copy> StatePart<A> for Env<A> {
     ghost seen = { env_of };
 
     fn share(&self, alloc: A) -> Result<Self, AllocError> {
-        Ok(Env {
-            values: self.values.share(alloc)?,
-        })
+        let values = self.values.share(alloc)?;
+        let names = Arc::try_clone(&self.names)?;
+        Ok(Env { values, names })
     }
 
     fn same(&self, other: &Self) -> bool {

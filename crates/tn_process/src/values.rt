@@ -1,5 +1,5 @@
 // The values of variables, and the terms that templates stand for.
-ghost use Rattle.std.specs.Prelude.{◌≡◌, ◌≤◌, ◌<◌, ℕ, ◌+◌, IfOk, IfSome, List, [], ◌∷◌, map, min, codes};
+ghost use Rattle.std.specs.Prelude.{◌≡◌, ◌≤◌, ◌<◌, ℕ, ◌+◌, IfOk, IfSome, List, [], ◌∷◌, Some, map, min, codes};
 ghost use Rattle.std.specs.List.{position};
 ghost use Rattle.std.specs.Option.{option_map};
 ghost use Rattle.std.specs.Str.{bytes_eq};
@@ -10,28 +10,19 @@ ghost use Rattle.tn_term.specs.SharedTree.{shared_tree};
 ghost use Rattle.def_node.specs.Values.{binding_of, value_of, rebound, instance_of, all_built, fits, all_fit, fit};
 ghost use Rattle.def_node.specs.Values.{fitting_all, params_bound};
 ghost use Rattle.tn_script.specs.Views.{args_of};
+ghost use Rattle.tn_process.specs.Bindings.{bound_name};
 ghost use Rattle.tn_process.specs.Views.{env_of};
 ghost use Rattle.tn_process.specs.Templates.{all_built_by, args_built_by, env_for_call, BindsNext};
 ghost use Rattle.tn_process.specs.Templates.{IsBuiltIn, AreBuiltIn};
 
+use crate::env::{Binding, Env};
+use crate::names::FrameNames;
 use crate::value::{Elements, Value};
 use std::alloc::{AllocError, Allocator};
 use std::collections::VecDeque;
+use std::sync::Arc;
 use tn_script::{Arguments, is_variable};
 use tn_term::{Atom, SharedTerm, Term};
-
-/// A variable and its value.
-#[derive(Drop)]
-pub struct Binding<A: Allocator> {
-    pub(crate) name: Atom<A>,
-    pub(crate) value: SharedTerm<A>,
-}
-
-/// Each variable once, the oldest first.
-#[derive(Drop)]
-pub struct Env<A: Allocator> {
-    pub(crate) values: Vec<Binding<A>, A>,
-}
 
 /// How deep a term may be.
 const GREATEST_DEPTH: u64 = 32;
@@ -53,22 +44,42 @@ pub fn pid_in<A: Allocator>(term: &Term<A>) -> Option<u32>
 }
 
 impl<A: Allocator + Copy> Env<A> {
-    /// The process's own pid, which is the value of `Self`.
-    fn of_process(alloc: A, pid: u32) -> Result<Env<A>, AllocError>
+    /// The process's own pid, which is the value of `Self`, with room for so many variables.
+    fn of_process(
+        alloc: A,
+        pid: u32,
+        names: &Arc<FrameNames<A>, A>,
+        room: usize,
+    ) -> Result<Env<A>, AllocError>
         ensures { IfOk result (λ e. env_of e ≡ (codes "Self", Tree.pid pid) ∷ []) }
     {
-        let name = Atom::of(alloc, "Self")?;
+        let names = Arc::try_clone(names)?;
+        let name = names.name(alloc, "Self")?;
         let value = SharedTerm::new(alloc, Term::Pid(pid))?;
-        let mut values = Vec::new(alloc);
+        let mut values = Vec::with_capacity(alloc, room)?;
         values.push(Binding { name, value })?;
-        Ok(Env { values })
+        Ok(Env { values, names })
+    }
+
+    /// The place of the variable, where the guess is right.
+    fn guess(&self, name: &str) -> Option<usize>
+        ensures { IfSome result (λ i. Some i ≡ position (λ b. bytes_eq (bound_name b) name.now) self.now.values.items) }
+    {
+        let guess = self.names.guess(name);
+        match self.values.get(guess) {
+            Some(binding) if binding.name.text() == name => Some(guess),
+            _ => None,
+        }
     }
 
     /// The place of the variable.
     fn place(&self, name: &str) -> Option<usize>
-        ensures { result ≡ position (λ b. bytes_eq b.name name.now) self.now.values.items }
+        ensures { result ≡ position (λ b. bytes_eq (bound_name b) name.now) self.now.values.items }
     {
-        self.values.iter().position(|b| b.name.text() == name)
+        match self.guess(name) {
+            Some(place) => Some(place),
+            None => self.values.iter().position(|b| b.name.text() == name),
+        }
     }
 
     /// The value of the variable, which may have other owners.
@@ -216,12 +227,13 @@ impl<A: Allocator + Copy> Env<A> {
     pub fn for_call(
         alloc: A,
         pid: u32,
+        names: &Arc<FrameNames<A>, A>,
         params: &Vec<Atom<A>, A>,
         args: Vec<SharedTerm<A>, A>,
     ) -> Result<Env<A>, AllocError>
         ensures { IfOk result (λ e. env_of e ≡ env_for_call pid params.now.items (map shared_tree args.items)) }
     {
-        let mut env = Env::of_process(alloc, pid)?;
+        let mut env = Env::of_process(alloc, pid, names, params.len().saturating_add(1))?;
         let mut args = VecDeque::from(args);
         for param in params {
             env.bind_next(alloc, param, &mut args)?;
@@ -253,7 +265,7 @@ impl<A: Allocator + Copy> Env<A> {
                 self.values[i].value = value;
             }
             None => {
-                let name = name.copy_into(alloc)?;
+                let name = self.names.name(alloc, name.text())?;
                 self.values.push(Binding { name, value })?;
             }
         }

@@ -15,5 +15,5 @@ same_opening d e h i = opening (d i) (e i) (h i)
 
 pub returns : goal.returns
 returns g c =
-    same_opening (c.in_ok-functions.ensures) (sym (length-map c.commands.result.now command_of) ∙ ap length c.commands.ensures)
+    same_opening (c.in_ok-functions.ensures ∙ c.in_ok-share_functions.ensures) (sym (length-map c.commands.result.now command_of) ∙ ap length c.commands.ensures)
     (c.in_ok-world.ensures ∙ ap opening_world c.entries.ensures.value)

@@ -1,6 +1,4 @@
 use Rattle.std.proofs.Common.{◌∙◌, ap, sym, Some, None}
-use Rattle.def_node.specs.Node.{next_of}
-use Rattle.tn_script.specs.Views.{functions_of}
 use Rattle.tn_node.specs.Worlds.{world_of, move_of}
 use Rattle.tn_node.specs.Nodes.{node_seen}
 use Rattle.tn_node.proofs.Picks.{process_pick}
@@ -10,12 +8,10 @@ pub returns-in-Some : goal.returns-in-Some
 returns-in-Some g c =
     let before = c.args.self.now in
     let after = c.step.new.self in
-    let same = ap (λ items. next_of (functions_of items) (world_of before.world) c.args.pid) (c.as_slice.ensures.value ∙ ap (λ v. v.items) c.deref.ensures) in
-    process_pick (node_seen before) c.args.pid (move_of after (Some c.in-Some.events)) c.requires (sym (ap (move_of after) c.in-Some.is) ∙ c.in_ok-events.ensures ∙ same)
+    process_pick (node_seen before) c.args.pid (move_of after (Some c.in-Some.events)) c.requires (sym (ap (move_of after) c.in-Some.is) ∙ c.in_ok-events.ensures)
 
 pub returns-in-None : goal.returns-in-None
 returns-in-None g c =
     let before = c.args.self.now in
     let after = c.step.new.self in
-    let same = ap (λ items. next_of (functions_of items) (world_of before.world) c.args.pid) (c.as_slice.ensures.value ∙ ap (λ v. v.items) c.deref.ensures) in
-    process_pick (node_seen before) c.args.pid (move_of after None) c.requires (sym (ap (move_of after) c.in-None.is) ∙ c.in_ok-events.ensures ∙ same)
+    process_pick (node_seen before) c.args.pid (move_of after None) c.requires (sym (ap (move_of after) c.in-None.is) ∙ c.in_ok-events.ensures)

@@ -1,7 +1,7 @@
 use Rattle.std.proofs.Common.{ap, sym, ◌∙◌, Some}
 use Rattle.std.specs.Option.{option_map}
 use Rattle.def_node.specs.Process.{Process, act}
-use Rattle.tn_script.specs.Views.{functions_of}
+use Rattle.tn_process.specs.Functions.{functions_in}
 use Rattle.tn_process.specs.Views.{process_seen}
 use Rattle.tn_process.proofs.Lookup.{seen_at}
 use Rattle.tn_node.specs.Worlds.{slot_of, world_of}
@@ -19,7 +19,7 @@ returns-in_ok-act-in-Some-clause-acts g c q e =
     let same = same_here _ _ (process_seen c.in-Some.process) q (seen_at slot_of items c.args.place x c.requires c.index_mut.ensures.value) (ap slot_of c.in-Some.is) e in (
       process_seen p,
       ap (λ ss. record w { slots = ss }) (changed_set slot_of items c.args.place x (Some p) F c.requires c.index_mut.ensures.value (sym (ap (λ s. option_map F (slot_of s)) c.in-Some.is))),
-      seen_of p c.in_ok-act-in-Some.field-0 ∙ c.in_ok-act-in-Some.ensures ∙ ap (act (functions_of c.args.functions.now) c.args.pid c.args.child) same,
+      seen_of p c.in_ok-act-in-Some.field-0 ∙ c.in_ok-act-in-Some.ensures ∙ ap (act (functions_in c.args.functions.now) c.args.pid c.args.child) same,
     )
 
 pub returns-in-None-clause-acts : goal.returns-in-None-clause-acts

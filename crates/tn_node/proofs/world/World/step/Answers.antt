@@ -2,7 +2,7 @@ use Rattle.std.proofs.Common.{ap, sym, ◌∙◌, Option, arith}
 use Rattle.def_node.specs.Process.{act}
 use Rattle.def_node.specs.Node.{after_act}
 use Rattle.def_node.proofs.Steps.{living_here}
-use Rattle.tn_script.specs.Views.{functions_of}
+use Rattle.tn_process.specs.Functions.{functions_in}
 use Rattle.tn_node.specs.Worlds.{world_of}
 use Rattle.tn_node.proofs.Room.{room_left}
 use Rattle.tn_node.proofs.world.World.step.Goals as goal
@@ -10,7 +10,7 @@ use Rattle.tn_node.proofs.world.World.step.Goals as goal
 pub carry_out-requires : goal.carry_out-requires
 carry_out-requires g c =
     let w = world_of c.args.self.now in
-    let ks = functions_of c.args.functions.now in
+    let ks = functions_in c.args.functions.now in
     let i = c.in-Some.place in
     let here = living_here w c.args.pid i (sym c.place_of_pid.ensures.place ∙ c.in-Some.is) in
     let done = c.in_ok-act.ensures.acts here.0 here.1.0 in
@@ -24,7 +24,7 @@ carry_out-requires g c =
 pub returns : goal.returns
 returns g c =
     let w = world_of c.args.self.now in
-    let ks = functions_of c.args.functions.now in
+    let ks = functions_in c.args.functions.now in
     let i = c.in-Some.place in
     let n = c.args.pid in
     let here = living_here w n i (sym c.place_of_pid.ensures.place ∙ c.in-Some.is) in

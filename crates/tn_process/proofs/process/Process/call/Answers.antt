@@ -28,6 +28,6 @@ returns g c =
     done c.enter.new.self _ _ _ c.enter.ensures
     (within_some q.links _ _ (map shared_tree xs) _
     (sym (ap (option_map (λ v. map shared_tree v.items)) c.in-Some.is) ∙ c.in_ok-args.ensures)
-    (ap₂ (λ p x. enters ks c.args.context.now.pid p p.frames (record { target = x; named = k.named; by_catch = k.by_catch }) (map shared_tree xs) c.find_function-number.result) (c.in_ok-push_frame.ensures ∙ ap (λ fr. with_frames q (fr ∷ q.frames)) c.advance.ensures) c.in_ok-target.ensures
+    (ap₂ (λ p x. enters ks c.args.context.now.pid p p.frames (record { target = x; named = k.named; by_catch = k.by_catch }) (map shared_tree xs) c.find-number.result) (c.in_ok-push_frame.ensures ∙ ap (λ fr. with_frames q (fr ∷ q.frames)) c.advance.ensures) c.in_ok-target.ensures
     ∙ ap (λ o. enters ks c.args.context.now.pid (step_on q f q.frames) (next_step f ∷ q.frames) (manner_in k) (map shared_tree xs) o)
-    (c.find_function-number.ensures.number ∙ ap₂ (λ m n. number_from 0 ks (mfa_from m n c.len.result)) c.text.ensures.text c.text-2.ensures.text ∙ ap (λ n. number_from 0 ks (mfa_from k.home.now k.name.now n)) count)))
+    (c.find-number.ensures ∙ ap₂ (λ m n. number_from 0 ks (mfa_from m n c.len.result)) c.text.ensures.text c.text-2.ensures.text ∙ ap (λ n. number_from 0 ks (mfa_from k.home.now k.name.now n)) count)))
