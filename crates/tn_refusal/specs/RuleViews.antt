@@ -45,9 +45,9 @@ abbrev pub free_at_step : (params : List Name) → List Step → Step → Option
 free_at_step params before s = option_map (λ v. (v, length before + 1)) (first_free_in (bound_before params before) (terms_of s))
 
 -- the variables that are bound where a term stands
-abbrev pub bound_at : {A : Type 0} → TermSite A → List Name
-bound_at (InStep params earlier) = bound_before params.now (map step_of earlier.now)
-bound_at InArguments = []
+abbrev pub names_bound_at : {A : Type 0} → TermSite A → List Name
+names_bound_at (InStep params earlier) = bound_before params.now (map step_of earlier.now)
+names_bound_at InArguments = []
 
 -- a creation with this name in the role
 abbrev pub creates_in_role : Role → Name → Command → Bool

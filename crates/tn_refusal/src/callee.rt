@@ -169,19 +169,19 @@ fn named_with_module<A: Allocator>(step: &Step<A>) -> Option<Callee<'_, A>>
             name,
             args,
             ..
-        } => Some(named(module, name, args)),
+        } => Some(callee_named(module, name, args)),
         Step::Catch {
             module,
             name,
             args,
             ..
-        } => Some(named(module, name, args)),
+        } => Some(callee_named(module, name, args)),
         Step::Spawn {
             module,
             name,
             args,
             ..
-        } => Some(named(module, name, args)),
+        } => Some(callee_named(module, name, args)),
         _ => None,
     }
 }
@@ -191,25 +191,25 @@ fn named_by<'a, A: Allocator>(home: &'a Atom<A>, step: &'a Step<A>) -> Option<Ca
     ensures { option_map callee_seen result ≡ named_by_step home.now (step_of step.now) }
 {
     match step {
-        Step::CallLocal { name, args, .. } => Some(named(home, name, args)),
+        Step::CallLocal { name, args, .. } => Some(callee_named(home, name, args)),
         Step::CallRemote {
             module,
             name,
             args,
             ..
-        } => Some(named(module, name, args)),
+        } => Some(callee_named(module, name, args)),
         Step::Catch {
             module,
             name,
             args,
             ..
-        } => Some(named(module, name, args)),
+        } => Some(callee_named(module, name, args)),
         Step::Spawn {
             module,
             name,
             args,
             ..
-        } => Some(named(module, name, args)),
+        } => Some(callee_named(module, name, args)),
         _ => None,
     }
 }
@@ -390,7 +390,7 @@ pub fn put_started<A: Allocator>(
     ensures { OnOk result (out.new.items ≡ out.old.items ++ rule_reasons_text
         (named_reason (rule_of rule) (map form_of forms.now) (entry_mfa (entry_of entry.now)))) }
 {
-    let callee = named(&entry.module, &entry.name, &entry.args);
+    let callee = callee_named(&entry.module, &entry.name, &entry.args);
     if breaks(rule, forms, &callee) {
         put_wrong(rule, forms, &callee, out)
     } else {

@@ -4,7 +4,8 @@ ghost use Rattle.std.specs.Option.{option_map};
 ghost use Rattle.def_term.specs.Text.{is_digit};
 ghost use Rattle.def_text.specs.Tokens.{all_are};
 ghost use Rattle.def_wording.specs.PickTexts.{pick_fault as fault_of_piece, fits_a_pick, pick_fault_text};
-ghost use Rattle.def_wording.specs.PickTexts.{wrong_pick_text, wrong_piece, first_wrong_piece, pieces_from, picks_detail};
+ghost use Rattle.def_wording.specs.PickTexts.{wrong_pick_text, wrong_piece, first_wrong_piece};
+ghost use Rattle.def_wording.specs.PickTexts.{pieces_from, picks_detail};
 ghost use Rattle.tn_refusal.specs.PickViews.{pick_fault_seen, wrong_pick_seen};
 
 use crate::put::{put_number, put_shown};

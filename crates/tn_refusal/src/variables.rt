@@ -11,7 +11,7 @@ ghost use Rattle.def_wording.specs.RuleTexts.{free_reason_of, entry_free_reason}
 ghost use Rattle.tn_program.specs.Variables.{target_names};
 ghost use Rattle.tn_term.specs.Views.{tree_of, trees_of};
 ghost use Rattle.tn_script.specs.Views.{entry_of, function_of, step_of};
-ghost use Rattle.tn_refusal.specs.RuleViews.{bound_at, free_at_step, targets_of_steps, variable_in_step_seen};
+ghost use Rattle.tn_refusal.specs.RuleViews.{names_bound_at, free_at_step, targets_of_steps, variable_in_step_seen};
 
 use crate::callee::{declared_by, put_callee};
 use crate::put::{put_atom, put_number};
@@ -87,7 +87,7 @@ fn is_param_or_target<A: Allocator>(params: &[Atom<A>], steps: &[Step<A>], name:
 
 /// Whether the variable is bound there.
 fn is_bound<A: Allocator>(site: &TermSite<'_, A>, name: &str) -> bool
-    ensures { result ≡ is_among (bound_at site.now) name.now }
+    ensures { result ≡ is_among (names_bound_at site.now) name.now }
 {
     match site {
         TermSite::InStep { params, earlier } => {
@@ -99,7 +99,7 @@ fn is_bound<A: Allocator>(site: &TermSite<'_, A>, name: &str) -> bool
 
 /// Whether the atom is a variable that isn't bound there.
 fn is_free<A: Allocator>(site: &TermSite<'_, A>, name: &str) -> bool
-    ensures { result ≡ (is_variable_name name.now && not (is_among (bound_at site.now) name.now)) }
+    ensures { result ≡ (is_variable_name name.now && not (is_among (names_bound_at site.now) name.now)) }
 {
     is_variable(name) && !is_bound(site, name)
 }
@@ -107,7 +107,7 @@ fn is_free<A: Allocator>(site: &TermSite<'_, A>, name: &str) -> bool
 /// The first variable of the term that isn't bound there.
 #[cycle(first)]
 fn in_term<'a, A: Allocator>(term: &'a Term<A>, site: &TermSite<'_, A>) -> Option<&'a Atom<A>>
-    ensures { option_map (λ a. a.now) result ≡ first_free (bound_at site.now) (tree_of term.now) }
+    ensures { option_map (λ a. a.now) result ≡ first_free (names_bound_at site.now) (tree_of term.now) }
 {
     match term {
         Term::Atom(atom) => {
@@ -130,7 +130,7 @@ fn in_terms<'a, A: Allocator>(
     terms: &'a Vec<Term<A>, A>,
     site: &TermSite<'_, A>,
 ) -> Option<&'a Atom<A>>
-    ensures { option_map (λ a. a.now) result ≡ first_free_of (bound_at site.now) (trees_of terms.now.items) }
+    ensures { option_map (λ a. a.now) result ≡ first_free_of (names_bound_at site.now) (trees_of terms.now.items) }
 {
     for term in terms {
         match in_term(term, site) {
@@ -146,7 +146,7 @@ fn in_args<'a, A: Allocator>(
     terms: &'a Vec<Term<A>, A>,
     site: &TermSite<'_, A>,
 ) -> Option<&'a Atom<A>>
-    ensures { option_map (λ a. a.now) result ≡ first_free_in (bound_at site.now) (map tree_of terms.now.items) }
+    ensures { option_map (λ a. a.now) result ≡ first_free_in (names_bound_at site.now) (map tree_of terms.now.items) }
 {
     in_terms(terms, site)
 }
@@ -158,7 +158,7 @@ fn in_both<'a, A: Allocator>(
     site: &TermSite<'_, A>,
 ) -> Option<&'a Atom<A>>
     ensures { option_map (λ a. a.now) result
-        ≡ first_free_in (bound_at site.now) (tree_of first.now ∷ tree_of second.now ∷ []) }
+        ≡ first_free_in (names_bound_at site.now) (tree_of first.now ∷ tree_of second.now ∷ []) }
 {
     match in_term(first, site) {
         Some(atom) => Some(atom),
@@ -168,7 +168,7 @@ fn in_both<'a, A: Allocator>(
 
 /// The first variable of the step, its target apart, that isn't bound there.
 fn in_step<'a, A: Allocator>(step: &'a Step<A>, site: &TermSite<'_, A>) -> Option<&'a Atom<A>>
-    ensures { option_map (λ a. a.now) result ≡ first_free_in (bound_at site.now) (terms_of (step_of step.now)) }
+    ensures { option_map (λ a. a.now) result ≡ first_free_in (names_bound_at site.now) (terms_of (step_of step.now)) }
 {
     match step {
         Step::Send { to, message } => in_both(to, message, site),
