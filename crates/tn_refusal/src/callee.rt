@@ -145,7 +145,7 @@ fn breaks<A: Allocator>(rule: Rule, forms: &[Form<A>], callee: &Callee<'_, A>) -
 }
 
 /// A function that is named with its arguments.
-fn named<'a, A: Allocator>(
+fn callee_named<'a, A: Allocator>(
     home: &'a Atom<A>,
     name: &'a Atom<A>,
     args: &'a Arguments<A>,
