@@ -9,6 +9,7 @@ use Rattle.def_refusal.proofs.OneItem.{item_there}
 use Rattle.tn_refusal.specs.declared.location.Location.{Location}
 use Rattle.tn_refusal.specs.declared.refusal.RefusedPart.{RefusedPart}
 use Rattle.tn_refusal.specs.declared.refusal.RefusedPart.TheVariants.{Whole, Token, Form}
+use Rattle.def_wording.specs.SyntaxTexts.{TextKind}
 use Rattle.tn_refusal.specs.Lines.{IsExplained}
 use Rattle.tn_refusal.specs.Locations.{mark_text, IsItemMark, IsMarkOf, IsPlaced}
 use Rattle.tn_refusal.specs.Refusals.{refused_part}
@@ -36,8 +37,8 @@ one_mark bytes r (Form n) m k h p q =
     let item = item_there bytes r in
     one_item_mark bytes n item.0 m k h (p h item.0 item.1) (q h item.0 item.1)
 
-pub begin_alike : (name bytes : List ℕ) (r : Refusal) (one other : List ℕ) → IsPlaced bytes (refused_part r) → IsExplained name bytes r one → IsExplained name bytes r other → BeginAlike name r one other
-begin_alike name bytes r one other h p q = record {
+pub begin_alike : (k : TextKind) (name bytes : List ℕ) (r : Refusal) (one other : List ℕ) → IsPlaced bytes (refused_part r) → IsExplained k name bytes r one → IsExplained k name bytes r other → BeginAlike name r one other
+begin_alike k name bytes r one other h p q = record {
   mark = p.mark;
   rest = p.rest;
   others = q.rest;

@@ -5,6 +5,7 @@
 #![tactic(auto)]
 
 mod copies;
+mod counts;
 mod gather;
 mod items;
 mod names;

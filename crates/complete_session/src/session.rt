@@ -29,6 +29,20 @@ pub fn created<A: Allocator + Copy>(
     (first, second)
 }
 
+/// `tn_session::Session::share` has one answer.
+pub fn share<A: Allocator + Copy>(
+    one: &Session<A>,
+    other: &Session<A>,
+) -> (
+    Result<Session<A>, AllocError>,
+    Result<Session<A>, AllocError>,
+)
+    requires { value_in one.now ≡ value_in other.now }
+    ensures { IfOk result.0 (λ s. IfOk result.1 (λ t. value_in s ≡ value_in t)) }
+{
+    (one.share(), other.share())
+}
+
 /// `tn_session::Session::look` has one answer: what is seen, or nothing after refused memory.
 pub fn look<'a, A: Allocator + Copy>(
     one: &'a Session<A>,

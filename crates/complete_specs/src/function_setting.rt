@@ -1,11 +1,28 @@
 // What a function command sets, and for which functions.
-ghost use Rattle.std.specs.Prelude.{◌≡◌};
+ghost use Rattle.std.specs.Prelude.{◌≡◌, IfOk};
 ghost use Rattle.tn_term.specs.Views.{mfa_seen};
 ghost use Rattle.tn_index.specs.Views.{function_pattern_seen};
 
-use std::alloc::Allocator;
+use std::alloc::{AllocError, Allocator};
 use tn_index::{FunctionPattern, FunctionSetting};
 use tn_term::Mfa;
+
+/// `tn_index::FunctionPattern::copy_into` has one answer.
+pub fn copy_into<A: Allocator, B: Allocator + Copy>(
+    one: &FunctionPattern<A>,
+    other: &FunctionPattern<A>,
+    b: B,
+) -> (
+    Result<FunctionPattern<B>, AllocError>,
+    Result<FunctionPattern<B>, AllocError>,
+)
+    requires { function_pattern_seen one.now ≡ function_pattern_seen other.now }
+    ensures { IfOk result.0 (λ p. IfOk result.1 (λ q. function_pattern_seen p ≡ function_pattern_seen q)) }
+{
+    let first = one.copy_into(b);
+    let second = other.copy_into(b);
+    (first, second)
+}
 
 /// `tn_index::FunctionPattern::has` has one answer.
 pub fn has<A: Allocator>(

@@ -1,5 +1,5 @@
 // The settings of functions.
-ghost use Rattle.std.specs.Prelude.{◌≡◌, OnOk, OnErr};
+ghost use Rattle.std.specs.Prelude.{◌≡◌, OnOk, OnErr, reverse};
 ghost use Rattle.std.specs.Option.{option_map};
 ghost use Rattle.tn_term.specs.Views.{mfa_seen};
 
@@ -50,4 +50,15 @@ pub fn get<'s, S: Drop, A: Allocator + Copy>(
     ensures { option_map (λ k. k.now) result.0 ≡ option_map (λ k. k.now) result.1 }
 {
     (one.get(function, exported), other.get(again, exported))
+}
+
+/// `tn_index::Settings::commands` has one answer.
+pub fn commands<'a, S: Drop, A: Allocator + Copy>(
+    one: &'a Settings<S, A>,
+    other: &'a Settings<S, A>,
+) -> (&'a [FunctionSetting<S, A>], &'a [FunctionSetting<S, A>])
+    requires { one.now ≡ other.now }
+    ensures { reverse result.0.now ≡ reverse result.1.now }
+{
+    (one.commands(), other.commands())
 }

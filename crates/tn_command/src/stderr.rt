@@ -3,6 +3,7 @@ ghost use Rattle.std.specs.Prelude.{◌≡◌, ◌≢◌, codes, IfOk};
 ghost use Rattle.def_notice.specs.NoticeTexts.{node_moves};
 ghost use Rattle.tn_notice.specs.FaultViews.{command_fault_seen};
 ghost use Rattle.tn_notice.specs.NoticeViews.{command_seen_of, notice_seen};
+ghost use Rattle.def_wording.specs.SyntaxTexts.{of_script};
 ghost use Rattle.tn_refusal.specs.Lines.{IsExplained};
 ghost use Rattle.tn_refusal.specs.Refusals.{refusal_of};
 ghost use Rattle.tn_command.specs.Notices.{live_fault_said, run_fault_said};
@@ -28,9 +29,9 @@ fn refusal_line(
     picks: &[u8],
 ) -> Result<Vec<u8>, AllocError>
     ensures picks { refusal ≡ Refusal.BadPicks → IfOk result (λ v.
-        IsExplained (codes "picks") picks.now (refusal_of refusal) v.items) }
+        IsExplained of_script (codes "picks") picks.now (refusal_of refusal) v.items) }
     ensures script { refusal ≢ Refusal.BadPicks → IfOk result (λ v.
-        IsExplained script.entry.name.now script.entry.bytes.now (refusal_of refusal) v.items) }
+        IsExplained of_script script.entry.name.now script.entry.bytes.now (refusal_of refusal) v.items) }
 {
     match refusal {
         Refusal::BadPicks => explain(alloc, "picks", picks, refusal),

@@ -17,6 +17,7 @@ mod rules;
 mod session_rules;
 mod variables;
 
+pub use counts::{all_commands, all_creations, creation_total, function_total, process_total};
 pub use creations::Sessions;
 pub use fault::{Rule, RuleFault};
 pub use gather::program;

@@ -3,9 +3,11 @@ pub mod Firsts
 pub mod FormStarts
 mod NumberedLines
 mod Pieces
+pub mod PickPieces
 pub mod Printables
 pub mod RefusedItems
 pub mod Refusals
+pub mod RuleReasons
 pub mod ShapeReasons
 pub mod CutTexts
 mod Skims

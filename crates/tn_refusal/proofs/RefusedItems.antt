@@ -20,7 +20,10 @@ use Rattle.std.specs.Option.{option_map}
 use Rattle.tn_script.specs.declared.items.FormItem.{FormItem}
 use Rattle.tn_script.specs.Items.{form_item_of}
 use Rattle.tn_program.specs.Items.{item_of_fault}
+use Rattle.tn_refusal.specs.Details.{IsFormsOf, HasFormsOfRule}
 use Rattle.tn_refusal.specs.RefusedItems.{IsItemOfBroken}
+use Rattle.tn_refusal.specs.Refusals.{refused_part}
+use Rattle.tn_refusal.specs.declared.refusal.RefusedPart.TheVariants.{Form as InForm}
 
 -- a text that spells forms is a script, or is refused for a rule
 refused-by : (bytes : List ℕ) (fs : List Form) (r : script.Refusal) → HasForms bytes fs → IsRefused bytes r → (o : Option (ℕ × Rule)) → first_broken fs ≡ o → (n : ℕ) × (q : Rule) × (r ≡ script.broken q n)
@@ -79,3 +82,32 @@ no_item_of_broken bytes (Some b) denied = breaking_of_none bytes b.1 b.0 denied
 
 pub no_item : (bytes : List ℕ) (b : Option (ℕ × Rule)) (i : Option FormItem) → i ≡ None → ((fs : List Form) → HasForms bytes fs → ⊥) → IsItemOfBroken bytes b (option_map form_item_of i)
 no_item bytes b i none denied = subst (λ j. IsItemOfBroken bytes b (option_map form_item_of j)) (sym none) (no_item_of_broken bytes b denied)
+
+pub no_forms_seen : (bytes : List ℕ) (o : Option (List Form)) → o ≡ None → ((fs : List Form) → HasForms bytes fs → ⊥) → IsFormsOf bytes o
+no_forms_seen bytes o none denied = subst (IsFormsOf bytes) (sym none) denied
+
+-- a refusal that is of no rule needs no forms
+pub no_rule_forms : (bytes : List ℕ) (r : script.Refusal) (o : Option (List Form)) → ((q : Rule) (n : ℕ) → r ≡ script.broken q n → ⊥) → HasFormsOfRule bytes r o
+no_rule_forms bytes script.too_long o other = tt
+no_rule_forms bytes (script.token at) o other = tt
+no_rule_forms bytes (script.too_deep at) o other = tt
+no_rule_forms bytes (script.too_large at) o other = tt
+no_rule_forms bytes (script.form n) o other = tt
+no_rule_forms bytes script.too_many_forms o other = tt
+no_rule_forms bytes (script.broken q n) o other = absurd (other q n refl)
+no_rule_forms bytes script.bad_picks o other = tt
+
+-- a text that is too long spells no forms
+pub long_forms : (bytes : List ℕ) (r : script.Refusal) (o : Option (List Form)) → LENGTH < length bytes → o ≡ None → HasFormsOfRule bytes r o
+long_forms bytes script.too_long o long none = tt
+long_forms bytes (script.token at) o long none = tt
+long_forms bytes (script.too_deep at) o long none = tt
+long_forms bytes (script.too_large at) o long none = tt
+long_forms bytes (script.form n) o long none = tt
+long_forms bytes script.too_many_forms o long none = tt
+long_forms bytes (script.broken q n) o long none = no_forms_seen bytes o none (λ fs h. long_no_terms bytes long h.spelled.terms h.spelled.spelled)
+long_forms bytes script.bad_picks o long none = tt
+
+-- a refusal of the whole text or of a token is for no rule of a form
+pub part_forms : (bytes : List ℕ) (r : script.Refusal) (o : Option (List Form)) → ((n : ℕ) → refused_part r ≡ InForm n → ⊥) → HasFormsOfRule bytes r o
+part_forms bytes r o other = no_rule_forms bytes r o (λ q n e. other n (ap refused_part e))

@@ -14,18 +14,17 @@ use Rattle.tn_refusal.specs.Locations.{mark_text, IsMarkOf}
 abbrev pub printable_byte : ℕ → ℕ
 printable_byte b = if nat_le 32 b && nat_le b 126 then b else 63
 
--- what breaks the rule, as it is shown
-pub record ShowsDetail (bytes : List ℕ) (r : Refusal) (rest : List ℕ) : Type 0 where
-  pub kind : TextKind
+-- what breaks the rule, as it is shown, in a script or in a text that should be a term
+pub record ShowsDetail (kind : TextKind) (bytes : List ℕ) (r : Refusal) (rest : List ℕ) : Type 0 where
   pub detail : List ℕ
   pub told : TellsDetail r bytes kind [] detail
   pub shown : rest ≡ map printable_byte detail
 
 -- the name and where the refusal is, the words of its rule, and then what breaks it, in printable characters
-pub record IsExplained (name bytes : List ℕ) (r : Refusal) (line : List ℕ) : Type 0 where
+pub record IsExplained (kind : TextKind) (name bytes : List ℕ) (r : Refusal) (line : List ℕ) : Type 0 where
   pub mark : Location
   pub rest : List ℕ
   pub place : IsMarkOf bytes r (refused_part r) mark
   pub text : line ≡ mark_text name mark ++ words r ++ rest
-  pub details : ShowsDetail bytes r rest
+  pub details : ShowsDetail kind bytes r rest
   pub printable : all_are is_printable rest ≡ true

@@ -1,19 +1,24 @@
 // The functions that forms declare and name.
-ghost use Rattle.std.specs.Prelude.{◌≡◌, [], ◌++◌, map, OnOk};
+ghost use Rattle.std.specs.Prelude.{◌≡◌, [], ◌++◌, map, OnOk, option_to_list};
 ghost use Rattle.std.specs.List.{list_any};
-ghost use Rattle.def_wording.specs.RuleTexts.{function_text, declared_too, rule_reason_text};
-ghost use Rattle.def_wording.specs.RuleTexts.{again_at, again_reason, rule_reasons_text};
+ghost use Rattle.std.specs.Option.{option_map};
+ghost use Rattle.def_wording.specs.RuleTexts.{function_text, declared_too, rule_reason_text, name_reason_text};
+ghost use Rattle.def_wording.specs.RuleTexts.{again_at, again_reason, rule_reasons_text, arities_in, arities_text};
+ghost use Rattle.def_wording.specs.RuleTexts.{declared_arities, breaks_by_name, name_reason_of, named_reason};
+ghost use Rattle.def_wording.specs.RuleTexts.{names_of_step, wrong_name, step_name, step_reason_of, steps_name_reason};
 ghost use Rattle.tn_program.specs.FunctionNames.{is_it, is_named_so};
-ghost use Rattle.def_script.specs.Program.{mfa_of};
-ghost use Rattle.def_script.specs.Rules.{declares_one};
+ghost use Rattle.tn_program.specs.Faults.{rule_of};
+ghost use Rattle.def_script.specs.Program.{mfa_of, entry_mfa};
+ghost use Rattle.def_script.specs.Rules.{declares_one, function_named};
+ghost use Rattle.def_script.specs.Rules.{named_by as named_by_step, named_with_module as named_with_module_of};
 ghost use Rattle.def_wording.specs.Firsts.{first_with_earlier};
-ghost use Rattle.tn_script.specs.Views.{function_of, form_of};
-ghost use Rattle.tn_refusal.specs.RuleViews.{callee_seen, declares_so};
+ghost use Rattle.tn_script.specs.Views.{args_of, entry_of, function_of, form_of, step_of};
+ghost use Rattle.tn_refusal.specs.RuleViews.{callee_seen, callee_in_step_seen, declares_so};
 
 use crate::put::{put_atom, put_number};
-use crate::refusal::Refusal;
 use std::alloc::{AllocError, Allocator};
-use tn_script::{Entry, Form, Function, Step};
+use tn_program::Rule;
+use tn_script::{Arguments, Entry, Form, Function, Step};
 use tn_term::Atom;
 
 /// A function: its module, its name and the number of arguments.
@@ -122,125 +127,275 @@ fn is_declared<A: Allocator>(
 }
 
 /// Whether naming it breaks the rule.
-fn breaks<A: Allocator>(refusal: Refusal, forms: &[Form<A>], callee: &Callee<'_, A>) -> bool {
-    match refusal {
-        Refusal::Undeclared { .. } => !is_declared(forms, DeclarationMatch::Named, callee),
-        Refusal::NotExported { .. } => is_declared(forms, DeclarationMatch::Internal, callee),
-        Refusal::Arity { .. } => {
+fn breaks<A: Allocator>(rule: Rule, forms: &[Form<A>], callee: &Callee<'_, A>) -> bool
+    ensures { result ≡ breaks_by_name (rule_of rule) (map form_of forms.now) (callee_seen callee.now) }
+{
+    match rule {
+        Rule::Undeclared => !is_declared(forms, DeclarationMatch::Named, callee),
+        Rule::NotExported => is_declared(forms, DeclarationMatch::Internal, callee),
+        Rule::Arity => {
             is_declared(forms, DeclarationMatch::Named, callee)
                 && !is_declared(forms, DeclarationMatch::Exact, callee)
         }
-        _ => false,
+        Rule::Duplicate => false,
+        Rule::Unbound => false,
+        Rule::TracerTaken => false,
+        Rule::Limit => false,
     }
 }
 
-/// Whether the rule is broken by calls without the module too.
-fn names_local(refusal: Refusal) -> bool {
-    !matches!(refusal, Refusal::NotExported { .. })
+/// A function that is named with its arguments.
+fn named<'a, A: Allocator>(
+    home: &'a Atom<A>,
+    name: &'a Atom<A>,
+    args: &'a Arguments<A>,
+) -> Callee<'a, A>
+    ensures { callee_seen result ≡ function_named home.now name.now (args_of args.now) }
+{
+    Callee {
+        home,
+        name,
+        arity: args.terms.len(),
+    }
 }
 
-/// What a step names; of a call without the module nothing, where only names with the module count.
-fn callee_of<'a, A: Allocator>(
-    refusal: Refusal,
-    function: &'a Function<A>,
-    step: &'a Step<A>,
-) -> Option<Callee<'a, A>> {
+/// What a step spawns, or calls with the module.
+fn named_with_module<A: Allocator>(step: &Step<A>) -> Option<Callee<'_, A>>
+    ensures { option_map callee_seen result ≡ named_with_module_of (step_of step.now) }
+{
     match step {
         Step::CallRemote {
             module,
             name,
             args,
             ..
-        }
-        | Step::Catch {
+        } => Some(named(module, name, args)),
+        Step::Catch {
             module,
             name,
             args,
             ..
-        }
-        | Step::Spawn {
+        } => Some(named(module, name, args)),
+        Step::Spawn {
             module,
             name,
             args,
             ..
-        } => Some(Callee {
-            home: module,
-            name,
-            arity: args.terms.len(),
-        }),
-        Step::CallLocal { name, args, .. } if names_local(refusal) => Some(Callee {
-            home: &function.module,
-            name,
-            arity: args.terms.len(),
-        }),
+        } => Some(named(module, name, args)),
         _ => None,
     }
 }
 
-/// Appends the numbers of parameters with which the forms declare it, with `or` between them.
+/// What a step of a function of this module spawns or calls.
+fn named_by<'a, A: Allocator>(home: &'a Atom<A>, step: &'a Step<A>) -> Option<Callee<'a, A>>
+    ensures { option_map callee_seen result ≡ named_by_step home.now (step_of step.now) }
+{
+    match step {
+        Step::CallLocal { name, args, .. } => Some(named(home, name, args)),
+        Step::CallRemote {
+            module,
+            name,
+            args,
+            ..
+        } => Some(named(module, name, args)),
+        Step::Catch {
+            module,
+            name,
+            args,
+            ..
+        } => Some(named(module, name, args)),
+        Step::Spawn {
+            module,
+            name,
+            args,
+            ..
+        } => Some(named(module, name, args)),
+        _ => None,
+    }
+}
+
+/// What a step names; of a call without the module nothing, where only names with the module count.
+fn callee_of<'a, A: Allocator>(
+    rule: Rule,
+    home: &'a Atom<A>,
+    step: &'a Step<A>,
+) -> Option<Callee<'a, A>>
+    ensures { option_map callee_seen result ≡ names_of_step (rule_of rule) home.now (step_of step.now) }
+{
+    match rule {
+        Rule::NotExported => named_with_module(step),
+        Rule::Undeclared => named_by(home, step),
+        Rule::Arity => named_by(home, step),
+        Rule::Duplicate => named_by(home, step),
+        Rule::Unbound => named_by(home, step),
+        Rule::TracerTaken => named_by(home, step),
+        Rule::Limit => named_by(home, step),
+    }
+}
+
+/// What a step names, where that breaks the rule.
+fn wrong_callee<'a, A: Allocator>(
+    rule: Rule,
+    forms: &[Form<A>],
+    home: &'a Atom<A>,
+    step: &'a Step<A>,
+) -> Option<Callee<'a, A>>
+    ensures { option_map callee_seen result ≡ wrong_name (rule_of rule) (map form_of forms.now)
+        (names_of_step (rule_of rule) home.now (step_of step.now)) }
+{
+    match callee_of(rule, home, step) {
+        Some(callee) => {
+            if breaks(rule, forms, &callee) {
+                Some(callee)
+            } else {
+                None
+            }
+        }
+        None => None,
+    }
+}
+
+/// A function that a step names, and the number of the step, from 1.
+#[derive(Drop)]
+struct CalleeInStep<'a, A: Allocator> {
+    callee: Callee<'a, A>,
+    step: usize,
+}
+
+/// The first function that a step names and that breaks the rule.
+fn first_wrong<'a, A: Allocator>(
+    rule: Rule,
+    forms: &[Form<A>],
+    home: &'a Atom<A>,
+    steps: &'a [Step<A>],
+) -> Option<CalleeInStep<'a, A>>
+    ensures { option_map callee_in_step_seen result ≡ first_with_earlier
+        (step_name (rule_of rule) (map form_of forms.now) home.now) [] (map step_of steps.now) }
+{
+    for i in 0..steps.len() {
+        let step = &steps[i];
+        match wrong_callee(rule, forms, home, step) {
+            Some(callee) => {
+                return Some(CalleeInStep {
+                    callee,
+                    step: i + 1,
+                });
+            }
+            None => {}
+        }
+    }
+    None
+}
+
+/// With how many parameters the form declares the module and the name, where it does.
+fn arity_in<A: Allocator>(form: &Form<A>, callee: &Callee<'_, A>) -> Option<usize>
+    ensures { option_to_list result ≡ arities_in (form_of form.now) (callee_seen callee.now) }
+{
+    match form {
+        Form::Function(function) => {
+            if is_named(function, callee) {
+                Some(function.params.len())
+            } else {
+                None
+            }
+        }
+        _ => None,
+    }
+}
+
+/// Appends the numbers of parameters with which the forms declare it, with `or` between them; after an `Err` a part
+/// of it may be there.
 fn put_arities<A: Allocator>(
     forms: &[Form<A>],
     callee: &Callee<'_, A>,
     out: &mut Vec<u8, A>,
-) -> Result<(), AllocError> {
+) -> Result<(), AllocError>
+    ensures { OnOk result (out.new.items ≡ out.old.items
+        ++ arities_text (declared_arities (map form_of forms.now) (callee_seen callee.now))) }
+{
     let mut between: &[u8] = b" is declared with ";
     for form in forms {
-        if let Form::Function(function) = form {
-            if declares(function, DeclarationMatch::Named, callee) {
-                put_number(between, function.params.len(), out)?;
+        match arity_in(form, callee) {
+            Some(arity) => {
+                put_number(between, arity, out)?;
                 between = b" or ";
             }
+            None => {}
         }
     }
     out.extend_from_slice(b" arguments")
 }
 
-/// Appends a function that is named, and why that breaks the rule.
+/// Appends a function that is named, and why that breaks the rule; after an `Err` a part of it may be there.
 fn put_wrong<A: Allocator>(
-    refusal: Refusal,
+    rule: Rule,
     forms: &[Form<A>],
     callee: &Callee<'_, A>,
     out: &mut Vec<u8, A>,
-) -> Result<(), AllocError> {
+) -> Result<(), AllocError>
+    ensures { OnOk result (out.new.items ≡ out.old.items ++ name_reason_text
+        (name_reason_of (rule_of rule) (map form_of forms.now) (callee_seen callee.now))) }
+{
     put_callee(b": function ", callee, out)?;
-    match refusal {
-        Refusal::NotExported { .. } => out.extend_from_slice(b" is internal"),
-        Refusal::Arity { .. } => put_arities(forms, callee, out),
-        _ => Ok(()),
+    match rule {
+        Rule::NotExported => out.extend_from_slice(b" is internal"),
+        Rule::Arity => put_arities(forms, callee, out),
+        Rule::Duplicate => Ok(()),
+        Rule::Undeclared => Ok(()),
+        Rule::Unbound => Ok(()),
+        Rule::TracerTaken => Ok(()),
+        Rule::Limit => Ok(()),
     }
 }
 
-/// Appends the first function that a step names and that breaks the rule, and in which step.
+/// Appends a function that a step names, and why that breaks the rule; after an `Err` a part of it may be there.
+fn put_wrong_in_step<A: Allocator>(
+    rule: Rule,
+    forms: &[Form<A>],
+    wrong: &CalleeInStep<'_, A>,
+    out: &mut Vec<u8, A>,
+) -> Result<(), AllocError>
+    ensures { OnOk result (out.new.items ≡ out.old.items ++ rule_reason_text
+        (step_reason_of (rule_of rule) (map form_of forms.now) (callee_in_step_seen wrong.now))) }
+{
+    put_wrong(rule, forms, &wrong.callee, out)?;
+    put_number(b", in step ", wrong.step, out)
+}
+
+/// Appends the first function that a step names and that breaks the rule, and in which step; after an `Err` a part of
+/// it may be there.
 pub fn put_named<A: Allocator>(
-    refusal: Refusal,
+    rule: Rule,
     forms: &[Form<A>],
     function: &Function<A>,
     out: &mut Vec<u8, A>,
-) -> Result<(), AllocError> {
-    for (i, step) in function.steps.iter().enumerate() {
-        if let Some(callee) = callee_of(refusal, function, step) {
-            if breaks(refusal, forms, &callee) {
-                put_wrong(refusal, forms, &callee, out)?;
-                return put_number(b", in step ", i + 1, out);
-            }
-        }
+) -> Result<(), AllocError>
+    ensures { OnOk result (out.new.items ≡ out.old.items ++ rule_reasons_text
+        (steps_name_reason (rule_of rule) (map form_of forms.now) (function_of function.now))) }
+{
+    match first_wrong(rule, forms, &function.module, &function.steps) {
+        Some(wrong) => put_wrong_in_step(rule, forms, &wrong, out),
+        None => Ok(()),
     }
-    Ok(())
 }
 
-/// Appends the function that a process starts with, and why that breaks the rule.
+/// Appends the function that a process starts with, and why that breaks the rule; after an `Err` a part of it may be
+/// there.
 pub fn put_started<A: Allocator>(
-    refusal: Refusal,
+    rule: Rule,
     forms: &[Form<A>],
     entry: &Entry<A>,
     out: &mut Vec<u8, A>,
-) -> Result<(), AllocError> {
-    let callee = Callee {
-        home: &entry.module,
-        name: &entry.name,
-        arity: entry.args.terms.len(),
-    };
-    put_wrong(refusal, forms, &callee, out)
+) -> Result<(), AllocError>
+    ensures { OnOk result (out.new.items ≡ out.old.items ++ rule_reasons_text
+        (named_reason (rule_of rule) (map form_of forms.now) (entry_mfa (entry_of entry.now)))) }
+{
+    let callee = named(&entry.module, &entry.name, &entry.args);
+    if breaks(rule, forms, &callee) {
+        put_wrong(rule, forms, &callee, out)
+    } else {
+        Ok(())
+    }
 }
 
 /// Appends a function, and the number of a form that declares it too; after an `Err` a part of it may be there.

@@ -1,7 +1,7 @@
 //! Why a script or a text of picks is refused: the refusal, its numbered line, and one line to fix the text by.
 //!
-//! Depends on tn_program and def_wording. Promises the defined numbered line, and of `explain`, `explain_term` the
-//! place, the rule's words, and what is at fault in a form without a shape.
+//! Depends on tn_program and def_wording. Promises the defined numbered line, and of `explain` and `explain_term` the
+//! place, the rule's words, and the defined text of what breaks it; of a refused token, for something that stands there.
 #![tactic(auto)]
 
 mod bytes;

@@ -1,62 +1,16 @@
 // Which limit on scripts is passed.
-ghost use Rattle.std.specs.Prelude.{◌≡◌, ◌++◌, length, OnOk};
-ghost use Rattle.def_script.specs.Program.{mfa_of};
-ghost use Rattle.def_wording.specs.RuleTexts.{many_steps, total_text, rule_reason_text};
-ghost use Rattle.tn_script.specs.Views.{function_of};
+ghost use Rattle.std.specs.Prelude.{◌≡◌, ◌++◌, length, map, OnOk};
+ghost use Rattle.def_script.specs.Program.{mfa_of, declares, controls};
+ghost use Rattle.def_wording.specs.RuleTexts.{many_steps, total_text, rule_reason_text, limit_reason};
+ghost use Rattle.tn_flags.specs.Views.{command_of};
+ghost use Rattle.tn_script.specs.Views.{function_of, form_of};
 
 use crate::callee::{declared_by, put_callee};
 use crate::put::put_number;
 use std::alloc::{AllocError, Allocator};
 use tn_flags::Command;
+use tn_program::{all_commands, all_creations, creation_total, function_total, process_total};
 use tn_script::{Form, Function, MAX_COMMANDS, MAX_STEPS};
-
-/// How many functions, processes and commands forms have, and how many of the commands create a session.
-#[derive(Clone, Copy)]
-struct Totals {
-    functions: usize,
-    processes: usize,
-    commands: usize,
-    sessions: usize,
-}
-
-/// How many of the commands create a session.
-fn creation_count<A: Allocator>(commands: &[Command<A>]) -> usize {
-    let mut count = 0usize;
-    for command in commands {
-        if matches!(command, Command::SessionCreate { .. }) {
-            count = count.saturating_add(1);
-        }
-    }
-    count
-}
-
-impl Totals {
-    /// Counts one form more.
-    fn add<A: Allocator>(&mut self, form: &Form<A>) {
-        match form {
-            Form::Function(_) => self.functions = self.functions.saturating_add(1),
-            Form::Process(_) => self.processes = self.processes.saturating_add(1),
-            Form::Control(commands) => {
-                self.commands = self.commands.saturating_add(commands.len());
-                self.sessions = self.sessions.saturating_add(creation_count(commands));
-            }
-        }
-    }
-}
-
-/// The totals of the forms.
-fn totals_of<A: Allocator>(forms: &[Form<A>]) -> Totals {
-    let mut totals = Totals {
-        functions: 0,
-        processes: 0,
-        commands: 0,
-        sessions: 0,
-    };
-    for form in forms {
-        totals.add(form);
-    }
-    totals
-}
 
 /// Appends how many steps a function has; after an `Err` a part of it may be there.
 fn put_steps<A: Allocator>(function: &Function<A>, out: &mut Vec<u8, A>) -> Result<(), AllocError>
@@ -68,16 +22,52 @@ fn put_steps<A: Allocator>(function: &Function<A>, out: &mut Vec<u8, A>) -> Resu
 }
 
 /// Appends a number and what there are so many of; after an `Err` a part of it may be there.
-fn put_total<A: Allocator>(
-    total: usize,
-    what: &[u8],
-    out: &mut Vec<u8, A>,
-) -> Result<(), AllocError>
+fn put_total<A: Allocator>(total: u64, what: &[u8], out: &mut Vec<u8, A>) -> Result<(), AllocError>
     ensures { OnOk result (out.new.items ≡ out.old.items ++ total_text total what.now) }
 {
-    put_number(b": ", total, out)?;
+    put_number(b": ", total as usize, out)?;
     out.extend_from_slice(what)?;
     out.extend_from_slice(b" up to here")
+}
+
+/// Appends how many steps the function has, or how many functions there are with it; after an `Err` a part of it may
+/// be there.
+fn put_function_limit<A: Allocator>(
+    earlier: &[Form<A>],
+    function: &Function<A>,
+    out: &mut Vec<u8, A>,
+) -> Result<(), AllocError>
+    ensures { OnOk result (out.new.items ≡ out.old.items ++ rule_reason_text
+        (limit_reason (map form_of earlier.now) (declares (function_of function.now)))) }
+{
+    if function.steps.len() > MAX_STEPS {
+        put_steps(function, out)
+    } else {
+        put_total(
+            function_total(earlier).saturating_add(1),
+            b" functions",
+            out,
+        )
+    }
+}
+
+/// Appends how many commands there are with these, or how many of them are creations; after an `Err` a part of it may
+/// be there.
+fn put_control_limit<A: Allocator>(
+    earlier: &[Form<A>],
+    commands: &[Command<A>],
+    out: &mut Vec<u8, A>,
+) -> Result<(), AllocError>
+    ensures { OnOk result (out.new.items ≡ out.old.items ++ rule_reason_text
+        (limit_reason (map form_of earlier.now) (controls (map command_of commands.now)))) }
+{
+    let total = all_commands(earlier).saturating_add(commands.len() as u64);
+    if total > MAX_COMMANDS as u64 {
+        put_total(total, b" commands", out)
+    } else {
+        let created = all_creations(earlier).saturating_add(creation_total(commands));
+        put_total(created, b" sessions", out)
+    }
 }
 
 /// Appends which limit the form after the earlier ones passes; after an `Err` a part of it may be there.
@@ -85,16 +75,15 @@ pub fn put_limit<A: Allocator>(
     earlier: &[Form<A>],
     form: &Form<A>,
     out: &mut Vec<u8, A>,
-) -> Result<(), AllocError> {
-    let mut totals = totals_of(earlier);
-    totals.add(form);
+) -> Result<(), AllocError>
+    ensures { OnOk result (out.new.items
+        ≡ out.old.items ++ rule_reason_text (limit_reason (map form_of earlier.now) (form_of form.now))) }
+{
     match form {
-        Form::Function(function) if function.steps.len() > MAX_STEPS => put_steps(function, out),
-        Form::Function(_) => put_total(totals.functions, b" functions", out),
-        Form::Process(_) => put_total(totals.processes, b" processes", out),
-        Form::Control(_) if totals.commands > MAX_COMMANDS => {
-            put_total(totals.commands, b" commands", out)
+        Form::Function(function) => put_function_limit(earlier, function, out),
+        Form::Process(_) => {
+            put_total(process_total(earlier).saturating_add(1), b" processes", out)
         }
-        Form::Control(_) => put_total(totals.sessions, b" sessions", out),
+        Form::Control(commands) => put_control_limit(earlier, commands, out),
     }
 }

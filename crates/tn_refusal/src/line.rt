@@ -1,7 +1,9 @@
 // The whole line.
 ghost use Rattle.std.specs.Prelude.{◌≡◌, ◌++◌, IfOk, OnOk, map};
 ghost use Rattle.tn_refusal.specs.Lines.{printable_byte, IsExplained};
+ghost use Rattle.def_wording.specs.SyntaxTexts.{of_script, of_term};
 ghost use Rattle.tn_refusal.specs.Refusals.{refusal_of};
+ghost use Rattle.tn_refusal.specs.TextViews.{kind_seen};
 
 use crate::detail::detail_of;
 use crate::location::{front, mark_of};
@@ -35,7 +37,7 @@ fn line_of<A: Allocator + Copy>(
     refusal: Refusal,
     kind: TextKind,
 ) -> Result<Vec<u8, A>, AllocError>
-    ensures { IfOk result (λ v. IsExplained name.now text.now (refusal_of refusal) v.items) }
+    ensures { IfOk result (λ v. IsExplained (kind_seen kind) name.now text.now (refusal_of refusal) v.items) }
 {
     let mark = mark_of(alloc, text, refusal)?;
     let mut line = front(alloc, name, mark.location)?;
@@ -50,9 +52,8 @@ fn line_of<A: Allocator + Copy>(
 /// the rule, and then what breaks it, after `: `, where that can be found by looking through the text. For
 /// refusal 20 the text is that of the picks. Where the text isn't refused so, the line may say less.
 ///
-/// The contract says which part of a form without a shape is at fault, and how long a text is that is too long. Of a
-/// refused token it gives the words, for something that stands there. Of the static rules, of picks and of how many
-/// forms there are it says nothing but that all of it is printable.
+/// The contract gives every word of it but what stands at a refused token: of that it gives the words, for something
+/// that stands there.
 ///
 /// # Errors
 ///
@@ -63,7 +64,7 @@ pub fn explain<A: Allocator + Copy>(
     text: &[u8],
     refusal: Refusal,
 ) -> Result<Vec<u8, A>, AllocError>
-    ensures { IfOk result (λ v. IsExplained name.now text.now (refusal_of refusal) v.items) }
+    ensures { IfOk result (λ v. IsExplained of_script name.now text.now (refusal_of refusal) v.items) }
 {
     line_of(alloc, name, text, refusal, TextKind::Script)
 }
@@ -80,7 +81,7 @@ pub fn explain_term<A: Allocator + Copy>(
     text: &[u8],
     refusal: Refusal,
 ) -> Result<Vec<u8, A>, AllocError>
-    ensures { IfOk result (λ v. IsExplained name.now text.now (refusal_of refusal) v.items) }
+    ensures { IfOk result (λ v. IsExplained of_term name.now text.now (refusal_of refusal) v.items) }
 {
     line_of(alloc, name, text, refusal, TextKind::Term)
 }

@@ -1,11 +1,11 @@
 // Where a line says that a refusal is.
-ghost use Rattle.std.specs.Prelude.{◌≡◌, ◌≤◌, ◌<◌, ◌-◌, ◌++◌, List, length, codes, decimal, IfOk, OnOk};
+ghost use Rattle.std.specs.Prelude.{◌≡◌, ◌≤◌, ◌<◌, ◌-◌, ◌++◌, List, None, length, codes, decimal, IfOk, OnOk};
 ghost use Rattle.std.specs.Option.{option_map};
 ghost use Rattle.def_text.specs.Tokens.{TokenSpan};
 ghost use Rattle.def_text.specs.Forms.{after_stops};
 ghost use Rattle.tn_script.specs.Items.{form_item_of};
 ghost use Rattle.tn_refusal.specs.Locations.{mark_text, IsMarkOf, IsFormMark, IsItemMark, location_of_item, spot_at};
-ghost use Rattle.tn_refusal.specs.Details.{IsFormText, HasFormText};
+ghost use Rattle.tn_refusal.specs.Details.{IsFormText, HasFormText, HasFormsOfRule, forms_seen};
 ghost use Rattle.tn_refusal.specs.Refusals.{refusal_of, refused_part};
 ghost use Rattle.tn_refusal.specs.Skims.{AreAhead};
 ghost use Rattle.tn_refusal.specs.Starts.{IsListable};
@@ -60,7 +60,8 @@ pub struct Mark<'t, A: Allocator> {
 impl<'t, A: Allocator> Mark<'t, A> {
     /// Where no form is refused.
     fn of(location: Location) -> Mark<'t, A>
-        ensures { result.location ≡ location }
+        ensures place { result.location ≡ location }
+        ensures forms { forms_seen result.forms ≡ None }
     {
         Mark {
             location,
@@ -129,6 +130,7 @@ fn form_mark<A: Allocator + Copy>(
     requires { length text.now < usize.MAX }
     ensures place { IfOk result (λ m. IsFormMark text.now (refusal_of refusal) form m.location) }
     ensures form { IfOk result (λ m. IsFormText text.now form m.form.now) }
+    ensures forms { IfOk result (λ m. HasFormsOfRule text.now (refusal_of refusal) (forms_seen m.forms)) }
 {
     let ItemInForms { item, forms } = refused_item(alloc, text, refusal)?;
     let before = before_form(text, form);
@@ -148,6 +150,7 @@ pub fn mark_of<A: Allocator + Copy>(
     ensures place { IfOk result (λ m. IsMarkOf text.now (refusal_of refusal) (refused_part (refusal_of refusal))
         m.location) }
     ensures form { IfOk result (λ m. HasFormText text.now (refused_part (refusal_of refusal)) m.form.now) }
+    ensures forms { IfOk result (λ m. HasFormsOfRule text.now (refusal_of refusal) (forms_seen m.forms)) }
 {
     if text.len() > MAX_TEXT {
         return Ok(Mark::of(Location::Whole));

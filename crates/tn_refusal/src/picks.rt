@@ -1,23 +1,28 @@
 // What breaks the rule on a text of picks: refusal 20.
-ghost use Rattle.std.specs.Prelude.{◌≡◌, ◌++◌, OnOk};
-ghost use Rattle.def_wording.specs.PickTexts.{pick_fault_text, wrong_pick_text};
+ghost use Rattle.std.specs.Prelude.{◌≡◌, ◌<◌, ◌++◌, [], true, length, codes, decimal, OnOk};
+ghost use Rattle.std.specs.Option.{option_map};
+ghost use Rattle.def_term.specs.Text.{is_digit};
+ghost use Rattle.def_text.specs.Tokens.{all_are};
+ghost use Rattle.def_wording.specs.PickTexts.{pick_fault as fault_of_piece, fits_a_pick, pick_fault_text};
+ghost use Rattle.def_wording.specs.PickTexts.{wrong_pick_text, wrong_piece, first_wrong_piece, pieces_from, picks_detail};
 ghost use Rattle.tn_refusal.specs.PickViews.{pick_fault_seen, wrong_pick_seen};
 
-use crate::bytes::{first_bytes, rest_at};
 use crate::put::{put_number, put_shown};
 use std::alloc::{AllocError, Allocator};
 use std::str::from_utf8;
-use tn_text::{MAX_TEXT, digits_len};
+use tn_text::MAX_TEXT;
 
-/// The bytes between two offsets.
-fn between(text: &[u8], from: usize, to: usize) -> &[u8] {
-    rest_at(first_bytes(text, to), from)
-}
-
-/// Whether a number of 32 bits is written so.
-fn fits(digits: &[u8]) -> bool {
+/// Whether the digits are those of a number of 32 bits.
+fn fits(digits: &[u8]) -> bool
+    requires digits { all_are is_digit digits.now ≡ true }
+    requires some { 0 < length digits.now }
+    ensures { result ≡ fits_a_pick digits.now }
+{
     match from_utf8(digits) {
-        Ok(text) => text.parse::<u32>().is_ok(),
+        Ok(text) => match text.parse::<u32>() {
+            Ok(_) => true,
+            Err(_) => false,
+        },
         Err(_) => false,
     }
 }
@@ -43,12 +48,26 @@ fn fault_words(fault: PickFault) -> &'static [u8]
     }
 }
 
+/// Whether each byte of the piece is a digit.
+fn are_digits(piece: &[u8]) -> bool
+    ensures { result ≡ all_are is_digit piece.now }
+{
+    for b in piece {
+        if !b.is_ascii_digit() {
+            return false;
+        }
+    }
+    true
+}
+
 /// Why a piece of the text is no pick; None where it is one.
-fn pick_fault(piece: &[u8]) -> Option<PickFault> {
+fn pick_fault(piece: &[u8]) -> Option<PickFault>
+    ensures { option_map pick_fault_seen result ≡ fault_of_piece piece.now }
+{
     if piece.is_empty() {
         return Some(PickFault::NoBytes);
     }
-    if digits_len(piece) < piece.len() {
+    if !are_digits(piece) {
         return Some(PickFault::NoDecimal);
     }
     if piece[0] == b'0' && piece.len() > 1 {
@@ -69,9 +88,10 @@ struct WrongPick<'a> {
     fault: PickFault,
 }
 
-/// The piece between two offsets, where it is no pick.
-fn wrong_between(text: &[u8], from: usize, to: usize, number: usize) -> Option<WrongPick<'_>> {
-    let piece = between(text, from, to);
+/// The piece with this number, where it is no pick.
+fn wrong_pick(piece: &[u8], number: usize) -> Option<WrongPick<'_>>
+    ensures { option_map wrong_pick_seen result ≡ wrong_piece number piece.now }
+{
     match pick_fault(piece) {
         Some(fault) => Some(WrongPick {
             number,
@@ -83,20 +103,23 @@ fn wrong_between(text: &[u8], from: usize, to: usize, number: usize) -> Option<W
 }
 
 /// The first piece of the text that is no pick.
-fn first_wrong(text: &[u8]) -> Option<WrongPick<'_>> {
+fn first_wrong(text: &[u8]) -> Option<WrongPick<'_>>
+    requires { length text.now < usize.MAX }
+    ensures { option_map wrong_pick_seen result ≡ first_wrong_piece 1 (pieces_from [] text.now) }
+{
     let mut from = 0usize;
     let mut number = 1usize;
-    for (i, b) in text.iter().enumerate() {
-        if *b == b' ' {
-            let wrong = wrong_between(text, from, i, number);
-            if wrong.is_some() {
-                return wrong;
+    for i in 0..text.len() {
+        if text[i] == b' ' {
+            match wrong_pick(&text[from..i], number) {
+                Some(wrong) => return Some(wrong),
+                None => {}
             }
             from = i + 1;
-            number = number.saturating_add(1);
+            number += 1;
         }
     }
-    wrong_between(text, from, text.len(), number)
+    wrong_pick(&text[from..], number)
 }
 
 /// Appends which pick is none, and why; after an `Err` a part of it may be there.
@@ -110,11 +133,21 @@ fn put_wrong<A: Allocator>(wrong: WrongPick<'_>, out: &mut Vec<u8, A>) -> Result
     out.extend_from_slice(fault_words(wrong.fault))
 }
 
-/// Appends which pick is none, or how long the text is.
-pub fn put_picks<A: Allocator>(text: &[u8], out: &mut Vec<u8, A>) -> Result<(), AllocError> {
+/// Appends how long the text is; after an `Err` a part of it may be there.
+fn put_length<A: Allocator>(length: usize, out: &mut Vec<u8, A>) -> Result<(), AllocError>
+    ensures { OnOk result (out.new.items ≡ out.old.items
+        ++ codes ": there are " ++ decimal length ++ codes " bytes, of at most 1048576") }
+{
+    put_number(b": there are ", length, out)?;
+    out.extend_from_slice(b" bytes, of at most 1048576")
+}
+
+/// Appends which pick is none, or how long the text is; after an `Err` a part of it may be there.
+pub fn put_picks<A: Allocator>(text: &[u8], out: &mut Vec<u8, A>) -> Result<(), AllocError>
+    ensures { OnOk result (out.new.items ≡ out.old.items ++ picks_detail text.now) }
+{
     if text.len() > MAX_TEXT {
-        put_number(b": there are ", text.len(), out)?;
-        return out.extend_from_slice(b" bytes, of at most 1048576");
+        return put_length(text.len(), out);
     }
     match first_wrong(text) {
         Some(wrong) => put_wrong(wrong, out),

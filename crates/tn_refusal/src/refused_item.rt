@@ -1,11 +1,12 @@
 // The step or the command that a refusal is of.
-ghost use Rattle.std.specs.Prelude.{◌≡◌, IfOk, map};
+ghost use Rattle.std.specs.Prelude.{◌≡◌, IfOk, None, map};
 ghost use Rattle.std.specs.Option.{option_map};
 ghost use Rattle.def_refusal.specs.Items.{shapeless_item_in};
 ghost use Rattle.def_refusal.specs.RefusedItems.{IsShapelessItem, IsBreakingItem, IsRefusedItem};
 ghost use Rattle.tn_program.specs.Faults.{broken_of};
 ghost use Rattle.tn_script.specs.Items.{form_item_of};
 ghost use Rattle.tn_term.specs.Views.{tree_of};
+ghost use Rattle.tn_refusal.specs.Details.{forms_seen, IsFormsOf, HasFormsOfRule};
 ghost use Rattle.tn_refusal.specs.Refusals.{refusal_of};
 ghost use Rattle.tn_refusal.specs.RefusedItems.{IsItemOfBroken};
 
@@ -28,7 +29,8 @@ pub struct ItemInForms<A: Allocator> {
 impl<A: Allocator> ItemInForms<A> {
     /// The item without forms.
     fn of(item: Option<FormItem>) -> Self
-        ensures { result.item ≡ item }
+        ensures item { result.item ≡ item }
+        ensures forms { forms_seen result.forms ≡ None }
     {
         ItemInForms { item, forms: None }
     }
@@ -92,7 +94,8 @@ fn item_of_rule<A: Allocator + Copy>(
     text: &[u8],
     fault: RuleFault,
 ) -> Result<ItemInForms<A>, AllocError>
-    ensures { IfOk result (λ r. IsItemOfBroken text.now (broken_of fault) (option_map form_item_of r.item)) }
+    ensures item { IfOk result (λ r. IsItemOfBroken text.now (broken_of fault) (option_map form_item_of r.item)) }
+    ensures forms { IfOk result (λ r. IsFormsOf text.now (forms_seen r.forms)) }
 {
     match forms(alloc, text) {
         Ok(forms) => {
@@ -119,7 +122,8 @@ pub fn refused_item<A: Allocator + Copy>(
     text: &[u8],
     refusal: Refusal,
 ) -> Result<ItemInForms<A>, AllocError>
-    ensures { IfOk result (λ r. IsRefusedItem text.now (refusal_of refusal) (option_map form_item_of r.item)) }
+    ensures item { IfOk result (λ r. IsRefusedItem text.now (refusal_of refusal) (option_map form_item_of r.item)) }
+    ensures forms { IfOk result (λ r. HasFormsOfRule text.now (refusal_of refusal) (forms_seen r.forms)) }
 {
     match refusal {
         Refusal::Form { form } => Ok(ItemInForms::of(item_without_shape(alloc, text, form)?)),

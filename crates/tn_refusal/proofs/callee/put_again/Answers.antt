@@ -1,7 +1,6 @@
-use Rattle.std.proofs.Common.{◌∙◌, [], map, ap, append-nil, sym}
+use Rattle.std.proofs.Common.{◌∙◌, map, ap}
 use Rattle.std.specs.Option.{option_map}
-use Rattle.def_wording.specs.Firsts.{first_with_earlier}
-use Rattle.def_wording.specs.RuleTexts.{declared_too, again_at, again_reason, rule_reason_text, rule_reasons_text}
+use Rattle.def_wording.specs.RuleTexts.{declared_too, again_reason, rule_reason_text, rule_reasons_text}
 use Rattle.tn_script.specs.Views.{form_of}
 use Rattle.tn_refusal.specs.RuleViews.{callee_seen}
 use Rattle.tn_refusal.proofs.Writes.{read_as}

@@ -1,5 +1,4 @@
 use Rattle.std.proofs.Common.{◌≡◌, ◌++◌, map, refl, rules}
-use Rattle.tn_refusal.specs.TextViews.{kind_seen}
 use Rattle.tn_refusal.specs.Lines.{printable_byte}
 use Rattle.tn_refusal.proofs.Printables.{all_shown}
 use Rattle.tn_refusal.proofs.line.line_of.Goals as goal
@@ -13,9 +12,9 @@ returns g c =
       rest = map printable_byte c.in_ok-found.found.items;
       place = c.in_ok-mark.ensures.place;
       text = cc (named, found, c.in_ok-line.ensures, c.words_of.ensures);
-      details = record { kind = kind_seen c.args.kind; detail = c.in_ok-found.found.items; told = c.in_ok-found.ensures; shown = refl };
+      details = record { detail = c.in_ok-found.found.items; told = c.in_ok-found.ensures; shown = refl };
       printable = all_shown c.in_ok-found.found.items;
     }
 
 pub detail_of-requires : goal.detail_of-requires
-detail_of-requires g c = c.in_ok-mark.ensures.form
+detail_of-requires g c = record { form = c.in_ok-mark.ensures.form; forms = c.in_ok-mark.ensures.forms }
