@@ -13,12 +13,9 @@ use Rattle.tn_session.specs.Sessions.{value_in}
 use Rattle.tn_session.specs.declared.session.Session.{Session}
 use Rattle.tn_trace.specs.Tracks.{Track, tracks_of}
 use Rattle.tn_trace.specs.Slots.{IsSession, IsTracked, EachPair}
-use Rattle.tn_trace.specs.Recorders.{HasRecorded}
-use Rattle.tn_trace.specs.Runs.{IsRun}
-use Rattle.tn_trace.specs.Shares.{KeepsAsMuch, IsSlotCopy, IsRecorderCopy, IsRunCopy}
+use Rattle.tn_trace.specs.Shares.{KeepsAsMuch, IsSlotCopy, IsRecorderCopy}
 use Rattle.tn_trace.specs.declared.slot.Slot.{Slot}
 use Rattle.tn_trace.specs.declared.recorder.Recorder.{Recorder}
-use Rattle.tn_trace.specs.declared.run.Run.{Run}
 
 -- the same session, where it is created
 session_again : {A : Type 0} (fs : List (Mfa × Bool)) (living : Alive) (s : definition.Session) (old new : Option (Session A)) → option_map value_in new ≡ option_map value_in old → IsSession fs living s old → IsSession fs living s new
@@ -64,14 +61,4 @@ recorder_again Keeps old new living slots replies = λ p picks h. record {
   sessions = subst (λ l. EachPair (IsTracked Keeps (exports_of p) (alive_of l)) (tracks_of p picks) new.slots.items) (sym living)
       (pair_again Keeps (exports_of p) (alive_of old.living) (tracks_of p picks) old.slots.items new.slots.items h.sessions slots);
   replied = replies (defined p picks) h.replied;
-}
-
-pub run_again : {A K : Type 0} (Keeps : K → List Tree → Type 0) (old new : Run A (Recorder A K)) → new.node ≡ old.node → IsRecorderCopy Keeps old.observer new.observer → new.journal.items ≡ old.journal.items → new.limit ≡ old.limit → IsRunCopy Keeps old new
-run_again Keeps old new node observer journal limit = λ p most picks h. record {
-  node = node ∙ h.node;
-  seen = observer p picks h.seen;
-  journaled = journal ∙ h.journaled;
-  moved = h.moved;
-  limited = limit ∙ h.limited;
-  bounded = h.bounded;
 }
