@@ -1,9 +1,12 @@
-//! The contract of tn_explore's search is complete. The function calls it twice on states of one query. It
-//! knows no more than the contract, so its proof shows that the contract leaves one answer.
+//! The contracts of tn_explore, tn_messages, tn_answers and tn_search are complete. Each function calls one of theirs
+//! twice on equal values. It knows no more than the contract, so its proof shows that the contract leaves one answer.
 //!
-//! Depends on tn_explore.
+//! Depends on these crates.
 #![tactic(auto)]
 
+mod answers;
+mod messages;
+mod programs;
 mod search;
 
 pub use search::explore;

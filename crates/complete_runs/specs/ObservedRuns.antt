@@ -1,7 +1,10 @@
 -- When two runs are one but for what looks on.
 use Rattle.std.specs.Prelude.{◌≡◌, ℕ, List, [], ◌∷◌, ◌++◌}
+use Rattle.def_term.specs.Tree.{Tree}
 use Rattle.def_script.specs.Program.{Program}
+use Rattle.tn_trace.specs.Recorders.{HasRecorded}
 use Rattle.tn_trace.specs.Runs.{IsRun}
+use Rattle.tn_trace.specs.declared.recorder.Recorder.{Recorder}
 use Rattle.tn_trace.specs.declared.run.PickOutcome.{PickOutcome}
 use Rattle.tn_trace.specs.declared.run.PickOutcome.TheVariants.{Moved, Idle, Full}
 use Rattle.tn_trace.specs.declared.run.Run.{Run}
@@ -10,6 +13,11 @@ use Rattle.tn_trace.specs.declared.run.Run.{Run}
 pub record AreRuns {A O : Type 0} (Seen : O → Program → List ℕ → Type 0) (p : Program) (limit : ℕ) (picks : List ℕ) (one other : Run A O) : Type 0 where
   pub first : IsRun Seen p limit picks one
   pub second : IsRun Seen p limit picks other
+
+-- both recorded the program's run by these picks, so that they have the same sessions and replies
+pub record AreRecorders {A K : Type 0} (Keeps : K → List Tree → Type 0) (p : Program) (picks : List ℕ) (one other : Recorder A K) : Type 0 where
+  pub first : HasRecorded Keeps one p picks
+  pub second : HasRecorded Keeps other p picks
 
 -- the picks that moved after one more, by what that came to
 abbrev pub picks_by : PickOutcome → List ℕ → ℕ → List ℕ

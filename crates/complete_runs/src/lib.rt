@@ -9,6 +9,7 @@ mod line;
 mod listing;
 mod output;
 mod picks;
+mod recorder;
 mod run;
 mod run_core;
 mod sessions;

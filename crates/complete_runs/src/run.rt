@@ -1,14 +1,17 @@
 // A run, with what looks on.
 ghost use Rattle.std.specs.Prelude.{◌≡◌, ℕ, List, [], ◌++◌, min, IfOk, OnOk};
+ghost use Rattle.def_script.specs.Program as definition;
 ghost use Rattle.def_run.specs.Run.{JOURNAL};
 ghost use Rattle.tn_program.specs.Views.{program_of};
 ghost use Rattle.tn_trace.specs.Runs.{IsRun};
 ghost use Rattle.tn_trace.specs.Follows.{Follows};
+ghost use Rattle.tn_trace.specs.Recorders.{HasRecorded};
 ghost use Rattle.complete_runs.specs.ObservedRuns.{AreRuns, OneMoreAlike};
 
 use std::alloc::{AllocError, Allocator};
+use tn_node::Node;
 use tn_program::Program;
-use tn_trace::{Observer, PickOutcome, Run};
+use tn_trace::{Observer, PickOutcome, Recorder, Run, SharedSink};
 
 /// `tn_trace::Run::new` has one answer but for what looks on, of which `sees` is known.
 pub fn new<A: Allocator + Copy, O: Observer<A> + Drop>(
@@ -69,6 +72,55 @@ pub fn take_all<A: Allocator + Copy, O: Observer<A> + Drop>(
     let done = one.take_all(program, picks, first);
     let done_again = other.take_all(program, picks, second);
     (done, done_again)
+}
+
+/// `tn_trace::Run::node` has one answer for one node.
+pub fn node<'a, A: Allocator + Copy, O: Observer<A> + Drop>(
+    one: &'a Run<A, O>,
+    other: &'a Run<A, O>,
+) -> (&'a Node<A>, &'a Node<A>)
+    requires { one.now.node ≡ other.now.node }
+    ensures { result.0.now ≡ result.1.now }
+{
+    (one.node(), other.node())
+}
+
+/// `tn_trace::Run::observer` has one answer for one observer.
+pub fn observer<'a, A: Allocator + Copy, O: Observer<A> + Drop>(
+    one: &'a Run<A, O>,
+    other: &'a Run<A, O>,
+) -> (&'a O, &'a O)
+    requires { one.now.observer ≡ other.now.observer }
+    ensures { result.0.now ≡ result.1.now }
+{
+    (one.observer(), other.observer())
+}
+
+/// `tn_trace::Run::journal` has one answer for one journal.
+pub fn journal<'a, A: Allocator + Copy, O: Observer<A> + Drop>(
+    one: &'a Run<A, O>,
+    other: &'a Run<A, O>,
+) -> (&'a [u32], &'a [u32])
+    requires { one.now.journal.items ≡ other.now.journal.items }
+    ensures { result.0.now ≡ result.1.now }
+{
+    (one.journal(), other.journal())
+}
+
+/// `tn_trace::Run::share` has one answer: both copies are the program's run by the same picks.
+pub fn share<A: Allocator + Copy, K: SharedSink<A> + Drop>(
+    one: &Run<A, Recorder<A, K>>,
+    other: &Run<A, Recorder<A, K>>,
+) -> (
+    Result<Run<A, Recorder<A, K>>, AllocError>,
+    Result<Run<A, Recorder<A, K>>, AllocError>,
+)
+    ghost at: { definition.Program × ℕ × List ℕ }
+    requires one { IsRun (HasRecorded K.keeps) at.0 at.1 at.2 one.now }
+    requires other { IsRun (HasRecorded K.keeps) at.0 at.1 at.2 other.now }
+    ensures { IfOk result.0 (λ r. IfOk result.1 (AreRuns (HasRecorded K.keeps) at.0 at.1 at.2 r)) }
+{
+    (one.share(), other.share())
 }
 
 /// `tn_trace::Run::into_journal` has one answer for one journal.

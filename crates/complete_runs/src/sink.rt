@@ -1,5 +1,5 @@
 // What a run keeps of messages.
-ghost use Rattle.std.specs.Prelude.{◌≡◌, List, OnOk};
+ghost use Rattle.std.specs.Prelude.{◌≡◌, List, IfOk, OnOk};
 ghost use Rattle.def_term.specs.Tree.{Tree};
 ghost use Rattle.def_run.specs.Listing.{Item as DefinedItem};
 ghost use Rattle.tn_term.specs.Views.{tree_of};
@@ -9,7 +9,7 @@ use std::alloc::{AllocError, Allocator};
 use tn_flags::Event;
 use tn_session::{EventText, Message};
 use tn_term::Term;
-use tn_trace::{Item, MessageSink};
+use tn_trace::{Item, MessageSink, SharedSink};
 
 /// `tn_trace::MessageSink::nothing` has one answer.
 pub fn nothing<A: Allocator + Copy, K: MessageSink<A> + Drop>(alloc: A) -> (K, K)
@@ -59,4 +59,18 @@ pub fn keep_message<A: Allocator + Copy, K: MessageSink<A> + Drop>(
     let first = one.keep_message(alloc, message.0, message.1, &mut text, given);
     let second = other.keep_message(alloc, message.0, message.1, &mut text, same_given);
     (first, second)
+}
+
+/// `tn_trace::SharedSink::share` has one answer.
+pub fn share<A: Allocator + Copy, K: SharedSink<A> + Drop>(
+    alloc: A,
+    one: &K,
+    other: &K,
+) -> (Result<K, AllocError>, Result<K, AllocError>)
+    ghost at: { List Tree }
+    requires first { K.keeps one.now at }
+    requires second { K.keeps other.now at }
+    ensures { IfOk result.0 (λ k. IfOk result.1 (AreKept K.keeps k)) }
+{
+    (one.share(alloc), other.share(alloc))
 }

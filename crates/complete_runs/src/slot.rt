@@ -16,7 +16,7 @@ use tn_flags::Command;
 use tn_script::Function;
 use tn_session::EventText;
 use tn_term::{Alive, Term};
-use tn_trace::{Item, MessageSink, Slot};
+use tn_trace::{Item, MessageSink, SharedSink, Slot};
 
 /// `tn_trace::Slot::tell` has one answer. It includes the slot afterwards, and what is handed out.
 pub fn tell<A: Allocator + Copy, K: MessageSink<A> + Drop>(
@@ -63,4 +63,18 @@ pub fn obey<A: Allocator + Copy, K: MessageSink<A> + Drop>(
     let first = one.obey(alloc, functions, living, command);
     let second = other.obey(alloc, functions, living, command);
     (first, second)
+}
+
+/// `tn_trace::Slot::share` has one answer.
+pub fn share<A: Allocator + Copy, K: SharedSink<A> + Drop>(
+    alloc: A,
+    one: &Slot<A, K>,
+    other: &Slot<A, K>,
+) -> (Result<Slot<A, K>, AllocError>, Result<Slot<A, K>, AllocError>)
+    ghost at: { Exports × alive.Alive × Track }
+    requires first { IsTracked K.keeps at.0 at.1 at.2 one.now }
+    requires second { IsTracked K.keeps at.0 at.1 at.2 other.now }
+    ensures { IfOk result.0 (λ s. IfOk result.1 (AreTrackedAlike K.keeps at.0 s)) }
+{
+    (one.share(alloc), other.share(alloc))
 }

@@ -1,8 +1,9 @@
 pub mod Lists
 pub mod Alike
+pub mod Passes
 pub mod Closed
 pub mod SameEntries
 mod Words
 mod Independent
-mod Settings
+pub mod Settings
 mod Rows

@@ -1,13 +1,16 @@
 -- Worked rows, computed: the two listings of a send that races with a command, and what is kept of them for each question.
 use Rattle.std.proofs.Common.{◌≡◌, ℕ, List, [], ◌∷◌, ◌++◌, true, false, codes, refl}
+use Rattle.std.specs.Fmt.{digits}
 use Rattle.def_term.specs.Tree.{Tree, pid}
+use Rattle.def_term.specs.Text.{is_written_bare}
 use Rattle.def_term.specs.Names.{Name, word}
 use Rattle.def_spec.specs.Matching.{Pattern, anything, only_term, in_tuple, no_patterns, and_pattern}
 use Rattle.def_script.specs.Program.{Program, send}
 use Rattle.def_run.specs.Run.{moves}
 use Rattle.def_run.specs.Round.{pass}
 use Rattle.def_run.proofs.Samples.{number, braces, function, entry, program, creates, sets}
-use Rattle.def_explore.specs.Rests.{all_messages, matches, kept_messages, kept_matches, kept_in, each_process}
+use Rattle.def_explore.specs.Output.{kept_listings, session_texts, closing_line, exploration_text}
+use Rattle.def_explore.specs.Rests.{all_messages, matches, kept_messages, kept_by_process, kept_matches, kept_in, each_process}
 use Rattle.def_explore.specs.Alike.{IsStateAlike}
 use Rattle.def_explore.specs.Answers.{RestEntry, IsJournalFrom, AreDistinct, shows}
 
@@ -91,3 +94,31 @@ shown = refl
 
 missed : shows (of_number 1) asked race untraced ≡ false
 missed = refl
+
+-- ---- text
+
+abbrev with_tracer : List (Name × Name)
+with_tracer = (codes "s", codes "t") ∷ []
+
+text_of_both : exploration_text with_tracer entries 12 true ≡ codes "== listing 1 of 2: journal 0 0 100 100 100\n== session s tracer t\n{trace,<0.100.0>,send_to_non_existing_process,1,<0.101.0>}\n== listing 2 of 2: journal 100 100 100 0 0\n== session s tracer t\n== explored\ncomplete: 12 states, 2 listings\n"
+unfolding is_written_bare digits
+text_of_both = refl
+
+-- the limit came first
+text_of_none : exploration_text with_tracer [] 1 false ≡ codes "== explored\nnot complete: 1 state was met\n"
+unfolding digits
+text_of_none = refl
+
+text_of_more : closing_line 2 1 false ≡ codes "not complete: 2 states were met\n"
+unfolding digits
+text_of_more = refl
+
+-- a script without forms is at rest at once
+text_of_nothing : exploration_text [] (record { kept = kept_messages []; journal = [] } ∷ []) 1 true ≡ codes "== listing 1 of 1: journal\n== explored\ncomplete: 1 state, 1 listing\n"
+unfolding digits
+text_of_nothing = refl
+
+-- the messages of 101 come after those of 100, whatever their order was
+text_by_process : session_texts with_tracer (kept_listings (kept_by_process ((((number 1 ∷ []) ∷ [] ∷ (number 2 ∷ number 3 ∷ []) ∷ [])) ∷ []))) ≡ codes "== session s tracer t\n1\n2\n3\n"
+unfolding is_written_bare digits
+text_by_process = refl

@@ -1,12 +1,15 @@
 -- What is promised of explorations (own).
 -- Depends on all definitions of an exploration.
-use Rattle.std.specs.Prelude.{◌≡◌, ◌<◌, ◌+◌, ℕ, Bool, true, List, ◌∷◌, [], ◌++◌, length}
+use Rattle.std.specs.Prelude.{◌≡◌, ◌<◌, ◌≤◌, ◌+◌, ℕ, Bool, true, List, ◌∷◌, [], ◌++◌, length}
+use Rattle.std.specs.List.{Contains}
+use Rattle.def_term.specs.Alive.{PROCESSES}
 use Rattle.def_term.specs.Names.{Name}
 use Rattle.def_spec.specs.Matching.{Pattern}
 use Rattle.def_script.specs.Program.{Program}
 use Rattle.def_run.specs.Run.{JOURNAL, moves}
+use Rattle.def_run.specs.Round.{pass}
 use Rattle.def_run.specs.Laws.{IsIdleAfter}
-use Rattle.def_explore.specs.Rests.{IsRestAfter, RunQuestion, matches, kept_matches}
+use Rattle.def_explore.specs.Rests.{IsMovingAfter, IsRestAfter, RunQuestion, matches, kept_matches}
 use Rattle.def_explore.specs.Alike.{IsStateAlike, HasStateOf, IsClosed, is_pick_among, AreIndependent, IsReduced}
 use Rattle.def_explore.specs.Lists.{OneOf, EachOf}
 use Rattle.def_explore.specs.Answers.{RestEntry, IsEntryFor, IsNoLonger, AreSound, AreComplete, AreCompleteBelow, AreShortest, HaveAllStates, Word, always, never, sometimes, IsTrueWord, AllShow}
@@ -32,6 +35,12 @@ AlikeHaveMovedAlike = (q : RunQuestion) (ss : List Name) (p : Program) (a b : Li
 -- an idle pick leads nowhere else
 abbrev pub IdleIsAlike : Type 0
 IdleIsAlike = (q : RunQuestion) (ss : List Name) (p : Program) (a : List ℕ) (pick : ℕ) → IsIdleAfter p a pick → IsStateAlike q ss p (a ++ pick ∷ []) a
+
+-- ---- picks that may move
+
+-- where at most 64 processes begin, a pick that moves is one of a pass
+abbrev pub MovesAreOfAPass : Type 0
+MovesAreOfAPass = (p : Program) (picks : List ℕ) (pick : ℕ) → length p.entries ≤ PROCESSES → IsMovingAfter p picks pick → Contains pass pick
 
 -- ---- closed journals
 

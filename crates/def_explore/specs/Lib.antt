@@ -3,4 +3,5 @@ pub mod Alike
 pub mod Lists
 pub mod Answers
 pub mod Settings
+pub mod Output
 pub mod Laws

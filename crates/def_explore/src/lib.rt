@@ -6,7 +6,7 @@
 #![tactic(auto)]
 
 ghost use Rattle.def_explore.specs.Laws.{AlikeGoesOn, AlikeAreIdleAlike, AlikeHaveMovedAlike};
-ghost use Rattle.def_explore.specs.Laws.{IdleIsAlike, MovesAreAlike};
+ghost use Rattle.def_explore.specs.Laws.{IdleIsAlike, MovesAreAlike, MovesAreOfAPass};
 ghost use Rattle.def_explore.specs.Laws.{ClosedJournalsHaveAll, ClosedJournalsAreComplete, ClosedJournalsAreShortest};
 ghost use Rattle.def_explore.specs.Laws.{EntriesAreDetermined};
 ghost use Rattle.def_explore.specs.Laws.{WordIsOne, EntriesShowAll};
@@ -21,6 +21,11 @@ pub fn alike_picks_go_on_alike()
     ensures moved { AlikeHaveMovedAlike }
     ensures still { IdleIsAlike }
     ensures moves { MovesAreAlike }
+{}
+
+/// Where at most 64 processes begin, a pick that moves is one of a pass.
+pub fn moves_are_of_a_pass()
+    ensures { MovesAreOfAPass }
 {}
 
 /// Journals that are closed under each pick have the states of all picks. So entries of those of them after which

@@ -13,13 +13,12 @@ use Rattle.def_run.proofs.Replay.{moves_bounded}
 use Rattle.def_run.proofs.Rounds.{round_is_in_order}
 use Rattle.tn_term.specs.Views.{alive_of}
 use Rattle.tn_trace.specs.Items.{AreTexts}
-use Rattle.tn_trace.specs.Recorders.{HasRecorded, HandsOutAnswer}
+use Rattle.tn_trace.specs.Recorders.{HasRecorded}
 use Rattle.tn_trace.specs.Follows.{Follows}
 use Rattle.tn_trace.specs.Bounds.{HasMoreBytes}
 use Rattle.tn_trace.specs.Transcripts.{bytes_in_all, listing_bytes, slot_lines}
 use Rattle.tn_trace.specs.Within.{EndsWithin}
 use Rattle.tn_trace.specs.declared.bound.MostBytes.{MostBytes}
-use Rattle.tn_trace.specs.declared.run.Extent.{Extent}
 use Rattle.tn_trace.specs.declared.run.Extent.TheVariants.{All, TooMuch}
 use Rattle.tn_trace.specs.declared.slot.Slot.{Slot}
 use Rattle.tn_trace.specs.declared.sinks.Lines.{Lines}
@@ -27,7 +26,6 @@ use Rattle.tn_trace.specs.declared.run.Run.{Run}
 use Rattle.tn_trace.specs.declared.recorder.Recorder.{Recorder}
 use Rattle.tn_trace.proofs.TranscriptLemmas.{lines_there}
 use Rattle.tn_trace.proofs.ListingBytes.{bytes_again, bytes_at_start, bytes_grow, longer_on}
-use Rattle.tn_trace.proofs.Passes.{round_followed}
 use Rattle.tn_trace.proofs.Within.{all_follow}
 use Rattle.std.proofs.lemmas.Bool.{cases_lt, false≢true}
 

@@ -4,6 +4,7 @@ pub mod Creations
 pub mod Moves
 pub mod NamedSessions
 pub mod Starts
+pub mod Copies
 pub mod OneSession
 pub mod RunSteps
 pub mod RecorderSteps

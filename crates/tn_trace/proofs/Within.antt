@@ -1,13 +1,13 @@
 -- Runs through more picks, whose observer may have so much.
 use Rattle.std.proofs.Common.{◌≡◌, ◌∙◌, ℕ, ◌+◌, ◌-◌, ◌<◌, ◌≤◌, List, [], ◌∷◌, ◌++◌, length, take, drop, get_or, Result, Ok, Err, IfOk, OnOk, refl, sym, ap, subst, append-nil, append_assoc, arith}
-use Rattle.std.proofs.lemmas.List.{take_all, take-append-drop}
+use Rattle.std.proofs.lemmas.List.{take-append-drop}
 use Rattle.std.specs.declared.alloc.AllocError.{AllocError}
 use Rattle.def_script.specs.Program.{Program}
 use Rattle.def_run.specs.Run.{moves}
 use Rattle.def_run.specs.Laws.{repeat_picks}
 use Rattle.tn_trace.specs.Runs.{IsRun, Steps}
 use Rattle.tn_trace.specs.Follows.{Follows, AddsFrom}
-use Rattle.tn_trace.specs.Within.{AreTaken, IsBounded, EndsWithin}
+use Rattle.tn_trace.specs.Within.{AreTaken, EndsWithin}
 use Rattle.tn_trace.specs.declared.run.Extent.{Extent}
 use Rattle.tn_trace.specs.declared.run.Extent.TheVariants.{All, TooMuch}
 use Rattle.tn_trace.specs.declared.run.PickOutcome.{PickOutcome}

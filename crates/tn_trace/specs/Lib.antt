@@ -15,3 +15,4 @@ pub mod Transcripts
 pub mod Follows
 pub mod Within
 pub mod Bounds
+pub mod Shares

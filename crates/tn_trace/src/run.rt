@@ -32,10 +32,10 @@ pub enum Extent {
 /// The node of a program, what looks on, the picks that moved, and how many may move.
 #[derive(Drop)]
 pub struct Run<A: Allocator, O> {
-    node: Node<A>,
+    pub(crate) node: Node<A>,
     pub(crate) observer: O,
     pub(crate) journal: Vec<u32, A>,
-    limit: usize,
+    pub(crate) limit: usize,
 }
 
 /// How many picks may move: at most the limit's number of them, and no more than a journal has entries.
@@ -208,6 +208,27 @@ impl<A: Allocator + Copy, O: Observer<A> + Drop> Run<A, O> {
     {
         self.take_within(program, picks, &NoBound, out)?;
         Ok(())
+    }
+
+    /// The node after the picks that moved.
+    pub fn node(&self) -> &Node<A>
+        ensures { result.now ≡ self.now.node }
+    {
+        &self.node
+    }
+
+    /// What looks on.
+    pub fn observer(&self) -> &O
+        ensures { result.now ≡ self.now.observer }
+    {
+        &self.observer
+    }
+
+    /// The picks that moved so far, in order.
+    pub fn journal(&self) -> &[u32]
+        ensures { result.now ≡ self.now.journal.items }
+    {
+        &self.journal
     }
 
     /// The picks that moved, in order.

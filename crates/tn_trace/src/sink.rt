@@ -47,3 +47,17 @@ pub trait MessageSink<A: Allocator> {
             IsHandedOut keeps gives number m self.old given.old given.new result }
         ensures event { event_in text.new ≡ event_in text.old };
 }
+
+/// What a run keeps of messages and replies, of which there can be one more.
+pub trait SharedSink<A: Allocator>: MessageSink<A> {
+    ghost use Rattle.std.specs.Prelude.{IfOk};
+    ghost use Rattle.tn_trace.specs.Shares.{KeepsAsMuch};
+
+    /// The same once more, which may have other owners.
+    ///
+    /// # Errors
+    ///
+    /// AllocError where memory was refused, or a count of owners is full.
+    fn share(&self, alloc: A) -> Result<Self, AllocError>
+        ensures { IfOk result (KeepsAsMuch Self.keeps self.now) };
+}
