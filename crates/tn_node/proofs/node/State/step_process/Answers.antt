@@ -1,5 +1,5 @@
 use Rattle.std.proofs.Common.{◌∙◌, ap, sym, Some, None}
-use Rattle.tn_node.specs.Worlds.{world_of, move_of}
+use Rattle.tn_node.specs.Worlds.{move_of}
 use Rattle.tn_node.specs.Nodes.{node_seen}
 use Rattle.tn_node.proofs.Picks.{process_pick}
 use Rattle.tn_node.proofs.node.State.step_process.Goals as goal
