@@ -91,7 +91,11 @@ fn lists_of<A: Allocator + Copy>(
 }
 
 impl<A: Allocator + Copy> SearchSink<A> for ProcessSink<A> {
-    ghost use Rattle.std.specs.Prelude.{true};
+    ghost use Rattle.std.specs.Prelude.{◌≡◌, List, IfOk, true};
+    ghost use Rattle.def_term.specs.Tree.{Tree};
+    ghost use Rattle.tn_trace.specs.Slots.{EachPair};
+    ghost use Rattle.tn_messages.specs.Kept.{kept_seen, kept_lists};
+    ghost use Rattle.tn_search.specs.Sinks.{AreOfProcesses};
 
     ghost is_by_process = { true };
 
@@ -103,7 +107,10 @@ impl<A: Allocator + Copy> SearchSink<A> for ProcessSink<A> {
         self.messages.add_to(hasher);
     }
 
-    fn gather(alloc: A, sinks: Vec<Self, A>) -> Result<KeptListings<A>, AllocError> {
+    fn gather(alloc: A, sinks: Vec<Self, A>) -> Result<KeptListings<A>, AllocError>
+        ensures { IfOk result (λ l. (mss : List (List Tree)) →
+            EachPair (λ ms k. AreOfProcesses k ms) mss sinks.items → kept_seen l ≡ kept_lists true mss) }
+    {
         Ok(KeptListings::ByProcess(lists_of(alloc, sinks)?))
     }
 }

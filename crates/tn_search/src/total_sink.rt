@@ -4,8 +4,10 @@ ghost use Rattle.tn_messages.specs.Kept.{trees_seen, lists_seen};
 
 use crate::search_sink::SearchSink;
 use std::alloc::{AllocError, Allocator};
-use std::hash::{FoldHasher, Hash};
-use tn_messages::{KeptListings, MessageList, SharedMessage, same_messages, share_messages};
+use std::hash::FoldHasher;
+use tn_messages::{
+    KeptListings, MessageList, SharedMessage, add_messages, same_messages, share_messages,
+};
 use tn_session::{EventText, Message};
 use tn_term::Term;
 use tn_text::WrittenTerm;
@@ -85,7 +87,11 @@ fn lists_of<A: Allocator + Copy>(
 }
 
 impl<A: Allocator + Copy> SearchSink<A> for TotalSink<A> {
-    ghost use Rattle.std.specs.Prelude.{false};
+    ghost use Rattle.std.specs.Prelude.{◌≡◌, List, IfOk, false};
+    ghost use Rattle.def_term.specs.Tree.{Tree};
+    ghost use Rattle.tn_trace.specs.Slots.{EachPair};
+    ghost use Rattle.tn_messages.specs.Kept.{kept_seen, kept_lists};
+    ghost use Rattle.tn_search.specs.Sinks.{AreMessages};
 
     ghost is_by_process = { false };
 
@@ -94,10 +100,13 @@ impl<A: Allocator + Copy> SearchSink<A> for TotalSink<A> {
     }
 
     fn add_to(&self, hasher: &mut FoldHasher) {
-        self.messages.hash(hasher);
+        add_messages(&self.messages, hasher);
     }
 
-    fn gather(alloc: A, sinks: Vec<Self, A>) -> Result<KeptListings<A>, AllocError> {
+    fn gather(alloc: A, sinks: Vec<Self, A>) -> Result<KeptListings<A>, AllocError>
+        ensures { IfOk result (λ l. (mss : List (List Tree)) → EachPair (λ ms k. AreMessages k ms) mss sinks.items →
+            kept_seen l ≡ kept_lists false mss) }
+    {
         Ok(KeptListings::Total(lists_of(alloc, sinks)?))
     }
 }
