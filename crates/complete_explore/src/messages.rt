@@ -105,7 +105,7 @@ pub fn add<A: Allocator + Copy>(
     requires first { AreByProcess one.old at }
     requires second { AreByProcess other.old at }
     requires messages { shared_tree message ≡ shared_tree same_message }
-    ensures { OnOk result.0 (OnOk result.1 (AreBothByProcess (at ++ shared_tree message.entry ∷ []) one.new other.new)) }
+    ensures { OnOk result.0 (OnOk result.1 (AreBothByProcess (at ++ shared_tree message ∷ []) one.new other.new)) }
 {
     let first = one.add(alloc, message);
     let second = other.add(alloc, same_message);
