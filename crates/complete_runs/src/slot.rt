@@ -70,7 +70,10 @@ pub fn share<A: Allocator + Copy, K: SharedSink<A> + Drop>(
     alloc: A,
     one: &Slot<A, K>,
     other: &Slot<A, K>,
-) -> (Result<Slot<A, K>, AllocError>, Result<Slot<A, K>, AllocError>)
+) -> (
+    Result<Slot<A, K>, AllocError>,
+    Result<Slot<A, K>, AllocError>,
+)
     ghost at: { Exports × alive.Alive × Track }
     requires first { IsTracked K.keeps at.0 at.1 at.2 one.now }
     requires second { IsTracked K.keeps at.0 at.1 at.2 other.now }
