@@ -1,1 +1,2 @@
 pub mod SameEntries
+pub mod Both

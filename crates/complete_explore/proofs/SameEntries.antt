@@ -24,11 +24,3 @@ module _ {A M S : Type 0} (Journal : S → List ℕ) (IsOf : S → Query → Typ
         are_determined a.question a.sessions a.program a.before (answer_entries Seen e.answers.entries) (answer_entries Seen f.answers.entries) x.sound (x.shortest all) y.sound (y.shortest whole) (y.complete whole),
         are_determined a.question a.sessions a.program a.before (answer_entries Seen f.answers.entries) (answer_entries Seen e.answers.entries) y.sound (y.shortest whole) x.sound (x.shortest all) (x.complete all),
       )
-
--- two that tried all states of one query
-pub alike_of_query : {A M : Type 0} (Seen : M → KeptMessages) (max_states : ℕ) (a : Query) (e f : Exploration A M) → Explores a (answer_entries Seen e.answers.entries) max_states e.states e.is_complete
-    → Explores a (answer_entries Seen f.answers.entries) max_states f.states f.is_complete → ExploreAlike Seen e f
-alike_of_query Seen max_states a e f x y all whole = (
-  are_determined a.question a.sessions a.program a.before (answer_entries Seen e.answers.entries) (answer_entries Seen f.answers.entries) x.sound (x.shortest all) y.sound (y.shortest whole) (y.complete whole),
-  are_determined a.question a.sessions a.program a.before (answer_entries Seen f.answers.entries) (answer_entries Seen e.answers.entries) y.sound (y.shortest whole) x.sound (x.shortest all) (x.complete all),
-)

@@ -6,7 +6,7 @@ use Rattle.def_explore.specs.Rests.{KeptMessages}
 use Rattle.def_explore.specs.Laws.{HaveTheSame}
 use Rattle.tn_explore.specs.declared.search.Exploration.{Exploration}
 use Rattle.tn_explore.specs.Searches.{answer_entries}
-use Rattle.tn_messages.specs.Kept.{AreByProcess}
+use Rattle.tn_messages.specs.MessageViews.{AreByProcess}
 use Rattle.tn_messages.specs.declared.messages_by_process.MessagesByProcess.{MessagesByProcess}
 
 -- where both tried all states, each has the entries of the other

@@ -2,7 +2,7 @@
 ghost use Rattle.std.specs.Prelude.{◌≡◌, [], ◌∷◌, ◌++◌, List, IfOk, OnOk};
 ghost use Rattle.def_term.specs.Tree.{Tree};
 ghost use Rattle.tn_text.specs.WrittenTrees.{written_tree};
-ghost use Rattle.tn_messages.specs.Kept.{shared_tree, trees_seen, lists_seen, AreByProcess};
+ghost use Rattle.tn_messages.specs.MessageViews.{message_tree, trees_seen, lists_seen, AreByProcess};
 ghost use Rattle.complete_explore.specs.Explorations.{AreBothByProcess};
 
 use std::alloc::{AllocError, Allocator};
@@ -18,7 +18,7 @@ pub fn new<A: Allocator>(
     other: WrittenTerm<A>,
 ) -> (SharedMessage<A>, SharedMessage<A>)
     requires { written_tree one ≡ written_tree other }
-    ensures { shared_tree result.0 ≡ shared_tree result.1 }
+    ensures { message_tree result.0 ≡ message_tree result.1 }
 {
     let first = SharedMessage::new(one);
     let second = SharedMessage::new(other);
@@ -29,9 +29,12 @@ pub fn new<A: Allocator>(
 pub fn share<A: Allocator>(
     one: &SharedMessage<A>,
     other: &SharedMessage<A>,
-) -> (Result<SharedMessage<A>, AllocError>, Result<SharedMessage<A>, AllocError>)
-    requires { shared_tree one.now ≡ shared_tree other.now }
-    ensures { IfOk result.0 (λ m. IfOk result.1 (λ n. shared_tree m ≡ shared_tree n)) }
+) -> (
+    Result<SharedMessage<A>, AllocError>,
+    Result<SharedMessage<A>, AllocError>,
+)
+    requires { message_tree one.now ≡ message_tree other.now }
+    ensures { IfOk result.0 (λ m. IfOk result.1 (λ n. message_tree m ≡ message_tree n)) }
 {
     (one.share(), other.share())
 }
@@ -41,7 +44,7 @@ pub fn text<'a, A: Allocator>(
     one: &'a SharedMessage<A>,
     other: &'a SharedMessage<A>,
 ) -> (&'a [u8], &'a [u8])
-    requires { shared_tree one.now ≡ shared_tree other.now }
+    requires { message_tree one.now ≡ message_tree other.now }
     ensures { result.0.now ≡ result.1.now }
 {
     (one.text(), other.text())
@@ -52,7 +55,7 @@ pub fn pid<A: Allocator>(
     one: &SharedMessage<A>,
     other: &SharedMessage<A>,
 ) -> (Option<u32>, Option<u32>)
-    requires { shared_tree one.now ≡ shared_tree other.now }
+    requires { message_tree one.now ≡ message_tree other.now }
     ensures { result.0 ≡ result.1 }
 {
     (one.pid(), other.pid())
@@ -63,7 +66,10 @@ pub fn share_messages<A: Allocator + Copy>(
     alloc: A,
     one: &MessageList<A>,
     other: &MessageList<A>,
-) -> (Result<MessageList<A>, AllocError>, Result<MessageList<A>, AllocError>)
+) -> (
+    Result<MessageList<A>, AllocError>,
+    Result<MessageList<A>, AllocError>,
+)
     requires { trees_seen one.now ≡ trees_seen other.now }
     ensures { IfOk result.0 (λ v. IfOk result.1 (λ w. trees_seen v ≡ trees_seen w)) }
 {
@@ -90,7 +96,10 @@ pub fn same_messages<A: Allocator>(
 pub fn none<A: Allocator + Copy>(alloc: A) -> (MessagesByProcess<A>, MessagesByProcess<A>)
     ensures { AreBothByProcess [] result.0 result.1 }
 {
-    (MessagesByProcess::none(alloc), MessagesByProcess::none(alloc))
+    (
+        MessagesByProcess::none(alloc),
+        MessagesByProcess::none(alloc),
+    )
 }
 
 /// `tn_messages::MessagesByProcess::add` has one answer: what is kept afterwards.
@@ -104,8 +113,8 @@ pub fn add<A: Allocator + Copy>(
     ghost at: { List Tree }
     requires first { AreByProcess one.old at }
     requires second { AreByProcess other.old at }
-    requires messages { shared_tree message ≡ shared_tree same_message }
-    ensures { OnOk result.0 (OnOk result.1 (AreBothByProcess (at ++ shared_tree message.entry ∷ []) one.new other.new)) }
+    requires messages { message_tree message ≡ message_tree same_message }
+    ensures { OnOk result.0 (OnOk result.1 (AreBothByProcess (at ++ message_tree message ∷ []) one.new other.new)) }
 {
     let first = one.add(alloc, message);
     let second = other.add(alloc, same_message);

@@ -20,5 +20,7 @@ pub fn share<A: Allocator + Copy, K: SharedSink<A> + Drop>(
     requires other { HasRecorded K.keeps other.now at.0 at.1 }
     ensures { IfOk result.0 (λ r. IfOk result.1 (AreRecorders K.keeps at.0 at.1 r)) }
 {
-    (one.share(), other.share())
+    let first = one.share();
+    let second = other.share();
+    (first, second)
 }

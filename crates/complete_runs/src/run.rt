@@ -120,7 +120,9 @@ pub fn share<A: Allocator + Copy, K: SharedSink<A> + Drop>(
     requires other { IsRun (HasRecorded K.keeps) at.0 at.1 at.2 other.now }
     ensures { IfOk result.0 (λ r. IfOk result.1 (AreRuns (HasRecorded K.keeps) at.0 at.1 at.2 r)) }
 {
-    (one.share(), other.share())
+    let first = one.share();
+    let second = other.share();
+    (first, second)
 }
 
 /// `tn_trace::Run::into_journal` has one answer for one journal.

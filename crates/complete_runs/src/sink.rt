@@ -72,5 +72,7 @@ pub fn share<A: Allocator + Copy, K: SharedSink<A> + Drop>(
     requires second { K.keeps other.now at }
     ensures { IfOk result.0 (λ k. IfOk result.1 (AreKept K.keeps k)) }
 {
-    (one.share(alloc), other.share(alloc))
+    let first = one.share(alloc);
+    let second = other.share(alloc);
+    (first, second)
 }

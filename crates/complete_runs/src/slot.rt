@@ -70,11 +70,16 @@ pub fn share<A: Allocator + Copy, K: SharedSink<A> + Drop>(
     alloc: A,
     one: &Slot<A, K>,
     other: &Slot<A, K>,
-) -> (Result<Slot<A, K>, AllocError>, Result<Slot<A, K>, AllocError>)
+) -> (
+    Result<Slot<A, K>, AllocError>,
+    Result<Slot<A, K>, AllocError>,
+)
     ghost at: { Exports × alive.Alive × Track }
     requires first { IsTracked K.keeps at.0 at.1 at.2 one.now }
     requires second { IsTracked K.keeps at.0 at.1 at.2 other.now }
     ensures { IfOk result.0 (λ s. IfOk result.1 (AreTrackedAlike K.keeps at.0 s)) }
 {
-    (one.share(alloc), other.share(alloc))
+    let first = one.share(alloc);
+    let second = other.share(alloc);
+    (first, second)
 }

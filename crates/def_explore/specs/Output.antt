@@ -29,23 +29,23 @@ session_texts (s ∷ ss) [] = []
 session_texts (s ∷ ss) (ms ∷ mss) = listing_text s.0 s.1 ms ++ session_texts ss mss
 
 -- an entry of so many, with its number
-abbrev pub entry_text : List (Name × Name) → ℕ → ℕ → RestEntry → List ℕ
-entry_text ss count n e = entry_line n count e.journal ++ session_texts ss (kept_listings e.kept)
+abbrev pub rest_entry_text : List (Name × Name) → ℕ → ℕ → RestEntry → List ℕ
+rest_entry_text ss count n e = entry_line n count e.journal ++ session_texts ss (kept_listings e.kept)
 
 -- entries, the first of them with this number
-abbrev pub entry_texts : List (Name × Name) → ℕ → ℕ → List RestEntry → List ℕ
-entry_texts ss count n [] = []
-entry_texts ss count n (e ∷ es) = entry_text ss count n e ++ entry_texts ss count (suc n) es
+abbrev pub rest_entry_texts : List (Name × Name) → ℕ → ℕ → List RestEntry → List ℕ
+rest_entry_texts ss count n [] = []
+rest_entry_texts ss count n (e ∷ es) = rest_entry_text ss count n e ++ rest_entry_texts ss count (suc n) es
 
 -- so many of them, with an s where they aren't one
-abbrev pub counted : ℕ → List ℕ → List ℕ
-counted n word = decimal n ++ 32 ∷ word ++ (if n == 1 then [] else codes "s")
+abbrev pub count_text : ℕ → List ℕ → List ℕ
+count_text n word = decimal n ++ 32 ∷ word ++ (if n == 1 then [] else codes "s")
 
 -- whether all states were tried, how many were met, and how many listings there are
 abbrev pub closing_line : (states listings : ℕ) → Bool → List ℕ
-closing_line states listings true = codes "complete: " ++ counted states (codes "state") ++ codes ", " ++ counted listings (codes "listing") ++ 10 ∷ []
-closing_line states listings false = codes "not complete: " ++ counted states (codes "state") ++ (if states == 1 then codes " was met\n" else codes " were met\n")
+closing_line states listings true = codes "complete: " ++ count_text states (codes "state") ++ codes ", " ++ count_text listings (codes "listing") ++ 10 ∷ []
+closing_line states listings false = codes "not complete: " ++ count_text states (codes "state") ++ (if states == 1 then codes " was met\n" else codes " were met\n")
 
 -- the entries, and what was explored
 abbrev pub exploration_text : List (Name × Name) → List RestEntry → ℕ → Bool → List ℕ
-exploration_text ss es states whole = entry_texts ss (length es) 1 es ++ codes "== explored\n" ++ closing_line states (length es) whole
+exploration_text ss es states whole = rest_entry_texts ss (length es) 1 es ++ codes "== explored\n" ++ closing_line states (length es) whole

@@ -6,7 +6,7 @@ use Rattle.std.specs.declared.vec.Vec.{Vec}
 use Rattle.def_term.proofs.Same.{same-is, same-self}
 use Rattle.def_term.specs.Order.{same}
 use Rattle.def_explore.specs.Rests.{kept_messages, kept_by_process}
-use Rattle.tn_messages.specs.Kept.{shared_tree, same_message, trees_seen, lists_seen, kept_seen}
+use Rattle.tn_messages.specs.MessageViews.{message_tree, same_message, trees_seen, lists_seen, kept_seen}
 use Rattle.tn_messages.specs.declared.shared_message.SharedMessage.{SharedMessage}
 use Rattle.tn_messages.specs.declared.kept_listings.KeptListings.{KeptListings}
 use Rattle.tn_messages.specs.declared.kept_listings.KeptListings.TheVariants.{Total, ByProcess}
@@ -38,8 +38,8 @@ each_holds test f is (x ∷ xs) (y ∷ ys) h =
 pub lists_test : {X Y A : Type 0} (test : X → X → Bool) (f : X → Y) → IsTestOf test f → IsTestOf (λ (v w : Vec X A). pointwise test v.items w.items) (λ v. map f v.items)
 lists_test test f is = record { same = λ v w h. each_same test f is v.items w.items h; holds = λ v w h. each_holds test f is v.items w.items h }
 
-message_test : {A : Type 0} → IsTestOf (same_message {A = A}) shared_tree
-message_test = record { same = λ m n h. same-is (shared_tree m) (shared_tree n) h; holds = λ m n h. ap (same (shared_tree m)) (sym h) ∙ same-self (shared_tree m) }
+message_test : {A : Type 0} → IsTestOf (same_message {A = A}) message_tree
+message_test = record { same = λ m n h. same-is (message_tree m) (message_tree n) h; holds = λ m n h. ap (same (message_tree m)) (sym h) ∙ same-self (message_tree m) }
 
 -- what a test answers
 pub test_is : {X Y : Type 0} (test : X → X → Bool) (f : X → Y) → IsTestOf test f → (x y : X) (b : Bool) → b ≡ test x y → IsTrue b ↔ (f x ≡ f y)
@@ -49,7 +49,7 @@ test_is test f is x y b says = (λ h. is.same x y (sym says ∙ h), λ e. says �
 
 module _ {A : Type 0} where
   pub trees_test : IsTestOf (λ (v w : Vec (SharedMessage A) A). pointwise same_message v.items w.items) trees_seen
-  trees_test = lists_test same_message shared_tree message_test
+  trees_test = lists_test same_message message_tree message_test
 
   pub processes_test : IsTestOf (λ (v w : Vec (Vec (SharedMessage A) A) A). pointwise (λ x y. pointwise same_message x.items y.items) v.items w.items) lists_seen
   processes_test = lists_test (λ (x y : Vec (SharedMessage A) A). pointwise same_message x.items y.items) trees_seen trees_test

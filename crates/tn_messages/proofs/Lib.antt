@@ -1,5 +1,5 @@
 pub mod Seconds
 pub mod Processes
-pub mod Kept
+pub mod SessionLists
 pub mod Equal
 pub mod Additions

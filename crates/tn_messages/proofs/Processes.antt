@@ -6,14 +6,14 @@ use Rattle.std.proofs.lemmas.Bool.Decides.{nat_tests}
 use Rattle.def_term.specs.Tree.{Tree, int, atom, pid, tuple, list, none, more}
 use Rattle.def_run.specs.Round.{pass_from}
 use Rattle.def_explore.specs.Rests.{is_of_process, each_process, all_pids}
-use Rattle.tn_messages.specs.Kept.{process_in, place_of_pid, place_in}
+use Rattle.tn_messages.specs.MessageViews.{message_process, pid_place, message_place}
 
 -- whether a message is of a process, by the process that it is of
 abbrev is_process : Option ℕ → ℕ → Bool
 is_process None n = false
 is_process (Some m) n = m == n
 
-of_process : (n : ℕ) (t : Tree) → is_of_process n t ≡ is_process (process_in t) n
+of_process : (n : ℕ) (t : Tree) → is_of_process n t ≡ is_process (message_process t) n
 of_process n (int m) = refl
 of_process n (atom s) = refl
 of_process n (pid m) = refl
@@ -65,7 +65,7 @@ passed_one ms m (suc k) n (suc i) below h =
 
 -- ---- with its place
 
-none_of : (o : Option ℕ) → place_of_pid o ≡ None → (j : ℕ) → j < 64 → is_process o (100 + j) ≡ false
+none_of : (o : Option ℕ) → pid_place o ≡ None → (j : ℕ) → j < 64 → is_process o (100 + j) ≡ false
 none_of None e j below = refl
 none_of (Some n) e j below = elim (nat_lt n 100) as (λ b. nat_lt n 100 ≡ b → cond b None (cond (nat_lt (n - 100) 64) (Some (n - 100)) None) ≡ None → (n == 100 + j) ≡ false) [
   | true ↦ λ low same. grind (arith, nat_tests, low)
@@ -75,7 +75,7 @@ none_of (Some n) e j below = elim (nat_lt n 100) as (λ b. nat_lt n 100 ≡ b �
   ] refl same
 ] refl e
 
-some_of : (o : Option ℕ) (i : ℕ) → place_of_pid o ≡ Some i → (i < 64) × ((j : ℕ) → is_process o j ≡ (100 + i == j))
+some_of : (o : Option ℕ) (i : ℕ) → pid_place o ≡ Some i → (i < 64) × ((j : ℕ) → is_process o j ≡ (100 + i == j))
 some_of None i e = cc
 some_of (Some n) i e = elim (nat_lt n 100) as (λ b. nat_lt n 100 ≡ b → cond b None (cond (nat_lt (n - 100) 64) (Some (n - 100)) None) ≡ Some i → (i < 64) × ((j : ℕ) → (n == j) ≡ (100 + i == j))) [
   | true ↦ λ low same. cc
@@ -90,11 +90,11 @@ some_of (Some n) i e = elim (nat_lt n 100) as (λ b. nat_lt n 100 ≡ b → cond
   ] refl same
 ] refl e
 
-pub none_more : (ms : List Tree) (m : Tree) → place_in m ≡ None → each_process all_pids (ms ++ m ∷ []) ≡ each_process all_pids ms
-none_more ms m e = missed_all ms m 64 100 (λ j below. of_process (100 + j) m ∙ none_of (process_in m) e j below)
+pub none_more : (ms : List Tree) (m : Tree) → message_place m ≡ None → each_process all_pids (ms ++ m ∷ []) ≡ each_process all_pids ms
+none_more ms m e = missed_all ms m 64 100 (λ j below. of_process (100 + j) m ∙ none_of (message_process m) e j below)
 
-pub one_more : (ms : List Tree) (m : Tree) (i : ℕ) → place_in m ≡ Some i → (i < 64) × (each_process all_pids (ms ++ m ∷ []) ≡ set (each_process all_pids ms) i (get_or (each_process all_pids ms) i [] ++ m ∷ []))
-one_more ms m i e = let h : (i < 64) × ((j : ℕ) → is_process (process_in m) j ≡ (100 + i == j)) = some_of (process_in m) i e in (h.0, passed_one ms m 64 100 i h.0 (λ j. of_process j m ∙ h.1 j))
+pub one_more : (ms : List Tree) (m : Tree) (i : ℕ) → message_place m ≡ Some i → (i < 64) × (each_process all_pids (ms ++ m ∷ []) ≡ set (each_process all_pids ms) i (get_or (each_process all_pids ms) i [] ++ m ∷ []))
+one_more ms m i e = let h : (i < 64) × ((j : ℕ) → is_process (message_process m) j ≡ (100 + i == j)) = some_of (message_process m) i e in (h.0, passed_one ms m 64 100 i h.0 (λ j. of_process j m ∙ h.1 j))
 
 pass_length : (k n : ℕ) → length (pass_from k n) ≡ k
 pass_length zero n = refl

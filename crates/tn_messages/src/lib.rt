@@ -1,7 +1,7 @@
 //! Messages that many states keep: a message with several owners, and what is kept of the messages of some sessions.
 //!
-//! Depends on tn_text and def_explore. Promises that one more owner of a message takes a count, and that what is kept of
-//! two runs is equal, and is hashed alike, where the definitions keep the same.
+//! Depends on tn_text and def_explore. Promises that one more owner of a message takes a count, and that what is
+//! kept of two runs is equal, and is hashed alike, where the definitions keep the same.
 #![tactic(auto)]
 
 mod kept_listings;

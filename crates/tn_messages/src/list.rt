@@ -1,6 +1,6 @@
 // The messages of a session in their order.
 ghost use Rattle.std.specs.Prelude.{◌≡◌, ◌↔◌, IfOk, IsTrue};
-ghost use Rattle.tn_messages.specs.Kept.{trees_seen, lists_seen};
+ghost use Rattle.tn_messages.specs.MessageViews.{trees_seen, lists_seen};
 
 use crate::shared_message::SharedMessage;
 use std::alloc::{AllocError, Allocator};

@@ -1,7 +1,7 @@
 // The messages of a session by process.
 ghost use Rattle.std.specs.Prelude.{◌≡◌, [], IfOk};
 ghost use Rattle.def_explore.specs.Rests.{each_process, all_pids};
-ghost use Rattle.tn_messages.specs.Kept.{lists_seen, lists_or_empty, place_of_pid};
+ghost use Rattle.tn_messages.specs.MessageViews.{lists_seen, lists_or_empty, pid_place};
 
 use crate::list::{MessageList, same_lists, share_messages};
 use crate::shared_message::SharedMessage;
@@ -47,7 +47,7 @@ fn share_lists<A: Allocator + Copy>(
 
 /// The place of a pid among those that a run gives.
 fn place_of_pid(pid: Option<u32>) -> Option<usize>
-    ensures { result ≡ place_of_pid pid }
+    ensures { result ≡ pid_place pid }
 {
     let pid = pid?;
     if pid < FIRST_PID {
@@ -75,7 +75,7 @@ impl<A: Allocator + Copy> MessagesByProcess<A> {
     ghost use Rattle.std.specs.Prelude.{◌≡◌, [], ◌∷◌, ◌++◌, List, IfOk, IsTrue};
     ghost use Rattle.def_term.specs.Tree.{Tree};
     ghost use Rattle.def_explore.specs.Rests.{each_process, all_pids};
-    ghost use Rattle.tn_messages.specs.Kept.{shared_tree, lists_seen, AreByProcess};
+    ghost use Rattle.tn_messages.specs.MessageViews.{message_tree, lists_seen, AreByProcess};
 
     /// No message.
     pub fn none(alloc: A) -> MessagesByProcess<A>
@@ -93,7 +93,7 @@ impl<A: Allocator + Copy> MessagesByProcess<A> {
     /// AllocError where memory was refused.
     pub fn add(&mut self, alloc: A, message: SharedMessage<A>) -> Result<(), AllocError>
         ensures { IfOk result (λ _. (ms : List Tree) →
-            AreByProcess self.old ms → AreByProcess self.new (ms ++ shared_tree message ∷ [])) }
+            AreByProcess self.old ms → AreByProcess self.new (ms ++ message_tree message ∷ [])) }
     {
         let Some(place) = place_of_pid(message.pid()) else {
             return Ok(());

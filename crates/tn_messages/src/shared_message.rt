@@ -2,7 +2,7 @@
 ghost use Rattle.std.specs.Prelude.{◌≡◌};
 ghost use Rattle.def_term.specs.Tree as Tree;
 ghost use Rattle.tn_term.specs.Views.{tree_of, trees_of};
-ghost use Rattle.tn_messages.specs.Kept.{process_in};
+ghost use Rattle.tn_messages.specs.MessageViews.{message_process};
 
 use std::alloc::{AllocError, Allocator};
 use std::hash::{Hash, Hasher};
@@ -27,7 +27,7 @@ fn pid_in<A: Allocator>(term: &Term<A>) -> Option<u32>
 
 /// The number of the pid that is the second of some terms.
 fn second_pid<A: Allocator>(items: &[Term<A>]) -> Option<u32>
-    ensures { result ≡ process_in (Tree.tuple (trees_of items.now)) }
+    ensures { result ≡ message_process (Tree.tuple (trees_of items.now)) }
 {
     if items.len() < 2 {
         return None;
@@ -37,7 +37,7 @@ fn second_pid<A: Allocator>(items: &[Term<A>]) -> Option<u32>
 
 /// The number of the pid that is the second element of a tuple.
 fn pid_of_message<A: Allocator>(term: &Term<A>) -> Option<u32>
-    ensures { result ≡ process_in (tree_of term.now) }
+    ensures { result ≡ message_process (tree_of term.now) }
 {
     match term {
         Term::Tuple(items) => second_pid(items),
@@ -49,18 +49,18 @@ impl<A: Allocator> SharedMessage<A> {
     ghost use Rattle.std.specs.Prelude.{◌≡◌, IfOk};
     ghost use Rattle.def_term.specs.Text.{w};
     ghost use Rattle.tn_text.specs.WrittenTrees.{written_tree};
-    ghost use Rattle.tn_messages.specs.Kept.{process_in, shared_tree};
+    ghost use Rattle.tn_messages.specs.MessageViews.{message_process, message_tree};
 
     /// The message, which has one owner more.
     pub fn new(message: WrittenTerm<A>) -> SharedMessage<A>
-        ensures { shared_tree result ≡ written_tree message }
+        ensures { message_tree result ≡ written_tree message }
     {
         SharedMessage { message }
     }
 
     /// The same message with one owner more. It is refused only where the count of owners is full.
     pub fn share(&self) -> Result<SharedMessage<A>, AllocError>
-        ensures { IfOk result (λ m. shared_tree m ≡ shared_tree self.now) }
+        ensures { IfOk result (λ m. message_tree m ≡ message_tree self.now) }
     {
         Ok(SharedMessage {
             message: self.message.share()?,
@@ -69,14 +69,14 @@ impl<A: Allocator> SharedMessage<A> {
 
     /// The message's text.
     pub fn text(&self) -> &[u8]
-        ensures { result.now ≡ w (shared_tree self.now) }
+        ensures { result.now ≡ w (message_tree self.now) }
     {
         self.message.text()
     }
 
     /// The pid of the process that the message is of.
     pub fn pid(&self) -> Option<u32>
-        ensures { result ≡ process_in (shared_tree self.now) }
+        ensures { result ≡ message_process (message_tree self.now) }
     {
         pid_of_message(self.message.term())
     }
@@ -84,7 +84,7 @@ impl<A: Allocator> SharedMessage<A> {
 
 impl<A: Allocator> PartialEq for SharedMessage<A> {
     ghost use Rattle.std.specs.Cmp.{partial_equiv_from_equiv};
-    ghost use Rattle.tn_messages.specs.Kept.{same_message};
+    ghost use Rattle.tn_messages.specs.MessageViews.{same_message};
     ghost use Rattle.tn_messages.specs.Equality.{same_message_equiv};
 
     ghost eq = { same_message };
@@ -103,7 +103,7 @@ impl<A: Allocator> Eq for SharedMessage<A> {
 }
 
 impl<A: Allocator> Hash for SharedMessage<A> {
-    ghost use Rattle.tn_messages.specs.Kept.{message_writes};
+    ghost use Rattle.tn_messages.specs.MessageViews.{message_writes};
     ghost use Rattle.tn_messages.specs.Equality.{same_messages_write_the_same};
 
     ghost hash_input = { message_writes };

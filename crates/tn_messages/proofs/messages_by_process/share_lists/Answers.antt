@@ -1,6 +1,6 @@
 use Rattle.std.proofs.Common.{ap, ◌∙◌, map, arith}
 use Rattle.std.proofs.lemmas.List.{take_all}
-use Rattle.tn_messages.specs.Kept.{trees_seen}
+use Rattle.tn_messages.specs.MessageViews.{trees_seen}
 use Rattle.tn_messages.proofs.messages_by_process.share_lists.Goals as goal
 
 pub returns : goal.returns

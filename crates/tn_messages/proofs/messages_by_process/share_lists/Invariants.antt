@@ -1,5 +1,5 @@
 use Rattle.std.proofs.Common.{◌≡◌, map, take}
-use Rattle.tn_messages.specs.Kept.{trees_seen}
+use Rattle.tn_messages.specs.MessageViews.{trees_seen}
 use Rattle.tn_messages.proofs.messages_by_process.share_lists.Given as goal
 
 abbrev pub invariant-loop-messages : goal.invariant-loop-messages

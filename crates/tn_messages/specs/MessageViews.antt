@@ -15,35 +15,35 @@ use Rattle.tn_messages.specs.declared.kept_listings.KeptListings.TheVariants.{To
 
 -- ---- one message
 
-abbrev pub shared_tree : {A : Type 0} → SharedMessage A → Tree
-shared_tree m = written_tree m.message
+abbrev pub message_tree : {A : Type 0} → SharedMessage A → Tree
+message_tree m = written_tree m.message
 
 -- the number of the pid that is the second element: {trace,Pid,..}
-abbrev pub process_in : Tree → Option ℕ
-process_in (tuple (more t (more (pid n) ts))) = Some n
-process_in _ = None
+abbrev pub message_process : Tree → Option ℕ
+message_process (tuple (more t (more (pid n) ts))) = Some n
+message_process _ = None
 
 -- the place of a pid among those that a run gives
-abbrev pub place_of_pid : Option ℕ → Option ℕ
-place_of_pid None = None
-place_of_pid (Some n) = if nat_lt n FIRST_PID then None else if nat_lt (n - FIRST_PID) PROCESSES then Some (n - FIRST_PID) else None
+abbrev pub pid_place : Option ℕ → Option ℕ
+pid_place None = None
+pid_place (Some n) = if nat_lt n FIRST_PID then None else if nat_lt (n - FIRST_PID) PROCESSES then Some (n - FIRST_PID) else None
 
 -- that of the process that a message is of
-abbrev pub place_in : Tree → Option ℕ
-place_in t = place_of_pid (process_in t)
+abbrev pub message_place : Tree → Option ℕ
+message_place t = pid_place (message_process t)
 
 -- both are the same message
 abbrev pub same_message : {A : Type 0} → SharedMessage A → SharedMessage A → Bool
-same_message m n = same (shared_tree m) (shared_tree n)
+same_message m n = same (message_tree m) (message_tree n)
 
 -- a hash is of its text
 abbrev pub message_writes : {A : Type 0} → SharedMessage A → List (List ℕ)
-message_writes m = w (shared_tree m) ∷ []
+message_writes m = w (message_tree m) ∷ []
 
 -- ---- messages of sessions
 
 abbrev pub trees_seen : {A : Type 0} → Vec (SharedMessage A) A → List Tree
-trees_seen v = map shared_tree v.items
+trees_seen v = map message_tree v.items
 
 abbrev pub lists_seen : {A : Type 0} → Vec (Vec (SharedMessage A) A) A → List (List Tree)
 lists_seen v = map trees_seen v.items

@@ -3,7 +3,7 @@ use Rattle.std.proofs.Common.{◌≡◌, Bool, true, false, List, [], ◌∷◌,
 use Rattle.def_term.specs.Names.{Name}
 use Rattle.def_term.specs.Tree.{Tree}
 use Rattle.def_explore.specs.Rests.{kept_by_process, each_process, all_pids, kept_of}
-use Rattle.tn_messages.specs.Kept.{question_of, kept_lists}
+use Rattle.tn_messages.specs.MessageViews.{question_of, kept_lists}
 
 map_after : {X Y Z : Type 0} (f : X → Y) (g : Y → Z) (xs : List X) → map (λ x. g (f x)) xs ≡ map g (map f xs)
 map_after f g [] = refl
