@@ -38,13 +38,13 @@ rest_entry_texts ss count n [] = []
 rest_entry_texts ss count n (e ∷ es) = rest_entry_text ss count n e ++ rest_entry_texts ss count (suc n) es
 
 -- so many of them, with an s where they aren't one
-abbrev pub count_text : ℕ → List ℕ → List ℕ
-count_text n word = decimal n ++ 32 ∷ word ++ (if n == 1 then [] else codes "s")
+abbrev pub exploration_end_text : ℕ → List ℕ → List ℕ
+exploration_end_text n word = decimal n ++ 32 ∷ word ++ (if n == 1 then [] else codes "s")
 
 -- whether all states were tried, how many were met, and how many listings there are
 abbrev pub closing_line : (states listings : ℕ) → Bool → List ℕ
-closing_line states listings true = codes "complete: " ++ count_text states (codes "state") ++ codes ", " ++ count_text listings (codes "listing") ++ 10 ∷ []
-closing_line states listings false = codes "not complete: " ++ count_text states (codes "state") ++ (if states == 1 then codes " was met\n" else codes " were met\n")
+closing_line states listings true = codes "complete: " ++ exploration_end_text states (codes "state") ++ codes ", " ++ exploration_end_text listings (codes "listing") ++ 10 ∷ []
+closing_line states listings false = codes "not complete: " ++ exploration_end_text states (codes "state") ++ (if states == 1 then codes " was met\n" else codes " were met\n")
 
 -- the entries, and what was explored
 abbrev pub exploration_text : List (Name × Name) → List RestEntry → ℕ → Bool → List ℕ
