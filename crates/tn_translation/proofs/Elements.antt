@@ -1,5 +1,5 @@
 -- Expressions one after the other, with their terms and values.
-use Rattle.std.proofs.Common.{◌≡◌, List, [], ◌∷◌, ◌++◌, Option, Some, None, map, refl, ap, sym, ◌∙◌}
+use Rattle.std.proofs.Common.{◌≡◌, List, [], ◌∷◌, ◌++◌, Option, Some, None, refl, ap, ◌∙◌}
 use Rattle.def_term.specs.Tree.{Tree}
 use Rattle.tn_translation.specs.Values.{constant_after}
 use Rattle.def_fun.specs.Translation.{TranslatedExpr, all_terms, with_constant, all_constants}

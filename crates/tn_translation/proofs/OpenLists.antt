@@ -1,11 +1,10 @@
 -- The text of the clauses, with one clause more.
-use Rattle.std.proofs.Common.{◌≡◌, ℕ, ◌+◌, ◌<◌, ◌≤◌, List, [], ◌∷◌, ◌++◌, length, map, true, false, nat_le, cond, Ok, Err, refl, ap, sym, ◌∙◌, arith, append_assoc, append-nil, length-append}
+use Rattle.std.proofs.Common.{◌≡◌, ℕ, ◌+◌, ◌<◌, ◌≤◌, List, [], ◌∷◌, ◌++◌, length, true, false, nat_le, cond, Ok, Err, refl, ap, sym, ◌∙◌, arith, append_assoc, append-nil, length-append}
 use Rattle.std.proofs.lemmas.Bool.Decides.{nat_tests}
-use Rattle.std.proofs.lemmas.List.{map-append}
 use Rattle.def_term.specs.Tree.{Tree, of_elements}
 use Rattle.def_term.specs.Text.{w, comma_list, each_after_comma}
 use Rattle.def_text.specs.Spelling.{LENGTH}
-use Rattle.def_fun.specs.Refusals.{OrRefusal, too_large_at}
+use Rattle.def_fun.specs.Refusals.{too_large_at}
 use Rattle.def_fun.specs.Translation.{list_term, within_length}
 use Rattle.tn_translation.specs.OpenTexts.{open_list_text}
 

@@ -1,5 +1,5 @@
 -- What is read has integers and atoms that are those of terms.
-use Rattle.std.proofs.Common.{◌≡◌, ℕ, ◌+◌, ◌≤◌, All, List, [], ◌∷◌, ◌++◌, length, Bool, true, false, not, ◌&&◌, ◌||◌, cond, nat_le, nat_lt, Option, Some, None, Result, Ok, Err, refl, ap, sym, ◌∙◌, subst, arith}
+use Rattle.std.proofs.Common.{◌≡◌, ℕ, ◌+◌, ◌≤◌, All, List, [], ◌∷◌, ◌++◌, length, Bool, true, false, not, ◌&&◌, ◌||◌, cond, nat_le, nat_lt, Option, Some, None, Result, Ok, Err, refl, subst}
 use Rattle.std.proofs.lemmas.Bool.{and_parts, leb-true}
 use Rattle.std.proofs.lemmas.List.Elements.{All-nil, All-cons}
 use Rattle.def_term.specs.Names.{Name}
@@ -11,12 +11,12 @@ use Rattle.def_fun.specs.Operators as op
 use Rattle.def_fun.specs.Operators.{FunOperator, operator_binding, level_of, left_level, is_infix, is_prefix}
 use Rattle.def_fun.specs.Tokens as token
 use Rattle.def_fun.specs.Tokens.{FunToken, FunSpan}
-use Rattle.def_fun.specs.Trees.{FunExpr, variable, whole, atom, strings, in_parens, call, list, list_onto, tuple, before, between, of_exprs, nesting_depth, joined_codes, FunHead, alone, both, FunClause}
-use Rattle.def_fun.specs.Limits.{GREATEST_INTEGER, CLAUSES}
-use Rattle.def_fun.specs.Reading.{OpenPart, in_open_parens, in_open_call, in_open_list, in_open_tail, in_open_tuple, after_left, after_prefix, ExprState, wants, has, gather, whole_operand, may_follow, may_stand, greatest_there, has_level_left, at_most_there, one_more_of, if_placed, operand_at, operator_after, string_after, arguments_after, close_after, comma_after, bar_after, on_operand, after_operand, fun_expr_step, if_none_open, ended_expr, ClauseSoFar, FunState, before_fun, before_clause, in_head, after_head, in_guard, in_fun_body, after_end, after_stop, head_of_parts, begins_head, clauses_in_guard, clauses_in_body, with_guard, with_clause, if_sized, on_step, expr_start, begin_fun, begin_clause, begin_guard, stop_fun, FunFault, head_after, guard_after, body_after, ends_or, head_step, fun_step, after_fun_step, fun_run, fun_end, fun_finish, read_fun}
+use Rattle.def_fun.specs.Trees.{FunExpr, variable, whole, atom, strings, in_parens, call, list, list_onto, tuple, before, between, of_exprs, nesting_depth, joined_codes, FunClause}
+use Rattle.def_fun.specs.Limits.{CLAUSES}
+use Rattle.def_fun.specs.Reading.{OpenPart, in_open_parens, in_open_call, in_open_list, in_open_tail, in_open_tuple, after_left, after_prefix, ExprState, wants, has, gather, whole_operand, may_follow, may_stand, greatest_there, has_level_left, at_most_there, one_more_of, if_placed, operand_at, operator_after, string_after, arguments_after, close_after, comma_after, bar_after, after_operand, fun_expr_step, if_none_open, ended_expr, ClauseSoFar, FunState, before_fun, before_clause, in_head, after_head, in_guard, in_fun_body, after_end, after_stop, head_of_parts, begins_head, clauses_in_guard, clauses_in_body, with_guard, with_clause, if_sized, on_step, expr_start, begin_fun, begin_clause, begin_guard, stop_fun, FunFault, head_after, guard_after, body_after, ends_or, head_step, fun_step, after_fun_step, fun_run, fun_end, fun_finish, read_fun}
 use Rattle.def_fun.proofs.ExprSteps.{placed_ok, same_ok}
 use Rattle.def_fun.proofs.FunSteps.{same_state}
-use Rattle.tn_translation.specs.Leaves.{greatest_after, HasTermLeaves, HaveTermLeaves, RowHasTermLeaves, HeadHasTermLeaves, GuardsHaveTermLeaves, ClauseHasTermLeaves, ClausesHaveTermLeaves}
+use Rattle.tn_translation.specs.Leaves.{HasTermLeaves, HaveTermLeaves, RowHasTermLeaves, HeadHasTermLeaves, GuardsHaveTermLeaves, ClauseHasTermLeaves, ClausesHaveTermLeaves}
 
 -- an atom of a token has characters from 32 to 126
 abbrev pub IsPlainToken : FunToken → Type 0

@@ -1,9 +1,8 @@
 -- A value or a refusal, one step after the other.
-use Rattle.std.proofs.Common.{◌≡◌, List, [], ◌∷◌, ◌++◌, ℕ, Option, Some, None, Result, Ok, Err, refl, ap, sym, ◌∙◌}
+use Rattle.std.proofs.Common.{◌≡◌, List, [], ◌∷◌, ◌++◌, Option, Some, None, Ok, Err, refl, ap, sym, ◌∙◌}
 use Rattle.std.proofs.lemmas.List.{append_assoc, append-nil}
 use Rattle.def_fun.specs.Refusals.{FunRefusal, OrRefusal, then_fun}
-use Rattle.tn_translation.specs.declared.fault.FunFault.{FunFault}
-use Rattle.tn_translation.specs.Faults.{fun_fault_seen, RefusedBy, GivesFun}
+use Rattle.tn_translation.specs.Faults.{RefusedBy}
 
 -- the first refusal is that of the whole
 pub refused_then : {X Y : Type 0} (o : Option FunRefusal) (m : OrRefusal X) (k : X → OrRefusal Y) → RefusedBy o m → RefusedBy o (then_fun m k)

@@ -1,13 +1,13 @@
 -- ExprTerm expressions, and terms of vectors.
-use Rattle.std.proofs.Common.{◌≡◌, ℕ, ◌≤◌, ◌<◌, List, [], ◌∷◌, ◌++◌, length, map, Bool, true, false, nat_le, min, cond, Option, Some, None, Ok, Err, refl, ap, ap₂, sym, ◌∙◌, arith}
+use Rattle.std.proofs.Common.{◌≡◌, ℕ, ◌≤◌, ◌<◌, List, [], ◌∷◌, ◌++◌, length, map, true, false, nat_le, min, cond, Option, Some, Ok, Err, refl, ap, ap₂, sym, ◌∙◌, arith}
 use Rattle.std.proofs.lemmas.Bool.Decides.{nat_tests}
 use Rattle.std.specs.declared.vec.Vec.{Vec}
 use Rattle.std.proofs.lemmas.List.{length-map, map-append}
-use Rattle.def_term.specs.Tree.{Tree, tuple, list, atom, of_elements, more, depth}
+use Rattle.def_term.specs.Tree.{Tree, tuple, list, of_elements, more, depth}
 use Rattle.def_text.specs.Limits.{LIST_LENGTH}
 use Rattle.def_fun.specs.Operators as op
 use Rattle.def_fun.specs.Operators.{FunOperator}
-use Rattle.def_fun.specs.Refusals.{FunRefusal, OrRefusal, too_large_at, too_deep_at, minus_alone}
+use Rattle.def_fun.specs.Refusals.{FunRefusal, too_large_at, too_deep_at, minus_alone}
 use Rattle.def_fun.specs.Constants.{Computation, not_computed}
 use Rattle.def_fun.specs.Translation.{TranslatedExpr, elements_of_list, onto_tail, within_depth, name_tuple, operator_translated, prefix_translated}
 use Rattle.tn_term.specs.declared.term.Term.{Term, Atom, Tuple, List as ListOf}

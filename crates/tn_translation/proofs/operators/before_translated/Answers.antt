@@ -1,6 +1,5 @@
-use Rattle.std.proofs.Common.{◌≡◌, [], ◌∷◌, true, false, rules, ap, sym, ◌∙◌, subst}
-use Rattle.std.specs.Option.{option_map}
-use Rattle.def_fun.specs.Translation.{computed_if_one, operator_translated, prefix_translated}
+use Rattle.std.proofs.Common.{◌≡◌, [], ◌∷◌, false, rules, ap, sym, ◌∙◌, subst}
+use Rattle.def_fun.specs.Translation.{operator_translated, prefix_translated}
 use Rattle.tn_fun.specs.Tokens.{operator_seen}
 use Rattle.tn_term.specs.Views.{tree_of}
 use Rattle.tn_translation.specs.Constants.{computation_seen, is_minus_alone}

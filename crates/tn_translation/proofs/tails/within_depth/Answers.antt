@@ -1,6 +1,6 @@
 use Rattle.std.proofs.Common.{arith}
 use Rattle.tn_term.specs.Views.{tree_of}
-use Rattle.tn_translation.proofs.Values.{too_deep_term, shallow_term}
+use Rattle.tn_translation.proofs.Values.{shallow_term}
 use Rattle.tn_translation.proofs.tails.within_depth.Goals as goal
 
 pub returns : goal.returns

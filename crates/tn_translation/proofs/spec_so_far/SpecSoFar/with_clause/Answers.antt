@@ -1,7 +1,5 @@
-use Rattle.std.proofs.Common.{◌≡◌, [], ◌∷◌, ◌++◌, map, length, Ok, rules, ap, sym, ◌∙◌, arith}
-use Rattle.tn_term.specs.Views.{tree_of}
+use Rattle.std.proofs.Common.{◌≡◌, [], ◌∷◌, ◌++◌, length, Ok, rules, ap, sym, ◌∙◌, arith}
 use Rattle.tn_translation.specs.OpenTexts.{open_list_text}
-use Rattle.tn_translation.specs.Values.{term_row_seen}
 use Rattle.tn_translation.proofs.OpenLists.{fits_length, past_length}
 use Rattle.tn_translation.proofs.Values.{row_more}
 use Rattle.tn_translation.proofs.spec_so_far.SpecSoFar.with_clause.Goals as goal
