@@ -4,5 +4,6 @@
 //! Depends on def_fun and tn_fun. Promises nothing to other crates.
 #![tactic(auto)]
 
+mod names;
 mod reading;
 mod tokens;

@@ -1,0 +1,9 @@
+pub mod Constants
+pub mod Faults
+pub mod Names
+pub mod Calls
+pub mod Values
+pub mod Specifications
+pub mod Leaves
+pub mod OpenTexts
+pub mod Tails
