@@ -5,5 +5,5 @@ use Rattle.tn_translation.specs.declared.spec_so_far.SpecSoFar.{SpecSoFar}
 use Rattle.tn_translation.specs.Values.{term_row_seen}
 
 -- the clauses so far
-abbrev pub clauses_seen : {A : Type 0} → SpecSoFar A → List Tree
-clauses_seen s = term_row_seen s.clauses
+abbrev pub clauses_so_far : {A : Type 0} → SpecSoFar A → List Tree
+clauses_so_far s = term_row_seen s.clauses

@@ -5,7 +5,7 @@ ghost use Rattle.def_fun.specs.Translation.{within_length};
 ghost use Rattle.tn_term.specs.Views.{tree_of};
 ghost use Rattle.tn_translation.specs.Faults.{GivesFun};
 ghost use Rattle.tn_translation.specs.OpenTexts.{open_list_text};
-ghost use Rattle.tn_translation.specs.Specifications.{clauses_seen};
+ghost use Rattle.tn_translation.specs.Specifications.{clauses_so_far};
 ghost use Rattle.tn_translation.specs.Values.{term_row_seen};
 
 use crate::fault::FunFault;
@@ -33,7 +33,7 @@ fn put_next<A: Allocator>(
 impl<A: Allocator + Copy> SpecSoFar<A> {
     /// No clauses.
     pub fn new(alloc: A) -> Result<SpecSoFar<A>, AllocError>
-        ensures { IfOk result (λ s. clauses_seen s ≡ []) }
+        ensures { IfOk result (λ s. clauses_so_far s ≡ []) }
     {
         let mut text = Vec::new(alloc);
         text.push(b'[')?;
@@ -45,8 +45,8 @@ impl<A: Allocator + Copy> SpecSoFar<A> {
 
     /// One clause more, where the text isn't longer than that of a script.
     pub fn with_clause(self, at: usize, clause: Term<A>) -> Result<SpecSoFar<A>, FunFault>
-        ensures { (text : List ℕ) → GivesFun clauses_seen text result
-            (within_length at (clauses_seen self ++ tree_of clause ∷ [])) }
+        ensures { (text : List ℕ) → GivesFun clauses_so_far text result
+            (within_length at (clauses_so_far self ++ tree_of clause ∷ [])) }
     {
         let SpecSoFar { clauses, text } = self;
         let mut clauses = clauses;

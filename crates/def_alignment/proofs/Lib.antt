@@ -1,0 +1,2 @@
+pub mod CommonLines
+mod AlignmentRows

@@ -1,0 +1,2 @@
+pub mod Alignments
+pub mod AlignmentLaws
