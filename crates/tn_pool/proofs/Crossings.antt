@@ -29,8 +29,12 @@ use Rattle.tn_script.specs.contracts.form.Function as function
 use Rattle.tn_script.specs.contracts.form.Entry as entry
 use Rattle.tn_flags.specs.contracts.command.Command as command
 use Rattle.tn_program.specs.contracts.parts.Program as program
-use Rattle.tn_process.specs.contracts.values.Binding as binding
-use Rattle.tn_process.specs.contracts.values.Env as env
+use Rattle.tn_process.specs.contracts.names.Guesses as guesses
+use Rattle.tn_process.specs.contracts.names.FrameNames as frame_names
+use Rattle.tn_process.specs.contracts.functions.Lookup as lookup
+use Rattle.tn_process.specs.contracts.functions.Functions as functions
+use Rattle.tn_process.specs.contracts.env.Binding as binding
+use Rattle.tn_process.specs.contracts.env.Env as env
 use Rattle.tn_process.specs.contracts.process.Frame as frame
 use Rattle.tn_process.specs.contracts.process.Process as process
 use Rattle.tn_node.specs.contracts.world.World as world
@@ -215,17 +219,60 @@ module _ (T : RattleType) (g : Ghosts T.Denot) (s : IsSend T) (f : Frees g g.dea
   program_field_send : IsSend (program.the_field T g).row
   program_field_send = search (sendable, crosses, function_send, function_field_send, function_sync, function_field_sync, entry_send, entry_field_send, command_send, command_field_send, program_send) depth 40 fits 3000 parts 0
 
+  -- what finds a function and a variable, which the frames of a node share
+  guesses_send : IsSend (guesses.the_row T g)
+  guesses_send = search (sendable, crosses) depth 40 fits 3000 parts 0
+
+  guesses_field_send : IsSend (guesses.the_field T g).row
+  guesses_field_send = search (sendable, crosses, guesses_send) depth 40 fits 3000 parts 0
+
+  guesses_sync : IsSync (guesses.the_row T g)
+  guesses_sync = search (sendable, crosses) depth 40 fits 3000 parts 0
+
+  guesses_field_sync : IsSync (guesses.the_field T g).row
+  guesses_field_sync = search (sendable, crosses, guesses_sync) depth 40 fits 3000 parts 0
+
+  frame_names_send : IsSend (frame_names.the_row T g)
+  frame_names_send = search (sendable, crosses, atom_send, atom_field_send, atom_sync, atom_field_sync, guesses_send, guesses_field_send) depth 40 fits 3000 parts 0
+
+  frame_names_field_send : IsSend (frame_names.the_field T g).row
+  frame_names_field_send = search (sendable, crosses, atom_send, atom_field_send, atom_sync, atom_field_sync, guesses_send, guesses_field_send, frame_names_send) depth 40 fits 3000 parts 0
+
+  frame_names_sync : IsSync (frame_names.the_row T g)
+  frame_names_sync = search (sendable, crosses, atom_send, atom_field_send, atom_sync, atom_field_sync, guesses_sync, guesses_field_sync) depth 40 fits 3000 parts 0
+
+  frame_names_field_sync : IsSync (frame_names.the_field T g).row
+  frame_names_field_sync = search (sendable, crosses, atom_send, atom_field_send, atom_sync, atom_field_sync, guesses_sync, guesses_field_sync, frame_names_sync) depth 40 fits 3000 parts 0
+
+  lookup_send : IsSend (lookup.the_row T g)
+  lookup_send = search (sendable, crosses, frame_names_send, frame_names_field_send, frame_names_sync, frame_names_field_sync, guesses_send, guesses_field_send) depth 40 fits 3000 parts 0
+
+  lookup_field_send : IsSend (lookup.the_field T g).row
+  lookup_field_send = search (sendable, crosses, frame_names_send, frame_names_field_send, frame_names_sync, frame_names_field_sync, guesses_send, guesses_field_send, lookup_send) depth 40 fits 3000 parts 0
+
+  lookup_sync : IsSync (lookup.the_row T g)
+  lookup_sync = search (sendable, crosses, frame_names_send, frame_names_field_send, frame_names_sync, frame_names_field_sync, guesses_sync, guesses_field_sync) depth 40 fits 3000 parts 0
+
+  lookup_field_sync : IsSync (lookup.the_field T g).row
+  lookup_field_sync = search (sendable, crosses, frame_names_send, frame_names_field_send, frame_names_sync, frame_names_field_sync, guesses_sync, guesses_field_sync, lookup_sync) depth 40 fits 3000 parts 0
+
+  functions_send : IsSend (functions.the_row T g)
+  functions_send = search (sendable, crosses, function_send, function_field_send, function_sync, function_field_sync, lookup_send, lookup_field_send, lookup_sync, lookup_field_sync) depth 40 fits 3000 parts 0
+
+  functions_field_send : IsSend (functions.the_field T g).row
+  functions_field_send = search (sendable, crosses, function_send, function_field_send, function_sync, function_field_sync, lookup_send, lookup_field_send, lookup_sync, lookup_field_sync, functions_send) depth 40 fits 3000 parts 0
+
   binding_send : IsSend (binding.the_row T g)
-  binding_send = search (sendable, crosses, atom_send, atom_field_send, shared_send, shared_field_send) depth 40 fits 3000 parts 0
+  binding_send = search (sendable, crosses, atom_send, atom_field_send, atom_sync, atom_field_sync, shared_send, shared_field_send) depth 40 fits 3000 parts 0
 
   binding_field_send : IsSend (binding.the_field T g).row
-  binding_field_send = search (sendable, crosses, atom_send, atom_field_send, shared_send, shared_field_send, binding_send) depth 40 fits 3000 parts 0
+  binding_field_send = search (sendable, crosses, atom_send, atom_field_send, atom_sync, atom_field_sync, shared_send, shared_field_send, binding_send) depth 40 fits 3000 parts 0
 
   env_send : IsSend (env.the_row T g)
-  env_send = search (sendable, crosses, binding_send, binding_field_send) depth 40 fits 3000 parts 0
+  env_send = search (sendable, crosses, binding_send, binding_field_send, frame_names_send, frame_names_field_send, frame_names_sync, frame_names_field_sync) depth 40 fits 3000 parts 0
 
   env_field_send : IsSend (env.the_field T g).row
-  env_field_send = search (sendable, crosses, binding_send, binding_field_send, env_send) depth 40 fits 3000 parts 0
+  env_field_send = search (sendable, crosses, binding_send, binding_field_send, frame_names_send, frame_names_field_send, frame_names_sync, frame_names_field_sync, env_send) depth 40 fits 3000 parts 0
 
   frame_send : IsSend (frame.the_row T g)
   frame_send = search (sendable, crosses, env_send, env_field_send, atom_send, atom_field_send) depth 40 fits 3000 parts 0
@@ -246,10 +293,10 @@ module _ (T : RattleType) (g : Ghosts T.Denot) (s : IsSend T) (f : Frees g g.dea
   world_field_send = search (sendable, crosses, process_send, process_field_send, world_send) depth 40 fits 3000 parts 0
 
   node_state_send : IsSend (node_state.the_row T g)
-  node_state_send = search (sendable, crosses, function_send, function_field_send, function_sync, function_field_sync, world_send, world_field_send) depth 40 fits 3000 parts 0
+  node_state_send = search (sendable, crosses, functions_send, functions_field_send, world_send, world_field_send) depth 40 fits 3000 parts 0
 
   node_state_field_send : IsSend (node_state.the_field T g).row
-  node_state_field_send = search (sendable, crosses, function_send, function_field_send, function_sync, function_field_sync, world_send, world_field_send, node_state_send) depth 40 fits 3000 parts 0
+  node_state_field_send = search (sendable, crosses, functions_send, functions_field_send, world_send, world_field_send, node_state_send) depth 40 fits 3000 parts 0
 
   node_send : IsSend (node.the_row T g)
   node_send = search (sendable, crosses, node_state_send, node_state_field_send) depth 40 fits 3000 parts 0
