@@ -24,3 +24,10 @@ pub of_any : {Y T E : Type 0} (see : Y → T) (v : Option SessionValue) (f : ℕ
 of_any see None f one (Ok y) h = h
 of_any see (Some s) f one (Ok y) h = h 0
 of_any see v f one (Err e) h = h
+
+-- each answer that there is says the same of the same
+pub same_where_both : {X T E : Type 0} (see : X → T) (a b : T) → a ≡ b → (r q : Result X E)
+    → IfOk r (λ x. see x ≡ a) → IfOk q (λ x. see x ≡ b) → IfOk r (λ x. IfOk q (λ y. see x ≡ see y))
+same_where_both see a b e (Ok x) (Ok y) h i = h ∙ e ∙ sym i
+same_where_both see a b e (Ok x) (Err f) h i = tt
+same_where_both see a b e (Err f) q h i = tt
