@@ -6,3 +6,4 @@ pub mod Outlooks
 pub mod Additions
 pub mod Frames
 pub mod Distinct
+pub mod Hashes

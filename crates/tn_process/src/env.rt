@@ -3,15 +3,15 @@ ghost use Rattle.std.specs.Prelude.{◌≡◌, true, map};
 ghost use Rattle.def_script.specs.Shapes.{are_distinct};
 ghost use Rattle.tn_process.specs.Bindings.{bound_name};
 
-use crate::names::FrameNames;
+use crate::names::{FrameNames, VariableName};
 use std::alloc::Allocator;
 use std::sync::Arc;
-use tn_term::{Atom, SharedTerm};
+use tn_term::SharedTerm;
 
 /// A variable and its value.
 #[derive(Drop)]
 pub struct Binding<A: Allocator> {
-    pub(crate) name: Arc<Atom<A>, A>,
+    pub(crate) name: Arc<VariableName<A>, A>,
     pub(crate) value: SharedTerm<A>,
 }
 

@@ -5,7 +5,7 @@ ghost use Rattle.tn_script.specs.Views.{functions_of};
 ghost use Rattle.tn_process.specs.NamedOnce.{NamedOnce};
 
 use crate::function::find_function;
-use crate::names::{FrameNames, Guesses};
+use crate::names::{FrameNames, Guesses, hash_of};
 use std::alloc::{AllocError, Allocator};
 use std::sync::Arc;
 use tn_script::Function;
@@ -56,7 +56,7 @@ impl<A: Allocator + Copy> Lookup<A> {
         let mut numbers = Guesses::with_room(alloc, functions.len())?;
         let mut frames = Vec::with_capacity(alloc, functions.len())?;
         for function in functions {
-            numbers.note(function.name.text(), frames.len());
+            numbers.note(hash_of(function.name.text()), frames.len());
             frames.push(Arc::new(alloc, FrameNames::of_function(alloc, function)?)?)?;
         }
         Ok(Lookup {
@@ -69,7 +69,7 @@ impl<A: Allocator + Copy> Lookup<A> {
 
     /// What may be the number of a function with this name.
     pub(crate) fn guess(&self, name: &str) -> usize {
-        self.numbers.guess(name)
+        self.numbers.guess(hash_of(name))
     }
 
     /// The names of the variables in a frame of the function with this number.

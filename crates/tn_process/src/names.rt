@@ -3,6 +3,7 @@
 ghost use Rattle.std.specs.Prelude.{◌≡◌, IfOk};
 ghost use Rattle.std.specs.Arc.{arc_value};
 ghost use Rattle.def_term.specs.Atoms.{IsAtomText};
+ghost use Rattle.tn_process.specs.Hashes.{hash_in};
 
 use std::alloc::{AllocError, Allocator};
 use std::sync::Arc;
@@ -21,20 +22,40 @@ pub struct Guesses<A: Allocator> {
     places: Vec<u16, A>,
 }
 
+/// The name of a variable, with its hash: a name with another hash is another name.
+#[derive(Drop)]
+pub struct VariableName<A: Allocator> {
+    pub(crate) text: Atom<A>,
+    pub(crate) hash: u32,
+    ghost hash_is: { hash ≡ hash_in text },
+}
+
 /// The names of the variables of a function, in the order in which a frame binds them.
 #[derive(Drop)]
 pub struct FrameNames<A: Allocator> {
-    names: Vec<Arc<Atom<A>, A>, A>,
+    names: Vec<Arc<VariableName<A>, A>, A>,
     guesses: Guesses<A>,
 }
 
 /// A hash of the text.
-fn hash_of(text: &str) -> usize {
+pub fn hash_of(text: &str) -> u32
+    ensures { result ≡ hash_in text.now }
+{
     let mut hash: u32 = 0;
-    for byte in text.bytes() {
-        hash = hash.wrapping_mul(31).wrapping_add(u32::from(byte));
+    for byte in text.as_bytes() {
+        hash = (hash * 31 + u32::from(*byte)) % 65521;
     }
-    hash as usize
+    hash
+}
+
+impl<A: Allocator> VariableName<A> {
+    /// The name, with its hash.
+    fn new(text: Atom<A>) -> VariableName<A>
+        ensures { result.text ≡ text }
+    {
+        let hash = hash_of(text.text());
+        VariableName { text, hash }
+    }
 }
 
 impl<A: Allocator + Copy> Guesses<A> {
@@ -44,28 +65,28 @@ impl<A: Allocator + Copy> Guesses<A> {
         Ok(Guesses { places })
     }
 
-    /// The entry of the name.
-    fn entry(&self, name: &str) -> usize {
-        match hash_of(name).checked_rem(self.places.len()) {
+    /// The entry of the names with this hash.
+    fn entry(&self, hash: u32) -> usize {
+        match (hash as usize).checked_rem(self.places.len()) {
             Some(entry) => entry,
             None => 0,
         }
     }
 
-    /// The place of the name is this one.
-    pub fn note(&mut self, name: &str, place: usize) {
+    /// The place of the name with this hash is this one.
+    pub fn note(&mut self, hash: u32, place: usize) {
         if place > LAST_PLACE {
             return;
         }
-        let entry = self.entry(name);
+        let entry = self.entry(hash);
         if let Some(known) = self.places.get_mut(entry) {
             *known = place as u16;
         }
     }
 
-    /// Where the name may be.
-    pub fn guess(&self, name: &str) -> usize {
-        match self.places.get(self.entry(name)) {
+    /// Where the name with this hash may be.
+    pub fn guess(&self, hash: u32) -> usize {
+        match self.places.get(self.entry(hash)) {
             Some(place) => usize::from(*place),
             None => 0,
         }
@@ -110,7 +131,8 @@ impl<A: Allocator + Copy> FrameNames<A> {
 
     /// Puts a name after the others.
     fn put(&mut self, alloc: A, name: Atom<A>) -> Result<(), AllocError> {
-        self.guesses.note(name.text(), self.names.len());
+        let name = VariableName::new(name);
+        self.guesses.note(name.hash, self.names.len());
         self.names.push(Arc::new(alloc, name)?)?;
         Ok(())
     }
@@ -119,7 +141,7 @@ impl<A: Allocator + Copy> FrameNames<A> {
     fn put_targets(&mut self, alloc: A, steps: &[Step<A>]) -> Result<(), AllocError> {
         for step in steps {
             if let Some(target) = target_of(step) {
-                if !self.names.iter().any(|name| name.text() == target.text()) {
+                if !self.names.iter().any(|name| name.text.text() == target.text()) {
                     self.put(alloc, target.copy_into(alloc)?)?;
                 }
             }
@@ -127,21 +149,21 @@ impl<A: Allocator + Copy> FrameNames<A> {
         Ok(())
     }
 
-    /// Where a frame may have the variable.
-    pub fn guess(&self, name: &str) -> usize {
-        self.guesses.guess(name)
+    /// Where a frame may have the variable with this hash.
+    pub fn guess(&self, hash: u32) -> usize {
+        self.guesses.guess(hash)
     }
 
     /// The name with one owner more, where it is among these and has not lost its place; else a new one.
-    pub fn name(&self, alloc: A, name: &str) -> Result<Arc<Atom<A>, A>, AllocError>
+    pub fn name(&self, alloc: A, name: &str) -> Result<Arc<VariableName<A>, A>, AllocError>
         requires { IsAtomText name.now }
-        ensures { IfOk result (λ n. arc_value n ≡ name.now) }
+        ensures { IfOk result (λ n. (arc_value n).text ≡ name.now) }
     {
-        if let Some(own) = self.names.get(self.guess(name)) {
-            if own.text() == name {
+        if let Some(own) = self.names.get(self.guess(hash_of(name))) {
+            if own.text.text() == name {
                 return Arc::try_clone(own);
             }
         }
-        Ok(Arc::new(alloc, Atom::of(alloc, name)?)?)
+        Ok(Arc::new(alloc, VariableName::new(Atom::of(alloc, name)?))?)
     }
 }

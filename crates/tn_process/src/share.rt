@@ -167,11 +167,11 @@ impl<A: Allocator + Copy> StatePart<A> for Binding<A> {
     }
 
     fn same(&self, other: &Self) -> bool {
-        self.name.text() == other.name.text() && self.value.same(&other.value)
+        self.name.text.text() == other.name.text.text() && self.value.same(&other.value)
     }
 
     fn add_to(&self, hasher: &mut FoldHasher) {
-        hasher.write(self.name.text().as_bytes());
+        hasher.write(self.name.text.text().as_bytes());
         self.value.add_to(hasher);
     }
 }

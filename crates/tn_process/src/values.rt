@@ -11,12 +11,13 @@ ghost use Rattle.def_node.specs.Values.{binding_of, value_of, rebound, instance_
 ghost use Rattle.def_node.specs.Values.{fitting_all, params_bound};
 ghost use Rattle.tn_script.specs.Views.{args_of};
 ghost use Rattle.tn_process.specs.Bindings.{bound_name};
+ghost use Rattle.tn_process.specs.Hashes.{hash_in};
 ghost use Rattle.tn_process.specs.Views.{env_of};
 ghost use Rattle.tn_process.specs.Templates.{all_built_by, args_built_by, env_for_call, BindsNext};
 ghost use Rattle.tn_process.specs.Templates.{IsBuiltIn, AreBuiltIn};
 
 use crate::env::{Binding, Env};
-use crate::names::FrameNames;
+use crate::names::{FrameNames, hash_of};
 use crate::value::{Elements, Value};
 use std::alloc::{AllocError, Allocator};
 use std::collections::VecDeque;
@@ -61,24 +62,35 @@ impl<A: Allocator + Copy> Env<A> {
         Ok(Env { values, names })
     }
 
-    /// The place of the variable, where the guess is right.
-    fn guess(&self, name: &str) -> Option<usize>
+    /// The place of the variable with this hash, where the guess is right.
+    fn guess(&self, name: &str, hash: u32) -> Option<usize>
         ensures { IfSome result (λ i. Some i ≡ position (λ b. bytes_eq (bound_name b) name.now) self.now.values.items) }
     {
-        let guess = self.names.guess(name);
+        let guess = self.names.guess(hash);
         match self.values.get(guess) {
-            Some(binding) if binding.name.text() == name => Some(guess),
+            Some(binding) if binding.name.text.text() == name => Some(guess),
             _ => None,
         }
+    }
+
+    /// The place of the variable with this hash. The text is compared where the hash is the same.
+    fn search(&self, name: &str, hash: u32) -> Option<usize>
+        requires { hash ≡ hash_in name.now }
+        ensures { result ≡ position (λ b. bytes_eq (bound_name b) name.now) self.now.values.items }
+    {
+        self.values
+            .iter()
+            .position(|b| b.name.hash == hash && b.name.text.text() == name)
     }
 
     /// The place of the variable.
     fn place(&self, name: &str) -> Option<usize>
         ensures { result ≡ position (λ b. bytes_eq (bound_name b) name.now) self.now.values.items }
     {
-        match self.guess(name) {
+        let hash = hash_of(name);
+        match self.guess(name, hash) {
             Some(place) => Some(place),
-            None => self.values.iter().position(|b| b.name.text() == name),
+            None => self.search(name, hash),
         }
     }
 
