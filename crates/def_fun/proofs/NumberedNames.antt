@@ -8,13 +8,13 @@ use Rattle.def_term.specs.Text.{is_among}
 use Rattle.def_fun.specs.Trees.{FunHead}
 use Rattle.def_fun.specs.Variables.{ANY, names_of, name_of_whole, matched_part, variables_in, is_of_whole, with_name, with_names, number_among, IsNameOfNumber, the_whole, anything_there, of_no_head, kind_of_number, variable_kind}
 
-same_name : (n s : Name) → bytes_eq n s ≡ true → n ≡ s
+pub same_name : (n s : Name) → bytes_eq n s ≡ true → n ≡ s
 same_name n s e = (bytes_eq-Decides n s).0 e
 
-equal_names : (n s : Name) → n ≡ s → bytes_eq n s ≡ true
+pub equal_names : (n s : Name) → n ≡ s → bytes_eq n s ≡ true
 equal_names n s e = (bytes_eq-Decides n s).1 e
 
-other_name : (n s : Name) → bytes_eq s n ≡ false → bytes_eq n s ≡ false
+pub other_name : (n s : Name) → bytes_eq s n ≡ false → bytes_eq n s ≡ false
 other_name n s f = false_from_ne_true (bytes_eq n s) (λ e. both_ways (bytes_eq s n) f (equal_names s n (sym (same_name n s e))))
 
 none_of_two : (a b : Bool) → (a || b) ≡ false → (a ≡ false) × (b ≡ false)
@@ -133,7 +133,7 @@ kept w ns [] s h = h
 kept w ns (m ∷ ss) s h = kept w (with_name w ns m) ss s (kept_by ns m s (is_of_whole w m) (bytes_eq m ANY) (is_among ns m) h)
 
 -- a name is that of the whole, `_`, or among some
-abbrev IsBound : Option Name → List Name → Name → Type 0
+abbrev pub IsBound : Option Name → List Name → Name → Type 0
 IsBound w ns s = (is_of_whole w s ≡ true) ⊎ ((bytes_eq s ANY ≡ true) ⊎ (is_among ns s ≡ true))
 
 bound_by : (w : Option Name) (ns ss : List Name) (s : Name) (x a b : Bool) → is_of_whole w s ≡ x → bytes_eq s ANY ≡ a → is_among ns s ≡ b → IsBound w (with_names w (cond (x || (a || b)) ns (ns ++ s ∷ [])) ss) s
@@ -142,7 +142,7 @@ bound_by w ns ss s false true b e f g = inr (inl f)
 bound_by w ns ss s false false true e f g = inr (inr (kept w ns ss s g))
 bound_by w ns ss s false false false e f g = inr (inr (kept w (ns ++ s ∷ []) ss s (among_after ns s [])))
 
-bound : (w : Option Name) (ns ss : List Name) (s : Name) → is_among ss s ≡ true → IsBound w (with_names w ns ss) s
+pub bound : (w : Option Name) (ns ss : List Name) (s : Name) → is_among ss s ≡ true → IsBound w (with_names w ns ss) s
 bound w ns [] s h = absurd (cc)
 bound w ns (m ∷ ss) s h =
     elim (or_cases (bytes_eq s m) (is_among ss s) h) [
@@ -154,9 +154,17 @@ number_by : (k : ℕ) (n : Name) (ns : List Name) (s : Name) (b : Bool) → byte
 number_by k n ns s true e h later none = let found = sym (cond-true (bytes_eq n s) (Some k) (number_among (k + 1) ns s) (equal_names n s (sym (same_name s n e)))) ∙ none in absurd (cc)
 number_by k n ns s false e h later none = later h (sym (cond-false (bytes_eq n s) (Some k) (number_among (k + 1) ns s) (other_name n s e)) ∙ none)
 
-has_number : (k : ℕ) (ns : List Name) (s : Name) → is_among ns s ≡ true → number_among k ns s ≢ None
+pub has_number : (k : ℕ) (ns : List Name) (s : Name) → is_among ns s ≡ true → number_among k ns s ≢ None
 has_number k [] s h = absurd (cc)
 has_number k (n ∷ ns) s h = number_by k n ns s (bytes_eq s n) refl h (λ g. has_number (k + 1) ns s g)
+
+among_by : (k : ℕ) (n : Name) (ns : List Name) (s : Name) (b : Bool) → bytes_eq s n ≡ b → (number_among (k + 1) ns s ≢ None → is_among ns s ≡ true) → number_among k (n ∷ ns) s ≢ None → (b || is_among ns s) ≡ true
+among_by k n ns s true e later h = refl
+among_by k n ns s false e later h = later (λ none. h (cond-false (bytes_eq n s) (Some k) (number_among (k + 1) ns s) (other_name n s e) ∙ none))
+
+pub among_numbered : (k : ℕ) (ns : List Name) (s : Name) → number_among k ns s ≢ None → is_among ns s ≡ true
+among_numbered k [] s h = absurd (h refl)
+among_numbered k (n ∷ ns) s h = among_by k n ns s (bytes_eq s n) refl (λ g. among_numbered (k + 1) ns s g) h
 
 no_number : (o : Option ℕ) → o ≢ None → kind_of_number o ≢ of_no_head
 no_number None h e = h refl
@@ -169,7 +177,7 @@ kind_by false false o (inl h) e = absurd (cc)
 kind_by false false o (inr (inl h)) e = absurd (cc)
 kind_by false false o (inr (inr h)) e = no_number o h e
 
-kinds : (w : Option Name) (ns : List Name) (s : Name) → IsBound w ns s → (is_of_whole w s ≡ true) ⊎ ((bytes_eq s ANY ≡ true) ⊎ (number_among 1 ns s ≢ None))
+pub kinds : (w : Option Name) (ns : List Name) (s : Name) → IsBound w ns s → (is_of_whole w s ≡ true) ⊎ ((bytes_eq s ANY ≡ true) ⊎ (number_among 1 ns s ≢ None))
 kinds w ns s (inl e) = inl e
 kinds w ns s (inr (inl e)) = inr (inl e)
 kinds w ns s (inr (inr e)) = inr (inr (has_number 1 ns s e))

@@ -70,9 +70,9 @@ is_variable_atom [] = false
 is_variable_atom (c ∷ cs) = (c == 36) && is_signed cs
 
 -- `-` before an integer
-abbrev pub negative : ℕ → Tree → OrRefusal Tree
-negative at (int z) = Ok (int (neg_ℤ z))
-negative at t = Err (minus_alone at)
+abbrev pub negative_integer : ℕ → FunExpr → OrRefusal Tree
+negative_integer at (whole here n) = Ok (int (neg_ℤ (pos n)))
+negative_integer at e = Err (minus_alone at)
 
 module _ (ns : ClauseNames) where
   abbrev mutual
@@ -85,7 +85,7 @@ module _ (ns : ClauseNames) where
     pattern_term (tree.list at es) = then_fun (pattern_terms es) (λ ts. Ok (list (of_elements ts)))
     pattern_term (list_onto at es e) = then_fun (pattern_terms es) (λ ts. if is_proper_tail e then then_fun (pattern_term e) (λ t. onto_tail (first_byte e) ts t) else Err (list_with_tail (first_byte e)))
     pattern_term (tuple at es) = then_fun (pattern_terms es) (λ ts. Ok (term.tuple (of_elements ts)))
-    pattern_term (before at o e) = then_fun (pattern_term e) (λ t. negative at t)
+    pattern_term (before at o e) = negative_integer at e
     -- no pattern
     pattern_term (in_parens at e) = pattern_term e
     pattern_term (call at s es) = Err (minus_alone at)

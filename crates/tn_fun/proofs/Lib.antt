@@ -11,3 +11,4 @@ pub mod Endings
 pub mod OtherKinds
 pub mod FunSteps
 pub mod FunRuns
+pub mod CodesSteps

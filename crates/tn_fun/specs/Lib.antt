@@ -6,4 +6,3 @@ pub mod States
 pub mod Clauses
 pub mod FunStates
 pub mod Answers
-pub mod Constants

@@ -1,14 +1,13 @@
 //! Funs as `dbg:fun2ms/1` takes them: their tokens, and the trees of their expressions.
 //!
-//! Depends on `def_fun` (tokens, grammar, limits, constants, refusals), on `tn_term` and `tn_text`.
-//! Promises: `tokens` gives exactly the tokens of a text, with their places; `read_fun` answers the
-//! clauses of the fun that a text is, or its refusal with its place. An operator of constants gives what
-//! is defined; no function translates a fun yet.
+//! Depends on `def_fun` (tokens, grammar, limits, refusals), on `tn_term` and `tn_text`. Promises:
+//! `tokens` gives exactly the tokens of a text, with their places; `read_fun` answers the clauses of the
+//! fun that a text is, or its refusal with its place; `name_of` and `string_codes` give what a token of
+//! a text spells.
 #![tactic(auto)]
 
 mod body_step;
 mod clause;
-mod constants;
 mod expr_end;
 mod fault;
 mod follow;
@@ -17,9 +16,9 @@ mod fun_step;
 mod gather;
 mod guard_step;
 mod head_step;
-mod integers;
 mod level;
 mod lexer;
+mod names;
 mod operand;
 mod operator;
 mod part;
@@ -33,6 +32,7 @@ mod words;
 pub use clause::{Clause, Head};
 pub use fault::ReadFault;
 pub use lexer::tokens;
+pub use names::{name_of, string_codes, token_bytes};
 pub use operator::Operator;
 pub use reader::read_fun;
 pub use token::{Kind, Token};

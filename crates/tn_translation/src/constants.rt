@@ -7,10 +7,10 @@ ghost use Rattle.def_fun.specs.Constants.{truth_value, of_two_truths, if_truths,
 ghost use Rattle.def_fun.specs.Constants.{computed_between, computed_before};
 ghost use Rattle.tn_term.specs.Views.{tree_of};
 ghost use Rattle.tn_fun.specs.Tokens.{operator_seen};
-ghost use Rattle.tn_fun.specs.Constants.{computation_seen};
+ghost use Rattle.tn_translation.specs.Constants.{computation_seen};
 
 use crate::integers::{Computation, before_integer, between_integers};
-use crate::operator::Operator;
+use tn_fun::Operator;
 use std::alloc::Allocator;
 use std::cmp::Ordering;
 use tn_term::Term;

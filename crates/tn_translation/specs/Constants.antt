@@ -1,10 +1,12 @@
 -- What an operator of constants gives, and what of the definition that stands for.
-use Rattle.std.specs.Prelude.{◌≡◌, ℤ}
+use Rattle.std.specs.Prelude.{◌≡◌, ℤ, Bool, true, false}
+use Rattle.def_fun.specs.Operators as op
+use Rattle.def_fun.specs.Operators.{FunOperator}
 use Rattle.def_term.specs.Tree.{int}
 use Rattle.def_fun.specs.Constants as constants
 use Rattle.def_fun.specs.Constants.{not_computed, gives, gives_too_large, gives_integer, gives_truth}
-use Rattle.tn_fun.specs.declared.integers.Computation.{Computation}
-use Rattle.tn_fun.specs.declared.integers.Computation.TheVariants as outcomes
+use Rattle.tn_translation.specs.declared.integers.Computation.{Computation}
+use Rattle.tn_translation.specs.declared.integers.Computation.TheVariants as outcomes
 
 abbrev pub computation_seen : Computation → constants.Computation
 computation_seen outcomes.Nothing = not_computed
@@ -15,3 +17,8 @@ computation_seen outcomes.TooLarge = gives_too_large
 -- it is the integer, or that is too large
 abbrev pub CountsAs : Computation → ℤ → Type 0
 CountsAs r z = computation_seen r ≡ gives_integer z
+
+-- a `-` before what isn't computed
+abbrev pub is_minus_alone : FunOperator → constants.Computation → Bool
+is_minus_alone op.minus not_computed = true
+is_minus_alone o c = false

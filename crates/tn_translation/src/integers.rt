@@ -6,9 +6,9 @@ ghost use Rattle.def_term.specs.Tree.{int};
 ghost use Rattle.def_spec.specs.Functions.{in_64_bits, quotient, rest_of};
 ghost use Rattle.def_fun.specs.Constants.{gives_any, unless_zero, integer_between, integer_before};
 ghost use Rattle.tn_fun.specs.Tokens.{operator_seen};
-ghost use Rattle.tn_fun.specs.Constants.{computation_seen, CountsAs};
+ghost use Rattle.tn_translation.specs.Constants.{computation_seen, CountsAs};
 
-use crate::operator::Operator;
+use tn_fun::Operator;
 
 /// What an operator of constants gives: nothing, an integer, `true` or `false`, or an integer outside
 /// of signed 64 bits.

@@ -1,0 +1,12 @@
+mod Steps
+mod NamesGrow
+mod OpenLists
+mod Elements
+mod ReadLeaves
+mod CallNames
+mod AtomTexts
+mod Values
+mod ListTails
+mod Rows
+mod Alternatives
+mod Arms

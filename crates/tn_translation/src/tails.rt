@@ -1,0 +1,126 @@
+// Places of expressions, and lists with a tail.
+ghost use Rattle.std.specs.Prelude.{◌≡◌, ℕ, List, ◌++◌, IfOk};
+ghost use Rattle.def_term.specs.Tree.{list, of_elements};
+ghost use Rattle.def_fun.specs.Trees.{first_byte as first_byte_of};
+ghost use Rattle.def_fun.specs.Translation.{is_proper_tail as is_tail, elements_of_list};
+ghost use Rattle.def_fun.specs.Translation.{onto_tail as list_onto_tail, within_depth as if_within};
+ghost use Rattle.tn_fun.specs.Trees.{fun_expr_seen};
+ghost use Rattle.tn_term.specs.Views.{tree_of};
+ghost use Rattle.tn_translation.specs.Faults.{Gives};
+ghost use Rattle.tn_translation.specs.Tails.{offset_seen, tail_offset};
+ghost use Rattle.tn_translation.specs.Values.{row_seen};
+
+use crate::fault::FunFault;
+use std::alloc::{AllocError, Allocator};
+use tn_fun::Expr;
+use tn_term::Term;
+
+/// The most elements of a list with those of its tail.
+const MAX_LIST: usize = 4096;
+
+/// The offset of the first byte of an expression.
+#[cycle(first)]
+pub fn first_byte<A: Allocator>(expr: &Expr<A>) -> usize
+    ensures { (text : List ℕ) → result ≡ first_byte_of (fun_expr_seen text expr.now) }
+{
+    match expr {
+        Expr::Variable(token) | Expr::Atom(token) | Expr::Strings(token, _) | Expr::Call(token, _) => {
+            token.from
+        }
+        Expr::Integer(at, _)
+        | Expr::Parens(at, _)
+        | Expr::List(at, _)
+        | Expr::ListOnto(at, _, _)
+        | Expr::Tuple(at, _)
+        | Expr::Before(at, _, _) => *at,
+        Expr::Between(_, _, left, _) => first_byte(left),
+    }
+}
+
+/// Whether the tail of a list is a list or strings.
+#[cycle(tail)]
+fn is_proper_tail<A: Allocator>(expr: &Expr<A>) -> bool
+    ensures { (text : List ℕ) → result ≡ is_tail (fun_expr_seen text expr.now) }
+{
+    match expr {
+        Expr::List(_, _) | Expr::ListOnto(_, _, _) | Expr::Strings(_, _) => true,
+        Expr::Parens(_, inner) => is_proper_tail(inner),
+        _ => false,
+    }
+}
+
+/// The offset of the tail of a list, which is a list or strings.
+pub fn proper_tail<A: Allocator>(tail: &Expr<A>) -> Result<usize, FunFault>
+    ensures { (text : List ℕ) → Gives offset_seen text result (tail_offset (fun_expr_seen text tail.now)) }
+{
+    let at = first_byte(tail);
+    if is_proper_tail(tail) {
+        Ok(at)
+    } else {
+        Err(FunFault::ListWithTail { at })
+    }
+}
+
+/// The elements of a list; another term has none.
+fn elements_of<A: Allocator>(alloc: A, term: Term<A>) -> Vec<Term<A>, A>
+    ensures { row_seen result ≡ elements_of_list (tree_of term) }
+{
+    match term {
+        Term::List(items) => items,
+        Term::Int(_) => Vec::new(alloc),
+        Term::Atom(_) => Vec::new(alloc),
+        Term::Pid(_) => Vec::new(alloc),
+        Term::Tuple(_) => Vec::new(alloc),
+    }
+}
+
+/// These terms and the elements of their tail.
+fn joined<A: Allocator>(
+    alloc: A,
+    terms: Vec<Term<A>, A>,
+    tail: Term<A>,
+) -> Result<Vec<Term<A>, A>, AllocError>
+    ensures { IfOk result (λ v. row_seen v ≡ row_seen terms ++ elements_of_list (tree_of tail)) }
+{
+    let mut terms = terms;
+    let mut more = elements_of(alloc, tail);
+    terms.append(&mut more)?;
+    Ok(terms)
+}
+
+/// The list of these terms and the elements of their tail.
+pub fn joined_list<A: Allocator>(
+    alloc: A,
+    terms: Vec<Term<A>, A>,
+    tail: Term<A>,
+) -> Result<Term<A>, AllocError>
+    ensures { IfOk result (λ t. tree_of t ≡ list (of_elements (row_seen terms ++ elements_of_list (tree_of tail)))) }
+{
+    Ok(Term::List(joined(alloc, terms, tail)?))
+}
+
+/// The list of these terms and the elements of their tail, where it has no more than 4,096 elements.
+pub fn onto_tail<A: Allocator>(
+    alloc: A,
+    at: usize,
+    terms: Vec<Term<A>, A>,
+    tail: Term<A>,
+) -> Result<Term<A>, FunFault>
+    ensures { (text : List ℕ) → Gives tree_of text result (list_onto_tail at (row_seen terms) (tree_of tail)) }
+{
+    let items = joined(alloc, terms, tail)?;
+    if items.len() > MAX_LIST {
+        return Err(FunFault::TooLarge { at });
+    }
+    Ok(Term::List(items))
+}
+
+/// The term, where it isn't deeper.
+pub fn within_depth<A: Allocator>(limit: u8, at: usize, term: Term<A>) -> Result<Term<A>, FunFault>
+    ensures { (text : List ℕ) → Gives tree_of text result (if_within limit at (tree_of term)) }
+{
+    if term.depth() > u64::from(limit) {
+        return Err(FunFault::TooDeep { at });
+    }
+    Ok(term)
+}
