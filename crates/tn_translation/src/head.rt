@@ -70,8 +70,8 @@ fn matched_head<A: Allocator + Copy>(
         (matched_names bytes.now whole (variables_of bytes.now part.now)) }
 {
     let mut names = names_with(alloc, bytes, whole)?;
-    let term = pattern_term(alloc, bytes, &mut names, part)?;
-    let term = within_depth(MAX_DEPTH, at, term)?;
+    let whole_term = pattern_term(alloc, bytes, &mut names, part)?;
+    let term = within_depth(MAX_DEPTH, at, whole_term)?;
     Ok(TranslatedHead { names, term })
 }
 
