@@ -6,7 +6,7 @@ use Rattle.def_fun.specs.Refusals.{FunRefusal, OrRefusal}
 use Rattle.tn_term.specs.Views.{tree_of}
 use Rattle.tn_translation.specs.declared.fault.FunFault.{FunFault}
 use Rattle.tn_translation.specs.declared.spec.FunSpec.{FunSpec}
-use Rattle.tn_translation.specs.Faults.{fault_seen, RefusedBy, Gives}
+use Rattle.tn_translation.specs.Faults.{fun_fault_seen, RefusedBy, GivesFun}
 use Rattle.tn_translation.specs.Specifications.{spec_tree}
 use Rattle.tn_translation.specs.AnswerViews.{RefusalIs}
 use Rattle.complete_funs.specs.Answers.{AreSameRefusals}
@@ -30,12 +30,12 @@ same_refusals r None p h k = tt
 same_refusals r (Some x) None h k = tt
 same_refusals r (Some x) (Some y) h k = same_refusal r x y h k
 
-pub specs_alike : {A : Type 0} (text : List ℕ) (r : OrRefusal Tree) (a b : Result (FunSpec A) FunFault) → Gives spec_tree text a r → Gives spec_tree text b r
+pub specs_alike : {A : Type 0} (text : List ℕ) (r : OrRefusal Tree) (a b : Result (FunSpec A) FunFault) → GivesFun spec_tree text a r → GivesFun spec_tree text b r
     → IfOk a (λ s. s.text.items ≡ w (tree_of s.term)) → IfOk b (λ s. s.text.items ≡ w (tree_of s.term)) → AreSpecsAlike text a b
 specs_alike text r (Ok s) (Ok t) h k i j = let same = same_tree r (tree_of s.term) (tree_of t.term) h k in (same, i ∙ ap w same ∙ sym j)
-specs_alike text r (Ok s) (Err f) h k i j = or_memory r (tree_of s.term) (fault_seen text f) h k
-specs_alike text r (Err f) (Ok s) h k i j = or_memory r (tree_of s.term) (fault_seen text f) k h
-specs_alike text r (Err f) (Err g) h k i j = same_refusals r (fault_seen text f) (fault_seen text g) h k
+specs_alike text r (Ok s) (Err f) h k i j = or_memory r (tree_of s.term) (fun_fault_seen text f) h k
+specs_alike text r (Err f) (Ok s) h k i j = or_memory r (tree_of s.term) (fun_fault_seen text f) k h
+specs_alike text r (Err f) (Err g) h k i j = same_refusals r (fun_fault_seen text f) (fun_fault_seen text g) h k
 
 pub refusals_alike : (text : List ℕ) (r : OrRefusal Tree) (o p : Option FunFault) → RefusalIs text o r → RefusalIs text p r → AreRefusalsAlike text o p
 refusals_alike text r None None h k = tt

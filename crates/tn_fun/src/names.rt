@@ -64,7 +64,10 @@ fn quoted_codes<A: Allocator + Copy>(
 pub fn token_bytes(bytes: &[u8], token: Token) -> &[u8]
     ensures { result.now ≡ take (token.to - token.from) (drop token.from bytes.now) }
 {
-    first_bytes(bytes_from(bytes, token.from), token.to.saturating_sub(token.from))
+    first_bytes(
+        bytes_from(bytes, token.from),
+        token.to.saturating_sub(token.from),
+    )
 }
 
 /// The name that a token of a text spells, where it is an atom or a variable. An error is refused memory.

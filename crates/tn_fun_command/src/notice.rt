@@ -2,7 +2,7 @@
 ghost use Rattle.std.specs.Prelude.{◌≡◌, ◌++◌, OnOk, Some};
 ghost use Rattle.std.specs.Option.{option_map};
 ghost use Rattle.def_fun.specs.Refusals.{FunRefusal};
-ghost use Rattle.tn_translation.specs.Faults.{fault_seen};
+ghost use Rattle.tn_translation.specs.Faults.{fun_fault_seen};
 ghost use Rattle.tn_fun_command.specs.Words.{offset_of, place_text, refusal_notice, refusal_words};
 
 use std::alloc::{AllocError, Allocator};
@@ -12,7 +12,7 @@ use tn_translation::FunFault;
 
 /// What is wrong, and what to write instead.
 fn words_of(fault: FunFault) -> &'static str
-    ensures { (text : List ℕ) (r : FunRefusal) → fault_seen text fault ≡ Some r → result.now ≡ refusal_words r }
+    ensures { (text : List ℕ) (r : FunRefusal) → fun_fault_seen text fault ≡ Some r → result.now ≡ refusal_words r }
 {
     match fault {
         FunFault::TooLong => "the text has more than 1048576 bytes",
@@ -33,7 +33,7 @@ fn words_of(fault: FunFault) -> &'static str
 
 /// The offset of what is refused.
 fn place_of(fault: FunFault) -> Option<usize>
-    ensures { (text : List ℕ) (r : FunRefusal) → fault_seen text fault ≡ Some r → result ≡ offset_of r }
+    ensures { (text : List ℕ) (r : FunRefusal) → fun_fault_seen text fault ≡ Some r → result ≡ offset_of r }
 {
     match fault {
         FunFault::TooLong | FunFault::OutOfMemory => None,
@@ -75,7 +75,7 @@ pub fn put_notice<A: Allocator>(
     fault: FunFault,
     out: &mut Vec<u8, A>,
 ) -> Result<(), AllocError>
-    ensures { OnOk result ((r : FunRefusal) → fault_seen bytes.now fault ≡ Some r
+    ensures { OnOk result ((r : FunRefusal) → fun_fault_seen bytes.now fault ≡ Some r
         → out.new.items ≡ out.old.items ++ refusal_notice bytes.now r) }
 {
     out.extend_from_slice(b"fun: ")?;

@@ -22,7 +22,7 @@ use Rattle.tn_term.proofs.Views.{tree_of_tuple, tree_of_list}
 use Rattle.tn_translation.specs.declared.expr.Scope.{Scope}
 use Rattle.tn_translation.specs.Faults.{RefusedBy}
 use Rattle.tn_translation.specs.Scopes.{text_of, translated_in, each_translated_in}
-use Rattle.tn_translation.specs.Values.{row_seen, translated_list, translated_tuple}
+use Rattle.tn_translation.specs.Values.{term_row_seen, translated_list, translated_tuple}
 use Rattle.tn_translation.proofs.Steps.{refused_then, refused_same, then_value}
 
 -- how many expressions there are
@@ -64,13 +64,13 @@ module _ {A : Type 0} (s : Scope A) where
 -- ---- patterns
 
 module _ {A : Type 0} (text : List ℕ) (ns : ClauseNames) where
-  pub list_pattern : (e : Expr A) (at : ℕ) (es : Vec (Expr A) A) (v : Vec (Term A) A) → e ≡ ListOf at es → pattern_terms ns (fun_exprs_seen text es.items) ≡ Ok (row_seen v) → pattern_term ns (fun_expr_seen text e) ≡ Ok (tree_of (ListTerm v))
+  pub list_pattern : (e : Expr A) (at : ℕ) (es : Vec (Expr A) A) (v : Vec (Term A) A) → e ≡ ListOf at es → pattern_terms ns (fun_exprs_seen text es.items) ≡ Ok (term_row_seen v) → pattern_term ns (fun_expr_seen text e) ≡ Ok (tree_of (ListTerm v))
   list_pattern e at es v is h =
-      ap (λ z. pattern_term ns (fun_expr_seen text z)) is ∙ ap (pattern_term ns) (seen_list text at es) ∙ then_value (pattern_terms ns (fun_exprs_seen text es.items)) _ (row_seen v) h ∙ ap Ok (sym (tree_of_list v))
+      ap (λ z. pattern_term ns (fun_expr_seen text z)) is ∙ ap (pattern_term ns) (seen_list text at es) ∙ then_value (pattern_terms ns (fun_exprs_seen text es.items)) _ (term_row_seen v) h ∙ ap Ok (sym (tree_of_list v))
 
-  pub tuple_pattern : (e : Expr A) (at : ℕ) (es : Vec (Expr A) A) (v : Vec (Term A) A) → e ≡ Tuple at es → pattern_terms ns (fun_exprs_seen text es.items) ≡ Ok (row_seen v) → pattern_term ns (fun_expr_seen text e) ≡ Ok (tree_of (TupleTerm v))
+  pub tuple_pattern : (e : Expr A) (at : ℕ) (es : Vec (Expr A) A) (v : Vec (Term A) A) → e ≡ Tuple at es → pattern_terms ns (fun_exprs_seen text es.items) ≡ Ok (term_row_seen v) → pattern_term ns (fun_expr_seen text e) ≡ Ok (tree_of (TupleTerm v))
   tuple_pattern e at es v is h =
-      ap (λ z. pattern_term ns (fun_expr_seen text z)) is ∙ ap (pattern_term ns) (seen_tuple text at es) ∙ then_value (pattern_terms ns (fun_exprs_seen text es.items)) _ (row_seen v) h ∙ ap Ok (sym (tree_of_tuple v))
+      ap (λ z. pattern_term ns (fun_expr_seen text z)) is ∙ ap (pattern_term ns) (seen_tuple text at es) ∙ then_value (pattern_terms ns (fun_exprs_seen text es.items)) _ (term_row_seen v) h ∙ ap Ok (sym (tree_of_tuple v))
 
   pub onto_pattern_seen : (e : Expr A) (at : ℕ) (es : Vec (Expr A) A) (t : Boxed (Expr A) A) (u : Expr A) → e ≡ ListOnto at es t → u ≡ box_value t
       → pattern_term ns (fun_expr_seen text e) ≡ pattern_term ns (tree.list_onto at (fun_exprs_seen text es.items) (fun_expr_seen text u))

@@ -7,6 +7,6 @@ mod CallNames
 mod AtomTexts
 mod Values
 mod ListTails
-mod Rows
 mod Alternatives
 mod Arms
+mod Rows

@@ -78,7 +78,7 @@ gather_left false p q h g = g
 gathered : (n : ℕ) (e : FunExpr) (fs : List OpenPart) → Sits e fs → PartsHave fs → BothHave (gather n e fs)
 gathered n e [] h r = (h, r)
 gathered n e (after_prefix at o ∷ fs) h r = gathered n (before at o e) fs (sits (before at o e) fs tt h) r
-gathered n e (after_left at o l ∷ fs) h r = gather_left (nat_le n (level_of (operator_binding o))) (gather n (between at o l e) fs) (e, after_left at o l ∷ fs) (gathered n (between at o l e) fs (sits (between at o l e) fs tt (r.0, h)) r.1) (h, r.0, r.1)
+gathered n e (after_left at o l ∷ fs) h r = gather_left (nat_le n (level_of (operator_binding o))) (gather n (between at o l e) fs) (e, after_left at o l ∷ fs) (gathered n (between at o l e) fs (sits (between at o l e) fs tt (r.0, h)) r.1) (h, r)
 gathered n e (in_open_parens at ∷ fs) h r = (h, r)
 gathered n e (in_open_call at s es ∷ fs) h r = (h, r)
 gathered n e (in_open_list at es ∷ fs) h r = (h, r)
@@ -169,11 +169,11 @@ module _ (pattern : Bool) (limit : ℕ) where
   after_has e fs at (token.operator o) s' x r h = operator_has at o (gather (left_level (operator_binding o)) e fs) s' (gathered (left_level (operator_binding o)) e fs x r) h
   after_has e fs at (token.characters u) s' x r h = string_has u e fs s' r h
   after_has e fs at token.open_paren s' x r h = arguments_have e fs s' x r h
-  after_has e fs at token.close_paren s' x r h = let g = gathered 1 e fs x r in close_has token.close_paren _ _ s' g.0 g.1 h
-  after_has e fs at token.close_bracket s' x r h = let g = gathered 1 e fs x r in close_has token.close_bracket _ _ s' g.0 g.1 h
-  after_has e fs at token.close_brace s' x r h = let g = gathered 1 e fs x r in close_has token.close_brace _ _ s' g.0 g.1 h
-  after_has e fs at token.comma s' x r h = let g = gathered 1 e fs x r in comma_has _ _ s' g.0 g.1 h
-  after_has e fs at token.bar s' x r h = let g = gathered 1 e fs x r in bar_has _ _ s' g.0 g.1 h
+  after_has e fs at token.close_paren s' x r h = let g = gathered 1 e fs x r in close_has token.close_paren (gather 1 e fs).0 (gather 1 e fs).1 s' g.0 g.1 h
+  after_has e fs at token.close_bracket s' x r h = let g = gathered 1 e fs x r in close_has token.close_bracket (gather 1 e fs).0 (gather 1 e fs).1 s' g.0 g.1 h
+  after_has e fs at token.close_brace s' x r h = let g = gathered 1 e fs x r in close_has token.close_brace (gather 1 e fs).0 (gather 1 e fs).1 s' g.0 g.1 h
+  after_has e fs at token.comma s' x r h = let g = gathered 1 e fs x r in comma_has (gather 1 e fs).0 (gather 1 e fs).1 s' g.0 g.1 h
+  after_has e fs at token.bar s' x r h = let g = gathered 1 e fs x r in bar_has (gather 1 e fs).0 (gather 1 e fs).1 s' g.0 g.1 h
   after_has e fs at t s' x r h = absurd (cc)
 
   step_has : (s : ExprState) (x : FunSpan) (s' : ExprState) → StateHas s → IsPlainToken x.token → fun_expr_step pattern limit true s x ≡ Ok s' → StateHas s'

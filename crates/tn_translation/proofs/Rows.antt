@@ -17,7 +17,7 @@ use Rattle.tn_translation.specs.declared.value.Elements.{Elements}
 use Rattle.tn_translation.specs.Faults.{RefusedBy}
 use Rattle.tn_translation.specs.Names.{more_names, variables_of, variables_of_each, Extends}
 use Rattle.tn_translation.specs.Scopes.{text_of, translated_in, each_translated_in, part_term_in, part_terms_in}
-use Rattle.tn_translation.specs.Values.{row_seen, AreElements}
+use Rattle.tn_translation.specs.Values.{term_row_seen, AreElements}
 use Rattle.tn_translation.proofs.Steps.{each_next, each_fails, each_ends}
 use Rattle.tn_translation.proofs.NamesGrow.{more_after, extends_first, extends_from}
 use Rattle.tn_translation.proofs.Values.{row_more}
@@ -29,18 +29,18 @@ drop_at xs i x below is = drop_more xs i x below ∙ ap (λ z. z ∷ drop (i + 1
 
 module _ {A : Type 0} (s : Scope A) (xs : List (Expr A)) (i : ℕ) (all : OrRefusal (List Tree)) where
   pub part_next : (x : Expr A) (v w : Vec (Term A) A) (t : Term A) → i < length xs → x ≡ get_or xs i x → part_term_in s (fun_expr_seen (text_of s) x) ≡ Ok (tree_of t) → w.items ≡ v.items ++ t ∷ []
-      → all ≡ then_fun (part_terms_in s (fun_row_seen (text_of s) (drop i xs))) (λ ts. Ok (row_seen v ++ ts)) → all ≡ then_fun (part_terms_in s (fun_row_seen (text_of s) (drop (i + 1) xs))) (λ ts. Ok (row_seen w ++ ts))
+      → all ≡ then_fun (part_terms_in s (fun_row_seen (text_of s) (drop i xs))) (λ ts. Ok (term_row_seen v ++ ts)) → all ≡ then_fun (part_terms_in s (fun_row_seen (text_of s) (drop (i + 1) xs))) (λ ts. Ok (term_row_seen w ++ ts))
   part_next x v w t below is h grown so_far =
-      each_next (part_term_in s (fun_expr_seen (text_of s) x)) _ (part_terms_in s (fun_row_seen (text_of s) (drop (i + 1) xs))) all (tree_of t) (row_seen v) (ap (λ l. part_terms_in s (fun_row_seen (text_of s) l)) (drop_at xs i x below is)) h so_far
+      each_next (part_term_in s (fun_expr_seen (text_of s) x)) _ (part_terms_in s (fun_row_seen (text_of s) (drop (i + 1) xs))) all (tree_of t) (term_row_seen v) (ap (λ l. part_terms_in s (fun_row_seen (text_of s) l)) (drop_at xs i x below is)) h so_far
       ∙ ap (λ r. then_fun (part_terms_in s (fun_row_seen (text_of s) (drop (i + 1) xs))) (λ ts. Ok (r ++ ts))) (sym (row_more v w t grown))
 
   pub part_fails : (o : Option FunRefusal) (x : Expr A) (v : Vec (Term A) A) → i < length xs → x ≡ get_or xs i x → RefusedBy o (part_term_in s (fun_expr_seen (text_of s) x))
-      → all ≡ then_fun (part_terms_in s (fun_row_seen (text_of s) (drop i xs))) (λ ts. Ok (row_seen v ++ ts)) → RefusedBy o all
+      → all ≡ then_fun (part_terms_in s (fun_row_seen (text_of s) (drop i xs))) (λ ts. Ok (term_row_seen v ++ ts)) → RefusedBy o all
   part_fails o x v below is h so_far =
-      each_fails o (part_term_in s (fun_expr_seen (text_of s) x)) _ (part_terms_in s (fun_row_seen (text_of s) (drop (i + 1) xs))) all (row_seen v) (ap (λ l. part_terms_in s (fun_row_seen (text_of s) l)) (drop_at xs i x below is)) h so_far
+      each_fails o (part_term_in s (fun_expr_seen (text_of s) x)) _ (part_terms_in s (fun_row_seen (text_of s) (drop (i + 1) xs))) all (term_row_seen v) (ap (λ l. part_terms_in s (fun_row_seen (text_of s) l)) (drop_at xs i x below is)) h so_far
 
-  pub part_ends : (v : Vec (Term A) A) → length xs ≤ i → all ≡ then_fun (part_terms_in s (fun_row_seen (text_of s) (drop i xs))) (λ ts. Ok (row_seen v ++ ts)) → all ≡ Ok (row_seen v)
-  part_ends v over so_far = each_ends _ all (row_seen v) (ap (λ l. part_terms_in s (fun_row_seen (text_of s) l)) (drop_all i xs over)) so_far
+  pub part_ends : (v : Vec (Term A) A) → length xs ≤ i → all ≡ then_fun (part_terms_in s (fun_row_seen (text_of s) (drop i xs))) (λ ts. Ok (term_row_seen v ++ ts)) → all ≡ Ok (term_row_seen v)
+  part_ends v over so_far = each_ends _ all (term_row_seen v) (ap (λ l. part_terms_in s (fun_row_seen (text_of s) l)) (drop_all i xs over)) so_far
 
 -- ---- elements
 
@@ -62,18 +62,18 @@ module _ {A : Type 0} (s : Scope A) (xs : List (Expr A)) (i : ℕ) (all : OrRefu
 
 module _ {A : Type 0} (text : List ℕ) (ns : ClauseNames) (xs : List (Expr A)) (i : ℕ) (all : OrRefusal (List Tree)) where
   pub pattern_next : (x : Expr A) (v w : Vec (Term A) A) (t : Term A) → i < length xs → x ≡ get_or xs i x → pattern_term ns (fun_expr_seen text x) ≡ Ok (tree_of t) → w.items ≡ v.items ++ t ∷ []
-      → all ≡ then_fun (pattern_terms ns (fun_exprs_seen text (drop i xs))) (λ ts. Ok (row_seen v ++ ts)) → all ≡ then_fun (pattern_terms ns (fun_exprs_seen text (drop (i + 1) xs))) (λ ts. Ok (row_seen w ++ ts))
+      → all ≡ then_fun (pattern_terms ns (fun_exprs_seen text (drop i xs))) (λ ts. Ok (term_row_seen v ++ ts)) → all ≡ then_fun (pattern_terms ns (fun_exprs_seen text (drop (i + 1) xs))) (λ ts. Ok (term_row_seen w ++ ts))
   pattern_next x v w t below is h grown so_far =
-      each_next (pattern_term ns (fun_expr_seen text x)) _ (pattern_terms ns (fun_exprs_seen text (drop (i + 1) xs))) all (tree_of t) (row_seen v) (ap (pattern_terms ns) (exprs_here text xs i x below is)) h so_far
+      each_next (pattern_term ns (fun_expr_seen text x)) _ (pattern_terms ns (fun_exprs_seen text (drop (i + 1) xs))) all (tree_of t) (term_row_seen v) (ap (pattern_terms ns) (exprs_here text xs i x below is)) h so_far
       ∙ ap (λ r. then_fun (pattern_terms ns (fun_exprs_seen text (drop (i + 1) xs))) (λ ts. Ok (r ++ ts))) (sym (row_more v w t grown))
 
   pub pattern_fails : (o : Option FunRefusal) (x : Expr A) (v : Vec (Term A) A) → i < length xs → x ≡ get_or xs i x → RefusedBy o (pattern_term ns (fun_expr_seen text x))
-      → all ≡ then_fun (pattern_terms ns (fun_exprs_seen text (drop i xs))) (λ ts. Ok (row_seen v ++ ts)) → RefusedBy o all
+      → all ≡ then_fun (pattern_terms ns (fun_exprs_seen text (drop i xs))) (λ ts. Ok (term_row_seen v ++ ts)) → RefusedBy o all
   pattern_fails o x v below is h so_far =
-      each_fails o (pattern_term ns (fun_expr_seen text x)) _ (pattern_terms ns (fun_exprs_seen text (drop (i + 1) xs))) all (row_seen v) (ap (pattern_terms ns) (exprs_here text xs i x below is)) h so_far
+      each_fails o (pattern_term ns (fun_expr_seen text x)) _ (pattern_terms ns (fun_exprs_seen text (drop (i + 1) xs))) all (term_row_seen v) (ap (pattern_terms ns) (exprs_here text xs i x below is)) h so_far
 
-  pub patterns_end : (v : Vec (Term A) A) → length xs ≤ i → all ≡ then_fun (pattern_terms ns (fun_exprs_seen text (drop i xs))) (λ ts. Ok (row_seen v ++ ts)) → all ≡ Ok (row_seen v)
-  patterns_end v over so_far = each_ends _ all (row_seen v) (ap (pattern_terms ns) (exprs_past text xs i over)) so_far
+  pub patterns_end : (v : Vec (Term A) A) → length xs ≤ i → all ≡ then_fun (pattern_terms ns (fun_exprs_seen text (drop i xs))) (λ ts. Ok (term_row_seen v ++ ts)) → all ≡ Ok (term_row_seen v)
+  patterns_end v over so_far = each_ends _ all (term_row_seen v) (ap (pattern_terms ns) (exprs_past text xs i over)) so_far
 
 -- the names of the variables of a vector's first expression, and of the others
 variables_here : {A : Type 0} (text : List ℕ) (xs : List (Expr A)) (i : ℕ) (x : Expr A) → i < length xs → x ≡ get_or xs i x → variables_of_each text (drop i xs) ≡ variables_of text x ++ variables_of_each text (drop (i + 1) xs)

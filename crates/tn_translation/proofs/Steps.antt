@@ -3,7 +3,7 @@ use Rattle.std.proofs.Common.{◌≡◌, List, [], ◌∷◌, ◌++◌, ℕ, Opt
 use Rattle.std.proofs.lemmas.List.{append_assoc, append-nil}
 use Rattle.def_fun.specs.Refusals.{FunRefusal, OrRefusal, then_fun}
 use Rattle.tn_translation.specs.declared.fault.FunFault.{FunFault}
-use Rattle.tn_translation.specs.Faults.{fault_seen, RefusedBy, Gives}
+use Rattle.tn_translation.specs.Faults.{fun_fault_seen, RefusedBy, GivesFun}
 
 -- the first refusal is that of the whole
 pub refused_then : {X Y : Type 0} (o : Option FunRefusal) (m : OrRefusal X) (k : X → OrRefusal Y) → RefusedBy o m → RefusedBy o (then_fun m k)

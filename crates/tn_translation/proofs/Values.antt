@@ -1,4 +1,4 @@
--- Translated expressions, and terms of vectors.
+-- ExprTerm expressions, and terms of vectors.
 use Rattle.std.proofs.Common.{◌≡◌, ℕ, ◌≤◌, ◌<◌, List, [], ◌∷◌, ◌++◌, length, map, Bool, true, false, nat_le, min, cond, Option, Some, None, Ok, Err, refl, ap, ap₂, sym, ◌∙◌, arith}
 use Rattle.std.proofs.lemmas.Bool.Decides.{nat_tests}
 use Rattle.std.specs.declared.vec.Vec.{Vec}
@@ -16,25 +16,29 @@ use Rattle.tn_term.proofs.Views.{tree_of_atom, tree_of_tuple, tree_of_list, elem
 use Rattle.tn_translation.specs.declared.fault.FunFault.{FunFault}
 use Rattle.tn_translation.specs.declared.fault.FunFault.TheVariants as faults
 use Rattle.tn_translation.specs.Constants.{is_minus_alone}
-use Rattle.tn_translation.specs.Faults.{fault_seen}
-use Rattle.tn_translation.specs.Values.{row_seen}
+use Rattle.tn_translation.specs.Faults.{fun_fault_seen}
+use Rattle.tn_translation.specs.Values.{term_row_seen}
+use Rattle.def_fun.specs.Variables.{of_no_head}
+use Rattle.tn_translation.specs.declared.names.VariableKind.{VariableKind}
+use Rattle.tn_translation.specs.declared.names.VariableKind.TheVariants as kinds
+use Rattle.tn_translation.specs.Names.{bytes_seen, variable_kind_seen}
 
 pub same_translated : (t u : Tree) (o p : Option Tree) → t ≡ u → o ≡ p → ◌≡◌ {A = TranslatedExpr} (record { becomes = t; constant = o }) (record { becomes = u; constant = p })
 same_translated t u o p h k = ap₂ (λ x y. record { becomes = x; constant = y }) h k
 
 -- one more term of a vector
-pub row_more : {A : Type 0} (v w : Vec (Term A) A) (t : Term A) → w.items ≡ v.items ++ t ∷ [] → row_seen w ≡ row_seen v ++ tree_of t ∷ []
+pub row_more : {A : Type 0} (v w : Vec (Term A) A) (t : Term A) → w.items ≡ v.items ++ t ∷ [] → term_row_seen w ≡ term_row_seen v ++ tree_of t ∷ []
 row_more v w t h = ap (map tree_of) h ∙ map-append tree_of v.items (t ∷ [])
 
-pub row_joined : {A : Type 0} (v w u : Vec (Term A) A) → u.items ≡ v.items ++ w.items → row_seen u ≡ row_seen v ++ row_seen w
+pub row_joined : {A : Type 0} (v w u : Vec (Term A) A) → u.items ≡ v.items ++ w.items → term_row_seen u ≡ term_row_seen v ++ term_row_seen w
 row_joined v w u h = ap (map tree_of) h ∙ map-append tree_of v.items w.items
 
-pub list_elements : {A : Type 0} (v : Vec (Term A) A) → elements_of_list (tree_of (ListOf v)) ≡ row_seen v
+pub list_elements : {A : Type 0} (v : Vec (Term A) A) → elements_of_list (tree_of (ListOf v)) ≡ term_row_seen v
 list_elements v = ap elements_of_list (tree_of_list v) ∙ elements-of_elements (map tree_of v.items)
 
 -- a name before terms
-pub named_tuple : {A : Type 0} (s : List ℕ) (v w : Vec (Term A) A) → w.items ≡ Atom s ∷ v.items → tree_of (Tuple w) ≡ name_tuple s (row_seen v)
-named_tuple {A} s v w h = tree_of_tuple w ∙ ap (λ l. tuple (of_elements (map tree_of l))) h ∙ ap (λ t. tuple (more t (of_elements (row_seen v)))) (tree_of_atom A s)
+pub named_tuple : {A : Type 0} (s : List ℕ) (v w : Vec (Term A) A) → w.items ≡ Atom s ∷ v.items → tree_of (Tuple w) ≡ name_tuple s (term_row_seen v)
+named_tuple {A} s v w h = tree_of_tuple w ∙ ap (λ l. tuple (of_elements (map tree_of l))) h ∙ ap (λ t. tuple (more t (of_elements (term_row_seen v)))) (tree_of_atom A s)
 
 -- ---- lists with a tail
 
@@ -44,18 +48,18 @@ at_most n most h = grind (arith, nat_tests)
 more_than : (n most : ℕ) → most < n → nat_le n most ≡ false
 more_than n most h = grind (arith, nat_tests)
 
-row_length : {A : Type 0} (v : Vec (Term A) A) → length (row_seen v) ≡ length v.items
+row_length : {A : Type 0} (v : Vec (Term A) A) → length (term_row_seen v) ≡ length v.items
 row_length v = length-map v.items tree_of
 
-pub long_list : {A : Type 0} (at : ℕ) (ts : List Tree) (t : Tree) (v : Vec (Term A) A) → row_seen v ≡ ts ++ elements_of_list t → 4096 < length v.items → onto_tail at ts t ≡ Err (too_large_at at)
+pub long_list : {A : Type 0} (at : ℕ) (ts : List Tree) (t : Tree) (v : Vec (Term A) A) → term_row_seen v ≡ ts ++ elements_of_list t → 4096 < length v.items → onto_tail at ts t ≡ Err (too_large_at at)
 long_list at ts t v h long =
     ap (λ us. cond (nat_le (length us) LIST_LENGTH) (Ok (list (of_elements us))) (Err (too_large_at at))) (sym h)
-    ∙ ap (λ b. cond b (Ok (list (of_elements (row_seen v)))) (Err (too_large_at at))) (more_than (length (row_seen v)) LIST_LENGTH (let e = row_length v in omega (arith, e, long)))
+    ∙ ap (λ b. cond b (Ok (list (of_elements (term_row_seen v)))) (Err (too_large_at at))) (more_than (length (term_row_seen v)) LIST_LENGTH (let e = row_length v in omega (arith, e, long)))
 
-pub short_list : {A : Type 0} (at : ℕ) (ts : List Tree) (t : Tree) (v : Vec (Term A) A) → row_seen v ≡ ts ++ elements_of_list t → length v.items ≤ 4096 → onto_tail at ts t ≡ Ok (tree_of (ListOf v))
+pub short_list : {A : Type 0} (at : ℕ) (ts : List Tree) (t : Tree) (v : Vec (Term A) A) → term_row_seen v ≡ ts ++ elements_of_list t → length v.items ≤ 4096 → onto_tail at ts t ≡ Ok (tree_of (ListOf v))
 short_list at ts t v h short =
     ap (λ us. cond (nat_le (length us) LIST_LENGTH) (Ok (list (of_elements us))) (Err (too_large_at at))) (sym h)
-    ∙ ap (λ b. cond b (Ok (list (of_elements (row_seen v)))) (Err (too_large_at at))) (at_most (length (row_seen v)) LIST_LENGTH (let e = row_length v in omega (arith, e, short)))
+    ∙ ap (λ b. cond b (Ok (list (of_elements (term_row_seen v)))) (Err (too_large_at at))) (at_most (length (term_row_seen v)) LIST_LENGTH (let e = row_length v in omega (arith, e, short)))
     ∙ ap Ok (sym (tree_of_list v))
 
 -- ---- depths
@@ -78,7 +82,7 @@ prefix_is_call at o t c h = refl
 
 -- ---- refusals
 
-pub seen_refusal : (text : List ℕ) (f : FunFault) → (f ≡ faults.OutOfMemory → ⊥) → (r : FunRefusal) × (fault_seen text f ≡ Some r)
+pub seen_refusal : (text : List ℕ) (f : FunFault) → (f ≡ faults.OutOfMemory → ⊥) → (r : FunRefusal) × (fun_fault_seen text f ≡ Some r)
 seen_refusal text faults.TooLong h = (_, refl)
 seen_refusal text (faults.Token at) h = (_, refl)
 seen_refusal text (faults.NoSuch v) h = (_, refl)
@@ -92,3 +96,14 @@ seen_refusal text (faults.ListWithTail at) h = (_, refl)
 seen_refusal text (faults.MinusAlone at) h = (_, refl)
 seen_refusal text (faults.WholeHead v) h = (_, refl)
 seen_refusal text faults.OutOfMemory h = absurd (h refl)
+
+-- ---- variables
+
+pub unbound_seen : (k : VariableKind) → variable_kind_seen k ≡ of_no_head → k ≡ kinds.Unbound
+unbound_seen kinds.Unbound h = refl
+unbound_seen kinds.Whole h = absurd (cc)
+unbound_seen kinds.Anything h = absurd (cc)
+unbound_seen (kinds.Number n) h = absurd (cc)
+
+pub names_pushed : {A : Type 0} (v w : Vec (Vec ℕ A) A) (n : Vec ℕ A) → w.items ≡ v.items ++ n ∷ [] → map bytes_seen w.items ≡ map bytes_seen v.items ++ n.items ∷ []
+names_pushed v w n h = ap (map bytes_seen) h ∙ map-append bytes_seen v.items (n ∷ [])

@@ -10,20 +10,20 @@ use Rattle.tn_translation.specs.declared.fault.FunFault.{FunFault}
 use Rattle.tn_translation.specs.declared.fault.FunFault.TheVariants as faults
 
 -- the refusal; memory that ran out is none
-abbrev pub fault_seen : List ℕ → FunFault → Option FunRefusal
-fault_seen text faults.TooLong = Some too_long
-fault_seen text (faults.Token at) = Some (misplaced_token at)
-fault_seen text (faults.NoSuch v) = Some (no_such (left_out_name (token_there text v)) v.from)
-fault_seen text (faults.TooDeep at) = Some (too_deep_at at)
-fault_seen text (faults.TooLarge at) = Some (too_large_at at)
-fault_seen text (faults.Unbound v) = Some (unbound (token_name text v) v.from)
-fault_seen text (faults.NoFunction v n) = Some (no_function (token_name text v) n v.from)
-fault_seen text (faults.Unsupported v) = Some (unsupported (token_name text v) v.from)
-fault_seen text (faults.HeadAtom v) = Some (head_atom (token_name text v) v.from)
-fault_seen text (faults.ListWithTail at) = Some (list_with_tail at)
-fault_seen text (faults.MinusAlone at) = Some (minus_alone at)
-fault_seen text (faults.WholeHead v) = Some (whole_head (token_name text v) v.from)
-fault_seen text faults.OutOfMemory = None
+abbrev pub fun_fault_seen : List ℕ → FunFault → Option FunRefusal
+fun_fault_seen text faults.TooLong = Some too_long
+fun_fault_seen text (faults.Token at) = Some (misplaced_token at)
+fun_fault_seen text (faults.NoSuch v) = Some (no_such (left_out_name (token_there text v)) v.from)
+fun_fault_seen text (faults.TooDeep at) = Some (too_deep_at at)
+fun_fault_seen text (faults.TooLarge at) = Some (too_large_at at)
+fun_fault_seen text (faults.Unbound v) = Some (unbound (token_name text v) v.from)
+fun_fault_seen text (faults.NoFunction v n) = Some (no_function (token_name text v) n v.from)
+fun_fault_seen text (faults.Unsupported v) = Some (unsupported (token_name text v) v.from)
+fun_fault_seen text (faults.HeadAtom v) = Some (head_atom (token_name text v) v.from)
+fun_fault_seen text (faults.ListWithTail at) = Some (list_with_tail at)
+fun_fault_seen text (faults.MinusAlone at) = Some (minus_alone at)
+fun_fault_seen text (faults.WholeHead v) = Some (whole_head (token_name text v) v.from)
+fun_fault_seen text faults.OutOfMemory = None
 
 -- a refusal of reading is one of the text
 abbrev pub reading_fault : ReadFault → FunFault
@@ -40,6 +40,6 @@ RefusedBy None r = Unit {0}
 RefusedBy (Some x) r = r ≡ Err x
 
 -- the definition has this value, or this refusal
-abbrev pub Gives : {X Y : Type 0} → (X → Y) → List ℕ → Result X FunFault → OrRefusal Y → Type 0
-Gives view text (Ok x) r = r ≡ Ok (view x)
-Gives view text (Err f) r = RefusedBy (fault_seen text f) r
+abbrev pub GivesFun : {X Y : Type 0} → (X → Y) → List ℕ → Result X FunFault → OrRefusal Y → Type 0
+GivesFun view text (Ok x) r = r ≡ Ok (view x)
+GivesFun view text (Err f) r = RefusedBy (fun_fault_seen text f) r

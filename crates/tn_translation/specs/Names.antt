@@ -15,8 +15,8 @@ use Rattle.tn_translation.specs.declared.names.VariableKind.TheVariants as kinds
 abbrev pub bytes_seen : {A : Type 0} → Vec ℕ A → List ℕ
 bytes_seen v = v.items
 
-abbrev pub names_seen : {A : Type 0} → ClauseNames A → variables.ClauseNames
-names_seen c = record { of_whole = option_map bytes_seen c.whole; numbers = map bytes_seen c.numbers.items }
+abbrev pub clause_names_seen : {A : Type 0} → ClauseNames A → variables.ClauseNames
+clause_names_seen c = record { of_whole = option_map bytes_seen c.whole; numbers = map bytes_seen c.numbers.items }
 
 -- with the names of more variables
 abbrev pub more_names : variables.ClauseNames → List Name → variables.ClauseNames

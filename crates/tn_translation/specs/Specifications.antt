@@ -17,9 +17,9 @@ use Rattle.tn_translation.specs.declared.head.TranslatedHead.{TranslatedHead}
 use Rattle.tn_translation.specs.declared.alternatives.SharedParts.{SharedParts}
 use Rattle.tn_translation.specs.declared.spec_so_far.SpecSoFar.{SpecSoFar}
 use Rattle.tn_translation.specs.declared.spec.FunSpec.{FunSpec}
-use Rattle.tn_translation.specs.Faults.{fault_seen, RefusedBy}
-use Rattle.tn_translation.specs.Names.{names_seen}
-use Rattle.tn_translation.specs.Values.{row_seen}
+use Rattle.tn_translation.specs.Faults.{fun_fault_seen, RefusedBy}
+use Rattle.tn_translation.specs.Names.{clause_names_seen}
+use Rattle.tn_translation.specs.Values.{term_row_seen}
 
 -- the names of a clause, of the token that is the whole and the variables of the other part
 abbrev pub matched_names : List ℕ → Option Token → List Name → variables.ClauseNames
@@ -31,12 +31,12 @@ matched_term at e ns = then_fun (pattern_term ns e) (λ t. within_depth HEAD_DEP
 
 -- the definition has this head, with these names, or this refusal
 abbrev pub GivesHead : {A : Type 0} → List ℕ → Result (TranslatedHead A) FunFault → OrRefusal Tree → variables.ClauseNames → Type 0
-GivesHead text (Ok h) r ns = (r ≡ Ok (tree_of h.term)) × (names_seen h.names ≡ ns)
-GivesHead text (Err f) r ns = RefusedBy (fault_seen text f) r
+GivesHead text (Ok h) r ns = (r ≡ Ok (tree_of h.term)) × (clause_names_seen h.names ≡ ns)
+GivesHead text (Err f) r ns = RefusedBy (fun_fault_seen text f) r
 
 -- the clauses so far
 abbrev pub clauses_seen : {A : Type 0} → SpecSoFar A → List Tree
-clauses_seen s = row_seen s.clauses
+clauses_seen s = term_row_seen s.clauses
 
 -- the head and the body are those of the clause
 pub record AreSharedParts {A : Type 0} (d : Dialect) (k : FunClause) (p : SharedParts A) : Type 0 where

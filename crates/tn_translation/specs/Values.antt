@@ -8,16 +8,16 @@ use Rattle.def_fun.specs.Translation.{TranslatedExpr, all_terms, all_constants, 
 use Rattle.tn_term.specs.declared.term.Term.{Term}
 use Rattle.tn_term.specs.Views.{tree_of}
 use Rattle.tn_translation.specs.declared.fault.FunFault.{FunFault}
-use Rattle.tn_translation.specs.declared.value.Translated.{Translated}
+use Rattle.tn_translation.specs.declared.value.ExprTerm.{ExprTerm}
 use Rattle.tn_translation.specs.declared.value.Elements.{Elements}
-use Rattle.tn_translation.specs.Faults.{fault_seen, RefusedBy}
+use Rattle.tn_translation.specs.Faults.{fun_fault_seen, RefusedBy}
 
-abbrev pub translated_seen : {A : Type 0} → Translated A → TranslatedExpr
+abbrev pub translated_seen : {A : Type 0} → ExprTerm A → TranslatedExpr
 translated_seen x = record { becomes = tree_of x.term; constant = option_map tree_of x.constant }
 
 -- the terms of a vector
-abbrev pub row_seen : {A : Type 0} → Vec (Term A) A → List Tree
-row_seen v = map tree_of v.items
+abbrev pub term_row_seen : {A : Type 0} → Vec (Term A) A → List Tree
+term_row_seen v = map tree_of v.items
 
 -- a list of these
 abbrev pub translated_list : List TranslatedExpr → TranslatedExpr
@@ -38,13 +38,13 @@ translated_tuple xs = record { becomes = doubled_tuple (all_terms xs); constant 
 
 -- the terms of these, and their values where all are constants
 pub record AreElements {A : Type 0} (v : Elements A) (xs : List TranslatedExpr) : Type 0 where
-  pub terms : row_seen v.terms ≡ all_terms xs
-  pub constants : option_map row_seen v.constants ≡ all_constants xs
+  pub terms : term_row_seen v.terms ≡ all_terms xs
+  pub constants : option_map term_row_seen v.constants ≡ all_constants xs
 
 -- the definition has these elements, or this refusal
 abbrev pub GivesElements : {A : Type 0} → List ℕ → Result (Elements A) FunFault → OrRefusal (List TranslatedExpr) → Type 0
 GivesElements text (Ok v) r = (xs : List TranslatedExpr) × (r ≡ Ok xs) × AreElements v xs
-GivesElements text (Err f) r = RefusedBy (fault_seen text f) r
+GivesElements text (Err f) r = RefusedBy (fun_fault_seen text f) r
 
 -- a list of these elements with a tail
 abbrev pub onto_translated : ℕ → List TranslatedExpr → TranslatedExpr → OrRefusal TranslatedExpr

@@ -6,10 +6,10 @@ ghost use Rattle.def_fun.specs.Translation.{within_length, with_alternatives, al
 ghost use Rattle.tn_fun.specs.Clauses.{fun_clause_seen, guards_seen};
 ghost use Rattle.tn_term.specs.Views.{tree_of};
 ghost use Rattle.tn_spec.specs.Views.{dialect_of};
-ghost use Rattle.tn_translation.specs.Faults.{Gives};
+ghost use Rattle.tn_translation.specs.Faults.{GivesFun};
 ghost use Rattle.tn_translation.specs.Scopes.{part_terms_in, text_of, IsConditionScope};
 ghost use Rattle.tn_translation.specs.Specifications.{clauses_seen, first_guard, AreSharedParts};
-ghost use Rattle.tn_translation.specs.Values.{row_seen};
+ghost use Rattle.tn_translation.specs.Values.{term_row_seen};
 
 use crate::expr::Scope;
 use crate::fault::FunFault;
@@ -37,8 +37,8 @@ fn with_conditions<A: Allocator + Copy>(
     conditions: Vec<Term<A>, A>,
     spec: SpecSoFar<A>,
 ) -> Result<SpecSoFar<A>, FunFault>
-    ensures { (text : List ℕ) → Gives clauses_seen text result (within_length shared.now.at (clauses_seen spec
-        ++ triple (tree_of shared.now.head) (list_term (row_seen conditions)) (tree_of shared.now.body) ∷ [])) }
+    ensures { (text : List ℕ) → GivesFun clauses_seen text result (within_length shared.now.at (clauses_seen spec
+        ++ triple (tree_of shared.now.head) (list_term (term_row_seen conditions)) (tree_of shared.now.body) ∷ [])) }
 {
     let head = shared.head.copy_into(alloc)?;
     let body = shared.body.copy_into(alloc)?;
@@ -55,7 +55,7 @@ fn with_other_guards<A: Allocator + Copy>(
     spec: SpecSoFar<A>,
 ) -> Result<SpecSoFar<A>, FunFault>
     ensures { (k : FunClause) → AreSharedParts (dialect_of scope.now.dialect) k shared.now → IsConditionScope scope.now k
-        → Gives clauses_seen (text_of scope.now) result (with_alternatives (dialect_of scope.now.dialect) k
+        → GivesFun clauses_seen (text_of scope.now) result (with_alternatives (dialect_of scope.now.dialect) k
         (clauses_seen spec) (guards_seen (text_of scope.now) (drop 1 guards.now.items))) }
 {
     let mut spec = spec;
@@ -72,7 +72,7 @@ fn first_conditions<A: Allocator + Copy>(
     scope: &Scope<'_, A>,
     guards: &Vec<Vec<Expr<A>, A>, A>,
 ) -> Result<Vec<Term<A>, A>, FunFault>
-    ensures { Gives row_seen (text_of scope.now) result
+    ensures { GivesFun term_row_seen (text_of scope.now) result
         (part_terms_in scope.now (first_guard (guards_seen (text_of scope.now) guards.now.items))) }
 {
     match guards.first() {
@@ -89,7 +89,7 @@ pub fn with_clause<A: Allocator + Copy>(
     clause: &Clause<A>,
     spec: SpecSoFar<A>,
 ) -> Result<SpecSoFar<A>, FunFault>
-    ensures { Gives clauses_seen bytes.now result (with_alternatives (dialect_of dialect)
+    ensures { GivesFun clauses_seen bytes.now result (with_alternatives (dialect_of dialect)
         (fun_clause_seen bytes.now clause.now) (clauses_seen spec)
         (alternatives_of (guards_seen bytes.now clause.now.guards.items))) }
 {

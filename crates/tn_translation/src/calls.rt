@@ -5,7 +5,7 @@ ghost use Rattle.def_fun.specs.Calls.{may_call as may_be_called, named_fun_call}
 ghost use Rattle.tn_fun.specs.Trees.{token_name};
 ghost use Rattle.tn_spec.specs.Names.{position_seen};
 ghost use Rattle.tn_spec.specs.Views.{dialect_of};
-ghost use Rattle.tn_translation.specs.Faults.{Gives};
+ghost use Rattle.tn_translation.specs.Faults.{GivesFun};
 ghost use Rattle.tn_translation.specs.Calls.{fun_call_seen};
 
 use crate::fault::FunFault;
@@ -27,7 +27,8 @@ fn is_function(name: &str, count: usize) -> bool
     match name {
         "abs" | "hd" | "tl" | "length" | "size" => count == 1,
         "is_atom" | "is_float" | "is_integer" | "is_list" | "is_number" | "is_pid" => count == 1,
-        "is_port" | "is_reference" | "is_tuple" | "is_map" | "is_binary" | "is_function" => count == 1,
+        "is_port" | "is_reference" | "is_tuple" | "is_map" | "is_binary" | "is_function" => count
+            == 1,
         "element" => count == 2,
         "node" => count <= 1,
         "self" => count == 0,
@@ -44,7 +45,8 @@ fn is_action(dialect: Dialect, name: &str, count: usize) -> bool
         "return_trace" | "exception_trace" => count == 0,
         "silent" => count == 1 && is_in_bodies(dialect, Action::Silent),
         "enable_trace" => (count == 1 || count == 2) && is_in_bodies(dialect, Action::EnableTrace),
-        "disable_trace" => (count == 1 || count == 2) && is_in_bodies(dialect, Action::DisableTrace),
+        "disable_trace" => (count == 1 || count == 2)
+            && is_in_bodies(dialect, Action::DisableTrace),
         "trace" => (count == 2 || count == 3) && is_in_bodies(dialect, Action::Trace),
         "caller" => count == 0 && is_in_bodies(dialect, Action::Caller),
         _ => false,
@@ -69,7 +71,7 @@ pub fn call_of(
     name: &str,
     count: usize,
 ) -> Result<FunCall, FunFault>
-    ensures { (text : List ℕ) → name.now ≡ token_name text token → Gives fun_call_seen text result
+    ensures { (text : List ℕ) → name.now ≡ token_name text token → GivesFun fun_call_seen text result
         (named_fun_call (dialect_of dialect) (position_seen part) name.now count token.from) }
 {
     if is_unsupported(name) {

@@ -10,9 +10,9 @@ ghost use Rattle.tn_fun.specs.Tokens.{operator_seen};
 ghost use Rattle.tn_translation.specs.Constants.{computation_seen};
 
 use crate::integers::{Computation, before_integer, between_integers};
-use tn_fun::Operator;
 use std::alloc::Allocator;
 use std::cmp::Ordering;
+use tn_fun::Operator;
 use tn_term::Term;
 
 /// An operator of two integers.

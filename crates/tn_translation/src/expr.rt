@@ -9,9 +9,9 @@ ghost use Rattle.def_fun.specs.Translation.{TranslatedExpr};
 ghost use Rattle.tn_fun.specs.Tokens.{operator_seen};
 ghost use Rattle.tn_fun.specs.Trees.{token_name, fun_expr_seen, fun_exprs_seen};
 ghost use Rattle.tn_term.specs.Views.{tree_of};
-ghost use Rattle.tn_translation.specs.Faults.{Gives};
+ghost use Rattle.tn_translation.specs.Faults.{GivesFun};
 ghost use Rattle.tn_translation.specs.Calls.{fun_call_seen};
-ghost use Rattle.tn_translation.specs.Values.{row_seen, translated_seen, translated_list, translated_tuple};
+ghost use Rattle.tn_translation.specs.Values.{term_row_seen, translated_seen, translated_list, translated_tuple};
 ghost use Rattle.tn_translation.specs.Values.{constant_after, onto_translated, tuple_term};
 ghost use Rattle.tn_translation.specs.Values.{AreElements, GivesElements};
 ghost use Rattle.tn_translation.specs.declared.expr.Scope.{Scope as ScopeThere};
@@ -23,7 +23,7 @@ use crate::fault::FunFault;
 use crate::names::{ClauseNames, variable_term};
 use crate::operators::{before_translated, between_translated, integer_value, name_tuple, term_alone};
 use crate::tails::{joined_list, onto_tail, proper_tail};
-use crate::value::{Elements, Translated};
+use crate::value::{Elements, ExprTerm};
 use std::alloc::{AllocError, Allocator};
 use tn_fun::{Expr, Operator, Token};
 use tn_spec::{Dialect, Position};
@@ -39,7 +39,7 @@ pub struct Scope<'a, A: Allocator> {
 }
 
 /// An atom; one that begins with `$` is `{const,A}`.
-fn atom_translated<A: Allocator + Copy>(alloc: A, name: Atom<A>) -> Result<Translated<A>, AllocError>
+fn atom_translated<A: Allocator + Copy>(alloc: A, name: Atom<A>) -> Result<ExprTerm<A>, AllocError>
     ensures { IfOk result (λ x. translated_seen x ≡ spec.constant_as (spec.atom_term name) (term.atom name)) }
 {
     let constant = Some(Term::Atom(name.copy_into(alloc)?));
@@ -51,12 +51,12 @@ fn atom_translated<A: Allocator + Copy>(alloc: A, name: Atom<A>) -> Result<Trans
     } else {
         Term::Atom(name)
     };
-    Ok(Translated { term, constant })
+    Ok(ExprTerm { term, constant })
 }
 
 /// The list of constants.
 fn constant_list<A: Allocator>(values: Option<Vec<Term<A>, A>>) -> Option<Term<A>>
-    ensures { option_map tree_of result ≡ spec.constant_of spec.list_term (option_map row_seen values) }
+    ensures { option_map tree_of result ≡ spec.constant_of spec.list_term (option_map term_row_seen values) }
 {
     match values {
         Some(values) => Some(Term::List(values)),
@@ -66,7 +66,7 @@ fn constant_list<A: Allocator>(values: Option<Vec<Term<A>, A>>) -> Option<Term<A
 
 /// The tuple of constants.
 fn constant_tuple<A: Allocator>(values: Option<Vec<Term<A>, A>>) -> Option<Term<A>>
-    ensures { option_map tree_of result ≡ spec.constant_of tuple_term (option_map row_seen values) }
+    ensures { option_map tree_of result ≡ spec.constant_of tuple_term (option_map term_row_seen values) }
 {
     match values {
         Some(values) => Some(Term::Tuple(values)),
@@ -75,10 +75,10 @@ fn constant_tuple<A: Allocator>(values: Option<Vec<Term<A>, A>>) -> Option<Term<
 }
 
 /// A list of elements.
-fn list_translated<A: Allocator>(elements: Elements<A>) -> Translated<A>
+fn list_translated<A: Allocator>(elements: Elements<A>) -> ExprTerm<A>
     ensures { (xs : List TranslatedExpr) → AreElements elements xs → translated_seen result ≡ translated_list xs }
 {
-    Translated {
+    ExprTerm {
         term: Term::List(elements.terms),
         constant: constant_list(elements.constants),
     }
@@ -88,13 +88,13 @@ fn list_translated<A: Allocator>(elements: Elements<A>) -> Translated<A>
 fn tuple_translated<A: Allocator + Copy>(
     alloc: A,
     elements: Elements<A>,
-) -> Result<Translated<A>, AllocError>
+) -> Result<ExprTerm<A>, AllocError>
     ensures { IfOk result (λ x. (xs : List TranslatedExpr) → AreElements elements xs
         → translated_seen x ≡ translated_tuple xs) }
 {
     let mut only = Vec::with_capacity(alloc, 1)?;
     only.push(Term::Tuple(elements.terms))?;
-    Ok(Translated {
+    Ok(ExprTerm {
         term: Term::Tuple(only),
         constant: constant_tuple(elements.constants),
     })
@@ -107,7 +107,7 @@ fn constants_onto<A: Allocator + Copy>(
     tail: Option<Term<A>>,
 ) -> Result<Option<Term<A>>, AllocError>
     ensures { IfOk result (λ o. option_map tree_of o
-        ≡ spec.constants_onto (option_map row_seen constants) (option_map tree_of tail)) }
+        ≡ spec.constants_onto (option_map term_row_seen constants) (option_map tree_of tail)) }
 {
     match (constants, tail) {
         (Some(values), Some(tail)) => Ok(Some(joined_list(alloc, values, tail)?)),
@@ -120,14 +120,14 @@ fn list_onto<A: Allocator + Copy>(
     alloc: A,
     at: usize,
     elements: Elements<A>,
-    rest: Translated<A>,
-) -> Result<Translated<A>, FunFault>
+    rest: ExprTerm<A>,
+) -> Result<ExprTerm<A>, FunFault>
     ensures { (text : List ℕ) (xs : List TranslatedExpr) → AreElements elements xs
-        → Gives translated_seen text result (onto_translated at xs (translated_seen rest)) }
+        → GivesFun translated_seen text result (onto_translated at xs (translated_seen rest)) }
 {
     let term = onto_tail(alloc, at, elements.terms, rest.term)?;
     let constant = constants_onto(alloc, elements.constants, rest.constant)?;
-    Ok(Translated { term, constant })
+    Ok(ExprTerm { term, constant })
 }
 
 /// The integer of a `-` and the one integer that is too large without it.
@@ -147,7 +147,7 @@ fn call_term<A: Allocator + Copy>(
     call: FunCall,
     name: Atom<A>,
     arguments: Elements<A>,
-) -> Result<Translated<A>, AllocError>
+) -> Result<ExprTerm<A>, AllocError>
     ensures { IfOk result (λ x. (xs : List TranslatedExpr) → AreElements arguments xs
         → translated_seen x ≡ spec.call_translated name (fun_call_seen call) xs) }
 {
@@ -163,8 +163,8 @@ fn with_constant<A: Allocator>(
     values: Option<Vec<Term<A>, A>>,
     value: Option<Term<A>>,
 ) -> Result<Option<Vec<Term<A>, A>>, AllocError>
-    ensures { IfOk result (λ o. option_map row_seen o
-        ≡ constant_after (option_map row_seen values) (option_map tree_of value)) }
+    ensures { IfOk result (λ o. option_map term_row_seen o
+        ≡ constant_after (option_map term_row_seen values) (option_map tree_of value)) }
 {
     match (values, value) {
         (Some(values), Some(value)) => {
@@ -179,7 +179,7 @@ fn with_constant<A: Allocator>(
 /// The elements with one more.
 fn with_element<A: Allocator>(
     elements: Elements<A>,
-    element: Translated<A>,
+    element: ExprTerm<A>,
 ) -> Result<Elements<A>, AllocError>
     ensures { IfOk result (λ v. (xs : List TranslatedExpr) → AreElements elements xs
         → AreElements v (xs ++ translated_seen element ∷ [])) }
@@ -197,8 +197,8 @@ fn call_translated<A: Allocator + Copy>(
     scope: &Scope<'_, A>,
     token: Token,
     items: &Vec<Expr<A>, A>,
-) -> Result<Translated<A>, FunFault>
-    ensures { Gives translated_seen (text_of scope.now) result (translated_in scope.now (tree.call token.from
+) -> Result<ExprTerm<A>, FunFault>
+    ensures { GivesFun translated_seen (text_of scope.now) result (translated_in scope.now (tree.call token.from
         (token_name (text_of scope.now) token) (fun_exprs_seen (text_of scope.now) items.now.items))) }
 {
     let name = atom_of(alloc, scope.bytes, token)?;
@@ -215,8 +215,8 @@ fn prefix_translated<A: Allocator + Copy>(
     at: usize,
     operator: Operator,
     operand: &Expr<A>,
-) -> Result<Translated<A>, FunFault>
-    ensures { Gives translated_seen (text_of scope.now) result (translated_in scope.now
+) -> Result<ExprTerm<A>, FunFault>
+    ensures { GivesFun translated_seen (text_of scope.now) result (translated_in scope.now
         (tree.before at (operator_seen operator) (fun_expr_seen (text_of scope.now) operand.now))) }
 {
     if let Some(n) = least_integer(operator, operand) {
@@ -253,8 +253,8 @@ pub fn expr_translated<A: Allocator + Copy>(
     alloc: A,
     scope: &Scope<'_, A>,
     expr: &Expr<A>,
-) -> Result<Translated<A>, FunFault>
-    ensures { Gives translated_seen (text_of scope.now) result
+) -> Result<ExprTerm<A>, FunFault>
+    ensures { GivesFun translated_seen (text_of scope.now) result
         (translated_in scope.now (fun_expr_seen (text_of scope.now) expr.now)) }
 {
     match expr {

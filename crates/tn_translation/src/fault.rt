@@ -39,6 +39,7 @@ pub enum FunFault {
 
 impl From<AllocError> for FunFault {
     ghost use Rattle.tn_translation.specs.declared.fault.FunFault.TheVariants.{OutOfMemory};
+
     ghost from_gives = { λ _ e. e ≡ OutOfMemory };
 
     fn from(_refused: AllocError) -> FunFault {
@@ -48,6 +49,7 @@ impl From<AllocError> for FunFault {
 
 impl<T: Drop> From<AllocFailed<T>> for FunFault {
     ghost use Rattle.tn_translation.specs.declared.fault.FunFault.TheVariants.{OutOfMemory};
+
     ghost from_gives = { λ _ e. e ≡ OutOfMemory };
 
     fn from(_refused: AllocFailed<T>) -> FunFault {

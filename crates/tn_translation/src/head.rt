@@ -7,7 +7,7 @@ ghost use Rattle.def_fun.specs.Variables.{name_of_variable, names_of};
 ghost use Rattle.def_fun.specs.Translation.{head_term as term_of_head};
 ghost use Rattle.tn_fun.specs.Trees.{token_name, fun_expr_seen};
 ghost use Rattle.tn_fun.specs.Clauses.{fun_head_seen};
-ghost use Rattle.tn_translation.specs.Names.{names_seen, variables_of};
+ghost use Rattle.tn_translation.specs.Names.{clause_names_seen, variables_of};
 ghost use Rattle.tn_translation.specs.Specifications.{GivesHead, matched_names, matched_term};
 
 use crate::fault::FunFault;
@@ -45,7 +45,7 @@ fn names_with<A: Allocator + Copy>(
     bytes: &[u8],
     whole: Option<Token>,
 ) -> Result<ClauseNames<A>, AllocError>
-    ensures { IfOk result (λ c. names_seen c ≡ matched_names bytes.now whole []) }
+    ensures { IfOk result (λ c. clause_names_seen c ≡ matched_names bytes.now whole []) }
 {
     let whole = match whole {
         Some(token) => Some(name_of(alloc, bytes, token)?),

@@ -28,5 +28,4 @@ mod value;
 
 pub use answer::{FunAnswer, fun_answer};
 pub use fault::FunFault;
-pub use refusal::put_refusal;
 pub use spec::{FunSpec, spec_of_text};

@@ -4,8 +4,8 @@ ghost use Rattle.def_fun.specs.Variables.{number_among, is_of_whole, with_name, 
 ghost use Rattle.def_fun.specs.Translation.{variable_term as term_of_variable};
 ghost use Rattle.tn_fun.specs.Trees.{token_name};
 ghost use Rattle.tn_term.specs.Views.{tree_of};
-ghost use Rattle.tn_translation.specs.Faults.{Gives};
-ghost use Rattle.tn_translation.specs.Names.{names_seen, variable_kind_seen};
+ghost use Rattle.tn_translation.specs.Faults.{GivesFun};
+ghost use Rattle.tn_translation.specs.Names.{clause_names_seen, variable_kind_seen};
 
 use crate::atoms::numbered_atom;
 use crate::fault::FunFault;
@@ -35,7 +35,7 @@ pub enum VariableKind {
 impl<A: Allocator> ClauseNames<A> {
     /// Whether it is the name of the whole.
     fn is_whole(&self, name: &[u8]) -> bool
-        ensures { result ≡ is_of_whole (names_seen self.now).of_whole name.now }
+        ensures { result ≡ is_of_whole (clause_names_seen self.now).of_whole name.now }
     {
         match &self.whole {
             Some(whole) => whole.as_slice() == name,
@@ -45,7 +45,7 @@ impl<A: Allocator> ClauseNames<A> {
 
     /// The number of a name, where it has one.
     fn number_of(&self, name: &[u8]) -> Option<usize>
-        ensures { result ≡ number_among 1 (names_seen self.now).numbers name.now }
+        ensures { result ≡ number_among 1 (clause_names_seen self.now).numbers name.now }
     {
         for (i, other) in self.numbers.iter().enumerate() {
             if other.as_slice() == name {
@@ -57,7 +57,7 @@ impl<A: Allocator> ClauseNames<A> {
 
     /// What the variable of a name is.
     fn kind_of(&self, name: &[u8]) -> VariableKind
-        ensures { variable_kind_seen result ≡ variable_kind (names_seen self.now) name.now }
+        ensures { variable_kind_seen result ≡ variable_kind (clause_names_seen self.now) name.now }
     {
         if self.is_whole(name) {
             return VariableKind::Whole;
@@ -73,9 +73,9 @@ impl<A: Allocator> ClauseNames<A> {
 
     /// One more name, unless it has a number, is `_`, or is that of the whole.
     pub fn add(&mut self, name: Vec<u8, A>) -> Result<(), AllocError>
-        ensures whole { OnOk result ((names_seen self.new).of_whole ≡ (names_seen self.old).of_whole) }
-        ensures numbers { OnOk result ((names_seen self.new).numbers
-            ≡ with_name (names_seen self.old).of_whole (names_seen self.old).numbers name.items) }
+        ensures whole { OnOk result ((clause_names_seen self.new).of_whole ≡ (clause_names_seen self.old).of_whole) }
+        ensures numbers { OnOk result ((clause_names_seen self.new).numbers
+            ≡ with_name (clause_names_seen self.old).of_whole (clause_names_seen self.old).numbers name.items) }
     {
         match self.kind_of(&name) {
             VariableKind::Unbound => Ok(self.numbers.push(name)?),
@@ -90,13 +90,15 @@ fn kind_term<A: Allocator + Copy>(
     token: Token,
     kind: VariableKind,
 ) -> Result<Term<A>, FunFault>
-    ensures { (text : List ℕ) → Gives tree_of text result
+    ensures { (text : List ℕ) → GivesFun tree_of text result
         (term_of_variable (token_name text token) token.from (variable_kind_seen kind)) }
 {
     match kind {
         VariableKind::Whole => Ok(Term::word(alloc, "$_")?),
         VariableKind::Anything => Ok(Term::word(alloc, "_")?),
-        VariableKind::Number(number) if number <= MAX_VARIABLES => Ok(numbered_atom(alloc, number)?),
+        VariableKind::Number(number) if number <= MAX_VARIABLES => Ok(numbered_atom(
+            alloc, number,
+        )?),
         VariableKind::Number(_) => Err(FunFault::TooLarge { at: token.from }),
         VariableKind::Unbound => Err(FunFault::Unbound(token)),
     }
@@ -109,8 +111,8 @@ pub fn variable_term<A: Allocator + Copy>(
     names: &ClauseNames<A>,
     token: Token,
 ) -> Result<Term<A>, FunFault>
-    ensures { Gives tree_of bytes.now result (term_of_variable (token_name bytes.now token) token.from
-        (variable_kind (names_seen names.now) (token_name bytes.now token))) }
+    ensures { GivesFun tree_of bytes.now result (term_of_variable (token_name bytes.now token) token.from
+        (variable_kind (clause_names_seen names.now) (token_name bytes.now token))) }
 {
     let name = name_of(alloc, bytes, token)?;
     kind_term(alloc, token, names.kind_of(&name))

@@ -12,13 +12,13 @@ ghost use Rattle.def_fun.specs.Translation.{prefix_translated as translated_pref
 ghost use Rattle.tn_fun.specs.Tokens.{operator_seen};
 ghost use Rattle.tn_term.specs.Views.{tree_of};
 ghost use Rattle.tn_translation.specs.Constants.{computation_seen, is_minus_alone};
-ghost use Rattle.tn_translation.specs.Faults.{Gives};
-ghost use Rattle.tn_translation.specs.Values.{row_seen, translated_seen};
+ghost use Rattle.tn_translation.specs.Faults.{GivesFun};
+ghost use Rattle.tn_translation.specs.Values.{term_row_seen, translated_seen};
 
 use crate::constants::{before_constant, between_constants};
 use crate::fault::FunFault;
 use crate::integers::Computation;
-use crate::value::Translated;
+use crate::value::ExprTerm;
 use std::alloc::{AllocError, Allocator};
 use tn_fun::Operator;
 use tn_term::{Atom, Term};
@@ -60,7 +60,7 @@ pub fn name_tuple<A: Allocator>(
     name: Atom<A>,
     terms: Vec<Term<A>, A>,
 ) -> Result<Term<A>, AllocError>
-    ensures { IfOk result (λ t. tree_of t ≡ tuple_of_name name (row_seen terms)) }
+    ensures { IfOk result (λ t. tree_of t ≡ tuple_of_name name (term_row_seen terms)) }
 {
     let mut fields = terms;
     fields.insert(0, Term::Atom(name))?;
@@ -68,31 +68,31 @@ pub fn name_tuple<A: Allocator>(
 }
 
 /// An integer that is computed.
-pub fn integer_value<A: Allocator>(n: i64) -> Translated<A>
+pub fn integer_value<A: Allocator>(n: i64) -> ExprTerm<A>
     ensures { translated_seen result ≡ computed_value (int n) }
 {
-    Translated {
+    ExprTerm {
         term: Term::Int(n),
         constant: Some(Term::Int(n)),
     }
 }
 
 /// `true` or `false` that is computed.
-fn truth_value<A: Allocator + Copy>(alloc: A, truth: bool) -> Result<Translated<A>, AllocError>
+fn truth_value<A: Allocator + Copy>(alloc: A, truth: bool) -> Result<ExprTerm<A>, AllocError>
     ensures { IfOk result (λ x. (v : Tree) → gives_truth truth ≡ gives v → translated_seen x ≡ computed_value v) }
 {
     let word = if truth { "true" } else { "false" };
-    Ok(Translated {
+    Ok(ExprTerm {
         term: Term::word(alloc, word)?,
         constant: Some(Term::word(alloc, word)?),
     })
 }
 
 /// A term that is no constant.
-pub fn term_alone<A: Allocator>(term: Term<A>) -> Translated<A>
+pub fn term_alone<A: Allocator>(term: Term<A>) -> ExprTerm<A>
     ensures { translated_seen result ≡ no_constant (tree_of term) }
 {
-    Translated {
+    ExprTerm {
         term,
         constant: None,
     }
@@ -105,9 +105,9 @@ fn operator_translated<A: Allocator + Copy>(
     operator: Operator,
     operands: Vec<Term<A>, A>,
     computation: Computation,
-) -> Result<Translated<A>, FunFault>
-    ensures { (text : List ℕ) → Gives translated_seen text result
-        (translated_operator at (operator_seen operator) (row_seen operands) (computation_seen computation)) }
+) -> Result<ExprTerm<A>, FunFault>
+    ensures { (text : List ℕ) → GivesFun translated_seen text result
+        (translated_operator at (operator_seen operator) (term_row_seen operands) (computation_seen computation)) }
 {
     match computation {
         Computation::Integer(n) => Ok(integer_value(n)),
@@ -150,12 +150,13 @@ pub fn between_translated<A: Allocator + Copy>(
     alloc: A,
     at: usize,
     operator: Operator,
-    left: Translated<A>,
-    right: Translated<A>,
-) -> Result<Translated<A>, FunFault>
-    ensures { (text : List ℕ) → Gives translated_seen text result (translated_operator at (operator_seen operator)
+    left: ExprTerm<A>,
+    right: ExprTerm<A>,
+) -> Result<ExprTerm<A>, FunFault>
+    ensures { (text : List ℕ) → GivesFun translated_seen text result (translated_operator at (operator_seen operator)
         (tree_of left.term ∷ tree_of right.term ∷ [])
-        (computed_if_two (operator_seen operator) (option_map tree_of left.constant) (option_map tree_of right.constant))) }
+        (computed_if_two (operator_seen operator)
+        (option_map tree_of left.constant) (option_map tree_of right.constant))) }
 {
     let computation = computed_of_two(operator, &left.constant, &right.constant);
     let mut operands = Vec::with_capacity(alloc, 3)?;
@@ -182,9 +183,9 @@ pub fn before_translated<A: Allocator + Copy>(
     alloc: A,
     at: usize,
     operator: Operator,
-    operand: Translated<A>,
-) -> Result<Translated<A>, FunFault>
-    ensures { (text : List ℕ) → Gives translated_seen text result (translated_prefix at (operator_seen operator)
+    operand: ExprTerm<A>,
+) -> Result<ExprTerm<A>, FunFault>
+    ensures { (text : List ℕ) → GivesFun translated_seen text result (translated_prefix at (operator_seen operator)
         (tree_of operand.term) (computed_if_one (operator_seen operator) (option_map tree_of operand.constant))) }
 {
     let computation = computed_of_one(operator, &operand.constant);

@@ -1,8 +1,8 @@
 // Conditions and the expressions of bodies as terms.
 ghost use Rattle.tn_fun.specs.Trees.{fun_expr_seen, fun_row_seen};
 ghost use Rattle.tn_term.specs.Views.{tree_of};
-ghost use Rattle.tn_translation.specs.Faults.{Gives};
-ghost use Rattle.tn_translation.specs.Values.{row_seen};
+ghost use Rattle.tn_translation.specs.Faults.{GivesFun};
+ghost use Rattle.tn_translation.specs.Values.{term_row_seen};
 ghost use Rattle.tn_translation.specs.Scopes.{part_term_in, part_terms_in, text_of};
 
 use crate::expr::{Scope, expr_translated};
@@ -21,7 +21,7 @@ fn part_term<A: Allocator + Copy>(
     scope: &Scope<'_, A>,
     expr: &Expr<A>,
 ) -> Result<Term<A>, FunFault>
-    ensures { Gives tree_of (text_of scope.now) result
+    ensures { GivesFun tree_of (text_of scope.now) result
         (part_term_in scope.now (fun_expr_seen (text_of scope.now) expr.now)) }
 {
     let translated = expr_translated(alloc, scope, expr)?;
@@ -34,7 +34,7 @@ pub fn part_terms<A: Allocator + Copy>(
     scope: &Scope<'_, A>,
     exprs: &Vec<Expr<A>, A>,
 ) -> Result<Vec<Term<A>, A>, FunFault>
-    ensures { Gives row_seen (text_of scope.now) result
+    ensures { GivesFun term_row_seen (text_of scope.now) result
         (part_terms_in scope.now (fun_row_seen (text_of scope.now) exprs.now.items)) }
 {
     let mut terms = Vec::new(alloc);

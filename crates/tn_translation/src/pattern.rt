@@ -7,9 +7,9 @@ ghost use Rattle.def_fun.specs.Translation as spec;
 ghost use Rattle.def_fun.specs.Variables.{ClauseNames as NamesOfClause};
 ghost use Rattle.tn_fun.specs.Trees.{token_name, fun_expr_seen, fun_exprs_seen};
 ghost use Rattle.tn_term.specs.Views.{tree_of};
-ghost use Rattle.tn_translation.specs.Faults.{Gives};
-ghost use Rattle.tn_translation.specs.Names.{names_seen, more_names, Extends, variables_of, variables_of_each};
-ghost use Rattle.tn_translation.specs.Values.{row_seen};
+ghost use Rattle.tn_translation.specs.Faults.{GivesFun};
+ghost use Rattle.tn_translation.specs.Names.{clause_names_seen, more_names, Extends, variables_of, variables_of_each};
+ghost use Rattle.tn_translation.specs.Values.{term_row_seen};
 
 use crate::atoms::{atom_of, integer_of, strings_term};
 use crate::fault::FunFault;
@@ -68,7 +68,7 @@ fn atom_pattern<A: Allocator + Copy>(
     bytes: &[u8],
     token: Token,
 ) -> Result<Term<A>, FunFault>
-    ensures { (ns : NamesOfClause) → Gives tree_of bytes.now result
+    ensures { (ns : NamesOfClause) → GivesFun tree_of bytes.now result
         (spec.pattern_term ns (tree.atom token.from (token_name bytes.now token))) }
 {
     let name = atom_of(alloc, bytes, token)?;
@@ -85,10 +85,10 @@ fn variable_pattern<A: Allocator + Copy>(
     names: &mut ClauseNames<A>,
     token: Token,
 ) -> Result<Term<A>, FunFault>
-    ensures term { (ns : NamesOfClause) → Extends (names_seen names.old) (token_name bytes.now token ∷ []) ns
-        → Gives tree_of bytes.now result (spec.pattern_term ns (tree.variable token.from (token_name bytes.now token))) }
-    ensures names { OnOk result (names_seen names.new
-        ≡ more_names (names_seen names.old) (token_name bytes.now token ∷ [])) }
+    ensures term { (ns : NamesOfClause) → Extends (clause_names_seen names.old) (token_name bytes.now token ∷ []) ns
+        → GivesFun tree_of bytes.now result (spec.pattern_term ns (tree.variable token.from (token_name bytes.now token))) }
+    ensures names { OnOk result (clause_names_seen names.new
+        ≡ more_names (clause_names_seen names.old) (token_name bytes.now token ∷ [])) }
 {
     names.add(name_of(alloc, bytes, token)?)?;
     variable_term(alloc, bytes, names, token)
@@ -106,7 +106,7 @@ fn negative_integer(n: u64) -> Result<i64, AllocError>
 
 /// The term of a `-` and what it is before: an integer alone is a pattern there.
 fn negative_pattern<A: Allocator>(at: usize, pattern: &Expr<A>) -> Result<Term<A>, FunFault>
-    ensures term { (text : List ℕ) → Gives tree_of text result (spec.negative_integer at (fun_expr_seen text pattern.now)) }
+    ensures term { (text : List ℕ) → GivesFun tree_of text result (spec.negative_integer at (fun_expr_seen text pattern.now)) }
     ensures names { (text : List ℕ) → OnOk result (variables_of text pattern.now ≡ []) }
 {
     match pattern {
@@ -123,10 +123,10 @@ fn pattern_terms<A: Allocator + Copy>(
     names: &mut ClauseNames<A>,
     items: &Vec<Expr<A>, A>,
 ) -> Result<Vec<Term<A>, A>, FunFault>
-    ensures terms { (ns : NamesOfClause) → Extends (names_seen names.old) (variables_of_each bytes.now items.now.items) ns
-        → Gives row_seen bytes.now result (spec.pattern_terms ns (fun_exprs_seen bytes.now items.now.items)) }
-    ensures names { OnOk result (names_seen names.new
-        ≡ more_names (names_seen names.old) (variables_of_each bytes.now items.now.items)) }
+    ensures terms { (ns : NamesOfClause) → Extends (clause_names_seen names.old) (variables_of_each bytes.now items.now.items) ns
+        → GivesFun term_row_seen bytes.now result (spec.pattern_terms ns (fun_exprs_seen bytes.now items.now.items)) }
+    ensures names { OnOk result (clause_names_seen names.new
+        ≡ more_names (clause_names_seen names.old) (variables_of_each bytes.now items.now.items)) }
 {
     let mut terms = Vec::new(alloc);
     for item in items {
@@ -144,10 +144,10 @@ pub fn pattern_term<A: Allocator + Copy>(
     names: &mut ClauseNames<A>,
     pattern: &Expr<A>,
 ) -> Result<Term<A>, FunFault>
-    ensures term { (ns : NamesOfClause) → Extends (names_seen names.old) (variables_of bytes.now pattern.now) ns
-        → Gives tree_of bytes.now result (spec.pattern_term ns (fun_expr_seen bytes.now pattern.now)) }
-    ensures names { OnOk result (names_seen names.new
-        ≡ more_names (names_seen names.old) (variables_of bytes.now pattern.now)) }
+    ensures term { (ns : NamesOfClause) → Extends (clause_names_seen names.old) (variables_of bytes.now pattern.now) ns
+        → GivesFun tree_of bytes.now result (spec.pattern_term ns (fun_expr_seen bytes.now pattern.now)) }
+    ensures names { OnOk result (clause_names_seen names.new
+        ≡ more_names (clause_names_seen names.old) (variables_of bytes.now pattern.now)) }
 {
     match pattern {
         Expr::Variable(token) => variable_pattern(alloc, bytes, names, *token),

@@ -5,7 +5,7 @@ ghost use Rattle.def_fun.specs.Refusals.{FunRefusal, no_such, no_function, at_of
 ghost use Rattle.tn_fun.specs.Answers.{left_out_name};
 ghost use Rattle.tn_fun.specs.States.{token_there};
 ghost use Rattle.tn_fun.specs.Trees.{token_name};
-ghost use Rattle.tn_translation.specs.Faults.{fault_seen};
+ghost use Rattle.tn_translation.specs.Faults.{fun_fault_seen};
 
 use crate::atoms::atom_of;
 use crate::fault::FunFault;
@@ -136,7 +136,7 @@ pub fn put_refusal<A: Allocator + Copy>(
     fault: FunFault,
     out: &mut Vec<u8, A>,
 ) -> Result<(), AllocError>
-    ensures { OnOk result ((r : FunRefusal) → fault_seen bytes.now fault ≡ Some r
+    ensures { OnOk result ((r : FunRefusal) → fun_fault_seen bytes.now fault ≡ Some r
         → out.new.items ≡ out.old.items ++ fun_refusal_line r) }
 {
     match fault {
@@ -147,11 +147,23 @@ pub fn put_refusal<A: Allocator + Copy>(
         FunFault::TooLarge { at } => put_place("refused 4 too large", at, out),
         FunFault::Unbound(token) => put_variable(alloc, bytes, "refused 22 unbound ", token, out),
         FunFault::NoFunction(token, count) => put_function(alloc, bytes, token, count, out),
-        FunFault::Unsupported(token) => put_atom(alloc, bytes, "refused 24 unsupported ", token, out),
+        FunFault::Unsupported(token) => put_atom(
+            alloc,
+            bytes,
+            "refused 24 unsupported ",
+            token,
+            out,
+        ),
         FunFault::HeadAtom(token) => put_atom(alloc, bytes, "refused 25 head atom ", token, out),
         FunFault::ListWithTail { at } => put_place("refused 26 list with a tail", at, out),
         FunFault::MinusAlone { at } => put_place("refused 27 minus", at, out),
-        FunFault::WholeHead(token) => put_variable(alloc, bytes, "refused 28 whole head ", token, out),
+        FunFault::WholeHead(token) => put_variable(
+            alloc,
+            bytes,
+            "refused 28 whole head ",
+            token,
+            out,
+        ),
         FunFault::OutOfMemory => Err(AllocError),
     }
 }

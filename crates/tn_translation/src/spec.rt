@@ -6,7 +6,7 @@ ghost use Rattle.def_fun.specs.Translation.{with_fun_clauses, list_term};
 ghost use Rattle.tn_fun.specs.Clauses.{fun_clauses_seen};
 ghost use Rattle.tn_spec.specs.Views.{dialect_of};
 ghost use Rattle.tn_term.specs.Views.{tree_of};
-ghost use Rattle.tn_translation.specs.Faults.{Gives};
+ghost use Rattle.tn_translation.specs.Faults.{GivesFun};
 ghost use Rattle.tn_translation.specs.Specifications.{clauses_seen, spec_tree};
 
 use crate::alternatives::with_clause;
@@ -31,7 +31,7 @@ fn clauses_of<A: Allocator + Copy>(
     dialect: Dialect,
     clauses: &Vec<Clause<A>, A>,
 ) -> Result<SpecSoFar<A>, FunFault>
-    ensures { Gives clauses_seen bytes.now result
+    ensures { GivesFun clauses_seen bytes.now result
         (with_fun_clauses (dialect_of dialect) [] (fun_clauses_seen bytes.now clauses.now.items)) }
 {
     let mut spec = SpecSoFar::new(alloc)?;
@@ -65,7 +65,7 @@ pub fn spec_of_text<A: Allocator + Copy>(
     bytes: &[u8],
     dialect: Dialect,
 ) -> Result<FunSpec<A>, FunFault>
-    ensures spec { Gives spec_tree bytes.now result (spec_of (dialect_of dialect) bytes.now) }
+    ensures spec { GivesFun spec_tree bytes.now result (spec_of (dialect_of dialect) bytes.now) }
     ensures text { IfOk result (λ s. s.text.items ≡ w (tree_of s.term)) }
 {
     let clauses = read_fun(alloc, bytes)?;

@@ -3,10 +3,10 @@ ghost use Rattle.std.specs.Prelude.{◌≡◌, ◌++◌, ◌∷◌, [], ℕ, Lis
 ghost use Rattle.def_term.specs.Tree.{triple};
 ghost use Rattle.def_fun.specs.Translation.{within_length};
 ghost use Rattle.tn_term.specs.Views.{tree_of};
-ghost use Rattle.tn_translation.specs.Faults.{Gives};
-ghost use Rattle.tn_translation.specs.OpenTexts.{open_text};
+ghost use Rattle.tn_translation.specs.Faults.{GivesFun};
+ghost use Rattle.tn_translation.specs.OpenTexts.{open_list_text};
 ghost use Rattle.tn_translation.specs.Specifications.{clauses_seen};
-ghost use Rattle.tn_translation.specs.Values.{row_seen};
+ghost use Rattle.tn_translation.specs.Values.{term_row_seen};
 
 use crate::fault::FunFault;
 use crate::spec_so_far::SpecSoFar;
@@ -20,12 +20,13 @@ fn put_next<A: Allocator>(
     clause: &Term<A>,
     text: &mut Vec<u8, A>,
 ) -> Result<(), AllocError>
-    requires { text.old.items ≡ open_text (row_seen clauses.now) }
-    ensures { OnOk result (text.new.items ≡ open_text (row_seen clauses.now ++ tree_of clause.now ∷ [])) }
+    requires { text.old.items ≡ open_list_text (term_row_seen clauses.now) }
+    ensures { OnOk result (text.new.items ≡ open_list_text (term_row_seen clauses.now ++ tree_of clause.now ∷ [])) }
 {
-    if !clauses.is_empty() {
-        text.push(b',')?;
+    if clauses.len() == 0 {
+        return write_term(clause, text);
     }
+    text.push(b',')?;
     write_term(clause, text)
 }
 
@@ -44,7 +45,7 @@ impl<A: Allocator + Copy> SpecSoFar<A> {
 
     /// One clause more, where the text isn't longer than that of a script.
     pub fn with_clause(self, at: usize, clause: Term<A>) -> Result<SpecSoFar<A>, FunFault>
-        ensures { (text : List ℕ) → Gives clauses_seen text result
+        ensures { (text : List ℕ) → GivesFun clauses_seen text result
             (within_length at (clauses_seen self ++ tree_of clause ∷ [])) }
     {
         let SpecSoFar { clauses, text } = self;

@@ -1,7 +1,7 @@
 // The clauses of a specification so far.
 ghost use Rattle.std.specs.Prelude.{◌≡◌, map};
 ghost use Rattle.tn_term.specs.Views.{tree_of};
-ghost use Rattle.tn_translation.specs.OpenTexts.{open_text};
+ghost use Rattle.tn_translation.specs.OpenTexts.{open_list_text};
 
 use std::alloc::Allocator;
 use tn_term::Term;
@@ -11,5 +11,5 @@ use tn_term::Term;
 pub struct SpecSoFar<A: Allocator> {
     pub clauses: Vec<Term<A>, A>,
     pub text: Vec<u8, A>,
-    ghost same: { text.items ≡ open_text (map tree_of clauses.items) },
+    ghost same: { text.items ≡ open_list_text (map tree_of clauses.items) },
 }

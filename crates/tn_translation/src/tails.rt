@@ -6,9 +6,9 @@ ghost use Rattle.def_fun.specs.Translation.{is_proper_tail as is_tail, elements_
 ghost use Rattle.def_fun.specs.Translation.{onto_tail as list_onto_tail, within_depth as if_within};
 ghost use Rattle.tn_fun.specs.Trees.{fun_expr_seen};
 ghost use Rattle.tn_term.specs.Views.{tree_of};
-ghost use Rattle.tn_translation.specs.Faults.{Gives};
+ghost use Rattle.tn_translation.specs.Faults.{GivesFun};
 ghost use Rattle.tn_translation.specs.Tails.{offset_seen, tail_offset};
-ghost use Rattle.tn_translation.specs.Values.{row_seen};
+ghost use Rattle.tn_translation.specs.Values.{term_row_seen};
 
 use crate::fault::FunFault;
 use std::alloc::{AllocError, Allocator};
@@ -24,9 +24,10 @@ pub fn first_byte<A: Allocator>(expr: &Expr<A>) -> usize
     ensures { (text : List ℕ) → result ≡ first_byte_of (fun_expr_seen text expr.now) }
 {
     match expr {
-        Expr::Variable(token) | Expr::Atom(token) | Expr::Strings(token, _) | Expr::Call(token, _) => {
-            token.from
-        }
+        Expr::Variable(token)
+        | Expr::Atom(token)
+        | Expr::Strings(token, _)
+        | Expr::Call(token, _) => { token.from }
         Expr::Integer(at, _)
         | Expr::Parens(at, _)
         | Expr::List(at, _)
@@ -51,7 +52,7 @@ fn is_proper_tail<A: Allocator>(expr: &Expr<A>) -> bool
 
 /// The offset of the tail of a list, which is a list or strings.
 pub fn proper_tail<A: Allocator>(tail: &Expr<A>) -> Result<usize, FunFault>
-    ensures { (text : List ℕ) → Gives offset_seen text result (tail_offset (fun_expr_seen text tail.now)) }
+    ensures { (text : List ℕ) → GivesFun offset_seen text result (tail_offset (fun_expr_seen text tail.now)) }
 {
     let at = first_byte(tail);
     if is_proper_tail(tail) {
@@ -63,7 +64,7 @@ pub fn proper_tail<A: Allocator>(tail: &Expr<A>) -> Result<usize, FunFault>
 
 /// The elements of a list; another term has none.
 fn elements_of<A: Allocator>(alloc: A, term: Term<A>) -> Vec<Term<A>, A>
-    ensures { row_seen result ≡ elements_of_list (tree_of term) }
+    ensures { term_row_seen result ≡ elements_of_list (tree_of term) }
 {
     match term {
         Term::List(items) => items,
@@ -75,12 +76,12 @@ fn elements_of<A: Allocator>(alloc: A, term: Term<A>) -> Vec<Term<A>, A>
 }
 
 /// These terms and the elements of their tail.
-fn joined<A: Allocator>(
+fn with_tail<A: Allocator>(
     alloc: A,
     terms: Vec<Term<A>, A>,
     tail: Term<A>,
 ) -> Result<Vec<Term<A>, A>, AllocError>
-    ensures { IfOk result (λ v. row_seen v ≡ row_seen terms ++ elements_of_list (tree_of tail)) }
+    ensures { IfOk result (λ v. term_row_seen v ≡ term_row_seen terms ++ elements_of_list (tree_of tail)) }
 {
     let mut terms = terms;
     let mut more = elements_of(alloc, tail);
@@ -94,9 +95,10 @@ pub fn joined_list<A: Allocator>(
     terms: Vec<Term<A>, A>,
     tail: Term<A>,
 ) -> Result<Term<A>, AllocError>
-    ensures { IfOk result (λ t. tree_of t ≡ list (of_elements (row_seen terms ++ elements_of_list (tree_of tail)))) }
+    ensures { IfOk result (λ t. tree_of t
+        ≡ list (of_elements (term_row_seen terms ++ elements_of_list (tree_of tail)))) }
 {
-    Ok(Term::List(joined(alloc, terms, tail)?))
+    Ok(Term::List(with_tail(alloc, terms, tail)?))
 }
 
 /// The list of these terms and the elements of their tail, where it has no more than 4,096 elements.
@@ -106,9 +108,9 @@ pub fn onto_tail<A: Allocator>(
     terms: Vec<Term<A>, A>,
     tail: Term<A>,
 ) -> Result<Term<A>, FunFault>
-    ensures { (text : List ℕ) → Gives tree_of text result (list_onto_tail at (row_seen terms) (tree_of tail)) }
+    ensures { (text : List ℕ) → GivesFun tree_of text result (list_onto_tail at (term_row_seen terms) (tree_of tail)) }
 {
-    let items = joined(alloc, terms, tail)?;
+    let items = with_tail(alloc, terms, tail)?;
     if items.len() > MAX_LIST {
         return Err(FunFault::TooLarge { at });
     }
@@ -117,7 +119,7 @@ pub fn onto_tail<A: Allocator>(
 
 /// The term, where it isn't deeper.
 pub fn within_depth<A: Allocator>(limit: u8, at: usize, term: Term<A>) -> Result<Term<A>, FunFault>
-    ensures { (text : List ℕ) → Gives tree_of text result (if_within limit at (tree_of term)) }
+    ensures { (text : List ℕ) → GivesFun tree_of text result (if_within limit at (tree_of term)) }
 {
     if term.depth() > u64::from(limit) {
         return Err(FunFault::TooDeep { at });

@@ -5,7 +5,7 @@ use tn_term::Term;
 
 /// The term of an expression, and its value where it is a constant.
 #[derive(Drop)]
-pub struct Translated<A: Allocator> {
+pub struct ExprTerm<A: Allocator> {
     pub term: Term<A>,
     pub constant: Option<Term<A>>,
 }

@@ -1,7 +1,7 @@
 use Rattle.std.proofs.Common.{◌≡◌, [], ◌∷◌, ◌++◌, map, length, Ok, rules, ap, sym, ◌∙◌, arith}
 use Rattle.tn_term.specs.Views.{tree_of}
-use Rattle.tn_translation.specs.OpenTexts.{open_text}
-use Rattle.tn_translation.specs.Values.{row_seen}
+use Rattle.tn_translation.specs.OpenTexts.{open_list_text}
+use Rattle.tn_translation.specs.Values.{term_row_seen}
 use Rattle.tn_translation.proofs.OpenLists.{fits_length, past_length}
 use Rattle.tn_translation.proofs.Values.{row_more}
 use Rattle.tn_translation.proofs.spec_so_far.SpecSoFar.with_clause.Goals as goal
@@ -14,7 +14,7 @@ returns-then-len-ge-MAX_TEXT g c = λ text.
 pub invariant_of-result : goal.invariant_of-result
 invariant_of-result g c =
     let grown : c.push.new.self.items ≡ c.args.self.clauses.items ++ c.args.clause ∷ [] = search rules in
-    c.in_ok-put_next.ensures ∙ ap open_text (sym (row_more c.args.self.clauses c.push.new.self c.args.clause grown))
+    record { same = c.in_ok-put_next.ensures ∙ ap open_list_text (sym (row_more c.args.self.clauses c.push.new.self c.args.clause grown)) }
 
 pub returns : goal.returns
 returns g c = λ text.

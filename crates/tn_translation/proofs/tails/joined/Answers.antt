@@ -1,9 +1,0 @@
-use Rattle.std.proofs.Common.{◌≡◌, ◌++◌, rules, ap, ◌∙◌}
-use Rattle.tn_translation.specs.Values.{row_seen}
-use Rattle.tn_translation.proofs.Values.{row_joined}
-use Rattle.tn_translation.proofs.tails.joined.Goals as goal
-
-pub returns : goal.returns
-returns g c =
-    let grown : c.append.new.self.items ≡ c.args.terms.items ++ c.elements_of.result.items = search rules in
-    row_joined c.args.terms c.elements_of.result c.append.new.self grown ∙ ap (λ l. row_seen c.args.terms ++ l) c.elements_of.ensures
