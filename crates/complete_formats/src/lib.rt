@@ -6,3 +6,4 @@
 
 mod format;
 mod lines;
+mod refusal;

@@ -1,11 +1,11 @@
 -- The common lines of an alignment are a longest common subsequence: each common subsequence is of some steps.
 use Rattle.std.proofs.Common.{◌≡◌, ◌∙◌, sym, ap, ℕ, ◌≤◌, inl, inr, suc, List, [], ◌∷◌, length, refl, arith}
-use Rattle.def_alignment.specs.Alignments.{Step, in_both, in_first, in_second, Aligns, common_count}
+use Rattle.def_alignment.specs.Alignments.{LineStep, in_both, in_first, in_second, Aligns, common_count}
 use Rattle.def_alignment.specs.AlignmentLaws.{IsSubsequence, CommonLinesAreLongest, common_lines}
 
 -- steps that go through both lists and have so many lines of both
 record Goes (n : ℕ) (first second : List (List ℕ)) : Type 0 where
-  steps : List Step
+  steps : List LineStep
   through : Aligns steps first second
   count : common_count steps ≡ n
 
@@ -46,7 +46,7 @@ of_more : (zs : List (List ℕ)) (x : List ℕ) (xs : List (List ℕ)) → IsSub
 of_more [] x xs h = tt
 of_more (z ∷ zs) x xs h = inr h
 
-of_first : (s : List Step) (xs ys : List (List ℕ)) → Aligns s xs ys → IsSubsequence (common_lines s xs) xs
+of_first : (s : List LineStep) (xs ys : List (List ℕ)) → Aligns s xs ys → IsSubsequence (common_lines s xs) xs
 of_first [] xs ys h = tt
 of_first (in_both ∷ s) [] ys h = tt
 of_first (in_both ∷ s) (x ∷ xs) [] h = absurd h
@@ -56,7 +56,7 @@ of_first (in_first ∷ s) (x ∷ xs) ys h = of_more (common_lines s xs) x xs (of
 of_first (in_second ∷ s) xs [] h = absurd h
 of_first (in_second ∷ s) xs (y ∷ ys) h = of_first s xs ys h
 
-of_second : (s : List Step) (xs ys : List (List ℕ)) → Aligns s xs ys → IsSubsequence (common_lines s xs) ys
+of_second : (s : List LineStep) (xs ys : List (List ℕ)) → Aligns s xs ys → IsSubsequence (common_lines s xs) ys
 of_second [] xs ys h = tt
 of_second (in_both ∷ s) [] ys h = absurd h
 of_second (in_both ∷ s) (x ∷ xs) [] h = absurd h
@@ -67,7 +67,7 @@ of_second (in_second ∷ s) xs [] h = absurd h
 of_second (in_second ∷ s) xs (y ∷ ys) h = of_more (common_lines s xs) y ys (of_second s xs ys h)
 
 -- there are as many as steps for lines of both
-counted : (s : List Step) (xs ys : List (List ℕ)) → Aligns s xs ys → length (common_lines s xs) ≡ common_count s
+counted : (s : List LineStep) (xs ys : List (List ℕ)) → Aligns s xs ys → length (common_lines s xs) ≡ common_count s
 counted [] xs ys h = refl
 counted (in_both ∷ s) [] ys h = absurd h
 counted (in_both ∷ s) (x ∷ xs) [] h = absurd h

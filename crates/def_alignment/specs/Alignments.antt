@@ -3,13 +3,13 @@
 use Rattle.std.specs.Prelude.{◌≡◌, ◌≤◌, ℕ, suc, List, [], ◌∷◌}
 
 -- the next line is one of both lists, or one that the first or the second alone has
-pub data Step : Type 0 where
-  in_both : Step
-  in_first : Step
-  in_second : Step
+pub data LineStep : Type 0 where
+  in_both : LineStep
+  in_first : LineStep
+  in_second : LineStep
 
 -- these steps go through all lines of both
-abbrev pub Aligns : List Step → (first second : List (List ℕ)) → Type 0
+abbrev pub Aligns : List LineStep → (first second : List (List ℕ)) → Type 0
 Aligns [] xs ys = (xs ≡ []) × (ys ≡ [])
 Aligns (in_both ∷ s) [] ys = ⊥
 Aligns (in_both ∷ s) (x ∷ xs) [] = ⊥
@@ -20,13 +20,13 @@ Aligns (in_second ∷ s) xs [] = ⊥
 Aligns (in_second ∷ s) xs (y ∷ ys) = Aligns s xs ys
 
 -- how many lines they go through that are of both
-abbrev pub common_count : List Step → ℕ
+abbrev pub common_count : List LineStep → ℕ
 common_count [] = 0
 common_count (in_both ∷ s) = suc (common_count s)
 common_count (in_first ∷ s) = common_count s
 common_count (in_second ∷ s) = common_count s
 
 -- they go through all lines, and no steps that do have more lines of both
-pub record IsAlignment (s : List Step) (first second : List (List ℕ)) : Type 0 where
+pub record IsAlignment (s : List LineStep) (first second : List (List ℕ)) : Type 0 where
   pub goes_through : Aligns s first second
-  pub greatest : (other : List Step) → Aligns other first second → common_count other ≤ common_count s
+  pub greatest : (other : List LineStep) → Aligns other first second → common_count other ≤ common_count s

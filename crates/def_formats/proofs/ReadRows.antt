@@ -11,7 +11,8 @@ use Rattle.def_formats.specs.Lines.{message_kind, message_pid, before_byte, past
 use Rattle.def_formats.specs.Sections.{session_section, replies_section, journal_section}
 use Rattle.def_formats.specs.Summaries.{journal_picks}
 use Rattle.def_formats.specs.JsonRows.{are_ascii, text_value, number_value, is_whole, numeral_value, items_from, numbered_rows, message_row, reply_row, line_row, journal_row, account_rows, is_indented, move_row, made_row}
-use Rattle.def_formats.specs.Laws.{IsReadBack, OutputRowsAreRead, AccountRowsAreRead, TextRowsAreRead}
+use Rattle.def_formats.specs.RefusalRows.{refusal_number, noted_place, place_value, refusal_row}
+use Rattle.def_formats.specs.Laws.{IsReadBack, OutputRowsAreRead, AccountRowsAreRead, TextRowsAreRead, RefusalRowIsRead}
 
 -- a value that can be written, and nests so deep at most
 record IsShallow (k : ℕ) (v : Json) : Type 0 where
@@ -115,3 +116,12 @@ one_account_row move l ls false same other = All-cons IsReadBack (move_row l) (a
 pub account_rows_are_read : AccountRowsAreRead
 account_rows_are_read move [] = All-nil IsReadBack
 account_rows_are_read move (l ∷ ls) = one_account_row move l ls (is_indented l) (account_rows_are_read move ls) (account_rows_are_read l ls)
+
+place_leaf : (place : List ℕ) → IsShallow 0 (place_value place)
+place_leaf [] = record { numbers = tt; deep = omega arith }
+place_leaf (c ∷ cs) = text_leaf (c ∷ cs)
+
+pub refusal_row_is_read : RefusalRowIsRead
+refusal_row_is_read line note =
+    object_read 0 _ (omega arith)
+    (numeral_leaf (refusal_number (before_byte 10 line)), (text_leaf (before_byte 10 line), (place_leaf (noted_place note), (text_leaf (past_byte 32 note), tt))))

@@ -17,6 +17,7 @@ use Rattle.def_formats.specs.Lines.{text_lines, atom_length, message_pid, messag
 use Rattle.def_formats.specs.Sections.{is_section_head, by_sections, Section, section_of, session_section}
 use Rattle.def_formats.specs.Summaries.{NumberedLine, longest, kinds_of_signals, kinds_of_calls, kinds_of_processes, kinds_of_links}
 use Rattle.def_formats.specs.JsonRows.{rows_by, account_rows, numbered_rows, line_row}
+use Rattle.def_formats.specs.RefusalRows.{refusal_row}
 
 -- ---- names
 
@@ -103,3 +104,7 @@ AccountRowsAreRead = (move : List ℕ) (lines : List (List ℕ)) → All IsReadB
 -- and each row of any other text with fewer than 2^64 lines
 abbrev pub TextRowsAreRead : Type 0
 TextRowsAreRead = (lines : List (List ℕ)) → length lines + 1 < 2 ^ 64 → All IsReadBack (numbered_rows line_row 1 lines)
+
+-- and the row of a refusal
+abbrev pub RefusalRowIsRead : Type 0
+RefusalRowIsRead = (line note : List ℕ) → IsReadBack (refusal_row line note)

@@ -2,5 +2,6 @@ pub mod Lines
 pub mod Sections
 pub mod Summaries
 pub mod JsonRows
+pub mod RefusalRows
 pub mod Formats
 pub mod Laws

@@ -9,7 +9,7 @@
 
 ghost use Rattle.def_formats.specs.Laws.{SectionsAreOfTheRun, SessionHeadIsRead, AtomIsCut};
 ghost use Rattle.def_formats.specs.Laws.{MessageIsRead, KindsHaveNoComma, LongestIsLongest};
-ghost use Rattle.def_formats.specs.Laws.{OutputRowsAreRead, AccountRowsAreRead, TextRowsAreRead};
+ghost use Rattle.def_formats.specs.Laws.{OutputRowsAreRead, AccountRowsAreRead, TextRowsAreRead, RefusalRowIsRead};
 
 /// What is made of the sections of a run's output is made of the messages of its sessions, its replies and its moves,
 /// where no text of it has a line feed or begins a section.
@@ -40,4 +40,5 @@ pub fn a_row_is_one_json_text()
     ensures output { OutputRowsAreRead }
     ensures account { AccountRowsAreRead }
     ensures text { TextRowsAreRead }
+    ensures refusal { RefusalRowIsRead }
 {}

@@ -67,7 +67,7 @@ pub rows_more : {A : Type 0} (first second : List (List ℕ)) (table : List (Vec
 rows_more {A} first second table row n size rows here i d =
     below_more (λ k. IsRow first k second (get_or (table ++ row ∷ []) k d).items) n
     (λ k l. let h : k < length table = omega arith in
-        subst (λ (v : Vec ℕ A). IsRow first k second v.items) (sym (get_or-append table (row ∷ []) d k h)) (rows k d l))
+    subst (λ (v : Vec ℕ A). IsRow first k second v.items) (sym (get_or-append table (row ∷ []) d k h)) (rows k d l))
     (let at_end : get_or (table ++ row ∷ []) n d ≡ row = ap (λ k. get_or (table ++ row ∷ []) k d) (sym size) ∙ get_or-append_seam table row [] d in
-        subst (λ (v : Vec ℕ A). IsRow first n second v.items) (sym at_end) here)
+    subst (λ (v : Vec ℕ A). IsRow first n second v.items) (sym at_end) here)
     i

@@ -3,7 +3,7 @@ use Rattle.std.proofs.Common.{◌≡◌, ◌≢◌, ◌∙◌, ap, ℕ, ◌≤�
 use Rattle.std.proofs.lemmas.List.{reverse-append, take_more}
 use Rattle.std.proofs.lemmas.Slice.Eq.{bytes_eq-Decides}
 use Rattle.std.specs.Str.{bytes_eq}
-use Rattle.def_alignment.specs.Alignments.{Step, in_both, in_first, in_second, Aligns, common_count}
+use Rattle.def_alignment.specs.Alignments.{LineStep, in_both, in_first, in_second, Aligns, common_count}
 use Rattle.tn_alignment.specs.Tables.{back, best, with_line, most_common}
 
 -- the cells beside one, and the one at its corner
@@ -62,7 +62,7 @@ second_more y (x ∷ xs) ys = left_best (most_common xs (y ∷ ys)) (most_common
 both_more : (x y : List ℕ) (xs ys : List (List ℕ)) → x ≡ y → suc (most_common xs ys) ≤ most_common (x ∷ xs) (y ∷ ys)
 both_more x y xs ys e = corner_best (most_common xs (y ∷ ys)) (most_common (x ∷ xs) ys) (most_common xs ys) (bytes_eq x y) (same_line x y e)
 
-pub at_most : (t : List Step) (xs ys : List (List ℕ)) → Aligns t xs ys → common_count t ≤ most_common xs ys
+pub at_most : (t : List LineStep) (xs ys : List (List ℕ)) → Aligns t xs ys → common_count t ≤ most_common xs ys
 at_most [] xs ys h = omega arith
 at_most (in_both ∷ t) [] ys h = absurd h
 at_most (in_both ∷ t) (x ∷ xs) [] h = absurd h

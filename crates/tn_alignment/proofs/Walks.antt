@@ -3,9 +3,9 @@ use Rattle.std.proofs.Common.{◌≡◌, ◌≢◌, ◌∙◌, sym, ap, ap₂, s
 use Rattle.std.proofs.Math.Seq.{take-length}
 use Rattle.std.proofs.lemmas.List.{append-nil}
 use Rattle.std.specs.Str.{bytes_eq}
-use Rattle.def_alignment.specs.Alignments.{Step, in_both, in_first, in_second, Aligns, common_count, IsAlignment}
-use Rattle.tn_alignment.specs.declared.steps.Left.{Left}
-use Rattle.tn_alignment.specs.Tables.{back, most_common, IsLeft, Leads, CommonStepLoses, FirstStepLoses}
+use Rattle.def_alignment.specs.Alignments.{LineStep, in_both, in_first, in_second, Aligns, common_count, IsAlignment}
+use Rattle.tn_alignment.specs.declared.steps.LinesLeft.{LinesLeft}
+use Rattle.tn_alignment.specs.Tables.{back, most_common, IsLeft, LeadsThrough, CommonStepLoses, FirstStepLoses}
 use Rattle.tn_alignment.proofs.Cells.{at_most, is_left, none_empty, back_before, same_line, true_line}
 
 -- ---- one step
@@ -13,7 +13,7 @@ use Rattle.tn_alignment.proofs.Cells.{at_most, is_left, none_empty, back_before,
 pub leads_both : (first second : List (List ℕ)) (i j : ℕ) → 0 < i → i ≤ length first → 0 < j → j ≤ length second
     → bytes_eq (get_or first (i - 1) []) (get_or second (j - 1) []) ≡ true
     → most_common (back first i) (back second j) ≡ most_common (back first (i - 1)) (back second (j - 1)) + 1
-    → Leads first second (record { first = i; second = j }) in_both (record { first = i - 1; second = j - 1 })
+    → LeadsThrough first second (record { first = i; second = j }) in_both (record { first = i - 1; second = j - 1 })
 leads_both first second i j pos in_i pos_j in_j same counts =
     let x : List ℕ = get_or first (i - 1) [] in
     let y : List ℕ = get_or second (j - 1) [] in
@@ -29,7 +29,7 @@ leads_both first second i j pos in_i pos_j in_j same counts =
 
 pub leads_first : (first second : List (List ℕ)) (i j : ℕ) → 0 < i → i ≤ length first → j ≤ length second
     → most_common (back first i) (back second j) ≡ most_common (back first (i - 1)) (back second j)
-    → Leads first second (record { first = i; second = j }) in_first (record { first = i - 1; second = j })
+    → LeadsThrough first second (record { first = i; second = j }) in_first (record { first = i - 1; second = j })
 leads_first first second i j pos in_i in_j counts =
     let of_i : back first i ≡ get_or first (i - 1) [] ∷ back first (i - 1) = back_before first i [] pos in_i in
     record {
@@ -41,7 +41,7 @@ leads_first first second i j pos in_i in_j counts =
 
 leads_second : (first second : List (List ℕ)) (i j : ℕ) → i ≤ length first → 0 < j → j ≤ length second
     → most_common (back first i) (back second j) ≡ most_common (back first i) (back second (j - 1))
-    → Leads first second (record { first = i; second = j }) in_second (record { first = i; second = j - 1 })
+    → LeadsThrough first second (record { first = i; second = j }) in_second (record { first = i; second = j - 1 })
 leads_second first second i j in_i pos_j in_j counts =
     let of_j : back second j ≡ get_or second (j - 1) [] ∷ back second (j - 1) = back_before second j [] pos_j in_j in
     record {
@@ -68,7 +68,7 @@ begins lines (suc n) x xs h e =
 
 pub no_common_step : (first second : List (List ℕ)) (i j : ℕ) → i ≤ length first → j ≤ length second
     → (0 < i → 0 < j → bytes_eq (get_or first (i - 1) []) (get_or second (j - 1) []) ≡ true
-        → most_common (back first i) (back second j) ≢ most_common (back first (i - 1)) (back second (j - 1)) + 1)
+    → most_common (back first i) (back second j) ≢ most_common (back first (i - 1)) (back second (j - 1)) + 1)
     → CommonStepLoses first second (record { first = i; second = j })
 no_common_step first second i j in_i in_j never x y xs ys e f same q =
     let b : Begins first i x xs = begins first i x xs in_i e in
@@ -106,13 +106,13 @@ counts_left first second (suc i) j in_i pos in_j no_both no_first =
     let whole : most_common (back first (suc i)) (back second j) ≡ most_common (x ∷ xs) (y ∷ ys) = ap₂ most_common e f in
     whole
     ∙ is_left (most_common xs (y ∷ ys)) (most_common (x ∷ xs) ys) (most_common xs ys) (bytes_eq x y)
-        (λ q. no_first x xs e (whole ∙ q ∙ ap (most_common xs) (sym f)))
-        (λ s q. no_both x y xs ys e f (true_line x y s) q)
+    (λ q. no_first x xs e (whole ∙ q ∙ ap (most_common xs) (sym f)))
+    (λ s q. no_both x y xs ys e f (true_line x y s) q)
     ∙ ap (λ l. most_common l ys) (sym e)
 
 pub leads_rest : (first second : List (List ℕ)) (i j : ℕ) → i ≤ length first → j ≤ length second → 0 < i + j
     → CommonStepLoses first second (record { first = i; second = j }) → FirstStepLoses first second (record { first = i; second = j })
-    → Leads first second (record { first = i; second = j }) in_second (record { first = i; second = j - 1 })
+    → LeadsThrough first second (record { first = i; second = j }) in_second (record { first = i; second = j - 1 })
 leads_rest first second i j in_i in_j pos no_both no_first =
     let some : 0 < j = some_left first second i j in_i pos no_first in
     leads_second first second i j in_i some in_j (counts_left first second i j in_i some in_j no_both no_first)
@@ -120,8 +120,8 @@ leads_rest first second i j in_i in_j pos no_both no_first =
 -- ---- all steps
 
 -- these steps led here
-pub record Walk (first second : List (List ℕ)) (s : List Step) (left : Left) : Type 0 where
-  pub goes : (t : List Step) → Aligns t (back first left.first) (back second left.second) → Aligns (s ++ t) (reverse first) (reverse second)
+pub record Walk (first second : List (List ℕ)) (s : List LineStep) (left : LinesLeft) : Type 0 where
+  pub goes : (t : List LineStep) → Aligns t (back first left.first) (back second left.second) → Aligns (s ++ t) (reverse first) (reverse second)
   pub counts : common_count s + most_common (back first left.first) (back second left.second) ≡ most_common (reverse first) (reverse second)
   pub within : IsLeft first second left
 
@@ -136,14 +136,14 @@ walk_begins first second i j e f =
       within = record { of_first = omega arith; of_second = omega arith };
     }
 
-count_append : (s t : List Step) → common_count (s ++ t) ≡ common_count s + common_count t
+count_append : (s t : List LineStep) → common_count (s ++ t) ≡ common_count s + common_count t
 count_append [] t = omega arith
 count_append (in_both ∷ s) t = omega (arith, count_append s t)
 count_append (in_first ∷ s) t = count_append s t
 count_append (in_second ∷ s) t = count_append s t
 
-pub walk_goes_on : (first second : List (List ℕ)) (s : List Step) (old : Left) (step : Step) (new : Left)
-    → Walk first second s old → Leads first second old step new → Walk first second (s ++ step ∷ []) new
+pub walk_goes_on : (first second : List (List ℕ)) (s : List LineStep) (old : LinesLeft) (step : LineStep) (new : LinesLeft)
+    → Walk first second s old → LeadsThrough first second old step new → Walk first second (s ++ step ∷ []) new
 walk_goes_on first second s old step new w l =
     let counted : common_count (s ++ step ∷ []) ≡ common_count s + common_count (step ∷ []) = count_append s (step ∷ []) in
     record {
@@ -152,7 +152,7 @@ walk_goes_on first second s old step new w l =
       within = l.within;
     }
 
-pub walk_ends : (first second : List (List ℕ)) (s : List Step) (left : Left) → Walk first second s left → left.first ≡ 0 → left.second ≡ 0
+pub walk_ends : (first second : List (List ℕ)) (s : List LineStep) (left : LinesLeft) → Walk first second s left → left.first ≡ 0 → left.second ≡ 0
     → IsAlignment s (reverse first) (reverse second)
 walk_ends first second s left w e f =
     let no_first : back first left.first ≡ [] = ap (back first) e in

@@ -5,11 +5,11 @@ use Rattle.std.specs.Borrow.{Bor}
 use Rattle.std.specs.Str.{bytes_eq}
 use Rattle.std.specs.declared.vec.Vec.{Vec}
 use Rattle.std.proofs.Common.{get_or}
-use Rattle.def_alignment.specs.Alignments.{Step, in_both, in_first, in_second, Aligns, common_count}
+use Rattle.def_alignment.specs.Alignments.{LineStep, in_both, in_first, in_second, Aligns, common_count}
 use Rattle.tn_alignment.specs.declared.steps.Step as code
 use Rattle.tn_alignment.specs.declared.steps.Step.TheVariants.{Both, First, Second}
 use Rattle.tn_alignment.specs.declared.steps.Grid.{Grid}
-use Rattle.tn_alignment.specs.declared.steps.Left.{Left}
+use Rattle.tn_alignment.specs.declared.steps.LinesLeft.{LinesLeft}
 
 -- the bytes of lines
 abbrev pub line_texts : List (Bor (List ℕ)) → List (List ℕ)
@@ -45,34 +45,34 @@ pub record IsTable {A : Type 0} (first second : List (List ℕ)) (table : List (
 
 -- ---- of the code's steps
 
-abbrev pub step_seen : code.Step → Step
-step_seen Both = in_both
-step_seen First = in_first
-step_seen Second = in_second
+abbrev pub line_step_seen : code.Step → LineStep
+line_step_seen Both = in_both
+line_step_seen First = in_first
+line_step_seen Second = in_second
 
 -- the table is that of the two lists
 abbrev pub IsGrid : {A : Type 0} → Grid A → Type 0
 IsGrid g = IsTable (line_texts g.first.now) (line_texts g.second.now) g.table.now
 
 -- so many lines are left of each list, at most all
-pub record IsLeft (first second : List (List ℕ)) (left : Left) : Type 0 where
+pub record IsLeft (first second : List (List ℕ)) (left : LinesLeft) : Type 0 where
   pub of_first : left.first ≤ length first
   pub of_second : left.second ≤ length second
 
 -- the step is the next one through the lines that are left: those after it have as many lines in common as are left to find
-pub record Leads (first second : List (List ℕ)) (old : Left) (s : Step) (new : Left) : Type 0 where
-  pub goes : (t : List Step) → Aligns t (back first new.first) (back second new.second) → Aligns (s ∷ t) (back first old.first) (back second old.second)
+pub record LeadsThrough (first second : List (List ℕ)) (old : LinesLeft) (s : LineStep) (new : LinesLeft) : Type 0 where
+  pub goes : (t : List LineStep) → Aligns t (back first new.first) (back second new.second) → Aligns (s ∷ t) (back first old.first) (back second old.second)
   pub counts : most_common (back first old.first) (back second old.second) ≡ common_count (s ∷ []) + most_common (back first new.first) (back second new.second)
   pub within : IsLeft first second new
   pub nearer : new.first + new.second < old.first + old.second
 
 -- no line of both is next, or going by it loses one that they have in common
-abbrev pub CommonStepLoses : (first second : List (List ℕ)) → Left → Type 0
+abbrev pub CommonStepLoses : (first second : List (List ℕ)) → LinesLeft → Type 0
 CommonStepLoses first second left =
     (x y : List ℕ) (xs ys : List (List ℕ)) → back first left.first ≡ x ∷ xs → back second left.second ≡ y ∷ ys
     → x ≡ y → most_common (x ∷ xs) (y ∷ ys) ≢ suc (most_common xs ys)
 
 -- no line of the first list is next, or going by it loses one that they have in common
-abbrev pub FirstStepLoses : (first second : List (List ℕ)) → Left → Type 0
+abbrev pub FirstStepLoses : (first second : List (List ℕ)) → LinesLeft → Type 0
 FirstStepLoses first second left =
     (x : List ℕ) (xs : List (List ℕ)) → back first left.first ≡ x ∷ xs → most_common (back first left.first) (back second left.second) ≢ most_common xs (back second left.second)

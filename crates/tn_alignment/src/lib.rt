@@ -1,7 +1,6 @@
 //! The alignment of two lists of lines: a longest common subsequence of both, and what one of them alone has.
 //!
-//! Depends on def_alignment. Promises that the steps of `alignment` are an alignment as it is defined there. Each cell of
-//! a table has how many lines two fronts of the lists have in common at most.
+//! Depends on def_alignment. Promises that the steps of `alignment` are an alignment as it is defined there.
 #![tactic(auto)]
 
 mod rows;

@@ -3,8 +3,8 @@ ghost use Rattle.std.specs.Prelude.{◌≡◌, ◌+◌, ◌-◌, ◌<◌, ◌≤
 ghost use Rattle.std.specs.Str.{bytes_eq};
 ghost use Rattle.std.proofs.Common.{get_or};
 ghost use Rattle.def_alignment.specs.Alignments.{IsAlignment};
-ghost use Rattle.tn_alignment.specs.Tables.{back, CommonStepLoses, FirstStepLoses, IsGrid, IsLeft, IsTable, Leads};
-ghost use Rattle.tn_alignment.specs.Tables.{line_texts, most_common, step_seen};
+ghost use Rattle.tn_alignment.specs.Tables.{back, CommonStepLoses, FirstStepLoses, IsGrid, IsLeft, IsTable};
+ghost use Rattle.tn_alignment.specs.Tables.{LeadsThrough, line_step_seen, line_texts, most_common};
 
 use crate::rows::table_of;
 use std::alloc::{AllocError, Allocator};
@@ -30,7 +30,7 @@ pub(crate) struct Grid<'a, A: Allocator> {
 
 /// How many lines are left of each list.
 #[derive(Clone, Copy)]
-pub(crate) struct Left {
+pub(crate) struct LinesLeft {
     pub(crate) first: usize,
     pub(crate) second: usize,
 }
@@ -59,14 +59,15 @@ impl<A: Allocator> Grid<'_, A> {
     }
 
     /// The step by a line that both have, where that loses none of what they have in common.
-    fn common_step(&self, left: Left) -> Option<Left>
+    fn common_step(&self, left: LinesLeft) -> Option<LinesLeft>
         requires grid { IsGrid self.now }
         requires left { IsLeft (line_texts self.now.first.now) (line_texts self.now.second.now) left }
-        ensures some { IfSome result (Leads (line_texts self.now.first.now) (line_texts self.now.second.now)
-            left (step_seen Step.Both)) }
-        ensures none { IfNone result (CommonStepLoses (line_texts self.now.first.now) (line_texts self.now.second.now) left) }
+        ensures some { IfSome result (LeadsThrough (line_texts self.now.first.now) (line_texts self.now.second.now)
+            left (line_step_seen Step.Both)) }
+        ensures none { IfNone result
+            (CommonStepLoses (line_texts self.now.first.now) (line_texts self.now.second.now) left) }
     {
-        let Left { first, second } = left;
+        let LinesLeft { first, second } = left;
         if first == 0 || second == 0 {
             return None;
         }
@@ -74,7 +75,7 @@ impl<A: Allocator> Grid<'_, A> {
             return None;
         }
         if self.cell(first, second) == self.cell(first - 1, second - 1) + 1 {
-            Some(Left {
+            Some(LinesLeft {
                 first: first - 1,
                 second: second - 1,
             })
@@ -84,16 +85,17 @@ impl<A: Allocator> Grid<'_, A> {
     }
 
     /// The step by a line of the first list, where that loses none of what they have in common.
-    fn first_step(&self, left: Left) -> Option<Left>
+    fn first_step(&self, left: LinesLeft) -> Option<LinesLeft>
         requires grid { IsGrid self.now }
         requires left { IsLeft (line_texts self.now.first.now) (line_texts self.now.second.now) left }
-        ensures some { IfSome result (Leads (line_texts self.now.first.now) (line_texts self.now.second.now)
-            left (step_seen Step.First)) }
-        ensures none { IfNone result (FirstStepLoses (line_texts self.now.first.now) (line_texts self.now.second.now) left) }
+        ensures some { IfSome result (LeadsThrough (line_texts self.now.first.now) (line_texts self.now.second.now)
+            left (line_step_seen Step.First)) }
+        ensures none { IfNone result
+            (FirstStepLoses (line_texts self.now.first.now) (line_texts self.now.second.now) left) }
     {
-        let Left { first, second } = left;
+        let LinesLeft { first, second } = left;
         if first > 0 && self.cell(first, second) == self.cell(first - 1, second) {
-            Some(Left {
+            Some(LinesLeft {
                 first: first - 1,
                 second,
             })
@@ -103,12 +105,12 @@ impl<A: Allocator> Grid<'_, A> {
     }
 
     /// The next step through the lines that are left, and what is left after it.
-    fn next_step(&self, left: Left) -> (Step, Left)
+    fn next_step(&self, left: LinesLeft) -> (Step, LinesLeft)
         requires grid { IsGrid self.now }
         requires left { IsLeft (line_texts self.now.first.now) (line_texts self.now.second.now) left }
         requires some { 0 < left.first + left.second }
-        ensures { Leads (line_texts self.now.first.now) (line_texts self.now.second.now)
-            left (step_seen result.0) result.1 }
+        ensures { LeadsThrough (line_texts self.now.first.now) (line_texts self.now.second.now)
+            left (line_step_seen result.0) result.1 }
     {
         if let Some(rest) = self.common_step(left) {
             return (Step::Both, rest);
@@ -116,8 +118,8 @@ impl<A: Allocator> Grid<'_, A> {
         if let Some(rest) = self.first_step(left) {
             return (Step::First, rest);
         }
-        let Left { first, second } = left;
-        let rest = Left {
+        let LinesLeft { first, second } = left;
+        let rest = LinesLeft {
             first,
             second: second - 1,
         };
@@ -133,7 +135,7 @@ fn steps_by<A: Allocator + Copy>(
     table: &[Vec<usize, A>],
 ) -> Result<Vec<Step, A>, AllocError>
     requires { IsTable (line_texts first.now) (line_texts second.now) table.now }
-    ensures { IfOk result (λ v. IsAlignment (map step_seen v.items)
+    ensures { IfOk result (λ v. IsAlignment (map line_step_seen v.items)
         (reverse (line_texts first.now)) (reverse (line_texts second.now))) }
 {
     let grid = Grid {
@@ -142,7 +144,7 @@ fn steps_by<A: Allocator + Copy>(
         table,
     };
     let mut steps = Vec::new(alloc);
-    let mut left = Left {
+    let mut left = LinesLeft {
         first: first.len(),
         second: second.len(),
     };
@@ -164,7 +166,7 @@ pub fn alignment<A: Allocator + Copy>(
     first: &[&[u8]],
     second: &[&[u8]],
 ) -> Result<Vec<Step, A>, AllocError>
-    ensures { IfOk result (λ v. IsAlignment (map step_seen v.items)
+    ensures { IfOk result (λ v. IsAlignment (map line_step_seen v.items)
         (reverse (line_texts first.now)) (reverse (line_texts second.now))) }
 {
     let table = table_of(alloc, first, second)?;

@@ -1,5 +1,5 @@
 mod SplitLemmas
-mod LineLemmas
+pub mod LineLemmas
 mod PickLemmas
 mod Appends
 mod AsciiLemmas

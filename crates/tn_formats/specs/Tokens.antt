@@ -5,6 +5,7 @@ use Rattle.json.specs.Tree.{json_tokens}
 use Rattle.json.specs.Written.{Written}
 use Rattle.def_formats.specs.Lines.{message_kind, message_pid}
 use Rattle.def_formats.specs.JsonRows.{text_value, numeral_value}
+use Rattle.def_formats.specs.RefusalRows.{place_value}
 
 -- these tokens after the ones before
 pub record GainsTokens (old new : Written) (ts : List Token) : Type 0 where
@@ -37,3 +38,7 @@ message_tokens n line =
 -- of a move
 abbrev pub move_tokens : (move pick event : List ℕ) → List Token
 move_tokens move pick event = numeral_member (codes "move") move ++ numeral_member (codes "pick") pick ++ text_member (codes "event") event
+
+-- of where a text is refused
+abbrev pub place_member : List ℕ → List Token
+place_member place = key (codes "place") ∷ json_tokens (place_value place)

@@ -12,6 +12,7 @@ mod load;
 mod longest;
 mod parts;
 mod picks;
+mod refusal;
 mod rows;
 mod section;
 mod summary;
@@ -19,3 +20,4 @@ mod values;
 
 pub use format::{Format, in_format};
 pub use lines::first_line;
+pub use refusal::refusal_json;

@@ -5,8 +5,11 @@ use Rattle.tn_alignment.proofs.steps.Grid.next_step.Goals as goal
 
 pub overflow_sub-rest : goal.overflow_sub-rest
 overflow_sub-rest g c =
-    omega (arith, some_left (line_texts c.args.self.now.first.now) (line_texts c.args.self.now.second.now) c.args.left.first c.args.left.second
-        c.requires.left.of_first c.requires.some c.in_default-first_step.ensures.none)
+    omega (
+      arith,
+      some_left (line_texts c.args.self.now.first.now) (line_texts c.args.self.now.second.now) c.args.left.first c.args.left.second
+          c.requires.left.of_first c.requires.some c.in_default-first_step.ensures.none,
+    )
 
 pub returns : goal.returns
 returns g c =

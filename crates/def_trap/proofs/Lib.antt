@@ -1,0 +1,4 @@
+pub mod IdleActions
+pub mod IdleBodies
+pub mod IdleHeads
+mod TrapRows
