@@ -1,15 +1,15 @@
 -- An expression of a body that is a trap adds no effect.
-use Rattle.std.proofs.Common.{◌≡◌, ◌∙◌, sym, ap, subst, ℕ, Bool, true, false, not, ◌&&◌, if◌then◌else◌, List, [], ◌∷◌, Option, Some, None, refl}
+use Rattle.std.proofs.Common.{◌≡◌, ◌∙◌, sym, ap, ℕ, Bool, true, false, not, ◌&&◌, if◌then◌else◌, List, [], ◌∷◌, Option, Some, None, refl}
 use Rattle.std.specs.Prelude.{is_some}
 use Rattle.std.specs.Option.{option_map, option_or}
 use Rattle.def_term.specs.Names.{word}
 use Rattle.def_term.specs.Tree.{Tree, pid, list, of_elements}
 use Rattle.def_spec.specs.Flags.{Flag, Flags, flag_named, flags_listed, flags_named, and_flag}
 use Rattle.def_spec.specs.Matching.{Bindings}
-use Rattle.def_spec.specs.Expressions.{Dialect, Action, message, return_trace, exception_trace, silent, enable_trace, disable_trace, trace, caller, Expr, bound_to, whole_list, all_bound, constant, tuple_of, list_of, call, and_also, or_else, perform, Exprs, no_exprs, and_expr, Context, Effect, in_body, Evaluation, comes_to, faults, then_on, evaluation, evaluation_of_all, its_effects, change, change_by, living_pid, trace_change, trace_by, action_done, context_after}
+use Rattle.def_spec.specs.Expressions.{Dialect, Action, message, return_trace, exception_trace, silent, enable_trace, disable_trace, trace, caller, Expr, bound_to, whole_list, all_bound, constant, tuple_of, list_of, call, and_also, or_else, perform, Exprs, no_exprs, and_expr, Context, Effect, in_body, Evaluation, comes_to, faults, then_on, evaluation, evaluation_of_all, change_by, living_pid, trace_change, trace_by, action_done, context_after}
 use Rattle.def_trap.specs.Traps.{BodyTrap, marks_no_call, lacks_flag, body_trap, marks_call, is_flag, no_flag, first_no_flag, no_flags_in, no_lists, no_flag_last, no_lists_last, no_flag_among}
 use Rattle.def_explain.specs.Differences.{is_of_calls}
-use Rattle.def_trap.specs.TrapLaws.{BodyTrapsDoNothing, arguments_of}
+use Rattle.def_trap.specs.TrapLaws.{BodyTrapsDoNothing}
 use Rattle.def_trap.proofs.IdleActions.{IsIdle, idle_call, idle_marks, no_change, no_off, no_on}
 
 -- ---- what is not there
@@ -76,13 +76,13 @@ module _ (d : Dialect) (b : Bindings) (c : Context) where
   listed_none no_exprs t h x vs y k = let clash : None ≡ Some t = h in cc
   listed_none (and_expr e es) t h x vs y k =
       let outer : Comes (evaluation d in_body b c e x) (λ v z. then_on (evaluation_of_all d in_body b c es z) (λ ts a. comes_to (v ∷ ts) a)) vs y =
-          parts (evaluation d in_body b c e x) (λ v z. then_on (evaluation_of_all d in_body b c es z) (λ ts a. comes_to (v ∷ ts) a)) vs y k in
+      parts (evaluation d in_body b c e x) (λ v z. then_on (evaluation_of_all d in_body b c es z) (λ ts a. comes_to (v ∷ ts) a)) vs y k in
       let inner : Comes (evaluation_of_all d in_body b c es outer.after) (λ ts a. comes_to (outer.part ∷ ts) a) vs y =
-          parts (evaluation_of_all d in_body b c es outer.after) (λ ts a. comes_to (outer.part ∷ ts) a) vs y outer.rest in
+      parts (evaluation_of_all d in_body b c es outer.after) (λ ts a. comes_to (outer.part ∷ ts) a) vs y outer.rest in
       let all : outer.part ∷ inner.part ≡ vs = (let q : comes_to (outer.part ∷ inner.part) inner.after ≡ comes_to vs y = inner.rest in cc) in
       ap (λ l. flags_named (of_elements l)) (sym all)
       ∙ by_option (no_flag e) (λ u one. one_is_none (flag_named outer.part) (flags_named (of_elements inner.part)) (no_flag_value e u one x outer.part outer.after outer.comes))
-          (λ q. others_are_none (flag_named outer.part) (flags_named (of_elements inner.part)) (listed_none es t (sym (ap (λ o. option_or o (first_no_flag es)) q) ∙ h) outer.after inner.part inner.after inner.comes))
+      (λ q. others_are_none (flag_named outer.part) (flags_named (of_elements inner.part)) (listed_none es t (sym (ap (λ o. option_or o (first_no_flag es)) q) ∙ h) outer.after inner.part inner.after inner.comes))
 
   -- what is no list of flags
   no_list_value : (e : Expr) (t : Tree) → no_flags_in e ≡ Some t → (x : List Effect) (v : Tree) (y : List Effect) → evaluation d in_body b c e x ≡ comes_to v y → flags_listed v ≡ None
@@ -91,7 +91,7 @@ module _ (d : Dialect) (b : Bindings) (c : Context) where
       ap flags_listed (sym same) ∙ none_of (flags_listed u) (unless_flag (is_some (flags_listed u)) u t h)
   no_list_value (list_of es) t h x v y k =
       let inner : Comes (evaluation_of_all d in_body b c es x) (λ ts z. comes_to (list (of_elements ts)) z) v y =
-          parts (evaluation_of_all d in_body b c es x) (λ ts z. comes_to (list (of_elements ts)) z) v y k in
+      parts (evaluation_of_all d in_body b c es x) (λ ts z. comes_to (list (of_elements ts)) z) v y k in
       let same : list (of_elements inner.part) ≡ v = (let q : comes_to (list (of_elements inner.part)) inner.after ≡ comes_to v y = inner.rest in cc) in
       ap flags_listed (sym same) ∙ listed_none es t h x inner.part inner.after inner.comes
   no_list_value (bound_to n) t h x v y k = let clash : None ≡ Some t = h in cc
@@ -129,11 +129,16 @@ module _ (d : Dialect) (b : Bindings) (c : Context) where
   one_more : (e : Expr) (es : Exprs) (x : List Effect) (vs : List Tree) (y : List Effect) → evaluation_of_all d in_body b c (and_expr e es) x ≡ comes_to vs y → More e es x vs
   one_more e es x vs y k =
       let p : Comes (evaluation d in_body b c e x) (λ v z. then_on (evaluation_of_all d in_body b c es z) (λ ts a. comes_to (v ∷ ts) a)) vs y =
-          parts (evaluation d in_body b c e x) (λ v z. then_on (evaluation_of_all d in_body b c es z) (λ ts a. comes_to (v ∷ ts) a)) vs y k in
+      parts (evaluation d in_body b c e x) (λ v z. then_on (evaluation_of_all d in_body b c es z) (λ ts a. comes_to (v ∷ ts) a)) vs y k in
       let r : Comes (evaluation_of_all d in_body b c es p.after) (λ ts a. comes_to (p.part ∷ ts) a) vs y =
-          parts (evaluation_of_all d in_body b c es p.after) (λ ts a. comes_to (p.part ∷ ts) a) vs y p.rest in
+      parts (evaluation_of_all d in_body b c es p.after) (λ ts a. comes_to (p.part ∷ ts) a) vs y p.rest in
       record {
-        value = p.part; after = p.after; comes = p.comes; others = r.part; end = r.after; others_come = r.comes;
+        value = p.part;
+        after = p.after;
+        comes = p.comes;
+        others = r.part;
+        end = r.after;
+        others_come = r.comes;
         are = (let q : comes_to (p.part ∷ r.part) r.after ≡ comes_to vs y = r.rest in cc);
       }
 

@@ -1,11 +1,9 @@
 -- A clause whose head is a trap fires for no list of these lengths.
-use Rattle.std.proofs.Common.{◌≡◌, ◌∙◌, sym, ap, ℕ, suc, Bool, true, false, if◌then◌else◌, List, [], ◌∷◌, Option, Some, None, refl, length, arith}
+use Rattle.std.proofs.Common.{◌≡◌, ◌∙◌, sym, ap, ℕ, Bool, true, false, if◌then◌else◌, List, [], ◌∷◌, Some, None, refl, length, arith}
 use Rattle.std.specs.Prelude.{◌==◌}
 use Rattle.std.specs.List.{list_any}
-use Rattle.def_term.specs.Tree.{Tree, list, Trees, none, more, count, of_elements}
-use Rattle.def_spec.specs.Matching.{Pattern, variable, anything, only_term, in_tuple, in_list, Patterns, no_patterns, and_pattern, Bindings, Fill, PathStep, here, past, subst_in, subst_each}
-use Rattle.def_spec.specs.Expressions.{Dialect, Context}
-use Rattle.def_spec.specs.Outcome.{Clause, Fires}
+use Rattle.def_term.specs.Tree.{Tree, list, count, of_elements}
+use Rattle.def_spec.specs.Matching.{Pattern, variable, anything, only_term, in_tuple, in_list, Patterns, no_patterns, and_pattern, Bindings, Fill, past, subst_in, subst_each}
 use Rattle.def_trap.specs.Traps.{Trap, of_head, count_patterns, head_trap}
 use Rattle.def_trap.specs.TrapLaws.{HeadTrapsDoNothing}
 

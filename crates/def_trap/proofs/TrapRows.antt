@@ -1,11 +1,11 @@
 -- Rows: specifications by their texts' terms, each with the trap that it has, worked out by hand.
-use Rattle.std.specs.Prelude.{◌≡◌, ℕ, List, [], ◌∷◌, Option, Some, None, codes, refl}
+use Rattle.std.specs.Prelude.{◌≡◌, [], ◌∷◌, Some, None, codes, refl}
 use Rattle.std.specs.Fmt.{digits}
 use Rattle.def_term.specs.Tree.{atom}
 use Rattle.def_term.specs.Text.{is_written_bare}
 use Rattle.def_spec.specs.Matching.{variable, anything, in_list, no_patterns, and_pattern}
-use Rattle.def_spec.specs.Expressions.{for_calls, for_sends, for_receives, return_trace, exception_trace, enable_trace, trace, message, constant, list_of, perform, no_exprs, and_expr}
-use Rattle.def_trap.specs.Traps.{names_action, marks_no_call, lacks_flag, of_head, of_body, body_trap, head_trap, clause_trap, first_trap, list_lengths}
+use Rattle.def_spec.specs.Expressions.{for_calls, for_sends, for_receives, return_trace, exception_trace, enable_trace, trace, constant, list_of, perform, no_exprs, and_expr}
+use Rattle.def_trap.specs.Traps.{names_action, marks_no_call, lacks_flag, of_head, of_body, body_trap, head_trap, first_trap, list_lengths}
 use Rattle.def_trap.specs.TrapTexts.{clause_trap_text}
 
 -- [{'_',[],[return_trace]}] of calls
@@ -47,7 +47,7 @@ none_of_two = refl
 
 -- ---- lines
 
-line_of_name : clause_trap_text for_calls 0 (of_body 0 (names_action (codes "return_trace"))) ≡ codes "clause 1: body 1: return_trace is a constant, the action is {return_trace}"
+line_of_name : clause_trap_text for_calls 0 (of_body 0 (names_action (codes "return_trace"))) ≡ codes "clause 1: body 1: return_trace is a constant, and no call of the action"
 unfolding digits is_written_bare
 line_of_name = refl
 

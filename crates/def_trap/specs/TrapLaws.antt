@@ -3,7 +3,7 @@
 use Rattle.std.specs.Prelude.{◌≡◌, ◌==◌, ℕ, false, List, Some, length}
 use Rattle.std.specs.List.{list_any}
 use Rattle.def_spec.specs.Matching.{Bindings}
-use Rattle.def_spec.specs.Expressions.{Dialect, Effect, Expr, bound_to, whole_list, all_bound, constant, tuple_of, list_of, call, and_also, or_else, perform, Exprs, no_exprs, Context, in_body, evaluation, evaluation_of_all, its_effects}
+use Rattle.def_spec.specs.Expressions.{Dialect, Effect, Expr, perform, Exprs, no_exprs, Context, in_body, evaluation, evaluation_of_all, its_effects}
 use Rattle.def_spec.specs.Outcome.{Clause, Fires}
 use Rattle.def_trap.specs.Traps.{BodyTrap, Trap, body_trap, head_trap}
 

@@ -3,7 +3,7 @@
 use Rattle.std.specs.Prelude.{ℕ, suc, List, ◌++◌, codes, decimal}
 use Rattle.def_term.specs.Tree.{Tree}
 use Rattle.def_term.specs.Text.{w, atom_text}
-use Rattle.def_spec.specs.Expressions.{Dialect, for_calls, for_sends, for_receives, Action, message, return_trace, exception_trace, silent, enable_trace, disable_trace, trace, caller}
+use Rattle.def_spec.specs.Expressions.{Dialect, for_calls, for_sends, for_receives, Action}
 use Rattle.def_explain.specs.Spellings.{action_name}
 use Rattle.def_trap.specs.Traps.{BodyTrap, names_action, marks_no_call, lacks_flag, Trap, of_head, of_body}
 
@@ -25,7 +25,7 @@ no_flag_trap_text a t = action_name a ++ codes " has no effect, " ++ w t ++ code
 
 -- what is wrong with an expression of a body
 abbrev pub body_trap_text : Dialect → BodyTrap → List ℕ
-body_trap_text d (names_action s) = atom_text s ++ codes " is a constant, the action is {" ++ atom_text s ++ codes "}"
+body_trap_text d (names_action s) = atom_text s ++ codes " is a constant, and no call of the action"
 body_trap_text d (marks_no_call a) = action_name a ++ codes " has no effect on " ++ no_call_text d
 body_trap_text d (lacks_flag a t) = no_flag_trap_text a t
 

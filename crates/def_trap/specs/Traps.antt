@@ -1,14 +1,14 @@
 -- Traps (own): clauses of match specifications that a command takes, and that do nothing where something was meant.
 -- "Match Specifications in Erlang", "Grammar": an action is a call {Name,..}, and its bare name is a constant; "Functions Allowed Only for Tracing": {return_trace} and {exception_trace} are of calls. "erlang", trace_pattern/3: the list of a send is [Receiver,Message], that of a receive [Node,Sender,Message].
 -- Depends on specifications as they are read, and on flags.
-use Rattle.std.specs.Prelude.{◌≡◌, ◌==◌, ℕ, suc, Bool, true, false, not, ◌&&◌, if◌then◌else◌, List, [], ◌∷◌, Option, Some, None, is_some}
+use Rattle.std.specs.Prelude.{◌==◌, ℕ, suc, Bool, true, false, not, ◌&&◌, if◌then◌else◌, List, [], ◌∷◌, Option, Some, None, is_some}
 use Rattle.std.specs.List.{list_any}
 use Rattle.std.specs.Option.{option_map, option_or}
 use Rattle.def_term.specs.Tree.{Tree, atom}
 use Rattle.def_term.specs.Names.{Name}
 use Rattle.def_spec.specs.Flags.{flag_named, flags_listed}
-use Rattle.def_spec.specs.Matching.{Pattern, variable, anything, only_term, in_tuple, in_list, Patterns, no_patterns, and_pattern}
-use Rattle.def_spec.specs.Expressions.{Dialect, for_calls, for_sends, for_receives, Action, message, return_trace, exception_trace, silent, enable_trace, disable_trace, trace, caller, Expr, bound_to, whole_list, all_bound, constant, tuple_of, list_of, call, and_also, or_else, perform, Exprs, no_exprs, and_expr}
+use Rattle.def_spec.specs.Matching.{Pattern, in_list, Patterns, no_patterns, and_pattern}
+use Rattle.def_spec.specs.Expressions.{Dialect, for_calls, for_sends, for_receives, Action, return_trace, exception_trace, enable_trace, disable_trace, trace, Expr, constant, list_of, perform, Exprs, no_exprs, and_expr}
 use Rattle.def_spec.specs.Reading.{Callee, a_function, an_and_also, an_or_else, an_action, Row, found_in, table}
 use Rattle.def_spec.specs.Outcome.{Clause}
 use Rattle.def_explain.specs.Differences.{is_of_calls}

@@ -3,9 +3,8 @@ use Rattle.std.proofs.Common.{◌≡◌, ◌∙◌, sym, ap, refl, ℕ, suc, ◌
 use Rattle.std.specs.Prelude.{is_some}
 use Rattle.std.specs.Option.{option_map, option_or}
 use Rattle.std.proofs.lemmas.List.{drop_more, drop_all}
-use Rattle.def_term.specs.Tree.{Tree, Trees, none, more}
-use Rattle.def_spec.specs.Expressions.{Dialect, Expr, Exprs, no_exprs, and_expr}
-use Rattle.def_spec.specs.Outcome as outcome
+use Rattle.def_term.specs.Tree.{Tree}
+use Rattle.def_spec.specs.Expressions.{Dialect, no_exprs, and_expr}
 use Rattle.def_spec.specs.Flags.{Flag, Flags, flag_named, flags_named, and_flag}
 use Rattle.def_trap.specs.Traps as traps
 use Rattle.def_trap.specs.Traps.{is_flag, no_flag, first_no_flag, body_trap, first_in_body, of_body, clause_trap, trap_after, is_action, is_action_row, count_patterns}

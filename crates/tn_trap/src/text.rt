@@ -79,9 +79,7 @@ fn put_body_trap<A: Allocator, B: Allocator>(
     match trap {
         BodyTrap::NamesAction(name) => {
             write_atom(name, out)?;
-            out.extend_from_slice(b" is a constant, the action is {")?;
-            write_atom(name, out)?;
-            out.extend_from_slice(b"}")?;
+            out.extend_from_slice(b" is a constant, and no call of the action")?;
             Ok(())
         }
         BodyTrap::MarksNoCall(action) => {

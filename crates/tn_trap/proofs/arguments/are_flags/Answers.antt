@@ -1,8 +1,8 @@
-use Rattle.std.proofs.Common.{◌∙◌, sym, arith}
+use Rattle.std.proofs.Common.{◌∙◌, arith}
 use Rattle.std.specs.Prelude.{is_some}
 use Rattle.def_spec.specs.Flags.{flags_named}
 use Rattle.tn_term.specs.Views.{trees_of}
-use Rattle.tn_trap.proofs.Firsts.{flag_missing, flag_there, flags_end}
+use Rattle.tn_trap.proofs.Firsts.{flag_there}
 use Rattle.tn_trap.proofs.arguments.are_flags.Goals as goal
 
 pub loop-i-preserved : goal.loop-i-preserved

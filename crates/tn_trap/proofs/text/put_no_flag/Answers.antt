@@ -1,4 +1,4 @@
-use Rattle.std.proofs.Common.{◌≡◌, ◌∙◌, ◌++◌, ap, codes}
+use Rattle.std.proofs.Common.{◌∙◌, ◌++◌, ap, codes}
 use Rattle.def_explain.specs.Spellings.{action_name}
 use Rattle.def_term.specs.Text.{w}
 use Rattle.tn_term.specs.Views.{tree_of}
