@@ -11,7 +11,7 @@ use Rattle.def_formats.specs.Lines.{message_kind, message_pid, before_byte, past
 use Rattle.def_formats.specs.Sections.{session_section, replies_section, journal_section}
 use Rattle.def_formats.specs.Summaries.{journal_picks}
 use Rattle.def_formats.specs.JsonRows.{are_ascii, text_value, number_value, is_whole, numeral_value, items_from, numbered_rows, message_row, reply_row, line_row, journal_row, account_rows, is_indented, move_row, made_row}
-use Rattle.def_formats.specs.RefusalRows.{refusal_number, noted_place, place_value, refusal_row}
+use Rattle.def_formats.specs.RefusalRows.{refusal_number, noted_place, place_value}
 use Rattle.def_formats.specs.Laws.{IsReadBack, OutputRowsAreRead, AccountRowsAreRead, TextRowsAreRead, RefusalRowIsRead}
 
 -- a value that can be written, and nests so deep at most
