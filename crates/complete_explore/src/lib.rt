@@ -4,7 +4,9 @@
 //! Depends on tn_explore and tn_messages.
 #![tactic(auto)]
 
+mod answers;
 mod messages;
+mod programs;
 mod search;
 
 pub use search::explore;

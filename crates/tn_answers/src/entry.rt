@@ -1,0 +1,130 @@
+// An entry with its listings.
+ghost use Rattle.std.specs.Prelude.{◌≡◌, ◌++◌, ◌∷◌, ◌+◌, ◌<◌, OnOk, map, decimal};
+ghost use Rattle.def_run.specs.Listing.{header_line};
+ghost use Rattle.def_explore.specs.Output.{entry_line, rest_entry_text, kept_listings, session_texts, spaced_picks};
+ghost use Rattle.tn_messages.specs.MessageViews.{kept_seen};
+ghost use Rattle.tn_answers.specs.Listed.{session_seen};
+
+use crate::lines::Listing;
+use itoa::Buffer;
+use std::alloc::{AllocError, Allocator};
+use tn_messages::KeptListings;
+use tn_term::Atom;
+use tn_text::write_atom;
+
+/// A session that an exploration is about, with its tracer.
+#[derive(Drop)]
+pub struct SessionName<A: Allocator> {
+    pub name: Atom<A>,
+    pub tracer: Atom<A>,
+}
+
+/// Appends a number.
+pub(crate) fn put_number<B: Allocator>(number: usize, out: &mut Vec<u8, B>) -> Result<(), AllocError>
+    ensures { OnOk result (out.new.items ≡ out.old.items ++ decimal number) }
+{
+    let mut buffer = Buffer::new();
+    out.extend_from_slice(buffer.format(number).as_bytes())?;
+    Ok(())
+}
+
+/// Appends a space and the number of a pick.
+fn put_pick<B: Allocator>(pick: u32, out: &mut Vec<u8, B>) -> Result<(), AllocError>
+    ensures { OnOk result (out.new.items ≡ out.old.items ++ 32 ∷ decimal pick) }
+{
+    let mut buffer = Buffer::new();
+    out.push(b' ')?;
+    out.extend_from_slice(buffer.format(pick).as_bytes())?;
+    Ok(())
+}
+
+/// Appends a space and a number for each pick.
+fn put_picks<B: Allocator>(picks: &[u32], out: &mut Vec<u8, B>) -> Result<(), AllocError>
+    ensures { OnOk result (out.new.items ≡ out.old.items ++ spaced_picks picks.now) }
+{
+    for pick in picks {
+        put_pick(*pick, out)?;
+    }
+    Ok(())
+}
+
+/// Appends the line `== listing N of M: journal PICKS`.
+fn put_entry_line<B: Allocator>(
+    number: usize,
+    count: usize,
+    journal: &[u32],
+    out: &mut Vec<u8, B>,
+) -> Result<(), AllocError>
+    ensures { OnOk result (out.new.items ≡ out.old.items ++ entry_line number count journal.now) }
+{
+    out.extend_from_slice(b"== listing ")?;
+    put_number(number, out)?;
+    out.extend_from_slice(b" of ")?;
+    put_number(count, out)?;
+    out.extend_from_slice(b": journal")?;
+    put_picks(journal, out)?;
+    out.push(b'\n')?;
+    Ok(())
+}
+
+/// Appends the line `== session NAME tracer TRACER`.
+fn put_header<A: Allocator, B: Allocator>(
+    session: &SessionName<A>,
+    out: &mut Vec<u8, B>,
+) -> Result<(), AllocError>
+    ensures { OnOk result (out.new.items ≡ out.old.items ++ header_line session.now.name session.now.tracer) }
+{
+    out.extend_from_slice(b"== session ")?;
+    write_atom(&session.name, out)?;
+    out.extend_from_slice(b" tracer ")?;
+    write_atom(&session.tracer, out)?;
+    out.push(b'\n')?;
+    Ok(())
+}
+
+/// Appends the header of each session and its listing, for as many as there are both.
+fn put_sessions<A: Allocator, L: Listing, B: Allocator>(
+    sessions: &[SessionName<A>],
+    listings: &[L],
+    out: &mut Vec<u8, B>,
+) -> Result<(), AllocError>
+    ensures { OnOk result (out.new.items ≡ out.old.items ++
+        session_texts (map session_seen sessions.now) (map L.listed listings.now)) }
+{
+    for i in 0..sessions.len().min(listings.len()) {
+        put_header(&sessions[i], out)?;
+        listings[i].put_lines(out)?;
+    }
+    Ok(())
+}
+
+/// Appends the header of each session and what is kept of its messages.
+fn put_kept<A: Allocator, B: Allocator>(
+    sessions: &[SessionName<A>],
+    kept: &KeptListings<A>,
+    out: &mut Vec<u8, B>,
+) -> Result<(), AllocError>
+    ensures { OnOk result (out.new.items ≡ out.old.items ++
+        session_texts (map session_seen sessions.now) (kept_listings (kept_seen kept.now))) }
+{
+    match kept {
+        KeptListings::Total(listings) => put_sessions(sessions, listings, out),
+        KeptListings::ByProcess(listings) => put_sessions(sessions, listings, out),
+    }
+}
+
+/// Appends an entry of so many, which has this number from 0.
+pub(crate) fn put_entry<A: Allocator, B: Allocator>(
+    sessions: &[SessionName<A>],
+    place: (usize, usize),
+    kept: &KeptListings<A>,
+    journal: &[u32],
+    out: &mut Vec<u8, B>,
+) -> Result<(), AllocError>
+    requires { place.entry.0 < place.entry.1 }
+    ensures { OnOk result (out.new.items ≡ out.old.items ++ rest_entry_text (map session_seen sessions.now)
+        place.entry.1 (place.entry.0 + 1) (record { kept = kept_seen kept.now; journal = journal.now })) }
+{
+    put_entry_line(place.0 + 1, place.1, journal, out)?;
+    put_kept(sessions, kept, out)
+}

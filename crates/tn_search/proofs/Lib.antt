@@ -1,0 +1,5 @@
+pub mod RunStates
+pub mod Sessions
+pub mod Places
+pub mod Probes
+pub mod Steps
