@@ -1,6 +1,6 @@
 // What was explored.
 ghost use Rattle.std.specs.Prelude.{◌≡◌, ◌++◌, ℕ, OnOk, true, false};
-ghost use Rattle.def_explore.specs.Output.{closing_line, count_text};
+ghost use Rattle.def_explore.specs.Output.{closing_line, exploration_end_text};
 
 use crate::entry::put_number;
 use std::alloc::{AllocError, Allocator};
@@ -11,7 +11,7 @@ fn put_counted<B: Allocator>(
     word: &[u8],
     out: &mut Vec<u8, B>,
 ) -> Result<(), AllocError>
-    ensures { OnOk result (out.new.items ≡ out.old.items ++ count_text number word.now) }
+    ensures { OnOk result (out.new.items ≡ out.old.items ++ exploration_end_text number word.now) }
 {
     put_number(number, out)?;
     out.push(b' ')?;

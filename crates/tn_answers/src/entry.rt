@@ -121,9 +121,9 @@ pub(crate) fn put_entry<A: Allocator, B: Allocator>(
     journal: &[u32],
     out: &mut Vec<u8, B>,
 ) -> Result<(), AllocError>
-    requires { place.entry.0 < place.entry.1 }
+    requires { place.0 < place.1 }
     ensures { OnOk result (out.new.items ≡ out.old.items ++ rest_entry_text (map session_seen sessions.now)
-        place.entry.1 (place.entry.0 + 1) (record { kept = kept_seen kept.now; journal = journal.now })) }
+        place.1 (place.0 + 1) (record { kept = kept_seen kept.now; journal = journal.now })) }
 {
     put_entry_line(place.0 + 1, place.1, journal, out)?;
     put_kept(sessions, kept, out)

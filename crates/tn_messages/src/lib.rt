@@ -10,6 +10,6 @@ mod messages_by_process;
 mod shared_message;
 
 pub use kept_listings::KeptListings;
-pub use list::{MessageList, add_messages, same_messages, share_messages};
+pub use list::{MessageList, same_messages, share_messages};
 pub use messages_by_process::MessagesByProcess;
 pub use shared_message::SharedMessage;

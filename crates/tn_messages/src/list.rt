@@ -4,7 +4,6 @@ ghost use Rattle.tn_messages.specs.MessageViews.{trees_seen, lists_seen};
 
 use crate::shared_message::SharedMessage;
 use std::alloc::{AllocError, Allocator};
-use std::hash::{FoldHasher, Hash};
 
 /// Messages, in their order.
 pub type MessageList<A> = Vec<SharedMessage<A>, A>;
@@ -32,11 +31,6 @@ pub fn same_messages<A: Allocator>(one: &MessageList<A>, other: &MessageList<A>)
     ensures { IsTrue result ↔ (trees_seen one.now ≡ trees_seen other.now) }
 {
     *one == *other
-}
-
-/// Adds messages to a hash: the same messages add the same.
-pub fn add_messages<A: Allocator>(messages: &MessageList<A>, hasher: &mut FoldHasher) {
-    messages.hash(hasher);
 }
 
 /// The same of lists of messages.

@@ -74,18 +74,29 @@ impl<A: Allocator + Copy> SharedSink<A> for ProcessSink<A> {
     }
 }
 
+/// The messages of each process that a sink keeps. Each message has one owner more.
+fn lists_in<A: Allocator + Copy>(
+    alloc: A,
+    sink: &ProcessSink<A>,
+) -> Result<Vec<MessageList<A>, A>, AllocError>
+    ensures { IfOk result (λ v. (ms : List Tree) →
+        AreOfProcesses sink.now ms → lists_seen v ≡ each_process all_pids ms) }
+{
+    sink.messages.share(alloc)?.into_lists(alloc)
+}
+
 /// What is kept by sinks, by session and process.
 fn lists_of<A: Allocator + Copy>(
     alloc: A,
-    sinks: Vec<ProcessSink<A>, A>,
+    sinks: &[ProcessSink<A>],
 ) -> Result<Vec<Vec<MessageList<A>, A>, A>, AllocError>
     ensures { IfOk result (λ v. (mss : List (List Tree)) →
-        EachPair (λ ms k. AreOfProcesses k ms) mss sinks.items →
+        EachPair (λ ms k. AreOfProcesses k ms) mss sinks.now →
         map lists_seen v.items ≡ map (each_process all_pids) mss) }
 {
     let mut lists = Vec::with_capacity(alloc, sinks.len())?;
     for sink in sinks {
-        lists.push(sink.messages.into_lists(alloc)?)?;
+        lists.push(lists_in(alloc, sink)?)?;
     }
     Ok(lists)
 }
@@ -107,9 +118,9 @@ impl<A: Allocator + Copy> SearchSink<A> for ProcessSink<A> {
         self.messages.add_to(hasher);
     }
 
-    fn gather(alloc: A, sinks: Vec<Self, A>) -> Result<KeptListings<A>, AllocError>
+    fn gather(alloc: A, sinks: &[Self]) -> Result<KeptListings<A>, AllocError>
         ensures { IfOk result (λ l. (mss : List (List Tree)) →
-            EachPair (λ ms k. AreOfProcesses k ms) mss sinks.items → kept_seen l ≡ kept_lists true mss) }
+            EachPair (λ ms k. AreOfProcesses k ms) mss sinks.now → kept_seen l ≡ kept_lists true mss) }
     {
         Ok(KeptListings::ByProcess(lists_of(alloc, sinks)?))
     }

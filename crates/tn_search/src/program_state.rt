@@ -126,7 +126,7 @@ impl<A: Allocator + Copy, K: SearchSink<A> + Drop> SearchState<A> for ProgramSta
 
     fn observe(&self, alloc: A) -> Result<KeptListings<A>, AllocError> {
         let sinks = share_kept(alloc, self.places, &self.run.observer().slots)?;
-        K::gather(alloc, sinks)
+        K::gather(alloc, &sinks)
     }
 
     fn copy_journal(&self, alloc: A) -> Result<Vec<u32, A>, AllocError> {

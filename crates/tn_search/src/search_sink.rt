@@ -22,12 +22,12 @@ pub trait SearchSink<A: Allocator>: SharedSink<A> {
     /// Adds what is kept to a hash: the same adds the same.
     fn add_to(&self, hasher: &mut FoldHasher);
 
-    /// What is kept of some sessions, by what is kept of each.
+    /// What is kept of some sessions, by what is kept of each. Each message has one owner more.
     ///
     /// # Errors
     ///
-    /// AllocError where memory was refused.
-    fn gather(alloc: A, sinks: Vec<Self, A>) -> Result<KeptListings<A>, AllocError>
-        ensures { IfOk result (λ l. (mss : List (List Tree)) → EachPair (λ ms k. Self.keeps k ms) mss sinks.items →
+    /// AllocError where memory was refused, or a count of owners is full.
+    fn gather(alloc: A, sinks: &[Self]) -> Result<KeptListings<A>, AllocError>
+        ensures { IfOk result (λ l. (mss : List (List Tree)) → EachPair (λ ms k. Self.keeps k ms) mss sinks.now →
             kept_seen l ≡ kept_lists is_by_process mss) };
 }

@@ -4,10 +4,8 @@ ghost use Rattle.tn_messages.specs.MessageViews.{trees_seen, lists_seen};
 
 use crate::search_sink::SearchSink;
 use std::alloc::{AllocError, Allocator};
-use std::hash::FoldHasher;
-use tn_messages::{
-    KeptListings, MessageList, SharedMessage, add_messages, same_messages, share_messages,
-};
+use std::hash::{FoldHasher, Hash};
+use tn_messages::{KeptListings, MessageList, SharedMessage, same_messages, share_messages};
 use tn_session::{EventText, Message};
 use tn_term::Term;
 use tn_text::WrittenTerm;
@@ -72,16 +70,16 @@ impl<A: Allocator + Copy> SharedSink<A> for TotalSink<A> {
     }
 }
 
-/// What is kept by sinks.
+/// What is kept by sinks. Each message has one owner more.
 fn lists_of<A: Allocator + Copy>(
     alloc: A,
-    sinks: Vec<TotalSink<A>, A>,
+    sinks: &[TotalSink<A>],
 ) -> Result<Vec<MessageList<A>, A>, AllocError>
-    ensures { IfOk result (λ v. lists_seen v ≡ map (λ k. trees_seen k.messages) sinks.items) }
+    ensures { IfOk result (λ v. lists_seen v ≡ map (λ k. trees_seen k.messages) sinks.now) }
 {
     let mut lists = Vec::with_capacity(alloc, sinks.len())?;
     for sink in sinks {
-        lists.push(sink.messages)?;
+        lists.push(share_messages(alloc, &sink.messages)?)?;
     }
     Ok(lists)
 }
@@ -100,11 +98,11 @@ impl<A: Allocator + Copy> SearchSink<A> for TotalSink<A> {
     }
 
     fn add_to(&self, hasher: &mut FoldHasher) {
-        add_messages(&self.messages, hasher);
+        self.messages.hash(hasher);
     }
 
-    fn gather(alloc: A, sinks: Vec<Self, A>) -> Result<KeptListings<A>, AllocError>
-        ensures { IfOk result (λ l. (mss : List (List Tree)) → EachPair (λ ms k. AreMessages k ms) mss sinks.items →
+    fn gather(alloc: A, sinks: &[Self]) -> Result<KeptListings<A>, AllocError>
+        ensures { IfOk result (λ l. (mss : List (List Tree)) → EachPair (λ ms k. AreMessages k ms) mss sinks.now →
             kept_seen l ≡ kept_lists false mss) }
     {
         Ok(KeptListings::Total(lists_of(alloc, sinks)?))
