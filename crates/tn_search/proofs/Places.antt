@@ -1,5 +1,5 @@
 -- Sessions at places of the control list: their states, and what is kept of their messages.
-use Rattle.std.proofs.Common.{◌≡◌, ◌∙◌, ◌+◌, ◌<◌, ℕ, zero, suc, Bool, List, [], ◌∷◌, ◌++◌, length, map, take, drop, get_or, Option, Some, None, refl, sym, ap, subst, append-nil, append_assoc}
+use Rattle.std.proofs.Common.{◌≡◌, ◌∙◌, ◌+◌, ◌<◌, ℕ, zero, suc, Bool, List, [], ◌∷◌, ◌++◌, length, map, take, drop, get_or, Option, Some, None, refl, sym, ap, subst, append-nil, append_assoc, arith, ◌≤◌}
 use Rattle.std.specs.Prelude.{slice_get, option_to_list, filter}
 use Rattle.std.proofs.lemmas.List.{take_more, map-append}
 use Rattle.def_term.specs.Alive.{Alive}
@@ -21,7 +21,7 @@ use Rattle.tn_messages.proofs.SessionLists.{kept_two}
 use Rattle.tn_trace.specs.Tracks.{Track, track_after, tracks_from, tracks_of}
 use Rattle.tn_trace.specs.Slots.{IsTracked, EachPair}
 use Rattle.tn_trace.specs.declared.slot.Slot.{Slot}
-use Rattle.tn_search.specs.Sessions.{IsSameTrack, AreSameAt, element_at, elements_at, names_at, AreKept, track_messages, AddsKept}
+use Rattle.tn_search.specs.Sessions.{IsSameTrack, IsSameSlot, AreSameAt, element_at, elements_at, names_at, AreKept, track_messages, AddsKept}
 
 -- ---- the session at a place
 
@@ -45,6 +45,37 @@ track_at o items k zero [] s e = cc
 track_at o items k (suc n) [] s e = cc
 track_at o items k zero (c ∷ cs) s e = let is : c ≡ s = cc in (k, ap (λ (x : Name × Name). Some (track_after o items k x.0)) is)
 track_at o items k (suc n) (c ∷ cs) s e = track_at o items (suc k) n cs s e
+
+-- a place past the end has none, any other the element there
+pub nothing_past : {X : Type 0} (xs : List X) (n : ℕ) → length xs ≤ n → slice_get xs n ≡ None
+nothing_past [] zero past = refl
+nothing_past [] (suc n) past = refl
+nothing_past (x ∷ xs) zero past = absurd (omega arith)
+nothing_past (x ∷ xs) (suc n) past = nothing_past xs n (omega arith)
+
+pub element_is : {X : Type 0} (xs : List X) (n : ℕ) (d : X) → n < length xs → d ≡ get_or xs n d → slice_get xs n ≡ Some d
+element_is [] n d below is = absurd (omega arith)
+element_is (x ∷ xs) zero d below is = ap Some (sym is)
+element_is (x ∷ xs) (suc n) d below is = element_is xs n d (omega arith) is
+
+-- ---- the same at a place
+
+some_is : {X : Type 0} (x y : X) → Some x ≡ Some y → x ≡ y
+some_is x y e = cc
+
+none_is_some : {X : Type 0} (x : X) → None ≡ Some x → ⊥
+none_is_some x e = cc
+
+pub same_past : {A K : Type 0} (Keeps : K → List Tree → Type 0) (b : Bool) (ones others : List (Slot A K)) (n : ℕ) → length ones ≤ n → AreSameAt Keeps b ones others n
+same_past Keeps b ones others n past s t e f = absurd (none_is_some s (sym (nothing_past ones n past) ∙ e))
+
+pub same_past_other : {A K : Type 0} (Keeps : K → List Tree → Type 0) (b : Bool) (ones others : List (Slot A K)) (n : ℕ) → length others ≤ n → AreSameAt Keeps b ones others n
+same_past_other Keeps b ones others n past s t e f = absurd (none_is_some t (sym (nothing_past others n past) ∙ f))
+
+pub same_here : {A K : Type 0} (Keeps : K → List Tree → Type 0) (b : Bool) (ones others : List (Slot A K)) (n : ℕ) (s t : Slot A K) → n < length ones → n < length others → s ≡ get_or ones n s → t ≡ get_or others n t → IsSameSlot Keeps b s t → AreSameAt Keeps b ones others n
+same_here Keeps b ones others n s t below also one other same u v e f =
+    subst (λ x. IsSameSlot Keeps b x v) (some_is s u (sym (element_is ones n s below one) ∙ e))
+    (subst (λ x. IsSameSlot Keeps b s x) (some_is t v (sym (element_is others n t also other) ∙ f)) same)
 
 -- ---- both after different picks
 
@@ -121,6 +152,9 @@ elements_more (m ∷ ns) n xs = ap (λ ys. element_at m xs ++ ys) (elements_more
 abbrev KeptUpTo : {A K : Type 0} → (K → List Tree → Type 0) → List ℕ → List (Slot A K) → List K → Type 0
 KeptUpTo Keeps places slots sinks =
     (o : Exports) (living : Alive) (ts : List Track) → EachPair (IsTracked Keeps o living) ts slots → AreKept Keeps (track_messages (elements_at places ts)) sinks
+
+pub none_kept : {A K : Type 0} (Keeps : K → List Tree → Type 0) (slots : List (Slot A K)) → KeptUpTo Keeps [] slots []
+none_kept Keeps slots o living ts h = tt
 
 pub kept_more : {A K : Type 0} (Keeps : K → List Tree → Type 0) (places : List ℕ) (i : ℕ) (slots : List (Slot A K)) (old new : List K) → i < length places → AddsKept Keeps (get_or places i 0) slots old new → KeptUpTo Keeps (take i places) slots old
     → KeptUpTo Keeps (take (i + 1) places) slots new

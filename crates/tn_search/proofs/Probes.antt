@@ -2,6 +2,7 @@
 use Rattle.std.proofs.Common.{◌≡◌, ◌∙◌, ◌+◌, ◌<◌, ◌≤◌, ℕ, Bool, true, false, List, [], ◌∷◌, ◌++◌, length, take, get_or, All, Option, Some, None, refl, sym, ap, subst, arith}
 use Rattle.std.specs.List.{Contains}
 use Rattle.std.specs.Option.{IsSomeAnd}
+use Rattle.std.proofs.lemmas.List.{take_all}
 use Rattle.std.proofs.lemmas.List.Elements.{All-nil, All-more, All-weaker, Contains-push, Contains-append_left}
 use Rattle.def_script.specs.Program.{Program}
 use Rattle.def_node.specs.Node.{NodeState, PickResult, gives_events, gives_command, gives_nothing, pick_result, next}
@@ -66,3 +67,6 @@ one_tried node old new picks before after i below tries so_far p made here =
       (All-weaker (λ pick. IsMovingAfter p made pick → Contains before pick) (λ pick. IsMovingAfter p made pick → Contains after pick) (λ pick h moving. t.still pick (h moving)) (take i picks) (so_far p made here).1)
       t.moving,
     )
+
+pub all_tried : (node probe : Option NodeValue) (picks moving : List ℕ) (i : ℕ) → length picks ≤ i → AreTried node probe (take i picks) moving → HasMovesAmong node picks moving
+all_tried node probe picks moving i past tried p made here = subst (All (λ pick. IsMovingAfter p made pick → Contains moving pick)) (take_all i picks past) (tried p made here).1

@@ -1,5 +1,6 @@
 -- Sessions of the code that events left in the same state.
 use Rattle.std.proofs.Common.{◌≡◌, ◌∙◌, ◌+◌, ◌<◌, ℕ, Bool, true, false, List, [], ◌∷◌, ◌++◌, length, take, get_or, Option, Some, None, IsTrue, refl, sym, ap, subst}
+use Rattle.std.specs.Prelude.{is_none}
 use Rattle.std.proofs.lemmas.List.{take_more}
 use Rattle.def_term.specs.Alive.{Alive}
 use Rattle.def_term.specs.Names.{Mfa}
@@ -42,6 +43,14 @@ none_same says fs living others s t there settings h k = h ∙ ap (new_session a
 
 pub not_same : {A : Type 0} (one other : Option (Session A)) → IsSameSession one other false
 not_same one other says = absurd (let e : false ≡ true = says in cc)
+
+-- by what both are
+pub created_same : {A : Type 0} (first second : Option (Session A)) (one other : Session A) (b : Bool) → first ≡ Some one → second ≡ Some other → (IsTrue b → processes_of (value_in one) ≡ processes_of (value_in other)) → IsSameSession first second b
+created_same first second one other b is also same = subst (λ x. IsSameSession x second b) (sym is) (subst (λ x. IsSameSession (Some one) x b) (sym also) (both_same one other b same))
+
+pub absent_same : {A : Type 0} (first second : Option (Session A)) (b : Bool) → first ≡ None → b ≡ is_none second → IsSameSession first second b
+absent_same first None b is says = subst (λ x. IsSameSession x None b) (sym is) (subst (IsSameSession None None) (sym says) none_same)
+absent_same first (Some other) b is says = subst (IsSameSession first (Some other)) (sym says) (not_same first (Some other))
 
 pub slot_same : {A K : Type 0} (Keeps : K → List Tree → Type 0) (b : Bool) (one other : Slot A K) → IsSameSession one.session other.session true → KeepSame Keeps b one.kept other.kept true → IsSameSlot Keeps b one other
 slot_same Keeps b one other session kept o living others t u there settings h k = record {

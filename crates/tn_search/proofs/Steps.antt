@@ -36,7 +36,7 @@ use Rattle.tn_messages.specs.MessageViews.{question_of, kept_lists}
 use Rattle.tn_messages.proofs.SessionLists.{kept_of_lists}
 use Rattle.tn_search.specs.Probes.{IsNodeAfter, HasMovesAmong}
 use Rattle.tn_search.specs.Sessions.{AreSameAt, AreKeptAt, AreKept, names_at, elements_at, track_messages}
-use Rattle.tn_search.specs.States.{IsStateFor, state_journal}
+use Rattle.tn_search.specs.States.{IsStateFor, state_journal, query_of}
 use Rattle.tn_search.specs.declared.program_state.ProgramState.{ProgramState}
 use Rattle.tn_search.proofs.Places.{alike_at, messages_at}
 use Rattle.tn_search.proofs.RunStates.{run_state_is}
@@ -153,3 +153,21 @@ module _ {A K : Type 0} (Keeps : K → List Tree → Type 0) (b : Bool) (s t : P
         sessions = r.0;
         kept = kept_of_lists b (names_at a.program s.places.now) (λ x. messages x a.program (state_journal s)) ∙ r.1 ∙ sym (kept_of_lists b (names_at a.program s.places.now) (λ x. messages x a.program (state_journal t)));
       }))
+
+-- ---- the first state
+
+module _ {A K : Type 0} (Keeps : K → List Tree → Type 0) (b : Bool) (p : Program) (before places : List ℕ) (s : ProgramState A K) (program : program_of s.program.now ≡ p) (at : s.places.now ≡ places)
+    (follows : Follows (HasRecorded Keeps) p 65536 before s.run) where
+  whole : take 65536 (moves p before) ≡ moves p before
+  whole = let spent : length (moves p before) + (run_state_of p before).room ≡ 65536 = room_spent p.functions (start p) before in take_all 65536 (moves p before) (omega arith)
+
+  pub first_journal : state_journal s ≡ moves p before
+  first_journal = follows.journaled ∙ whole
+
+  pub first_is : IsStateFor Keeps b s (query_of b p before places)
+  first_is = record {
+    program = program;
+    run = subst (λ xs. IsRun (HasRecorded Keeps) p JOURNAL xs s.run) (sym follows.journaled) follows;
+    question = refl;
+    sessions = ap (names_at p) (sym at);
+  }

@@ -41,11 +41,11 @@ fn try_pick<A: Allocator + Copy>(
 ) -> Result<(), AllocError>
     ensures { IfOk result (λ _. TriesPick pick node.now probe.old probe.new moving.old.items moving.new.items) }
 {
-    if !moves_by(probe, pick)? {
-        return Ok(());
+    let moved = moves_by(probe, pick)?;
+    if moved {
+        *probe = node.share()?;
+        moving.push(pick)?;
     }
-    *probe = node.share()?;
-    moving.push(pick)?;
     Ok(())
 }
 
@@ -80,7 +80,8 @@ impl<A: Allocator + Copy, K: SearchSink<A> + Drop> SearchState<A> for ProgramSta
     ghost kept_seen = { kept_seen };
 
     fn picks(&self, alloc: A) -> Result<Vec<u32, A>, AllocError> {
-        if self.run.journal().len() >= JOURNAL {
+        let made = self.run.journal().len();
+        if made >= JOURNAL {
             return Ok(Vec::new(alloc));
         }
         let pass = pass_picks(alloc)?;

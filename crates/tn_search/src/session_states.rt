@@ -30,10 +30,12 @@ fn same_session<A: Allocator + Copy>(
 ) -> bool
     ensures { IsSameSession one.now other.now result }
 {
-    match (one, other) {
-        (Some(one), Some(other)) => one.same(other),
-        (None, None) => true,
-        _ => false,
+    match one {
+        Some(one) => match other {
+            Some(other) => one.same(other),
+            None => false,
+        },
+        None => other.is_none(),
     }
 }
 
