@@ -1,12 +1,18 @@
 -- Texts of the elements of a list, one after another.
-use Rattle.std.proofs.Common.{◌≡◌, ◌∙◌, ℕ, zero, suc, ◌+◌, ◌<◌, ◌≤◌, List, [], ◌∷◌, ◌++◌, length, drop, map, flat_map, get_or, refl, sym, ap, append_assoc, append-nil, arith, add-one}
+use Rattle.std.proofs.Common.{◌≡◌, ◌∙◌, ℕ, zero, suc, ◌+◌, ◌<◌, ◌≤◌, List, [], ◌∷◌, ◌++◌, length, drop, map, flat_map, get_or, min, Option, Some, None, refl, sym, ap, append_assoc, append-nil, arith, add-one}
 use Rattle.std.proofs.lemmas.Grind.{flat_map-append}
-use Rattle.std.proofs.lemmas.List.{drop_more, drop_all}
+use Rattle.std.specs.Prelude.{slice_get}
+use Rattle.std.specs.declared.vec.Vec.{Vec}
+use Rattle.std.proofs.lemmas.List.{drop_more, drop_all, get_or_default, length-map}
 use Rattle.def_term.specs.Names.{Name}
 use Rattle.def_term.specs.Tree.{Tree}
 use Rattle.def_run.specs.Listing.{header_line, lines_of, line_of}
+use Rattle.def_explore.specs.Rests.{kept_messages}
 use Rattle.def_explore.specs.Answers.{RestEntry}
 use Rattle.def_explore.specs.Output.{session_texts, rest_entry_text, rest_entry_texts}
+use Rattle.tn_explore.specs.Searches.{answer_entry, answer_entries}
+use Rattle.tn_messages.specs.MessageViews.{kept_seen}
+use Rattle.tn_messages.specs.declared.kept_listings.KeptListings.{KeptListings}
 
 pub part_more : {X : Type 0} (f : X → List ℕ) (xs : List X) (i : ℕ) (x : X) (now after whole : List ℕ) → i < length xs → x ≡ get_or xs i x → now ++ flat_map f (drop i xs) ≡ whole → after ≡ now ++ f x → after ++ flat_map f (drop (i + 1) xs) ≡ whole
 part_more f xs i x now after whole below is so_far made =
@@ -51,20 +57,25 @@ module _ {S L : Type 0} (seen : S → Name × Name) (listed : L → List Tree) (
       ∙ ap (λ (xs : List L). now ++ session_texts (map seen (drop i ss)) (map listed xs)) (sym (drop_more ls i l also))
       ∙ so_far
 
-  no_sessions : (mss : List (List Tree)) → session_texts [] mss ≡ []
-  no_sessions mss = refl
+no_listings : (xs : List (Name × Name)) → session_texts xs [] ≡ []
+no_listings [] = refl
+no_listings (x ∷ xs) = refl
 
-  no_listings : (xs : List (Name × Name)) → session_texts xs [] ≡ []
-  no_listings [] = refl
-  no_listings (x ∷ xs) = refl
+none_left : {S L : Type 0} (seen : S → Name × Name) (listed : L → List Tree) (ss : List S) (ls : List L) (i : ℕ) → min (length ss) (length ls) ≤ i → texts_from seen listed ss ls i ≡ []
+none_left seen listed [] ls zero past = refl
+none_left seen listed [] ls (suc i) past = refl
+none_left seen listed (s ∷ ss) [] zero past = refl
+none_left seen listed (s ∷ ss) [] (suc i) past = no_listings (map seen (drop i ss))
+none_left seen listed (s ∷ ss) (l ∷ ls) zero past = absurd (omega arith)
+none_left seen listed (s ∷ ss) (l ∷ ls) (suc i) past = none_left seen listed ss ls i (omega arith)
 
-  pub sessions_end : (i : ℕ) (now whole : List ℕ) → length ss ≤ i → now ++ texts_from i ≡ whole → now ≡ whole
-  sessions_end i now whole past so_far =
-      sym (append-nil now) ∙ ap (λ (xs : List S). now ++ session_texts (map seen xs) (map listed (drop i ls))) (sym (drop_all i ss past)) ∙ so_far
+pub all_sessions : {S L : Type 0} (seen : S → Name × Name) (listed : L → List Tree) (ss : List S) (ls : List L) (i : ℕ) (now whole : List ℕ) → min (length ss) (length ls) ≤ i → now ++ texts_from seen listed ss ls i ≡ whole → now ≡ whole
+all_sessions seen listed ss ls i now whole past so_far = sym (append-nil now) ∙ ap (λ x. now ++ x) (sym (none_left seen listed ss ls i past)) ∙ so_far
 
-  pub listings_end : (i : ℕ) (now whole : List ℕ) → length ls ≤ i → now ++ texts_from i ≡ whole → now ≡ whole
-  listings_end i now whole past so_far =
-      sym (append-nil now) ∙ ap (λ x. now ++ x) (sym (no_listings (map seen (drop i ss)))) ∙ ap (λ (xs : List L). now ++ session_texts (map seen (drop i ss)) (map listed xs)) (sym (drop_all i ls past)) ∙ so_far
+-- ---- texts one after another
+
+pub before_rest : {now a next rest last : List ℕ} → next ≡ now ++ a → last ≡ next ++ rest → last ≡ now ++ (a ++ rest)
+before_rest {now} {a} {next} {rest} {last} first then = then ∙ ap (λ x. x ++ rest) first ∙ append_assoc now a rest
 
 -- ---- entries
 
@@ -78,5 +89,44 @@ entry_more ss count es i e now after whole below is so_far made =
     ∙ ap (λ (xs : List RestEntry). now ++ rest_entry_texts ss count (i + 1) xs) (sym (drop_more es i e below))
     ∙ so_far
 
+no_entry : RestEntry
+no_entry = record { kept = kept_messages []; journal = [] }
+
+entry_there : (es : List RestEntry) (i : ℕ) (d : RestEntry) → i < length es → slice_get es i ≡ Some (get_or es i d)
+entry_there [] i d below = absurd (omega arith)
+entry_there (e ∷ es) zero d below = refl
+entry_there (e ∷ es) (suc i) d below = entry_there es i d (omega arith)
+
+-- where what is written is the text of whichever entry is there
+pub entry_at_more : (ss : List (Name × Name)) (count : ℕ) (es : List RestEntry) (i : ℕ) (now after whole : List ℕ) → i < length es → now ++ rest_entry_texts ss count (i + 1) (drop i es) ≡ whole
+    → ((e : RestEntry) → slice_get es i ≡ Some e → after ≡ now ++ rest_entry_text ss count (i + 1) e) → after ++ rest_entry_texts ss count (i + 1 + 1) (drop (i + 1) es) ≡ whole
+entry_at_more ss count es i now after whole below so_far made =
+    entry_more ss count es i (get_or es i no_entry) now after whole below (get_or_default es i no_entry (get_or es i no_entry) below) so_far (made (get_or es i no_entry) (entry_there es i no_entry below))
+
 pub entries_end : (ss : List (Name × Name)) (count : ℕ) (es : List RestEntry) (i : ℕ) (now whole : List ℕ) → length es ≤ i → now ++ rest_entry_texts ss count (i + 1) (drop i es) ≡ whole → now ≡ whole
 entries_end ss count es i now whole past so_far = sym (append-nil now) ∙ ap (λ (xs : List RestEntry). now ++ rest_entry_texts ss count (i + 1) xs) (sym (drop_all i es past)) ∙ so_far
+
+-- an entry of the search, as the definitions have it
+entry_seen : {A : Type 0} (pairs : List (KeptListings A × Vec ℕ A)) (i : ℕ) (pair : KeptListings A × Vec ℕ A) (e : RestEntry) → slice_get pairs i ≡ Some pair → slice_get (answer_entries kept_seen pairs) i ≡ Some e → e ≡ answer_entry kept_seen pair
+entry_seen [] zero pair e is at = cc
+entry_seen [] (suc i) pair e is at = cc
+entry_seen (p ∷ pairs) zero pair e is at = let same : p ≡ pair = cc in let seen : answer_entry kept_seen p ≡ e = cc in sym seen ∙ ap (answer_entry kept_seen) same
+entry_seen (p ∷ pairs) (suc i) pair e is at = entry_seen pairs i pair e is at
+
+pub never_seen : {A : Type 0} {Q : Type 0} (pairs : List (KeptListings A × Vec ℕ A)) (i : ℕ) (e : RestEntry) → slice_get pairs i ≡ None → slice_get (answer_entries kept_seen pairs) i ≡ Some e → Q
+never_seen [] zero e is at = cc
+never_seen [] (suc i) e is at = cc
+never_seen (p ∷ pairs) zero e is at = cc
+never_seen (p ∷ pairs) (suc i) e is at = never_seen pairs i e is at
+
+pub entry_written : {A : Type 0} (ss : List (Name × Name)) (count n : ℕ) (pairs : List (KeptListings A × Vec ℕ A)) (i : ℕ) (kept : KeptListings A) (journal : Vec ℕ A) (picks now after : List ℕ) (e : RestEntry) → Some (kept, journal) ≡ slice_get pairs i → slice_get (answer_entries kept_seen pairs) i ≡ Some e
+    → picks ≡ journal.items → after ≡ now ++ rest_entry_text ss count n (record { kept = kept_seen kept; journal = picks }) → after ≡ now ++ rest_entry_text ss count n e
+entry_written ss count n pairs i kept journal picks now after e is at same made =
+    made ∙ ap (λ (x : RestEntry). now ++ rest_entry_text ss count n x) ((λ i. record { kept = kept_seen kept; journal = same i }) ∙ sym (entry_seen pairs i (kept, journal) e (sym is) at))
+
+pub count_is : {A : Type 0} (pairs : List (KeptListings A × Vec ℕ A)) (n : ℕ) → n ≡ length pairs → n ≡ length (answer_entries kept_seen pairs)
+count_is pairs n is = is ∙ sym (length-map pairs (answer_entry kept_seen))
+
+pub answer_text : (x0 x1 x2 x3 a b : List ℕ) (closing : ℕ → List ℕ) (n m : ℕ) → x0 ≡ [] → x1 ≡ x0 ++ a → x2 ≡ x1 ++ b → x3 ≡ x2 ++ closing n → n ≡ m → x3 ≡ a ++ (b ++ closing m)
+answer_text x0 x1 x2 x3 a b closing n m none first second third same =
+    before_rest first (before_rest second third) ∙ ap (λ x. x ++ (a ++ (b ++ closing n))) none ∙ ap (λ k. a ++ (b ++ closing k)) same

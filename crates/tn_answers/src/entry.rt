@@ -1,14 +1,15 @@
 // An entry with its listings.
 ghost use Rattle.std.specs.Prelude.{◌≡◌, ◌++◌, ◌∷◌, ◌+◌, ◌<◌, OnOk, map, decimal};
 ghost use Rattle.def_run.specs.Listing.{header_line};
+ghost use Rattle.def_explore.specs.Rests.{kept_messages, kept_by_process};
 ghost use Rattle.def_explore.specs.Output.{entry_line, rest_entry_text, kept_listings, session_texts, spaced_picks};
-ghost use Rattle.tn_messages.specs.MessageViews.{kept_seen};
+ghost use Rattle.tn_messages.specs.MessageViews.{kept_seen, trees_seen, lists_seen};
 ghost use Rattle.tn_answers.specs.Listed.{session_seen};
 
 use crate::lines::Listing;
 use itoa::Buffer;
 use std::alloc::{AllocError, Allocator};
-use tn_messages::KeptListings;
+use tn_messages::{KeptListings, MessageList};
 use tn_term::Atom;
 use tn_text::write_atom;
 
@@ -98,6 +99,30 @@ fn put_sessions<A: Allocator, L: Listing, B: Allocator>(
     Ok(())
 }
 
+/// Appends the header of each session and all of its messages.
+fn put_total<A: Allocator, B: Allocator>(
+    sessions: &[SessionName<A>],
+    listings: &Vec<MessageList<A>, A>,
+    out: &mut Vec<u8, B>,
+) -> Result<(), AllocError>
+    ensures { let kept = kept_messages (map trees_seen listings.now.items) in
+        OnOk result (out.new.items ≡ out.old.items ++ session_texts (map session_seen sessions.now) (kept_listings kept)) }
+{
+    put_sessions(sessions, listings, out)
+}
+
+/// Appends the header of each session and the messages of each process.
+fn put_by_process<A: Allocator, B: Allocator>(
+    sessions: &[SessionName<A>],
+    listings: &Vec<Vec<MessageList<A>, A>, A>,
+    out: &mut Vec<u8, B>,
+) -> Result<(), AllocError>
+    ensures { let kept = kept_by_process (map lists_seen listings.now.items) in
+        OnOk result (out.new.items ≡ out.old.items ++ session_texts (map session_seen sessions.now) (kept_listings kept)) }
+{
+    put_sessions(sessions, listings, out)
+}
+
 /// Appends the header of each session and what is kept of its messages.
 fn put_kept<A: Allocator, B: Allocator>(
     sessions: &[SessionName<A>],
@@ -108,8 +133,8 @@ fn put_kept<A: Allocator, B: Allocator>(
         session_texts (map session_seen sessions.now) (kept_listings (kept_seen kept.now))) }
 {
     match kept {
-        KeptListings::Total(listings) => put_sessions(sessions, listings, out),
-        KeptListings::ByProcess(listings) => put_sessions(sessions, listings, out),
+        KeptListings::Total(listings) => put_total(sessions, listings, out),
+        KeptListings::ByProcess(listings) => put_by_process(sessions, listings, out),
     }
 }
 
@@ -126,5 +151,6 @@ pub(crate) fn put_entry<A: Allocator, B: Allocator>(
         place.1 (place.0 + 1) (record { kept = kept_seen kept.now; journal = journal.now })) }
 {
     put_entry_line(place.0 + 1, place.1, journal, out)?;
-    put_kept(sessions, kept, out)
+    put_kept(sessions, kept, out)?;
+    Ok(())
 }
