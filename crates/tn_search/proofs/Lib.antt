@@ -1,5 +1,0 @@
-pub mod RunStates
-pub mod Sessions
-pub mod Places
-pub mod Probes
-pub mod Steps

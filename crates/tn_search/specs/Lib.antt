@@ -1,4 +1,0 @@
-pub mod Sinks
-pub mod Sessions
-pub mod Probes
-pub mod States
