@@ -1,0 +1,2 @@
+pub mod Expectations
+pub mod Unmet
