@@ -155,14 +155,14 @@ fn dialect_of(event: &str) -> Dialect
     }
 }
 
+/// No texts.
+const NO_TEXTS: &[&str] = &[];
+
 /// The texts that the words give for this option, which may be given many times.
 fn texts<'a>(matches: &'a ArgMatches<'a>, id: &str) -> &'a [&'a str]
     ensures { words_of result.now ≡ texts_given matches.now id.now }
 {
-    match matches.get_strs(id) {
-        Some(texts) => texts,
-        None => &[],
-    }
+    matches.get_strs(id).unwrap_or(NO_TEXTS)
 }
 
 /// The source that an option names, where it is given.

@@ -147,7 +147,9 @@ pub(crate) fn expect<'a>(alloc: Global) -> Arg<'a>
     Arg::new(alloc, "expect")
         .long("expect")
         .value_name("FILE")
-        .help("The output must be the bytes of this file, or else the exit status is 1; - is standard input")
+        .help(
+            "The output must be the bytes of this file, or else the exit status is 1; - is standard input",
+        )
         .action(ArgAction::Set)
 }
 
@@ -170,7 +172,9 @@ pub(crate) fn reject_line<'a>(alloc: Global) -> Arg<'a>
     Arg::new(alloc, "reject-line")
         .long("reject-line")
         .value_name("TEXT")
-        .help("The output must not have this line, or else the exit status is 1; it may be given again")
+        .help(
+            "The output must not have this line, or else the exit status is 1; it may be given again",
+        )
         .allow_hyphen_values(true)
         .action(ArgAction::Append)
 }

@@ -6,10 +6,10 @@ ghost use Rattle.tn_line.specs.Line.{PICKS, PICKS_OR_ROUND, BY_PICKS, BY_PICKS_O
 ghost use Rattle.tn_line.specs.Line.{RUN, REPLAY, EXPLAIN, DRAW, ROUND, WORKERS, TRIAL};
 
 use crate::arguments::{
-    caller, control, event, expect, expect_line, expect_session, in_rounds, json, json_alone, limit, list,
-    max_output, move_number, moves, moves_file, node, one_of_picks, own_process, picks, picks_file,
-    picks_or_round, quiet, reject_line, script, session, spec_file, specification, spread, strict, summary,
-    text, turns, without_picks, worker_count,
+    caller, control, event, expect, expect_line, expect_session, in_rounds, json, json_alone,
+    limit, list, max_output, move_number, moves, moves_file, node, one_of_picks, own_process,
+    picks, picks_file, picks_or_round, quiet, reject_line, script, session, spec_file,
+    specification, spread, strict, summary, text, turns, without_picks, worker_count,
 };
 use clap::{ArgGroup, Command};
 use std::alloc::{AllocError, Global};

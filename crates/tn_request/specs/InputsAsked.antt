@@ -33,7 +33,7 @@ if_some (Some text) = text ∷ []
 
 -- what is expected
 abbrev pub expected_inputs : ExpectationArgs → List InputText
-expected_inputs e = if_some (of_source e.output the_output) ++ if_some (of_source (option_map (λ s. s.source) e.session) the_listing)
+expected_inputs e = if_some (of_source e.output the_output) ++ if_some (of_source (option_map (λ words. words.source) e.session) the_listing)
 
 -- all that a request reads from standard input; of a trial nothing is expected
 abbrev pub inputs_asked : Request → List InputText
@@ -55,6 +55,10 @@ shared_input r = first_two (inputs_asked r)
 
 abbrev pub both_inputs : Option InputText → Option InputText → Option (InputText × InputText)
 both_inputs one other = option_and_then (λ a. option_map (λ b. (a, b)) other) one
+
+-- the first two of four that may be there
+abbrev pub two_of : (a b c d : Option InputText) → Option (InputText × InputText)
+two_of a b c d = first_two (if_some a ++ if_some b ++ (if_some c ++ if_some d))
 
 abbrev pub input_pair_seen : code.InputText × code.InputText → InputText × InputText
 input_pair_seen p = (input_text_seen p.0, input_text_seen p.1)

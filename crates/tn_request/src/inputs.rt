@@ -3,7 +3,9 @@ ghost use Rattle.std.specs.Prelude.{◌≡◌};
 ghost use Rattle.std.specs.Option.{option_map};
 ghost use Rattle.tn_notice.specs.NoticeViews.{input_text_seen};
 ghost use Rattle.tn_request.specs.InputsAsked.{both_inputs, input_pair_seen, of_source, shared_input, text_input};
+ghost use Rattle.tn_request.specs.InputsAsked.{two_of};
 
+use crate::output::listing_source;
 use crate::request::{Request, TextSource};
 use tn_command::Source;
 use tn_notice::InputText;
@@ -37,20 +39,34 @@ fn both_inputs(one: Option<InputText>, other: Option<InputText>) -> Option<(Inpu
     Some((one?, other?))
 }
 
+/// The first two of four texts, of those that are there.
+fn first_two(
+    script: Option<InputText>,
+    text: Option<InputText>,
+    output: Option<InputText>,
+    listing: Option<InputText>,
+) -> Option<(InputText, InputText)>
+    ensures { option_map input_pair_seen result ≡ two_of (option_map input_text_seen script)
+        (option_map input_text_seen text) (option_map input_text_seen output) (option_map input_text_seen listing) }
+{
+    let first = script.or(text);
+    let second = first.or(output);
+    both_inputs(script, text)
+        .or(both_inputs(first, output))
+        .or(both_inputs(second, listing))
+}
+
 impl Request<'_> {
     /// The first two texts that are both to be read from standard input, which has one alone.
     pub fn shared_input(&self) -> Option<(InputText, InputText)>
         ensures { option_map input_pair_seen result ≡ shared_input self.now }
     {
         let words = self.expectation();
-        let script = of_source(self.script(), InputText::Script);
-        let text = text_input(self.text_source());
-        let output = of_source(words.output, InputText::Output);
-        let session = words.session.map(|session| session.source);
-        let listing = of_source(session, InputText::Listing);
-        let first = script.or(text);
-        both_inputs(script, text)
-            .or(both_inputs(first, output))
-            .or(both_inputs(first.or(output), listing))
+        first_two(
+            of_source(self.script(), InputText::Script),
+            text_input(self.text_source()),
+            of_source(words.output, InputText::Output),
+            of_source(listing_source(words.session), InputText::Listing),
+        )
     }
 }

@@ -1,5 +1,6 @@
 // What the output of a request must be.
-ghost use Rattle.std.specs.Prelude.{◌≡◌, IfErr, IfOk};
+ghost use Rattle.std.specs.Prelude.{◌≡◌, IfErr, IfOk, IfSome};
+ghost use Rattle.std.specs.Option.{option_map};
 ghost use Rattle.std.specs.Process.{exit_status};
 ghost use Rattle.tn_expectation.specs.Expectations.{IsListingHead};
 ghost use Rattle.tn_command.specs.Status.{IsFailure, IsStatus};
@@ -41,7 +42,9 @@ fn head_of<R: Eprint + AllocGlobal>(
 }
 
 /// Where the listing of a session is.
-fn listing_source<'a>(session: Option<SessionArgs<'a>>) -> Option<Source<'a>> {
+pub(crate) fn listing_source<'a>(session: Option<SessionArgs<'a>>) -> Option<Source<'a>>
+    ensures { result ≡ option_map (λ words. words.source) session.entry }
+{
     match session {
         Some(session) => Some(session.source),
         None => None,
