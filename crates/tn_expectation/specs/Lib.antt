@@ -1,2 +1,3 @@
+pub mod AlignedLines
 pub mod Expectations
 pub mod Unmet

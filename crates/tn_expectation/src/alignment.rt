@@ -1,5 +1,11 @@
 // The difference of two outputs as their alignment, with two lines around each change.
-ghost use Rattle.std.specs.Prelude.{◌<◌, length};
+ghost use Rattle.std.specs.Prelude.{◌≡◌, ◌<◌, length, map, reverse, IfOk, IfSome};
+ghost use Rattle.def_formats.specs.Lines.{before_byte, past_byte, text_lines};
+ghost use Rattle.def_alignment.specs.Alignments.{IsAlignment};
+ghost use Rattle.def_notice.specs.DifferenceTexts.{SaysAlignedLine};
+ghost use Rattle.tn_notice.specs.DifferenceViews.{difference_seen_of};
+ghost use Rattle.tn_alignment.specs.Tables.{line_step_seen, line_texts};
+ghost use Rattle.tn_expectation.specs.AlignedLines.{line_by, side_by};
 
 use std::alloc::{AllocError, Global};
 use tn_alignment::{Step, alignment};
@@ -27,7 +33,10 @@ pub(crate) struct Place<'a> {
 }
 
 /// The first line of a text, and what is after it; nothing and nothing where there is none.
-fn line_of(text: &[u8]) -> (&[u8], &[u8]) {
+fn line_of(text: &[u8]) -> (&[u8], &[u8])
+    ensures line { result.0.now ≡ before_byte 10 text.now }
+    ensures after { result.1.now ≡ past_byte 10 text.now }
+{
     if text.is_empty() {
         (b"", b"")
     } else {
@@ -37,7 +46,10 @@ fn line_of(text: &[u8]) -> (&[u8], &[u8]) {
 
 impl<'a> Place<'a> {
     /// After a line of the expected output.
-    fn past_expected(self) -> Place<'a> {
+    fn past_expected(self) -> Place<'a>
+        ensures expected { result.expected.now ≡ past_byte 10 self.expected.now }
+        ensures found { result.found ≡ self.found }
+    {
         Place {
             expected: line_of(self.expected).1,
             expected_number: self.expected_number.saturating_add(1),
@@ -46,7 +58,10 @@ impl<'a> Place<'a> {
     }
 
     /// After a line of the output that was found.
-    fn past_found(self) -> Place<'a> {
+    fn past_found(self) -> Place<'a>
+        ensures expected { result.expected ≡ self.expected }
+        ensures found { result.found.now ≡ past_byte 10 self.found.now }
+    {
         Place {
             found: line_of(self.found).1,
             found_number: self.found_number.saturating_add(1),
@@ -64,7 +79,10 @@ impl<'a> Place<'a> {
     }
 
     /// The next line by a step.
-    fn difference(&self, step: Step) -> OutputDifference<'a> {
+    fn difference(&self, step: Step) -> OutputDifference<'a>
+        ensures { SaysAlignedLine (side_by (line_step_seen step))
+            (line_by (line_step_seen step) self.now.expected.now self.now.found.now) (difference_seen_of result) }
+    {
         match step {
             Step::Both => aligned_difference(AlignedSide::Both, line_of(self.expected).0),
             Step::First => aligned_difference(AlignedSide::Expected, line_of(self.expected).0),
@@ -74,7 +92,9 @@ impl<'a> Place<'a> {
 }
 
 /// The lines of a text, the last one first; None where there are more than so many.
-fn lines_of(alloc: Global, text: &[u8], most: usize) -> Result<Option<Vec<&[u8]>>, AllocError> {
+fn lines_of(alloc: Global, text: &[u8], most: usize) -> Result<Option<Vec<&[u8]>>, AllocError>
+    ensures { IfOk result (λ o. IfSome o (λ v. line_texts v.items ≡ reverse (text_lines text.now))) }
+{
     let mut lines = Vec::new(alloc);
     let mut rest = text;
     while !rest.is_empty() {
@@ -94,14 +114,18 @@ fn steps_through(
     alloc: Global,
     expected: &[u8],
     found: &[u8],
-) -> Result<Option<Vec<Step>>, AllocError> {
-    let Some(expected) = lines_of(alloc, expected, MOST_PAIRS)? else {
+) -> Result<Option<Vec<Step>>, AllocError>
+    ensures { IfOk result (λ o. IfSome o (λ v. IsAlignment (map line_step_seen v.items)
+        (text_lines expected.now) (text_lines found.now))) }
+{
+    let Some(expected_lines) = lines_of(alloc, expected, MOST_PAIRS)? else {
         return Ok(None);
     };
-    let Some(found) = lines_of(alloc, found, MOST_PAIRS / (expected.len() + 1))? else {
+    let most = MOST_PAIRS / (expected_lines.len() + 1);
+    let Some(found_lines) = lines_of(alloc, found, most)? else {
         return Ok(None);
     };
-    Ok(Some(alignment(alloc, &expected, &found)?))
+    Ok(Some(alignment(alloc, &expected_lines, &found_lines)?))
 }
 
 /// Whether the line of a step is printed: a change is within so many lines of it.
