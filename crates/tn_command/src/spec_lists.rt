@@ -1,8 +1,10 @@
 // The trials of one specification with several lists, each answer after its list.
-ghost use Rattle.std.specs.Prelude.{◌≡◌, ◌++◌, IfOk};
+ghost use Rattle.std.specs.Prelude.{◌≡◌, ◌++◌, IfErr, IfOk};
 ghost use Rattle.std.specs.Process.{exit_status};
 ghost use Rattle.tn_command.specs.Status.{IsStatus, OnFaultUntouchedOrFailed};
-ghost use Rattle.tn_command.specs.SpecTests.{HeadedIn, MeetsHeadedTest, list_head, spec_test_status_of};
+ghost use Rattle.tn_verdict.specs.SpecTestInputs.{IsNoAnswer};
+ghost use Rattle.tn_command.specs.SpecTests.{HeadedIn, IsHeadedAnswerIn, MeetsHeadedTest, list_head};
+ghost use Rattle.tn_command.specs.SpecTests.{spec_test_status_of};
 ghost use Rattle.tn_command.specs.JobForms.{text_in_format};
 
 use crate::in_format::text_in_format;
@@ -35,6 +37,22 @@ fn headed_text<A: Allocator + Copy>(
     text_in_format(alloc, format, plain)
 }
 
+/// The answer to the question after a line for its list, in a format where one is given.
+fn headed_answer<A: Allocator + Copy>(
+    alloc: A,
+    question: &SpecTestInput<'_>,
+    format: Option<Format>,
+) -> Result<Vec<u8, A>, SpecTestFault<A>>
+    ensures answer { IfOk result (λ v. IsHeadedAnswerIn format question.now v.items) }
+    ensures fault { IfErr result (λ f. IsNoAnswer question.now f) }
+{
+    let text = answer(alloc, question)?;
+    match headed_text(alloc, question.list, &text, format) {
+        Ok(output) => Ok(output),
+        Err(_) => Err(SpecTestFault::OutOfMemory),
+    }
+}
+
 /// Answers the question after a line for its list, in a format where one is given: what the writer gained is what the
 /// status says.
 pub fn test_headed_spec_over<A: Allocator + Copy, W: Write>(
@@ -49,13 +67,9 @@ pub fn test_headed_spec_over<A: Allocator + Copy, W: Write>(
     ensures answer { exit_status result.status ≡ spec_test_status_of result.answer }
     ensures done { MeetsHeadedTest format question.now W.contents writer.old writer.new result.answer }
 {
-    let text = match answer(alloc, question) {
-        Ok(text) => text,
+    let output = match headed_answer(alloc, question, format) {
+        Ok(output) => output,
         Err(fault) => return spec_test_end(Err(SpecTestRunFault::SpecTestInput(fault))),
-    };
-    let Ok(output) = headed_text(alloc, question.list, &text, format) else {
-        let fault = SpecTestFault::OutOfMemory;
-        return spec_test_end(Err(SpecTestRunFault::SpecTestInput(fault)));
     };
     match write_output(writer, &output) {
         Ok(()) => spec_test_end(Ok(())),

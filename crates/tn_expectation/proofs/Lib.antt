@@ -1,1 +1,2 @@
 pub mod FirstLines
+mod AllLines

@@ -47,8 +47,8 @@ fn line_of(text: &[u8]) -> (&[u8], &[u8])
 impl<'a> Place<'a> {
     /// After a line of the expected output.
     fn past_expected(self) -> Place<'a>
-        ensures expected { result.expected.now ≡ past_byte 10 self.expected.now }
-        ensures found { result.found ≡ self.found }
+        ensures expected { result.expected.now ≡ past_byte 10 self.entry.expected.now }
+        ensures found { result.found ≡ self.entry.found }
     {
         Place {
             expected: line_of(self.expected).1,
@@ -59,8 +59,8 @@ impl<'a> Place<'a> {
 
     /// After a line of the output that was found.
     fn past_found(self) -> Place<'a>
-        ensures expected { result.expected ≡ self.expected }
-        ensures found { result.found.now ≡ past_byte 10 self.found.now }
+        ensures expected { result.expected ≡ self.entry.expected }
+        ensures found { result.found.now ≡ past_byte 10 self.entry.found.now }
     {
         Place {
             found: line_of(self.found).1,
