@@ -1,5 +1,5 @@
 // The trial of a match specification that a request asks for.
-ghost use Rattle.std.specs.Prelude.{◌≡◌, ◌≤◌, length, take};
+ghost use Rattle.std.specs.Prelude.{◌≡◌};
 ghost use Rattle.tn_request.specs.TrialsAsked.{IsTrialAsked, is_end_blank, spec_words_asked, without_full_stop};
 
 use crate::request::SpecTestArgs;
