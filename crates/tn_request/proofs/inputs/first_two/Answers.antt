@@ -1,4 +1,4 @@
-use Rattle.std.proofs.Common.{◌≡◌, ◌∙◌, ap}
+use Rattle.std.proofs.Common.{◌∙◌, ap}
 use Rattle.std.specs.Option.{option_map, option_or}
 use Rattle.tn_notice.specs.NoticeViews.{input_text_seen}
 use Rattle.tn_request.specs.InputsAsked.{both_inputs, input_pair_seen}
