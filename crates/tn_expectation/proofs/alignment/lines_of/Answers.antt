@@ -1,5 +1,4 @@
-use Rattle.std.proofs.Common.{◌≡◌, length, arith, rules}
-use Rattle.std.proofs.lemmas.Bool.Decides.{nat_tests}
+use Rattle.std.proofs.Common.{◌≡◌, length, rules}
 use Rattle.tn_expectation.proofs.AllLines.{all_lines}
 use Rattle.tn_expectation.proofs.alignment.lines_of.Goals as goal
 
