@@ -51,12 +51,12 @@ answer_in_is_one q format = record {
 
 -- a question has one answer after its list
 one_headed : (q : question.SpecTestInput) (x y : List ℕ) → IsHeadedAnswer q x → IsHeadedAnswer q y → x ≡ y
-one_headed q x y h i = h.1.1 ∙ ap (λ answer. list_head q.list.now ++ answer) (one_text q h.0 i.0 h.1.0 i.1.0) ∙ sym i.1.1
+one_headed q x y h i = h.2 ∙ ap (λ answer. list_head q.list.now ++ answer) (one_text q h.0 i.0 h.1 i.1) ∙ sym i.2
 
 pub headed_is_one : (q : question.SpecTestInput) (format : Option Format) → IsOneText q (IsHeadedAnswerIn format q)
 headed_is_one q format = record {
   one = λ x y h i. h.text_is ∙ ap (text_in_format format) (one_headed q h.plain i.plain h.is_plain i.is_plain) ∙ sym i.text_is;
-  answered = λ x h. (h.is_plain.0, h.is_plain.1.0);
+  answered = λ x h. (h.is_plain.0, h.is_plain.1);
 }
 
 module _ {A W : Type 0} (q : question.SpecTestInput) (IsAnswer : List ℕ → Type 0) (are : IsOneText q IsAnswer) (gained : W → Option (List ℕ)) (old new old' new' : Watched W) where
