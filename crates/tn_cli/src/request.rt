@@ -159,14 +159,14 @@ fn dialect_of(event: &str) -> Dialect
 const NO_TEXTS: &[&str] = &[];
 
 /// The texts that the words give for this option, which may be given many times.
-fn texts<'a>(matches: &'a ArgMatches<'a>, id: &str) -> &'a [&'a str]
+fn texts<'s, 'a: 's>(matches: &'s ArgMatches<'a>, id: &str) -> &'s [&'a str]
     ensures { words_of result.now ≡ texts_given matches.now id.now }
 {
     matches.get_strs(id).unwrap_or(NO_TEXTS)
 }
 
 /// The source that an option names, where it is given.
-fn source<'a>(matches: &'a ArgMatches<'a>, id: &str) -> Option<Source<'a>>
+fn source<'a>(matches: &ArgMatches<'a>, id: &str) -> Option<Source<'a>>
     ensures { IsSourceOrNone (argument matches.now id.now) result }
 {
     match matches.get_str(id) {
@@ -176,7 +176,7 @@ fn source<'a>(matches: &'a ArgMatches<'a>, id: &str) -> Option<Source<'a>>
 }
 
 /// The listing that the output must have.
-fn session_listing<'a>(matches: &'a ArgMatches<'a>) -> Option<SessionArgs<'a>>
+fn session_listing<'s, 'a: 's>(matches: &'s ArgMatches<'a>) -> Option<SessionArgs<'s>>
     ensures { IsListingOf (texts_given matches.now (codes "expect-session")) result }
 {
     let words = texts(matches, "expect-session");
@@ -190,7 +190,7 @@ fn session_listing<'a>(matches: &'a ArgMatches<'a>) -> Option<SessionArgs<'a>>
 }
 
 /// What the output must be.
-fn expectation<'a>(matches: &'a ArgMatches<'a>) -> ExpectationArgs<'a>
+fn expectation<'s, 'a: 's>(matches: &'s ArgMatches<'a>) -> ExpectationArgs<'s>
     ensures { IsExpectationOf matches.now result }
 {
     ExpectationArgs {
@@ -203,7 +203,7 @@ fn expectation<'a>(matches: &'a ArgMatches<'a>) -> ExpectationArgs<'a>
 }
 
 /// What `replay` asks for.
-fn replay<'a>(matches: &'a ArgMatches<'a>) -> Request<'a>
+fn replay<'s, 'a: 's>(matches: &'s ArgMatches<'a>) -> Request<'s>
     ensures { Asks (codes "replay") matches.now result }
 {
     Request::Run(RunRequest::Replay {
@@ -215,7 +215,7 @@ fn replay<'a>(matches: &'a ArgMatches<'a>) -> Request<'a>
 }
 
 /// What `explain` asks for.
-fn explain<'a>(matches: &'a ArgMatches<'a>) -> Result<Request<'a>, BadNumber<'a>>
+fn explain<'s, 'a: 's>(matches: &'s ArgMatches<'a>) -> Result<Request<'s>, BadNumber<'s>>
     ensures asks { IfOk result (Asks (codes "explain") matches.now) }
     ensures refused { IfErr result (λ e. LacksNumber (codes "explain") matches.now) }
 {
@@ -245,7 +245,7 @@ fn format<'a>(matches: &ArgMatches<'a>) -> PictureFormat
 }
 
 /// What `draw` asks for.
-fn draw<'a>(matches: &'a ArgMatches<'a>) -> Result<Request<'a>, BadNumber<'a>>
+fn draw<'s, 'a: 's>(matches: &'s ArgMatches<'a>) -> Result<Request<'s>, BadNumber<'s>>
     ensures asks { IfOk result (Asks (codes "draw") matches.now) }
     ensures refused { IfErr result (λ e. LacksNumber (codes "draw") matches.now) }
 {
@@ -259,7 +259,7 @@ fn draw<'a>(matches: &'a ArgMatches<'a>) -> Result<Request<'a>, BadNumber<'a>>
 }
 
 /// What `run` asks for: a round after the control list.
-fn run<'a>(matches: &'a ArgMatches<'a>) -> Result<Request<'a>, BadNumber<'a>>
+fn run<'s, 'a: 's>(matches: &'s ArgMatches<'a>) -> Result<Request<'s>, BadNumber<'s>>
     ensures asks { IfOk result (Asks (codes "run") matches.now) }
     ensures refused { IfErr result (λ e. LacksNumber (codes "run") matches.now) }
 {
@@ -274,7 +274,7 @@ fn run<'a>(matches: &'a ArgMatches<'a>) -> Result<Request<'a>, BadNumber<'a>>
 }
 
 /// What `round` asks for.
-fn round<'a>(matches: &'a ArgMatches<'a>) -> Result<Request<'a>, BadNumber<'a>>
+fn round<'s, 'a: 's>(matches: &'s ArgMatches<'a>) -> Result<Request<'s>, BadNumber<'s>>
     ensures asks { IfOk result (Asks (codes "round") matches.now) }
     ensures refused { IfErr result (λ e. LacksNumber (codes "round") matches.now) }
 {
@@ -289,7 +289,7 @@ fn round<'a>(matches: &'a ArgMatches<'a>) -> Result<Request<'a>, BadNumber<'a>>
 }
 
 /// What `workers` asks for.
-fn workers<'a>(matches: &'a ArgMatches<'a>) -> Result<Request<'a>, BadNumber<'a>>
+fn workers<'s, 'a: 's>(matches: &'s ArgMatches<'a>) -> Result<Request<'s>, BadNumber<'s>>
     ensures asks { IfOk result (Asks (codes "workers") matches.now) }
     ensures refused { IfErr result (λ e. LacksNumber (codes "workers") matches.now) }
 {
@@ -307,7 +307,7 @@ fn workers<'a>(matches: &'a ArgMatches<'a>) -> Result<Request<'a>, BadNumber<'a>
 }
 
 /// What `spec` asks for.
-fn spec<'a>(matches: &'a ArgMatches<'a>) -> Result<Request<'a>, BadNumber<'a>>
+fn spec<'s, 'a: 's>(matches: &'s ArgMatches<'a>) -> Result<Request<'s>, BadNumber<'s>>
     ensures asks { IfOk result (Asks (codes "spec") matches.now) }
     ensures refused { IfErr result (λ e. LacksNumber (codes "spec") matches.now) }
 {
@@ -323,7 +323,7 @@ fn spec<'a>(matches: &'a ArgMatches<'a>) -> Result<Request<'a>, BadNumber<'a>>
 }
 
 /// What the command line asks for, by the subcommand that it names; None where it names none.
-pub fn request_of<'a>(matches: &'a ArgMatches<'a>) -> Result<Option<Request<'a>>, BadNumber<'a>>
+pub fn request_of<'s, 'a: 's>(matches: &'s ArgMatches<'a>) -> Result<Option<Request<'s>>, BadNumber<'s>>
     ensures asks { IfOk result (λ o. IfSome o (IsAskedBy matches.now)) }
     ensures none { IfOk result (λ o. IfNone o (NamesNoCommand matches.now)) }
     ensures refused { IfErr result (λ e. IsWithoutNumber matches.now) }
