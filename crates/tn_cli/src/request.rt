@@ -13,7 +13,7 @@ use tn_command::{Source, plain_number, source_of};
 use tn_explain::Filter;
 use tn_picture::PictureFormat;
 use tn_request::{
-    ExpectationArgs, PicksSource, Request, RunRequest, RunSource, SpecTestArgs, WorkersRequest,
+    ExpectationArgs, FunArgs, PicksSource, Request, RunRequest, RunSource, SpecTestArgs, WorkersRequest,
 };
 use tn_spec::Dialect;
 
@@ -284,6 +284,16 @@ fn spec<'a>(matches: &ArgMatches<'a>) -> Result<Request<'a>, BadNumber<'a>>
     }))
 }
 
+/// What `fun` asks for.
+fn fun<'a>(matches: &ArgMatches<'a>) -> Request<'a>
+    ensures { Asks (codes "fun") matches.now result }
+{
+    Request::Fun(FunArgs {
+        dialect: dialect_of(matches.get_str("for").unwrap_or("call")),
+        text: matches.get_str("fun"),
+    })
+}
+
 /// What the command line asks for, by the subcommand that it names; None where it names none.
 pub fn request_of<'a>(matches: &ArgMatches<'a>) -> Result<Option<Request<'a>>, BadNumber<'a>>
     ensures asks { IfOk result (λ o. IfSome o (IsAskedBy matches.now)) }
@@ -298,6 +308,7 @@ pub fn request_of<'a>(matches: &ArgMatches<'a>) -> Result<Option<Request<'a>>, B
         Some(("round", given)) => Ok(Some(round(given)?)),
         Some(("workers", given)) => Ok(Some(workers(given)?)),
         Some(("spec", given)) => Ok(Some(spec(given)?)),
+        Some(("fun", given)) => Ok(Some(fun(given))),
         _ => Ok(None),
     }
 }

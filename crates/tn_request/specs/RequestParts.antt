@@ -11,7 +11,7 @@ use Rattle.tn_request.specs.declared.request.RunSource.TheVariants.{ByPicks, ByR
 use Rattle.tn_request.specs.declared.request.RunRequest.{RunRequest}
 use Rattle.tn_request.specs.declared.request.RunRequest.TheVariants.{Replay, Explain, Draw, Round}
 use Rattle.tn_request.specs.declared.request.Request.{Request}
-use Rattle.tn_request.specs.declared.request.Request.TheVariants.{Run, Workers, Spec}
+use Rattle.tn_request.specs.declared.request.Request.TheVariants.{Run, Workers, Spec, Fun}
 use Rattle.tn_request.specs.declared.request.TextSource.{TextSource}
 use Rattle.tn_request.specs.declared.request.TextSource.TheVariants.{Picks, Moves, Specification}
 
@@ -29,17 +29,19 @@ run_script (Explain script run filter e) = script
 run_script (Draw script run format e) = script
 run_script (Round script limit control_first quiet e) = script
 
--- where the script of a request is; a trial has none
+-- where the script of a request is; a trial and a fun have none
 abbrev pub script_asked : Request → Option Source
 script_asked (Run run) = Some (run_script run)
 script_asked (Workers workers) = Some workers.script
 script_asked (Spec trial) = None
+script_asked (Fun fun) = None
 
--- what the output of a request must be: anything, of a trial
+-- what the output of a request must be: anything, of a trial or a fun
 abbrev pub request_expectation : Request → ExpectationArgs
 request_expectation (Run run) = run_expectation run
 request_expectation (Workers workers) = workers.expectation
 request_expectation (Spec trial) = record { file = None; line = None; no_line = None; strict = false }
+request_expectation (Fun fun) = record { file = None; line = None; no_line = None; strict = false }
 
 -- the text of picks or of moves that is to be read: none where it is given
 abbrev pub picks_source_asked : PicksSource → Option TextSource
@@ -60,7 +62,7 @@ run_text_source (Explain script run filter e) = run_source_asked run
 run_text_source (Draw script run format e) = run_source_asked run
 run_text_source (Round script limit control_first quiet e) = None
 
--- the specification is to be read where none is given, or `-` is
+-- the specification or the fun is to be read where none is given, or `-` is
 abbrev pub spec_text_source : Option (Bor (List ℕ)) → Option TextSource
 spec_text_source None = Some Specification
 spec_text_source (Some words) = if bytes_eq words.now (codes "-") then Some Specification else None
@@ -70,3 +72,4 @@ abbrev pub text_source_asked : Request → Option TextSource
 text_source_asked (Run run) = run_text_source run
 text_source_asked (Workers workers) = None
 text_source_asked (Spec trial) = spec_text_source trial.specification
+text_source_asked (Fun fun) = spec_text_source fun.text

@@ -7,6 +7,7 @@ ghost use Rattle.tn_command.specs.Status.{IsStatus, OnFaultUntouchedOrFailed, Wr
 ghost use Rattle.tn_request.specs.TaskFlaws.{flaw_asked};
 ghost use Rattle.tn_request.specs.Tasks.{job_asked};
 
+use crate::fun_text::fun_text_of;
 use crate::job::{RequestOutcome, format_of, job_of};
 use crate::request::{Request, RunRequest};
 use crate::trial::spec_input_of;
@@ -23,6 +24,7 @@ use tn_command::{
     Expectation, INPUT, InFormat, JobEnd, OutputFault, OutputForm, Source, Streams, WithinBytes,
     open, perform_over, print_over, test_spec,
 };
+use tn_fun_command::print_fun;
 use tn_run::RunFault;
 use tn_text::Watched;
 
@@ -134,5 +136,6 @@ pub fn answer_request<R: Input + Files + Print + Eprint + AllocGlobal + Threads 
         Request::Run(run) => perform_request(rt, run, read, form, expectation),
         Request::Workers(workers) => run_workers_request(rt, workers, form, expectation),
         Request::Spec(trial) => test_spec(rt, &spec_input_of(trial, read), form.format),
+        Request::Fun(fun) => print_fun(rt, fun_text_of(fun, read), fun.dialect),
     }
 }

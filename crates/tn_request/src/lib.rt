@@ -5,6 +5,7 @@
 #![tactic(auto)]
 
 mod answer;
+mod fun_text;
 mod job;
 mod output;
 mod request;
@@ -13,10 +14,11 @@ mod trial;
 mod workers;
 
 pub use answer::{answer_request, perform_request_over, print_request_over};
+pub use fun_text::fun_text_of;
 pub use job::{RequestJob, RequestOutcome, format_of, job_of};
 pub use output::expectation_of;
 pub use request::{
-    ExpectationArgs, PicksSource, Request, RunRequest, RunSource, SpecTestArgs, TextSource,
+    ExpectationArgs, FunArgs, PicksSource, Request, RunRequest, RunSource, SpecTestArgs, TextSource,
     WorkersRequest,
 };
 pub use schedule::schedule_of;

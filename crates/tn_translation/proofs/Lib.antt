@@ -6,3 +6,7 @@ mod ReadLeaves
 mod CallNames
 mod AtomTexts
 mod Values
+mod ListTails
+mod Alternatives
+mod Arms
+mod Rows

@@ -1,0 +1,79 @@
+-- What each node is translated to.
+use Rattle.std.proofs.Common.{◌≡◌, ℕ, ◌+◌, List, [], ◌∷◌, length, box_value, Option, Ok, refl, ap, sym, ◌∙◌, arith}
+use Rattle.std.specs.Prelude.{Box as Boxed}
+use Rattle.std.specs.declared.vec.Vec.{Vec}
+use Rattle.def_term.specs.Names.{Name}
+use Rattle.def_fun.specs.Trees as tree
+use Rattle.def_fun.specs.Trees.{FunExpr, each_expr, of_exprs}
+use Rattle.def_fun.specs.Refusals.{FunRefusal, OrRefusal, then_fun}
+use Rattle.def_fun.specs.Calls.{FunCall, named_fun_call}
+use Rattle.def_fun.specs.Translation.{TranslatedExpr, call_translated, pattern_term, pattern_terms}
+use Rattle.def_fun.specs.Variables.{ClauseNames}
+use Rattle.tn_fun.specs.declared.tree.Expr.{Expr, Atom, Call, List as ListOf, ListOnto, Tuple, Before, Between}
+use Rattle.tn_fun.specs.declared.token.Token.{Token}
+use Rattle.tn_fun.specs.declared.operator.Operator.{Operator}
+use Rattle.tn_fun.specs.Trees.{token_name, fun_expr_seen, fun_exprs_seen}
+use Rattle.tn_fun.proofs.TreeViews.{seen_list, seen_list_onto, seen_tuple, seen_atom, seen_before}
+use Rattle.tn_spec.specs.Names.{position_seen}
+use Rattle.tn_spec.specs.Views.{dialect_of}
+use Rattle.tn_term.specs.declared.term.Term.{Term, Tuple as TupleTerm, List as ListTerm}
+use Rattle.tn_term.specs.Views.{tree_of}
+use Rattle.tn_term.proofs.Views.{tree_of_tuple, tree_of_list}
+use Rattle.tn_translation.specs.declared.expr.Scope.{Scope}
+use Rattle.tn_translation.specs.Faults.{RefusedBy}
+use Rattle.tn_translation.specs.Scopes.{text_of, translated_in, each_translated_in}
+use Rattle.tn_translation.specs.Values.{term_row_seen, translated_list, translated_tuple}
+use Rattle.tn_translation.proofs.Steps.{refused_then, refused_same, then_value}
+
+-- how many expressions there are
+pub exprs_count : {A : Type 0} (text : List ℕ) (es : List (Expr A)) → length (each_expr (fun_exprs_seen text es)) ≡ length es
+exprs_count text [] = refl
+exprs_count text (e ∷ es) = let h = exprs_count text es in omega (arith, h)
+
+module _ {A : Type 0} (s : Scope A) where
+  pub list_arm : (e : Expr A) (at : ℕ) (es : Vec (Expr A) A) (xs : List TranslatedExpr) (x : TranslatedExpr) → e ≡ ListOf at es → each_translated_in s (fun_exprs_seen (text_of s) es.items) ≡ Ok xs → x ≡ translated_list xs → translated_in s (fun_expr_seen (text_of s) e) ≡ Ok x
+  list_arm e at es xs x is h k =
+      ap (λ z. translated_in s (fun_expr_seen (text_of s) z)) is ∙ ap (translated_in s) (seen_list (text_of s) at es) ∙ then_value (each_translated_in s (fun_exprs_seen (text_of s) es.items)) _ xs h ∙ ap Ok (sym k)
+
+  pub tuple_arm : (e : Expr A) (at : ℕ) (es : Vec (Expr A) A) (xs : List TranslatedExpr) (x : TranslatedExpr) → e ≡ Tuple at es → each_translated_in s (fun_exprs_seen (text_of s) es.items) ≡ Ok xs → x ≡ translated_tuple xs → translated_in s (fun_expr_seen (text_of s) e) ≡ Ok x
+  tuple_arm e at es xs x is h k =
+      ap (λ z. translated_in s (fun_expr_seen (text_of s) z)) is ∙ ap (translated_in s) (seen_tuple (text_of s) at es) ∙ then_value (each_translated_in s (fun_exprs_seen (text_of s) es.items)) _ xs h ∙ ap Ok (sym k)
+
+  pub onto_seen : (e : Expr A) (at : ℕ) (es : Vec (Expr A) A) (t : Boxed (Expr A) A) (u : Expr A) → e ≡ ListOnto at es t → u ≡ box_value t
+      → translated_in s (fun_expr_seen (text_of s) e) ≡ translated_in s (tree.list_onto at (fun_exprs_seen (text_of s) es.items) (fun_expr_seen (text_of s) u))
+  onto_seen e at es t u is there =
+      ap (λ z. translated_in s (fun_expr_seen (text_of s) z)) is ∙ ap (translated_in s) (seen_list_onto (text_of s) at es t)
+      ∙ ap (λ z. translated_in s (tree.list_onto at (fun_exprs_seen (text_of s) es.items) (fun_expr_seen (text_of s) z))) (sym there)
+
+  -- calls
+  module _ (at : ℕ) (name : Name) (es : List (Expr A)) (count : ℕ) (counted : count ≡ length es) where
+    the_call : named_fun_call (dialect_of s.dialect) (position_seen s.part) name count at ≡ named_fun_call (dialect_of s.dialect) (position_seen s.part) name (length (each_expr (fun_exprs_seen (text_of s) es))) at
+    the_call = ap (λ n. named_fun_call (dialect_of s.dialect) (position_seen s.part) name n at) (counted ∙ sym (exprs_count (text_of s) es))
+
+    pub no_call : (o : Option FunRefusal) → RefusedBy o (named_fun_call (dialect_of s.dialect) (position_seen s.part) name count at) → RefusedBy o (translated_in s (tree.call at name (fun_exprs_seen (text_of s) es)))
+    no_call o h = refused_then o (named_fun_call (dialect_of s.dialect) (position_seen s.part) name (length (each_expr (fun_exprs_seen (text_of s) es))) at) _ (refused_same o _ _ (sym the_call) h)
+
+    pub arguments_fail : (o : Option FunRefusal) (c : FunCall) → named_fun_call (dialect_of s.dialect) (position_seen s.part) name count at ≡ Ok c → RefusedBy o (each_translated_in s (fun_exprs_seen (text_of s) es)) → RefusedBy o (translated_in s (tree.call at name (fun_exprs_seen (text_of s) es)))
+    arguments_fail o c is h = refused_same o _ _ (then_value (named_fun_call (dialect_of s.dialect) (position_seen s.part) name (length (each_expr (fun_exprs_seen (text_of s) es))) at) _ c (sym the_call ∙ is)) (refused_then o (each_translated_in s (fun_exprs_seen (text_of s) es)) _ h)
+
+    pub call_is : (c : FunCall) (xs : List TranslatedExpr) (x : TranslatedExpr) → named_fun_call (dialect_of s.dialect) (position_seen s.part) name count at ≡ Ok c → each_translated_in s (fun_exprs_seen (text_of s) es) ≡ Ok xs → x ≡ call_translated name c xs → translated_in s (tree.call at name (fun_exprs_seen (text_of s) es)) ≡ Ok x
+    call_is c xs x is h k =
+        then_value (named_fun_call (dialect_of s.dialect) (position_seen s.part) name (length (each_expr (fun_exprs_seen (text_of s) es))) at) _ c (sym the_call ∙ is)
+        ∙ then_value (each_translated_in s (fun_exprs_seen (text_of s) es)) _ xs h ∙ ap Ok (sym k)
+
+-- ---- patterns
+
+module _ {A : Type 0} (text : List ℕ) (ns : ClauseNames) where
+  pub list_pattern : (e : Expr A) (at : ℕ) (es : Vec (Expr A) A) (v : Vec (Term A) A) → e ≡ ListOf at es → pattern_terms ns (fun_exprs_seen text es.items) ≡ Ok (term_row_seen v) → pattern_term ns (fun_expr_seen text e) ≡ Ok (tree_of (ListTerm v))
+  list_pattern e at es v is h =
+      ap (λ z. pattern_term ns (fun_expr_seen text z)) is ∙ ap (pattern_term ns) (seen_list text at es) ∙ then_value (pattern_terms ns (fun_exprs_seen text es.items)) _ (term_row_seen v) h ∙ ap Ok (sym (tree_of_list v))
+
+  pub tuple_pattern : (e : Expr A) (at : ℕ) (es : Vec (Expr A) A) (v : Vec (Term A) A) → e ≡ Tuple at es → pattern_terms ns (fun_exprs_seen text es.items) ≡ Ok (term_row_seen v) → pattern_term ns (fun_expr_seen text e) ≡ Ok (tree_of (TupleTerm v))
+  tuple_pattern e at es v is h =
+      ap (λ z. pattern_term ns (fun_expr_seen text z)) is ∙ ap (pattern_term ns) (seen_tuple text at es) ∙ then_value (pattern_terms ns (fun_exprs_seen text es.items)) _ (term_row_seen v) h ∙ ap Ok (sym (tree_of_tuple v))
+
+  pub onto_pattern_seen : (e : Expr A) (at : ℕ) (es : Vec (Expr A) A) (t : Boxed (Expr A) A) (u : Expr A) → e ≡ ListOnto at es t → u ≡ box_value t
+      → pattern_term ns (fun_expr_seen text e) ≡ pattern_term ns (tree.list_onto at (fun_exprs_seen text es.items) (fun_expr_seen text u))
+  onto_pattern_seen e at es t u is there =
+      ap (λ z. pattern_term ns (fun_expr_seen text z)) is ∙ ap (pattern_term ns) (seen_list_onto text at es t)
+      ∙ ap (λ z. pattern_term ns (tree.list_onto at (fun_exprs_seen text es.items) (fun_expr_seen text z))) (sym there)
