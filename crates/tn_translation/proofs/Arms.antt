@@ -1,5 +1,5 @@
 -- What each node is translated to.
-use Rattle.std.proofs.Common.{◌≡◌, ℕ, ◌+◌, List, [], ◌∷◌, length, box_value, Option, Ok, refl, ap, sym, ◌∙◌, arith}
+use Rattle.std.proofs.Common.{◌≡◌, ℕ, ◌+◌, List, [], ◌∷◌, ◌++◌, length, box_value, Option, Result, Ok, OnOk, refl, ap, sym, ◌∙◌, subst, arith}
 use Rattle.std.specs.Prelude.{Box as Boxed}
 use Rattle.std.specs.declared.vec.Vec.{Vec}
 use Rattle.def_term.specs.Names.{Name}
@@ -8,7 +8,7 @@ use Rattle.def_fun.specs.Trees.{FunExpr, each_expr, of_exprs}
 use Rattle.def_fun.specs.Refusals.{FunRefusal, OrRefusal, then_fun}
 use Rattle.def_fun.specs.Calls.{FunCall, named_fun_call}
 use Rattle.def_fun.specs.Translation.{TranslatedExpr, call_translated, pattern_term, pattern_terms}
-use Rattle.def_fun.specs.Variables.{ClauseNames}
+use Rattle.def_fun.specs.Variables.{ClauseNames, variables_in}
 use Rattle.tn_fun.specs.declared.tree.Expr.{Expr, Atom, Call, List as ListOf, ListOnto, Tuple, Before, Between}
 use Rattle.tn_fun.specs.declared.token.Token.{Token}
 use Rattle.tn_fun.specs.declared.operator.Operator.{Operator}
@@ -20,7 +20,9 @@ use Rattle.tn_term.specs.declared.term.Term.{Term, Tuple as TupleTerm, List as L
 use Rattle.tn_term.specs.Views.{tree_of}
 use Rattle.tn_term.proofs.Views.{tree_of_tuple, tree_of_list}
 use Rattle.tn_translation.specs.declared.expr.Scope.{Scope}
-use Rattle.tn_translation.specs.Faults.{RefusedBy}
+use Rattle.tn_translation.specs.declared.fault.FunFault.{FunFault}
+use Rattle.tn_translation.specs.Faults.{RefusedBy, GivesFun}
+use Rattle.tn_translation.specs.Names.{more_names, variables_of, variables_of_each, Extends}
 use Rattle.tn_translation.specs.Scopes.{text_of, translated_in, each_translated_in}
 use Rattle.tn_translation.specs.Values.{term_row_seen, translated_list, translated_tuple}
 use Rattle.tn_translation.proofs.Steps.{refused_then, refused_same, then_value}
@@ -77,3 +79,28 @@ module _ {A : Type 0} (text : List ℕ) (ns : ClauseNames) where
   onto_pattern_seen e at es t u is there =
       ap (λ z. pattern_term ns (fun_expr_seen text z)) is ∙ ap (pattern_term ns) (seen_list_onto text at es t)
       ∙ ap (λ z. pattern_term ns (tree.list_onto at (fun_exprs_seen text es.items) (fun_expr_seen text z))) (sym there)
+
+-- an expression that is this node
+module _ {A : Type 0} (text : List ℕ) (e : Expr A) (x : FunExpr) (is : fun_expr_seen text e ≡ x) where
+  pub same_pattern : (old : ClauseNames) (r : Result (Term A) FunFault) → ((ns : ClauseNames) → Extends old (variables_in x) ns → GivesFun tree_of text r (pattern_term ns x)) → (ns : ClauseNames) → Extends old (variables_of text e) ns → GivesFun tree_of text r (pattern_term ns (fun_expr_seen text e))
+  same_pattern old r h ns ext = subst (λ q. GivesFun tree_of text r (pattern_term ns q)) (sym is) (h ns (subst (λ q. Extends old (variables_in q) ns) is ext))
+
+  pub same_variables : (old now : ClauseNames) (r : Result (Term A) FunFault) → OnOk r (now ≡ more_names old (variables_in x)) → OnOk r (now ≡ more_names old (variables_of text e))
+  same_variables old now r h = subst (λ q. OnOk r (now ≡ more_names old (variables_in q))) (sym is) h
+
+-- a list with a tail
+pub onto_is : {A : Type 0} (text : List ℕ) (e : Expr A) (at : ℕ) (es : Vec (Expr A) A) (t : Boxed (Expr A) A) (u : Expr A) → e ≡ ListOnto at es t → u ≡ box_value t
+    → fun_expr_seen text e ≡ tree.list_onto at (fun_exprs_seen text es.items) (fun_expr_seen text u)
+onto_is text e at es t u is there = ap (fun_expr_seen text) is ∙ seen_list_onto text at es t ∙ ap (λ z. tree.list_onto at (fun_exprs_seen text es.items) (fun_expr_seen text z)) (sym there)
+
+-- ---- patterns, with the names of their variables
+
+module _ {A : Type 0} (text : List ℕ) (old ns : ClauseNames) (e : Expr A) (x : FunExpr) (is : fun_expr_seen text e ≡ x) where
+  pub these_extend : Extends old (variables_of text e) ns → Extends old (variables_in x) ns
+  these_extend ext = subst (λ q. Extends old (variables_in q) ns) is ext
+
+  pub pattern_refused : (o : Option FunRefusal) → RefusedBy o (pattern_term ns x) → RefusedBy o (pattern_term ns (fun_expr_seen text e))
+  pattern_refused o h = refused_same o _ _ (ap (pattern_term ns) is) h
+
+  pub pattern_given : (t : Tree) → pattern_term ns x ≡ Ok t → pattern_term ns (fun_expr_seen text e) ≡ Ok t
+  pattern_given t h = ap (pattern_term ns) is ∙ h

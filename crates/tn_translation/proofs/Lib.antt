@@ -7,6 +7,7 @@ mod CallNames
 mod AtomTexts
 mod Values
 mod ListTails
-mod Alternatives
+mod GuardClauses
+mod WholeFuns
 mod Arms
 mod Rows

@@ -12,7 +12,7 @@ ghost use Rattle.tn_term.specs.Views.{tree_of};
 ghost use Rattle.tn_translation.specs.Faults.{GivesFun};
 ghost use Rattle.tn_translation.specs.Calls.{fun_call_seen};
 ghost use Rattle.tn_translation.specs.Values.{term_row_seen, translated_seen, translated_list, translated_tuple};
-ghost use Rattle.tn_translation.specs.Values.{constant_after, onto_translated, tuple_term};
+ghost use Rattle.tn_translation.specs.Values.{constant_after, onto_translated};
 ghost use Rattle.tn_translation.specs.Values.{AreElements, GivesElements};
 ghost use Rattle.tn_translation.specs.declared.expr.Scope.{Scope as ScopeThere};
 ghost use Rattle.tn_translation.specs.Scopes.{translated_in, each_translated_in, text_of};
@@ -66,7 +66,8 @@ fn constant_list<A: Allocator>(values: Option<Vec<Term<A>, A>>) -> Option<Term<A
 
 /// The tuple of constants.
 fn constant_tuple<A: Allocator>(values: Option<Vec<Term<A>, A>>) -> Option<Term<A>>
-    ensures { option_map tree_of result ≡ spec.constant_of tuple_term (option_map term_row_seen values) }
+    ensures { option_map tree_of result
+        ≡ spec.constant_of (λ vs. term.tuple (term.of_elements vs)) (option_map term_row_seen values) }
 {
     match values {
         Some(values) => Some(Term::Tuple(values)),

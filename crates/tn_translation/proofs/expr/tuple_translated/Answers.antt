@@ -4,7 +4,6 @@ use Rattle.def_fun.specs.Translation.{doubled_tuple, constant_of}
 use Rattle.tn_term.specs.declared.term.Term.{Tuple}
 use Rattle.tn_term.specs.Views.{tree_of}
 use Rattle.tn_term.proofs.Views.{tree_of_tuple}
-use Rattle.tn_translation.specs.Values.{tuple_term}
 use Rattle.tn_translation.proofs.Values.{same_translated}
 use Rattle.tn_translation.proofs.expr.tuple_translated.Goals as goal
 
@@ -13,4 +12,4 @@ returns g c = λ xs are.
     let only : c.push.new.self.items ≡ Tuple c.args.elements.terms ∷ [] = search rules in
     same_translated _ _ _ _
     (tree_of_tuple c.push.new.self ∙ ap (λ l. tuple (of_elements (map tree_of l))) only ∙ ap (λ t. tuple (more t none)) (tree_of_tuple c.args.elements.terms) ∙ ap doubled_tuple are.terms)
-    (c.constant_tuple.ensures ∙ ap (constant_of tuple_term) are.constants)
+    (c.constant_tuple.ensures ∙ ap (constant_of (λ vs. tuple (of_elements vs))) are.constants)
