@@ -1,6 +1,11 @@
-use Rattle.std.proofs.Common.{arith}
-use Rattle.std.proofs.lemmas.Result.{err_from_is_err_and}
-use Rattle.tn_translation.specs.Names.{clause_names_seen, variables_of_each}
+use Rattle.std.proofs.Common.{◌∙◌, sym, ap, arith}
+use Rattle.std.proofs.lemmas.Result.{err_from_is_err_and, on_ok_weaker}
+use Rattle.def_fun.specs.Trees as tree
+use Rattle.tn_fun.specs.Tokens.{operator_seen}
+use Rattle.tn_fun.specs.Trees.{fun_expr_seen}
+use Rattle.tn_fun.proofs.TreeViews.{seen_atom, seen_list, seen_tuple, seen_before}
+use Rattle.tn_translation.specs.Names.{clause_names_seen, more_names, variables_of_each}
+use Rattle.tn_translation.proofs.Arms.{same_pattern, same_variables, these_extend, list_pattern, tuple_pattern}
 use Rattle.tn_translation.proofs.Rows.{pattern_next, pattern_fails, patterns_end, names_here, names_next, names_end}
 use Rattle.tn_translation.proofs.pattern.+pattern.Goals as goal
 
@@ -38,3 +43,34 @@ pattern_terms-returns-clause-terms g t c = λ ns e. patterns_end c.args.bytes.no
 pub pattern_terms-returns-clause-names : goal.pattern_terms-returns-clause-names
 pattern_terms-returns-clause-names g t c =
     names_end c.args.bytes.now c.deref-item-items.result.now c.loop-item.item-index (clause_names_seen c.args.names.now) (clause_names_seen c.loop-item.names) (variables_of_each c.args.bytes.now c.args.items.now.items) (omega arith) c.loop-item.invariant.whole
+
+pub pattern_term-returns-in-Atom-clause-term : goal.pattern_term-returns-in-Atom-clause-term
+pattern_term-returns-in-Atom-clause-term g t c =
+    let text = c.args.bytes.now in
+    let is = ap (fun_expr_seen text) c.in-Atom.is ∙ seen_atom _ text c.in-Atom.token in
+    same_pattern text c.args.pattern.now _ is (clause_names_seen c.args.names.now) c.atom_pattern.result (λ ns e. c.atom_pattern.ensures ns)
+
+pub pattern_term-returns-in_ok-pattern_terms-in-List-clause-term : goal.pattern_term-returns-in_ok-pattern_terms-in-List-clause-term
+pattern_term-returns-in_ok-pattern_terms-in-List-clause-term g t c = λ ns e.
+    let text = c.args.bytes.now in
+    let is = ap (fun_expr_seen text) c.in-List.is ∙ seen_list text c.in-List.field-0 c.in-List.items in
+    list_pattern text ns c.args.pattern.now c.in-List.field-0 c.in-List.items c.in_ok-pattern_terms-in-List.field-0 c.in-List.is (c.in_ok-pattern_terms-in-List.ensures.terms ns (these_extend text (clause_names_seen c.args.names.now) ns c.args.pattern.now _ is e))
+
+pub pattern_term-returns-in_ok-pattern_terms-in-Tuple-clause-term : goal.pattern_term-returns-in_ok-pattern_terms-in-Tuple-clause-term
+pattern_term-returns-in_ok-pattern_terms-in-Tuple-clause-term g t c = λ ns e.
+    let text = c.args.bytes.now in
+    let is = ap (fun_expr_seen text) c.in-Tuple.is ∙ seen_tuple text c.in-Tuple.field-0 c.in-Tuple.items in
+    tuple_pattern text ns c.args.pattern.now c.in-Tuple.field-0 c.in-Tuple.items c.in_ok-pattern_terms-in-Tuple.field-0 c.in-Tuple.is (c.in_ok-pattern_terms-in-Tuple.ensures.terms ns (these_extend text (clause_names_seen c.args.names.now) ns c.args.pattern.now _ is e))
+
+pub pattern_term-returns-in-Before-clause-term : goal.pattern_term-returns-in-Before-clause-term
+pattern_term-returns-in-Before-clause-term g t c =
+    let text = c.args.bytes.now in
+    let is = ap (fun_expr_seen text) c.in-Before.is ∙ seen_before text c.in-Before.at c.in-Before.field-1 c.in-Before.inner ∙ ap (λ z. tree.before c.in-Before.at (operator_seen c.in-Before.field-1) (fun_expr_seen text z)) (sym c.deref-in-Before.ensures) in
+    same_pattern text c.args.pattern.now _ is (clause_names_seen c.args.names.now) c.negative_pattern.result (λ ns e. c.negative_pattern.ensures.term text)
+
+pub pattern_term-returns-in-Before-clause-names : goal.pattern_term-returns-in-Before-clause-names
+pattern_term-returns-in-Before-clause-names g t c =
+    let text = c.args.bytes.now in
+    let old = clause_names_seen c.args.names.now in
+    let is = ap (fun_expr_seen text) c.in-Before.is ∙ seen_before text c.in-Before.at c.in-Before.field-1 c.in-Before.inner ∙ ap (λ z. tree.before c.in-Before.at (operator_seen c.in-Before.field-1) (fun_expr_seen text z)) (sym c.deref-in-Before.ensures) in
+    same_variables text c.args.pattern.now _ is old old c.negative_pattern.result (on_ok_weaker c.negative_pattern.result (λ h. ap (more_names old) (sym h)) (c.negative_pattern.ensures.names text))
