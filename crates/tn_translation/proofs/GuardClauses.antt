@@ -6,7 +6,7 @@ use Rattle.def_term.specs.Tree.{Tree, triple}
 use Rattle.def_spec.specs.Expressions.{Dialect, in_condition, in_body}
 use Rattle.def_fun.specs.Trees.{FunExpr, FunClause}
 use Rattle.def_fun.specs.Refusals.{FunRefusal, OrRefusal, then_fun}
-use Rattle.def_fun.specs.Variables.{names_of}
+use Rattle.def_fun.specs.Variables.{ClauseNames, names_of}
 use Rattle.def_fun.specs.Translation.{head_term, part_terms, list_term, within_length, alternative_term, alternatives_of, with_alternatives}
 use Rattle.tn_fun.specs.Clauses.{guard_seen, guards_seen}
 use Rattle.tn_fun.specs.Trees.{fun_row_seen}
@@ -119,3 +119,32 @@ module _ {A : Type 0} (text : List ℕ) (d : Dialect) (k : FunClause) (gs : List
 
     pub clause_goes_on : (us : List Tree) → within_length p.at (ts ++ triple (tree_of p.head) (list_term cs) (tree_of p.body) ∷ []) ≡ Ok us → with_alternatives d k ts (alternatives_of (guards_seen text gs)) ≡ with_alternatives d k us (guards_seen text (drop 1 gs))
     clause_goes_on us h = alternatives_are ∙ one_alternative d k (first_guard (guards_seen text gs)) (guards_seen text (drop 1 gs)) ts p shared cs conditions us h
+
+-- ---- a clause with the names of its head
+
+module _ {A : Type 0} (text : List ℕ) (d : Dialect) (k : FunClause) (gs : List (Vec (Expr A) A)) (ts : List Tree) (head : Term A) (head_is : head_term k.head ≡ Ok (tree_of head)) (ns : ClauseNames) (names : ns ≡ names_of k.head) where
+  conditions_there : part_terms d in_condition (names_of k.head) (first_guard (guards_seen text gs)) ≡ part_terms d in_condition ns (first_guard (guards_seen text gs))
+  conditions_there = ap (λ n. part_terms d in_condition n (first_guard (guards_seen text gs))) (sym names)
+
+  body_there : part_terms d in_body (names_of k.head) k.body ≡ part_terms d in_body ns k.body
+  body_there = ap (λ n. part_terms d in_body n k.body) (sym names)
+
+  pub named_conditions_fail : (o : Option FunRefusal) → RefusedBy o (part_terms d in_condition ns (first_guard (guards_seen text gs))) → RefusedBy o (with_alternatives d k ts (alternatives_of (guards_seen text gs)))
+  named_conditions_fail o h = clause_conditions_fail text d k gs ts o (tree_of head) head_is (refused_same o _ _ conditions_there h)
+
+  module _ (cs : List Tree) (conditions : part_terms d in_condition ns (first_guard (guards_seen text gs)) ≡ Ok cs) where
+    pub named_body_fails : (o : Option FunRefusal) → RefusedBy o (part_terms d in_body ns k.body) → RefusedBy o (with_alternatives d k ts (alternatives_of (guards_seen text gs)))
+    named_body_fails o h = clause_body_fails text d k gs ts o (tree_of head) cs head_is (conditions_there ∙ conditions) (refused_same o _ _ body_there h)
+
+    module _ (at : ℕ) (place : at ≡ k.at) (v : Vec (Term A) A) (body : part_terms d in_body ns k.body ≡ Ok (term_row_seen v)) where
+      abbrev the_parts : SharedParts A
+      the_parts = record { at = at; head = head; body = ListOf v }
+
+      pub named_parts : AreSharedParts d k the_parts
+      named_parts = shared_parts d k the_parts v place head_is refl (body_there ∙ body)
+
+      pub named_too_long : (o : Option FunRefusal) → RefusedBy o (within_length at (ts ++ triple (tree_of head) (list_term cs) (tree_of (ListOf v)) ∷ [])) → RefusedBy o (with_alternatives d k ts (alternatives_of (guards_seen text gs)))
+      named_too_long o h = clause_too_long text d k gs ts the_parts named_parts cs (conditions_there ∙ conditions) o h
+
+      pub named_goes_on : (us : List Tree) → within_length at (ts ++ triple (tree_of head) (list_term cs) (tree_of (ListOf v)) ∷ []) ≡ Ok us → with_alternatives d k ts (alternatives_of (guards_seen text gs)) ≡ with_alternatives d k us (guards_seen text (drop 1 gs))
+      named_goes_on us h = clause_goes_on text d k gs ts the_parts named_parts cs (conditions_there ∙ conditions) us h

@@ -11,3 +11,4 @@ mod GuardClauses
 mod WholeFuns
 mod Arms
 mod Rows
+mod Heads

@@ -83,7 +83,7 @@ module _ {A : Type 0} (text : List ℕ) (xs : List (Expr A)) (i : ℕ) (old now 
   pub names_here : (x : Expr A) (all : ClauseNames) → i < length xs → x ≡ get_or xs i x → more_names now (variables_of_each text (drop i xs)) ≡ more_names old ss → Extends old ss all → Extends now (variables_of text x) all
   names_here x all below is so_far e =
       extends_first now all (variables_of text x) (variables_of_each text (drop (i + 1) xs))
-      (extends_from old now all ss _ (ap (more_names now) (sym (variables_here text xs i x below is)) ∙ so_far) e)
+      (extends_from old now all ss (variables_of text x ++ variables_of_each text (drop (i + 1) xs)) (ap (more_names now) (sym (variables_here text xs i x below is)) ∙ so_far) e)
 
   pub names_next : (x : Expr A) (later : ClauseNames) → i < length xs → x ≡ get_or xs i x → more_names now (variables_of_each text (drop i xs)) ≡ more_names old ss → later ≡ more_names now (variables_of text x) → more_names later (variables_of_each text (drop (i + 1) xs)) ≡ more_names old ss
   names_next x later below is so_far h =

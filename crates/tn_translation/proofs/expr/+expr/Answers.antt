@@ -1,6 +1,9 @@
-use Rattle.std.proofs.Common.{[], ◌∷◌, ◌++◌, arith}
+use Rattle.std.proofs.Common.{◌≡◌, [], ◌∷◌, ◌++◌, Ok, rules, arith, refl, ap, sym, ◌∙◌, subst}
 use Rattle.std.proofs.lemmas.Result.{err_from_is_err_and}
+use Rattle.tn_translation.specs.Faults.{GivesFun}
+use Rattle.tn_translation.specs.Scopes.{text_of}
 use Rattle.tn_translation.specs.Values.{translated_seen}
+use Rattle.tn_translation.proofs.Arms.{list_arm, tuple_arm, between_arm, expr_no_tail, expr_tail_fails, expr_onto, no_call, arguments_fail, call_is}
 use Rattle.tn_translation.proofs.Rows.{element_next, element_fails, elements_end}
 use Rattle.tn_translation.proofs.expr.+expr.Goals as goal
 
@@ -24,3 +27,51 @@ pub exprs_translated-returns : goal.exprs_translated-returns
 exprs_translated-returns g t c =
     let inv = c.loop-item.invariant in
     (inv.0, elements_end c.args.scope.now c.deref-item-items.result.now c.loop-item.item-index _ inv.0 (omega arith) inv.1, inv.2)
+
+pub exprs_translated-loop-item-init : goal.exprs_translated-loop-item-init
+exprs_translated-loop-item-init g t c = ?
+
+pub prefix_translated-returns-in-Some : goal.prefix_translated-returns-in-Some
+prefix_translated-returns-in-Some g t c = c.in-Some.ensures c.args.scope.now (text_of c.args.scope.now) c.args.at ∙ ap Ok (sym c.integer_value.ensures)
+
+pub expr_translated-returns-in_ok-exprs_translated-in-List : goal.expr_translated-returns-in_ok-exprs_translated-in-List
+expr_translated-returns-in_ok-exprs_translated-in-List g t c =
+    let el = c.in_ok-exprs_translated-in-List.ensures in
+    list_arm c.args.scope.now c.args.expr.now c.in-List.field-0 c.in-List.items el.0 _ c.in-List.is el.1 (c.list_translated.ensures el.0 el.2)
+
+pub expr_translated-returns-in_ok-tuple_translated-in-Tuple : goal.expr_translated-returns-in_ok-tuple_translated-in-Tuple
+expr_translated-returns-in_ok-tuple_translated-in-Tuple g t c =
+    let el = c.in_ok-exprs_translated-in-Tuple.ensures in
+    tuple_arm c.args.scope.now c.args.expr.now c.in-Tuple.field-0 c.in-Tuple.items el.0 _ c.in-Tuple.is el.1 (c.in_ok-tuple_translated-in-Tuple.ensures el.0 el.2)
+
+pub expr_translated-returns-in_err-at-in-ListOnto : goal.expr_translated-returns-in_err-at-in-ListOnto
+expr_translated-returns-in_err-at-in-ListOnto g t c =
+    let s = c.args.scope.now in
+    let a = c.in-ListOnto in
+    let el = c.in_ok-elements-in-ListOnto.ensures in
+    let p = err_from_is_err_and c.from_residual-in_err-at-in-ListOnto.result c.from_residual-in_err-at-in-ListOnto.ensures.1 in
+    rw (p.1, p.2) (expr_no_tail s c.args.expr.now a.field-0 a.items a.tail a.is el.0 el.1 c.deref-in-ListOnto.result.now c.deref-in-ListOnto.ensures _ (c.in_err-at-in-ListOnto.ensures (text_of s)))
+
+pub expr_translated-returns-in_err-rest-in-ListOnto : goal.expr_translated-returns-in_err-rest-in-ListOnto
+expr_translated-returns-in_err-rest-in-ListOnto g t c =
+    let s = c.args.scope.now in
+    let a = c.in-ListOnto in
+    let el = c.in_ok-elements-in-ListOnto.ensures in
+    let p = err_from_is_err_and c.from_residual-in_err-rest-in-ListOnto.result c.from_residual-in_err-rest-in-ListOnto.ensures.1 in
+    rw (p.1, p.2) (expr_tail_fails s c.args.expr.now a.field-0 a.items a.tail a.is el.0 el.1 c.deref-in-ListOnto.result.now c.deref-in-ListOnto.ensures
+    c.in_ok-at-in-ListOnto.at (c.in_ok-at-in-ListOnto.ensures (text_of s)) c.deref-in-ListOnto-2.result.now c.deref-in-ListOnto-2.ensures _ c.in_err-rest-in-ListOnto.ensures)
+
+pub expr_translated-returns-in_ok-rest-in-ListOnto : goal.expr_translated-returns-in_ok-rest-in-ListOnto
+expr_translated-returns-in_ok-rest-in-ListOnto g t c = ?
+
+pub expr_translated-returns-in_ok-right-in-Between : goal.expr_translated-returns-in_ok-right-in-Between
+expr_translated-returns-in_ok-right-in-Between g t c = ?
+
+pub call_translated-returns-in_err-call : goal.call_translated-returns-in_err-call
+call_translated-returns-in_err-call g t c = ?
+
+pub call_translated-returns-in_err-arguments : goal.call_translated-returns-in_err-arguments
+call_translated-returns-in_err-arguments g t c = ?
+
+pub call_translated-returns : goal.call_translated-returns
+call_translated-returns g t c = ?

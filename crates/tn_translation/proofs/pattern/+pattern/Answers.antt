@@ -5,7 +5,7 @@ use Rattle.tn_fun.specs.Tokens.{operator_seen}
 use Rattle.tn_fun.specs.Trees.{fun_expr_seen}
 use Rattle.tn_fun.proofs.TreeViews.{seen_atom, seen_list, seen_tuple, seen_before}
 use Rattle.tn_translation.specs.Names.{clause_names_seen, more_names, variables_of_each}
-use Rattle.tn_translation.proofs.Arms.{same_pattern, same_variables, these_extend, list_pattern, tuple_pattern}
+use Rattle.tn_translation.proofs.Arms.{same_pattern, same_variables, these_extend, list_pattern, tuple_pattern, no_tail_there, tail_refused, onto_pattern, onto_names}
 use Rattle.tn_translation.proofs.Rows.{pattern_next, pattern_fails, patterns_end, names_here, names_next, names_end}
 use Rattle.tn_translation.proofs.pattern.+pattern.Goals as goal
 
@@ -74,3 +74,30 @@ pattern_term-returns-in-Before-clause-names g t c =
     let old = clause_names_seen c.args.names.now in
     let is = ap (fun_expr_seen text) c.in-Before.is ∙ seen_before text c.in-Before.at c.in-Before.field-1 c.in-Before.inner ∙ ap (λ z. tree.before c.in-Before.at (operator_seen c.in-Before.field-1) (fun_expr_seen text z)) (sym c.deref-in-Before.ensures) in
     same_variables text c.args.pattern.now _ is old old c.negative_pattern.result (on_ok_weaker c.negative_pattern.result (λ h. ap (more_names old) (sym h)) (c.negative_pattern.ensures.names text))
+
+pub pattern_term-returns-in_err-at-in-ListOnto-clause-term : goal.pattern_term-returns-in_err-at-in-ListOnto-clause-term
+pattern_term-returns-in_err-at-in-ListOnto-clause-term g t c = λ ns e.
+    let text = c.args.bytes.now in
+    let old = clause_names_seen c.args.names.now in
+    let a = c.in-ListOnto in
+    let p = err_from_is_err_and c.from_residual-in_err-at-in-ListOnto.result c.from_residual-in_err-at-in-ListOnto.ensures.1 in
+    rw (p.1, p.2) (no_tail_there text old ns c.args.pattern.now a.field-0 a.items a.tail a.is c.in_ok-terms-in-ListOnto.terms c.in_ok-terms-in-ListOnto.ensures.terms e c.deref-in-ListOnto.result.now c.deref-in-ListOnto.ensures _ (c.in_err-at-in-ListOnto.ensures text))
+
+pub pattern_term-returns-in_err-rest-in-ListOnto-clause-term : goal.pattern_term-returns-in_err-rest-in-ListOnto-clause-term
+pattern_term-returns-in_err-rest-in-ListOnto-clause-term g t c = λ ns e.
+    let text = c.args.bytes.now in
+    let old = clause_names_seen c.args.names.now in
+    let a = c.in-ListOnto in
+    let mid = clause_names_seen c.pattern_terms-in-ListOnto.new.names in
+    let p = err_from_is_err_and c.from_residual-in_err-rest-in-ListOnto.result c.from_residual-in_err-rest-in-ListOnto.ensures.1 in
+    rw (p.1, p.2) (tail_refused text old ns c.args.pattern.now a.field-0 a.items a.tail a.is c.in_ok-terms-in-ListOnto.terms c.in_ok-terms-in-ListOnto.ensures.terms e c.deref-in-ListOnto.result.now c.deref-in-ListOnto.ensures
+    c.in_ok-at-in-ListOnto.at (c.in_ok-at-in-ListOnto.ensures text) mid c.in_ok-terms-in-ListOnto.ensures.names c.deref-in-ListOnto-2.result.now c.deref-in-ListOnto-2.ensures _ c.in_err-rest-in-ListOnto.ensures.term)
+
+pub pattern_term-returns-in_ok-rest-in-ListOnto-clause-term : goal.pattern_term-returns-in_ok-rest-in-ListOnto-clause-term
+pattern_term-returns-in_ok-rest-in-ListOnto-clause-term g t c = λ ns e. ?
+
+pub pattern_term-returns-in_ok-rest-in-ListOnto-clause-names : goal.pattern_term-returns-in_ok-rest-in-ListOnto-clause-names
+pattern_term-returns-in_ok-rest-in-ListOnto-clause-names g t c =
+    let a = c.in-ListOnto in
+    onto_names c.args.bytes.now (clause_names_seen c.args.names.now) (clause_names_seen c.pattern_terms-in-ListOnto.new.names) (clause_names_seen c.pattern_term-in-ListOnto.new.names) c.args.pattern.now a.field-0 a.items a.tail c.deref-in-ListOnto-2.result.now c.onto_tail.result a.is c.deref-in-ListOnto-2.ensures
+    c.in_ok-terms-in-ListOnto.ensures.names c.in_ok-rest-in-ListOnto.ensures.names
