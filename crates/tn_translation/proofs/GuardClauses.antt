@@ -137,7 +137,7 @@ module _ {A : Type 0} (text : List ℕ) (d : Dialect) (k : FunClause) (gs : List
     named_body_fails o h = clause_body_fails text d k gs ts o (tree_of head) cs head_is (conditions_there ∙ conditions) (refused_same o _ _ body_there h)
 
     module _ (at : ℕ) (place : at ≡ k.at) (v : Vec (Term A) A) (body : part_terms d in_body ns k.body ≡ Ok (term_row_seen v)) where
-      abbrev the_parts : SharedParts A
+      abbrev pub the_parts : SharedParts A
       the_parts = record { at = at; head = head; body = ListOf v }
 
       pub named_parts : AreSharedParts d k the_parts

@@ -15,11 +15,11 @@ pub same_head : {A : Type 0} (text : List ℕ) (r : Result (TranslatedHead A) Fu
 same_head text r m n ns us same names h = subst (λ x. GivesHead text r x us) same (subst (λ u. GivesHead text r m u) names h)
 
 -- the names of a head of which the parts have these names
-abbrev names_by : FunExpr → FunExpr → Option Name → Option Name → ClauseNames
+abbrev pub names_by : FunExpr → FunExpr → Option Name → Option Name → ClauseNames
 names_by a b n m = record { of_whole = name_of_two n m; numbers = with_names (name_of_two n m) [] (variables_in (other_part n a b)) }
 
 -- its term
-abbrev term_by : FunExpr → FunExpr → Option Name → Option Name → OrRefusal Tree
+abbrev pub term_by : FunExpr → FunExpr → Option Name → Option Name → OrRefusal Tree
 term_by a b n m = cond (is_same_name n m) (Err (whole_head (name_or_none m) (first_byte b))) (matched_term (first_byte a) (other_part n a b) (names_by a b n m))
 
 module _ (a b : FunExpr) (n m : Option Name) (a_is : n ≡ name_of_variable a) (b_is : m ≡ name_of_variable b) where

@@ -35,4 +35,15 @@ returns-in_err-spec g c =
     c.args.clause.now.at refl c.in_ok-part_terms.field-0 c.in_ok-part_terms.ensures _ (c.in_err-spec.ensures text))
 
 pub returns : goal.returns
-returns g c = ?
+returns g c =
+    let text = c.args.bytes.now in
+    let k = fun_clause_seen text c.args.clause.now in
+    let h = c.in_ok-head in
+    let d = dialect_of c.args.dialect in
+    let names = clause_names_seen h.head.names in
+    let cs = term_row_seen c.in_ok-conditions.conditions in
+    subst (GivesFun clauses_so_far text c.with_other_guards.result)
+    (sym (named_goes_on text d k c.args.clause.now.guards.items (clauses_so_far c.args.spec) h.head.term h.ensures.0 names h.ensures.1 cs c.in_ok-conditions.ensures c.args.clause.now.at refl c.in_ok-part_terms.field-0 c.in_ok-part_terms.ensures _ (c.in_ok-spec.ensures text)))
+    (c.with_other_guards.ensures k
+    (named_parts text d k c.args.clause.now.guards.items (clauses_so_far c.args.spec) h.head.term h.ensures.0 names h.ensures.1 cs c.in_ok-conditions.ensures c.args.clause.now.at refl c.in_ok-part_terms.field-0 c.in_ok-part_terms.ensures)
+    (refl, h.ensures.1))

@@ -94,7 +94,14 @@ pattern_term-returns-in_err-rest-in-ListOnto-clause-term g t c = λ ns e.
     c.in_ok-at-in-ListOnto.at (c.in_ok-at-in-ListOnto.ensures text) mid c.in_ok-terms-in-ListOnto.ensures.names c.deref-in-ListOnto-2.result.now c.deref-in-ListOnto-2.ensures _ c.in_err-rest-in-ListOnto.ensures.term)
 
 pub pattern_term-returns-in_ok-rest-in-ListOnto-clause-term : goal.pattern_term-returns-in_ok-rest-in-ListOnto-clause-term
-pattern_term-returns-in_ok-rest-in-ListOnto-clause-term g t c = λ ns e. ?
+pattern_term-returns-in_ok-rest-in-ListOnto-clause-term g t c = λ ns e.
+    let text = c.args.bytes.now in
+    let old = clause_names_seen c.args.names.now in
+    let a = c.in-ListOnto in
+    let mid = clause_names_seen c.pattern_terms-in-ListOnto.new.names in
+    onto_pattern text old ns c.args.pattern.now a.field-0 a.items a.tail a.is c.in_ok-terms-in-ListOnto.terms c.in_ok-terms-in-ListOnto.ensures.terms e c.deref-in-ListOnto.result.now c.deref-in-ListOnto.ensures
+    c.in_ok-at-in-ListOnto.at (c.in_ok-at-in-ListOnto.ensures text) mid c.in_ok-terms-in-ListOnto.ensures.names c.deref-in-ListOnto-2.result.now c.deref-in-ListOnto-2.ensures
+    c.in_ok-rest-in-ListOnto.rest c.onto_tail.result c.in_ok-rest-in-ListOnto.ensures.term (c.onto_tail.ensures text)
 
 pub pattern_term-returns-in_ok-rest-in-ListOnto-clause-names : goal.pattern_term-returns-in_ok-rest-in-ListOnto-clause-names
 pattern_term-returns-in_ok-rest-in-ListOnto-clause-names g t c =
