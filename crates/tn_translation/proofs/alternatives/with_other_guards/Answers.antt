@@ -16,7 +16,7 @@ loop-i-preserved g c = λ k shared there.
 pub returns-in_err-conditions : goal.returns-in_err-conditions
 returns-in_err-conditions g c = λ k shared there.
     let size = c.len-i-end.ensures ∙ c.args.guards.now.ok.0 in
-    let p = err_from_is_err_and c.from_residual-in_err-conditions.result c.from_residual-in_err-conditions.ensures.1 in
+    let p = err_from_is_err_and c.from_residual.result c.from_residual.ensures.1 in
     rw (p.1, p.2) (refused_same _ _ _ (c.loop-i.invariant k shared there)
     (guard_fails c.args.scope.now k c.args.shared.now shared there c.args.guards.now.items c.loop-i.i (clauses_so_far c.loop-i.spec) c.index.result.now (omega (arith, size)) c.index.ensures _ c.in_err-conditions.ensures))
 

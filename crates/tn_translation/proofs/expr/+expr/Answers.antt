@@ -1,7 +1,10 @@
 use Rattle.std.proofs.Common.{◌≡◌, [], ◌∷◌, ◌++◌, Ok, rules, arith, refl, ap, sym, ◌∙◌, subst}
+use Rattle.std.proofs.lemmas.Grind.{common_steps}
 use Rattle.std.proofs.lemmas.Result.{err_from_is_err_and}
+use Rattle.def_term.specs.Tree.{int}
+use Rattle.def_fun.specs.Refusals.{then_fun}
 use Rattle.def_fun.specs.Calls.{named_fun_call}
-use Rattle.def_fun.specs.Translation.{call_translated}
+use Rattle.def_fun.specs.Translation.{call_translated, computed_value}
 use Rattle.tn_fun.specs.Trees.{token_name, fun_exprs_seen}
 use Rattle.tn_spec.specs.Names.{position_seen}
 use Rattle.tn_spec.specs.Views.{dialect_of}
@@ -37,10 +40,18 @@ exprs_translated-returns g t c =
 
 pub exprs_translated-loop-item-init : goal.exprs_translated-loop-item-init
 exprs_translated-loop-item-init g t c =
-    ([], none_before (each_translated_in c.args.scope.now (fun_exprs_seen (text_of c.args.scope.now) c.args.items.now.items)), record { terms = search rules; constants = search rules })
+    let s = c.args.scope.now in
+    let same : c.deref-item-items.result.now ≡ c.args.items.now.items = search rules in
+    (
+      [],
+      none_before (each_translated_in s (fun_exprs_seen (text_of s) c.args.items.now.items)) ∙ ap (λ l. then_fun (each_translated_in s (fun_exprs_seen (text_of s) l)) (λ xs. Ok xs)) (sym same),
+      record { terms = search rules; constants = search rules },
+    )
 
 pub prefix_translated-returns-in-Some : goal.prefix_translated-returns-in-Some
-prefix_translated-returns-in-Some g t c = c.in-Some.ensures c.args.scope.now (text_of c.args.scope.now) c.args.at ∙ ap Ok (sym c.integer_value.ensures)
+prefix_translated-returns-in-Some g t c =
+    let same : translated_seen c.integer_value.result ≡ computed_value (int c.in-Some.n) = first_of (search rules, grind (arith, common_steps)) in
+    c.in-Some.ensures c.args.scope.now (text_of c.args.scope.now) c.args.at ∙ ap Ok (sym same)
 
 pub expr_translated-returns-in_ok-exprs_translated-in-List : goal.expr_translated-returns-in_ok-exprs_translated-in-List
 expr_translated-returns-in_ok-exprs_translated-in-List g t c =

@@ -19,7 +19,7 @@ returns-then-branch g c =
     let one : Some s ≡ name_of_variable a = ap (option_map (token_name text)) (sym m.is-0) ∙ c.variable_of.ensures.name text in
     let other : Some u ≡ name_of_variable b = ap (option_map (token_name text)) (sym m.is-1) ∙ c.variable_of-2.ensures.name text in
     let place : m.other.from ≡ first_byte_of b = subst (λ o. IfSome o (λ v. v.from ≡ first_byte_of b)) m.is-1 (c.variable_of-2.ensures.place text) in
-    let same : bytes_eq s u ≡ true = sym c.in_ok-is_same_name.ensures ∙ c.if-branch.true in
+    let same : bytes_eq s u ≡ true = sym c.in_ok-is_same_name-in-Some-Some.ensures ∙ c.if-branch.true in
     same_names a b (Some s) (Some u) one other same ∙ ap (λ n. Err (whole_head u n)) (sym place)
 
 pub returns-in-Some-None : goal.returns-in-Some-None
