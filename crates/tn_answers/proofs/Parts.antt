@@ -74,8 +74,17 @@ all_sessions seen listed ss ls i now whole past so_far = sym (append-nil now) �
 
 -- ---- texts one after another
 
-pub before_rest : {now a next rest last : List ℕ} → next ≡ now ++ a → last ≡ next ++ rest → last ≡ now ++ (a ++ rest)
-before_rest {now} {a} {next} {rest} {last} first then = then ∙ ap (λ x. x ++ rest) first ∙ append_assoc now a rest
+pub before_rest : (now a next rest last : List ℕ) → next ≡ now ++ a → last ≡ next ++ rest → last ≡ now ++ (a ++ rest)
+before_rest now a next rest last first more = more ∙ ap (λ x. x ++ rest) first ∙ append_assoc now a rest
+
+pub seven_parts : (n0 n1 n2 n3 n4 n5 n6 n7 a b c d e f g : List ℕ) → n1 ≡ n0 ++ a → n2 ≡ n1 ++ b → n3 ≡ n2 ++ c → n4 ≡ n3 ++ d → n5 ≡ n4 ++ e → n6 ≡ n5 ++ f → n7 ≡ n6 ++ g → n7 ≡ n0 ++ (a ++ (b ++ (c ++ (d ++ (e ++ (f ++ g))))))
+seven_parts n0 n1 n2 n3 n4 n5 n6 n7 a b c d e f g h1 h2 h3 h4 h5 h6 h7 =
+    before_rest n0 a n1 (b ++ (c ++ (d ++ (e ++ (f ++ g))))) n7 h1
+    (before_rest n1 b n2 (c ++ (d ++ (e ++ (f ++ g)))) n7 h2
+    (before_rest n2 c n3 (d ++ (e ++ (f ++ g))) n7 h3
+    (before_rest n3 d n4 (e ++ (f ++ g)) n7 h4
+    (before_rest n4 e n5 (f ++ g) n7 h5
+    (before_rest n5 f n6 g n7 h6 h7)))))
 
 -- ---- entries
 
@@ -129,4 +138,4 @@ count_is pairs n is = is ∙ sym (length-map pairs (answer_entry kept_seen))
 
 pub answer_text : (x0 x1 x2 x3 a b : List ℕ) (closing : ℕ → List ℕ) (n m : ℕ) → x0 ≡ [] → x1 ≡ x0 ++ a → x2 ≡ x1 ++ b → x3 ≡ x2 ++ closing n → n ≡ m → x3 ≡ a ++ (b ++ closing m)
 answer_text x0 x1 x2 x3 a b closing n m none first second third same =
-    before_rest first (before_rest second third) ∙ ap (λ x. x ++ (a ++ (b ++ closing n))) none ∙ ap (λ k. a ++ (b ++ closing k)) same
+    before_rest x0 a x1 (b ++ closing n) x3 first (before_rest x1 b x2 (closing n) x3 second third) ∙ ap (λ x. x ++ (a ++ (b ++ closing n))) none ∙ ap (λ k. a ++ (b ++ closing k)) same

@@ -105,8 +105,8 @@ fn put_total<A: Allocator, B: Allocator>(
     listings: &Vec<MessageList<A>, A>,
     out: &mut Vec<u8, B>,
 ) -> Result<(), AllocError>
-    ensures { let kept = kept_messages (map trees_seen listings.now.items) in
-        OnOk result (out.new.items ≡ out.old.items ++ session_texts (map session_seen sessions.now) (kept_listings kept)) }
+    ensures { let ss = map session_seen sessions.now in let all = kept_messages (map trees_seen listings.now.items) in
+        OnOk result (out.new.items ≡ out.old.items ++ session_texts ss (kept_listings all)) }
 {
     put_sessions(sessions, listings, out)
 }
@@ -117,8 +117,8 @@ fn put_by_process<A: Allocator, B: Allocator>(
     listings: &Vec<Vec<MessageList<A>, A>, A>,
     out: &mut Vec<u8, B>,
 ) -> Result<(), AllocError>
-    ensures { let kept = kept_by_process (map lists_seen listings.now.items) in
-        OnOk result (out.new.items ≡ out.old.items ++ session_texts (map session_seen sessions.now) (kept_listings kept)) }
+    ensures { let ss = map session_seen sessions.now in let all = kept_by_process (map lists_seen listings.now.items) in
+        OnOk result (out.new.items ≡ out.old.items ++ session_texts ss (kept_listings all)) }
 {
     put_sessions(sessions, listings, out)
 }

@@ -20,8 +20,9 @@ fn put_entry_at<A: Allocator, B: Allocator>(
     out: &mut Vec<u8, B>,
 ) -> Result<(), AllocError>
     requires { place.0 < place.1 }
-    ensures { OnOk result ((e : RestEntry) → slice_get (answer_entries kept_seen answers.now.entries) place.0 ≡ Some e →
-        out.new.items ≡ out.old.items ++ rest_entry_text (map session_seen sessions.now) place.1 (place.0 + 1) e) }
+    ensures { let ss = map session_seen sessions.now in let es = answer_entries kept_seen answers.now.entries in
+        OnOk result ((e : RestEntry) → slice_get es place.0 ≡ Some e →
+            out.new.items ≡ out.old.items ++ rest_entry_text ss place.1 (place.0 + 1) e) }
 {
     let Some((kept, journal)) = answers.get_index(place.0) else {
         return Ok(());
@@ -36,8 +37,8 @@ fn put_entries<A: Allocator, B: Allocator>(
     answers: &Answers<A, KeptListings<A>>,
     out: &mut Vec<u8, B>,
 ) -> Result<(), AllocError>
-    ensures { let es = answer_entries kept_seen answers.now.entries in
-        OnOk result (out.new.items ≡ out.old.items ++ rest_entry_texts (map session_seen sessions.now) (length es) 1 es) }
+    ensures { let ss = map session_seen sessions.now in let es = answer_entries kept_seen answers.now.entries in
+        OnOk result (out.new.items ≡ out.old.items ++ rest_entry_texts ss (length es) 1 es) }
 {
     let count = answers.len();
     for number in 0..count {
