@@ -77,14 +77,14 @@ all_sessions seen listed ss ls i now whole past so_far = sym (append-nil now) �
 pub before_rest : (now a next rest last : List ℕ) → next ≡ now ++ a → last ≡ next ++ rest → last ≡ now ++ (a ++ rest)
 before_rest now a next rest last first more = more ∙ ap (λ x. x ++ rest) first ∙ append_assoc now a rest
 
-pub seven_parts : (n0 n1 n2 n3 n4 n5 n6 n7 a b c d e f g : List ℕ) → n1 ≡ n0 ++ a → n2 ≡ n1 ++ b → n3 ≡ n2 ++ c → n4 ≡ n3 ++ d → n5 ≡ n4 ++ e → n6 ≡ n5 ++ f → n7 ≡ n6 ++ g → n7 ≡ n0 ++ (a ++ (b ++ (c ++ (d ++ (e ++ (f ++ g))))))
+pub seven_parts : (n0 n1 n2 n3 n4 n5 n6 n7 a b c d e f g : List ℕ) → n1 ≡ n0 ++ a → n2 ≡ n1 ++ b → n3 ≡ n2 ++ c → n4 ≡ n3 ++ d → n5 ≡ n4 ++ e → n6 ≡ n5 ++ f → n7 ≡ n6 ++ g → n7 ≡ n0 ++ ((((((a ++ b) ++ c) ++ d) ++ e) ++ f) ++ g)
 seven_parts n0 n1 n2 n3 n4 n5 n6 n7 a b c d e f g h1 h2 h3 h4 h5 h6 h7 =
-    before_rest n0 a n1 (b ++ (c ++ (d ++ (e ++ (f ++ g))))) n7 h1
-    (before_rest n1 b n2 (c ++ (d ++ (e ++ (f ++ g)))) n7 h2
-    (before_rest n2 c n3 (d ++ (e ++ (f ++ g))) n7 h3
-    (before_rest n3 d n4 (e ++ (f ++ g)) n7 h4
-    (before_rest n4 e n5 (f ++ g) n7 h5
-    (before_rest n5 f n6 g n7 h6 h7)))))
+    let s2 : n2 ≡ n0 ++ (a ++ b) = before_rest n0 a n1 b n2 h1 h2 in
+    let s3 : n3 ≡ n0 ++ ((a ++ b) ++ c) = before_rest n0 (a ++ b) n2 c n3 s2 h3 in
+    let s4 : n4 ≡ n0 ++ (((a ++ b) ++ c) ++ d) = before_rest n0 ((a ++ b) ++ c) n3 d n4 s3 h4 in
+    let s5 : n5 ≡ n0 ++ ((((a ++ b) ++ c) ++ d) ++ e) = before_rest n0 (((a ++ b) ++ c) ++ d) n4 e n5 s4 h5 in
+    let s6 : n6 ≡ n0 ++ (((((a ++ b) ++ c) ++ d) ++ e) ++ f) = before_rest n0 ((((a ++ b) ++ c) ++ d) ++ e) n5 f n6 s5 h6 in
+    before_rest n0 (((((a ++ b) ++ c) ++ d) ++ e) ++ f) n6 g n7 s6 h7
 
 -- ---- entries
 
@@ -136,6 +136,7 @@ entry_written ss count n pairs i kept journal picks now after e is at same made 
 pub count_is : {A : Type 0} (pairs : List (KeptListings A × Vec ℕ A)) (n : ℕ) → n ≡ length pairs → n ≡ length (answer_entries kept_seen pairs)
 count_is pairs n is = is ∙ sym (length-map pairs (answer_entry kept_seen))
 
-pub answer_text : (x0 x1 x2 x3 a b : List ℕ) (closing : ℕ → List ℕ) (n m : ℕ) → x0 ≡ [] → x1 ≡ x0 ++ a → x2 ≡ x1 ++ b → x3 ≡ x2 ++ closing n → n ≡ m → x3 ≡ a ++ (b ++ closing m)
+pub answer_text : (x0 x1 x2 x3 a b : List ℕ) (closing : ℕ → List ℕ) (n m : ℕ) → x0 ≡ [] → x1 ≡ x0 ++ a → x2 ≡ x1 ++ b → x3 ≡ x2 ++ closing n → n ≡ m → x3 ≡ (a ++ b) ++ closing m
 answer_text x0 x1 x2 x3 a b closing n m none first second third same =
-    before_rest x0 a x1 (b ++ closing n) x3 first (before_rest x1 b x2 (closing n) x3 second third) ∙ ap (λ x. x ++ (a ++ (b ++ closing n))) none ∙ ap (λ k. a ++ (b ++ closing k)) same
+    let both : x2 ≡ x0 ++ (a ++ b) = before_rest x0 a x1 b x2 first second in
+    before_rest x0 (a ++ b) x2 (closing n) x3 both third ∙ ap (λ x. x ++ ((a ++ b) ++ closing n)) none ∙ ap (λ k. (a ++ b) ++ closing k) same

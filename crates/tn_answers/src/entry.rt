@@ -21,7 +21,10 @@ pub struct SessionName<A: Allocator> {
 }
 
 /// Appends a number.
-pub(crate) fn put_number<B: Allocator>(number: usize, out: &mut Vec<u8, B>) -> Result<(), AllocError>
+pub(crate) fn put_number<B: Allocator>(
+    number: usize,
+    out: &mut Vec<u8, B>,
+) -> Result<(), AllocError>
     ensures { OnOk result (out.new.items ≡ out.old.items ++ decimal number) }
 {
     let mut buffer = Buffer::new();

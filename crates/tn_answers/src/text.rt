@@ -22,7 +22,7 @@ fn put_entry_at<A: Allocator, B: Allocator>(
     requires { place.0 < place.1 }
     ensures { let ss = map session_seen sessions.now in let es = answer_entries kept_seen answers.now.entries in
         OnOk result ((e : RestEntry) → slice_get es place.0 ≡ Some e →
-            out.new.items ≡ out.old.items ++ rest_entry_text ss place.1 (place.0 + 1) e) }
+        out.new.items ≡ out.old.items ++ rest_entry_text ss place.1 (place.0 + 1) e) }
 {
     let Some((kept, journal)) = answers.get_index(place.0) else {
         return Ok(());
@@ -59,12 +59,17 @@ pub fn exploration_text<A: Allocator + Copy>(
 ) -> Result<Vec<u8, A>, AllocError>
     ensures { let es = answer_entries kept_seen exploration.now.answers.entries in
         IfOk result (λ v. v.items ≡ exploration_text (map session_seen sessions.now) es
-            exploration.now.states exploration.now.is_complete) }
+        exploration.now.states exploration.now.is_complete) }
 {
     let mut text = Vec::new(alloc);
     put_entries(sessions, &exploration.answers, &mut text)?;
     text.extend_from_slice(b"== explored\n")?;
     let count = exploration.answers.len();
-    put_closing(exploration.states, count, exploration.is_complete, &mut text)?;
+    put_closing(
+        exploration.states,
+        count,
+        exploration.is_complete,
+        &mut text,
+    )?;
     Ok(text)
 }
