@@ -2,7 +2,7 @@
 ghost use Rattle.std.specs.Prelude.{◌≡◌, map, IfOk};
 ghost use Rattle.tn_messages.specs.MessageViews.{kept_seen};
 ghost use Rattle.tn_explore.specs.Searches.{answer_entries};
-ghost use Rattle.tn_answers.specs.Listed.{session_seen};
+ghost use Rattle.tn_answers.specs.AnswerViews.{session_name_seen};
 
 use std::alloc::{AllocError, Allocator};
 use tn_answers::SessionName;
@@ -19,7 +19,7 @@ pub fn exploration_text<A: Allocator + Copy>(
     Result<Vec<u8, A>, AllocError>,
     Result<Vec<u8, A>, AllocError>,
 )
-    requires sessions { map session_seen sessions.entry.0.now ≡ map session_seen sessions.entry.1.now }
+    requires sessions { map session_name_seen sessions.entry.0.now ≡ map session_name_seen sessions.entry.1.now }
     requires entries { answer_entries kept_seen one.now.answers.entries ≡
         answer_entries kept_seen other.now.answers.entries }
     requires states { one.now.states ≡ other.now.states }

@@ -4,14 +4,13 @@ ghost use Rattle.def_run.specs.Listing.{header_line};
 ghost use Rattle.def_explore.specs.Rests.{kept_messages, kept_by_process};
 ghost use Rattle.def_explore.specs.Output.{entry_line, rest_entry_text, kept_listings, session_texts, spaced_picks};
 ghost use Rattle.tn_messages.specs.MessageViews.{kept_seen, trees_seen, lists_seen};
-ghost use Rattle.tn_answers.specs.Listed.{session_seen};
+ghost use Rattle.tn_answers.specs.AnswerViews.{session_name_seen};
 
 use crate::lines::Listing;
-use itoa::Buffer;
 use std::alloc::{AllocError, Allocator};
 use tn_messages::{KeptListings, MessageList};
 use tn_term::Atom;
-use tn_text::write_atom;
+use tn_text::{write_atom, write_decimal};
 
 /// A session that an exploration is about, with its tracer.
 #[derive(Drop)]
@@ -20,25 +19,12 @@ pub struct SessionName<A: Allocator> {
     pub tracer: Atom<A>,
 }
 
-/// Appends a number.
-pub(crate) fn put_number<B: Allocator>(
-    number: usize,
-    out: &mut Vec<u8, B>,
-) -> Result<(), AllocError>
-    ensures { OnOk result (out.new.items ≡ out.old.items ++ decimal number) }
-{
-    let mut buffer = Buffer::new();
-    out.extend_from_slice(buffer.format(number).as_bytes())?;
-    Ok(())
-}
-
 /// Appends a space and the number of a pick.
 fn put_pick<B: Allocator>(pick: u32, out: &mut Vec<u8, B>) -> Result<(), AllocError>
     ensures { OnOk result (out.new.items ≡ out.old.items ++ 32 ∷ decimal pick) }
 {
-    let mut buffer = Buffer::new();
     out.push(b' ')?;
-    out.extend_from_slice(buffer.format(pick).as_bytes())?;
+    write_decimal(pick, out)?;
     Ok(())
 }
 
@@ -62,9 +48,9 @@ fn put_entry_line<B: Allocator>(
     ensures { OnOk result (out.new.items ≡ out.old.items ++ entry_line number count journal.now) }
 {
     out.extend_from_slice(b"== listing ")?;
-    put_number(number, out)?;
+    write_decimal(number, out)?;
     out.extend_from_slice(b" of ")?;
-    put_number(count, out)?;
+    write_decimal(count, out)?;
     out.extend_from_slice(b": journal")?;
     put_picks(journal, out)?;
     out.push(b'\n')?;
@@ -93,7 +79,7 @@ fn put_sessions<A: Allocator, L: Listing, B: Allocator>(
     out: &mut Vec<u8, B>,
 ) -> Result<(), AllocError>
     ensures { OnOk result (out.new.items ≡ out.old.items ++
-        session_texts (map session_seen sessions.now) (map L.listed listings.now)) }
+        session_texts (map session_name_seen sessions.now) (map L.listed listings.now)) }
 {
     for i in 0..sessions.len().min(listings.len()) {
         put_header(&sessions[i], out)?;
@@ -108,8 +94,8 @@ fn put_total<A: Allocator, B: Allocator>(
     listings: &Vec<MessageList<A>, A>,
     out: &mut Vec<u8, B>,
 ) -> Result<(), AllocError>
-    ensures { let ss = map session_seen sessions.now in let all = kept_messages (map trees_seen listings.now.items) in
-        OnOk result (out.new.items ≡ out.old.items ++ session_texts ss (kept_listings all)) }
+    ensures { let all = kept_messages (map trees_seen listings.now.items) in OnOk result (out.new.items ≡
+        out.old.items ++ session_texts (map session_name_seen sessions.now) (kept_listings all)) }
 {
     put_sessions(sessions, listings, out)
 }
@@ -120,8 +106,8 @@ fn put_by_process<A: Allocator, B: Allocator>(
     listings: &Vec<Vec<MessageList<A>, A>, A>,
     out: &mut Vec<u8, B>,
 ) -> Result<(), AllocError>
-    ensures { let ss = map session_seen sessions.now in let all = kept_by_process (map lists_seen listings.now.items) in
-        OnOk result (out.new.items ≡ out.old.items ++ session_texts ss (kept_listings all)) }
+    ensures { let all = kept_by_process (map lists_seen listings.now.items) in OnOk result (out.new.items ≡
+        out.old.items ++ session_texts (map session_name_seen sessions.now) (kept_listings all)) }
 {
     put_sessions(sessions, listings, out)
 }
@@ -133,7 +119,7 @@ fn put_kept<A: Allocator, B: Allocator>(
     out: &mut Vec<u8, B>,
 ) -> Result<(), AllocError>
     ensures { OnOk result (out.new.items ≡ out.old.items ++
-        session_texts (map session_seen sessions.now) (kept_listings (kept_seen kept.now))) }
+        session_texts (map session_name_seen sessions.now) (kept_listings (kept_seen kept.now))) }
 {
     match kept {
         KeptListings::Total(listings) => put_total(sessions, listings, out),
@@ -150,7 +136,7 @@ pub(crate) fn put_entry<A: Allocator, B: Allocator>(
     out: &mut Vec<u8, B>,
 ) -> Result<(), AllocError>
     requires { place.0 < place.1 }
-    ensures { OnOk result (out.new.items ≡ out.old.items ++ rest_entry_text (map session_seen sessions.now)
+    ensures { OnOk result (out.new.items ≡ out.old.items ++ rest_entry_text (map session_name_seen sessions.now)
         place.1 (place.0 + 1) (record { kept = kept_seen kept.now; journal = journal.now })) }
 {
     put_entry_line(place.0 + 1, place.1, journal, out)?;

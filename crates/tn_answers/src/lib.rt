@@ -4,8 +4,8 @@
 //! `exploration_text` is the defined text.
 #![tactic(auto)]
 
-mod closing;
 mod entry;
+mod last_line;
 mod lines;
 mod text;
 

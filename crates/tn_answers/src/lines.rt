@@ -67,7 +67,7 @@ fn put_processes<A: Allocator, B: Allocator>(
 }
 
 impl<A: Allocator> Listing for Vec<MessageList<A>, A> {
-    ghost use Rattle.tn_answers.specs.Listed.{processes_listed};
+    ghost use Rattle.tn_answers.specs.AnswerViews.{processes_listed};
 
     ghost listed = { processes_listed };
 

@@ -4,10 +4,10 @@ ghost use Rattle.def_explore.specs.Answers.{RestEntry};
 ghost use Rattle.def_explore.specs.Output.{rest_entry_text, rest_entry_texts, exploration_text};
 ghost use Rattle.tn_explore.specs.Searches.{answer_entries};
 ghost use Rattle.tn_messages.specs.MessageViews.{kept_seen};
-ghost use Rattle.tn_answers.specs.Listed.{session_seen};
+ghost use Rattle.tn_answers.specs.AnswerViews.{session_name_seen};
 
-use crate::closing::put_closing;
 use crate::entry::{SessionName, put_entry};
+use crate::last_line::put_closing;
 use std::alloc::{AllocError, Allocator};
 use tn_explore::{Answers, Exploration};
 use tn_messages::KeptListings;
@@ -20,7 +20,7 @@ fn put_entry_at<A: Allocator, B: Allocator>(
     out: &mut Vec<u8, B>,
 ) -> Result<(), AllocError>
     requires { place.0 < place.1 }
-    ensures { let ss = map session_seen sessions.now in let es = answer_entries kept_seen answers.now.entries in
+    ensures { let ss = map session_name_seen sessions.now in let es = answer_entries kept_seen answers.now.entries in
         OnOk result ((e : RestEntry) → slice_get es place.0 ≡ Some e →
         out.new.items ≡ out.old.items ++ rest_entry_text ss place.1 (place.0 + 1) e) }
 {
@@ -37,7 +37,7 @@ fn put_entries<A: Allocator, B: Allocator>(
     answers: &Answers<A, KeptListings<A>>,
     out: &mut Vec<u8, B>,
 ) -> Result<(), AllocError>
-    ensures { let ss = map session_seen sessions.now in let es = answer_entries kept_seen answers.now.entries in
+    ensures { let ss = map session_name_seen sessions.now in let es = answer_entries kept_seen answers.now.entries in
         OnOk result (out.new.items ≡ out.old.items ++ rest_entry_texts ss (length es) 1 es) }
 {
     let count = answers.len();
@@ -58,7 +58,7 @@ pub fn exploration_text<A: Allocator + Copy>(
     exploration: &Exploration<A, KeptListings<A>>,
 ) -> Result<Vec<u8, A>, AllocError>
     ensures { let es = answer_entries kept_seen exploration.now.answers.entries in
-        IfOk result (λ v. v.items ≡ exploration_text (map session_seen sessions.now) es
+        IfOk result (λ v. v.items ≡ exploration_text (map session_name_seen sessions.now) es
         exploration.now.states exploration.now.is_complete) }
 {
     let mut text = Vec::new(alloc);

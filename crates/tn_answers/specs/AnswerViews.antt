@@ -13,5 +13,5 @@ abbrev pub processes_listed : {A : Type 0} → Vec (Vec (SharedMessage A) A) A �
 processes_listed v = flat_map (λ ms. ms) (lists_seen v)
 
 -- a session's name and tracer
-abbrev pub session_seen : {A : Type 0} → SessionName A → Name × Name
-session_seen s = (s.name, s.tracer)
+abbrev pub session_name_seen : {A : Type 0} → SessionName A → Name × Name
+session_name_seen s = (s.name, s.tracer)

@@ -2,8 +2,8 @@
 ghost use Rattle.std.specs.Prelude.{◌≡◌, ◌++◌, ℕ, OnOk, true, false};
 ghost use Rattle.def_explore.specs.Output.{closing_line, exploration_end_text};
 
-use crate::entry::put_number;
 use std::alloc::{AllocError, Allocator};
+use tn_text::write_decimal;
 
 /// Appends a number and the word for one, with an s where it isn't one.
 fn put_counted<B: Allocator>(
@@ -13,7 +13,7 @@ fn put_counted<B: Allocator>(
 ) -> Result<(), AllocError>
     ensures { OnOk result (out.new.items ≡ out.old.items ++ exploration_end_text number word.now) }
 {
-    put_number(number, out)?;
+    write_decimal(number, out)?;
     out.push(b' ')?;
     out.extend_from_slice(word)?;
     if number != 1 {

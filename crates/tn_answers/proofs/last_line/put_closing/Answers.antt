@@ -1,6 +1,6 @@
 use Rattle.std.proofs.Common.{◌≡◌, ◌++◌, OnOk, sym, subst}
 use Rattle.def_explore.specs.Output.{closing_line}
-use Rattle.tn_answers.proofs.closing.put_closing.Goals as goal
+use Rattle.tn_answers.proofs.last_line.put_closing.Goals as goal
 
 pub returns-else-is_complete : goal.returns-else-is_complete
 returns-else-is_complete g c =
