@@ -2,7 +2,7 @@
 ghost use Rattle.std.specs.Prelude.{◌≡◌, IfOk, map};
 ghost use Rattle.def_script.specs.Script.{creations};
 ghost use Rattle.tn_program.specs.Views.{program_of};
-ghost use Rattle.tn_answers.specs.Listed.{session_seen};
+ghost use Rattle.tn_answers.specs.AnswerViews.{session_name_seen};
 ghost use Rattle.tn_search.specs.Sessions.{elements_at};
 ghost use Rattle.tn_exploration.specs.Requests.{places_of};
 
@@ -42,7 +42,7 @@ pub(crate) fn names_at<A: Allocator + Copy>(
     program: &Program<A>,
     places: &[usize],
 ) -> Result<Vec<SessionName<A>, A>, AllocError>
-    ensures { IfOk result (λ v. map session_seen v.items ≡
+    ensures { IfOk result (λ v. map session_name_seen v.items ≡
         elements_at places.now (creations (program_of program.now).commands)) }
 {
     let mut names = Vec::new(alloc);
