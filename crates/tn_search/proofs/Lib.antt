@@ -3,3 +3,4 @@ pub mod Sessions
 pub mod Places
 pub mod Probes
 pub mod Steps
+pub mod Gathers
