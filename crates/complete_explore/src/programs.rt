@@ -23,7 +23,7 @@ pub fn explore_program<A: Allocator + Copy>(
     places: &[usize],
     max_states: usize,
 ) -> (ProgramResult<A>, ProgramResult<A>)
-    requires { program_of programs.entry.0.now ≡ program_of programs.entry.1.now }
+    requires { program_of programs.0.now ≡ program_of programs.1.now }
     ensures { IfOk result.0 (λ e. IfOk result.1 (ExploreAlike kept_seen e)) }
 {
     let first = tn_search::explore_program(alloc, programs.0, before, order, places, max_states);
