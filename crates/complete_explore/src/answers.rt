@@ -19,7 +19,7 @@ pub fn exploration_text<A: Allocator + Copy>(
     Result<Vec<u8, A>, AllocError>,
     Result<Vec<u8, A>, AllocError>,
 )
-    requires sessions { map session_name_seen sessions.entry.0.now ≡ map session_name_seen sessions.entry.1.now }
+    requires sessions { map session_name_seen sessions.0.now ≡ map session_name_seen sessions.1.now }
     requires entries { answer_entries kept_seen one.now.answers.entries ≡
         answer_entries kept_seen other.now.answers.entries }
     requires states { one.now.states ≡ other.now.states }

@@ -1,12 +1,12 @@
 -- Texts of the elements of a list, one after another.
-use Rattle.std.proofs.Common.{◌≡◌, ◌∙◌, ℕ, zero, suc, ◌+◌, ◌<◌, ◌≤◌, List, [], ◌∷◌, ◌++◌, length, drop, map, flat_map, get_or, min, Option, Some, None, refl, sym, ap, append_assoc, append-nil, arith, add-one}
+use Rattle.std.proofs.Common.{◌≡◌, ◌∙◌, ℕ, zero, suc, ◌+◌, ◌<◌, ◌≤◌, List, [], ◌∷◌, ◌++◌, length, drop, map, flat_map, get_or, min, Some, None, refl, sym, ap, append_assoc, append-nil, arith, add-one}
 use Rattle.std.proofs.lemmas.Grind.{flat_map-append}
 use Rattle.std.specs.Prelude.{slice_get}
 use Rattle.std.specs.declared.vec.Vec.{Vec}
 use Rattle.std.proofs.lemmas.List.{drop_more, drop_all, get_or_default, length-map}
 use Rattle.def_term.specs.Names.{Name}
 use Rattle.def_term.specs.Tree.{Tree}
-use Rattle.def_run.specs.Listing.{header_line, lines_of, line_of}
+use Rattle.def_run.specs.Listing.{header_line, lines_of}
 use Rattle.def_explore.specs.Rests.{kept_messages}
 use Rattle.def_explore.specs.Answers.{RestEntry}
 use Rattle.def_explore.specs.Output.{session_texts, rest_entry_text, rest_entry_texts}
