@@ -21,7 +21,7 @@ use Rattle.tn_messages.proofs.SessionLists.{kept_two}
 use Rattle.tn_trace.specs.Tracks.{Track, track_after, tracks_from, tracks_of}
 use Rattle.tn_trace.specs.Slots.{IsTracked, EachPair}
 use Rattle.tn_trace.specs.declared.slot.Slot.{Slot}
-use Rattle.tn_search.specs.Sessions.{IsSameTrack, IsSameSlot, AreSameAt, element_at, elements_at, names_at, AreKept, track_messages, AddsKept}
+use Rattle.tn_search.specs.Sessions.{IsSameTrack, IsSameSlot, AreSameAt, element_at, elements_at, names_at, AreSinksOf, track_messages, AddsKept}
 
 -- ---- the session at a place
 
@@ -135,14 +135,14 @@ some_beside P (suc n) s (t ∷ ts) (x ∷ ss) h e = some_beside P n s ts ss h.1 
 pub none_added : {A K : Type 0} (Keeps : K → List Tree → Type 0) (n : ℕ) (slots : List (Slot A K)) (old : List K) → slice_get slots n ≡ None → AddsKept Keeps n slots old old
 none_added Keeps n slots old past o living ts mss h kept =
     let none : slice_get ts n ≡ None = none_beside (IsTracked Keeps o living) n ts slots h past in
-    subst (λ xs. AreKept Keeps xs old) (sym (ap (λ x. mss ++ track_messages (option_to_list x)) none ∙ append-nil mss)) kept
+    subst (λ xs. AreSinksOf Keeps xs old) (sym (ap (λ x. mss ++ track_messages (option_to_list x)) none ∙ append-nil mss)) kept
 
 pub one_added : {A K : Type 0} (Keeps : K → List Tree → Type 0) (n : ℕ) (slots : List (Slot A K)) (slot : Slot A K) (old new : List K) (sink : K) → slice_get slots n ≡ Some slot → new ≡ old ++ sink ∷ []
     → ((ms : List Tree) → Keeps slot.kept ms → Keeps sink ms) → AddsKept Keeps n slots old new
 one_added Keeps n slots slot old new sink at longer shares o living ts mss h kept =
     let r = some_beside (IsTracked Keeps o living) n slot ts slots h at in
-    subst (λ xs. AreKept Keeps xs new) (sym (ap (λ x. mss ++ track_messages (option_to_list x)) r.1))
-    (subst (AreKept Keeps (mss ++ r.0.messages ∷ [])) (sym longer) (pair_last (λ ms k. Keeps k ms) mss old r.0.messages sink kept (shares r.0.messages r.2.kept)))
+    subst (λ xs. AreSinksOf Keeps xs new) (sym (ap (λ x. mss ++ track_messages (option_to_list x)) r.1))
+    (subst (AreSinksOf Keeps (mss ++ r.0.messages ∷ [])) (sym longer) (pair_last (λ ms k. Keeps k ms) mss old r.0.messages sink kept (shares r.0.messages r.2.kept)))
 
 elements_more : {X : Type 0} (ns : List ℕ) (n : ℕ) (xs : List X) → elements_at (ns ++ n ∷ []) xs ≡ elements_at ns xs ++ element_at n xs
 elements_more [] n xs = append-nil (element_at n xs)
@@ -151,7 +151,7 @@ elements_more (m ∷ ns) n xs = ap (λ ys. element_at m xs ++ ys) (elements_more
 -- the messages of the sessions at the first of some places
 abbrev KeptUpTo : {A K : Type 0} → (K → List Tree → Type 0) → List ℕ → List (Slot A K) → List K → Type 0
 KeptUpTo Keeps places slots sinks =
-    (o : Exports) (living : Alive) (ts : List Track) → EachPair (IsTracked Keeps o living) ts slots → AreKept Keeps (track_messages (elements_at places ts)) sinks
+    (o : Exports) (living : Alive) (ts : List Track) → EachPair (IsTracked Keeps o living) ts slots → AreSinksOf Keeps (track_messages (elements_at places ts)) sinks
 
 pub none_kept : {A K : Type 0} (Keeps : K → List Tree → Type 0) (slots : List (Slot A K)) → KeptUpTo Keeps [] slots []
 none_kept Keeps slots o living ts h = tt
@@ -159,7 +159,7 @@ none_kept Keeps slots o living ts h = tt
 pub kept_more : {A K : Type 0} (Keeps : K → List Tree → Type 0) (places : List ℕ) (i : ℕ) (slots : List (Slot A K)) (old new : List K) → i < length places → AddsKept Keeps (get_or places i 0) slots old new → KeptUpTo Keeps (take i places) slots old
     → KeptUpTo Keeps (take (i + 1) places) slots new
 kept_more Keeps places i slots old new below adds so_far o living ts h =
-    subst (λ xs. AreKept Keeps xs new)
+    subst (λ xs. AreSinksOf Keeps xs new)
     (sym (ap (λ ns. track_messages (elements_at ns ts)) (take_more places i 0 below) ∙ ap track_messages (elements_more (take i places) (get_or places i 0) ts) ∙ map-append (λ (t : Track). t.messages) (elements_at (take i places) ts) (element_at (get_or places i 0) ts)))
     (adds o living ts (track_messages (elements_at (take i places) ts)) h (so_far o living ts h))
 

@@ -35,7 +35,7 @@ use Rattle.tn_explore.specs.SearchStates.{StepGives}
 use Rattle.tn_messages.specs.MessageViews.{question_of, kept_lists}
 use Rattle.tn_messages.proofs.SessionLists.{kept_of_lists}
 use Rattle.tn_search.specs.Probes.{IsNodeAfter, HasMovesAmong}
-use Rattle.tn_search.specs.Sessions.{AreSameAt, AreKeptAt, AreKept, names_at, elements_at, track_messages}
+use Rattle.tn_search.specs.Sessions.{AreSameAt, AreKeptAt, AreSinksOf, names_at, elements_at, track_messages}
 use Rattle.tn_search.specs.States.{IsStateFor, state_journal, query_of}
 use Rattle.tn_search.specs.declared.program_state.ProgramState.{ProgramState}
 use Rattle.tn_search.proofs.Places.{alike_at, messages_at}
@@ -118,7 +118,7 @@ module _ {A K : Type 0} (Keeps : K → List Tree → Type 0) (b : Bool) (s : Pro
 
   -- ---- what is kept
 
-  pub observed : (sinks : List K) (kept : KeptMessages) → AreKeptAt Keeps s.places.now s.run.observer.slots.items sinks → ((mss : List (List Tree)) → AreKept Keeps mss sinks → kept ≡ kept_lists b mss) → kept ≡ kept_for a (state_journal s)
+  pub observed : (sinks : List K) (kept : KeptMessages) → AreKeptAt Keeps s.places.now s.run.observer.slots.items sinks → ((mss : List (List Tree)) → AreSinksOf Keeps mss sinks → kept ≡ kept_lists b mss) → kept ≡ kept_for a (state_journal s)
   observed sinks kept at gathers =
       let p : Program = a.program in
       let mss : List (List Tree) = track_messages (elements_at s.places.now (tracks_of p (state_journal s))) in

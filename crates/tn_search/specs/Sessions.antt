@@ -52,8 +52,8 @@ abbrev pub names_at : Program → List ℕ → List Name
 names_at p places = map (λ s. s.0) (elements_at places (creations p.commands))
 
 -- these are what is kept of these lists of messages
-abbrev pub AreKept : {K : Type 0} → (K → List Tree → Type 0) → List (List Tree) → List K → Type 0
-AreKept Keeps mss sinks = EachPair (λ ms k. Keeps k ms) mss sinks
+abbrev pub AreSinksOf : {K : Type 0} → (K → List Tree → Type 0) → List (List Tree) → List K → Type 0
+AreSinksOf Keeps mss sinks = EachPair (λ ms k. Keeps k ms) mss sinks
 
 -- those of some sessions
 abbrev pub track_messages : List Track → List (List Tree)
@@ -62,10 +62,10 @@ track_messages ts = map (λ t. t.messages) ts
 -- the messages of the session at this place come after others
 abbrev pub AddsKept : {A K : Type 0} → (K → List Tree → Type 0) → ℕ → List (Slot A K) → List K → List K → Type 0
 AddsKept Keeps n slots old new =
-    (o : Exports) (living : Alive) (ts : List Track) (mss : List (List Tree)) → EachPair (IsTracked Keeps o living) ts slots → AreKept Keeps mss old
-    → AreKept Keeps (mss ++ track_messages (element_at n ts)) new
+    (o : Exports) (living : Alive) (ts : List Track) (mss : List (List Tree)) → EachPair (IsTracked Keeps o living) ts slots → AreSinksOf Keeps mss old
+    → AreSinksOf Keeps (mss ++ track_messages (element_at n ts)) new
 
 -- what is kept of the messages of the sessions at these places
 abbrev pub AreKeptAt : {A K : Type 0} → (K → List Tree → Type 0) → List ℕ → List (Slot A K) → List K → Type 0
 AreKeptAt Keeps places slots sinks =
-    (o : Exports) (living : Alive) (ts : List Track) → EachPair (IsTracked Keeps o living) ts slots → AreKept Keeps (track_messages (elements_at places ts)) sinks
+    (o : Exports) (living : Alive) (ts : List Track) → EachPair (IsTracked Keeps o living) ts slots → AreSinksOf Keeps (track_messages (elements_at places ts)) sinks

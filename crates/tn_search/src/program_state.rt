@@ -27,8 +27,7 @@ fn moves_by<A: Allocator + Copy>(node: &mut Node<A>, pick: u32) -> Result<bool, 
 {
     match node.step(pick)? {
         Moved::Idle => Ok(false),
-        Moved::Control(_) => Ok(true),
-        Moved::Moved(_) => Ok(true),
+        _ => Ok(true),
     }
 }
 
@@ -136,5 +135,7 @@ impl<A: Allocator + Copy, K: SearchSink<A> + Drop> SearchState<A> for ProgramSta
         Ok(copy)
     }
 
-    ghost equals_by_kept = { by_kept ⟦<KeptListings<A> as PartialEq>⟧.eq (λ v w. refl) (λ v w. refl) (λ v w. refl) (λ v w. refl) };
+    ghost equals_by_kept = {
+        by_kept ⟦<KeptListings<A> as PartialEq>⟧.eq (λ v w. refl) (λ v w. refl) (λ v w. refl) (λ v w. refl)
+    };
 }
