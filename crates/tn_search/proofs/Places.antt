@@ -118,7 +118,8 @@ pair_last P (y ∷ ts) [] t s h p = absurd h
 pair_last P (y ∷ ts) (x ∷ ss) t s h p = (h.0, pair_last P ts ss t s h.1 p)
 
 none_beside : {T S : Type 0} (P : T → S → Type 0) (n : ℕ) (ts : List T) (ss : List S) → EachPair P ts ss → slice_get ss n ≡ None → slice_get ts n ≡ None
-none_beside P n [] [] h e = e
+none_beside P zero [] [] h e = refl
+none_beside P (suc n) [] [] h e = refl
 none_beside P n [] (s ∷ ss) h e = absurd h
 none_beside P n (t ∷ ts) [] h e = absurd h
 none_beside P zero (t ∷ ts) (s ∷ ss) h e = cc

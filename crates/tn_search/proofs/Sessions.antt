@@ -38,8 +38,8 @@ pub both_same : {A : Type 0} (one other : Session A) (b : Bool) → (IsTrue b �
 both_same one other b same says fs living others s t there settings h k =
     session_is s t settings (some_processes (processes_in s) (processes_in t) (sym (ap processes_of h) ∙ same says ∙ ap processes_of k))
 
-pub none_same : {A : Type 0} → IsSameSession {A = A} None None true
-none_same says fs living others s t there settings h k = h ∙ ap (new_session absent) there ∙ sym k
+pub none_same : (A : Type 0) → IsSameSession {A = A} None None true
+none_same A says fs living others s t there settings h k = h ∙ ap (new_session absent) there ∙ sym k
 
 pub not_same : {A : Type 0} (one other : Option (Session A)) → IsSameSession one other false
 not_same one other says = absurd (let e : false ≡ true = says in cc)
@@ -49,7 +49,7 @@ pub created_same : {A : Type 0} (first second : Option (Session A)) (one other :
 created_same first second one other b is also same = subst (λ x. IsSameSession x second b) (sym is) (subst (λ x. IsSameSession (Some one) x b) (sym also) (both_same one other b same))
 
 pub absent_same : {A : Type 0} (first second : Option (Session A)) (b : Bool) → first ≡ None → b ≡ is_none second → IsSameSession first second b
-absent_same first None b is says = subst (λ x. IsSameSession x None b) (sym is) (subst (IsSameSession None None) (sym says) none_same)
+absent_same {A} first None b is says = subst (λ x. IsSameSession x None b) (sym is) (subst (IsSameSession {A = A} None None) (sym says) (none_same A))
 absent_same first (Some other) b is says = subst (IsSameSession first (Some other)) (sym says) (not_same first (Some other))
 
 pub slot_same : {A K : Type 0} (Keeps : K → List Tree → Type 0) (b : Bool) (one other : Slot A K) → IsSameSession one.session other.session true → KeepSame Keeps b one.kept other.kept true → IsSameSlot Keeps b one other
