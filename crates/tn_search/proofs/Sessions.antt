@@ -1,6 +1,7 @@
 -- Sessions of the code that events left in the same state.
 use Rattle.std.proofs.Common.{◌≡◌, ◌∙◌, ◌+◌, ◌<◌, ℕ, Bool, true, false, List, [], ◌∷◌, ◌++◌, length, take, get_or, Option, Some, None, IsTrue, refl, sym, ap, subst}
-use Rattle.std.specs.Prelude.{is_none}
+use Rattle.std.specs.Prelude.{is_none, not}
+use Rattle.std.specs.Option.{is_some}
 use Rattle.std.proofs.lemmas.List.{take_more}
 use Rattle.def_term.specs.Alive.{Alive}
 use Rattle.def_term.specs.Names.{Mfa}
@@ -43,6 +44,11 @@ none_same A says fs living others s t there settings h k = h ∙ ap (new_session
 
 pub not_same : {A : Type 0} (one other : Option (Session A)) → IsSameSession one other false
 not_same one other says = absurd (let e : false ≡ true = says in cc)
+
+-- none is there where some isn't
+pub none_says : {X : Type 0} (o : Option X) (b : Bool) → is_some o ≡ not b → b ≡ is_none o
+none_says o true h = ap not (sym h)
+none_says o false h = ap not (sym h)
 
 -- by what both are
 pub created_same : {A : Type 0} (first second : Option (Session A)) (one other : Session A) (b : Bool) → first ≡ Some one → second ≡ Some other → (IsTrue b → processes_of (value_in one) ≡ processes_of (value_in other)) → IsSameSession first second b
