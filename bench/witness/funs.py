@@ -112,14 +112,16 @@ class FunChooser:
         return "[" + self.joined(parts, ",") + "]"
 
     def head(self, names):
-        """A head."""
+        """A head; its variables are added to the names."""
+        if self.chooser.random() < 0.15:
+            names.append("All")
+            return "All"
         parts = [self.pattern(2, names) for _ in range(self.chooser.randrange(4))]
         listed = "[" + self.joined(parts, ",") + "]"
-        kind = self.chooser.random()
-        if kind < 0.7:
+        if self.chooser.random() < 0.8:
             return listed
         names.append("All")
-        return self.one(["All", f"All = {listed}", f"{listed} = All", "All"])
+        return self.one([f"All = {listed}", f"{listed} = All"])
 
     def expression(self, depth, names, calls):
         """An expression."""
