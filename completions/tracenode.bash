@@ -22,10 +22,13 @@ _tracenode() {
         case ${COMP_WORDS[0]} in
             */*) words+=' --prove --install --release' ;;
         esac
+    elif [ "$COMP_CWORD" -gt 2 ] && [ "${COMP_WORDS[COMP_CWORD - 2]}" = --expect-session ]; then
+        _tracenode_files "$word"
+        return
     else
         case $before in
             --picks | --moves | --limit | --n | --turns | --spread | --session | --move | --list | --me | --caller) return ;;
-            --expect-line | --reject-line | --max-output) return ;;
+            --expect-session | --expect-line | --reject-line | --max-output) return ;;
             --for)
                 COMPREPLY=($(compgen -W 'call send receive' -- "$word"))
                 return
@@ -34,26 +37,26 @@ _tracenode() {
                 COMPREPLY=($(compgen -W 'first' -- "$word"))
                 return
                 ;;
-            --picks-file | --moves-file | --expect | --install | --release)
+            --picks-file | --moves-file | --expect | --file | --install | --release)
                 _tracenode_files "$word"
                 return
                 ;;
         esac
         case $command in
             run)
-                words='--limit --quiet --summary --json'
+                words='--limit --quiet --summary --json --expect-session'
                 words+=' --expect --expect-line --reject-line --strict --max-output -h --help'
                 ;;
             replay)
-                words='--picks --picks-file --moves --moves-file --quiet --summary --json'
+                words='--picks --picks-file --moves --moves-file --quiet --summary --json --expect-session'
                 words+=' --expect --expect-line --reject-line --strict --max-output -h --help'
                 ;;
             round)
-                words='--limit --control --quiet --summary --json'
+                words='--limit --control --quiet --summary --json --expect-session'
                 words+=' --expect --expect-line --reject-line --strict --max-output -h --help'
                 ;;
             workers)
-                words='--n --turns --spread --quiet --summary --json'
+                words='--n --turns --spread --quiet --summary --json --expect-session'
                 words+=' --expect --expect-line --reject-line --strict --max-output -h --help'
                 ;;
             explain)
@@ -64,7 +67,7 @@ _tracenode() {
                 words='--picks --picks-file --moves --moves-file --round --limit --control --text'
                 words+=' --expect --expect-line --reject-line --strict --max-output -h --help'
                 ;;
-            spec) words='--list --for --me --caller --json -h --help' ;;
+            spec) words='--list --for --me --caller --json --file -h --help' ;;
             help) words='run replay round workers explain draw spec' ;;
         esac
     fi

@@ -1,5 +1,6 @@
 """Cases of the command line and of the start script: files, wrong words, help, builds, links and installations."""
 import datetime
+import difflib
 import hashlib
 import os
 import pathlib
@@ -8,8 +9,8 @@ import subprocess
 import tarfile
 import tempfile
 
-from harness import EMPTY, EXAMPLES, NO_FORMS, PROGRAM, SEND_HI, SEND_HI_OUTPUT, SEND_HI_PICKS, START, TEXT_BYTES, TOP
-from harness import check, note_of_nobody, run, wants
+from harness import EMPTY, EXAMPLES, NO_FORMS, PROGRAM, ROWS, SEND_HI, SEND_HI_OUTPUT, SEND_HI_PICKS, START
+from harness import TEXT_BYTES, TOP, check, note_of_nobody, run, wants
 from inventories import said_version
 
 
@@ -85,6 +86,11 @@ exit 7
         wanted = f"tn_cli round --expect {there}/b {there}/a.term --expect={there}/c=d --expect-line x"
         wanted += " --reject-line -y --max-output 9\n"
         check("files of an expectation where nothing is built", ran.stdout.decode() == wanted, ran)
+        ran = run(["workers", "--n", "1", "a.term", "--expect-session", "s", "b"], command=(str(top / "tracenode"),), env=path, cwd=folder)
+        wanted = f"tn_cli workers --n 1 {there}/a.term --expect-session s {there}/b\n"
+        check("the file of a listing where nothing is built", ran.stdout.decode() == wanted, ran)
+        ran = run(["spec", "--list", "[]", "--file", "b", "--file=c"], command=(str(top / "tracenode"),), env=path, cwd=folder)
+        check("the file of a specification where nothing is built", ran.stdout.decode() == f"tn_cli spec --list [] --file {there}/b --file={there}/c\n", ran)
         line = ["round", "--limit", "5", "/x/a.term"]
         ran = run(line, command=(str(top / "tracenode"),), env=path, cwd=folder)
         check("a whole path where nothing is built", ran.stdout == b"tn_cli round --limit 5 /x/a.term\n", ran)
@@ -305,22 +311,17 @@ def expectations():
                 wants(f"{name} without {line}", run([*words, "--expect-line", line], SEND_HI), 1, output, told)
                 wants(f"{name} rejects {line}", run([*words, "--reject-line", line], SEND_HI), 0, output, b"")
             number = output.count(b"\n")
-            last = output.splitlines()[-1]
             changed = output.replace(third.encode(), b"another", 1)
+            less = b"".join(output.splitlines(keepends=True)[:-1])
+            unprintable = aligned(changed, output).replace(b"-another\n", b"-(a line that isn't printable)\n")
             texts = {
-                "a line that differs": (changed, f"expected line 3: another\nfound line 3: {third}\n".encode()),
-                "bytes that differ": (output.replace(third.encode(), b"\xff", 1), b"line 3 differs\n"),
-                "a control character": (output.replace(third.encode(), b"a\x01", 1), b"line 3 differs\n"),
-                "one line more": (
-                    output + b"more\n",
-                    b"expected line %d: more\nfound the end of the output\n" % (number + 1),
-                ),
-                "one line less": (
-                    b"".join(output.splitlines(keepends=True)[:-1]),
-                    b"expected the end of the output\nfound line %d: %s\n" % (number, last),
-                ),
+                "a line that differs": (changed, aligned(changed, output)),
+                "bytes that differ": (output.replace(third.encode(), b"\xff", 1), unprintable),
+                "a control character": (output.replace(third.encode(), b"a\x01", 1), unprintable),
+                "one line more": (output + b"more\n", aligned(output + b"more\n", output)),
+                "one line less": (less, aligned(less, output)),
                 "no last line feed": (output[:-1], b"line %d differs in the line feed at its end\n" % number),
-                "no text": (b"", b"expected the end of the output\n" + found_lines(output)),
+                "no text": (b"", aligned(b"", output)),
             }
             for kind, (text, told) in texts.items():
                 other.write_bytes(text)
@@ -334,6 +335,15 @@ def expectations():
                 wants(f"{name} with {path} too long", run([*words, "--expect", path, "--max-output", str(bound)], SEND_HI), 3, b"", long)
             ran = run([*words, "--expect", str(whole), "--expect", str(whole)], SEND_HI)
             check(f"{name} with two outputs", ran.returncode == 2 and not ran.stdout and ran.stderr, ran)
+            both = ["--expect-line", first, "--expect-line", third, "--reject-line", "a", "--reject-line", "b"]
+            wants(f"{name} with two lines", run([*words, *both], SEND_HI), 0, output, b"")
+            both = ["--expect-line", first, "--expect-line", "a", "--expect-line", "b"]
+            wants(f"{name} without two lines", run([*words, *both], SEND_HI), 1, output, b"error: the output has no line a\n")
+            both = ["--reject-line", "a", "--reject-line", third, "--reject-line", first]
+            told = f"error: the output has the line {third}\n".encode()
+            wants(f"{name} rejects two lines", run([*words, *both], SEND_HI), 1, output, told)
+            told = b"error: the script and the expected output can't both be standard input\n"
+            wants(f"{name} with - twice", run([*words, "--expect", "-"], SEND_HI), 2, b"", told)
             ran = run([*words, "--expect-line", "no such line"], b"[")
             plain = run(words, b"[")
             seen = (ran.returncode, ran.stdout, ran.stderr)
@@ -344,17 +354,20 @@ def expectations():
         told = b"error: the output has no line absent\nerror: the output has the line == replies\n"
         check("all reasons", ran.returncode == 1 and ran.stderr.endswith(told) and b"more\n" in ran.stderr, ran)
     written_differences()
+    session_listings()
     ran = run(["spec", "--list", "[]", "--expect-line", "x", "[]"])
     check("a trial with an expectation", ran.returncode == 2 and not ran.stdout, ran)
 
 
-def found_lines(output):
-    """What is said of each line of an output of which no line is expected."""
-    return b"".join(b"found line %d: %s\n" % (number, line) for number, line in enumerate(output.splitlines(), 1))
+def aligned(expected, found):
+    """The alignment of two texts that differ in one place, by Python's own `difflib`."""
+    lines = [text.splitlines() for text in (expected, found)]
+    rows = difflib.diff_bytes(difflib.unified_diff, *lines, b"expected", b"found", n=2, lineterm=b"")
+    return b"".join(row + b"\n" for row in rows)
 
 
-# The text of a file that is expected, and the whole standard error of a run whose output differs from it; worked out by
-# hand from the seven lines of the run `send-hi`.
+# The text of a file that is expected, and the whole standard error of a run whose output differs from it, after the two
+# lines that say which sign is of which text; worked out by hand from the seven lines of the run `send-hi`.
 DIFFERENCES = (
     (
         "two lines that differ",
@@ -366,10 +379,15 @@ DIFFERENCES = (
 == journal
 0 0 100 100
 """,
-        """expected line 2: {trace,<0.100.0>,send,{hi,2},<0.101.0>}
-found line 2: {trace,<0.100.0>,send,{hi,1},<0.101.0>}
-expected line 4: {session,s2}
-found line 4: {session,s1}
+        """@@ -1,6 +1,6 @@
+ == session s1 tracer t1
+-{trace,<0.100.0>,send,{hi,2},<0.101.0>}
++{trace,<0.100.0>,send,{hi,1},<0.101.0>}
+ == replies
+-{session,s2}
++{session,s1}
+ 2
+ == journal
 """,
     ),
     (
@@ -381,8 +399,12 @@ found line 4: {session,s1}
 == journal
 0 0 100 100
 """,
-        """expected no line here
-found line 4: {session,s1}
+        """@@ -2,4 +2,5 @@
+ {trace,<0.100.0>,send,{hi,1},<0.101.0>}
+ == replies
++{session,s1}
+ 2
+ == journal
 """,
     ),
     (
@@ -396,8 +418,12 @@ found line 4: {session,s1}
 == journal
 0 0 100 100
 """,
-        """expected line 3: {trace,<0.100.0>,exit,normal}
-found no line here
+        """@@ -1,5 +1,4 @@
+ == session s1 tracer t1
+ {trace,<0.100.0>,send,{hi,1},<0.101.0>}
+-{trace,<0.100.0>,exit,normal}
+ == replies
+ {session,s1}
 """,
     ),
     (
@@ -411,10 +437,14 @@ found no line here
 == journal
 0 0 100 100
 """,
-        """expected line 5: 1
-found line 5: 2
-expected line 6: 0
-found no line here
+        """@@ -3,6 +3,5 @@
+ == replies
+ {session,s1}
+-1
+-0
++2
+ == journal
+ 0 0 100 100
 """,
     ),
     (
@@ -422,12 +452,36 @@ found no line here
         """== session s1 tracer t1
 {trace,<0.100.0>,send,{hi,1},<0.101.0>}
 """,
-        """expected the end of the output
-found line 3: == replies
-found line 4: {session,s1}
-found line 5: 2
-found line 6: == journal
-found line 7: 0 0 100 100
+        """@@ -1,2 +1,7 @@
+ == session s1 tracer t1
+ {trace,<0.100.0>,send,{hi,1},<0.101.0>}
++== replies
++{session,s1}
++2
++== journal
++0 0 100 100
+""",
+    ),
+    (
+        "a first and a last line more",
+        """first
+== session s1 tracer t1
+{trace,<0.100.0>,send,{hi,1},<0.101.0>}
+== replies
+{session,s1}
+2
+== journal
+0 0 100 100
+last
+""",
+        """@@ -1,3 +1,2 @@
+-first
+ == session s1 tracer t1
+ {trace,<0.100.0>,send,{hi,1},<0.101.0>}
+@@ -7,3 +6,2 @@
+ == journal
+ 0 0 100 100
+-last
 """,
     ),
     (
@@ -440,8 +494,11 @@ found line 7: 0 0 100 100
 == journal
 0 0 100 100 101
 """,
-        """expected line 7: 0 0 100 100 101
-found line 7: 0 0 100 100
+        """@@ -5,3 +5,3 @@
+ 2
+ == journal
+-0 0 100 100 101
++0 0 100 100
 """,
     ),
     (
@@ -454,20 +511,87 @@ found line 7: 0 0 100 100
 == journal
 0 0 100 100
 """,
-        """expected line 2: {trace,<0.100.0>,send,{hi,1},<0.101.0>} 
-found line 2: {trace,<0.100.0>,send,{hi,1},<0.101.0>}
+        """@@ -1,4 +1,4 @@
+ == session s1 tracer t1
+-{trace,<0.100.0>,send,{hi,1},<0.101.0>} 
++{trace,<0.100.0>,send,{hi,1},<0.101.0>}
+ == replies
+ {session,s1}
 """,
     ),
 )
 
+# Which sign is of which text.
+SIGNS = "--- expected\n+++ found\n"
+
+
+# The listings of the run `send-hi` that are expected, each with its status and what is said on standard error; worked out
+# by hand.
+LISTING = """== session s1 tracer t1
+{trace,<0.100.0>,send,{hi,1},<0.101.0>}
+"""
+LISTINGS = (
+    ("s1", LISTING, 0, ""),
+    ("'s1'", LISTING, 0, ""),
+    ("s1", LISTING[:-1], 0, ""),
+    ("s2", LISTING, 1, "error: the output has no listing of a session s2\n"),
+    ("s", LISTING, 1, "error: the output has no listing of a session s\n"),
+    ("S 1", "", 1, "error: the output has no listing of a session S 1\n"),
+    (
+        "s1",
+        "== session s1 tracer t1\n",
+        1,
+        "--- expected\n+++ found\n@@ -1,1 +1,2 @@\n == session s1 tracer t1\n+{trace,<0.100.0>,send,{hi,1},<0.101.0>}\n",
+    ),
+    (
+        "s1",
+        LISTING + "== replies\n",
+        1,
+        """--- expected
++++ found
+@@ -1,3 +1,2 @@
+ == session s1 tracer t1
+ {trace,<0.100.0>,send,{hi,1},<0.101.0>}
+-== replies
+""",
+    ),
+    ("s1", "", 1, "--- expected\n+++ found\n@@ -0,0 +1,2 @@\n" + "".join(f"+{line}\n" for line in LISTING.splitlines())),
+)
+
+
+def session_listings():
+    """Runs whose output has, or hasn't, the listing of a session that is expected."""
+    script = str(ROWS / "send-hi" / "stdin")
+    commands = [[*SEND_HI_PICKS, "--quiet", script], ["workers", "--n", "1", "--quiet", script]]
+    with tempfile.NamedTemporaryFile() as file:
+        for name, listing, status, told in LISTINGS:
+            pathlib.Path(file.name).write_text(listing)
+            ran = run([*commands[0], "--expect-session", name, file.name])
+            wants(f"the listing of {name}", ran, status, SEND_HI_OUTPUT, told.encode())
+            ran = run([*commands[0], "--expect-session", name, "-"], listing.encode())
+            wants(f"the listing of {name} in standard input", ran, status, SEND_HI_OUTPUT, told.encode())
+            ran = run([*commands[1], "--expect-session", name, file.name])
+            check(f"the listing of {name} by a worker", (ran.returncode, ran.stderr) == (status, told.encode()), ran)
+        for words in (["--json"], ["--expect-session", "s1", file.name]):
+            ran = run([*commands[0], "--expect-session", "s1", file.name, *words])
+            check(f"a listing with {words[0]}", ran.returncode == 2 and not ran.stdout and ran.stderr, ran)
+    for others, told in (
+        (["--expect", "-"], b"error: the expected output and the expected listing can't both be standard input\n"),
+        ([], b"error: the script and the expected listing can't both be standard input\n"),
+    ):
+        words = [*SEND_HI_PICKS, "--expect-session", "s1", "-", *others, *([script] if others else [])]
+        wants(f"two texts in standard input, {others}", run(words, SEND_HI), 2, b"", told)
+
 
 def written_differences():
-    """The whole standard error of a run whose output differs from a file: each line that differs, in both texts."""
+    """The whole standard error of a run whose output differs from a file: their alignment, with two lines around."""
     with tempfile.NamedTemporaryFile() as file:
         for kind, expected, told in DIFFERENCES:
             pathlib.Path(file.name).write_text(expected)
             ran = run([*SEND_HI_PICKS, "--quiet", "--expect", file.name], SEND_HI)
-            wants(f"a file with {kind}", ran, 1, SEND_HI_OUTPUT, told.encode())
+            wants(f"a file with {kind}", ran, 1, SEND_HI_OUTPUT, (SIGNS + told).encode())
+            ran = run([*SEND_HI_PICKS, "--quiet", "--expect", "-", str(ROWS / "send-hi" / "stdin")], expected.encode())
+            wants(f"standard input with {kind}", ran, 1, SEND_HI_OUTPUT, (SIGNS + told).encode())
 
 
 def starts():

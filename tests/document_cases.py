@@ -57,7 +57,7 @@ def completed_options(command):
     condition = rf"(?: -n '__fish_seen_subcommand_from {command}')?(?: -s h)?"
     return {
         "bash": {word for word in completed(("tracenode", command, "--"), TOP) if word.startswith("--")},
-        "zsh": set(re.findall(r"['},](--[a-z-]+)}?'?=?\[", part[1] if part else "")),
+        "zsh": set(re.findall(r"['},*](--[a-z-]+)}?'?=?\[", part[1] if part else "")),
         "fish": {f"--{name}" for name in re.findall(rf"^complete -c tracenode{condition} -l ([a-z-]+)", fish, re.M)},
     }
 

@@ -215,7 +215,7 @@ def completed_options(command):
     """The options of a command, by the completions for each shell and by the synopsis of the man page."""
     folder = TOP / "completions"
     zsh = re.search(rf"^        {command}\)\n(.*?);;", (folder / "_tracenode").read_text(), re.M | re.S)[1]
-    yield "zsh", set(re.findall(r"'--([\w-]+)=?\[", zsh))
+    yield "zsh", set(re.findall(r"'\*?--([\w-]+)=?\[", zsh))
     bash = (folder / "tracenode.bash").read_text().partition("case $command in")[2]
     bash = re.search(rf"^            {command}\)(.*?);;", bash, re.M | re.S)[1]
     yield "bash", set(re.findall(r"--([\w-]+)", bash)) - {"help"}

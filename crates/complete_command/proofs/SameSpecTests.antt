@@ -9,7 +9,7 @@ use Rattle.tn_verdict.specs.declared.spec_test_input.SpecTestFault.{SpecTestFaul
 use Rattle.tn_run.specs.declared.fault.RunFault.TheVariants.{Write}
 use Rattle.tn_formats.specs.declared.format.Format.{Format}
 use Rattle.tn_command.specs.JobForms.{text_in_format}
-use Rattle.tn_command.specs.SpecTests.{IsAnswerIn, MeetsSpecTestBy, spec_test_status_of}
+use Rattle.tn_command.specs.SpecTests.{IsAnswerIn, IsHeadedAnswer, IsHeadedAnswerIn, MeetsSpecTestBy, list_head, spec_test_status_of}
 use Rattle.tn_command.specs.declared.spec_test.SpecTestRunFault.{SpecTestRunFault}
 use Rattle.tn_command.specs.declared.spec_test.SpecTestRunFault.TheVariants.{SpecTestInput, Run}
 use Rattle.complete_code.specs.SpecTestAnswers.{IsSpecTestRefused}
@@ -47,6 +47,16 @@ pub answer_in_is_one : (q : question.SpecTestInput) (format : Format) → IsOneT
 answer_in_is_one q format = record {
   one = λ x y h i. h.text_is ∙ ap (text_in_format (Some format)) (one_text q h.plain i.plain h.is_plain i.is_plain) ∙ sym i.text_is;
   answered = λ x h. (h.plain, h.is_plain);
+}
+
+-- a question has one answer after its list
+one_headed : (q : question.SpecTestInput) (x y : List ℕ) → IsHeadedAnswer q x → IsHeadedAnswer q y → x ≡ y
+one_headed q x y h i = h.2 ∙ ap (λ answer. list_head q.list.now ++ answer) (one_text q h.0 i.0 h.1 i.1) ∙ sym i.2
+
+pub headed_is_one : (q : question.SpecTestInput) (format : Option Format) → IsOneText q (IsHeadedAnswerIn format q)
+headed_is_one q format = record {
+  one = λ x y h i. h.text_is ∙ ap (text_in_format format) (one_headed q h.plain i.plain h.is_plain i.is_plain) ∙ sym i.text_is;
+  answered = λ x h. (h.is_plain.0, h.is_plain.1);
 }
 
 module _ {A W : Type 0} (q : question.SpecTestInput) (IsAnswer : List ℕ → Type 0) (are : IsOneText q IsAnswer) (gained : W → Option (List ℕ)) (old new old' new' : Watched W) where

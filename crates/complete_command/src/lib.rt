@@ -5,13 +5,11 @@
 //! `jobs::perform_over`, which the other functions of `jobs` show.
 #![tactic(auto)]
 
-mod expectation;
 mod jobs;
 mod last_error;
 mod moves;
 mod number;
 mod picks;
-mod plain_text;
 mod source;
 mod spec_test;
 mod status;

@@ -3,8 +3,8 @@ use Rattle.std.proofs.Common.{◌≡◌, ◌+◌, ℕ, List, ◌++◌, codes, de
 use Rattle.def_text.specs.Places.{line_feeds}
 use Rattle.def_text.proofs.Columns.{line_feeds-append}
 use Rattle.def_notice.specs.FaultTexts.{FaultSaid, of_reading, of_writing, of_memory, of_workers, of_bytes, of_listings, of_expectation, output_text, fault_text}
-use Rattle.def_notice.specs.DifferenceTexts.{Side, expected_output, found_output, OutputDifference, one_line, two_lines, lines_without_text, last_line_feed, no_line, end_of_output, more_lines, more_differences, side_text, numbered_line, output_difference_text}
-use Rattle.def_notice.specs.NoticeTexts.{NodeCommand, by_same_picks, by_journal, node_command_text, TestText, the_list, the_caller, the_specification, test_text_name, TestTextFault, is_no_list, is_no_function, is_too_long, goes_on_otherwise, is_too_deep, is_too_large, has_no_memory, fault_in_words, test_fault_text, ReadBeside, picks_beside, moves_beside, Notice, given_line, of_fault, of_fault_because, no_file, both_from_input, no_value, of_test_text, no_session, no_move, no_node_move, no_forms, pick_of_nobody, node_moves, of_difference, lacks_a_line, has_a_line, notice_text}
+use Rattle.def_notice.specs.DifferenceTexts.{Side, expected_output, found_output, OutputDifference, one_line, two_lines, lines_without_text, last_line_feed, no_line, end_of_output, more_lines, more_differences, AlignedSide, of_both, of_expected, of_found, LineRange, range_text, aligned_sign, aligned_output, aligned_ranges, aligned_line, side_text, numbered_line, output_difference_text}
+use Rattle.def_notice.specs.NoticeTexts.{NodeCommand, by_same_picks, by_journal, node_command_text, TestText, the_list, the_caller, the_specification, test_text_name, TestTextFault, is_no_list, is_no_function, is_too_long, goes_on_otherwise, is_too_deep, is_too_large, has_no_memory, fault_in_words, test_fault_text, InputText, the_script, the_picks, the_moves, the_output, the_listing, input_text_name, Notice, given_line, of_fault, of_fault_because, no_file, both_from_input, no_value, of_test_text, no_session, no_move, no_node_move, no_forms, pick_of_nobody, node_moves, of_difference, lacks_a_line, has_a_line, lacks_a_listing, notice_text}
 use Rattle.def_notice.specs.NoticeLaws.{words_of_test_fault, words_of_notice, line_feeds_of_notice}
 use Rattle.def_notice.proofs.LineFeeds.{decimal_has_none}
 
@@ -64,6 +64,22 @@ both_lines n one other =
     let split : line_feeds (first ++ codes "\n") ≡ line_feeds first + 1 = line_feeds-append first (codes "\n") in
     omega (arith, split, line_feeds-append (first ++ codes "\n") second, text_of_line expected_output n one, text_of_line found_output n other, line_feeds-append one other)
 
+range_is_a_line : (r : LineRange) → line_feeds (range_text r) ≡ 0
+range_is_a_line r = before_number (decimal r.first ++ codes ",") r.count ∙ before_none (decimal r.first) (codes ",") refl ∙ decimal_has_none r.first
+
+ranges_are_a_line : (one other : LineRange) → line_feeds (notice_text (of_difference (aligned_ranges one other))) ≡ 0
+ranges_are_a_line one other =
+    let first = range_text one ++ codes " +" in
+    before_none (first ++ range_text other) (codes " @@") refl
+    ∙ before_none first (range_text other) (range_is_a_line other)
+    ∙ before_none (range_text one) (codes " +") refl
+    ∙ range_is_a_line one
+
+aligned_is_a_line : (side : AlignedSide) (text : List ℕ) → line_feeds (aligned_sign side ++ text) ≡ line_feeds text + 0
+aligned_is_a_line of_both text = omega arith
+aligned_is_a_line of_expected text = omega arith
+aligned_is_a_line of_found text = omega arith
+
 difference_is_a_line : (x : OutputDifference) → line_feeds (notice_text (of_difference x)) ≡ line_feeds (words_of_notice (of_difference x)) + line_feeds_of_notice (of_difference x)
 difference_is_a_line (one_line s n (Some text)) = omega (arith, text_of_line s n text)
 difference_is_a_line (one_line s n None) = no_text_of_line s n
@@ -74,12 +90,28 @@ difference_is_a_line (no_line s) = side_and_words s (codes " no line here") refl
 difference_is_a_line (end_of_output s) = side_and_words s (codes " the end of the output") refl
 difference_is_a_line (more_lines s) = side_and_words s (codes " more lines") refl
 difference_is_a_line more_differences = refl
+difference_is_a_line (aligned_output expected_output) = refl
+difference_is_a_line (aligned_output found_output) = refl
+difference_is_a_line (aligned_ranges one other) = ranges_are_a_line one other
+difference_is_a_line (aligned_line side None) = aligned_is_a_line side (codes "(a line that isn't printable)")
+difference_is_a_line (aligned_line side (Some text)) = aligned_is_a_line side text
 
 -- ---- what else is said
 
-beside_is_a_line : (what : ReadBeside) → line_feeds (notice_text (both_from_input what)) ≡ 0
-beside_is_a_line picks_beside = refl
-beside_is_a_line moves_beside = refl
+input_is_a_line : (t : InputText) → line_feeds (input_text_name t) ≡ 0
+input_is_a_line the_script = refl
+input_is_a_line the_picks = refl
+input_is_a_line the_moves = refl
+input_is_a_line the_output = refl
+input_is_a_line the_listing = refl
+
+inputs_are_a_line : (one other : InputText) → line_feeds (notice_text (both_from_input one other)) ≡ 0
+inputs_are_a_line one other =
+    let first = input_text_name one ++ codes " and the " in
+    before_none (first ++ input_text_name other) (codes " can't both be standard input") refl
+    ∙ before_none first (input_text_name other) (input_is_a_line other)
+    ∙ before_none (input_text_name one) (codes " and the ") refl
+    ∙ input_is_a_line one
 
 name_is_a_line : (t : TestText) → line_feeds (test_text_name t) ≡ 0
 name_is_a_line the_list = refl
@@ -146,7 +178,7 @@ notice_is_a_line (given_line line) = omega arith
 notice_is_a_line (of_fault f) = fault_is_a_line f
 notice_is_a_line (of_fault_because f reason) = reason_is_a_line f reason
 notice_is_a_line (no_file path reason) = file_is_a_line path reason
-notice_is_a_line (both_from_input what) = beside_is_a_line what
+notice_is_a_line (both_from_input one other) = inputs_are_a_line one other
 notice_is_a_line (no_value text option reason) = value_is_three_lines text option reason
 notice_is_a_line (of_test_text t f) = test_is_a_line t f
 notice_is_a_line (no_session name) = omega arith
@@ -158,3 +190,4 @@ notice_is_a_line (node_moves n m c) = moves_are_a_line n m c
 notice_is_a_line (of_difference x) = difference_is_a_line x
 notice_is_a_line (lacks_a_line line) = omega arith
 notice_is_a_line (has_a_line line) = omega arith
+notice_is_a_line (lacks_a_listing name) = omega arith

@@ -6,8 +6,8 @@ use Rattle.def_term.specs.Text.{is_written_bare}
 use Rattle.def_text.specs.Places.{place_at}
 use Rattle.def_notice.specs.FaultTexts.{of_reading, of_writing, of_memory, of_workers, of_bytes, of_listings, of_expectation, broken_pipe, refused_memory}
 use Rattle.def_notice.specs.MovesTexts.{MovesReason, no_mover, no_number, no_count, no_start, many_starts, too_many_bytes, no_directive_at, bad_moves_text}
-use Rattle.def_notice.specs.DifferenceTexts.{expected_output, found_output, one_line, two_lines, lines_without_text, last_line_feed, no_line, end_of_output, more_lines, more_differences}
-use Rattle.def_notice.specs.NoticeTexts.{by_same_picks, by_journal, the_list, the_caller, the_specification, is_no_list, is_no_function, is_too_long, is_too_deep, fault_in_words, picks_beside, moves_beside, Notice, of_fault, of_fault_because, no_file, both_from_input, no_value, of_test_text, no_session, no_move, no_node_move, no_forms, pick_of_nobody, node_moves, of_difference, lacks_a_line, has_a_line, notice_text, notice_of_fault}
+use Rattle.def_notice.specs.DifferenceTexts.{expected_output, found_output, one_line, two_lines, lines_without_text, last_line_feed, no_line, end_of_output, more_lines, more_differences, of_both, of_expected, of_found, aligned_output, aligned_ranges, aligned_line}
+use Rattle.def_notice.specs.NoticeTexts.{by_same_picks, by_journal, the_list, the_caller, the_specification, is_no_list, is_no_function, is_too_long, is_too_deep, fault_in_words, the_script, the_picks, the_moves, the_output, the_listing, Notice, of_fault, of_fault_because, no_file, both_from_input, no_value, of_test_text, no_session, no_move, no_node_move, no_forms, pick_of_nobody, node_moves, of_difference, lacks_a_line, has_a_line, lacks_a_listing, notice_text, notice_of_fault}
 
 -- this is the line
 abbrev Says : Notice → String → Type 0
@@ -51,11 +51,17 @@ reader_without_memory = refl
 absent_file : Says (no_file (codes "a\\x1bb") (codes "No such file or directory (os error 2)")) "error: a\\x1bb: No such file or directory (os error 2)"
 absent_file = refl
 
-picks_and_script : Says (both_from_input picks_beside) "error: the script and the picks can't both be standard input"
+picks_and_script : Says (both_from_input the_script the_picks) "error: the script and the picks can't both be standard input"
 picks_and_script = refl
 
-moves_and_script : Says (both_from_input moves_beside) "error: the script and the moves can't both be standard input"
+moves_and_script : Says (both_from_input the_script the_moves) "error: the script and the moves can't both be standard input"
 moves_and_script = refl
+
+output_and_picks : Says (both_from_input the_picks the_output) "error: the picks and the expected output can't both be standard input"
+output_and_picks = refl
+
+listing_and_script : Says (both_from_input the_script the_listing) "error: the script and the expected listing can't both be standard input"
+listing_and_script = refl
 
 no_pid : Says (no_value (codes "\\x7f") (codes "--me <N>") (codes "a number or a pid <0.N.0> is expected")) "error: invalid value '\\x7f' for '--me <N>': a number or a pid <0.N.0> is expected\n\nFor more information, try '--help'."
 no_pid = refl
@@ -173,3 +179,27 @@ no_number_there = refl
 all_and_more : Refuses "0 !" 2 no_mover "moves:1:3: a number, a name or `*` alone is expected"
 unfolding digits
 all_and_more = refl
+
+absent_listing : Says (lacks_a_listing (codes "s1")) "error: the output has no listing of a session s1"
+absent_listing = refl
+
+-- ---- an alignment, as `diff -u` has it
+
+sign_of_expected : Says (of_difference (aligned_output expected_output)) "--- expected"
+sign_of_expected = refl
+
+sign_of_found : Says (of_difference (aligned_output found_output)) "+++ found"
+sign_of_found = refl
+
+ranges_of_lines : Says (of_difference (aligned_ranges (record { first = 2; count = 3 }) (record { first = 2; count = 14 }))) "@@ -2,3 +2,14 @@"
+unfolding digits
+ranges_of_lines = refl
+
+line_of_both : Says (of_difference (aligned_line of_both (Some (codes "== replies")))) " == replies"
+line_of_both = refl
+
+line_of_expected : Says (of_difference (aligned_line of_expected (Some (codes "1")))) "-1"
+line_of_expected = refl
+
+aligned_without_text : Says (of_difference (aligned_line of_found None)) "+(a line that isn't printable)"
+aligned_without_text = refl

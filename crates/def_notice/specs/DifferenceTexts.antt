@@ -11,6 +11,27 @@ abbrev pub side_text : Side → List ℕ
 side_text expected_output = codes "expected"
 side_text found_output = codes "found"
 
+-- a line of an alignment: of both outputs, or of one of them alone
+pub data AlignedSide : Type 0 where
+  of_both : AlignedSide
+  of_expected : AlignedSide
+  of_found : AlignedSide
+
+-- the sign before it, as `diff -u` of POSIX has it
+abbrev pub aligned_sign : AlignedSide → List ℕ
+aligned_sign of_both = codes " "
+aligned_sign of_expected = codes "-"
+aligned_sign of_found = codes "+"
+
+-- so many lines, of which the first has this number; where there are none, the number is that of the line before them
+pub record LineRange : Type 0 where
+  pub first : ℕ
+  pub count : ℕ
+
+-- FIRST,COUNT
+abbrev pub range_text : LineRange → List ℕ
+range_text r = decimal r.first ++ codes "," ++ decimal r.count
+
 -- what there is to say
 pub data OutputDifference : Type 0 where
   -- a line that the other output lacks
@@ -26,11 +47,25 @@ pub data OutputDifference : Type 0 where
   -- there is more to say
   more_lines : Side → OutputDifference
   more_differences : OutputDifference
+  -- of an alignment, as `diff -u` has it: which sign is of which output, which lines come next, and a line
+  aligned_output : Side → OutputDifference
+  aligned_ranges : (expected found : LineRange) → OutputDifference
+  aligned_line : AlignedSide → (text : Option (List ℕ)) → OutputDifference
 
 -- a line with its number
 abbrev pub numbered_line : Side → ℕ → Option (List ℕ) → List ℕ
 numbered_line side n None = side_text side ++ codes " line " ++ decimal n ++ codes ", which isn't printable"
 numbered_line side n (Some text) = side_text side ++ codes " line " ++ decimal n ++ codes ": " ++ text
+
+-- the sign of an output, three times, and its name
+abbrev pub aligned_name : Side → List ℕ
+aligned_name expected_output = codes "--- expected"
+aligned_name found_output = codes "+++ found"
+
+-- what stands for a line after its sign
+abbrev pub aligned_text : Option (List ℕ) → List ℕ
+aligned_text None = codes "(a line that isn't printable)"
+aligned_text (Some text) = text
 
 -- the line, or of two lines with texts both
 abbrev pub output_difference_text : OutputDifference → List ℕ
@@ -42,6 +77,9 @@ output_difference_text (no_line side) = side_text side ++ codes " no line here"
 output_difference_text (end_of_output side) = side_text side ++ codes " the end of the output"
 output_difference_text (more_lines side) = side_text side ++ codes " more lines"
 output_difference_text more_differences = codes "more lines may differ"
+output_difference_text (aligned_output side) = aligned_name side
+output_difference_text (aligned_ranges one other) = codes "@@ -" ++ range_text one ++ codes " +" ++ range_text other ++ codes " @@"
+output_difference_text (aligned_line side text) = aligned_sign side ++ aligned_text text
 
 -- ---- which of them is said
 
@@ -53,6 +91,10 @@ SaysLine side n line x = (x ≡ one_line side n (Some line)) ⊎ (x ≡ one_line
 abbrev pub SaysPair : ℕ → (expected found : List ℕ) → Option OutputDifference → Type 0
 SaysPair n one other None = one ≡ other
 SaysPair n one other (Some x) = (one ≢ other) × ((x ≡ two_lines n one other) ⊎ (x ≡ lines_without_text n))
+
+-- of a line of an alignment: its text, or that it isn't printable
+abbrev pub SaysAlignedLine : AlignedSide → List ℕ → OutputDifference → Type 0
+SaysAlignedLine side line x = (x ≡ aligned_line side (Some line)) ⊎ (x ≡ aligned_line side None)
 
 -- of an output that has no line where the other has some
 abbrev pub lack_of_lines : Side → (is_end : Bool) → OutputDifference

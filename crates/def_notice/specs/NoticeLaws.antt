@@ -3,13 +3,14 @@
 use Rattle.std.specs.Prelude.{◌≡◌, ◌↔◌, ◌+◌, ℕ, List, [], ◌++◌, Option, Some, None}
 use Rattle.def_text.specs.Places.{line_feeds}
 use Rattle.def_notice.specs.FaultTexts.{FaultSaid, SystemReason, broken_pipe}
-use Rattle.def_notice.specs.DifferenceTexts.{OutputDifference, one_line, two_lines}
-use Rattle.def_notice.specs.NoticeTexts.{Notice, given_line, of_fault_because, no_file, no_value, TestTextFault, fault_in_words, of_test_text, no_session, of_difference, lacks_a_line, has_a_line, notice_text, notice_of_fault}
+use Rattle.def_notice.specs.DifferenceTexts.{OutputDifference, one_line, two_lines, aligned_line}
+use Rattle.def_notice.specs.NoticeTexts.{Notice, given_line, of_fault_because, no_file, no_value, TestTextFault, fault_in_words, of_test_text, no_session, of_difference, lacks_a_line, has_a_line, lacks_a_listing, notice_text, notice_of_fault}
 
 -- the words that a line of a difference is given
 abbrev pub words_of_difference : OutputDifference → List ℕ
 words_of_difference (one_line side n (Some text)) = text
 words_of_difference (two_lines n one other) = one ++ other
+words_of_difference (aligned_line side (Some text)) = text
 words_of_difference x = []
 
 -- those of a text of a test
@@ -28,6 +29,7 @@ words_of_notice (no_session name) = name
 words_of_notice (of_difference x) = words_of_difference x
 words_of_notice (lacks_a_line line) = line
 words_of_notice (has_a_line line) = line
+words_of_notice (lacks_a_listing name) = name
 words_of_notice n = []
 
 -- how many line feeds it has of its own: two lines that differ are two lines, and where to read more stands under a wrong value

@@ -52,14 +52,21 @@ test_fault_text (is_too_large at) = codes "too large at " ++ decimal at
 test_fault_text has_no_memory = codes "out of memory"
 test_fault_text (fault_in_words words) = words
 
--- what can't be read from standard input beside the script
-pub data ReadBeside : Type 0 where
-  picks_beside : ReadBeside
-  moves_beside : ReadBeside
+-- a text that may be read from standard input, of which only one can
+pub data InputText : Type 0 where
+  the_script : InputText
+  the_picks : InputText
+  the_moves : InputText
+  -- the output that is expected, and the listing of a session
+  the_output : InputText
+  the_listing : InputText
 
-abbrev pub read_beside_text : ReadBeside → List ℕ
-read_beside_text picks_beside = codes "picks"
-read_beside_text moves_beside = codes "moves"
+abbrev pub input_text_name : InputText → List ℕ
+input_text_name the_script = codes "script"
+input_text_name the_picks = codes "picks"
+input_text_name the_moves = codes "moves"
+input_text_name the_output = codes "expected output"
+input_text_name the_listing = codes "expected listing"
 
 -- what is said
 pub data Notice : Type 0 where
@@ -71,7 +78,7 @@ pub data Notice : Type 0 where
   -- a file that can't be opened, and the system's reason
   no_file : (path reason : List ℕ) → Notice
   -- the command line
-  both_from_input : ReadBeside → Notice
+  both_from_input : InputText → InputText → Notice
   no_value : (text option reason : List ℕ) → Notice
   -- a text of the test of a match specification
   of_test_text : TestText → TestTextFault → Notice
@@ -87,6 +94,7 @@ pub data Notice : Type 0 where
   of_difference : OutputDifference → Notice
   lacks_a_line : (line : List ℕ) → Notice
   has_a_line : (line : List ℕ) → Notice
+  lacks_a_listing : (name : List ℕ) → Notice
 
 -- the line
 abbrev pub notice_text : Notice → List ℕ
@@ -94,7 +102,8 @@ notice_text (given_line line) = line
 notice_text (of_fault f) = fault_text f
 notice_text (of_fault_because f reason) = fault_text f ++ codes ": " ++ reason
 notice_text (no_file path reason) = codes "error: " ++ path ++ codes ": " ++ reason
-notice_text (both_from_input what) = codes "error: the script and the " ++ read_beside_text what ++ codes " can't both be standard input"
+notice_text (both_from_input one other) =
+    codes "error: the " ++ input_text_name one ++ codes " and the " ++ input_text_name other ++ codes " can't both be standard input"
 notice_text (no_value text option reason) =
     codes "error: invalid value '" ++ text ++ codes "' for '" ++ option ++ codes "': " ++ reason ++ codes "\n\nFor more information, try '--help'."
 notice_text (of_test_text text f) = test_text_name text ++ codes ": " ++ test_fault_text f
@@ -109,6 +118,7 @@ notice_text (node_moves n m command) =
 notice_text (of_difference x) = output_difference_text x
 notice_text (lacks_a_line line) = codes "error: the output has no line " ++ line
 notice_text (has_a_line line) = codes "error: the output has the line " ++ line
+notice_text (lacks_a_listing name) = codes "error: the output has no listing of a session " ++ name
 
 -- what is said of a fault, where the system gives this reason: nothing where whoever read the output is gone
 abbrev pub notice_of_fault : FaultSaid → Option SystemReason → Option Notice

@@ -1,6 +1,6 @@
 -- What the words of the command line ask for (own).
 -- Depends on what `clap` found in the words: the text that each option and each word without a name has.
-use Rattle.std.specs.Prelude.{◌≡◌, ◌≢◌, ◌≤◌, ◌-◌, ◌==◌, ◌&&◌, ◌++◌, ℕ, Bool, true, false, not, List, [], Option, Some, None, Result, Ok}
+use Rattle.std.specs.Prelude.{◌≡◌, ◌≢◌, ◌≤◌, ◌-◌, ◌==◌, ◌&&◌, ◌++◌, ℕ, Bool, true, false, not, List, [], ◌∷◌, Option, Some, None, Result, Ok}
 use Rattle.std.specs.Prelude.{MatchResult, IsSomeAnd, ◌⊎◌, option_map, unwrap_or, if◌then◌else◌, take, drop, length, codes}
 use Rattle.std.specs.List.{list_all}
 use Rattle.std.specs.Option.{option_map_or}
@@ -8,10 +8,11 @@ use Rattle.std.specs.Str.Parse.{digits_value}
 use Rattle.std.specs.Str.{bytes_eq}
 use Rattle.std.specs.Borrow.{Bor}
 use Rattle.clap.specs.declared.parser.matches.ArgMatches.{ArgMatches}
-use Rattle.clap.specs.Words.{found_of, first_value, rows_of, subcommand_name_of, subcommand_rows_of}
+use Rattle.clap.specs.Words.{found_of, first_value, matched_of, raw_values, rows_of, subcommand_name_of, subcommand_rows_of}
 use Rattle.tn_explain.specs.declared.filter.Filter.{Filter}
 use Rattle.tn_command.specs.declared.source.Source.{Source}
 use Rattle.tn_command.specs.declared.source.Source.TheVariants.{Input, File}
+use Rattle.tn_expectation.specs.Expectations.{words_of}
 use Rattle.tn_command.specs.Numbers.{IsPlainNumber}
 use Rattle.tn_spec.specs.declared.func.Dialect.{Dialect}
 use Rattle.tn_spec.specs.declared.func.Dialect.TheVariants.{Call, Send, Recv}
@@ -22,6 +23,7 @@ use Rattle.tn_request.specs.declared.request.PicksSource.TheVariants.{Text, In, 
 use Rattle.tn_request.specs.declared.request.RunSource.{RunSource}
 use Rattle.tn_request.specs.declared.request.RunSource.TheVariants.{ByPicks, ByRound}
 use Rattle.tn_request.specs.declared.request.ExpectationArgs.{ExpectationArgs}
+use Rattle.tn_request.specs.declared.request.SessionArgs.{SessionArgs}
 use Rattle.tn_request.specs.declared.request.SpecTestArgs.{SpecTestArgs}
 use Rattle.tn_request.specs.declared.request.RunRequest.{RunRequest}
 use Rattle.tn_request.specs.declared.request.RunRequest.TheVariants.{Replay, Explain, Draw, Round}
@@ -31,6 +33,10 @@ use Rattle.tn_request.specs.declared.request.Request.TheVariants.{Run, Workers, 
 -- the text that the command line gives for this name
 abbrev pub argument : ArgMatches → List ℕ → Option (List ℕ)
 argument m name = first_value (found_of m) name
+
+-- the texts that it gives for an option that may be given many times
+abbrev pub texts_given : ArgMatches → List ℕ → List (List ℕ)
+texts_given m name = unwrap_or (option_map raw_values (matched_of (found_of m) name)) []
 
 -- the flag of this name is given: `clap` gives a flag the text `true` where the words have it, else `false`
 abbrev pub is_given : ArgMatches → List ℕ → Bool
@@ -142,22 +148,35 @@ IsAskedOf m a =
     × IsNumberOrNone {E = Unit {0}} (argument m (codes "move")) (Ok a.move_number)
     × (a.node ≡ is_given m (codes "node"))
 
--- what `--for`, `--list`, `--me` and `--caller` give, and the specification
+-- what `--for`, `--list`, `--me` and `--caller` give, and the specification or its file
 abbrev pub IsTrialOf : ArgMatches → SpecTestArgs → Type 0
 IsTrialOf m t =
     (t.dialect ≡ dialect_named (unwrap_or (argument m (codes "for")) (codes "call")))
-    × (t.list.now ≡ unwrap_or (argument m (codes "list")) [])
+    × (words_of t.lists.now ≡ texts_given m (codes "list"))
     × NamesProcess (unwrap_or (argument m (codes "me")) []) t.self_pid
     × IsTextOf (argument m (codes "caller")) t.caller
     × IsTextOf (argument m (codes "specification")) t.specification
+    × IsTextOf (argument m (codes "file")) t.file
 
--- the file that `--expect` names, the lines of `--expect-line` and `--reject-line`, and whether `--strict` is given
-abbrev pub IsExpectationOf : ArgMatches → ExpectationArgs → Type 0
-IsExpectationOf m e =
-    IsTextOf (argument m (codes "expect")) e.file
-    × IsTextOf (argument m (codes "expect-line")) e.line
-    × IsTextOf (argument m (codes "reject-line")) e.no_line
-    × (e.strict ≡ is_given m (codes "strict"))
+-- a source that is given is the one that the text names
+abbrev pub IsSourceOrNone : Option (List ℕ) → Option Source → Type 0
+IsSourceOrNone None s = s ≡ None
+IsSourceOrNone (Some path) s = IsSomeAnd s (IsSourceNamed (Some path))
+
+-- the session that the first text names, and the source that the second names; none where there are fewer
+abbrev pub IsListingOf : List (List ℕ) → Option SessionArgs → Type 0
+IsListingOf [] s = s ≡ None
+IsListingOf (name ∷ []) s = s ≡ None
+IsListingOf (name ∷ path ∷ more) s = IsSomeAnd s (λ l. (l.name.now ≡ session_named name) × IsSourceNamed (Some path) l.source)
+
+-- the source that `--expect` names, the listing of `--expect-session`, the lines of `--expect-line` and `--reject-line`, and
+-- whether `--strict` is given
+pub record IsExpectationOf (m : ArgMatches) (e : ExpectationArgs) : Type 0 where
+  pub output : IsSourceOrNone (argument m (codes "expect")) e.output
+  pub session : IsListingOf (texts_given m (codes "expect-session")) e.session
+  pub lines : words_of e.lines.now ≡ texts_given m (codes "expect-line")
+  pub no_lines : words_of e.no_lines.now ≡ texts_given m (codes "reject-line")
+  pub strict : e.strict ≡ is_given m (codes "strict")
 
 -- `run` is a round after the control list, and `round` one after it where `--control first` is given
 abbrev pub IsRound : List ℕ → ArgMatches → Bool → Type 0

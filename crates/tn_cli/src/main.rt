@@ -24,31 +24,12 @@ use std::process::ExitCode;
 use std::rt::{Env, Files};
 use std::sync::Wait;
 use std::thread::Threads;
-use tn_command::{
-    FAULT, LastError, OutputForm, REFUSED, Source, arguments, escape_controls, output_of, picks_of,
-    report, run_fault,
-};
+use tn_command::{FAULT, LastError, OutputForm, REFUSED, arguments, picks_of, report, run_fault};
 use tn_line::command;
-use tn_notice::{CommandFault, Notice, ReadBeside, print_fault, print_notice};
-use tn_request::{Request, TextSource, answer_request, expectation_of};
+use tn_notice::{CommandFault, Notice, escape_controls, print_fault, print_notice};
+use tn_request::{Request, TextSource, answer_request, expectation_of, expected_texts};
 use tn_run::write_output;
 use tn_text::Watched;
-
-/// The text of picks or of moves in a file, or in standard input where that isn't the script.
-fn text_in<R: Input + Files + Eprint + AllocGlobal>(
-    rt: &R,
-    script: Option<Source<'_>>,
-    what: ReadBeside,
-    source: Source<'_>,
-) -> Result<Vec<u8>, ExitCode>
-    ensures { IfErr result (λ s. IsStatus (exit_status s)) }
-{
-    if let (Some(Source::Input), Source::Input) = (script, source) {
-        print_notice(rt, Notice::BothFromInput(what));
-        return Err(ExitCode::from(REFUSED));
-    }
-    picks_of(rt, source)
-}
 
 /// The text that a request needs beside the script; the empty text where it needs none.
 fn text_of<R: Input + Files + Eprint + AllocGlobal>(
@@ -59,14 +40,14 @@ fn text_of<R: Input + Files + Eprint + AllocGlobal>(
 {
     match request.text_source() {
         None => Ok(Vec::new(rt.alloc())),
-        Some(TextSource::Picks(source)) => text_in(rt, request.script(), ReadBeside::Picks, source),
-        Some(TextSource::Moves(source)) => text_in(rt, request.script(), ReadBeside::Moves, source),
-        Some(TextSource::Specification) => picks_of(rt, Source::Input),
+        Some(TextSource::Picks(source)) => picks_of(rt, source),
+        Some(TextSource::Moves(source)) => picks_of(rt, source),
+        Some(TextSource::Specification(source)) => picks_of(rt, source),
     }
 }
 
-/// Does what is asked for, in a form. The file that has the output that is expected is read first, and then the text
-/// beside the script.
+/// Does what is asked for, in a form. The texts that are expected are read first, and then the text beside the script.
+/// One of all these alone is read from standard input.
 fn run_request<R: Input + Files + Print + Eprint + AllocGlobal + Threads + Wait + Sync>(
     rt: &R,
     request: &Request<'_>,
@@ -74,16 +55,20 @@ fn run_request<R: Input + Files + Print + Eprint + AllocGlobal + Threads + Wait 
 ) -> ExitCode
     ensures { IsStatus (exit_status result) }
 {
+    if let Some((one, other)) = request.shared_input() {
+        print_notice(rt, Notice::BothFromInput { one, other });
+        return ExitCode::from(REFUSED);
+    }
     let words = request.expectation();
-    let output = match output_of(rt, words.file, form.most) {
-        Ok(output) => output,
+    let texts = match expected_texts(rt, &words, form.most) {
+        Ok(texts) => texts,
         Err(status) => return status,
     };
     let text = match text_of(rt, request) {
         Ok(text) => text,
         Err(status) => return status,
     };
-    let expectation = expectation_of(&words, output.as_deref());
+    let expectation = expectation_of(&words, &texts);
     answer_request(rt, request, &text, form, &expectation)
 }
 

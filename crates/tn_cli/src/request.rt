@@ -5,7 +5,8 @@ ghost use Rattle.tn_cli.specs.Requests.{number_given, IsNumberOrNone};
 ghost use Rattle.tn_cli.specs.Requests.{NamesProcess, NamesNoProcess, ArePicksOf, IsSourceNamed, Asks, IsAskedBy};
 ghost use Rattle.tn_cli.specs.Requests.{LacksLimit, LacksNumber, IsWithoutNumber, NamesNoCommand};
 ghost use Rattle.tn_cli.specs.Requests.{IsRunOf, takes_control_first};
-ghost use Rattle.tn_cli.specs.Requests.{IsExpectationOf};
+ghost use Rattle.tn_expectation.specs.Expectations.{words_of};
+ghost use Rattle.tn_cli.specs.Requests.{IsExpectationOf, IsListingOf, IsSourceOrNone, texts_given};
 
 use crate::value::{process_number, session_name};
 use clap::ArgMatches;
@@ -13,7 +14,8 @@ use tn_command::{Source, plain_number, source_of};
 use tn_explain::Filter;
 use tn_picture::PictureFormat;
 use tn_request::{
-    ExpectationArgs, PicksSource, Request, RunRequest, RunSource, SpecTestArgs, WorkersRequest,
+    ExpectationArgs, PicksSource, Request, RunRequest, RunSource, SessionArgs, SpecTestArgs,
+    WorkersRequest,
 };
 use tn_spec::Dialect;
 
@@ -153,20 +155,52 @@ fn dialect_of(event: &str) -> Dialect
     }
 }
 
+/// The texts that the words give for this option, which may be given many times.
+fn texts<'s, 'a: 's>(matches: &'s ArgMatches<'a>, id: &str) -> &'s [&'a str]
+    ensures { words_of result.now ≡ texts_given matches.now id.now }
+{
+    matches.get_strs(id).unwrap_or_default()
+}
+
+/// The source that an option names, where it is given.
+fn source<'a>(matches: &ArgMatches<'a>, id: &str) -> Option<Source<'a>>
+    ensures { IsSourceOrNone (argument matches.now id.now) result }
+{
+    match matches.get_str(id) {
+        Some(path) => Some(source_of(Some(path))),
+        None => None,
+    }
+}
+
+/// The listing that the output must have.
+fn session_listing<'s, 'a: 's>(matches: &'s ArgMatches<'a>) -> Option<SessionArgs<'s>>
+    ensures { IsListingOf (texts_given matches.now (codes "expect-session")) result }
+{
+    let words = texts(matches, "expect-session");
+    if words.len() < 2 {
+        return None;
+    }
+    Some(SessionArgs {
+        name: session_name(words[0]),
+        source: source_of(Some(words[1])),
+    })
+}
+
 /// What the output must be.
-fn expectation<'a>(matches: &ArgMatches<'a>) -> ExpectationArgs<'a>
+fn expectation<'s, 'a: 's>(matches: &'s ArgMatches<'a>) -> ExpectationArgs<'s>
     ensures { IsExpectationOf matches.now result }
 {
     ExpectationArgs {
-        file: matches.get_str("expect"),
-        line: matches.get_str("expect-line"),
-        no_line: matches.get_str("reject-line"),
+        output: source(matches, "expect"),
+        session: session_listing(matches),
+        lines: texts(matches, "expect-line"),
+        no_lines: texts(matches, "reject-line"),
         strict: flag(matches, "strict"),
     }
 }
 
 /// What `replay` asks for.
-fn replay<'a>(matches: &ArgMatches<'a>) -> Request<'a>
+fn replay<'s, 'a: 's>(matches: &'s ArgMatches<'a>) -> Request<'s>
     ensures { Asks (codes "replay") matches.now result }
 {
     Request::Run(RunRequest::Replay {
@@ -178,7 +212,7 @@ fn replay<'a>(matches: &ArgMatches<'a>) -> Request<'a>
 }
 
 /// What `explain` asks for.
-fn explain<'a>(matches: &ArgMatches<'a>) -> Result<Request<'a>, BadNumber<'a>>
+fn explain<'s, 'a: 's>(matches: &'s ArgMatches<'a>) -> Result<Request<'s>, BadNumber<'s>>
     ensures asks { IfOk result (Asks (codes "explain") matches.now) }
     ensures refused { IfErr result (λ e. LacksNumber (codes "explain") matches.now) }
 {
@@ -208,7 +242,7 @@ fn format<'a>(matches: &ArgMatches<'a>) -> PictureFormat
 }
 
 /// What `draw` asks for.
-fn draw<'a>(matches: &ArgMatches<'a>) -> Result<Request<'a>, BadNumber<'a>>
+fn draw<'s, 'a: 's>(matches: &'s ArgMatches<'a>) -> Result<Request<'s>, BadNumber<'s>>
     ensures asks { IfOk result (Asks (codes "draw") matches.now) }
     ensures refused { IfErr result (λ e. LacksNumber (codes "draw") matches.now) }
 {
@@ -222,7 +256,7 @@ fn draw<'a>(matches: &ArgMatches<'a>) -> Result<Request<'a>, BadNumber<'a>>
 }
 
 /// What `run` asks for: a round after the control list.
-fn run<'a>(matches: &ArgMatches<'a>) -> Result<Request<'a>, BadNumber<'a>>
+fn run<'s, 'a: 's>(matches: &'s ArgMatches<'a>) -> Result<Request<'s>, BadNumber<'s>>
     ensures asks { IfOk result (Asks (codes "run") matches.now) }
     ensures refused { IfErr result (λ e. LacksNumber (codes "run") matches.now) }
 {
@@ -237,7 +271,7 @@ fn run<'a>(matches: &ArgMatches<'a>) -> Result<Request<'a>, BadNumber<'a>>
 }
 
 /// What `round` asks for.
-fn round<'a>(matches: &ArgMatches<'a>) -> Result<Request<'a>, BadNumber<'a>>
+fn round<'s, 'a: 's>(matches: &'s ArgMatches<'a>) -> Result<Request<'s>, BadNumber<'s>>
     ensures asks { IfOk result (Asks (codes "round") matches.now) }
     ensures refused { IfErr result (λ e. LacksNumber (codes "round") matches.now) }
 {
@@ -252,7 +286,7 @@ fn round<'a>(matches: &ArgMatches<'a>) -> Result<Request<'a>, BadNumber<'a>>
 }
 
 /// What `workers` asks for.
-fn workers<'a>(matches: &ArgMatches<'a>) -> Result<Request<'a>, BadNumber<'a>>
+fn workers<'s, 'a: 's>(matches: &'s ArgMatches<'a>) -> Result<Request<'s>, BadNumber<'s>>
     ensures asks { IfOk result (Asks (codes "workers") matches.now) }
     ensures refused { IfErr result (λ e. LacksNumber (codes "workers") matches.now) }
 {
@@ -270,22 +304,23 @@ fn workers<'a>(matches: &ArgMatches<'a>) -> Result<Request<'a>, BadNumber<'a>>
 }
 
 /// What `spec` asks for.
-fn spec<'a>(matches: &ArgMatches<'a>) -> Result<Request<'a>, BadNumber<'a>>
+fn spec<'s, 'a: 's>(matches: &'s ArgMatches<'a>) -> Result<Request<'s>, BadNumber<'s>>
     ensures asks { IfOk result (Asks (codes "spec") matches.now) }
     ensures refused { IfErr result (λ e. LacksNumber (codes "spec") matches.now) }
 {
     let self_pid = own_process(matches)?;
     Ok(Request::Spec(SpecTestArgs {
         dialect: dialect_of(matches.get_str("for").unwrap_or("call")),
-        list: matches.get_str("list").unwrap_or(""),
+        lists: texts(matches, "list"),
         self_pid,
         caller: matches.get_str("caller"),
         specification: matches.get_str("specification"),
+        file: matches.get_str("file"),
     }))
 }
 
 /// What the command line asks for, by the subcommand that it names; None where it names none.
-pub fn request_of<'a>(matches: &ArgMatches<'a>) -> Result<Option<Request<'a>>, BadNumber<'a>>
+pub fn request_of<'s, 'a: 's>(matches: &'s ArgMatches<'a>) -> Result<Option<Request<'s>>, BadNumber<'s>>
     ensures asks { IfOk result (λ o. IfSome o (IsAskedBy matches.now)) }
     ensures none { IfOk result (λ o. IfNone o (NamesNoCommand matches.now)) }
     ensures refused { IfErr result (λ e. IsWithoutNumber matches.now) }

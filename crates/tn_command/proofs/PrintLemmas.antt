@@ -6,11 +6,11 @@ use Rattle.tn_text.specs.Watch.{watched_inner}
 use Rattle.tn_text.specs.declared.watched.Watched.{Watched}
 use Rattle.tn_run.specs.Ends.{WritesFront}
 use Rattle.tn_run.specs.Jobs.{FailedEnd, JobView, Meets, Writes, WritesSome, no_end_failed, reader_failed, writer_failed}
-use Rattle.tn_command.specs.Expectations.{meets_expectation}
+use Rattle.tn_expectation.specs.Expectations.{meets_expectation}
 use Rattle.tn_command.specs.Flaws.{IsAnswerFlaw}
 use Rattle.tn_command.specs.PrintedJobs.{IsMetByAll, IsPrintedAs, WroteNoneOrFront}
 use Rattle.tn_command.specs.Status.{IsStrictStatus, IsWrittenAs, LISTED_STATUS, status_after_judgement, status_of}
-use Rattle.tn_command.specs.declared.expectation.Expectation.{Expectation}
+use Rattle.tn_expectation.specs.declared.expectation.Expectation.{Expectation}
 use Rattle.tn_command.proofs.StatusLemmas.{unflawed_stays, written_so}
 
 after_met : (m : ℕ) (b : Bool) → b ≡ true → m ≡ status_after_judgement m b

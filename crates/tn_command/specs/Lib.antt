@@ -1,5 +1,4 @@
 pub mod Ends
-pub mod Expectations
 pub mod Flaws
 pub mod JobForms
 pub mod Numbers
@@ -7,7 +6,6 @@ pub mod PickTexts
 pub mod Sources
 pub mod Status
 pub mod SpecTests
-pub mod PlainTexts
 pub mod SpecNotes
 pub mod SpecNoteViews
 pub mod Delays

@@ -10,7 +10,7 @@ use Rattle.def_moves.specs.Texts.{mover_len, pids_named}
 use Rattle.def_explain.specs.EmptyScripts.{is_gap}
 use Rattle.def_notice.specs.FaultTexts.{FaultSaid, of_reading, of_writing, of_memory, of_workers, of_bytes, of_listings}
 use Rattle.def_notice.specs.MovesTexts.{MovesReason, no_mover, no_number, no_count, no_start, many_starts, no_program, too_many_bytes, no_directive_at, bad_moves_text}
-use Rattle.def_notice.specs.NoticeTexts.{NodeCommand, by_same_picks, by_journal, the_list, the_caller, is_no_list, is_no_function, Notice, of_fault, of_test_text, no_session, no_move, no_node_move, no_forms, lacks_a_line, has_a_line}
+use Rattle.def_notice.specs.NoticeTexts.{NodeCommand, by_same_picks, by_journal, the_list, the_caller, is_no_list, is_no_function, Notice, of_fault, of_test_text, no_session, no_move, no_node_move, no_forms}
 use Rattle.tn_moves.specs.declared.schedule.Schedule.{Schedule}
 use Rattle.tn_moves.specs.declared.schedule.Schedule.TheVariants.{Picks, Moves, Round, ControlFirst}
 use Rattle.tn_moves.specs.declared.text.MovesRefusal.{MovesRefusal}
@@ -112,9 +112,3 @@ notice_of_test tests.NoList = Some (of_test_text the_list is_no_list)
 notice_of_test tests.NoCaller = Some (of_test_text the_caller is_no_function)
 notice_of_test tests.OutOfMemory = Some (of_fault of_memory)
 notice_of_test f = None
-
--- ---- lines of the command line
-
--- of a line that the output must not have and has, or must have and hasn't
-abbrev pub notice_of_line : (line : List ℕ) → (is_there : Bool) → Notice
-notice_of_line line is_there = if is_there then has_a_line line else lacks_a_line line

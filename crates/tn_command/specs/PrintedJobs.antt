@@ -6,10 +6,10 @@ use Rattle.tn_text.specs.declared.watched.Watched.{Watched}
 use Rattle.tn_run.specs.Ends.{WritesFront}
 use Rattle.tn_run.specs.Jobs.{JobView, WritesSome}
 use Rattle.tn_command.specs.Ends.{last_error_inner, tee_inner}
-use Rattle.tn_command.specs.Expectations.{meets_expectation}
+use Rattle.tn_expectation.specs.Expectations.{meets_expectation}
 use Rattle.tn_command.specs.Flaws.{IsAnswerFlaw}
 use Rattle.tn_command.specs.Status.{IsStrictJudgement, IsWrittenAs, status_of}
-use Rattle.tn_command.specs.declared.expectation.Expectation.{Expectation}
+use Rattle.tn_expectation.specs.declared.expectation.Expectation.{Expectation}
 use Rattle.tn_command.specs.declared.jobs.NamedScript.{NamedScript}
 
 -- the reader of a script, below what keeps its text and its errors

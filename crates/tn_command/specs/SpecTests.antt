@@ -1,5 +1,5 @@
 -- The exit status of a trial, and what it writes (own).
-use Rattle.std.specs.Prelude.{◌≡◌, ℕ, true, List, Option, Some, Result, Ok, Err, IfErr, OnOk}
+use Rattle.std.specs.Prelude.{◌≡◌, ℕ, true, List, [], ◌∷◌, ◌++◌, codes, Option, Some, Result, Ok, Err, IfErr, OnOk}
 use Rattle.std.specs.Io.KnownBytes.{Appends}
 use Rattle.std.specs.Process.{exit_status}
 use Rattle.std.specs.declared.process.ExitCode.{ExitCode}
@@ -36,6 +36,18 @@ HasAnswerIfListed q n = n ≡ LISTED_STATUS → (text : List ℕ) × IsAnswerTo 
 abbrev pub IsAnswerIn : Format → SpecTestInput → List ℕ → Type 0
 IsAnswerIn format q text = IsTextIn (Some format) (IsAnswerTo q) text
 
+-- the line before the answer for a list, where there are several lists
+abbrev pub list_head : List ℕ → List ℕ
+list_head list = codes "list " ++ list ++ 10 ∷ []
+
+-- that line and the answer
+abbrev pub IsHeadedAnswer : SpecTestInput → List ℕ → Type 0
+IsHeadedAnswer q text = (answer : List ℕ) × IsAnswerTo q answer × (text ≡ list_head q.list.now ++ answer)
+
+-- in a format, where one is given
+abbrev pub IsHeadedAnswerIn : Option Format → SpecTestInput → List ℕ → Type 0
+IsHeadedAnswerIn format q text = IsTextIn format (IsHeadedAnswer q) text
+
 -- the same of a watched writer, with the function that tells the known bytes of what is watched
 abbrev pub TriedAs : {A W : Type 0} → ExitCode → SpecTestInput → (W → Option (List ℕ)) → (old new : Watched W) → Result Unit (SpecTestRunFault A) → Type 0
 TriedAs status q gained old new r = IsTriedAs (IsAnswerTo q) (exit_status status) q (gained (watched_inner old)) (gained (watched_inner new)) r
@@ -43,6 +55,10 @@ TriedAs status q gained old new r = IsTriedAs (IsAnswerTo q) (exit_status status
 -- and of an answer in a format
 abbrev pub TriedIn : {A W : Type 0} → Format → ExitCode → SpecTestInput → (W → Option (List ℕ)) → (old new : Watched W) → Result Unit (SpecTestRunFault A) → Type 0
 TriedIn format status q gained old new r = IsTriedAs (IsAnswerIn format q) (exit_status status) q (gained (watched_inner old)) (gained (watched_inner new)) r
+
+-- and of one after its list
+abbrev pub HeadedIn : {A W : Type 0} → Option Format → ExitCode → SpecTestInput → (W → Option (List ℕ)) → (old new : Watched W) → Result Unit (SpecTestRunFault A) → Type 0
+HeadedIn format status q gained old new r = IsTriedAs (IsHeadedAnswerIn format q) (exit_status status) q (gained (watched_inner old)) (gained (watched_inner new)) r
 
 -- ---- with what it does to the writer
 
@@ -65,3 +81,6 @@ MeetsSpecTest q gained old new r = MeetsSpecTestBy (IsAnswerTo q) q gained old n
 
 abbrev pub MeetsSpecTestIn : {A W : Type 0} → Format → SpecTestInput → (W → Option (List ℕ)) → (old new : Watched W) → Result Unit (SpecTestRunFault A) → Type 0
 MeetsSpecTestIn format q gained old new r = MeetsSpecTestBy (IsAnswerIn format q) q gained old new r
+
+abbrev pub MeetsHeadedTest : {A W : Type 0} → Option Format → SpecTestInput → (W → Option (List ℕ)) → (old new : Watched W) → Result Unit (SpecTestRunFault A) → Type 0
+MeetsHeadedTest format q gained old new r = MeetsSpecTestBy (IsHeadedAnswerIn format q) q gained old new r

@@ -5,13 +5,12 @@ ghost use Rattle.tn_command.specs.Flaws.{IsFlawBy, IsScheduleFlaw};
 ghost use Rattle.tn_command.specs.Notices.{node_command_of, notice_of_account};
 
 use crate::moves_line::tell_run_refusal;
-use crate::plain_text::{escape_controls, plain_name};
 use crate::remarks::{forms_notice, print_notices, tell_schedule_picks, tell_schedule_remarks};
 use crate::stderr::{NamedText, node_notice, run_fault};
 use std::alloc::Global;
 use tn_explain::{ExplainOutcome, ExplainRequest};
 use tn_moves::Schedule;
-use tn_notice::{CommandFault, NodeCommand, Notice, print_notice};
+use tn_notice::{CommandFault, NodeCommand, Notice, escape_controls, plain_name, print_notice};
 use tn_replay::{Replay, ReplayOutcome, has_no_forms, schedule_has_remarks, text_has_remarks};
 use tn_run::{Denial, Job, RunFault};
 

@@ -1,9 +1,9 @@
-// The file that has the output that is expected.
+// The output or the listing that is expected, in a file or in standard input.
 ghost use Rattle.std.specs.Prelude.{◌≡◌, ◌+◌, ◌-◌, ◌^◌, ◌≤◌, min, length, IfErr, IfOk, IfSome, IfNone};
 ghost use Rattle.std.specs.Process.{exit_status};
 ghost use Rattle.tn_command.specs.Status.{IsFailure};
 
-use crate::source::open;
+use crate::source::{Source, open};
 use crate::status::FAULT;
 use std::alloc::Allocator;
 use std::io;
@@ -33,16 +33,15 @@ fn read_within<A: Allocator, R: Read + Drop>(
     Ok(Some(bytes))
 }
 
-/// The bytes of the file with this path, which are the output that is expected.
-fn file_bytes<R: Files + Eprint + AllocGlobal>(
+/// All that a reader holds, which is an output or a listing that is expected.
+fn expected_bytes<R: Eprint + AllocGlobal, I: Read + Drop>(
     rt: &R,
-    path: &str,
+    reader: I,
     most: usize,
 ) -> Result<Vec<u8>, ExitCode>
     ensures { IfErr result (λ status. IsFailure (exit_status status)) }
 {
-    let file = open(rt, path)?;
-    match read_within(rt.alloc(), file, most) {
+    match read_within(rt.alloc(), reader, most) {
         Ok(Some(bytes)) => Ok(bytes),
         Ok(None) => {
             print_fault(rt, CommandFault::Expectation { most }, None);
@@ -55,21 +54,22 @@ fn file_bytes<R: Files + Eprint + AllocGlobal>(
     }
 }
 
-/// The output that is expected, where a file is named that has it. The file has at most as many bytes as an output
-/// may have.
+/// The text that is expected, where a source is named that has it: an output, or the listing of a session. It has as
+/// many bytes as an output may have at most.
 ///
 /// # Errors
 ///
 /// The status, after a line on standard error, as of a file that has a script.
-pub fn output_of<R: Files + Eprint + AllocGlobal>(
+pub fn expected_text<R: Input + Files + Eprint + AllocGlobal>(
     rt: &R,
-    path: Option<&str>,
+    source: Option<Source<'_>>,
     most: usize,
 ) -> Result<Option<Vec<u8>>, ExitCode>
     ensures { IfErr result (λ status. IsFailure (exit_status status)) }
 {
-    match path {
-        Some(path) => Ok(Some(file_bytes(rt, path, most)?)),
+    match source {
+        Some(Source::Input) => Ok(Some(expected_bytes(rt, rt.reader(), most)?)),
+        Some(Source::File(path)) => Ok(Some(expected_bytes(rt, open(rt, path)?, most)?)),
         None => Ok(None),
     }
 }

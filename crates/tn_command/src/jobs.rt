@@ -3,17 +3,15 @@ ghost use Rattle.std.specs.Prelude.{◌≡◌, true, IfOk, OnErr, OnOk};
 ghost use Rattle.std.specs.Process.{exit_status};
 ghost use Rattle.tn_run.specs.Ends.{WroteAll};
 ghost use Rattle.tn_run.specs.Jobs.{Meets};
-ghost use Rattle.tn_command.specs.Expectations.{meets_expectation};
+ghost use Rattle.tn_expectation.specs.Expectations.{meets_expectation};
 ghost use Rattle.tn_command.specs.Flaws.{IsEndFlaw, output_bytes, script_bytes};
 ghost use Rattle.tn_command.specs.PrintedJobs.{IsMetByAll, IsPrintedAs, WroteNoneOrFront, script_inner};
 ghost use Rattle.tn_command.specs.Status.{IsStatus, OnFaultUntouchedOrFailed, WroteAs};
 ghost use Rattle.tn_command.specs.Status.{IsStrictStatus, IsStrictJudgement, status_of};
 
 use crate::command::Command;
-use crate::expectation::Expectation;
 use crate::judgement::judge;
 use crate::last_error::LastError;
-use crate::plain_text::{escape_controls, plain_name};
 use crate::source::{Source, open};
 use crate::status::{FAULT, JobEnd, job_status, judge_status, report};
 use crate::stderr::NamedText;
@@ -23,7 +21,8 @@ use std::io;
 use std::io::{Error, Read, Write};
 use std::process::ExitCode;
 use std::rt::Files;
-use tn_notice::{CommandFault, print_fault};
+use tn_expectation::Expectation;
+use tn_notice::{CommandFault, escape_controls, plain_name, print_fault};
 use tn_run::{DirectJob, Job, transact, write_output};
 use tn_text::Watched;
 

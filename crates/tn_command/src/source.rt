@@ -4,14 +4,13 @@ ghost use Rattle.std.specs.Process.{exit_status};
 ghost use Rattle.tn_command.specs.Sources.{IsSourceOf};
 ghost use Rattle.tn_command.specs.Status.{IsFailure};
 
-use crate::plain_text::{escape_controls, plain_name};
 use crate::status::{FAULT, REFUSED};
 use std::fs::OpenFile;
 use std::io::ErrorKind;
 use std::process::ExitCode;
 use std::rt::Files;
 use std::{fs, io};
-use tn_notice::print_no_file;
+use tn_notice::{escape_controls, plain_name, print_no_file};
 
 /// Where a text is read from.
 #[derive(Clone, Copy)]

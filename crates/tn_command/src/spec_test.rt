@@ -14,7 +14,7 @@ use crate::stderr::run_fault;
 use std::alloc::{Allocator, Global};
 use std::fmt::InlineText;
 use std::io;
-use std::io::Write;
+use std::io::{Error, Write};
 use std::process::ExitCode;
 use tn_formats::Format;
 use tn_notice::{CommandFault, Notice, TestText, TestTextFault, print_fault, print_notice};
@@ -170,6 +170,24 @@ fn tell_question<R: Eprint + AllocGlobal>(
     }
 }
 
+/// The status of a test, after its notes on standard error, or why it has no answer.
+pub(crate) fn tell_spec_test<R: Eprint + AllocGlobal>(
+    rt: &R,
+    question: &SpecTestInput<'_>,
+    end: JobEnd<(), SpecTestRunFault<Global>>,
+    reason: Option<Error>,
+) -> ExitCode
+    ensures { exit_status result ≡ exit_status end.status }
+{
+    let JobEnd { status, answer } = end;
+    match answer {
+        Ok(()) => tell_spec_notes(rt, question),
+        Err(SpecTestRunFault::SpecTestInput(fault)) => tell_question(rt, question, &fault),
+        Err(SpecTestRunFault::Run(fault)) => print_fault(rt, run_fault(fault), reason),
+    }
+    status
+}
+
 /// Answers the question on standard output, in a format where one is given, and then says its notes on standard error.
 pub fn test_spec<R: Print + Eprint + AllocGlobal>(
     rt: &R,
@@ -180,12 +198,7 @@ pub fn test_spec<R: Print + Eprint + AllocGlobal>(
     ensures listed { HasAnswerIfListed question.now (exit_status result) }
 {
     let mut writer = Watched::of(LastError::of(io::writer(rt)));
-    let JobEnd { status, answer } = test_spec_by(rt.alloc(), &mut writer, question, format);
+    let end = test_spec_by(rt.alloc(), &mut writer, question, format);
     let (_, reason) = writer.into_inner().into_parts();
-    match answer {
-        Ok(()) => tell_spec_notes(rt, question),
-        Err(SpecTestRunFault::SpecTestInput(fault)) => tell_question(rt, question, &fault),
-        Err(SpecTestRunFault::Run(fault)) => print_fault(rt, run_fault(fault), reason),
-    }
-    status
+    tell_spec_test(rt, question, end, reason)
 }

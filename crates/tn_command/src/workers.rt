@@ -7,7 +7,6 @@ ghost use Rattle.tn_run.specs.Workers.{IsWorkerCount};
 ghost use Rattle.tn_command.specs.Status.{IsStatus, OnFaultUntouchedOrFailed, WroteAs, status_of};
 
 use crate::command::{Command, has_flaw};
-use crate::expectation::Expectation;
 use crate::jobs::{INPUT, print_end, print_judgement, script_of, write_error};
 use crate::last_error::LastError;
 use crate::moves_line::tell_run_refusal;
@@ -27,6 +26,7 @@ use std::process::ExitCode;
 use std::rt::Files;
 use std::sync::Wait;
 use std::thread::Threads;
+use tn_expectation::Expectation;
 use tn_listing::PicksFault;
 use tn_notice::{CommandFault, NodeCommand, print_notice};
 use tn_pool::Gate;

@@ -59,19 +59,16 @@ three_after : (xs : List (List ℕ)) (a b d : List ℕ) → ((xs ++ a ∷ []) ++
 three_after [] a b d = refl
 three_after (x ∷ xs) a b d = ap (λ l. x ∷ l) (three_after xs a b d)
 
--- two arguments, one after the other
-two_after : (xs : List (List ℕ)) (a b : List ℕ) → (xs ++ a ∷ []) ++ b ∷ [] ≡ xs ++ a ∷ b ∷ []
-two_after [] a b = refl
-two_after (x ∷ xs) a b = ap (λ l. x ∷ l) (two_after xs a b)
-
--- the two arguments that say in which format the output is
-pub formats_more : (old second new : Command) (a b : Arg) → a.id.now ≡ codes "summary" → b.id.now ≡ codes "json" → AddsArg old a second → AddsArg second b new → IsWithFormats old new
-formats_more old second new a b is_a is_b with_a with_b = record {
+-- the three arguments that say in which format the output is, and which listing it must have
+pub formats_more : (old second third new : Command) (a b d : Arg) → a.id.now ≡ codes "summary" → b.id.now ≡ codes "json" → d.id.now ≡ codes "expect-session"
+    → AddsArg old a second → AddsArg second b third → AddsArg third d new → IsWithFormats old new
+formats_more old second third new a b d is_a is_b is_d with_a with_b with_d = record {
   takes_formats = λ name arguments is.
       let one = one_more name arguments (codes "summary") old second a is is_a with_a in
-      let two = one_more name _ (codes "json") second new b one is_b with_b in
-      subst (λ l. IsCommand name l new) (two_after arguments (codes "summary") (codes "json")) two;
-  wants_picks_so = λ g wants. still_wants g second new b (still_wants g old second a wants with_a) with_b;
+      let two = one_more name _ (codes "json") second third b one is_b with_b in
+      let three = one_more name _ (codes "expect-session") third new d two is_d with_d in
+      subst (λ l. IsCommand name l new) (three_after arguments (codes "summary") (codes "json") (codes "expect-session")) three;
+  wants_picks_so = λ g wants. still_wants g third new d (still_wants g second third b (still_wants g old second a wants with_a) with_b) with_d;
 }
 
 -- four arguments, one after the other

@@ -2,7 +2,7 @@
 use Rattle.std.specs.Prelude.{◌≡◌, ℕ, pos, List, [], ◌∷◌, ◌++◌, Some, None, true, false, map, codes}
 use Rattle.clap.specs.declared.builder.arg.Arg.{Arg}
 use Rattle.clap.specs.declared.builder.arg_group.ArgGroup.{ArgGroup}
-use Rattle.clap.specs.declared.builder.action.ArgAction.TheVariants.{Set, SetTrue}
+use Rattle.clap.specs.declared.builder.action.ArgAction.TheVariants.{Append, Set, SetTrue}
 use Rattle.clap.specs.declared.builder.value_parser.ValueParser.TheVariants.{Signed}
 use Rattle.clap.specs.declared.builder.command.Command.{Command}
 use Rattle.clap.specs.declared.builder.command.Command.TheViews.{out-Command}
@@ -12,6 +12,10 @@ use Rattle.clap.specs.Walk.{rule_of}
 -- the option `--NAME VALUE`
 abbrev pub IsOption : List ℕ → Arg → Type 0
 IsOption name a = ((rule_of a).id ≡ name) × ((rule_of a).long ≡ Some name) × ((rule_of a).action ≡ Some Set)
+
+-- the option `--NAME VALUE`, which may be given many times
+abbrev pub IsOptions : List ℕ → Arg → Type 0
+IsOptions name a = ((rule_of a).id ≡ name) × ((rule_of a).long ≡ Some name) × ((rule_of a).action ≡ Some Append)
 
 -- the flag `--NAME`, which takes no value
 abbrev pub IsFlag : List ℕ → Arg → Type 0
@@ -73,9 +77,9 @@ BY_PICKS = codes "script" ∷ codes "picks" ∷ codes "picks-file" ∷ codes "mo
 abbrev pub BY_PICKS_OR_ROUNDS : List (List ℕ)
 BY_PICKS_OR_ROUNDS = BY_PICKS ++ codes "round" ∷ codes "limit" ∷ codes "control" ∷ []
 
--- the arguments that say in which format the output is
+-- the arguments that say in which format the output is, and which listing it must have
 abbrev pub FORMATS : List (List ℕ)
-FORMATS = codes "summary" ∷ codes "json" ∷ []
+FORMATS = codes "summary" ∷ codes "json" ∷ codes "expect-session" ∷ []
 
 -- the command has these arguments after its own, and wants its picks as it did
 pub record IsWithFormats (old new : Command) : Type 0 where
@@ -93,11 +97,11 @@ pub record IsWithExpectation (old new : Command) : Type 0 where
 
 -- the arguments of `run`
 abbrev pub RUN : List (List ℕ)
-RUN = codes "script" ∷ codes "limit" ∷ codes "quiet" ∷ codes "summary" ∷ codes "json" ∷ EXPECTATION
+RUN = codes "script" ∷ codes "limit" ∷ codes "quiet" ∷ codes "summary" ∷ codes "json" ∷ codes "expect-session" ∷ EXPECTATION
 
 -- the arguments of `replay`
 abbrev pub REPLAY : List (List ℕ)
-REPLAY = codes "script" ∷ codes "picks" ∷ codes "picks-file" ∷ codes "moves" ∷ codes "moves-file" ∷ codes "quiet" ∷ codes "summary" ∷ codes "json" ∷ EXPECTATION
+REPLAY = codes "script" ∷ codes "picks" ∷ codes "picks-file" ∷ codes "moves" ∷ codes "moves-file" ∷ codes "quiet" ∷ codes "summary" ∷ codes "json" ∷ codes "expect-session" ∷ EXPECTATION
 
 -- the arguments of `explain`
 abbrev pub EXPLAIN : List (List ℕ)
@@ -113,15 +117,15 @@ DRAW =
 
 -- the arguments of `round`
 abbrev pub ROUND : List (List ℕ)
-ROUND = codes "script" ∷ codes "limit" ∷ codes "control" ∷ codes "quiet" ∷ codes "summary" ∷ codes "json" ∷ EXPECTATION
+ROUND = codes "script" ∷ codes "limit" ∷ codes "control" ∷ codes "quiet" ∷ codes "summary" ∷ codes "json" ∷ codes "expect-session" ∷ EXPECTATION
 
 -- the arguments of `workers`
 abbrev pub WORKERS : List (List ℕ)
-WORKERS = codes "script" ∷ codes "n" ∷ codes "turns" ∷ codes "spread" ∷ codes "quiet" ∷ codes "summary" ∷ codes "json" ∷ EXPECTATION
+WORKERS = codes "script" ∷ codes "n" ∷ codes "turns" ∷ codes "spread" ∷ codes "quiet" ∷ codes "summary" ∷ codes "json" ∷ codes "expect-session" ∷ EXPECTATION
 
 -- the arguments of `spec`
 abbrev pub TRIAL : List (List ℕ)
-TRIAL = codes "list" ∷ codes "for" ∷ codes "me" ∷ codes "caller" ∷ codes "json" ∷ codes "specification" ∷ []
+TRIAL = codes "list" ∷ codes "for" ∷ codes "me" ∷ codes "caller" ∷ codes "json" ∷ codes "file" ∷ codes "specification" ∷ []
 
 -- the commands of the program
 abbrev pub COMMAND_NAMES : List (List ℕ)

@@ -1,6 +1,6 @@
 // The arguments of the commands.
 ghost use Rattle.std.specs.Prelude.{◌≡◌, codes, true, IfOk};
-ghost use Rattle.tn_line.specs.Line.{IsOption, IsFlag, IsWord, IsElse, IsFromTo, IsOneOf, ExcludesPicks};
+ghost use Rattle.tn_line.specs.Line.{IsOption, IsOptions, IsFlag, IsWord, IsElse, IsFromTo, IsOneOf, ExcludesPicks};
 ghost use Rattle.tn_line.specs.Line.{PICKS, PICKS_OR_ROUND};
 
 use clap::{Arg, ArgAction, ArgGroup, value_parser};
@@ -124,6 +124,22 @@ pub(crate) fn json_alone<'a>(alloc: Global) -> Result<Arg<'a>, AllocError>
     json(alloc).conflicts_with("summary")
 }
 
+/// `--expect-session NAME FILE`, which no command takes beside `--json`, since JSON has no sections.
+pub(crate) fn expect_session<'a>(alloc: Global) -> Result<Arg<'a>, AllocError>
+    ensures { IfOk result (IsOption (codes "expect-session")) }
+{
+    Arg::new(alloc, "expect-session")
+        .long("expect-session")
+        .value_names(LISTING)
+        .num_args(2)
+        .help("The listing of this session must be these lines, or else the exit status is 1")
+        .action(ArgAction::Set)
+        .conflicts_with("json")
+}
+
+/// The values of `--expect-session`.
+const LISTING: &[&str] = &["NAME", "FILE"];
+
 /// `--expect FILE`.
 pub(crate) fn expect<'a>(alloc: Global) -> Arg<'a>
     ensures { IsOption (codes "expect") result }
@@ -131,32 +147,36 @@ pub(crate) fn expect<'a>(alloc: Global) -> Arg<'a>
     Arg::new(alloc, "expect")
         .long("expect")
         .value_name("FILE")
-        .help("The output must be the bytes of this file, or else the exit status is 1")
+        .help(
+            "The output must be the bytes of this file, or else the exit status is 1; - is standard input",
+        )
         .action(ArgAction::Set)
 }
 
 /// `--expect-line TEXT`. TEXT may begin with a hyphen.
 pub(crate) fn expect_line<'a>(alloc: Global) -> Arg<'a>
-    ensures { IsOption (codes "expect-line") result }
+    ensures { IsOptions (codes "expect-line") result }
 {
     Arg::new(alloc, "expect-line")
         .long("expect-line")
         .value_name("TEXT")
-        .help("The output must have this line, or else the exit status is 1")
+        .help("The output must have this line, or else the exit status is 1; it may be given again")
         .allow_hyphen_values(true)
-        .action(ArgAction::Set)
+        .action(ArgAction::Append)
 }
 
 /// `--reject-line TEXT`. TEXT may begin with a hyphen.
 pub(crate) fn reject_line<'a>(alloc: Global) -> Arg<'a>
-    ensures { IsOption (codes "reject-line") result }
+    ensures { IsOptions (codes "reject-line") result }
 {
     Arg::new(alloc, "reject-line")
         .long("reject-line")
         .value_name("TEXT")
-        .help("The output must not have this line, or else the exit status is 1")
+        .help(
+            "The output must not have this line, or else the exit status is 1; it may be given again",
+        )
         .allow_hyphen_values(true)
-        .action(ArgAction::Set)
+        .action(ArgAction::Append)
 }
 
 /// `--strict`.
@@ -325,18 +345,18 @@ pub(crate) fn spread<'a>(alloc: Global) -> Arg<'a>
 
 /// `--list TERM`. TERM may begin with a hyphen, as in all words of `spec`.
 pub(crate) fn list<'a>(alloc: Global) -> Arg<'a>
-    ensures named { IsOption (codes "list") result }
+    ensures named { IsOptions (codes "list") result }
     ensures needed { result.required ≡ true }
 {
     Arg::new(alloc, "list")
         .long("list")
         .value_name("TERM")
         .help(
-            "The list: [Arg, ..] of a call, [Receiver, Message] of a send, [Node, Sender, Message] of a receive",
+            "The list: [Arg, ..] of a call, [Receiver, Message] of a send, [Node, Sender, Message] of a receive; it may be given again",
         )
         .required(true)
         .allow_hyphen_values(true)
-        .action(ArgAction::Set)
+        .action(ArgAction::Append)
 }
 
 /// What the specification of `spec` is for.
@@ -383,6 +403,18 @@ pub(crate) fn caller<'a>(alloc: Global) -> Arg<'a>
         .help("The function that the call comes from, {Module,Function,Arity}")
         .allow_hyphen_values(true)
         .action(ArgAction::Set)
+}
+
+/// `--file FILE`, which `spec` doesn't take beside a specification.
+pub(crate) fn spec_file<'a>(alloc: Global) -> Result<Arg<'a>, AllocError>
+    ensures { IfOk result (IsOption (codes "file")) }
+{
+    Arg::new(alloc, "file")
+        .long("file")
+        .value_name("FILE")
+        .help("The file of the specification")
+        .action(ArgAction::Set)
+        .conflicts_with("specification")
 }
 
 /// The specification of `spec`.

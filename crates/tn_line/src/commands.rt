@@ -6,10 +6,10 @@ ghost use Rattle.tn_line.specs.Line.{PICKS, PICKS_OR_ROUND, BY_PICKS, BY_PICKS_O
 ghost use Rattle.tn_line.specs.Line.{RUN, REPLAY, EXPLAIN, DRAW, ROUND, WORKERS, TRIAL};
 
 use crate::arguments::{
-    caller, control, event, expect, expect_line, in_rounds, json, json_alone, limit, list,
-    max_output, move_number, moves, moves_file, node, one_of_picks, own_process, picks, picks_file,
-    picks_or_round, quiet, reject_line, script, session, specification, spread, strict, summary,
-    text, turns, without_picks, worker_count,
+    caller, control, event, expect, expect_line, expect_session, in_rounds, json, json_alone,
+    limit, list, max_output, move_number, moves, moves_file, node, one_of_picks, own_process,
+    picks, picks_file, picks_or_round, quiet, reject_line, script, session, spec_file,
+    specification, spread, strict, summary, text, turns, without_picks, worker_count,
 };
 use clap::{ArgGroup, Command};
 use std::alloc::{AllocError, Global};
@@ -28,8 +28,8 @@ Examples:
 
 Exit status:
   0  the output was written
-  1  the output was written, and isn't what --expect, --expect-line or --reject-line says, or a command
-     is refused or matches no function under --strict
+  1  the output was written, and isn't what --expect, --expect-session, --expect-line or --reject-line
+     says, or a command is refused or matches no function under --strict
   2  the script, the picks or the command line is refused
   3  a fault: a failed read or write, a lack of memory, or an output past --max-output";
 
@@ -54,11 +54,15 @@ fn by_picks<'a>(
         .group(sources)
 }
 
-/// The command with `[--summary] [--json]` more, which say in which format its output is.
+/// The command with `[--summary] [--json] [--expect-session NAME FILE]` more, which say in which format its output is,
+/// and which listing it must have.
 fn with_formats<'a>(alloc: Global, command: Command<'a>) -> Result<Command<'a>, AllocError>
     ensures { IfOk result (IsWithFormats command.entry) }
 {
-    command.arg(summary(alloc))?.arg(json_alone(alloc)?)
+    command
+        .arg(summary(alloc))?
+        .arg(json_alone(alloc)?)?
+        .arg(expect_session(alloc)?)
 }
 
 /// The command with `[--expect FILE] [--expect-line TEXT] [--reject-line TEXT] [--strict] [--max-output BYTES]` more,
@@ -175,7 +179,7 @@ fn workers<'a>(alloc: Global) -> Result<Command<'a>, AllocError>
     with_expectation(alloc, command)
 }
 
-/// The subcommand `spec --list TERM [--for EVENT] [--me N] [--caller TERM] [--json] [SPECIFICATION]`.
+/// The subcommand `spec --list TERM [--for EVENT] [--me N] [--caller TERM] [--json] [--file FILE] [SPECIFICATION]`.
 fn spec<'a>(alloc: Global) -> Result<Command<'a>, AllocError>
     ensures { IfOk result (IsCommand (codes "spec") TRIAL) }
 {
@@ -188,6 +192,7 @@ fn spec<'a>(alloc: Global) -> Result<Command<'a>, AllocError>
         .arg(own_process(alloc))?
         .arg(caller(alloc))?
         .arg(json(alloc))?
+        .arg(spec_file(alloc)?)?
         .arg(specification(alloc))
 }
 

@@ -2,7 +2,7 @@
 use Rattle.std.proofs.Common.{◌≡◌, ℕ, List, ◌++◌, Some, codes, decimal, ap, ◌∙◌, append_assoc}
 use Rattle.def_notice.specs.FaultTexts.{output_text, of_listings, of_expectation, fault_text}
 use Rattle.def_notice.specs.DifferenceTexts.{expected_output, found_output, two_lines, numbered_line, output_difference_text}
-use Rattle.def_notice.specs.NoticeTexts.{NodeCommand, node_command_text, no_value, pick_of_nobody, node_moves, notice_text}
+use Rattle.def_notice.specs.NoticeTexts.{InputText, input_text_name, both_from_input, NodeCommand, node_command_text, no_value, pick_of_nobody, node_moves, notice_text}
 
 -- each of three, four and more texts after the first
 of_three : (a b c : List ℕ) → a ++ b ++ c ≡ a ++ (b ++ c)
@@ -52,3 +52,7 @@ pieces_of_moves n m c =
     let end = codes " shows where" in
     append_assoc (codes "note: a running node differs at " ++ decimal n ++ codes " of " ++ decimal m ++ codes " moves; ") (node_command_text c) end
     ∙ of_six (codes "note: a running node differs at ") (decimal n) (codes " of ") (decimal m) (codes " moves; ") (node_command_text c ++ end)
+
+pub pieces_of_inputs : (one other : InputText) → notice_text (both_from_input one other)
+    ≡ codes "error: the " ++ (input_text_name one ++ (codes " and the " ++ (input_text_name other ++ codes " can't both be standard input")))
+pieces_of_inputs one other = of_five (codes "error: the ") (input_text_name one) (codes " and the ") (input_text_name other) (codes " can't both be standard input")

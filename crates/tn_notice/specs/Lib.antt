@@ -5,3 +5,4 @@ pub mod NoticeViews
 pub mod MovesViews
 pub mod PickNotes
 pub mod PrintableLines
+pub mod PlainTexts

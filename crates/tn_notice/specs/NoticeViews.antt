@@ -5,8 +5,8 @@ use Rattle.std.specs.Option.{option_map}
 use Rattle.def_notice.specs.NoticeTexts as texts
 use Rattle.tn_notice.specs.declared.notice.NodeCommand.{NodeCommand}
 use Rattle.tn_notice.specs.declared.notice.NodeCommand.TheVariants as commands
-use Rattle.tn_notice.specs.declared.notice.ReadBeside.{ReadBeside}
-use Rattle.tn_notice.specs.declared.notice.ReadBeside.TheVariants as beside
+use Rattle.tn_notice.specs.declared.notice.InputText.{InputText}
+use Rattle.tn_notice.specs.declared.notice.InputText.TheVariants as inputs
 use Rattle.tn_notice.specs.declared.notice.Notice.{Notice}
 use Rattle.tn_notice.specs.declared.notice.Notice.TheVariants as notices
 use Rattle.tn_notice.specs.FaultViews.{command_fault_seen}
@@ -17,16 +17,19 @@ abbrev pub command_seen_of : NodeCommand → texts.NodeCommand
 command_seen_of commands.SamePicks = texts.by_same_picks
 command_seen_of commands.Journal = texts.by_journal
 
-abbrev pub beside_seen : ReadBeside → texts.ReadBeside
-beside_seen beside.Picks = texts.picks_beside
-beside_seen beside.Moves = texts.moves_beside
+abbrev pub input_text_seen : InputText → texts.InputText
+input_text_seen inputs.Script = texts.the_script
+input_text_seen inputs.Picks = texts.the_picks
+input_text_seen inputs.Moves = texts.the_moves
+input_text_seen inputs.Output = texts.the_output
+input_text_seen inputs.Listing = texts.the_listing
 
 abbrev pub notice_seen : Notice → texts.Notice
 notice_seen (notices.Line line) = texts.given_line line.now
 notice_seen (notices.Fault f) = texts.of_fault (command_fault_seen f)
 notice_seen (notices.FaultBecause f reason) = texts.of_fault_because (command_fault_seen f) reason.now
 notice_seen (notices.NoFile path reason) = texts.no_file path.now reason.now
-notice_seen (notices.BothFromInput what) = texts.both_from_input (beside_seen what)
+notice_seen (notices.BothFromInput one other) = texts.both_from_input (input_text_seen one) (input_text_seen other)
 notice_seen (notices.NoValue text option reason) = texts.no_value text.now option.now reason.now
 notice_seen (notices.TestText text f) = texts.of_test_text (test_text_seen text) (test_fault_seen f)
 notice_seen (notices.NoSession name) = texts.no_session name.now
@@ -38,6 +41,7 @@ notice_seen (notices.NodeMoves n m command) = texts.node_moves n m (command_seen
 notice_seen (notices.Difference x) = texts.of_difference (difference_seen_of x)
 notice_seen (notices.LacksLine line) = texts.lacks_a_line line.now
 notice_seen (notices.HasLine line) = texts.has_a_line line.now
+notice_seen (notices.LacksListing name) = texts.lacks_a_listing name.now
 
 abbrev pub notices_seen : Option Notice → Option texts.Notice
 notices_seen n = option_map notice_seen n

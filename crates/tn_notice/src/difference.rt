@@ -6,7 +6,8 @@ ghost use Rattle.std.specs.Option.{option_map};
 ghost use Rattle.std.specs.Str.{chars};
 ghost use Rattle.def_notice.specs.DifferenceTexts.{SaysLine, SaysPair, lack_of_lines, lines_without_text, one_line};
 ghost use Rattle.def_notice.specs.DifferenceTexts.{output_difference_text, side_text, two_lines};
-ghost use Rattle.tn_notice.specs.DifferenceViews.{difference_seen_of, side_seen};
+ghost use Rattle.def_notice.specs.DifferenceTexts.{SaysAlignedLine, aligned_line, aligned_sign, range_text};
+ghost use Rattle.tn_notice.specs.DifferenceViews.{aligned_side_seen, difference_seen_of, range_seen, side_seen};
 ghost use Rattle.tn_notice.specs.PrintableLines.{IsPrintable};
 
 use std::fmt;
@@ -27,6 +28,42 @@ impl Display for Side {
             Side::Expected => f.write_str("expected"),
             Side::Found => f.write_str("found"),
         }
+    }
+}
+
+/// A line of an alignment: of both outputs, or of one of them alone.
+#[derive(Clone, Copy)]
+pub enum AlignedSide {
+    Both,
+    Expected,
+    Found,
+}
+
+impl Display for AlignedSide {
+    ghost output = { λ s. Some (aligned_sign (aligned_side_seen s)) };
+
+    fn fmt<W: Write>(&self, f: &mut Formatter<W>) -> fmt::Result {
+        match self {
+            AlignedSide::Both => f.write_str(" "),
+            AlignedSide::Expected => f.write_str("-"),
+            AlignedSide::Found => f.write_str("+"),
+        }
+    }
+}
+
+/// So many lines, of which the first has this number; where there are none, the number is that of the line before them.
+#[derive(Clone, Copy, Debug, PartialEq, Eq)]
+pub struct LineRange {
+    pub first: u64,
+    pub count: u64,
+}
+
+impl Display for LineRange {
+    ghost output = { λ r. Some (range_text (range_seen r)) };
+
+    fn fmt<W: Write>(&self, f: &mut Formatter<W>) -> fmt::Result {
+        let LineRange { first, count } = self;
+        write!(f, "{first},{count}")
     }
 }
 
@@ -62,6 +99,18 @@ pub enum OutputDifference<'a> {
     MoreLines(Side),
     /// There may be more differences.
     MoreDifferences,
+    /// Which sign is of which output.
+    AlignedOutput(Side),
+    /// Which lines come next.
+    AlignedRanges {
+        expected: LineRange,
+        found: LineRange,
+    },
+    /// A line of an alignment.
+    AlignedLine {
+        side: AlignedSide,
+        text: Option<&'a str>,
+    },
 }
 
 impl Display for OutputDifference<'_> {
@@ -95,6 +144,18 @@ impl Display for OutputDifference<'_> {
             OutputDifference::EndOfOutput(side) => write!(f, "{side} the end of the output"),
             OutputDifference::MoreLines(side) => write!(f, "{side} more lines"),
             OutputDifference::MoreDifferences => f.write_str("more lines may differ"),
+            OutputDifference::AlignedOutput(Side::Expected) => f.write_str("--- expected"),
+            OutputDifference::AlignedOutput(Side::Found) => f.write_str("+++ found"),
+            OutputDifference::AlignedRanges { expected, found } => {
+                write!(f, "@@ -{expected} +{found} @@")
+            }
+            OutputDifference::AlignedLine {
+                side,
+                text: Some(text),
+            } => write!(f, "{side}{text}"),
+            OutputDifference::AlignedLine { side, text: None } => {
+                write!(f, "{side}(a line that isn't printable)")
+            }
         }
     }
 }
@@ -132,6 +193,20 @@ pub fn line_difference(side: Side, number: u64, line: &[u8]) -> OutputDifference
     OutputDifference::OneLine {
         side,
         number,
+        text: printable(line),
+    }
+}
+
+/// What is said of a line of an alignment.
+pub fn aligned_difference(side: AlignedSide, line: &[u8]) -> OutputDifference<'_>
+    ensures line { SaysAlignedLine (aligned_side_seen side) line.now (difference_seen_of result) }
+    ensures text { IsPrintable line.now
+        → difference_seen_of result ≡ aligned_line (aligned_side_seen side) (Some line.now) }
+    ensures none { (IsPrintable line.now → ⊥)
+        → difference_seen_of result ≡ aligned_line (aligned_side_seen side) None }
+{
+    OutputDifference::AlignedLine {
+        side,
         text: printable(line),
     }
 }

@@ -1,7 +1,7 @@
 // What a command says beside its output.
 ghost use Rattle.std.specs.Prelude.{Some};
-ghost use Rattle.def_notice.specs.NoticeTexts.{node_command_text, notice_text, read_beside_text};
-ghost use Rattle.tn_notice.specs.NoticeViews.{beside_seen, command_seen_of, notice_seen};
+ghost use Rattle.def_notice.specs.NoticeTexts.{input_text_name, node_command_text, notice_text};
+ghost use Rattle.tn_notice.specs.NoticeViews.{command_seen_of, input_text_seen, notice_seen};
 
 use crate::difference::OutputDifference;
 use crate::fault::CommandFault;
@@ -29,20 +29,28 @@ impl Display for NodeCommand {
     }
 }
 
-/// What can't be read from standard input where the script is.
-#[derive(Clone, Copy)]
-pub enum ReadBeside {
+/// A text that may be read from standard input, of which only one can.
+#[derive(Clone, Copy, Debug, PartialEq, Eq)]
+pub enum InputText {
+    Script,
     Picks,
     Moves,
+    /// The output that is expected.
+    Output,
+    /// The listing of a session that is expected.
+    Listing,
 }
 
-impl Display for ReadBeside {
-    ghost output = { λ what. Some (read_beside_text (beside_seen what)) };
+impl Display for InputText {
+    ghost output = { λ text. Some (input_text_name (input_text_seen text)) };
 
     fn fmt<W: Write>(&self, f: &mut Formatter<W>) -> fmt::Result {
         match self {
-            ReadBeside::Picks => f.write_str("picks"),
-            ReadBeside::Moves => f.write_str("moves"),
+            InputText::Script => f.write_str("script"),
+            InputText::Picks => f.write_str("picks"),
+            InputText::Moves => f.write_str("moves"),
+            InputText::Output => f.write_str("expected output"),
+            InputText::Listing => f.write_str("expected listing"),
         }
     }
 }
@@ -64,8 +72,11 @@ pub enum Notice<'a> {
         path: &'a str,
         reason: &'a str,
     },
-    /// The script is read from standard input, and this too.
-    BothFromInput(ReadBeside),
+    /// Both are to be read from standard input.
+    BothFromInput {
+        one: InputText,
+        other: InputText,
+    },
     /// A value of an option is none.
     NoValue {
         text: &'a str,
@@ -110,6 +121,10 @@ pub enum Notice<'a> {
     HasLine {
         line: &'a str,
     },
+    /// The output has no listing of a session of this name.
+    LacksListing {
+        name: &'a str,
+    },
 }
 
 impl Display for Notice<'_> {
@@ -121,9 +136,9 @@ impl Display for Notice<'_> {
             Notice::Fault(fault) => Display::fmt(fault, f),
             Notice::FaultBecause { fault, reason } => write!(f, "{fault}: {reason}"),
             Notice::NoFile { path, reason } => write!(f, "error: {path}: {reason}"),
-            Notice::BothFromInput(what) => write!(
+            Notice::BothFromInput { one, other } => write!(
                 f,
-                "error: the script and the {what} can't both be standard input"
+                "error: the {one} and the {other} can't both be standard input"
             ),
             Notice::NoValue {
                 text,
@@ -157,6 +172,9 @@ impl Display for Notice<'_> {
             Notice::Difference(difference) => Display::fmt(difference, f),
             Notice::LacksLine { line } => write!(f, "error: the output has no line {line}"),
             Notice::HasLine { line } => write!(f, "error: the output has the line {line}"),
+            Notice::LacksListing { name } => {
+                write!(f, "error: the output has no listing of a session {name}")
+            }
         }
     }
 }

@@ -12,9 +12,8 @@ ghost use Rattle.tn_plain.specs.Words.{IsLimit, spelled_number, AsksFor, AsksNot
 
 use std::process::ExitCode;
 use std::rt::{Env, Files};
-use tn_command::{
-    Expectation, MAX_OUTPUT, REFUSED, Source, WithinBytes, arguments, perform, plain_number,
-};
+use tn_command::{MAX_OUTPUT, REFUSED, Source, WithinBytes, arguments, perform, plain_number};
+use tn_expectation::Expectation;
 use tn_moves::Schedule;
 use tn_notice::{Notice, print_notice};
 use tn_replay::Replay;

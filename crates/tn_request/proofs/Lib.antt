@@ -1,1 +1,2 @@
+mod SharedInputs
 pub mod TaskLemmas

@@ -5,3 +5,4 @@ pub mod TaskFlaws
 pub mod WorkersAsked
 pub mod TrialsAsked
 pub mod ExpectationsAsked
+pub mod InputsAsked

@@ -1,8 +1,9 @@
 -- The parts of a request, whatever it asks for: the script, a text beside it, and what the output must be (own).
-use Rattle.std.specs.Prelude.{ℕ, false, if◌then◌else◌, List, Option, Some, None, codes}
+use Rattle.std.specs.Prelude.{◌≡◌, ℕ, false, [], if◌then◌else◌, List, Option, Some, None, codes}
 use Rattle.std.specs.Borrow.{Bor}
 use Rattle.std.specs.Str.{bytes_eq}
 use Rattle.tn_command.specs.declared.source.Source.{Source}
+use Rattle.tn_command.specs.declared.source.Source.TheVariants.{Input, File}
 use Rattle.tn_request.specs.declared.request.ExpectationArgs.{ExpectationArgs}
 use Rattle.tn_request.specs.declared.request.PicksSource.{PicksSource}
 use Rattle.tn_request.specs.declared.request.PicksSource.TheVariants as picks
@@ -35,11 +36,19 @@ script_asked (Run run) = Some (run_script run)
 script_asked (Workers workers) = Some workers.script
 script_asked (Spec trial) = None
 
+-- nothing is said of the output
+pub record IsAnyOutput (e : ExpectationArgs) : Type 0 where
+  pub output : e.output ≡ None
+  pub session : e.session ≡ None
+  pub lines : e.lines.now ≡ []
+  pub no_lines : e.no_lines.now ≡ []
+  pub strict : e.strict ≡ false
+
 -- what the output of a request must be: anything, of a trial
-abbrev pub request_expectation : Request → ExpectationArgs
-request_expectation (Run run) = run_expectation run
-request_expectation (Workers workers) = workers.expectation
-request_expectation (Spec trial) = record { file = None; line = None; no_line = None; strict = false }
+abbrev pub IsRequestExpectation : Request → ExpectationArgs → Type 0
+IsRequestExpectation (Run run) e = e ≡ run_expectation run
+IsRequestExpectation (Workers workers) e = e ≡ workers.expectation
+IsRequestExpectation (Spec trial) e = IsAnyOutput e
 
 -- the text of picks or of moves that is to be read: none where it is given
 abbrev pub picks_source_asked : PicksSource → Option TextSource
@@ -60,13 +69,14 @@ run_text_source (Explain script run filter e) = run_source_asked run
 run_text_source (Draw script run format e) = run_source_asked run
 run_text_source (Round script limit control_first quiet e) = None
 
--- the specification is to be read where none is given, or `-` is
-abbrev pub spec_text_source : Option (Bor (List ℕ)) → Option TextSource
-spec_text_source None = Some Specification
-spec_text_source (Some words) = if bytes_eq words.now (codes "-") then Some Specification else None
+-- the specification is to be read where a file has it, or where none is given, or `-` is
+abbrev pub spec_text_source : (file specification : Option (Bor (List ℕ))) → Option TextSource
+spec_text_source (Some path) specification = Some (Specification (File path))
+spec_text_source None None = Some (Specification Input)
+spec_text_source None (Some words) = if bytes_eq words.now (codes "-") then Some (Specification Input) else None
 
 -- the text that is to be read beside the script
 abbrev pub text_source_asked : Request → Option TextSource
 text_source_asked (Run run) = run_text_source run
 text_source_asked (Workers workers) = None
-text_source_asked (Spec trial) = spec_text_source trial.specification
+text_source_asked (Spec trial) = spec_text_source trial.file trial.specification

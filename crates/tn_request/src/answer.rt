@@ -20,9 +20,10 @@ use std::rt::Files;
 use std::sync::Wait;
 use std::thread::Threads;
 use tn_command::{
-    Expectation, INPUT, InFormat, JobEnd, OutputFault, OutputForm, Source, Streams, WithinBytes,
-    open, perform_over, print_over, test_spec,
+    INPUT, InFormat, JobEnd, OutputFault, OutputForm, Source, Streams, WithinBytes, open,
+    perform_over, print_over, test_specs,
 };
+use tn_expectation::Expectation;
 use tn_run::RunFault;
 use tn_text::Watched;
 
@@ -133,6 +134,11 @@ pub fn answer_request<R: Input + Files + Print + Eprint + AllocGlobal + Threads 
     match request {
         Request::Run(run) => perform_request(rt, run, read, form, expectation),
         Request::Workers(workers) => run_workers_request(rt, workers, form, expectation),
-        Request::Spec(trial) => test_spec(rt, &spec_input_of(trial, read), form.format),
+        Request::Spec(trial) => test_specs(
+            rt,
+            &spec_input_of(trial, read),
+            trial.lists,
+            form.format,
+        ),
     }
 }

@@ -5,6 +5,7 @@
 #![tactic(auto)]
 
 mod answer;
+mod inputs;
 mod job;
 mod output;
 mod request;
@@ -14,10 +15,10 @@ mod workers;
 
 pub use answer::{answer_request, perform_request_over, print_request_over};
 pub use job::{RequestJob, RequestOutcome, format_of, job_of};
-pub use output::expectation_of;
+pub use output::{ExpectedTexts, expectation_of, expected_texts};
 pub use request::{
-    ExpectationArgs, PicksSource, Request, RunRequest, RunSource, SpecTestArgs, TextSource,
-    WorkersRequest,
+    ExpectationArgs, PicksSource, Request, RunRequest, RunSource, SessionArgs, SpecTestArgs,
+    TextSource, WorkersRequest,
 };
 pub use schedule::schedule_of;
 pub use trial::spec_input_of;

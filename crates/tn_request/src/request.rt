@@ -36,25 +36,48 @@ pub enum RunSource<'a> {
 #[derive(Clone, Copy)]
 pub struct SpecTestArgs<'a> {
     pub dialect: Dialect,
-    pub list: &'a str,
+    /// The lists, one after another.
+    pub lists: &'a [&'a str],
     pub self_pid: u32,
     pub caller: Option<&'a str>,
-    /// The specification, where it isn't standard input.
+    /// The specification, where it is neither in a file nor standard input.
     pub specification: Option<&'a str>,
+    /// The file that has it.
+    pub file: Option<&'a str>,
+}
+
+/// The listing that an output must have, in the words of the command line.
+#[derive(Clone, Copy)]
+pub struct SessionArgs<'a> {
+    /// The session's name.
+    pub name: &'a str,
+    /// Where its listing is.
+    pub source: Source<'a>,
 }
 
 /// What an output must be, in the words of the command line.
 #[derive(Clone, Copy)]
 pub struct ExpectationArgs<'a> {
-    /// The file whose bytes it must be.
-    pub file: Option<&'a str>,
-    /// The line that it must have.
-    pub line: Option<&'a str>,
-    /// The line that it must not have.
-    pub no_line: Option<&'a str>,
+    /// Where the bytes are that it must be.
+    pub output: Option<Source<'a>>,
+    /// The listing that it must have.
+    pub session: Option<SessionArgs<'a>>,
+    /// The lines that it must have.
+    pub lines: &'a [&'a str],
+    /// The lines that it must not have.
+    pub no_lines: &'a [&'a str],
     /// Whether each command must be done.
     pub strict: bool,
 }
+
+/// What an output must be where nothing is said of it.
+const ANY_OUTPUT: ExpectationArgs<'static> = ExpectationArgs {
+    output: None,
+    session: None,
+    lines: &[],
+    no_lines: &[],
+    strict: false,
+};
 
 /// A run by a schedule that the command line asks for.
 #[derive(Clone, Copy)]
@@ -122,7 +145,7 @@ pub enum Request<'a> {
 pub enum TextSource<'a> {
     Picks(Source<'a>),
     Moves(Source<'a>),
-    Specification,
+    Specification(Source<'a>),
 }
 
 impl<'a> PicksSource<'a> {
@@ -200,31 +223,29 @@ impl<'a> SpecTestArgs<'a> {
 
     /// The text of the specification, where it is to be read.
     fn text_source(&self) -> Option<TextSource<'a>>
-        ensures { result ≡ spec_text_source self.now.specification }
+        ensures { result ≡ spec_text_source self.now.file self.now.specification }
     {
+        if let Some(path) = self.file {
+            return Some(TextSource::Specification(Source::File(path)));
+        }
         match self.specification {
-            None | Some("-") => Some(TextSource::Specification),
+            None | Some("-") => Some(TextSource::Specification(Source::Input)),
             Some(_) => None,
         }
     }
 }
 
 impl<'a> Request<'a> {
-    ghost use Rattle.tn_request.specs.RequestParts.{request_expectation, script_asked, text_source_asked};
+    ghost use Rattle.tn_request.specs.RequestParts.{IsRequestExpectation, script_asked, text_source_asked};
 
     /// What the output must be; anything, of a trial.
     pub fn expectation(&self) -> ExpectationArgs<'a>
-        ensures { result ≡ request_expectation self.now }
+        ensures { IsRequestExpectation self.now result }
     {
         match *self {
             Request::Run(run) => run.expectation(),
             Request::Workers(workers) => workers.expectation,
-            Request::Spec(_) => ExpectationArgs {
-                file: None,
-                line: None,
-                no_line: None,
-                strict: false,
-            },
+            Request::Spec(_) => ANY_OUTPUT,
         }
     }
 

@@ -16,9 +16,9 @@ use std::rt::Files;
 use std::sync::Wait;
 use std::thread::Threads;
 use tn_command::{
-    Expectation, JobEnd, OutputFault, OutputForm, Start, WorkersRun, run_workers,
-    run_workers_in_form_over,
+    JobEnd, OutputFault, OutputForm, Start, WorkersRun, run_workers, run_workers_in_form_over,
 };
+use tn_expectation::Expectation;
 use tn_run::{LiveFault, Ran, Workers};
 use tn_text::Watched;
 

@@ -8,7 +8,7 @@ use Rattle.tn_command.specs.declared.last_error.LastError.{LastError}
 use Rattle.tn_text.specs.Watch.{watched_inner}
 use Rattle.tn_run.specs.Jobs.{Writes}
 use Rattle.tn_command.specs.Ends.{last_error_inner, tee_inner}
-use Rattle.tn_command.specs.Expectations.{meets_expectation}
+use Rattle.tn_expectation.specs.Expectations.{meets_expectation}
 use Rattle.tn_command.specs.Flaws.{script_bytes}
 use Rattle.tn_command.specs.PrintedJobs.{WroteNoneOrFront}
 use Rattle.tn_command.specs.Status.{status_after_judgement}

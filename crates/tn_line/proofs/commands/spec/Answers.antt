@@ -13,4 +13,5 @@ returns c =
     c.in_ok-arg-3.ensures in
     let fourth = one_more name _ (codes "caller") c.in_ok-arg-3.field-0 c.in_ok-arg-4.field-0 c.caller.result third c.caller.ensures.0 c.in_ok-arg-4.ensures in
     let fifth = one_more name _ (codes "json") c.in_ok-arg-4.field-0 c.in_ok-arg-5.field-0 c.json.result fourth c.json.ensures.0 c.in_ok-arg-5.ensures in
-    one_more_so name _ (codes "specification") c.in_ok-arg-5.field-0 c.specification.result c.arg-6.result fifth c.specification.ensures.0 c.arg-6.ensures
+    let sixth = one_more name _ (codes "file") c.in_ok-arg-5.field-0 c.in_ok-arg-6.field-0 c.in_ok-spec_file.field-0 fifth c.in_ok-spec_file.ensures.0 c.in_ok-arg-6.ensures in
+    one_more_so name _ (codes "specification") c.in_ok-arg-6.field-0 c.specification.result c.arg-7.result sixth c.specification.ensures.0 c.arg-7.ensures

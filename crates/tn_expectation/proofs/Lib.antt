@@ -1,0 +1,2 @@
+pub mod FirstLines
+mod AllLines

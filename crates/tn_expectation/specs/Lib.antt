@@ -1,0 +1,3 @@
+pub mod AlignedLines
+pub mod Expectations
+pub mod Unmet

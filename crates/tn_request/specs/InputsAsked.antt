@@ -1,0 +1,64 @@
+-- Which texts a request reads from standard input (own), which has one alone.
+-- Depends on the parts of a request, and on what is said of two such texts.
+use Rattle.std.specs.Prelude.{◌≡◌, List, [], ◌∷◌, ◌++◌, Option, Some, None, option_map, option_and_then}
+use Rattle.def_notice.specs.NoticeTexts.{InputText, the_script, the_picks, the_moves, the_output, the_listing}
+use Rattle.tn_notice.specs.declared.notice.InputText as code
+use Rattle.tn_notice.specs.NoticeViews.{input_text_seen}
+use Rattle.tn_command.specs.declared.source.Source.{Source}
+use Rattle.tn_command.specs.declared.source.Source.TheVariants.{Input, File}
+use Rattle.tn_request.specs.declared.request.ExpectationArgs.{ExpectationArgs}
+use Rattle.tn_request.specs.declared.request.Request.{Request}
+use Rattle.tn_request.specs.declared.request.Request.TheVariants.{Run, Workers, Spec}
+use Rattle.tn_request.specs.declared.request.TextSource.{TextSource}
+use Rattle.tn_request.specs.declared.request.TextSource.TheVariants.{Picks, Moves, Specification}
+use Rattle.tn_request.specs.RequestParts.{run_expectation, script_asked, text_source_asked}
+
+-- the text, where its source is standard input
+abbrev pub of_source : Option Source → InputText → Option InputText
+of_source None text = None
+of_source (Some Input) text = Some text
+of_source (Some (File path)) text = None
+
+-- the text beside the script
+abbrev pub text_input : Option TextSource → Option InputText
+text_input None = None
+text_input (Some (Picks source)) = of_source (Some source) the_picks
+text_input (Some (Moves source)) = of_source (Some source) the_moves
+text_input (Some (Specification source)) = None
+
+-- the list of what is there
+abbrev pub if_some : Option InputText → List InputText
+if_some None = []
+if_some (Some text) = text ∷ []
+
+-- what is expected
+abbrev pub expected_inputs : ExpectationArgs → List InputText
+expected_inputs e = if_some (of_source e.output the_output) ++ if_some (of_source (option_map (λ words. words.source) e.session) the_listing)
+
+-- all that a request reads from standard input; of a trial nothing is expected
+abbrev pub inputs_asked : Request → List InputText
+inputs_asked (Run run) = if_some (of_source (script_asked (Run run)) the_script) ++ if_some (text_input (text_source_asked (Run run))) ++ expected_inputs (run_expectation run)
+inputs_asked (Workers workers) = if_some (of_source (Some workers.script) the_script) ++ expected_inputs workers.expectation
+inputs_asked (Spec trial) = []
+
+-- the first two of these texts
+abbrev pub first_two : List InputText → Option (InputText × InputText)
+first_two [] = None
+first_two (one ∷ []) = None
+first_two (one ∷ other ∷ more) = Some (one, other)
+
+-- those of a request
+abbrev pub shared_input : Request → Option (InputText × InputText)
+shared_input r = first_two (inputs_asked r)
+
+-- ---- of the code
+
+abbrev pub both_inputs : Option InputText → Option InputText → Option (InputText × InputText)
+both_inputs one other = option_and_then (λ a. option_map (λ b. (a, b)) other) one
+
+-- the first two of four that may be there
+abbrev pub two_of : (a b c d : Option InputText) → Option (InputText × InputText)
+two_of a b c d = first_two (if_some a ++ if_some b ++ (if_some c ++ if_some d))
+
+abbrev pub input_pair_seen : code.InputText × code.InputText → InputText × InputText
+input_pair_seen p = (input_text_seen p.0, input_text_seen p.1)
