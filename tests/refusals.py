@@ -3,8 +3,10 @@
 The lines were worked out by hand. A script goes by the name script.term.
 """
 
-# What a name must be, what a name that is none must be a tuple of, and the words of the limits on scripts and on terms.
+# What a name and what a function must be, what is no step and no command must be a tuple of, and the words of the
+# limits on scripts and on terms.
 NAME = " must be a name, an atom that begins with no capital letter and is not '_', found "
+CALLEE = " must be two names, a module and a function without its arity, found "
 STEPS = "send, 'receive', call, 'catch', spawn, link, unlink, return, error, throw or exit"
 COMMANDS = "session_create, session_destroy, process, function, send or recv"
 COUNTS = "at most 64 functions, 64 steps in each, 16 processes, 256 commands, 128 sessions"
@@ -12,7 +14,7 @@ SIZES = "integers have 64 bits, atoms 255 characters, tuples 255 elements, lists
 
 # A form without a shape, alone in its text, and which part of it has none.
 SHAPES = (
-    ("a", "it must be {function,M,F,Vis,Params,Steps}, {process,M,F,Args} or {control,Commands}, found a"),
+    ("a", "it must be {function,M,F,Vis,Params,Steps}, {process,M,F,Args} or {control,[Command,..]}, found a"),
     ("{function,m,f,exported,[]}", "{function,M,F,Vis,Params,Steps} has 6 elements, found 5"),
     ("{function,'M',f,exported,[],[]}", "M" + NAME + "'M'"),
     ("{function,m,'_',exported,[],[]}", "F" + NAME + "'_'"),
@@ -47,8 +49,21 @@ STEP_SHAPES = (
     ("{'receive','Self'}", "V must be '_' or a variable other than 'Self', in quotes, found 'Self'"),
     ("{call,v,f,[]}", "V must be '_' or a variable other than 'Self', in quotes, found v"),
     ("{call,'_',1,[]}", "F" + NAME + "1"),
-    ("{spawn,'_',{m},[]}", "{M,F} must be two names, found {m}"),
+    ("{spawn,'_',{m},[]}", "{M,F}" + CALLEE + "{m}"),
+    ("{spawn,'_',rest,[]}", "{M,F}" + CALLEE + "rest"),
+    ("{call,'_',{m,f,1},[1]}", "{M,F}" + CALLEE + "{m,f,1}"),
     ("{call,'_',f,x}", "Args must be a list, found x"),
+    (
+        "{spawn_link,'X',{m,f},[]}",
+        "spawn_link isn't modelled: write spawn, and then link, found {spawn_link,'X',{m,f},[]}",
+    ),
+    ("{monitor,'X'}", "monitor isn't modelled: link is, found {monitor,'X'}"),
+    (
+        "{process_flag,trap_exit,true}",
+        "process_flag isn't modelled: no process traps exits, found {process_flag,trap_exit,true}",
+    ),
+    ("{'case','X'}", "'case' isn't modelled: a function has no branches, found {'case','X'}"),
+    ("{'if','X'}", "'if' isn't modelled: a function has no branches, found {'if','X'}"),
     ("{jump,1}", "it must be a tuple of " + STEPS + ", found {jump,1}"),
 )
 
@@ -62,6 +77,15 @@ COMMAND_SHAPES = (
     ("{session_create,'A',t,[]}", "S" + NAME + "'A'"),
     ("{send,a,[],[x]}", "the last element must be [], found [x]"),
     ("{session_create,a,'T',[]}", "T" + NAME + "'T'"),
+    ("{'receive',a,true,[]}", "'receive' is no command: recv is meant, found {'receive',a,true,[]}"),
+    ("{trace,all,true,[]}", "trace is no command: process is meant, found {trace,all,true,[]}"),
+    (
+        "{trace_pattern,{m,f,1},true}",
+        "trace_pattern is no command: function is meant, found {trace_pattern,{m,f,1},true}",
+    ),
+    ("{info,a,all,flags}", "info of OTP 27 isn't modelled, found {info,a,all,flags}"),
+    ("{delivered,a,all}", "delivered of OTP 27 isn't modelled, found {delivered,a,all}"),
+    ("{session_info,all}", "session_info of OTP 27 isn't modelled, found {session_info,all}"),
     ("x", "it must be a tuple of " + COMMANDS + ", found x"),
     ("\"" + "a" * 59 + "\"", "it must be a tuple of " + COMMANDS + ", found [" + "97," * 19 + "97.."),
 )
@@ -94,11 +118,33 @@ TOKENS = (
     ),
     ("{<0.007.0>}.", 2, "a term or '}' expected, found the pid <0.007.0>: a pid is <0.N.0>, N without leading zeros"),
     ("{<a>}.", 2, "a term or '}' expected, found '<': a pid is <0.N.0>, N without leading zeros"),
-    ("{#r}.", 2, "a term or '}' expected, found '#': there are no records, and numbers are decimal"),
+    ("{#r}.", 2, "a term or '}' expected, found '#': there are no references, ports or records, and numbers are decimal"),
     ("{$a}.", 2, "a term or '}' expected, found the character $a: a character is written as its number"),
-    ("[a|b].", 3, "',' or ']' expected, found '|': a list has no tail"),
+    ("[a|b].", 3, "',' or ']' expected, found '|': a list has no tail, though one of a node may have"),
     ("{a,fun}.", 4, "a term expected, found the reserved word fun: there are no funs, and the atom is written 'fun'"),
     ("{a,\1}.", 4, "a term expected, found the byte 1"),
+    (
+        "{1_000}.",
+        3,
+        "',' or '}' expected, found the variable _000: numbers have no '_', and variables are written in quotes, '_000'",
+    ),
+    ("{self()}.", 6, "',' or '}' expected, found '(': a term has no calls, and 'Self' is the own pid"),
+    ("{- 1}.", 2, "a term or '}' expected, found '-': a sign stands before its digits, as in -1"),
+    (
+        "-module(m).",
+        1,
+        "a form expected, found '-': a script is no module, and its forms are {function,..}, {process,..} and {control,..}",
+    ),
+    (
+        "{a,\u2018b\u2019}.",
+        4,
+        "a term expected, found the byte 226: a typographic quote begins with it, and ' is meant",
+    ),
+    (
+        "\ufeff{process,m,f,[]}.",
+        1,
+        "a form expected, found the byte 239: a byte order mark begins with it, and a script has none",
+    ),
 )
 
 # A text with a token past a limit of terms, its column, the words of the rule, and what is said of it.
@@ -244,7 +290,7 @@ REFUSALS = [
     ),
     (
         "{function,m,f,exported,[],[{'catch','X',f,[]}]}.",
-        "script.term:1:28: form 1: no form has this shape: step 1: {M,F} must be two names, found f",
+        "script.term:1:28: form 1: no form has this shape: step 1: {M,F}" + CALLEE + "f",
     ),
     (
         "{function,m,f,exported,[],[{throw,1,2}]}.",

@@ -11,9 +11,18 @@ from refusals import REFUSALS
 # Refused picks, and which pick is none.
 PICKS = (
     ("0 100 07 1", b": pick 3, '07', has a leading zero\n"),
-    ("0  1", b": pick 2, '', is empty\n"),
+    ("0  1", b": pick 2, '', is empty: one blank stands between each two picks, and none at an end\n"),
+    ("0 100 ", b": pick 3, '', is empty: one blank stands between each two picks, and none at an end\n"),
+    ("0! go!", b": pick 1, '0!', is no decimal number: a text of moves is given by --moves\n"),
+    ("0*3", b": pick 1, '0*3', is no decimal number: a text of moves is given by --moves\n"),
     ("0 x", b": pick 2, 'x', is no decimal number\n"),
     ("4294967296", b": pick 1, '4294967296', is greater than 4294967295\n"),
+)
+
+# The same of picks in a file.
+PICK_LINES = (
+    (b"0 100\r\n", b": pick 2, '100?', has a carriage return: all picks are in one line\n"),
+    (b"0\n100\n", b": pick 1, '0?100', has a line feed: all picks are in one line\n"),
 )
 
 
@@ -41,6 +50,10 @@ def refusals():
         ran = run(["replay", "--picks-file", "picks"], SEND_HI, cwd=folder)
         long = b": there are 1048577 bytes, of at most 1048576\n"
         wants("1,048,577 bytes of picks", ran, 2, b"refused 20 bad picks\n", rule + long)
+        for text, why in PICK_LINES:
+            (pathlib.Path(folder) / "picks").write_bytes(text)
+            ran = run(["replay", "--picks-file", "picks"], SEND_HI, cwd=folder)
+            wants(f"the picks {text}", ran, 2, b"refused 20 bad picks\n", rule + why)
 
 
 def long_texts():

@@ -42,7 +42,7 @@ tagged s ts = braces (word s ∷ ts)
 
 -- ---- forms without a shape
 
-no_form_at_all : Says (word "a") ": it must be {function,M,F,Vis,Params,Steps}, {process,M,F,Args} or {control,Commands}, found a"
+no_form_at_all : Says (word "a") ": it must be {function,M,F,Vis,Params,Steps}, {process,M,F,Args} or {control,[Command,..]}, found a"
 unfolding is_written_bare digits
 no_form_at_all = refl
 
@@ -160,7 +160,7 @@ no_local_callee : Says (with_step (tagged "call" (word "_" ∷ number 1 ∷ (bra
 unfolding is_written_bare digits
 no_local_callee = refl
 
-no_remote_callee : Says (with_step (tagged "spawn" (word "_" ∷ (braces (word "m" ∷ [])) ∷ (brackets []) ∷ []))) ": step 1: {M,F} must be two names, found {m}"
+no_remote_callee : Says (with_step (tagged "spawn" (word "_" ∷ (braces (word "m" ∷ [])) ∷ (brackets []) ∷ []))) ": step 1: {M,F} must be two names, a module and a function without its arity, found {m}"
 unfolding is_written_bare digits
 no_remote_callee = refl
 
@@ -171,6 +171,26 @@ no_arguments = refl
 no_step_at_all : Says (with_step (tagged "jump" (number 1 ∷ []))) ": step 1: it must be a tuple of send, 'receive', call, 'catch', spawn, link, unlink, return, error, throw or exit, found {jump,1}"
 unfolding is_written_bare digits
 no_step_at_all = refl
+
+linked_spawn : Says (with_step (tagged "spawn_link" (number 1 ∷ []))) ": step 1: spawn_link isn't modelled: write spawn, and then link, found {spawn_link,1}"
+unfolding is_written_bare digits
+linked_spawn = refl
+
+monitor_step : Says (with_step (tagged "monitor" (number 1 ∷ []))) ": step 1: monitor isn't modelled: link is, found {monitor,1}"
+unfolding is_written_bare digits
+monitor_step = refl
+
+flag_of_a_process : Says (with_step (tagged "process_flag" (number 1 ∷ []))) ": step 1: process_flag isn't modelled: no process traps exits, found {process_flag,1}"
+unfolding is_written_bare digits
+flag_of_a_process = refl
+
+case_step : Says (with_step (tagged "case" (number 1 ∷ []))) ": step 1: 'case' isn't modelled: a function has no branches, found {'case',1}"
+unfolding is_written_bare digits
+case_step = refl
+
+if_step : Says (with_step (tagged "if" (number 1 ∷ []))) ": step 1: 'if' isn't modelled: a function has no branches, found {'if',1}"
+unfolding is_written_bare digits
+if_step = refl
 
 -- ---- commands without a shape; of a long term 60 bytes are shown
 
@@ -213,6 +233,30 @@ no_tracer = refl
 no_command_at_all : Says (with_command (word "x")) ": command 1: it must be a tuple of session_create, session_destroy, process, function, send or recv, found x"
 unfolding is_written_bare digits
 no_command_at_all = refl
+
+receive_command : Says (with_command (tagged "receive" (word "s" ∷ []))) ": command 1: 'receive' is no command: recv is meant, found {'receive',s}"
+unfolding is_written_bare digits
+receive_command = refl
+
+trace_command : Says (with_command (tagged "trace" (word "s" ∷ []))) ": command 1: trace is no command: process is meant, found {trace,s}"
+unfolding is_written_bare digits
+trace_command = refl
+
+pattern_command : Says (with_command (tagged "trace_pattern" (word "s" ∷ []))) ": command 1: trace_pattern is no command: function is meant, found {trace_pattern,s}"
+unfolding is_written_bare digits
+pattern_command = refl
+
+info_command : Says (with_command (tagged "info" (word "s" ∷ []))) ": command 1: info of OTP 27 isn't modelled, found {info,s}"
+unfolding is_written_bare digits
+info_command = refl
+
+delivered_command : Says (with_command (tagged "delivered" (word "s" ∷ []))) ": command 1: delivered of OTP 27 isn't modelled, found {delivered,s}"
+unfolding is_written_bare digits
+delivered_command = refl
+
+session_info_command : Says (with_command (tagged "session_info" (word "s" ∷ []))) ": command 1: session_info of OTP 27 isn't modelled, found {session_info,s}"
+unfolding is_written_bare digits
+session_info_command = refl
 
 a_long_command : Says (with_command (brackets (replicate 59 (number 97)))) ": command 1: it must be a tuple of session_create, session_destroy, process, function, send or recv, found [97,97,97,97,97,97,97,97,97,97,97,97,97,97,97,97,97,97,97,97.."
 unfolding is_written_bare digits
@@ -317,9 +361,25 @@ zero_first : picks_detail (codes "0 100 07 1") ≡ codes ": pick 3, '07', has a 
 unfolding is_written_bare digits
 zero_first = refl
 
-two_spaces : picks_detail (codes "0  1") ≡ codes ": pick 2, '', is empty"
+two_spaces : picks_detail (codes "0  1") ≡ codes ": pick 2, '', is empty: one blank stands between each two picks, and none at an end"
 unfolding is_written_bare digits
 two_spaces = refl
+
+carriage_return_after : picks_detail (codes "0 100\r") ≡ codes ": pick 2, '100\r', has a carriage return: all picks are in one line"
+unfolding is_written_bare digits
+carriage_return_after = refl
+
+line_feed_between : picks_detail (codes "0\n100 7") ≡ codes ": pick 1, '0\n100', has a line feed: all picks are in one line"
+unfolding is_written_bare digits
+line_feed_between = refl
+
+picks_of_moves : picks_detail (codes "0! go!") ≡ codes ": pick 1, '0!', is no decimal number: a text of moves is given by --moves"
+unfolding is_written_bare digits
+picks_of_moves = refl
+
+picks_of_repeated_moves : picks_detail (codes "0*3") ≡ codes ": pick 1, '0*3', is no decimal number: a text of moves is given by --moves"
+unfolding is_written_bare digits
+picks_of_repeated_moves = refl
 
 no_digit : picks_detail (codes "0 x") ≡ codes ": pick 2, 'x', is no decimal number"
 unfolding is_written_bare digits
@@ -426,7 +486,7 @@ map_here : Misplaced (reads an_element open_tuple) a_map "" of_script ": a term 
 unfolding is_written_bare digits
 map_here = refl
 
-hash_here : Misplaced (reads an_element open_tuple) a_hash "#" of_script ": a term expected, found '#': there are no records, and numbers are decimal"
+hash_here : Misplaced (reads an_element open_tuple) a_hash "#" of_script ": a term expected, found '#': there are no references, ports or records, and numbers are decimal"
 unfolding is_written_bare digits
 hash_here = refl
 
@@ -434,13 +494,37 @@ literal_here : Misplaced (reads an_element open_tuple) a_literal "$a" of_script 
 unfolding is_written_bare digits
 literal_here = refl
 
-bar_here : Misplaced (reads an_after open_list) a_bar "|" of_script ": ',' or ']' expected, found '|': a list has no tail"
+bar_here : Misplaced (reads an_after open_list) a_bar "|" of_script ": ',' or ']' expected, found '|': a list has no tail, though one of a node may have"
 unfolding is_written_bare digits
 bar_here = refl
 
 variable_here : Misplaced (reads an_element open_tuple) a_variable_word "To" of_script ": a term expected, found the variable To: variables are written in quotes, 'To'"
 unfolding is_written_bare digits
 variable_here = refl
+
+number_with_a_gap : Misplaced (reads an_after open_tuple) a_variable_word "_000" of_script ": ',' or '}' expected, found the variable _000: numbers have no '_', and variables are written in quotes, '_000'"
+unfolding is_written_bare digits
+number_with_a_gap = refl
+
+call_here : Misplaced (reads an_after open_tuple) a_mark "(" of_script ": ',' or '}' expected, found '(': a term has no calls, and 'Self' is the own pid"
+unfolding is_written_bare digits
+call_here = refl
+
+sign_alone : Misplaced (reads an_element open_tuple) a_mark "-" of_script ": a term expected, found '-': a sign stands before its digits, as in -1"
+unfolding is_written_bare digits
+sign_alone = refl
+
+module_here : Misplaced (reads a_form None) a_mark "-" of_script ": a form expected, found '-': a script is no module, and its forms are {function,..}, {process,..} and {control,..}"
+unfolding is_written_bare digits
+module_here = refl
+
+quote_here : misplaced_text [] (reads an_element open_tuple) (record { thing = a_byte; bytes = 226 ∷ [] }) of_script ≡ codes ": a term expected, found the byte 226: a typographic quote begins with it, and ' is meant"
+unfolding is_written_bare digits
+quote_here = refl
+
+order_mark_here : misplaced_text [] (reads a_form None) (record { thing = a_byte; bytes = 239 ∷ [] }) of_script ≡ codes ": a form expected, found the byte 239: a byte order mark begins with it, and a script has none"
+unfolding is_written_bare digits
+order_mark_here = refl
 
 reserved_here : Misplaced (reads an_element open_tuple) a_reserved_word "catch" of_script ": a term expected, found the reserved word catch: reserved words are written in quotes, 'catch'"
 unfolding is_written_bare digits

@@ -1,6 +1,7 @@
 -- What is wrong with a text of picks, and the text that says it (own): refusal 20.
 -- Depends on the length of a text, on digits and on how much of a token is shown.
 use Rattle.std.specs.Prelude.{ℕ, suc, ◌==◌, ◌&&◌, ◌^◌, nat_lt, Bool, not, List, [], ◌∷◌, ◌++◌, length, Option, Some, None, codes, decimal, if◌then◌else◌}
+use Rattle.std.specs.List.{list_any}
 use Rattle.std.specs.Option.{option_map, option_or}
 use Rattle.def_term.specs.Text.{is_digit}
 use Rattle.def_text.specs.Tokens.{all_are, number as number_of}
@@ -11,8 +12,8 @@ use Rattle.def_wording.specs.ShownTexts.{shown_text}
 pub data PickFault : Type 0 where
   -- it has no bytes
   no_bytes : PickFault
-  -- a byte of it is no digit
-  no_decimal : PickFault
+  -- a byte of it is no digit: a carriage return, or else a line feed, or else one that texts of moves have, or another
+  carriage_return line_feed of_moves no_decimal : PickFault
   -- it has more than one digit, and the first is 0
   leading_zero : PickFault
   -- its number has more than 32 bits
@@ -20,7 +21,10 @@ pub data PickFault : Type 0 where
 
 -- in words, after the piece
 abbrev pub pick_fault_text : PickFault → List ℕ
-pick_fault_text no_bytes = codes "is empty"
+pick_fault_text no_bytes = codes "is empty: one blank stands between each two picks, and none at an end"
+pick_fault_text carriage_return = codes "has a carriage return: all picks are in one line"
+pick_fault_text line_feed = codes "has a line feed: all picks are in one line"
+pick_fault_text of_moves = codes "is no decimal number: a text of moves is given by --moves"
 pick_fault_text no_decimal = codes "is no decimal number"
 pick_fault_text leading_zero = codes "has a leading zero"
 pick_fault_text too_great = codes "is greater than 4294967295"
@@ -29,10 +33,23 @@ pick_fault_text too_great = codes "is greater than 4294967295"
 abbrev pub fits_a_pick : List ℕ → Bool
 fits_a_pick digits = nat_lt (number_of digits) (2 ^ 32)
 
--- of a piece that begins with this byte; the first of the four that there is
+-- one of these bytes is this one
+abbrev pub has_byte : ℕ → List ℕ → Bool
+has_byte b bs = list_any (λ c. c == b) bs
+
+-- of a piece of which a byte is no digit; the marks are `!` and `*`
+abbrev pub byte_fault : List ℕ → PickFault
+byte_fault bs =
+    if has_byte 13 bs then carriage_return else
+    if has_byte 10 bs then line_feed else
+    if has_byte 33 bs then of_moves else
+    if has_byte 42 bs then of_moves else
+    no_decimal
+
+-- of a piece that begins with this byte; the first that there is
 abbrev pub fault_from : ℕ → List ℕ → Option PickFault
 fault_from b bs =
-    if not (all_are is_digit (b ∷ bs)) then Some no_decimal else
+    if not (all_are is_digit (b ∷ bs)) then Some (byte_fault (b ∷ bs)) else
     if (b == 48) && nat_lt 0 (length bs) then Some leading_zero else
     if fits_a_pick (b ∷ bs) then None else
     Some too_great

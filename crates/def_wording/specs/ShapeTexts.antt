@@ -116,7 +116,7 @@ target_reason t = unless_read (target_in t) (unfit_part (codes "V") (codes " mus
 
 -- of {M,F}
 abbrev pub callee_reason : Tree → Option PartReason
-callee_reason t = unless_read (callee_in t) (unfit_part (codes "{M,F}") (codes " must be two names") t)
+callee_reason t = unless_read (callee_in t) (unfit_part (codes "{M,F}") (codes " must be two names, a module and a function without its arity") t)
 
 -- of {M,F} or F in a call
 abbrev pub called_reason : Tree → Option PartReason
@@ -150,6 +150,16 @@ one_part_reason shape ts = Some (count_reason shape 2 ts)
 abbrev pub no_step : Tree → PartReason
 no_step t = unfit_part (codes "it must be a tuple of ") (codes "send, 'receive', call, 'catch', spawn, link, unlink, return, error, throw or exit") t
 
+-- of a tuple of these elements that is no step: what isn't modelled
+abbrev pub other_step : Tree → List Tree → PartReason
+other_step t ts =
+    if is_tagged "spawn_link" ts then unfit_part (codes "spawn_link") (codes " isn't modelled: write spawn, and then link") t else
+    if is_tagged "monitor" ts then unfit_part (codes "monitor") (codes " isn't modelled: link is") t else
+    if is_tagged "process_flag" ts then unfit_part (codes "process_flag") (codes " isn't modelled: no process traps exits") t else
+    if is_tagged "case" ts then unfit_part (codes "'case'") (codes " isn't modelled: a function has no branches") t else
+    if is_tagged "if" ts then unfit_part (codes "'if'") (codes " isn't modelled: a function has no branches") t else
+    no_step t
+
 -- of a tuple of these elements, by the first of them: the steps with one term
 abbrev pub one_term_step_reason : Tree → List Tree → Option PartReason
 one_term_step_reason t ts =
@@ -159,7 +169,7 @@ one_term_step_reason t ts =
     if is_tagged "error" ts then one_part_reason (codes "{error,T}") ts else
     if is_tagged "throw" ts then one_part_reason (codes "{throw,T}") ts else
     if is_tagged "exit" ts then one_part_reason (codes "{exit,T}") ts else
-    Some (no_step t)
+    Some (other_step t ts)
 
 -- the other steps
 abbrev pub step_fields_reason : Tree → List Tree → Option PartReason
@@ -205,6 +215,17 @@ specified_reason shape ts = Some (count_reason shape 4 ts)
 abbrev pub no_command : Tree → PartReason
 no_command t = unfit_part (codes "it must be a tuple of ") (codes "session_create, session_destroy, process, function, send or recv") t
 
+-- of a tuple of these elements that is no command: which one is meant, or what isn't modelled
+abbrev pub other_command : Tree → List Tree → PartReason
+other_command t ts =
+    if is_tagged "receive" ts then unfit_part (codes "'receive'") (codes " is no command: recv is meant") t else
+    if is_tagged "trace" ts then unfit_part (codes "trace") (codes " is no command: process is meant") t else
+    if is_tagged "trace_pattern" ts then unfit_part (codes "trace_pattern") (codes " is no command: function is meant") t else
+    if is_tagged "info" ts then unfit_part (codes "info") (codes " of OTP 27 isn't modelled") t else
+    if is_tagged "delivered" ts then unfit_part (codes "delivered") (codes " of OTP 27 isn't modelled") t else
+    if is_tagged "session_info" ts then unfit_part (codes "session_info") (codes " of OTP 27 isn't modelled") t else
+    no_command t
+
 -- of a tuple of these elements, by the first of them
 abbrev pub command_fields_reason : Tree → List Tree → Option PartReason
 command_fields_reason t ts =
@@ -214,7 +235,7 @@ command_fields_reason t ts =
     if is_tagged "function" ts then three_parts_reason (codes "{function,S,MFA,Spec,Opts}") ts else
     if is_tagged "send" ts then specified_reason (codes "{send,S,Spec,[]}") ts else
     if is_tagged "recv" ts then specified_reason (codes "{recv,S,Spec,[]}") ts else
-    Some (no_command t)
+    Some (other_command t ts)
 
 -- of a term that is to be a command
 abbrev pub command_shape_reason : Tree → Option PartReason
@@ -264,7 +285,7 @@ control_shape_reason ts = Some (of_part (count_reason (codes "{control,Commands}
 
 -- the forms there are
 abbrev pub no_form : Tree → PartReason
-no_form t = unfit_part (codes "it") (codes " must be {function,M,F,Vis,Params,Steps}, {process,M,F,Args} or {control,Commands}") t
+no_form t = unfit_part (codes "it") (codes " must be {function,M,F,Vis,Params,Steps}, {process,M,F,Args} or {control,[Command,..]}") t
 
 -- of a tuple of these elements, by the first of them
 abbrev pub form_fields_reason : Tree → List Tree → Option ShapelessReason

@@ -1,7 +1,8 @@
 -- What a line says of a refused token (own): refusals 2 to 4.
 -- Depends on places and on how much of a token is shown. What stands at a place, and how far the text is read there, is given.
-use Rattle.std.specs.Prelude.{ℕ, ◌+◌, ◌-◌, ◌^◌, min, Bool, true, false, List, [], ◌∷◌, ◌++◌, length, Option, Some, None, codes, decimal, if◌then◌else◌}
+use Rattle.std.specs.Prelude.{ℕ, ◌+◌, ◌-◌, ◌^◌, ◌==◌, ◌&&◌, min, Bool, true, false, List, [], ◌∷◌, ◌++◌, length, Option, Some, None, codes, decimal, if◌then◌else◌}
 use Rattle.std.specs.Str.{bytes_eq}
+use Rattle.def_term.specs.Text.{is_digit}
 use Rattle.def_wording.specs.ShownTexts.{shown_text}
 use Rattle.def_wording.specs.PlaceTexts.{spot_text}
 
@@ -130,9 +131,9 @@ abbrev pub thing_hint : TextThing → List ℕ
 thing_hint a_float = codes ": there are no floats"
 thing_hint a_binary = codes ": there are no binaries"
 thing_hint a_map = codes ": there are no maps"
-thing_hint a_hash = codes ": there are no records, and numbers are decimal"
+thing_hint a_hash = codes ": there are no references, ports or records, and numbers are decimal"
 thing_hint a_literal = codes ": a character is written as its number"
-thing_hint a_bar = codes ": a list has no tail"
+thing_hint a_bar = codes ": a list has no tail, though one of a node may have"
 thing_hint a_pid = codes ": a pid is <0.N.0>, N without leading zeros"
 thing_hint an_angle = codes ": a pid is <0.N.0>, N without leading zeros"
 thing_hint a_dot = codes ": a full stop has a blank, a comment or the end of the text after it"
@@ -143,6 +144,37 @@ thing_hint t = []
 -- a word that is written in quotes
 abbrev pub word_in_quotes : List ℕ → List ℕ → List ℕ
 word_in_quotes words word = words ++ shown_text word ++ codes "'"
+
+-- a word is what follows the first digits of a number like `1_000`
+abbrev pub is_part_of_number : List ℕ → Bool
+is_part_of_number (b ∷ c ∷ bs) = (b == 95) && is_digit c
+is_part_of_number bs = false
+
+-- of a variable
+abbrev pub variable_words_text : List ℕ → List ℕ
+variable_words_text word =
+    if is_part_of_number word then codes ": numbers have no '_', and variables are written in quotes, '" else codes ": variables are written in quotes, '"
+
+-- of a sign without digits, where a form may stand and elsewhere
+abbrev pub sign_hint : NextPart → List ℕ
+sign_hint a_form = codes ": a script is no module, and its forms are {function,..}, {process,..} and {control,..}"
+sign_hint n = codes ": a sign stands before its digits, as in -1"
+
+-- of a mark, where a form may stand and elsewhere
+abbrev pub mark_hint : NextPart → List ℕ → List ℕ
+mark_hint n (b ∷ []) =
+    if b == 40 then codes ": a term has no calls, and 'Self' is the own pid" else
+    if b == 45 then sign_hint n else
+    []
+mark_hint n bytes = []
+
+-- of a byte that is no character: the first of a typographic quote, or of a byte order mark
+abbrev pub byte_hint : List ℕ → List ℕ
+byte_hint [] = []
+byte_hint (b ∷ bs) =
+    if b == 226 then codes ": a typographic quote begins with it, and ' is meant" else
+    if b == 239 then codes ": a byte order mark begins with it, and a script has none" else
+    []
 
 -- of a reserved word; `fun` begins a fun
 abbrev pub reserved_words_text : List ℕ → List ℕ
@@ -181,12 +213,14 @@ string_hint n = []
 
 -- of what stands there, by how far the text is read
 abbrev pub hint_text : List ℕ → ReadSoFar → TextThing → List ℕ → TextKind → List ℕ
-hint_text bytes s a_variable_word word k = word_in_quotes (codes ": variables are written in quotes, '") word
+hint_text bytes s a_variable_word word k = word_in_quotes (variable_words_text word) word
 hint_text bytes s a_reserved_word word k = word_in_quotes (reserved_words_text word) word
 hint_text bytes s a_closer word k = closer_text bytes s k
 hint_text bytes s an_end word k = closing_text bytes s.innermost an_end k
 hint_text bytes s a_stop word k = closing_text bytes s.innermost a_stop k
 hint_text bytes s a_string word k = string_hint s.next
+hint_text bytes s a_mark word k = mark_hint s.next word
+hint_text bytes s a_byte word k = byte_hint word
 hint_text bytes s t word k = thing_hint t
 
 -- ---- the three refusals

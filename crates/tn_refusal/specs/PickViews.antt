@@ -2,11 +2,14 @@
 -- Depends on what is wrong with a text of picks.
 use Rattle.def_wording.specs.PickTexts as texts
 use Rattle.tn_refusal.specs.declared.picks.PickFault.{PickFault}
-use Rattle.tn_refusal.specs.declared.picks.PickFault.TheVariants.{NoBytes, NoDecimal, LeadingZero, TooGreat}
+use Rattle.tn_refusal.specs.declared.picks.PickFault.TheVariants.{NoBytes, CarriageReturn, LineFeed, OfMoves, NoDecimal, LeadingZero, TooGreat}
 use Rattle.tn_refusal.specs.declared.picks.WrongPick.{WrongPick}
 
 abbrev pub pick_fault_seen : PickFault → texts.PickFault
 pick_fault_seen NoBytes = texts.no_bytes
+pick_fault_seen CarriageReturn = texts.carriage_return
+pick_fault_seen LineFeed = texts.line_feed
+pick_fault_seen OfMoves = texts.of_moves
 pick_fault_seen NoDecimal = texts.no_decimal
 pick_fault_seen LeadingZero = texts.leading_zero
 pick_fault_seen TooGreat = texts.too_great

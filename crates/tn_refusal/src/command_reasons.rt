@@ -3,13 +3,16 @@ ghost use Rattle.std.specs.Prelude.{◌≡◌, map};
 ghost use Rattle.def_script.specs.Shapes.{is_empty_list as is_empty_tree};
 ghost use Rattle.def_wording.specs.ShapeTexts.{last_reason, create_reason, destroy_reason, three_parts_reason};
 ghost use Rattle.def_wording.specs.ShapeTexts.{specified_reason, no_command, command_fields_reason};
-ghost use Rattle.def_wording.specs.ShapeTexts.{command_shape_reason};
+ghost use Rattle.def_wording.specs.ShapeTexts.{command_shape_reason, other_command};
 ghost use Rattle.tn_term.specs.Views.{tree_of};
 ghost use Rattle.tn_refusal.specs.ShapeReasons.{part_reason_seen, part_reasons_seen};
 
 use crate::part_reasons::{PartReason, is_tagged, name_reason};
 use std::alloc::Allocator;
 use tn_term::Term;
+
+/// What is said of what OTP 27 has and this model hasn't.
+const NOT_MODELLED: &[u8] = b" of OTP 27 isn't modelled";
 
 /// The commands there are.
 const COMMANDS: &[u8] = b"session_create, session_destroy, process, function, send or recv";
@@ -92,6 +95,31 @@ fn no_command<'a, A: Allocator>(term: &'a Term<A>) -> PartReason<'a, A>
     PartReason::UnfitPart(b"it must be a tuple of ", COMMANDS, term)
 }
 
+/// That a tuple of these elements, which is this term, is no command: which one is meant, what isn't modelled, or which
+/// commands there are.
+fn other_command<'a, A: Allocator>(
+    term: &'a Term<A>,
+    fields: &'a [Term<A>],
+) -> PartReason<'a, A>
+    ensures { part_reason_seen result ≡ other_command (tree_of term.now) (map tree_of fields.now) }
+{
+    if is_tagged(fields, "receive") {
+        PartReason::UnfitPart(b"'receive'", b" is no command: recv is meant", term)
+    } else if is_tagged(fields, "trace") {
+        PartReason::UnfitPart(b"trace", b" is no command: process is meant", term)
+    } else if is_tagged(fields, "trace_pattern") {
+        PartReason::UnfitPart(b"trace_pattern", b" is no command: function is meant", term)
+    } else if is_tagged(fields, "info") {
+        PartReason::UnfitPart(b"info", NOT_MODELLED, term)
+    } else if is_tagged(fields, "delivered") {
+        PartReason::UnfitPart(b"delivered", NOT_MODELLED, term)
+    } else if is_tagged(fields, "session_info") {
+        PartReason::UnfitPart(b"session_info", NOT_MODELLED, term)
+    } else {
+        no_command(term)
+    }
+}
+
 /// Why a tuple of these elements, which is this term, is no command.
 fn fields_reason<'a, A: Allocator>(
     term: &'a Term<A>,
@@ -112,7 +140,7 @@ fn fields_reason<'a, A: Allocator>(
     } else if is_tagged(fields, "recv") {
         specified_reason(b"{recv,S,Spec,[]}", fields)
     } else {
-        Some(no_command(term))
+        Some(other_command(term, fields))
     }
 }
 

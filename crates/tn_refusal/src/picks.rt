@@ -4,6 +4,7 @@ ghost use Rattle.std.specs.Option.{option_map};
 ghost use Rattle.def_term.specs.Text.{is_digit};
 ghost use Rattle.def_text.specs.Tokens.{all_are};
 ghost use Rattle.def_wording.specs.PickTexts.{pick_fault as fault_of_piece, fits_a_pick, pick_fault_text};
+ghost use Rattle.def_wording.specs.PickTexts.{has_byte, byte_fault};
 ghost use Rattle.def_wording.specs.PickTexts.{wrong_pick_text, wrong_piece, first_wrong_piece};
 ghost use Rattle.def_wording.specs.PickTexts.{pieces_from, picks_detail};
 ghost use Rattle.tn_refusal.specs.PickViews.{pick_fault_seen, wrong_pick_seen};
@@ -32,6 +33,9 @@ fn fits(digits: &[u8]) -> bool
 #[derive(Clone, Copy)]
 enum PickFault {
     NoBytes,
+    CarriageReturn,
+    LineFeed,
+    OfMoves,
     NoDecimal,
     LeadingZero,
     TooGreat,
@@ -42,7 +46,10 @@ fn fault_words(fault: PickFault) -> &'static [u8]
     ensures { result.now ≡ pick_fault_text (pick_fault_seen fault) }
 {
     match fault {
-        PickFault::NoBytes => b"is empty",
+        PickFault::NoBytes => b"is empty: one blank stands between each two picks, and none at an end",
+        PickFault::CarriageReturn => b"has a carriage return: all picks are in one line",
+        PickFault::LineFeed => b"has a line feed: all picks are in one line",
+        PickFault::OfMoves => b"is no decimal number: a text of moves is given by --moves",
         PickFault::NoDecimal => b"is no decimal number",
         PickFault::LeadingZero => b"has a leading zero",
         PickFault::TooGreat => b"is greater than 4294967295",
@@ -61,6 +68,28 @@ fn are_digits(piece: &[u8]) -> bool
     true
 }
 
+/// Whether one of the bytes is this one.
+fn has_byte(bytes: &[u8], wanted: u8) -> bool
+    ensures { result ≡ has_byte wanted bytes.now }
+{
+    bytes.iter().any(|byte| *byte == wanted)
+}
+
+/// Why a piece of which a byte is no digit is no pick.
+fn byte_fault(piece: &[u8]) -> PickFault
+    ensures { pick_fault_seen result ≡ byte_fault piece.now }
+{
+    if has_byte(piece, b'\r') {
+        PickFault::CarriageReturn
+    } else if has_byte(piece, b'\n') {
+        PickFault::LineFeed
+    } else if has_byte(piece, b'!') || has_byte(piece, b'*') {
+        PickFault::OfMoves
+    } else {
+        PickFault::NoDecimal
+    }
+}
+
 /// Why a piece of the text is no pick; None where it is one.
 fn pick_fault(piece: &[u8]) -> Option<PickFault>
     ensures { option_map pick_fault_seen result ≡ fault_of_piece piece.now }
@@ -69,7 +98,7 @@ fn pick_fault(piece: &[u8]) -> Option<PickFault>
         return Some(PickFault::NoBytes);
     }
     if !are_digits(piece) {
-        return Some(PickFault::NoDecimal);
+        return Some(byte_fault(piece));
     }
     if piece[0] == b'0' && piece.len() > 1 {
         return Some(PickFault::LeadingZero);

@@ -236,7 +236,7 @@ fn control_reason<'a, A: Allocator>(fields: &'a [Term<A>]) -> Option<ShapelessRe
 
 /// The forms there are.
 const FORMS: &[u8] =
-    b" must be {function,M,F,Vis,Params,Steps}, {process,M,F,Args} or {control,Commands}";
+    b" must be {function,M,F,Vis,Params,Steps}, {process,M,F,Args} or {control,[Command,..]}";
 
 /// That a term is none of the forms there are.
 fn no_form<'a, A: Allocator>(term: &'a Term<A>) -> ShapelessReason<'a, A>

@@ -4,7 +4,7 @@ ghost use Rattle.def_script.specs.Shapes.{target_of, target_in, callee_of, calle
 ghost use Rattle.def_wording.specs.ShapeTexts.{target_reason, callee_reason};
 ghost use Rattle.def_wording.specs.ShapeTexts.{send_step_reason, receive_step_reason, call_step_reason};
 ghost use Rattle.def_wording.specs.ShapeTexts.{one_part_reason, one_term_step_reason, step_fields_reason};
-ghost use Rattle.def_wording.specs.ShapeTexts.{step_shape_reason, no_step};
+ghost use Rattle.def_wording.specs.ShapeTexts.{step_shape_reason, no_step, other_step};
 ghost use Rattle.tn_term.specs.Views.{tree_of};
 ghost use Rattle.tn_refusal.specs.ShapeReasons.{part_reason_seen, part_reasons_seen, called_reason_of};
 
@@ -17,6 +17,9 @@ use tn_term::Term;
 /// The steps there are.
 const STEPS: &[u8] =
     b"send, 'receive', call, 'catch', spawn, link, unlink, return, error, throw or exit";
+
+/// What is said of a step that chooses between branches.
+const NO_BRANCHES: &[u8] = b" isn't modelled: a function has no branches";
 
 /// Whether an atom of this text is '_' or a variable other than 'Self'.
 fn is_target_name(text: &str) -> bool
@@ -84,7 +87,7 @@ fn callee_reason<'a, A: Allocator>(term: &'a Term<A>) -> Option<PartReason<'a, A
     if is_callee(term) {
         None
     } else {
-        Some(PartReason::UnfitPart(b"{M,F}", b" must be two names", term))
+        Some(PartReason::UnfitPart(b"{M,F}", b" must be two names, a module and a function without its arity", term))
     }
 }
 
@@ -155,6 +158,27 @@ fn one_part_reason<'a, A: Allocator>(
     }
 }
 
+/// That a tuple of these elements, which is this term, is no step: what isn't modelled, or which steps there are.
+fn other_step<'a, A: Allocator>(term: &'a Term<A>, fields: &'a [Term<A>]) -> PartReason<'a, A>
+    ensures { part_reason_seen result ≡ other_step (tree_of term.now) (map tree_of fields.now) }
+{
+    if is_tagged(fields, "spawn_link") {
+        let words = b" isn't modelled: write spawn, and then link";
+        PartReason::UnfitPart(b"spawn_link", words, term)
+    } else if is_tagged(fields, "monitor") {
+        PartReason::UnfitPart(b"monitor", b" isn't modelled: link is", term)
+    } else if is_tagged(fields, "process_flag") {
+        let words = b" isn't modelled: no process traps exits";
+        PartReason::UnfitPart(b"process_flag", words, term)
+    } else if is_tagged(fields, "case") {
+        PartReason::UnfitPart(b"'case'", NO_BRANCHES, term)
+    } else if is_tagged(fields, "if") {
+        PartReason::UnfitPart(b"'if'", NO_BRANCHES, term)
+    } else {
+        no_step(term)
+    }
+}
+
 /// Why a tuple of these elements, which is this term, is no step with one term.
 fn one_term_reason<'a, A: Allocator>(
     term: &'a Term<A>,
@@ -175,7 +199,7 @@ fn one_term_reason<'a, A: Allocator>(
     } else if is_tagged(fields, "exit") {
         one_part_reason(b"{exit,T}", fields)
     } else {
-        Some(no_step(term))
+        Some(other_step(term, fields))
     }
 }
 

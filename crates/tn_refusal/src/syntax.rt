@@ -5,7 +5,8 @@ ghost use Rattle.def_text.specs.Spelling.{LENGTH};
 ghost use Rattle.def_wording.specs.SyntaxTexts.{in_tuple, next_text, thing_hint, reserved_words_text};
 ghost use Rattle.def_wording.specs.SyntaxTexts.{word_in_quotes, unopened_text, unclosed_text, closing_text};
 ghost use Rattle.def_wording.specs.SyntaxTexts.{closer_text, string_hint, hint_text, misplaced_text, string_note};
-ghost use Rattle.def_wording.specs.SyntaxTexts.{thing_at_text};
+ghost use Rattle.def_wording.specs.SyntaxTexts.{thing_at_text, is_part_of_number, variable_words_text};
+ghost use Rattle.def_wording.specs.SyntaxTexts.{sign_hint, mark_hint, byte_hint};
 ghost use Rattle.def_wording.specs.SyntaxTexts.{deep_text, characters_text, wide_text, open_text, large_text};
 ghost use Rattle.tn_refusal.specs.TextViews.{thing_seen, text_item_seen, next_seen, bracket_seen, innermost_seen};
 ghost use Rattle.tn_refusal.specs.TextViews.{read_state_seen, read_states_seen, kind_seen, TellsToken};
@@ -76,9 +77,9 @@ fn hint_of(thing: Thing) -> &'static [u8]
         Thing::Float => b": there are no floats",
         Thing::Binary => b": there are no binaries",
         Thing::Map => b": there are no maps",
-        Thing::Hash => b": there are no records, and numbers are decimal",
+        Thing::Hash => b": there are no references, ports or records, and numbers are decimal",
         Thing::Literal => b": a character is written as its number",
-        Thing::Bar => b": a list has no tail",
+        Thing::Bar => b": a list has no tail, though one of a node may have",
         Thing::Pid => b": a pid is <0.N.0>, N without leading zeros",
         Thing::Angle => b": a pid is <0.N.0>, N without leading zeros",
         Thing::Dot => b": a full stop has a blank, a comment or the end of the text after it",
@@ -154,6 +155,58 @@ fn put_closer<A: Allocator>(
     }
 }
 
+/// Whether a word is what follows the first digits of a number like `1_000`.
+fn is_part_of_number(word: &[u8]) -> bool
+    ensures { result ≡ is_part_of_number word.now }
+{
+    word.len() > 1 && word[0] == b'_' && word[1].is_ascii_digit()
+}
+
+/// What is said of a variable before the word in quotes.
+fn variable_words(word: &[u8]) -> &'static [u8]
+    ensures { result.now ≡ variable_words_text word.now }
+{
+    if is_part_of_number(word) {
+        b": numbers have no '_', and variables are written in quotes, '"
+    } else {
+        b": variables are written in quotes, '"
+    }
+}
+
+/// What is said of a sign without digits.
+fn sign_words(position: Position) -> &'static [u8]
+    ensures { result.now ≡ sign_hint (next_seen position) }
+{
+    match position {
+        Position::Form => {
+            b": a script is no module, and its forms are {function,..}, {process,..} and {control,..}"
+        }
+        _ => b": a sign stands before its digits, as in -1",
+    }
+}
+
+/// What is said of a mark.
+fn mark_words(position: Position, bytes: &[u8]) -> &'static [u8]
+    ensures { result.now ≡ mark_hint (next_seen position) bytes.now }
+{
+    match bytes {
+        [b'('] => b": a term has no calls, and 'Self' is the own pid",
+        [b'-'] => sign_words(position),
+        _ => b"",
+    }
+}
+
+/// What is said of a byte that is no character.
+fn byte_words(bytes: &[u8]) -> &'static [u8]
+    ensures { result.now ≡ byte_hint bytes.now }
+{
+    match bytes.first() {
+        Some(226) => b": a typographic quote begins with it, and ' is meant",
+        Some(239) => b": a byte order mark begins with it, and a script has none",
+        _ => b"",
+    }
+}
+
 /// What is said of a reserved word before the word in quotes.
 fn reserved_hint(word: &[u8]) -> &'static [u8]
     ensures { result.now ≡ reserved_words_text word.now }
@@ -202,12 +255,14 @@ fn put_hint<A: Allocator>(
         out.old.items ++ hint_text text.now (read_state_seen standing) (thing_seen thing) bytes.now (kind_seen kind)) }
 {
     match thing {
-        Thing::Variable => put_in_quotes(b": variables are written in quotes, '", bytes, out),
+        Thing::Variable => put_in_quotes(variable_words(bytes), bytes, out),
         Thing::Reserved => put_in_quotes(reserved_hint(bytes), bytes, out),
         Thing::Close => put_closer(text, standing, kind, out),
         Thing::End => put_closing(text, standing.innermost, Thing::End, kind, out),
         Thing::Stop => put_closing(text, standing.innermost, Thing::Stop, kind, out),
         Thing::Characters => out.extend_from_slice(string_words(standing.position)),
+        Thing::Location => out.extend_from_slice(mark_words(standing.position, bytes)),
+        Thing::Byte => out.extend_from_slice(byte_words(bytes)),
         thing => out.extend_from_slice(hint_of(thing)),
     }
 }
