@@ -97,10 +97,7 @@ fn no_command<'a, A: Allocator>(term: &'a Term<A>) -> PartReason<'a, A>
 
 /// That a tuple of these elements, which is this term, is no command: which one is meant, what isn't modelled, or which
 /// commands there are.
-fn other_command<'a, A: Allocator>(
-    term: &'a Term<A>,
-    fields: &'a [Term<A>],
-) -> PartReason<'a, A>
+fn other_command<'a, A: Allocator>(term: &'a Term<A>, fields: &'a [Term<A>]) -> PartReason<'a, A>
     ensures { part_reason_seen result ≡ other_command (tree_of term.now) (map tree_of fields.now) }
 {
     if is_tagged(fields, "receive") {

@@ -46,7 +46,8 @@ fn fault_words(fault: PickFault) -> &'static [u8]
     ensures { result.now ≡ pick_fault_text (pick_fault_seen fault) }
 {
     match fault {
-        PickFault::NoBytes => b"is empty: one blank stands between each two picks, and none at an end",
+        PickFault::NoBytes =>
+            b"is empty: one blank stands between each two picks, and none at an end",
         PickFault::CarriageReturn => b"has a carriage return: all picks are in one line",
         PickFault::LineFeed => b"has a line feed: all picks are in one line",
         PickFault::OfMoves => b"is no decimal number: a text of moves is given by --moves",

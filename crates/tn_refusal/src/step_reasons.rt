@@ -87,7 +87,11 @@ fn callee_reason<'a, A: Allocator>(term: &'a Term<A>) -> Option<PartReason<'a, A
     if is_callee(term) {
         None
     } else {
-        Some(PartReason::UnfitPart(b"{M,F}", b" must be two names, a module and a function without its arity", term))
+        Some(PartReason::UnfitPart(
+            b"{M,F}",
+            b" must be two names, a module and a function without its arity",
+            term,
+        ))
     }
 }
 
