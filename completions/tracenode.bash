@@ -27,7 +27,7 @@ _tracenode() {
         return
     else
         case $before in
-            --picks | --moves | --limit | --n | --turns | --spread | --session | --move | --list | --me | --caller) return ;;
+            --picks | --moves | --limit | --n | -n | --turns | --spread | --session | --move | --list | --me | --caller) return ;;
             --expect-session | --expect-line | --reject-line | --max-output) return ;;
             --for)
                 COMPREPLY=($(compgen -W 'call send receive' -- "$word"))
@@ -44,19 +44,19 @@ _tracenode() {
         esac
         case $command in
             run)
-                words='--limit --quiet --summary --json --expect-session'
+                words='--limit -q --quiet --summary --json --expect-session'
                 words+=' --expect --expect-line --reject-line --strict --max-output -h --help'
                 ;;
             replay)
-                words='--picks --picks-file --moves --moves-file --quiet --summary --json --expect-session'
+                words='--picks --picks-file --moves --moves-file -q --quiet --summary --json --expect-session'
                 words+=' --expect --expect-line --reject-line --strict --max-output -h --help'
                 ;;
             round)
-                words='--limit --control --quiet --summary --json --expect-session'
+                words='--limit --control -q --quiet --summary --json --expect-session'
                 words+=' --expect --expect-line --reject-line --strict --max-output -h --help'
                 ;;
             workers)
-                words='--n --turns --spread --quiet --summary --json --expect-session'
+                words='-n --n --turns --spread -q --quiet --summary --json --expect-session'
                 words+=' --expect --expect-line --reject-line --strict --max-output -h --help'
                 ;;
             explain)

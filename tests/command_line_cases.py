@@ -262,6 +262,11 @@ def quiet_runs():
         ran, quiet = run(words, SEND_HI), run([*words, "--quiet"], SEND_HI)
         seen = (quiet.returncode, quiet.stdout) == (ran.returncode, ran.stdout)
         check(f"a quiet {' '.join(words)}", seen and (quiet.returncode or not quiet.stderr), (ran, quiet))
+        short = run([*words, "-q"], SEND_HI)
+        seen = (short.returncode, short.stdout, short.stderr) == (quiet.returncode, quiet.stdout, quiet.stderr)
+        check(f"{' '.join(words)} -q", seen, (short, quiet))
+    ran = run(["workers", "-n", "1", "-q"], SEND_HI)
+    check("-n and -q", ran.returncode == 0 and ran.stdout.startswith(b"== session s1") and not ran.stderr, ran)
     ran = run(["workers", "--n", "1", "--quiet"], SEND_HI)
     check("a quiet run by workers", ran.returncode == 0 and ran.stdout.startswith(b"== session s1") and not ran.stderr, ran)
 

@@ -54,7 +54,7 @@ def completed_options(command):
     zsh = (TOP / "completions" / "_tracenode").read_text()
     part = re.search(rf"^        {command}\)(.*?);;", zsh, re.M | re.S)
     fish = (TOP / "completions" / "tracenode.fish").read_text()
-    condition = rf"(?: -n '__fish_seen_subcommand_from {command}')?(?: -s h)?"
+    condition = rf"(?: -n '__fish_seen_subcommand_from {command}')?(?: -s [a-z])?"
     return {
         "bash": {word for word in completed(("tracenode", command, "--"), TOP) if word.startswith("--")},
         "zsh": set(re.findall(r"['},*](--[a-z-]+)}?'?=?\[", part[1] if part else "")),

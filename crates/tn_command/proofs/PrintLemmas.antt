@@ -9,7 +9,7 @@ use Rattle.tn_run.specs.Jobs.{FailedEnd, JobView, Meets, Writes, WritesSome, no_
 use Rattle.tn_expectation.specs.Expectations.{meets_expectation}
 use Rattle.tn_command.specs.Flaws.{IsAnswerFlaw}
 use Rattle.tn_command.specs.PrintedJobs.{IsMetByAll, IsPrintedAs, WroteNoneOrFront}
-use Rattle.tn_command.specs.Status.{IsStrictStatus, IsWrittenAs, LISTED_STATUS, status_after_judgement, status_of}
+use Rattle.tn_command.specs.Status.{IsStrictStatus, LISTED_STATUS, status_after_judgement, status_of}
 use Rattle.tn_expectation.specs.declared.expectation.Expectation.{Expectation}
 use Rattle.tn_command.proofs.StatusLemmas.{unflawed_stays, written_so}
 

@@ -1,6 +1,6 @@
 -- What is said of the outcomes and the faults of jobs, and of the test of a match specification (own).
 -- Depends on what is said beside an output, and on outcomes and faults.
-use Rattle.std.specs.Prelude.{◌≡◌, ◌⊎◌, ℕ, Bool, false, List, [], ◌∷◌, map, take, drop, Option, Some, None, MatchOption, if◌then◌else◌}
+use Rattle.std.specs.Prelude.{◌≡◌, ◌⊎◌, ℕ, false, List, [], ◌∷◌, map, take, drop, Option, Some, None, MatchOption, if◌then◌else◌}
 use Rattle.def_term.specs.Names.{Name}
 use Rattle.def_term.specs.Text.{is_digit}
 use Rattle.def_text.specs.Places.{LineColumn, place_at}

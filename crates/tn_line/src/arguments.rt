@@ -87,12 +87,13 @@ pub(crate) fn picks_or_round<'a>(alloc: Global) -> Result<ArgGroup<'a>, AllocErr
         .arg("round")
 }
 
-/// `--quiet`.
+/// `--quiet`, `-q`.
 pub(crate) fn quiet<'a>(alloc: Global) -> Arg<'a>
     ensures { IsFlag (codes "quiet") result }
 {
     Arg::new(alloc, "quiet")
         .long("quiet")
+        .short('q')
         .help("Prints no notes on standard error")
         .action(ArgAction::SetTrue)
 }
@@ -301,7 +302,7 @@ pub(crate) fn without_picks<'a>(arg: Arg<'a>) -> Result<Arg<'a>, AllocError>
     arg.conflicts_with_all(&["picks", "picks-file", "moves", "moves-file"])
 }
 
-/// `--n N`.
+/// `--n N`, `-n N`.
 pub(crate) fn worker_count<'a>(alloc: Global) -> Arg<'a>
     ensures named { IsOption (codes "n") result }
     ensures needed { result.required ≡ true }
@@ -309,6 +310,7 @@ pub(crate) fn worker_count<'a>(alloc: Global) -> Arg<'a>
 {
     Arg::new(alloc, "n")
         .long("n")
+        .short('n')
         .value_name("N")
         .help("How many workers there are, from 1 to 16")
         .required(true)

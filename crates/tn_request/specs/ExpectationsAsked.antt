@@ -1,5 +1,5 @@
 -- What the output of a request must be, by the words of the command line (own).
-use Rattle.std.specs.Prelude.{◌≡◌, ℕ, List, Option, option_map, MatchOption, Some, None, IsSomeAnd, ◌⊎◌}
+use Rattle.std.specs.Prelude.{◌≡◌, Option, option_map, MatchOption, Some, None, IsSomeAnd, ◌⊎◌}
 use Rattle.tn_expectation.specs.declared.expectation.Expectation.{Expectation}
 use Rattle.tn_expectation.specs.declared.listing.SessionListing.{SessionListing}
 use Rattle.tn_request.specs.declared.output.ExpectedTexts.{ExpectedTexts}

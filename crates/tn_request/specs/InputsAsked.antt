@@ -1,6 +1,6 @@
 -- Which texts a request reads from standard input (own), which has one alone.
 -- Depends on the parts of a request, and on what is said of two such texts.
-use Rattle.std.specs.Prelude.{◌≡◌, List, [], ◌∷◌, ◌++◌, Option, Some, None, option_map, option_and_then}
+use Rattle.std.specs.Prelude.{List, [], ◌∷◌, ◌++◌, Option, Some, None, option_map, option_and_then}
 use Rattle.def_notice.specs.NoticeTexts.{InputText, the_script, the_picks, the_moves, the_output, the_listing}
 use Rattle.tn_notice.specs.declared.notice.InputText as code
 use Rattle.tn_notice.specs.NoticeViews.{input_text_seen}
