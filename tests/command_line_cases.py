@@ -671,7 +671,15 @@ def without_program(option, folder):
 
 
 # The documents of an archive, beside the pictures and the examples.
-DOCUMENTS = ("README.md", "CHANGELOG.md", "LICENSE", "docs/MANUAL.md", "docs/GLOSSARY.md", "docs/DIFFERENCES.md")
+DOCUMENTS = (
+    "README.md",
+    "CHANGELOG.md",
+    "LICENSE",
+    "docs/MANUAL.md",
+    "docs/GLOSSARY.md",
+    "docs/DIFFERENCES.md",
+    "docs/tracenode.schema.json",
+)
 
 
 def archive_files():

@@ -2,6 +2,7 @@
 import json
 
 from harness import EXAMPLES, NO_FORMS, SEND_HI, SEND_HI_PICKS, check, parsed, run, wants
+from schemas import is_valid
 
 KINDS = """send send_to_non_existing_process 'receive' call return_from exception_from spawn spawned exit link unlink
     getting_linked getting_unlinked""".split()
@@ -51,6 +52,21 @@ QUOTED_JSON = rb"""{"session":"'a b: tracer c'","tracer":"'d \\'e'","messages":1
 {"reply":3,"text":"{session,n}"}
 {"journal":[0,0,0,100,100]}
 """
+
+# Lines that are no object of the schema.
+NO_OBJECTS = (
+    '{"session":"s1","tracer":"t1"}',
+    '{"session":"s1","tracer":"t1","messages":-1}',
+    '{"session":"s1","tracer":"t1","messages":1,"more":1}',
+    '{"session":"s1","tracer":"t1","message":1,"kind":"sends","pid":"<0.100.0>","text":""}',
+    '{"session":"s1","tracer":"t1","message":1,"kind":"send","pid":"100","text":""}',
+    '{"reply":0,"text":"1"}',
+    '{"reply":true,"text":"1"}',
+    '{"journal":[-1]}',
+    '{"move":1,"pick":0,"event":"","session":"s1"}',
+    '"text"',
+    "[]",
+)
 
 
 def sections(output):
@@ -122,6 +138,23 @@ def holds(name, ran, wanted):
     """Each line of a run is one JSON value, these in order, with their keys in order."""
     pairs = parsed(name, lambda text: [json.loads(line, object_pairs_hook=list) for line in text.splitlines()], ran.stdout)
     check(name, ran.returncode == 0 and pairs == [list(value.items()) for value in wanted], ran)
+
+
+def schema():
+    """Each line of JSON that the program prints is one object of the schema, and other values are none."""
+    for line in NO_OBJECTS:
+        check(f"the schema has no {line}", not is_valid(json.loads(line)), line)
+    trial = ["spec", "--list", "[]", "[{'_',[],[{message,{self}}]}]"]
+    lines = [([*SEND_HI_PICKS, "--json"], SEND_HI), ([*trial, "--json"], b"")]
+    for path in sorted(EXAMPLES.glob("*.term")):
+        script = path.read_bytes()
+        picks = run(["round", "--quiet"], script).stdout.decode().splitlines()[-1]
+        lines += [(["round", "--quiet", "--json"], script), (["explain", "--picks", picks, "--json"], script)]
+    for words, script in lines:
+        ran = run(words, script)
+        name = f"the schema of {' '.join(words)[:60]}"
+        found = parsed(name, lambda text: [json.loads(line) for line in text.splitlines()], ran.stdout)
+        check(name, bool(found) and all(is_valid(value) for value in found), ran)
 
 
 def formats():

@@ -215,12 +215,12 @@ def completed_options(command):
     """The options of a command, by the completions for each shell and by the synopsis of the man page."""
     folder = TOP / "completions"
     zsh = re.search(rf"^        {command}\)\n(.*?);;", (folder / "_tracenode").read_text(), re.M | re.S)[1]
-    yield "zsh", set(re.findall(r"'\*?--([\w-]+)=?\[", zsh))
+    yield "zsh", set(re.findall(r"(?:'\*?|{-\w,)--([\w-]+)}?'?=?\[", zsh)) - {"help"}
     bash = (folder / "tracenode.bash").read_text().partition("case $command in")[2]
     bash = re.search(rf"^            {command}\)(.*?);;", bash, re.M | re.S)[1]
     yield "bash", set(re.findall(r"--([\w-]+)", bash)) - {"help"}
     fish = (folder / "tracenode.fish").read_text()
-    yield "fish", set(re.findall(rf"seen_subcommand_from {command}' -l ([\w-]+)", fish))
+    yield "fish", set(re.findall(rf"seen_subcommand_from {command}' (?:-s \w )?-l ([\w-]+)", fish))
     page = read(DOCS / "tracenode.1").replace("\\-", "-").partition(".SH DESCRIPTION")[0]
     page = page.partition(f".B tracenode {command}\n")[2].partition(".br")[0]
     yield "the man page", set(re.findall(r"--([\w-]+)", page))

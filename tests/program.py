@@ -63,7 +63,7 @@ SUBJECTS = {
         specification_cases.functions,
         specification_cases.specifications,
     ),
-    "format": (format_cases.formats,),
+    "format": (format_cases.formats, format_cases.schema),
     "bound": (
         bound_cases.bounds,
         bound_cases.refusals_in_bounds,
