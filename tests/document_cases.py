@@ -177,7 +177,7 @@ def completions():
             (("tracenode", "replay", "--q"), ["--quiet"]),
             (("tracenode", "replay", "--s"), ["--strict", "--summary"]),
             (("tracenode", "spec", "--j"), ["--json"]),
-            (("tracenode", "round", "--e"), ["--expect", "--expect-line"]),
+            (("tracenode", "round", "--e"), ["--expect", "--expect-line", "--expect-session"]),
             (("tracenode", "round", "--expect", "scripts/twi"), ["scripts/twice.term"]),
             (("tracenode", "round", "--expect", "=", "scripts/twi"), ["scripts/twice.term"]),
             (("tracenode", "round", "--s"), ["--strict", "--summary"]),
