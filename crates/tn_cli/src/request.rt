@@ -320,7 +320,9 @@ fn spec<'s, 'a: 's>(matches: &'s ArgMatches<'a>) -> Result<Request<'s>, BadNumbe
 }
 
 /// What the command line asks for, by the subcommand that it names; None where it names none.
-pub fn request_of<'s, 'a: 's>(matches: &'s ArgMatches<'a>) -> Result<Option<Request<'s>>, BadNumber<'s>>
+pub fn request_of<'s, 'a: 's>(
+    matches: &'s ArgMatches<'a>,
+) -> Result<Option<Request<'s>>, BadNumber<'s>>
     ensures asks { IfOk result (λ o. IfSome o (IsAskedBy matches.now)) }
     ensures none { IfOk result (λ o. IfNone o (NamesNoCommand matches.now)) }
     ensures refused { IfErr result (λ e. IsWithoutNumber matches.now) }
