@@ -6,6 +6,7 @@
 
 mod answers;
 mod messages;
+mod programs;
 mod search;
 
 pub use search::explore;
