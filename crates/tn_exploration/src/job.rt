@@ -3,7 +3,7 @@ ghost use Rattle.std.specs.Prelude.{IfOk};
 ghost use Rattle.tn_program.specs.Views.{program_of};
 ghost use Rattle.tn_moves.specs.Schedules.{IsSpelledBy, schedule_seen};
 ghost use Rattle.tn_run.specs.Jobs.{Meets};
-ghost use Rattle.tn_exploration.specs.Requests.{IsExplored, IsExplorationFrom, explore_by};
+ghost use Rattle.tn_exploration.specs.Requests.{IsExploration, IsExplorationFrom, explore_by};
 
 use crate::request::{ExploreOutcome, ExploreRequest};
 use crate::sessions::{names_at, places_of};
@@ -18,7 +18,7 @@ use tn_search::explore_program;
 use tn_text::Watched;
 
 /// What is written of the schedules that begin with a journal.
-fn explored<A: Allocator + Copy>(
+fn exploration_from<A: Allocator + Copy>(
     alloc: A,
     program: &Program<A>,
     request: &ExploreRequest<'_>,
@@ -49,12 +49,12 @@ fn outcome_of<A: Allocator + Copy>(
     picks: &[u32],
 ) -> Result<(ExploreOutcome, Vec<u8, A>), AllocError>
     requires { IsSpelledBy (schedule_seen request.now.schedule) picks.now }
-    ensures { IfOk result (λ r. IsExplored request.now (program_of program.now) r.0 r.1.items) }
+    ensures { IfOk result (λ r. IsExploration request.now (program_of program.now) r.0 r.1.items) }
 {
     match request.schedule.plan(alloc, program, picks) {
         Ok(plan) => {
             let before = moves_of_plan(alloc, program, &plan)?;
-            explored(alloc, program, request, &before)
+            exploration_from(alloc, program, request, &before)
         }
         Err(MovesFault::Refused(refusal)) => Ok((
             ExploreOutcome::Refused(RunRefusal::Moves(refusal)),

@@ -11,7 +11,7 @@ pub struct ExploreRequest<'a> {
     /// Which messages of a session are in an order.
     pub order: ListingOrder,
     /// The session that it is about, where it isn't about all.
-    pub session: Option<&'a [u8]>,
+    pub session: Option<&'a str>,
     /// How many states may be met before it ends.
     pub max_states: usize,
 }

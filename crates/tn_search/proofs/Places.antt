@@ -145,7 +145,7 @@ one_added Keeps n slots slot old new sink at longer shares o living ts mss h kep
     subst (λ xs. AreSinksOf Keeps xs new) (sym (ap (λ x. mss ++ track_messages (option_to_list x)) r.1))
     (subst (AreSinksOf Keeps (mss ++ r.0.messages ∷ [])) (sym longer) (pair_last (λ ms k. Keeps k ms) mss old r.0.messages sink kept (shares r.0.messages r.2.kept)))
 
-elements_more : {X : Type 0} (ns : List ℕ) (n : ℕ) (xs : List X) → elements_at (ns ++ n ∷ []) xs ≡ elements_at ns xs ++ element_at n xs
+pub elements_more : {X : Type 0} (ns : List ℕ) (n : ℕ) (xs : List X) → elements_at (ns ++ n ∷ []) xs ≡ elements_at ns xs ++ element_at n xs
 elements_more [] n xs = append-nil (element_at n xs)
 elements_more (m ∷ ns) n xs = ap (λ ys. element_at m xs ++ ys) (elements_more ns n xs) ∙ sym (append_assoc (element_at m xs) (elements_at ns xs) (element_at n xs))
 
