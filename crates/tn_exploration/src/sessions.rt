@@ -29,8 +29,9 @@ fn add_place<A: Allocator + Copy>(
     place: usize,
     places: &mut Vec<usize, A>,
 ) -> Result<(), AllocError>
-    ensures { let at = slice_get (creations (program_of program.now).commands) place in
-        OnOk result (places.new.items ≡ places.old.items ++ place_asked (option_map (λ s. s.now) asked.entry) place at) }
+    ensures { let name = option_map (λ s. s.now) asked.entry in
+        let at = slice_get (creations (program_of program.now).commands) place in
+        OnOk result (places.new.items ≡ places.old.items ++ place_asked name place at) }
 {
     let Some((name, _)) = program.session_at(place) else {
         return Ok(());
