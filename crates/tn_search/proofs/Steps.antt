@@ -89,7 +89,7 @@ module _ {A K G : Type 0} (Keeps : K → List Tree → Type 0) (b : Bool) (Adds 
       )
 
   pub on_idle : o ≡ Idle → IsIdleAfter a.program (state_journal s) pick
-  on_idle same = (came Idle same).2.0
+  on_idle same = (came Idle same).2
 
   pub on_full : o ≡ Full → IsIdleAfter a.program (state_journal s) pick
   on_full same = full_idles a.program (state_journal s) pick is.run.moved (came Full same).0

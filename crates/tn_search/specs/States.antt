@@ -3,7 +3,7 @@
 use Rattle.std.specs.Prelude.{◌≡◌, ℕ, Bool, true, false, List}
 use Rattle.def_term.specs.Tree.{Tree}
 use Rattle.def_script.specs.Program.{Program}
-use Rattle.def_run.specs.Run.{JOURNAL}
+use Rattle.def_run.specs.Run.{JOURNAL, moves}
 use Rattle.tn_program.specs.Views.{program_of}
 use Rattle.tn_trace.specs.Recorders.{HasRecorded}
 use Rattle.tn_trace.specs.Runs.{IsRun}
@@ -30,6 +30,10 @@ pub record IsStateFor {A K : Type 0} (Keeps : K → List Tree → Type 0) (b : B
 -- what is asked of the runs of a program that begin with some picks, of the sessions at these places
 abbrev pub query_of : Bool → Program → List ℕ → List ℕ → Query
 query_of b p before places = record { program = p; before = before; question = question_of b; sessions = names_at p places }
+
+-- the state is the run by these picks alone, of the sessions at these places
+abbrev pub IsStateAfter : {A K : Type 0} → (K → List Tree → Type 0) → Bool → Program → (before places : List ℕ) → ProgramState A K → Type 0
+IsStateAfter Keeps b p before places s = IsStateFor Keeps b s (query_of b p before places) × (state_journal s ≡ moves p before)
 
 -- whether the messages of a process alone are in an order
 abbrev pub is_by_process : ListingOrder → Bool

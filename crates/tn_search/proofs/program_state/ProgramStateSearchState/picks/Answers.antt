@@ -10,15 +10,15 @@ use Rattle.tn_search.proofs.program_state.ProgramStateSearchState.picks.Goals as
 
 pub returns-then-made-ge-JOURNAL : goal.returns-then-made-ge-JOURNAL
 returns-then-made-ge-JOURNAL g c = λ a is pick moving.
-    let long : length c.journal.result.now ≡ length c.args.self.now.run.journal.items = ap length c.journal.ensures in
-    no_moves g.K.MessageSink.keeps g.K.SearchSink.is_by_process c.args.self.now a is c.new.result.items pick (omega (arith, c.if-made-ge-JOURNAL.true, c.len-made.ensures)) moving
+    let long : length c.journal-made.result.now ≡ length c.args.self.now.run.journal.items = ap length c.journal-made.ensures in
+    no_moves g.K.MessageSink.keeps g.K.SearchSink.is_by_process c.args.self.now a is c.new.result.items pick (omega (arith, c.if-made-ge-JOURNAL.true)) moving
 
 pub returns : goal.returns
 returns g c =
     let Keeps = g.K.MessageSink.keeps in
     let b = g.K.SearchSink.is_by_process in
     let s = c.args.self.now in
-    let long : length c.journal.result.now ≡ length s.run.journal.items = ap length c.journal.ensures in
+    let long : length c.journal-made.result.now ≡ length s.run.journal.items = ap length c.journal-made.ensures in
     IfOk-weaker c.moving_picks.result (λ v. HasMovesAmong c.node.result.now c.deref.result.now v.items) (λ v. (a : Query) → IsStateFor Keeps b s a → (pick : ℕ) → IsMovingAfter a.program (state_journal s) pick → Contains v.items pick)
-    (λ v among a is pick moving. all_moves Keeps b s a is c.node.result.now c.deref.result.now v.items pick c.node.ensures (c.deref.ensures.value ∙ c.in_ok-pass.ensures) (omega (arith, c.if-made-ge-JOURNAL.false, c.len-made.ensures)) among moving)
+    (λ v among a is pick moving. all_moves Keeps b s a is c.node.result.now c.deref.result.now v.items pick c.node.ensures (c.deref.ensures.value ∙ c.in_ok-pass.ensures) (omega (arith, c.if-made-ge-JOURNAL.false)) among moving)
     c.moving_picks.ensures

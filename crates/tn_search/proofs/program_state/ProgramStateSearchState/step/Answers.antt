@@ -5,15 +5,15 @@ use Rattle.tn_search.proofs.program_state.ProgramStateSearchState.step.Goals as 
 
 pub returns-in-Moved : goal.returns-in-Moved
 returns-in-Moved g c = λ a is.
-    on_moved g.K.MessageSink.keeps g.K.SearchSink.is_by_process (HandsOutAnswer g.K.MessageSink.gives) c.args.self.now a is c.in_ok-run.run c.step.new.self c.args.pick c.new-given.result c.step.new.out c.in_ok-step.field-0 c.in_ok-run.ensures
+    on_moved g.K.MessageSink.keeps g.K.SearchSink.is_by_process (HandsOutAnswer g.K.MessageSink.gives) c.args.self.now a is c.in_ok-run.run' c.step.new.self c.args.pick c.new-given.result c.step.new.out c.in_ok-step.field-0 c.in_ok-run.ensures
     (λ limit picks h. c.in_ok-step.ensures.taken limit picks h) (record { alloc = c.args.self.now.alloc; program = c.args.self.now.program; places = c.args.self.now.places; run = c.step.new.self }) c.in-Moved.is refl refl refl
 
 pub returns-in-Idle : goal.returns-in-Idle
 returns-in-Idle g c = λ a is.
-    on_idle g.K.MessageSink.keeps g.K.SearchSink.is_by_process (HandsOutAnswer g.K.MessageSink.gives) c.args.self.now a is c.in_ok-run.run c.step.new.self c.args.pick c.new-given.result c.step.new.out c.in_ok-step.field-0 c.in_ok-run.ensures
+    on_idle g.K.MessageSink.keeps g.K.SearchSink.is_by_process (HandsOutAnswer g.K.MessageSink.gives) c.args.self.now a is c.in_ok-run.run' c.step.new.self c.args.pick c.new-given.result c.step.new.out c.in_ok-step.field-0 c.in_ok-run.ensures
     (λ limit picks h. c.in_ok-step.ensures.taken limit picks h) c.in-Idle.is
 
-pub returns-in-Full : goal.returns-in-Full
-returns-in-Full g c = λ a is.
-    on_full g.K.MessageSink.keeps g.K.SearchSink.is_by_process (HandsOutAnswer g.K.MessageSink.gives) c.args.self.now a is c.in_ok-run.run c.step.new.self c.args.pick c.new-given.result c.step.new.out c.in_ok-step.field-0 c.in_ok-run.ensures
+pub returns : goal.returns
+returns g c = λ a is.
+    on_full g.K.MessageSink.keeps g.K.SearchSink.is_by_process (HandsOutAnswer g.K.MessageSink.gives) c.args.self.now a is c.in_ok-run.run' c.step.new.self c.args.pick c.new-given.result c.step.new.out c.in_ok-step.field-0 c.in_ok-run.ensures
     (λ limit picks h. c.in_ok-step.ensures.taken limit picks h) c.in-Full.is
