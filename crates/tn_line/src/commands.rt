@@ -11,6 +11,7 @@ use crate::arguments::{
     picks, picks_file, picks_or_round, quiet, reject_line, script, session, spec_file,
     specification, spread, strict, summary, text, turns, without_picks, worker_count,
 };
+use crate::fun_command::fun;
 use clap::{ArgGroup, Command};
 use std::alloc::{AllocError, Global};
 
@@ -231,5 +232,6 @@ pub fn command<'a>(alloc: Global) -> Result<Command<'a>, AllocError>
     let command = with_subcommand(command, workers(alloc))?;
     let command = with_subcommand(command, explain(alloc))?;
     let command = with_subcommand(command, draw(alloc))?;
-    with_subcommand(command, spec(alloc))
+    let command = with_subcommand(command, spec(alloc))?;
+    with_subcommand(command, fun(alloc))
 }

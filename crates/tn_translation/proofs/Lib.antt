@@ -6,3 +6,9 @@ mod ReadLeaves
 mod CallNames
 mod AtomTexts
 mod Values
+mod ListTails
+mod GuardClauses
+mod WholeFuns
+mod Arms
+mod Rows
+mod Heads

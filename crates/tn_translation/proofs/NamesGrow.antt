@@ -1,5 +1,5 @@
 -- Names that are added stay where they are.
-use Rattle.std.proofs.Common.{◌≡◌, ◌≢◌, ◌⊎◌, ℕ, ◌+◌, List, [], ◌∷◌, ◌++◌, Bool, true, false, ◌||◌, cond, Option, Some, None, refl, ap, sym, ◌∙◌, inl, inr}
+use Rattle.std.proofs.Common.{◌≡◌, ◌≢◌, ◌⊎◌, ℕ, ◌+◌, List, [], ◌∷◌, ◌++◌, Bool, true, false, ◌||◌, cond, Option, Some, None, refl, ap, ap₂, sym, ◌∙◌, inl, inr}
 use Rattle.std.specs.Str.{bytes_eq}
 use Rattle.std.proofs.lemmas.List.{append_assoc, append-nil}
 use Rattle.def_term.specs.Names.{Name}
@@ -94,3 +94,11 @@ extends_all ns all ss h = ([], h ∙ ap (more_names ns) (sym (append-nil ss)))
 
 pub more_twice : (ns now later : ClauseNames) (ss us : List Name) → now ≡ more_names ns ss → later ≡ more_names now us → later ≡ more_names ns (ss ++ us)
 more_twice ns now later ss us h e = e ∙ ap (λ c. more_names c us) h ∙ sym (more_after ns ss us)
+
+-- the names after one was added
+pub names_added : (old now : ClauseNames) (n s : Name) → n ≡ s → now.of_whole ≡ old.of_whole → now.numbers ≡ with_name old.of_whole old.numbers n → now ≡ more_names old (s ∷ [])
+names_added old now n s is whole numbers = ap₂ (λ x y. record { of_whole = x; numbers = y }) whole (numbers ∙ ap (with_name old.of_whole old.numbers) is)
+
+-- what that variable is then, it is in a head with more
+pub added_kind : (old now all : ClauseNames) (s : Name) → now ≡ more_names old (s ∷ []) → Extends old (s ∷ []) all → variable_kind now s ≡ variable_kind all s
+added_kind old now all s h e = ap (λ c. variable_kind c s) h ∙ sym (kind_stays old.of_whole old.numbers s e.0) ∙ sym (ap (λ c. variable_kind c s) e.1)

@@ -3,7 +3,9 @@ pub mod Faults
 pub mod Names
 pub mod Calls
 pub mod Values
+pub mod Scopes
 pub mod Specifications
+pub mod AnswerViews
 pub mod Leaves
 pub mod OpenTexts
 pub mod Tails

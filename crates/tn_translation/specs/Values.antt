@@ -23,10 +23,6 @@ term_row_seen v = map tree_of v.items
 abbrev pub translated_list : List TranslatedExpr → TranslatedExpr
 translated_list xs = record { becomes = list_term (all_terms xs); constant = constant_of list_term (all_constants xs) }
 
--- the tuple of these terms
-abbrev pub tuple_term : List Tree → Tree
-tuple_term ts = tuple (of_elements ts)
-
 -- one more value at the end, where all are constants
 abbrev pub constant_after : Option (List Tree) → Option Tree → Option (List Tree)
 constant_after (Some vs) (Some v) = Some (vs ++ v ∷ [])
@@ -34,7 +30,7 @@ constant_after vs v = None
 
 -- a tuple of these
 abbrev pub translated_tuple : List TranslatedExpr → TranslatedExpr
-translated_tuple xs = record { becomes = doubled_tuple (all_terms xs); constant = constant_of tuple_term (all_constants xs) }
+translated_tuple xs = record { becomes = doubled_tuple (all_terms xs); constant = constant_of (λ vs. tuple (of_elements vs)) (all_constants xs) }
 
 -- the terms of these, and their values where all are constants
 pub record AreElements {A : Type 0} (v : Elements A) (xs : List TranslatedExpr) : Type 0 where

@@ -7,7 +7,7 @@ ghost use Rattle.def_fun.specs.Translation.{onto_tail as list_onto_tail, within_
 ghost use Rattle.tn_fun.specs.Trees.{fun_expr_seen};
 ghost use Rattle.tn_term.specs.Views.{tree_of};
 ghost use Rattle.tn_translation.specs.Faults.{GivesFun};
-ghost use Rattle.tn_translation.specs.Tails.{offset_seen, tail_offset};
+ghost use Rattle.tn_translation.specs.Tails.{tail_offset};
 ghost use Rattle.tn_translation.specs.Values.{term_row_seen};
 
 use crate::fault::FunFault;
@@ -52,7 +52,7 @@ fn is_proper_tail<A: Allocator>(expr: &Expr<A>) -> bool
 
 /// The offset of the tail of a list, which is a list or strings.
 pub fn proper_tail<A: Allocator>(tail: &Expr<A>) -> Result<usize, FunFault>
-    ensures { (text : List ℕ) → GivesFun offset_seen text result (tail_offset (fun_expr_seen text tail.now)) }
+    ensures { (text : List ℕ) → GivesFun (λ n. n) text result (tail_offset (fun_expr_seen text tail.now)) }
 {
     let at = first_byte(tail);
     if is_proper_tail(tail) {
