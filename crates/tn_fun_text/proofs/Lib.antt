@@ -1,0 +1,3 @@
+mod CallNames
+mod WrittenTexts
+mod Loops
